@@ -1,0 +1,68 @@
+-- The text of characters, line by line.
+use Rattle.std.proofs.Common.{◌≢◌, ◌<◌, length, get_or, ◌≡◌, ℕ, Bool, true, false, cond, List, [], ◌∷◌, ◌++◌, map, filter, drop, not, slice_index, refl, ap, sym, ◌∙◌, arith, append-nil, ◌==◌}
+use Rattle.std.specs.List.{zip, All}
+use Rattle.std.proofs.lemmas.List.{length-map, get_or-map}
+use Rattle.std.proofs.lemmas.List.Elements.{filter_passes}
+use Rattle.std.specs.Str.{NonePass}
+use Rattle.std.proofs.lemmas.Bool.Decides.{nat_tests}
+use Rattle.gabc_places.specs.Text.{is_left_out, is_shown, read_as}
+
+-- the text of the characters that follow this one
+abbrev pub text_behind : ℕ → List ℕ → List ℕ
+text_behind p cs = map (λ (p : ℕ × ℕ). read_as p.1) (filter (λ (p : ℕ × ℕ). not (is_left_out p)) (zip (p ∷ cs) cs))
+
+first_by : (s : Bool) (p c : ℕ) (rest : List (ℕ × ℕ)) (line after : List ℕ) → (c == 13) ≡ false
+    → map (λ (p : ℕ × ℕ). read_as p.1) rest ≡ line ++ after
+    → map {A = ℕ × ℕ} (λ (p : ℕ × ℕ). read_as p.1) (cond (not (not s)) ((p, c) ∷ rest) rest) ≡ cond s (c ∷ line) line ++ after
+first_by true p c rest line after plain e = rw plain (ap (λ l. c ∷ l) e)
+first_by false p c rest line after plain e = e
+
+-- a line without CR, and what follows it, behind a character that is no CR
+pub line-shown : (p : ℕ) (line after : List ℕ) → (p == 13) ≡ false → NonePass (λ c. c == 13) line
+    → text_behind p (line ++ 13 ∷ after) ≡ filter is_shown line ++ 10 ∷ text_behind 13 after
+line-shown p [] after plain none = rw plain refl
+line-shown p (c ∷ cs) after plain none = rw plain (first_by (is_shown c) p c _ (filter is_shown cs) (10 ∷ text_behind 13 after) none.0 (line-shown c cs after none.0 none.1))
+
+last_with : (p : ℕ) (line : List ℕ) → (p == 13) ≡ false → NonePass (λ c. c == 13) line → text_behind p line ≡ filter is_shown line ++ []
+last_with p [] plain none = refl
+last_with p (c ∷ cs) plain none = rw plain (first_by (is_shown c) p c _ (filter is_shown cs) [] none.0 (last_with c cs none.0 none.1))
+
+-- a last line without CR
+pub line-last : (p : ℕ) (line : List ℕ) → (p == 13) ≡ false → NonePass (λ c. c == 13) line → text_behind p line ≡ filter is_shown line
+line-last p line plain none = last_with p line plain none ∙ append-nil (filter is_shown line)
+
+same_by : (b : Bool) (p q c : ℕ) (rest : List (ℕ × ℕ))
+    → map {A = ℕ × ℕ} (λ (p : ℕ × ℕ). read_as p.1) (cond b ((p, c) ∷ rest) rest) ≡ map {A = ℕ × ℕ} (λ (p : ℕ × ℕ). read_as p.1) (cond b ((q, c) ∷ rest) rest)
+same_by true p q c rest = refl
+same_by false p q c rest = refl
+
+-- behind characters that are no CR the text is the same
+pub same-behind : (p q : ℕ) (cs : List ℕ) → (p == 13) ≡ false → (q == 13) ≡ false → text_behind p cs ≡ text_behind q cs
+same-behind p q [] e f = refl
+same-behind p q (c ∷ cs) e f = rw (e, f) (same_by (not (not (is_shown c))) p q c _)
+
+no_return : (c : ℕ) → (c == 10) ≡ true → (c == 13) ≡ false
+no_return c e = grind (arith, nat_tests)
+
+return_by : (b : Bool) (c : ℕ) (cs : List ℕ) → (c == 10) ≡ b → text_behind 13 (c ∷ cs) ≡ text_behind 0 (cond b cs (c ∷ cs))
+return_by true c cs e = rw e (same-behind c 0 cs (no_return c e) refl)
+return_by false c cs e = rw e (same_by (not (not (is_shown c))) 13 0 c _)
+
+-- directly behind a CR an LF is left out
+pub behind-return : (cs rest : List ℕ) → rest ≡ cond (slice_index cs 0 == 10) (drop 1 cs) cs → text_behind 13 cs ≡ text_behind 0 rest
+behind-return [] rest e = ap (text_behind 0) (sym e)
+behind-return (c ∷ cs) rest e = return_by (c == 10) c cs refl ∙ ap (text_behind 0) (sym e)
+
+plain_by : (s t : Bool) (p c : ℕ) → (c == 0xFEFF) ≡ s → (c == 13) ≡ t → not (is_left_out (p, c)) ≡ true → (cond t 10 c ≢ 13) × (cond t 10 c ≢ 0xFEFF)
+plain_by true t p c e f kept = absurd (grind (arith, nat_tests))
+plain_by false true p c e f kept = (λ h. omega arith, λ h. omega arith)
+plain_by false false p c e f kept = (λ h. grind (arith, nat_tests), λ h. grind (arith, nat_tests))
+
+-- what is kept is read as no CR and no U+FEFF
+pub plain-kept : (ps : List (ℕ × ℕ)) → All (λ c. (c ≢ 13) × (c ≢ 0xFEFF)) (map (λ (p : ℕ × ℕ). read_as p.1) (filter (λ (p : ℕ × ℕ). not (is_left_out p)) ps))
+plain-kept ps k d less =
+    let keeps : ℕ × ℕ → Bool = λ p. not (is_left_out p) in
+    let kept : List (ℕ × ℕ) = filter keeps ps in
+    let short : k < length kept = omega (arith, length-map kept (λ (p : ℕ × ℕ). read_as p.1)) in
+    let one : ℕ × ℕ = get_or kept k (0, 0) in
+    rw (get_or-map (λ (p : ℕ × ℕ). read_as p.1) kept k (0, 0) d short) (plain_by _ _ one.0 one.1 refl refl (filter_passes keeps ps k (0, 0) short))

@@ -1,0 +1,17 @@
+use Rattle.std.proofs.Common.{◌≡◌, ℕ, List, length, take, drop, take-add, take_all, ◌-◌, length-drop, arith}
+use Rattle.gabc_places.proofs.KnownBytes.{appends-more}
+use Rattle.gabc_places.proofs.sink.send_all.Goals as goal
+
+pub loop-sent-preserved : goal.loop-sent-preserved
+loop-sent-preserved g c =
+    let e = c.in-Ok.ensures in
+    let i = c.loop-sent.invariant in
+    let unsent : List ℕ = drop c.loop-sent.sent c.args.bytes.now in
+    let rest : ℕ = length c.args.bytes.now - c.loop-sent.sent in
+    let counted : length unsent ≡ rest = length-drop c.loop-sent.sent c.args.bytes.now in
+    let all : take rest unsent ≡ unsent = take_all rest unsent (omega (arith, counted)) in
+    record {
+      within = omega (arith, e.bound, counted);
+      front = rw (take-add c.loop-sent.sent c.in-Ok.n c.args.bytes.now) (appends-more _ _ _ _ _ i.front (rw all at e.bytes));
+      counts = omega (arith, e.counts, i.counts);
+    }

@@ -1,0 +1,49 @@
+-- Findings and stops with the points at which they become known. A point is an index into the text; its length is the end.
+use Rattle.std.specs.Prelude.{◌≡◌, ℕ, ◌<◌, ◌≤◌, ◌==◌, ◌||◌, ◌&&◌, nat_lt, List, [], ◌∷◌, map, filter, if◌then◌else◌, Option, None, Some, ◌⊎◌}
+use Rattle.gabc_places.specs.declared.code.Finding.{Finding}
+use Rattle.gabc_places.specs.declared.code.Fault.{Fault}
+use Rattle.gabc_places.specs.Code.{rank_of}
+
+-- a finding and the point at which it becomes known
+pub record Known : Type 0 where
+  pub point : ℕ
+  pub finding : Finding
+
+-- the findings that become known before a point
+abbrev pub known_before : ℕ → List Known → List Finding
+known_before stop knowns = map (λ (k : Known). k.finding) (filter (λ (k : Known). nat_lt k.point stop) knowns)
+
+-- f stands before g: at an earlier place, or at the same place with a lower code
+abbrev pub StandsBefore : Finding → Finding → Type 0
+StandsBefore f g = (f.place.line < g.place.line) ⊎ ((f.place.line ≡ g.place.line) × ((f.place.column < g.place.column) ⊎ ((f.place.column ≡ g.place.column) × (rank_of f.code < rank_of g.code))))
+
+-- each finding stands before the next one: sorted, and none twice
+abbrev pub StandBehind : Finding → List Finding → Type 0
+StandBehind f [] = Unit {0}
+StandBehind f (g ∷ gs) = StandsBefore f g × StandBehind g gs
+
+abbrev pub AreInOrder : List Finding → Type 0
+AreInOrder [] = Unit {0}
+AreInOrder (f ∷ fs) = StandBehind f fs
+
+-- a fault and the point at which it stops the run
+pub record Stop : Type 0 where
+  pub point : ℕ
+  pub fault : Fault
+
+-- s is no later than t: at an earlier point, or at the same point with no higher code
+abbrev pub IsNoLater : Stop → Stop → Type 0
+IsNoLater s t = (s.point < t.point) ⊎ ((s.point ≡ t.point) × (rank_of s.fault.code ≤ rank_of t.fault.code))
+
+-- the one with the earlier point, at one point the one with the lower number
+abbrev pub earlier : Stop → Stop → Stop
+earlier a b = if nat_lt b.point a.point || ((b.point == a.point) && nat_lt (rank_of b.fault.code) (rank_of a.fault.code)) then b else a
+
+-- the earliest of the stops, if there is one
+abbrev pub or_earlier : Stop → Option Stop → Stop
+or_earlier a None = a
+or_earlier a (Some b) = earlier a b
+
+abbrev pub earliest : List Stop → Option Stop
+earliest [] = None
+earliest (s ∷ ss) = Some (or_earlier s (earliest ss))

@@ -1,0 +1,12 @@
+pub mod Chained
+pub mod Code
+pub mod Counted
+pub mod Falls
+pub mod Findings
+pub mod Held
+pub mod Law
+pub mod Limits
+pub mod Link
+pub mod Place
+pub mod Text
+pub mod Trial

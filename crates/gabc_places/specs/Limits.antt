@@ -1,0 +1,9 @@
+use Rattle.std.specs.Prelude.{ℕ, ◌≤◌}
+
+-- the numbers that limits may have, in bytes
+pub record AreLimits (header syllable input : ℕ) : Type 0 where
+  pub header_least : 64 ≤ header
+  pub header_most : header ≤ 16777216
+  pub syllable_least : 64 ≤ syllable
+  pub syllable_most : syllable ≤ 16777216
+  pub input_least : 64 ≤ input

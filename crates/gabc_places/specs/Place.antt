@@ -1,0 +1,25 @@
+-- The place of a character is a function of the text before it.
+use Rattle.std.specs.Prelude.{ℕ, ◌+◌, ◌==◌, List, [], ◌∷◌, ◌++◌, length, count_by, Bool, if◌then◌else◌}
+use Rattle.std.specs.List.{after_last}
+use Rattle.gabc_places.specs.declared.place.Place.{Place}
+use Rattle.gabc_places.specs.declared.place.Char.{Char}
+
+abbrev pub is_line_feed : ℕ → Bool
+is_line_feed c = c == 10
+
+-- the place behind the text: its line is 1 plus the LFs of the text, its column 1 plus the characters since the last of them
+abbrev pub place_after : List ℕ → Place
+place_after text = record { line = 1 + count_by is_line_feed text; column = 1 + length (after_last is_line_feed text) }
+
+-- the place behind a character that stands at p
+abbrev pub next_place : Place → ℕ → Place
+next_place p c = if is_line_feed c then record { line = p.line + 1; column = 1 } else record { line = p.line; column = p.column + 1 }
+
+-- the characters that follow this front, each with its place
+abbrev pub placed_after : List ℕ → List ℕ → List Char
+placed_after front [] = []
+placed_after front (c ∷ cs) = record { c = c; place = place_after front } ∷ placed_after (front ++ c ∷ []) cs
+
+-- the characters of a text with their places
+abbrev pub placed : List ℕ → List Char
+placed text = placed_after [] text

@@ -1,0 +1,101 @@
+//! Two stages over bytes, driven alone and as a chain.
+
+ghost use Rattle.std.specs.Prelude.{◌≡◌, ℕ, ◌+◌, ◌*◌, ◌^◌, ◌<◌, ◌≤◌, ◌++◌, ◌∷◌, [], length, ltb};
+ghost use Rattle.std.specs.List.{filter, flat_map};
+ghost use Rattle.gabc_places.specs.Held.{HasRoom};
+
+use super::*;
+use crate::drive;
+use std::test::Fail;
+
+/// Gives each byte twice, and 255 at the end.
+#[derive(Drop)]
+struct Twice;
+
+impl Stage for Twice {
+    type Input = u8;
+
+    type Output = u8;
+
+    ghost rest = { λ _ xs. flat_map (λ x. x ∷ x ∷ []) xs ++ 255 ∷ [] };
+
+    ghost most_of = { λ _. 2 };
+
+    fn most(&self) -> usize {
+        2
+    }
+
+    fn push(&mut self, input: u8, out: &mut Room<u8>) {
+        out.append(&[input, input]);
+    }
+
+    fn finish(&mut self, out: &mut Room<u8>) {
+        out.push(255);
+    }
+}
+
+/// Passes on the bytes above a number.
+#[derive(Drop)]
+struct Above(u8);
+
+impl Stage for Above {
+    type Input = u8;
+
+    type Output = u8;
+
+    ghost rest = { λ s xs. filter (λ x. ltb s.0 x) xs };
+
+    ghost most_of = { λ _. 1 };
+
+    fn most(&self) -> usize {
+        1
+    }
+
+    fn push(&mut self, input: u8, out: &mut Room<u8>) {
+        if self.0 < input {
+            out.push(input);
+        }
+    }
+
+    fn finish(&mut self, _out: &mut Room<u8>) {}
+}
+
+#[test]
+fn drives_one_stage(rt: HostRuntime) -> Result<(), Fail> {
+    let mut out = Room::with_limit(rt.alloc(), 8)?;
+    let mut inputs = Vec::new(rt.alloc());
+    inputs.extend_from_slice(&[7, 8, 9])?;
+    let mut stage = Twice;
+    drive(&mut stage, inputs, &mut out);
+    assert_eq!(rt; out.slice(), [7, 7, 8, 8, 9, 9, 255].as_slice());
+    Ok(())
+}
+
+/// What a chain gives is what the second stage gives of what the first gives.
+fn drive_both(first: Twice, second: Above, between: Room<u8>, inputs: Vec<u8>, out: &mut Room<u8>)
+    requires between { 2 ≤ between.limit }
+    requires out { HasRoom out.old (3 * (length inputs.items + 1)) }
+    ensures { out.new.items ≡ out.old.items ++ filter (λ x. ltb second.0 x) (flat_map (λ x. x ∷ x ∷ []) inputs.items ++ 255 ∷ []) }
+{
+    drive(&mut Chain::new(first, second, between), inputs, out);
+}
+
+#[test]
+fn drives_a_chain(rt: HostRuntime) -> Result<(), Fail> {
+    let mut out = Room::with_limit(rt.alloc(), 12)?;
+    let mut inputs = Vec::new(rt.alloc());
+    inputs.extend_from_slice(&[7, 8, 9])?;
+    let between = Room::with_limit(rt.alloc(), 2)?;
+    drive_both(Twice, Above(7), between, inputs, &mut out);
+    assert_eq!(rt; out.slice(), [8, 8, 9, 9, 255].as_slice());
+    Ok(())
+}
+
+#[test]
+fn lends_both_stages(rt: HostRuntime) -> Result<(), Fail> {
+    let chain = Chain::new(Twice, Above(7), Room::with_limit(rt.alloc(), 2)?);
+    assert_eq!(rt; chain.most(), 3);
+    assert_eq!(rt; chain.first().most(), 2);
+    assert_eq!(rt; chain.second().0, 7);
+    Ok(())
+}

@@ -1,0 +1,19 @@
+//! The text of an input's bytes.
+
+use crate::code::Fault;
+use crate::text::Text;
+
+/// What follows the longest front of some bytes that is UTF-8: nothing, a part of a character, or bytes that begin none.
+#[derive(Clone, Copy)]
+pub(crate) enum Tail {
+    Nothing,
+    Part,
+    Wrong,
+}
+
+/// The text of an input, and what stopped it.
+#[derive(Drop)]
+pub struct Decoded {
+    pub text: Text,
+    pub fault: Option<Fault>,
+}

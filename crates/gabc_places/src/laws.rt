@@ -1,0 +1,37 @@
+//! Laws of the definitions that contracts speak of. The functions do nothing: each is there for its clauses.
+
+ghost use Rattle.std.specs.Prelude.{◌≡◌, ◌≢◌, ℕ, ◌<◌, List, [], ◌∷◌, ◌++◌, length, take, Some, IsSome, slice_index};
+ghost use Rattle.std.specs.List.{slice_get, Contains, All};
+ghost use Rattle.gabc_places.specs.Place.{place_after, placed, placed_after};
+ghost use Rattle.gabc_places.specs.Text.{text_of_bytes};
+ghost use Rattle.gabc_places.specs.Findings.{Stop, earliest, IsNoLater};
+
+use crate::place::Place;
+
+/// The text of an input has no CR and no U+FEFF.
+pub fn plain_text()
+    ensures { (limit : ℕ) (bytes : List ℕ) → All (λ c. (c ≢ 13) × (c ≢ 0xFEFF)) (text_of_bytes limit bytes) }
+{}
+
+/// The first character of a text stands at line 1 and column 1.
+pub fn first_place()
+    ensures { Place.START ≡ place_after [] }
+{}
+
+/// Each character stands at the place that the text before it tells.
+pub fn placed_at()
+    ensures len { (text : List ℕ) → length (placed text) ≡ length text }
+    ensures at { (text : List ℕ) (i : ℕ) → i < length text → slice_get (placed text) i ≡ Some (record { c = slice_index text i; place = place_after (take i text) }) }
+{}
+
+/// The places of a text do not depend on what follows it.
+pub fn placed_joined()
+    ensures { (xs : List ℕ) (ys : List ℕ) → placed (xs ++ ys) ≡ placed xs ++ placed_after xs ys }
+{}
+
+/// The earliest of some stops is one of them, and none of them is earlier. At one point the lower code is the earlier.
+pub fn earliest_is_least()
+    ensures some { (s : Stop) (stops : List Stop) → IsSome (earliest (s ∷ stops)) }
+    ensures found { (stops : List Stop) (s : Stop) → earliest stops ≡ Some s → Contains stops s }
+    ensures least { (stops : List Stop) (s : Stop) → earliest stops ≡ Some s → All (IsNoLater s) stops }
+{}

@@ -1,0 +1,34 @@
+//! How much a run reads and keeps.
+
+ghost use Rattle.std.specs.Prelude.{◌≡◌, ◌↔◌, IsSome, IfSome};
+ghost use Rattle.gabc_places.specs.Limits.{AreLimits};
+
+/// How many bytes the headers, a syllable and the whole input may have.
+#[derive(Clone, Copy, Debug, PartialEq, Eq)]
+pub struct Limits {
+    pub header: u32,
+    pub syllable: u32,
+    pub input: u32,
+    pub ghost in_range: { AreLimits header syllable input },
+}
+
+impl Limits {
+    /// Limits in bytes. `header` and `syllable` are 64 to 16,777,216, and `input` is at least 64; other numbers give `None`.
+    pub fn new(header: u32, syllable: u32, input: u32) -> Option<Limits>
+        ensures in_range { IsSome result ↔ AreLimits header syllable input }
+        ensures header { IfSome result (λ limits. limits.header ≡ header) }
+        ensures syllable { IfSome result (λ limits. limits.syllable ≡ syllable) }
+        ensures input { IfSome result (λ limits. limits.input ≡ input) }
+    {
+        let range = 64..=16_777_216;
+        if range.contains(&header) && range.contains(&syllable) && input >= 64 {
+            Some(Limits {
+                header,
+                syllable,
+                input,
+            })
+        } else {
+            None
+        }
+    }
+}

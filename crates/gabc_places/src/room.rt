@@ -1,0 +1,88 @@
+//! A list of bounded length, whose memory is reserved when it is made.
+
+ghost use Rattle.std.specs.Prelude.{◌≡◌, ℕ, ◌+◌, ◌-◌, ◌<◌, ◌≤◌, ◌==◌, List, [], ◌∷◌, ◌++◌, length, IfOk, IsTrue, ◌↔◌};
+ghost use Rattle.gabc_places.specs.Held.{HasRoom, added, room_left};
+
+use std::alloc::{AllocError, Global};
+use std::marker::Model;
+
+/// A list of at most a stated number of items. Adding to it asks for no memory.
+#[derive(Drop)]
+pub struct Room<T: Copy> {
+    items: Vec<T>,
+    limit: usize,
+}
+
+impl<T: Copy> Model for Room<T> {
+    ghost use Rattle.std.specs.Prelude.{◌≤◌, vec_len, vec_capacity};
+    ghost use Rattle.gabc_places.specs.Held.{Held};
+
+    ghost Value = { Held T };
+
+    ghost view = { λ r. record { items = r.items.items; limit = r.limit } };
+
+    ghost invariant = { λ r. (r.limit ≤ vec_capacity r.items) × (vec_len r.items ≤ r.limit) };
+}
+
+impl<T: Copy> Room<T> {
+    /// An empty room for `limit` items. It reserves their memory, and fails only if there is not enough.
+    pub fn with_limit(alloc: Global, limit: usize) -> Result<Room<T>, AllocError>
+        ensures { IfOk result (λ r. r ≡ record { items = []; limit = limit }) }
+    {
+        let items = Vec::with_capacity(alloc, limit)?;
+        Ok(Room { items, limit })
+    }
+
+    /// How many more items it takes.
+    pub fn left(&self) -> usize
+        ensures left { result ≡ room_left self.now }
+        ensures within { length self.now.items ≤ self.now.limit }
+    {
+        self.limit - self.items.len()
+    }
+
+    /// Whether it takes no more items.
+    pub fn is_full(&self) -> bool
+        ensures full { IsTrue result ↔ (room_left self.now ≡ 0) }
+        ensures within { length self.now.items ≤ self.now.limit }
+    {
+        self.items.len() == self.limit
+    }
+
+    /// The items, in the order in which they were added.
+    pub fn slice(&self) -> &[T]
+        ensures { result.now ≡ self.now.items }
+    {
+        self.items.as_slice()
+    }
+
+    /// Adds an item at the end.
+    pub fn push(&mut self, item: T)
+        requires { HasRoom self.old 1 }
+        ensures { self.new ≡ added self.old (item ∷ []) }
+    {
+        let Ok(()) = self.items.push(item) else {
+            unreachable!()
+        };
+    }
+
+    /// Adds the items at the end.
+    pub fn append(&mut self, items: &[T])
+        requires { HasRoom self.old (length items.now) }
+        ensures { self.new ≡ added self.old items.now }
+    {
+        let Ok(()) = self.items.extend_from_slice(items) else {
+            unreachable!()
+        };
+    }
+
+    /// Removes all items. The memory stays reserved.
+    pub fn clear(&mut self)
+        ensures { self.new ≡ record self.old { items = [] } }
+    {
+        self.items.clear();
+    }
+}
+
+#[cfg(test)]
+mod tests;

@@ -1,0 +1,117 @@
+//! Where bytes go.
+
+ghost use Rattle.std.specs.Prelude.{◌≡◌, ℕ, ◌<◌, ◌≤◌, length, take, List, IfOk, OnOk, OnErr, IfErr, Option};
+ghost use Rattle.gabc_places.specs.Counted.{CountsFailure};
+ghost use Rattle.std.specs.Io.KnownBytes.{Appends, WriteAppends};
+ghost use Rattle.std.specs.Io.{WritesAtMost};
+
+use crate::Count;
+use std::io::Write;
+use std::marker::Model;
+use thiserror::Error;
+
+/// A write that failed.
+#[derive(Clone, Copy, Debug, PartialEq, Eq, Error)]
+#[error("the sink failed")]
+pub struct SinkFault;
+
+/// Takes bytes.
+pub trait Sink {
+    // the bytes taken, where they are known
+    ghost written: { Self → Option (List ℕ) };
+
+    // how many writes failed
+    ghost failures: { Self → ℕ };
+
+    /// Takes bytes of the front, and tells how many: at least one, if there is one.
+    fn write(&mut self, bytes: &[u8]) -> Result<usize, SinkFault>
+        ensures bound { WritesAtMost result bytes.now }
+        ensures bytes { WriteAppends (written self.old) (written self.new) result bytes.now }
+        ensures takes { IfOk result (λ n. 0 < length bytes.now → 0 < n) }
+        ensures fails { OnErr result (failures self.old < failures self.new) }
+        ensures counts { failures self.old ≤ failures self.new };
+}
+
+/// A sending that failed before its last byte.
+#[derive(Clone, Copy, Debug, PartialEq, Eq, Error)]
+#[error("the sink failed after {sent} bytes")]
+pub struct Unsent {
+    /// How many bytes the sink took, from the first on.
+    pub sent: usize,
+}
+
+/// Writes all bytes, or as many as the sink takes before it fails.
+pub fn send_all<S: Sink>(sink: &mut S, bytes: &[u8]) -> Result<(), Unsent>
+    ensures all { OnOk result (Appends (S.written sink.old) (S.written sink.new) bytes.now) }
+    ensures front { IfErr result (λ u. Appends (S.written sink.old) (S.written sink.new) (take u.sent bytes.now)) }
+    ensures less { IfErr result (λ u. u.sent < length bytes.now) }
+    ensures fails { OnErr result (S.failures sink.old < S.failures sink.new) }
+    ensures counts { S.failures sink.old ≤ S.failures sink.new }
+{
+    let mut sent = 0;
+    while sent < bytes.len() {
+        match sink.write(&bytes[sent..]) {
+            Ok(n) => sent += n,
+            Err(_) => return Err(Unsent { sent }),
+        }
+    }
+    Ok(())
+}
+
+/// A writer as a sink. Each of the writer's errors is a failure, and so is a write of at least one byte that takes none.
+#[derive(Drop)]
+pub struct ToWriter<W: Write + Drop> {
+    inner: W,
+    failures: Count,
+}
+
+impl<W: Write + Drop> Model for ToWriter<W> {
+    ghost use Rattle.gabc_places.specs.Counted.{Counted};
+
+    ghost Value = { Counted W };
+
+    ghost view = { λ s. record { inner = s.inner; failures = s.failures } };
+}
+
+impl<W: Write + Drop> ToWriter<W> {
+    /// A sink that passes on to the writer.
+    pub fn new(inner: W) -> ToWriter<W>
+        ensures { result ≡ record { inner = inner; failures = 0 } }
+    {
+        ToWriter {
+            inner,
+            failures: Count::zero(),
+        }
+    }
+
+    /// The writer.
+    pub fn inner(&self) -> &W
+        ensures { result.now ≡ self.now.inner }
+    {
+        &self.inner
+    }
+}
+
+impl<W: Write + Drop> Sink for ToWriter<W> {
+    ghost written = { λ s. W.contents s.inner };
+
+    ghost failures = { λ s. s.failures };
+
+    fn write(&mut self, bytes: &[u8]) -> Result<usize, SinkFault>
+        ensures bound { WritesAtMost result bytes.now }
+        ensures bytes { WriteAppends (W.contents self.old.inner) (W.contents self.new.inner) result bytes.now }
+        ensures takes { IfOk result (λ n. 0 < length bytes.now → 0 < n) }
+        ensures counted { CountsFailure result self.old.failures self.new.failures }
+    {
+        match self.inner.write(bytes) {
+            Ok(n) if n > 0 || bytes.is_empty() => Ok(n),
+            _ => {
+                self.failures.add_one();
+                Err(SinkFault)
+            }
+        }
+    }
+}
+
+#[cfg(test)]
+mod tests;

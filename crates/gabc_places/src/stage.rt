@@ -1,0 +1,50 @@
+//! Machines that take one input at a time.
+
+ghost use Rattle.std.specs.Prelude.{◌≡◌, ℕ, ◌+◌, ◌*◌, ◌≤◌, List, length};
+ghost use Rattle.gabc_places.specs.Held.{HasRoom, added};
+ghost use Rattle.gabc_places.specs.Law.{Gives, Ends};
+
+use crate::Room;
+
+/// A machine that takes inputs one at a time, and gives at most a stated number of outputs for each and for the end.
+pub trait Stage {
+    type Input;
+
+    type Output: Copy;
+
+    // what it will still give for these inputs and then the end
+    ghost rest: { Self → List Self.Input → List Self.Output };
+
+    // how many outputs one call gives at most
+    ghost most_of: { Self → ℕ };
+
+    /// How many outputs one call gives at most.
+    fn most(&self) -> usize
+        ensures { result ≡ most_of self.now };
+
+    /// Takes an input, and adds to `out` what is known to follow from it.
+    fn push(&mut self, input: Self::Input, out: &mut Room<Self::Output>)
+        requires { HasRoom out.old (most_of self.old) }
+        ensures most { most_of self.new ≡ most_of self.old }
+        ensures gives { Gives (rest self.old) (rest self.new) input (most_of self.old) out.old out.new };
+
+    /// Ends the inputs, and adds to `out` what was still to come. What a call after it does, no clause says.
+    fn finish(&mut self, out: &mut Room<Self::Output>)
+        requires { HasRoom out.old (most_of self.old) }
+        ensures most { most_of self.new ≡ most_of self.old }
+        ensures ends { Ends (rest self.old) (most_of self.old) out.old out.new };
+}
+
+/// Pushes all inputs, and then ends.
+pub fn drive<S: Stage>(stage: &mut S, inputs: Vec<S::Input>, out: &mut Room<S::Output>)
+where
+    S::Input: Drop,
+    requires { HasRoom out.old (S.most_of stage.old * (length inputs.items + 1)) }
+    ensures most { S.most_of stage.new ≡ S.most_of stage.old }
+    ensures gives { out.new ≡ added out.old (S.rest stage.old inputs.items) }
+{
+    for input in inputs {
+        stage.push(input, out);
+    }
+    stage.finish(out);
+}

@@ -1,0 +1,150 @@
+//! Values from outside: texts, faults and places written by hand.
+
+use crate::*;
+use std::alloc::{AllocError, Global};
+use std::test::Fail;
+
+const SMALL: u32 = 64;
+
+/// The text and fault of an input, with this input limit.
+fn read(rt: &HostRuntime, bytes: &[u8], ended: bool, limit: u32) -> Result<Decoded, Fail> {
+    let limits = Limits::new(SMALL, SMALL, limit).ok_or("limits")?;
+    Ok(text_of(rt.alloc(), bytes, ended, limits)?)
+}
+
+fn fault(code: Code, line: u64, column: u64) -> Option<Fault> {
+    Some(Fault {
+        place: Place { line, column },
+        code,
+    })
+}
+
+#[test]
+fn reads_texts(rt: HostRuntime) -> Result<(), Fail> {
+    let f1 = fault(Code::F1, 1, 1);
+    let bad = fault(Code::F1, 2, 10);
+    let table: [(&[u8], bool, &str, Option<Fault>); 15] = [
+        (b"", true, "", None),
+        (b"a\r\nb", true, "a\nb", None),
+        (b"a\rb\r", true, "a\nb\n", None),
+        (b"a\n\rb\r\r\nc", true, "a\n\nb\n\nc", None),
+        (b"\r\xEF\xBB\xBF\n", true, "\n\n", None),
+        (b"\xEF\xBB\xBFa\xEF\xBB\xBFb", true, "ab", None),
+        (b"\xC0", false, "", f1),
+        (b"\xED\xA0", false, "", f1),
+        (b"\xF5", false, "", f1),
+        (b"\xE2\x82", false, "", None),
+        (b"\xE2\x82", true, "", f1),
+        (b"\xEF\xBB\xBF\xFF", true, "", f1),
+        (b"%%\nA(f) b(g)\xFF", true, "%%\nA(f) b(g)", bad),
+        (
+            "%%\r\n\u{C9}(f) b(g)\u{FF}".as_bytes(),
+            true,
+            "%%\n\u{C9}(f) b(g)\u{FF}",
+            None,
+        ),
+        (
+            b"%%\r\n\xC3\x89(f) b(g)\xFF!",
+            false,
+            "%%\n\u{C9}(f) b(g)",
+            bad,
+        ),
+    ];
+    for (bytes, ended, text, fault) in table {
+        let decoded = read(&rt, bytes, ended, SMALL)?;
+        assert_eq!(rt; decoded.text.as_str(), text, "of {bytes:?}");
+        assert_eq!(rt; decoded.fault, fault, "of {bytes:?}");
+    }
+    Ok(())
+}
+
+/// So many letters, and then these bytes.
+fn padded(alloc: Global, letters: u32, tail: &[u8]) -> Result<Vec<u8>, AllocError> {
+    let mut bytes = Vec::new(alloc);
+    for _ in 0..letters {
+        bytes.push(b'a')?;
+    }
+    bytes.extend_from_slice(tail)?;
+    Ok(bytes)
+}
+
+#[test]
+fn reads_up_to_the_limit(rt: HostRuntime) -> Result<(), Fail> {
+    let table: [(u32, &[u8], u32, usize, Option<Fault>); 5] = [
+        (62, b"\xE2\x82", 64, 62, fault(Code::F1, 1, 63)),
+        (62, b"\xE2\x82\xAC", 64, 62, fault(Code::F7, 1, 63)),
+        (62, b"\xE2\x82\xAC", 65, 65, None),
+        (62, b"a\r\n", 64, 64, fault(Code::F7, 2, 1)),
+        (65, b"", 64, 64, fault(Code::F7, 1, 65)),
+    ];
+    for (letters, tail, limit, kept, fault) in table {
+        let bytes = padded(rt.alloc(), letters, tail)?;
+        let decoded = read(&rt, &bytes, true, limit)?;
+        assert_eq!(rt;
+            decoded.text.as_str().len(),
+            kept,
+            "of {letters} and {tail:?}"
+        );
+        assert_eq!(rt; decoded.fault, fault, "of {letters} and {tail:?}");
+    }
+    Ok(())
+}
+
+#[test]
+fn limits_have_edges(rt: HostRuntime) {
+    let most = 16_777_216;
+    for (header, syllable, input, fits) in [
+        (64, 64, 64, true),
+        (most, most, u32::MAX, true),
+        (63, 64, 64, false),
+        (64, 63, 64, false),
+        (64, 64, 63, false),
+        (most + 1, 64, 64, false),
+        (64, most + 1, 64, false),
+    ] {
+        let limits = Limits::new(header, syllable, input);
+        assert_eq!(rt; limits.is_some(), fits, "{header} {syllable} {input}");
+    }
+}
+
+#[test]
+fn codes_have_kinds_and_names(rt: HostRuntime) {
+    for (code, kind, name) in [
+        (Code::E1, Kind::Error, "E1"),
+        (Code::E6, Kind::Error, "E6"),
+        (Code::W1, Kind::Warning, "W1"),
+        (Code::W10, Kind::Warning, "W10"),
+        (Code::W11, Kind::Warning, "W11"),
+        (Code::F1, Kind::Fatal, "F1"),
+        (Code::F7, Kind::Fatal, "F7"),
+    ] {
+        assert_eq!(rt; code.kind(), kind);
+        assert_eq!(rt; code.name(), name);
+    }
+}
+
+#[test]
+fn keeps_texts_and_findings(rt: HostRuntime) -> Result<(), Fail> {
+    let text = Text::from_str(rt.alloc(), "\u{C9}\r\n\u{FEFF}x")?;
+    assert_eq!(rt; text.as_str(), "\u{C9}\r\n\u{FEFF}x");
+    assert_eq!(rt; text.end(), Place { line: 2, column: 3 });
+    assert_eq!(rt; Text::new(rt.alloc()).end(), Place::START);
+    assert_eq!(rt; Place::START.after('a'), Place { line: 1, column: 2 });
+    let mut findings = Findings::new(rt.alloc());
+    let finding = Finding {
+        place: text.end(),
+        code: Code::W6,
+    };
+    findings.push(finding)?;
+    assert_eq!(rt; findings.as_slice(), [finding].as_slice());
+    Ok(())
+}
+
+#[test]
+fn laws_are_called() {
+    laws::plain_text();
+    laws::first_place();
+    laws::placed_at();
+    laws::placed_joined();
+    laws::earliest_is_least();
+}

@@ -1,0 +1,147 @@
+//! A source and a sink for trials: they give and take as much as they are told, and fail where they are told.
+
+ghost use Rattle.std.specs.Prelude.{◌≡◌, ◌<◌, ◌≤◌, ◌↔◌, [], ◌++◌, length, IfOk, IsErr, OnErr, None, Some};
+ghost use Rattle.std.specs.Io.{ReadsAtMost, WritesAtMost};
+ghost use Rattle.std.specs.Io.KnownBytes.{ReadConsumes, WriteAppends};
+ghost use Rattle.gabc_places.specs.Counted.{CountsFailure};
+ghost use Rattle.gabc_places.specs.Trial.{given_count, taken_count};
+
+use crate::count::Count;
+use crate::room::Room;
+use crate::sink::{Sink, SinkFault};
+use crate::source::{Source, SourceFault};
+use std::alloc::{AllocError, Global};
+use std::marker::Model;
+
+/// A source that gives bytes, at most so many a read. After a number of bytes its reads fail, if it is told to.
+#[derive(Drop)]
+pub struct TrialSource<'a> {
+    rest: &'a [u8],
+    most: usize,
+    fails_after: Option<usize>,
+    failures: Count,
+}
+
+impl<'a> Model for TrialSource<'a> {
+    ghost use Rattle.std.specs.Prelude.{◌<◌};
+    ghost use Rattle.gabc_places.specs.Trial.{Giving};
+
+    ghost Value = { Giving };
+
+    ghost view = { λ s. record { rest = s.rest.now; most = s.most; fails_after = s.fails_after; failures = s.failures } };
+
+    ghost invariant = { λ s. 0 < s.most };
+}
+
+impl<'a> TrialSource<'a> {
+    /// A source of these bytes, at most `most` a read, whose reads fail once it gave `fails_after` bytes.
+    pub fn new(bytes: &'a [u8], most: usize, fails_after: Option<usize>) -> TrialSource<'a>
+        requires { 0 < most }
+        ensures { result ≡ record { rest = bytes.now; most = most; fails_after = fails_after; failures = 0 } }
+    {
+        TrialSource {
+            rest: bytes,
+            most,
+            fails_after,
+            failures: Count::zero(),
+        }
+    }
+}
+
+impl Source for TrialSource<'_> {
+    ghost remaining = { λ s. Some s.rest };
+
+    ghost failures = { λ s. s.failures };
+
+    fn read(&mut self, buf: &mut [u8]) -> Result<usize, SourceFault>
+        ensures bound { ReadsAtMost result buf.new }
+        ensures bytes { ReadConsumes (Some self.old.rest) (Some self.new.rest) result buf.new }
+        ensures faults { OnErr result (self.old.failures < self.new.failures) }
+        ensures counts { self.old.failures ≤ self.new.failures }
+        ensures counted { CountsFailure result self.old.failures self.new.failures }
+        ensures fails { IsErr result ↔ (self.old.fails_after ≡ Some 0) }
+        ensures count { IfOk result (λ n. n ≡ given_count self.old (length buf.old)) }
+    {
+        if self.fails_after == Some(0) {
+            self.failures.add_one();
+            return Err(SourceFault);
+        }
+        let mut count = self.rest.len().min(buf.len()).min(self.most);
+        if let Some(left) = self.fails_after {
+            count = count.min(left);
+            self.fails_after = Some(left - count);
+        }
+        let (now, later) = self.rest.split_at(count);
+        buf[..count].copy_from_slice(now);
+        self.rest = later;
+        Ok(count)
+    }
+}
+
+/// A sink that takes at most so many bytes a write, and fails once it holds a number of bytes.
+#[derive(Drop)]
+pub struct TrialSink {
+    taken: Room<u8>,
+    most: usize,
+    failures: Count,
+}
+
+impl Model for TrialSink {
+    ghost use Rattle.std.specs.Prelude.{◌<◌};
+    ghost use Rattle.gabc_places.specs.Trial.{Taking};
+
+    ghost Value = { Taking };
+
+    ghost view = { λ s. record { held = s.taken.items; most = s.most; fails_at = s.taken.limit; failures = s.failures } };
+
+    ghost invariant = { λ s. 0 < s.most };
+}
+
+impl TrialSink {
+    /// A sink that takes at most `most` bytes a write, and fails where it holds `fails_at` bytes and is given more.
+    pub fn new(alloc: Global, most: usize, fails_at: usize) -> Result<TrialSink, AllocError>
+        requires { 0 < most }
+        ensures { IfOk result (λ s. s ≡ record { held = []; most = most; fails_at = fails_at; failures = 0 }) }
+    {
+        Ok(TrialSink {
+            taken: Room::with_limit(alloc, fails_at)?,
+            most,
+            failures: Count::zero(),
+        })
+    }
+
+    /// The bytes that it holds.
+    pub fn held(&self) -> &[u8]
+        ensures { result.now ≡ self.now.held }
+    {
+        self.taken.slice()
+    }
+}
+
+impl Sink for TrialSink {
+    ghost written = { λ s. Some s.held };
+
+    ghost failures = { λ s. s.failures };
+
+    fn write(&mut self, bytes: &[u8]) -> Result<usize, SinkFault>
+        ensures bound { WritesAtMost result bytes.now }
+        ensures bytes { WriteAppends (Some self.old.held) (Some self.new.held) result bytes.now }
+        ensures takes { IfOk result (λ n. 0 < length bytes.now → 0 < n) }
+        ensures faults { OnErr result (self.old.failures < self.new.failures) }
+        ensures counts { self.old.failures ≤ self.new.failures }
+        ensures counted { CountsFailure result self.old.failures self.new.failures }
+        ensures fails { IsErr result ↔ ((length self.old.held ≡ self.old.fails_at) × (0 < length bytes.now)) }
+        ensures count { IfOk result (λ n. n ≡ taken_count self.old (length bytes.now)) }
+    {
+        if self.taken.is_full() && !bytes.is_empty() {
+            self.failures.add_one();
+            return Err(SinkFault);
+        }
+        let count = bytes.len().min(self.taken.left()).min(self.most);
+        self.taken.append(&bytes[..count]);
+        Ok(count)
+    }
+}
+
+#[cfg(test)]
+mod tests;
