@@ -1,0 +1,139 @@
+-- Whether a value wants lines of its own, from left to right.
+use Rattle.std.proofs.Common.{◌≡◌, ℕ, List, [], ◌∷◌, ◌++◌, Bool, true, false, cond, ◌||◌, ◌&&◌, ◌==◌, refl, sym, ap, ◌∙◌, append_assoc, append-nil}
+use Rattle.gabc_headers.specs.Lines.{lines, on_first, is_bare, is_mark, has_mark}
+use Rattle.gabc_headers.specs.Canonical.{wants_lines}
+
+-- whether the rest of a value has an LF, or the line has a mark; `marked` tells that a `;` and blanks stand before the rest
+abbrev pub has_lf : List ℕ → Bool
+has_lf [] = false
+has_lf (c ∷ v) = (c == 10) || has_lf v
+
+abbrev pub wants_from : Bool → List ℕ → Bool
+wants_from marked v = has_lf v || ((marked && is_bare v) || has_mark 1 v)
+
+or_true : (a : Bool) → (a || true) ≡ true
+or_true true = refl
+or_true false = refl
+
+-- there are several lines
+abbrev several : List (List ℕ) → Bool
+several [] = false
+several (l ∷ []) = false
+several (l ∷ m ∷ ls) = true
+
+several_wants : (ls : List (List ℕ)) → several ls ≡ true → wants_lines ls ≡ true
+several_wants [] h = absurd (cc)
+several_wants (l ∷ []) h = absurd (cc)
+several_wants (l ∷ m ∷ ls) h = refl
+
+abbrev is_some_line : List (List ℕ) → Bool
+is_some_line [] = false
+is_some_line (l ∷ ls) = true
+
+lines_some : (v : List ℕ) → is_some_line (lines v) ≡ true
+lines_some [] = refl
+lines_some (c ∷ v) = by (c == 10)
+  where
+    of : (ls : List (List ℕ)) → is_some_line (on_first c ls) ≡ true
+    of [] = refl
+    of (l ∷ ls) = refl
+
+    by : (b : Bool) → is_some_line (cond b ([] ∷ lines v) (on_first c (lines v))) ≡ true
+    by true = refl
+    by false = of (lines v)
+
+one_more : (ls : List (List ℕ)) → is_some_line ls ≡ true → several ([] ∷ ls) ≡ true
+one_more [] h = absurd (cc)
+one_more (l ∷ ls) h = refl
+
+on_several : (c : ℕ) (ls : List (List ℕ)) → several ls ≡ true → several (on_first c ls) ≡ true
+on_several c [] h = absurd (cc)
+on_several c (l ∷ []) h = absurd (cc)
+on_several c (l ∷ m ∷ ls) h = refl
+
+-- an LF makes several lines
+lf_several : (v : List ℕ) → has_lf v ≡ true → several (lines v) ≡ true
+lf_several [] h = absurd (cc)
+lf_several (c ∷ v) h = by (c == 10) h (lf_several v)
+  where
+    by : (b : Bool) → (b || has_lf v) ≡ true → (has_lf v ≡ true → several (lines v) ≡ true) → several (cond b ([] ∷ lines v) (on_first c (lines v))) ≡ true
+    by true h r = one_more (lines v) (lines_some v)
+    by false h r = on_several c (lines v) (r h)
+
+-- without an LF there is one line
+one_line : (v : List ℕ) → has_lf v ≡ false → lines v ≡ v ∷ []
+one_line [] h = refl
+one_line (c ∷ v) h = by (c == 10) h (one_line v)
+  where
+    by : (b : Bool) → (b || has_lf v) ≡ false → (has_lf v ≡ false → lines v ≡ v ∷ []) → cond b ([] ∷ lines v) (on_first c (lines v)) ≡ (c ∷ v) ∷ []
+    by true h r = absurd (cc)
+    by false h r = rw (r h) refl
+
+pub wants_start : (v : List ℕ) → wants_lines (lines v) ≡ wants_from false v
+wants_start v = by (has_lf v) refl
+  where
+    by : (b : Bool) → has_lf v ≡ b → wants_lines (lines v) ≡ (b || has_mark 1 v)
+    by true h = several_wants (lines v) (lf_several v h)
+    by false h = rw (one_line v h) refl
+
+pub step_lf : (w m : Bool) (v : List ℕ) → (w || wants_from m (10 ∷ v)) ≡ true
+step_lf w m v = or_true w
+
+twice : (v : List ℕ) → (is_mark 0 v || has_mark 1 v) ≡ has_mark 1 v
+twice [] = refl
+twice (c ∷ v) = by (is_mark 1 (c ∷ v)) (has_mark 1 v)
+  where
+    by : (x y : Bool) → (x || (x || y)) ≡ (x || y)
+    by true y = refl
+    by false y = refl
+
+pub step_semicolon : (m : Bool) (v : List ℕ) → wants_from m (59 ∷ v) ≡ wants_from true v
+step_semicolon m v = by m (has_lf v) (is_bare v) (is_mark 0 v) (has_mark 1 v) (twice v)
+  where
+    by : (m f b x y : Bool) → (x || y) ≡ y → (f || ((m && false) || ((b || x) || y))) ≡ (f || (b || y))
+    by m true b x y h = refl
+    by true false true x y h = refl
+    by true false false x y h = h
+    by false false true x y h = refl
+    by false false false x y h = h
+
+pub step_percent : (w m : Bool) (v : List ℕ) → (w || wants_from m (37 ∷ v)) ≡ ((w || m) || wants_from m v)
+step_percent true m v = refl
+step_percent false true v = or_true (has_lf v)
+step_percent false false v = refl
+
+pub step_space : (m : Bool) (v : List ℕ) → wants_from m (32 ∷ v) ≡ wants_from m v
+step_space true v = refl
+step_space false v = refl
+
+pub step_tab : (m : Bool) (v : List ℕ) → wants_from m (9 ∷ v) ≡ wants_from m v
+step_tab true v = refl
+step_tab false v = refl
+
+pub step_other : (m : Bool) (c : ℕ) (v : List ℕ) → (c == 10) ≡ false → (c == 59) ≡ false → (c == 37) ≡ false → (c == 32) ≡ false → (c == 9) ≡ false → wants_from m (c ∷ v) ≡ wants_from false v
+step_other m c v a b d e f = rw (a, b, d, e, f) (by m)
+  where
+    by : (m : Bool) → (has_lf v || ((m && false) || has_mark 1 v)) ≡ (has_lf v || has_mark 1 v)
+    by true = refl
+    by false = refl
+
+-- the same as steps of what is known
+pub after_semicolon : (ys rest : List ℕ) (c : ℕ) (w m : Bool) → c ≡ 59 → ((r : List ℕ) → wants_lines (lines (ys ++ r)) ≡ (w || wants_from m r))
+    → wants_lines (lines ((ys ++ c ∷ []) ++ rest)) ≡ (w || wants_from true rest)
+after_semicolon ys rest c w m e h =
+    ap (λ (x : List ℕ). wants_lines (lines x)) (append_assoc ys (c ∷ []) rest)
+    ∙ (h (c ∷ rest) ∙ (ap (λ (x : ℕ). w || wants_from m (x ∷ rest)) e ∙ ap (λ (x : Bool). w || x) (step_semicolon m rest)))
+
+pub after_percent : (ys rest : List ℕ) (c : ℕ) (w m : Bool) → c ≡ 37 → ((r : List ℕ) → wants_lines (lines (ys ++ r)) ≡ (w || wants_from m r))
+    → wants_lines (lines ((ys ++ c ∷ []) ++ rest)) ≡ ((w || m) || wants_from m rest)
+after_percent ys rest c w m e h =
+    ap (λ (x : List ℕ). wants_lines (lines x)) (append_assoc ys (c ∷ []) rest)
+    ∙ (h (c ∷ rest) ∙ (ap (λ (x : ℕ). w || wants_from m (x ∷ rest)) e ∙ step_percent w m rest))
+
+-- at the end
+pub at_end : (v ys : List ℕ) (w m : Bool) → v ≡ ys → ((r : List ℕ) → wants_lines (lines (ys ++ r)) ≡ (w || wants_from m r)) → wants_lines (lines v) ≡ (w || m)
+at_end v ys w m e h = ap (λ (x : List ℕ). wants_lines (lines x)) (e ∙ sym (append-nil ys)) ∙ (h [] ∙ ap (λ (x : Bool). w || x) (by m))
+  where
+    by : (m : Bool) → ((m && true) || false) ≡ m
+    by true = refl
+    by false = refl

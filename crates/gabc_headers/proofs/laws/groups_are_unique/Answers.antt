@@ -1,0 +1,5 @@
+use Rattle.gabc_headers.proofs.Cutting.{one_cutting}
+use Rattle.gabc_headers.proofs.laws.groups_are_unique.Goals as goal
+
+pub returns : goal.returns
+returns c = one_cutting

@@ -1,0 +1,5 @@
+use Rattle.gabc_headers.proofs.Cutting.{some_groups}
+use Rattle.gabc_headers.proofs.laws.lines_have_groups.Goals as goal
+
+pub returns : goal.returns
+returns c = some_groups

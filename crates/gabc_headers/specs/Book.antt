@@ -1,0 +1,62 @@
+-- The book of header parts.
+use Rattle.std.specs.Prelude.{ℕ, ◌+◌, List, [], ◌∷◌, ◌++◌, Bool, true, false, ◌||◌, ◌&&◌, not, cond, bytes_eq, codes, Option, Some, None, is_some}
+use Rattle.gabc_headers.specs.Parts.{Part, left_out, header, unended}
+
+-- the value of `nabc-lines` is a number that is known
+abbrev pub is_kept : List ℕ → List ℕ → Bool
+is_kept name value = not (bytes_eq name (codes "nabc-lines")) || (bytes_eq value (codes "0") || bytes_eq value (codes "1"))
+
+abbrev pub is_one_of : List ℕ → List (List ℕ) → Bool
+is_one_of name [] = false
+is_one_of name (n ∷ ns) = bytes_eq name n || is_one_of name ns
+
+-- whether the name comes again, after these; an annotation never does
+abbrev pub repeats : List (List ℕ) → List ℕ → Bool
+repeats seen name = not (bytes_eq name (codes "annotation")) && is_one_of name seen
+
+abbrev pub unless : {X : Type 0} → Bool → X → List X → List X
+unless true x xs = xs
+unless false x xs = x ∷ xs
+
+-- the names and values of the headers that count
+abbrev pub entries : List Part → List (List ℕ × List ℕ)
+entries [] = []
+entries (left_out k p ∷ ps) = entries ps
+entries (unended k ∷ ps) = entries ps
+entries (header k name value p ∷ ps) = unless (not (is_kept name value)) (name, value) (entries ps)
+
+-- the value of the last of that name, if v is that of the first
+abbrev pub last_value : {X : Type 0} → List ℕ → X → List (List ℕ × X) → X
+last_value name v [] = v
+last_value name v (e ∷ es) = last_value name (cond (bytes_eq name e.0) e.1 v) es
+
+abbrev pub value_of : {X : Type 0} → List ℕ → X → List (List ℕ × X) → X
+value_of name v es = cond (bytes_eq name (codes "annotation")) v (last_value name v es)
+
+-- Of each name one entry stands, at the place of its first and with the value of its last; of `annotation` all stand.
+abbrev pub standing : {X : Type 0} → List (List ℕ) → List (List ℕ × X) → List (List ℕ × X)
+standing seen [] = []
+standing seen (e ∷ es) = unless (repeats seen e.0) (e.0, value_of e.0 e.1 es) (standing (e.0 ∷ seen) es)
+
+abbrev pub book_of : List Part → List (List ℕ × List ℕ)
+book_of ps = standing [] (entries ps)
+
+-- the value of the first entry of that name
+abbrev pub value_named : List ℕ → List (List ℕ × List ℕ) → Option (List ℕ)
+value_named name [] = None
+value_named name (e ∷ es) = cond (bytes_eq name e.0) (Some e.1) (value_named name es)
+
+abbrev pub has_header : List ℕ → List (List ℕ × List ℕ) → Bool
+has_header name book = is_some (value_named name book)
+
+-- the number of lines of NABC; 0 without the header
+abbrev pub lines_by : Option (List ℕ) → ℕ
+lines_by None = 0
+lines_by (Some value) = cond (bytes_eq value (codes "1")) 1 0
+
+abbrev pub nabc_lines_of : List (List ℕ × List ℕ) → ℕ
+nabc_lines_of book = lines_by (value_named (codes "nabc-lines") book)
+
+-- the name of a macro's header: `def-m` and the digit
+abbrev pub macro_name : ℕ → List ℕ
+macro_name digit = codes "def-m" ++ (48 + digit) ∷ []

@@ -1,0 +1,13 @@
+pub mod Book
+pub mod Canonical
+pub mod Gather
+pub mod Groups
+pub mod Heads
+pub mod Lines
+pub mod Parts
+pub mod Pushes
+pub mod Runs
+pub mod Shown
+pub mod Steps
+pub mod Taken
+pub mod Told

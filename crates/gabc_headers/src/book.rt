@@ -1,0 +1,165 @@
+//! The book of headers.
+
+ghost use Rattle.std.specs.Prelude.{◌≡◌, ◌<◌, ◌^◌, ◌==◌, [], ◌∷◌, ◌++◌, None, Some, length, slice_get, OnOk, MatchOption, IsSomeAnd};
+ghost use Rattle.std.specs.Str.{chars};
+ghost use Rattle.gabc_headers.specs.Book.{lines_by, value_named, has_header, macro_name, nabc_lines_of};
+ghost use Rattle.gabc_headers.specs.Canonical.{canonical_heads};
+ghost use Rattle.gabc_headers.specs.Lines.{bytes_len};
+
+use crate::canonical::line_len;
+use gabc_places::Span;
+use std::alloc::{AllocError, Global};
+use std::marker::Model;
+
+/// A header's name and value, as bytes of the book's text.
+#[derive(Clone, Copy)]
+pub(crate) struct Entry {
+    pub name: Span,
+    pub value: Span,
+}
+
+/// The headers of a text, in order. Contracts see the list of names and values, each the list of its characters.
+#[derive(Drop)]
+pub struct HeaderBook {
+    text: String,
+    entries: Vec<Entry>,
+}
+
+impl Model for HeaderBook {
+    ghost use Rattle.std.specs.Prelude.{ℕ, List, string_bytes};
+
+    ghost Value = { List (List ℕ × List ℕ) };
+
+    ghost use Rattle.gabc_headers.specs.Shown.{shown, IsBook};
+
+    ghost view = { λ b. shown (string_bytes b.text) b.entries.items };
+
+    ghost invariant = { λ b. IsBook (string_bytes b.text) b.entries.items };
+}
+
+/// The name of a macro's header.
+fn macro_header(digit: u8) -> &'static str
+    requires { digit < 10 }
+    ensures { result.now ≡ macro_name digit }
+{
+    match digit {
+        0 => "def-m0",
+        1 => "def-m1",
+        2 => "def-m2",
+        3 => "def-m3",
+        4 => "def-m4",
+        5 => "def-m5",
+        6 => "def-m6",
+        7 => "def-m7",
+        8 => "def-m8",
+        _ => "def-m9",
+    }
+}
+
+/// The number of lines of NABC that a value of `nabc-lines` says.
+fn lines_in(value: &str) -> u8
+    ensures { result ≡ lines_by (Some (chars value.now)) }
+{
+    if value == "1" { 1 } else { 0 }
+}
+
+impl HeaderBook {
+    /// A book without headers.
+    pub(crate) fn new(alloc: Global) -> HeaderBook
+        ensures { result ≡ [] }
+    {
+        HeaderBook {
+            text: String::new(alloc),
+            entries: Vec::new(alloc),
+        }
+    }
+
+    /// Adds a header at the end.
+    pub(crate) fn push(&mut self, name: &str, value: &str) -> Result<(), AllocError>
+        requires { bytes_len (canonical_heads (self.old ++ (chars name.now, chars value.now) ∷ [])) < 2 ^ 32 }
+        ensures { OnOk result (self.new ≡ self.old ++ (chars name.now, chars value.now) ∷ []) }
+    {
+        let from = self.text.len();
+        self.text.push_str(name)?;
+        let middle = self.text.len();
+        self.text.push_str(value)?;
+        let to = self.text.len();
+        let name = Span { from, to: middle };
+        let value = Span { from: middle, to };
+        self.entries.push(Entry { name, value })?;
+        Ok(())
+    }
+
+    /// The number of headers.
+    pub fn len(&self) -> usize
+        ensures { result ≡ length self.now }
+    {
+        self.entries.len()
+    }
+
+    /// Whether there are no headers.
+    pub fn is_empty(&self) -> bool
+        ensures { result ≡ (length self.now == 0) }
+    {
+        self.entries.is_empty()
+    }
+
+    /// The name of the header with this index, from 0.
+    pub fn name(&self, index: usize) -> &str
+        requires { index < length self.now }
+        ensures { IsSomeAnd (slice_get self.now index) (λ entry. chars result.now ≡ entry.0) }
+    {
+        let entry = self.entries[index];
+        &self.text.as_str()[entry.name.from..entry.name.to]
+    }
+
+    /// The value of the header with this index, from 0.
+    pub fn value(&self, index: usize) -> &str
+        requires { index < length self.now }
+        ensures { IsSomeAnd (slice_get self.now index) (λ entry. chars result.now ≡ entry.1) }
+    {
+        let entry = self.entries[index];
+        &self.text.as_str()[entry.value.from..entry.value.to]
+    }
+
+    /// The value of the first header of a name.
+    pub fn get(&self, name: &str) -> Option<&str>
+        ensures { MatchOption result (value_named (chars name.now) self.now ≡ None) (λ v. value_named (chars name.now) self.now ≡ Some (chars v.now)) }
+    {
+        for index in 0..self.len() {
+            if name == self.name(index) {
+                return Some(self.value(index));
+            }
+        }
+        None
+    }
+
+    /// The number of lines of NABC: 0 or 1, by the header `nabc-lines`.
+    pub fn nabc_lines(&self) -> u8
+        ensures { result ≡ nabc_lines_of self.now }
+    {
+        match self.get("nabc-lines") {
+            Some(value) => lines_in(value),
+            None => 0,
+        }
+    }
+
+    /// Whether the macro of a digit is defined.
+    pub fn is_macro(&self, digit: u8) -> bool
+        requires { digit < 10 }
+        ensures { result ≡ has_header (macro_name digit) self.now }
+    {
+        self.get(macro_header(digit)).is_some()
+    }
+
+    /// The number of bytes of the canonical header lines and `%%`.
+    pub fn canonical_len(&self) -> usize
+        ensures { result ≡ bytes_len (canonical_heads self.now) }
+    {
+        let mut len = 2;
+        for index in 0..self.entries.len() {
+            len += line_len(self.name(index), self.value(index));
+        }
+        len
+    }
+}

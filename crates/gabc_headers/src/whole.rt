@@ -1,0 +1,120 @@
+//! The headers of a whole text.
+
+ghost use Rattle.std.specs.Prelude.{◌≡◌, IfOk};
+ghost use Rattle.gabc_places.specs.Findings.{AreInOrder};
+ghost use Rattle.gabc_headers.specs.Gather.{AreWithin, spelled};
+ghost use Rattle.gabc_headers.specs.Heads.{heads_of, findings_of};
+ghost use Rattle.gabc_headers.specs.Taken.{finished, scored, ended_at, left_open_at};
+
+use crate::collected::{Collected, collect};
+use crate::heads::{HeadFault, Heads};
+use crate::read::read_parts;
+use crate::told::End;
+use gabc_places::{Code, Fault, Finding, Findings, Limits, Place, Text};
+use std::alloc::{AllocError, Global};
+
+/// The headers of a text whose end is the input's end.
+pub fn headers_whole(
+    alloc: Global,
+    text: &Text,
+    limits: Limits,
+) -> Result<Result<Heads, HeadFault>, AllocError>
+    ensures exact { IfOk result (λ read. read ≡ heads_of limits text.now) }
+    ensures order { IfOk result (λ read. AreInOrder (findings_of read)) }
+{
+    let told = read_parts(alloc, text, limits.header)?;
+    let written = text.as_str();
+    let collected = collect(alloc, written, &told.events)?;
+    match told.end {
+        End::Score(place, body, line) => {
+            at_score(alloc, written, limits, place, body, line, collected)
+        }
+        End::Limit(place) => Ok(Err(stopped(place, Code::F4, collected.findings, false))),
+        End::Text(place, line) => Ok(Err(at_text(place, line, collected.findings))),
+    }
+}
+
+/// The headers at the line `%%`, where a value may be open.
+fn at_score(
+    alloc: Global,
+    text: &str,
+    limits: Limits,
+    place: Place,
+    body: usize,
+    open_line: Option<u64>,
+    collected: Collected,
+) -> Result<Result<Heads, HeadFault>, AllocError>
+    requires { AreWithin text.now collected.headers }
+    ensures { IfOk result (λ read. read ≡ scored limits place body open_line (spelled text.now collected.headers) collected.findings) }
+{
+    match open_line {
+        None => finish(alloc, text, limits, place, body, collected),
+        Some(line) => Ok(Err(open_value(line, collected.findings, false))),
+    }
+}
+
+/// The headers at the end of the text, where a value may be open.
+fn at_text(place: Place, open_line: Option<u64>, findings: Findings) -> HeadFault
+    ensures { result ≡ ended_at place open_line findings }
+{
+    match open_line {
+        None => stopped(place, Code::F2, findings, true),
+        Some(line) => open_value(line, findings, true),
+    }
+}
+
+/// The headers are stopped at a place.
+fn stopped(place: Place, code: Code, findings: Findings, at_end: bool) -> HeadFault
+    ensures { result ≡ record { fault = record { place = place; code = code }; findings = findings; at_end = at_end } }
+{
+    HeadFault {
+        fault: Fault { place, code },
+        findings,
+        at_end,
+    }
+}
+
+/// The headers end in a value, whose header begins on this line.
+fn open_value(line: u64, findings: Findings, at_end: bool) -> HeadFault
+    ensures { result ≡ left_open_at line at_end findings }
+{
+    let place = Place { line, column: 1 };
+    stopped(place, Code::F3, findings, at_end)
+}
+
+/// The headers at the line `%%` at this place, behind which the text goes on at the byte `body`.
+fn finish(
+    alloc: Global,
+    text: &str,
+    limits: Limits,
+    place: Place,
+    body: usize,
+    collected: Collected,
+) -> Result<Result<Heads, HeadFault>, AllocError>
+    requires { AreWithin text.now collected.headers }
+    ensures { IfOk result (λ read. read ≡ finished limits place body (spelled text.now collected.headers) collected.findings) }
+{
+    let Collected {
+        headers,
+        mut findings,
+    } = collected;
+    let size = headers.canonical_len(text);
+    if size > limits.header as usize {
+        return Ok(Err(stopped(place, Code::F4, findings, false)));
+    }
+    if size + 3 > limits.input as usize {
+        return Ok(Err(stopped(place, Code::F7, findings, false)));
+    }
+    let book = headers.book(alloc, text)?;
+    if book.get("name").is_none() {
+        findings.push(Finding {
+            place,
+            code: Code::W1,
+        })?;
+    }
+    Ok(Ok(Heads {
+        book,
+        body,
+        findings,
+    }))
+}

@@ -1,0 +1,59 @@
+-- A small table by example: notes, clefs, two clefs joined by @, and @.
+use Rattle.std.proofs.Common.{◌≡◌, [], ◌∷◌, true, false, refl, codes}
+use Rattle.gabc_patterns.specs.Pattern.{Pattern, one_of, ◌·◌, ◌or◌, many, optional, text}
+use Rattle.gabc_patterns.specs.Reading.{Table, Reads}
+use Rattle.gabc_patterns.specs.Derivative.{is_snippet, is_viable}
+use Rattle.gabc_patterns.specs.Function.{items, keep, trim, kept_text}
+use Rattle.gabc_patterns.proofs.Munch.{snippet_from}
+use Rattle.gabc_patterns.proofs.Items.{items_are}
+
+-- the kinds of the example
+pub data Kind : Type 0 where
+  Note Clef At : Kind
+
+-- a pitch, with a hyphen before it, and dots after it
+abbrev pub note : Pattern
+note = optional (text (codes "-")) · one_of (codes "bcg") · many (text (codes "."))
+
+-- c, b and a digit
+abbrev pub clef : Pattern
+clef = text (codes "c") · optional (text (codes "b")) · one_of (codes "12345")
+
+-- the example
+abbrev pub table : Table Kind
+table = (Note, note) ∷ (Clef, clef or clef · text (codes "@") · clef) ∷ (At, text (codes "@")) ∷ []
+
+-- the first two clefs are joined, since that is the longest item there
+three_clefs : items table (codes "c4@c4@c4") ≡ (Clef, codes "c4@c4") ∷ (At, codes "@") ∷ (Clef, codes "c4") ∷ []
+three_clefs = refl
+
+-- cb, which a clef may begin with, is two notes
+two_notes : items table (codes "cb") ≡ (Note, codes "c") ∷ (Note, codes "b") ∷ []
+two_notes = refl
+
+-- a clef, and at the end an @ and a note, since no second clef comes
+at_and_note : items table (codes "c4@cb.") ≡ (Clef, codes "c4") ∷ (At, codes "@") ∷ (Note, codes "c") ∷ (Note, codes "b.") ∷ []
+at_and_note = refl
+
+-- the same, as the relation
+reads_three_clefs : Reads table ((Clef, codes "c4@c4") ∷ (At, codes "@") ∷ (Clef, codes "c4") ∷ []) (codes "c4@c4@c4")
+reads_three_clefs =
+    items_are table refl (codes "c4@c4@c4") (snippet_from table refl (codes "c4@c4@c4") refl)
+
+-- a hyphen goes on, but it is no snippet
+hyphen_goes_on : is_viable table (codes "g-") ≡ true
+hyphen_goes_on = refl
+
+hyphen_is_none : is_snippet table (codes "g-") ≡ false
+hyphen_is_none = refl
+
+-- what does not go on is left out
+left_out : keep table (codes "g4!c4.@-") ≡ codes "gc4@-"
+left_out = refl
+
+-- and at the end what makes no snippet is cut off
+cut_off : kept_text table (codes "g4!c4.@-") ≡ codes "gc4@"
+cut_off = refl
+
+trimmed : trim table (codes "gc4@-") ≡ codes "gc4@"
+trimmed = refl

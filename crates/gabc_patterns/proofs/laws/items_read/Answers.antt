@@ -1,0 +1,6 @@
+use Rattle.gabc_patterns.proofs.Rows.{none_ends}
+use Rattle.gabc_patterns.proofs.Items.{items_are}
+use Rattle.gabc_patterns.proofs.laws.items_read.Goals as goal
+
+pub returns : goal.returns
+returns g c = λ rows h. items_are rows (none_ends rows h)

@@ -1,0 +1,43 @@
+//! Tables of patterns, and texts that are read by the longest item at each place.
+//!
+//! The notes of GABC, the descriptors of NABC and the rows of neumes are each a *table*: a list of rows, each a kind and
+//! a pattern, that reads like the grammar. A text is read by taking at each place the longest item that begins there. A
+//! text with a reading is a *snippet*, and a text with a completion to a snippet is *viable*. Of other texts those
+//! characters are *kept* that go on a viable text, and of what is kept the longest front that is a snippet.
+//!
+//! This crate is the theory of that, for any table and any type of kinds. It runs nothing. It has
+//!
+//! - definitions, in `specs/`: `Pattern` (what a pattern spells), `Reading` (tables, the longest item, readings, snippets),
+//!   `Kept` (what is kept), `Items` (items by the places where they begin and end). The same as functions that compute:
+//!   `Derivative` (whether a text is a snippet, and viable), `Function` (items, the kept text). And `Fallback`, for the
+//!   next state of an automaton;
+//! - [`laws`], each the contract of a function that does nothing;
+//! - lemmas for the crates above, in `proofs/`. A crate describes its automaton by a record of its functions and an
+//!   example text of each state (`Automaton`); two tests of each state, closed by `refl`, show that it reads the table
+//!   (`Checked`). Then the state after a text tells whether the text is viable and whole (`Standing`), what follows at a
+//!   state is what follows after its example (`Rest`), and a loop over characters keeps a text (`Keeping`), finds the
+//!   longest item at a place (`ItemSoFar`, `ItemHere`) and lists the items (`ItemList`). For lists that are read by
+//!   letters of their elements, as notes are, there are `Letters` and `Exists`;
+//! - a small table by example, in `proofs/Examples`.
+#![tactic(auto)]
+
+pub mod laws;
+
+#[cfg(test)]
+mod tests {
+    use crate::laws;
+
+    #[test]
+    fn each_law_is_called_once() {
+        laws::derivative_spells_what_follows();
+        laws::longest_is_one::<u8>();
+        laws::reading_is_one::<u8>();
+        laws::derivatives_decide::<u8>();
+        laws::items_read::<u8>();
+        laws::kept_is_computed::<u8>();
+        laws::kept_front_stays::<u8>();
+        laws::viable_text_is_kept::<u8>();
+        laws::kept_text_is_kept_again::<u8>();
+        laws::fronts_of_kept_are_viable::<u8>();
+    }
+}

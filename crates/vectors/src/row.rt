@@ -1,0 +1,111 @@
+//! A row of a file of runs.
+
+use std::alloc::{AllocError, Global};
+
+/// A run, and what it must give.
+#[derive(Drop)]
+pub(crate) struct Row {
+    pub all_warnings: bool,
+    pub header: u32,
+    pub syllable: u32,
+    pub input: u32,
+    pub broken: bool,
+    pub bytes: Vec<u8>,
+    pub output: Vec<u8>,
+    pub messages: Vec<u8>,
+    pub status: u8,
+}
+
+/// Where a reader of escapes stands.
+#[derive(Clone, Copy)]
+enum Escape {
+    None,
+    Begun,
+    Hex,
+    HexAfter(u8),
+}
+
+/// The value of a hexadecimal digit.
+fn digit(byte: u8) -> u8 {
+    match byte {
+        b'0'..=b'9' => byte - b'0',
+        b'A'..=b'F' => byte - b'A' + 10,
+        b'a'..=b'f' => byte - b'a' + 10,
+        _ => 0,
+    }
+}
+
+/// The bytes of a column: `\n`, `\r`, `\t`, `\\` and `\xNN` are escapes.
+fn unescaped(alloc: Global, column: &str) -> Result<Vec<u8>, AllocError> {
+    let mut bytes = Vec::new(alloc);
+    let mut escape = Escape::None;
+    for byte in column.bytes() {
+        escape = match escape {
+            Escape::None if byte == b'\\' => Escape::Begun,
+            Escape::None => {
+                bytes.push(byte)?;
+                Escape::None
+            }
+            Escape::Begun if byte == b'x' => Escape::Hex,
+            Escape::Begun => {
+                bytes.push(match byte {
+                    b'n' => b'\n',
+                    b'r' => b'\r',
+                    b't' => b'\t',
+                    _ => byte,
+                })?;
+                Escape::None
+            }
+            Escape::Hex => Escape::HexAfter(byte),
+            Escape::HexAfter(high) => {
+                bytes.push(digit(high).wrapping_mul(16).wrapping_add(digit(byte)))?;
+                Escape::None
+            }
+        };
+    }
+    Ok(bytes)
+}
+
+/// The three limits of a column, in bytes.
+fn limits_of(column: &str) -> Option<(u32, u32, u32)> {
+    let mut numbers = column.split(',');
+    let header = numbers.next()?.parse::<u32>().ok()?;
+    let syllable = numbers.next()?.parse::<u32>().ok()?;
+    let input = numbers.next()?.parse::<u32>().ok()?;
+    Some((header, syllable, input))
+}
+
+/// The row of a line: options, limits, ending, input, output, messages and status, split by tabs.
+pub(crate) fn row_of(alloc: Global, line: &str) -> Result<Option<Row>, AllocError> {
+    let mut columns = line.split('\t');
+    let (Some(options), Some(limits), Some(ending)) = (
+        columns.next(),
+        columns.next(),
+        columns.next(),
+    ) else {
+        return Ok(None);
+    };
+    let (Some(bytes), Some(output), Some(messages), Some(status)) = (
+        columns.next(),
+        columns.next(),
+        columns.next(),
+        columns.next(),
+    ) else {
+        return Ok(None);
+    };
+    let (Some((header, syllable, input)), Ok(status)) = (limits_of(limits), status.parse::<u8>())
+    else {
+        return Ok(None);
+    };
+    Ok(Some(Row {
+        all_warnings: options.ends_with("-W"),
+        header,
+        syllable,
+        input,
+        broken: ending == "broken",
+        bytes: unescaped(alloc, bytes)?,
+        output: unescaped(alloc, output)?,
+        messages: unescaped(alloc, messages)?,
+        status,
+    }))
+}
