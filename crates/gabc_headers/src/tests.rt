@@ -173,3 +173,11 @@ fn tells_which_values_want_lines(rt: HostRuntime) {
         assert_eq!(rt; wants_own_lines(value), wants, "{value}");
     }
 }
+
+#[test]
+fn laws_are_called() {
+    laws::lines_have_groups();
+    laws::groups_are_unique();
+    laws::groups_tell_parts();
+    laws::last_value_at_first_place();
+}

@@ -42,6 +42,77 @@ fn run(
     })
 }
 
+/// Inputs with their output, messages and status, all warnings told.
+const ROWS: [(&str, &str, &str, Status); 12] = [
+    (
+        "name: Kyrie;\n%%\n",
+        "name: Kyrie;\n%%\n",
+        "",
+        Status::Whole,
+    ),
+    (
+        "%%",
+        "%%\n",
+        "<stdin>:1:1: warning: W1: no name header\n",
+        Status::Whole,
+    ),
+    (
+        "",
+        "",
+        "<stdin>:1:1: fatal: F2: no %% line\n",
+        Status::Fatal,
+    ),
+    (
+        "name: Kyrie;\n%%\n(c4)",
+        "name: Kyrie;\n%%\n",
+        "",
+        Status::Whole,
+    ),
+    (
+        "\u{FEFF}name:X;\r\ncommentary:;\r\n%%\r\n(c3) A(g)",
+        "name: X;\ncommentary:;\n%%\n",
+        "",
+        Status::Whole,
+    ),
+    (
+        "name:A;\nuser-notes: \n %%x\ntwo;;\n%%\n",
+        "name: A;\nuser-notes:\n %%x\ntwo;;\n%%\n",
+        "",
+        Status::Whole,
+    ),
+    (
+        "name:\na; % x;;\n%%\n",
+        "name:\n a; % x;;\n%%\n",
+        "",
+        Status::Whole,
+    ),
+    ("name: a; % x;\n%%\n", "name: a;\n%%\n", "", Status::Whole),
+    (
+        "mode:1;\nname:A;\nmode:2;\n%%",
+        "mode: 2;\nname: A;\n%%\n",
+        "<stdin>:3:1: warning: W2: header given again\n",
+        Status::Whole,
+    ),
+    (
+        "nabc-lines: 9;\n%%",
+        "%%\n",
+        "<stdin>:1:1: error: E5: nabc-lines out of range left out\n<stdin>:2:1: warning: W1: no name header\n",
+        Status::Errors,
+    ),
+    (
+        "words\n%%",
+        "%%\n",
+        "<stdin>:1:1: error: E4: header without a usable name left out\n<stdin>:2:1: warning: W1: no name header\n",
+        Status::Errors,
+    ),
+    (
+        "name: x\n%%\n",
+        "",
+        "<stdin>:1:1: fatal: F3: header value not ended\n",
+        Status::Fatal,
+    ),
+];
+
 /// The limits of the program.
 fn usual() -> Result<Limits, Fail> {
     Ok(Limits::new(65_536, 16_384, u32::MAX).ok_or("limits")?)
@@ -49,76 +120,7 @@ fn usual() -> Result<Limits, Fail> {
 
 #[test]
 fn writes_rows(rt: HostRuntime) -> Result<(), Fail> {
-    let rows = [
-        (
-            "name: Kyrie;\n%%\n",
-            "name: Kyrie;\n%%\n",
-            "",
-            Status::Whole,
-        ),
-        (
-            "%%",
-            "%%\n",
-            "<stdin>:1:1: warning: W1: no name header\n",
-            Status::Whole,
-        ),
-        (
-            "",
-            "",
-            "<stdin>:1:1: fatal: F2: no %% line\n",
-            Status::Fatal,
-        ),
-        (
-            "name: Kyrie;\n%%\n(c4)",
-            "name: Kyrie;\n%%\n",
-            "",
-            Status::Whole,
-        ),
-        (
-            "\u{FEFF}name:X;\r\ncommentary:;\r\n%%\r\n(c3) A(g)",
-            "name: X;\ncommentary:;\n%%\n",
-            "",
-            Status::Whole,
-        ),
-        (
-            "name:A;\nuser-notes: \n %%x\ntwo;;\n%%\n",
-            "name: A;\nuser-notes:\n %%x\ntwo;;\n%%\n",
-            "",
-            Status::Whole,
-        ),
-        (
-            "name:\na; % x;;\n%%\n",
-            "name:\n a; % x;;\n%%\n",
-            "",
-            Status::Whole,
-        ),
-        ("name: a; % x;\n%%\n", "name: a;\n%%\n", "", Status::Whole),
-        (
-            "mode:1;\nname:A;\nmode:2;\n%%",
-            "mode: 2;\nname: A;\n%%\n",
-            "<stdin>:3:1: warning: W2: header given again\n",
-            Status::Whole,
-        ),
-        (
-            "nabc-lines: 9;\n%%",
-            "%%\n",
-            "<stdin>:1:1: error: E5: nabc-lines out of range left out\n<stdin>:2:1: warning: W1: no name header\n",
-            Status::Errors,
-        ),
-        (
-            "words\n%%",
-            "%%\n",
-            "<stdin>:1:1: error: E4: header without a usable name left out\n<stdin>:2:1: warning: W1: no name header\n",
-            Status::Errors,
-        ),
-        (
-            "name: x\n%%\n",
-            "",
-            "<stdin>:1:1: fatal: F3: header value not ended\n",
-            Status::Fatal,
-        ),
-    ];
-    for (input, output, messages, status) in rows {
+    for (input, output, messages, status) in ROWS {
         let ran = run(
             rt.alloc(),
             &job(true),
