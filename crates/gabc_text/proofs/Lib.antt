@@ -1,0 +1,13 @@
+pub mod Cutting
+pub mod Endings
+pub mod SeenSoFar
+pub mod Names
+pub mod Modes
+pub mod Going
+pub mod Counts
+pub mod Given
+pub mod Held
+pub mod Run
+pub mod Steps
+pub mod Gathering
+pub mod Reaching

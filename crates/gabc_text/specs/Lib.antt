@@ -1,0 +1,9 @@
+pub mod Machine
+pub mod Mode
+pub mod Name
+pub mod Outs
+pub mod Read
+pub mod Step
+pub mod Told
+pub mod Token
+pub mod View

@@ -1,0 +1,295 @@
+-- What a text means, by its tokens. In these definitions `before` are the tokens before a place, the nearest first.
+use Rattle.std.specs.Prelude.{ℕ, ◌+◌, List, [], ◌∷◌, ◌++◌, Bool, true, false, cond, not, ◌||◌, ◌&&◌, ◌==◌, length, take, filter, min, Option, Some, None, is_some, map, reverse, drop}
+use Rattle.std.specs.List.{list_any}
+use Rattle.gabc_text.specs.declared.styles.Style.{Style}
+use Rattle.gabc_text.specs.declared.styles.Style.TheVariants.{B, C, E, I, Sc, Tt, Ul}
+use Rattle.gabc_text.specs.declared.view.PieceKind.{PieceKind}
+use Rattle.gabc_text.specs.declared.view.PieceKind.TheVariants as piece
+use Rattle.gabc_places.specs.declared.code.Code.{Code}
+use Rattle.gabc_places.specs.declared.code.Code.TheVariants.{E2, W3, W4, W5, W6}
+use Rattle.gabc_places.specs.declared.code.Finding.{Finding}
+use Rattle.std.specs.Char.{len_utf8}
+use Rattle.gabc_places.specs.Place.{next_place}
+use Rattle.gabc_places.specs.declared.place.Place.{Place}
+use Rattle.gabc_places.specs.declared.place.Span.{Span}
+use Rattle.gabc_text.specs.declared.view.How.{How}
+use Rattle.gabc_text.specs.declared.view.How.TheVariants.{Notes, Finished, Cut}
+use Rattle.gabc_text.specs.declared.token.Kind.{Kind}
+use Rattle.gabc_text.specs.declared.token.Kind.TheVariants.{Letter, Blank, Comment, Stray, Begin, End, Tag, Raw, Translation, OpenTag, OpenTranslation}
+use Rattle.gabc_text.specs.declared.token.Sort.{Sort}
+use Rattle.gabc_text.specs.declared.token.Sort.TheVariants.{Opens, Closes, Mark, Other}
+use Rattle.gabc_text.specs.Token.{Token, spelling, tokens, sort_of}
+
+-- what a token does to the styles and spans
+abbrev pub sort_as : Kind → List ℕ → Sort
+sort_as Tag s = sort_of s
+sort_as _ s = Other
+
+abbrev pub sort : Token → Sort
+sort k = sort_as k.kind (spelling k)
+
+-- What the tokens ks give, each after those before it: the first of ks stands after `before`.
+abbrev pub along : {X : Type 0} → (List Token → Token → List X) → List Token → List Token → List X
+along at before [] = []
+along at before (k ∷ ks) = at before k ++ along at (k ∷ before) ks
+
+-- ---- where a token stands
+
+-- the text that the tokens before spell
+abbrev pub text_of : List Token → List ℕ
+text_of [] = []
+text_of (k ∷ before) = text_of before ++ spelling k
+
+-- the place behind a text that begins at p
+abbrev pub place_past : Place → List ℕ → Place
+place_past p [] = p
+place_past p (c ∷ t) = place_past (next_place p c) t
+
+abbrev pub place_of : Place → List Token → Place
+place_of at before = place_past at (text_of before)
+
+-- how many bytes the characters have
+abbrev pub bytes_of : List ℕ → ℕ
+bytes_of [] = 0
+bytes_of (c ∷ t) = len_utf8 c + bytes_of t
+
+-- ---- styles
+
+abbrev pub rank : Style → ℕ
+rank B = 0
+rank C = 1
+rank E = 2
+rank I = 3
+rank Sc = 4
+rank Tt = 5
+rank Ul = 6
+
+abbrev pub is_same : Style → Style → Bool
+is_same r s = rank r == rank s
+
+abbrev pub all_styles : List Style
+all_styles = B ∷ C ∷ E ∷ I ∷ Sc ∷ Tt ∷ Ul ∷ []
+
+-- the style is open after a tag of this sort, if it was open or not before it
+abbrev pub is_open_after : Style → Sort → Bool → Bool
+is_open_after s (Opens r) was = cond (is_same r s) true was
+is_open_after s (Closes r) was = cond (is_same r s) false was
+is_open_after s _ was = was
+
+-- the nearest tag of the style opens it
+abbrev pub is_open : Style → List Token → Bool
+is_open s [] = false
+is_open s (k ∷ before) = is_open_after s (sort k) (is_open s before)
+
+abbrev pub open_styles : List Token → List Style
+open_styles before = filter (λ s. is_open s before) all_styles
+
+-- ---- pieces
+
+abbrev pub last_of : ℕ → List ℕ → List ℕ
+last_of c [] = c ∷ []
+last_of c (d ∷ s) = last_of d s
+
+-- what a piece says
+pub record Said : Type 0 where
+  pub kind : PieceKind
+  pub styles : List Style
+  pub text : List ℕ
+
+-- the kind of piece that a token is, blanks aside
+abbrev pub tag_piece : Sort → Option PieceKind
+tag_piece Mark = Some piece.Mark
+tag_piece Other = Some piece.Tag
+tag_piece _ = None
+
+abbrev pub piece_kind : Kind → Sort → Option PieceKind
+piece_kind Letter s = Some piece.Char
+piece_kind Raw s = Some piece.Raw
+piece_kind Tag s = tag_piece s
+piece_kind _ s = None
+
+abbrev pub kind_of : Token → Option PieceKind
+kind_of k = piece_kind k.kind (sort k)
+
+abbrev pub is_space : Kind → Bool
+is_space Blank = true
+is_space _ = false
+
+-- a piece but a span mark
+abbrev pub is_word_kind : Option PieceKind → Bool
+is_word_kind None = false
+is_word_kind (Some piece.Mark) = false
+is_word_kind (Some _) = true
+
+abbrev pub has_word : List Token → Bool
+has_word before = list_any (λ k. is_word_kind (kind_of k)) before
+
+-- of the tokens that are blanks or pieces, the nearest is a blank
+abbrev pub follows_blank : List Token → Bool
+follows_blank [] = false
+follows_blank (k ∷ before) = is_space k.kind || (not (is_some (kind_of k)) && follows_blank before)
+
+-- what a piece says: of a letter the character, without its `$`
+abbrev pub saying : PieceKind → Token → List ℕ
+saying piece.Char k = last_of k.first k.more
+saying _ k = spelling k
+
+abbrev pub piece_of : List Token → Token → Option PieceKind → List Said
+piece_of before k (Some kind) = record { kind = kind; styles = open_styles before; text = saying kind k } ∷ []
+piece_of before k None =
+    cond (is_space k.kind && has_word before && not (follows_blank before)) (record { kind = piece.Blank; styles = open_styles before; text = [] } ∷ []) []
+
+-- the pieces that a token after `before` is: one or none
+abbrev pub pieces_at : List Token → Token → List Said
+pieces_at before k = piece_of before k (kind_of k)
+
+abbrev pub is_blank_piece : PieceKind → Bool
+is_blank_piece piece.Blank = true
+is_blank_piece _ = false
+
+-- a blank before which no piece stands but span marks
+abbrev pub starts_word : List Token → Bool
+starts_word [] = false
+starts_word (k ∷ before) = (is_space k.kind && not (has_word before)) || starts_word before
+
+-- ---- the centre
+
+abbrev pub is_begin : Kind → Bool
+is_begin Begin = true
+is_begin _ = false
+
+abbrev pub is_end : Kind → Bool
+is_end End = true
+is_end _ = false
+
+abbrev pub has_begin : List Token → Bool
+has_begin before = list_any (λ k. is_begin k.kind) before
+
+-- a `}` stands after a `{`
+abbrev pub has_end : List Token → Bool
+has_end [] = false
+has_end (k ∷ before) = (is_end k.kind && has_begin before) || has_end before
+
+abbrev pub count_pieces : List Token → ℕ
+count_pieces [] = 0
+count_pieces (k ∷ before) = count_pieces before + length (pieces_at before k)
+
+-- how many pieces stand before the first `{`, and before the first `}` after it
+abbrev pub begin_of : List Token → Option ℕ
+begin_of [] = None
+begin_of (k ∷ before) = cond (is_begin k.kind && not (has_begin before)) (Some (count_pieces before)) (begin_of before)
+
+abbrev pub end_of : List Token → Option ℕ
+end_of [] = None
+end_of (k ∷ before) = cond (is_end k.kind && (has_begin before && not (has_end before))) (Some (count_pieces before)) (end_of before)
+
+-- a centre that isn't ended goes to the end; no position is past the pieces
+abbrev pub centre_by : ℕ → Option ℕ → Option ℕ → Option Span
+centre_by count (Some from) (Some to) = Some (record { from = min from count; to = min to count })
+centre_by count (Some from) None = Some (record { from = min from count; to = count })
+centre_by count None _ = None
+
+-- ---- the translation
+
+abbrev pub is_translation : Kind → Bool
+is_translation Translation = true
+is_translation OpenTranslation = true
+is_translation _ = false
+
+abbrev pub has_translation : List Token → Bool
+has_translation before = list_any (λ k. is_translation k.kind) before
+
+-- ---- the kept text
+
+-- a comment, a stray character, or a brace that is not the first `{` or the first `}` after it
+abbrev pub is_left_out : List Token → Kind → Bool
+is_left_out before Comment = true
+is_left_out before Stray = true
+is_left_out before Begin = has_begin before
+is_left_out before End = not (has_begin before && not (has_end before))
+is_left_out before _ = false
+
+-- the nearest token that isn't left out is a blank
+abbrev pub follows_space : List Token → Bool
+follows_space [] = false
+follows_space (k ∷ before) = is_space k.kind || (is_left_out before k.kind && follows_space before)
+
+-- what is kept of a token after `before`: of several blanks one
+abbrev pub kept_at : List Token → Token → List ℕ
+kept_at before k =
+    cond (is_left_out before k.kind) []
+    (cond (is_space k.kind) (cond (follows_space before) [] (32 ∷ []))
+    (spelling k))
+
+-- ---- how a text ends
+
+abbrev pub is_open_kind : Kind → Bool
+is_open_kind OpenTag = true
+is_open_kind OpenTranslation = true
+is_open_kind _ = false
+
+-- the last token is left open
+abbrev pub is_cut : List Token → Bool
+is_cut [] = false
+is_cut (k ∷ before) = is_open_kind k.kind
+
+-- what follows the tokens is empty, or begins with the `(`, behind this front
+abbrev pub how_by : List ℕ → List ℕ → How
+how_by front [] = Finished
+how_by front (c ∷ rest) = Notes (bytes_of front)
+
+-- how a text ends whose tokens are these, the nearest first, where they spell the front and rest follows
+abbrev pub how_after : Place → List Token → List ℕ → List ℕ → How
+how_after at [] front rest = how_by front rest
+how_after at (k ∷ before) front rest = cond (is_open_kind k.kind) (Cut (place_of at before)) (how_by front rest)
+
+-- ---- the findings, each with the index of its character
+
+abbrev pub tag_codes : List Token → Sort → List Code
+tag_codes before (Opens s) = cond (is_open s before) (W3 ∷ []) []
+tag_codes before (Closes s) = cond (is_open s before) [] (W3 ∷ [])
+tag_codes before Other = W6 ∷ []
+tag_codes before _ = []
+
+-- a second translation is found where it begins, all else where the token ends
+abbrev pub early_codes : List Token → Kind → List Code
+early_codes before Translation = cond (has_translation before) (W5 ∷ []) []
+early_codes before OpenTranslation = cond (has_translation before) (W5 ∷ []) []
+early_codes before _ = []
+
+abbrev pub late_codes : List Token → Kind → Sort → List Code
+late_codes before Stray s = E2 ∷ []
+late_codes before Begin s = cond (has_begin before) (W4 ∷ []) []
+late_codes before End s = cond (has_begin before && not (has_end before)) [] (W4 ∷ [])
+late_codes before Tag s = tag_codes before s
+late_codes before _ s = []
+
+abbrev pub found_at : Place → Code → Finding
+found_at place c = record { place = place; code = c }
+
+abbrev pub findings_at : Place → List Token → Token → List Finding
+findings_at at before k = map (found_at (place_of at before)) (early_codes before k.kind ++ late_codes before k.kind (sort k))
+
+-- those of a text's end: styles that are still open, and a centre that is
+abbrev pub codes_at_end : List Token → List Code
+codes_at_end before =
+    cond (list_any (λ s. is_open s before) all_styles) (W3 ∷ []) []
+    ++ cond (has_begin before && not (has_end before)) (W4 ∷ []) []
+
+abbrev pub findings_at_end : Place → List Token → List Finding
+findings_at_end at before = cond (is_cut before) [] (map (found_at (place_of at before)) (codes_at_end before))
+
+-- ---- of a text
+
+abbrev pub kept : List ℕ → List ℕ
+kept t = along kept_at [] (tokens t)
+
+abbrev pub findings : Place → List ℕ → List Finding
+findings at t = along (findings_at at) [] (tokens t) ++ findings_at_end at (reverse (tokens t))
+
+-- how many characters the tokens have
+abbrev pub length_of : List ℕ → ℕ
+length_of t = length (text_of (reverse (tokens t)))
+
+abbrev pub how : Place → List ℕ → How
+how at t = how_after at (reverse (tokens t)) (take (length_of t) t) (drop (length_of t) t)

@@ -1,0 +1,87 @@
+//! The styles of a text.
+
+ghost use Rattle.std.specs.Prelude.{◌≡◌};
+ghost use Rattle.gabc_text.specs.Machine.{has_lem, with_lem, is_empty_lem};
+
+/// The styles, in the order in which they are printed.
+#[derive(Clone, Copy, Debug, PartialEq, Eq)]
+pub enum Style {
+    B,
+    C,
+    E,
+    I,
+    Sc,
+    Tt,
+    Ul,
+}
+
+/// A set of styles: which of the seven are open.
+#[derive(Clone, Copy, Debug, PartialEq, Eq)]
+pub struct Styles {
+    pub b: bool,
+    pub c: bool,
+    pub e: bool,
+    pub i: bool,
+    pub sc: bool,
+    pub tt: bool,
+    pub ul: bool,
+}
+
+impl Styles {
+    /// No style is open.
+    pub const NONE: Styles = Styles {
+        b: false,
+        c: false,
+        e: false,
+        i: false,
+        sc: false,
+        tt: false,
+        ul: false,
+    };
+
+    /// Whether the style is open.
+    pub fn has(self, style: Style) -> bool
+        ensures { result ≡ has_lem self style }
+    {
+        match style {
+            Style::B => self.b,
+            Style::C => self.c,
+            Style::E => self.e,
+            Style::I => self.i,
+            Style::Sc => self.sc,
+            Style::Tt => self.tt,
+            Style::Ul => self.ul,
+        }
+    }
+
+    /// The set with this style in it, or not.
+    pub(crate) fn with(self, style: Style, is_open: bool) -> Styles
+        ensures { result ≡ with_lem self style is_open }
+    {
+        match style {
+            Style::B => Styles { b: is_open, ..self },
+            Style::C => Styles { c: is_open, ..self },
+            Style::E => Styles { e: is_open, ..self },
+            Style::I => Styles { i: is_open, ..self },
+            Style::Sc => Styles {
+                sc: is_open,
+                ..self
+            },
+            Style::Tt => Styles {
+                tt: is_open,
+                ..self
+            },
+            Style::Ul => Styles {
+                ul: is_open,
+                ..self
+            },
+        }
+    }
+
+    /// Whether no style is open.
+    pub fn is_empty(self) -> bool
+        ensures { result ≡ is_empty_lem self }
+    {
+        !(self.b || self.c || self.e || self.i || self.sc || self.tt || self.ul)
+    }
+}

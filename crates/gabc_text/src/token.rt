@@ -1,0 +1,74 @@
+//! The tokens of a text: the parts of its spelling that the rules speak of.
+
+ghost use Rattle.std.specs.Prelude.{◌≡◌};
+ghost use Rattle.gabc_text.specs.Mode.{is_special_lem, single_lem, is_blank_kind};
+
+use crate::styles::Style;
+
+/// What a token of the text is.
+#[derive(Clone, Copy)]
+pub enum Kind {
+    /// A character that stands for itself, with its `$` if it has one.
+    Letter,
+    Blank,
+    Comment,
+    /// A character that is left out.
+    Stray,
+    /// `{` and `}`.
+    Begin,
+    End,
+    Tag,
+    /// A raw part with both its tags; a translation with its brackets.
+    Raw,
+    Translation,
+    /// A tag or raw part, and a translation, that the end of the text leaves open.
+    OpenTag,
+    OpenTranslation,
+}
+
+#[derive(Clone, Copy)]
+pub enum RawKind {
+    V,
+    Sp,
+    Alt,
+}
+
+/// What a tag does.
+#[derive(Clone, Copy)]
+pub enum Sort {
+    Opens(Style),
+    Closes(Style),
+    Mark,
+    Begins(RawKind),
+    Other,
+}
+
+pub(crate) fn is_special(c: char) -> bool
+    ensures { result ≡ is_special_lem c }
+{
+    match c {
+        '(' | ')' | '[' | ']' | '{' | '}' | '<' | '>' | '%' | '$' => true,
+        _ => false,
+    }
+}
+
+pub(crate) fn single(c: char) -> Kind
+    ensures { result ≡ single_lem c }
+{
+    match c {
+        ' ' | '\t' | '\n' => Kind::Blank,
+        ')' | ']' | '>' => Kind::Stray,
+        '{' => Kind::Begin,
+        '}' => Kind::End,
+        _ => Kind::Letter,
+    }
+}
+
+pub(crate) fn is_blank_kind(kind: Kind) -> bool
+    ensures { result ≡ is_blank_kind kind }
+{
+    match kind {
+        Kind::Blank => true,
+        _ => false,
+    }
+}

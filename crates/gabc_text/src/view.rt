@@ -1,0 +1,107 @@
+//! The pieces of a text.
+
+ghost use Rattle.std.specs.Prelude.{◌≡◌, [], ◌∷◌, ◌++◌, OnOk, OnErr};
+
+use crate::styles::Styles;
+use gabc_places::{Place, Span};
+use smallvec::SmallVec;
+use std::alloc::{AllocError, Global};
+use std::marker::Model;
+
+/// What a piece of a text is.
+#[derive(Clone, Copy, Debug, PartialEq, Eq)]
+pub enum PieceKind {
+    /// A character that stands for itself.
+    Char,
+    /// A run of blanks.
+    Blank,
+    /// A raw part with its two tags.
+    Raw,
+    /// A tag that is kept as it stands.
+    Tag,
+    /// One of `<eu>`, `</eu>`, `<nlba>` and `</nlba>`.
+    Mark,
+}
+
+/// A piece of a text. Its span counts bytes of the kept text; that of a character is without the `$` before it.
+#[derive(Clone, Copy, Debug, PartialEq, Eq)]
+pub struct Piece {
+    pub kind: PieceKind,
+    pub styles: Styles,
+    pub span: Span,
+}
+
+impl Default for Piece {
+    fn default() -> Piece {
+        Piece {
+            kind: PieceKind::Char,
+            styles: Styles::NONE,
+            span: Span { from: 0, to: 0 },
+        }
+    }
+}
+
+/// How a text ends.
+#[derive(Clone, Copy, Debug, PartialEq, Eq)]
+pub enum How {
+    /// At the `(` at this index, in bytes of the text.
+    Notes(usize),
+    /// At the end of the input.
+    Finished,
+    /// At the end of the input, inside the tag, raw part or translation that begins here.
+    Cut(Place),
+}
+
+/// The pieces of a text, in order. Contracts see the list of them.
+#[derive(Drop)]
+pub struct Pieces {
+    items: SmallVec<Piece, 8>,
+}
+
+impl Model for Pieces {
+    ghost use Rattle.std.specs.Prelude.{List};
+    ghost use Rattle.gabc_text.specs.declared.view.Piece.{Piece};
+
+    ghost Value = { List Piece };
+
+    ghost view = { λ p. p.items.items };
+}
+
+impl Pieces {
+    /// No pieces.
+    pub(crate) fn new(alloc: Global) -> Pieces
+        ensures { result ≡ [] }
+    {
+        Pieces {
+            items: SmallVec::new(alloc),
+        }
+    }
+
+    /// Adds a piece at the end.
+    pub(crate) fn push(&mut self, piece: Piece) -> Result<(), AllocError>
+        ensures added { OnOk result (self.new ≡ self.old ++ piece ∷ []) }
+        ensures unchanged { OnErr result (self.new ≡ self.old) }
+    {
+        self.items.push(piece)?;
+        Ok(())
+    }
+
+    /// The pieces in order.
+    pub fn as_slice(&self) -> &[Piece]
+        ensures { result.now ≡ self.now }
+    {
+        self.items.as_slice()
+    }
+}
+
+/// What a text says.
+#[derive(Drop)]
+pub struct TextView {
+    /// Whether the syllable begins a word.
+    pub word_start: bool,
+    pub pieces: Pieces,
+    /// The centre: from and to how many pieces.
+    pub centre: Option<Span>,
+    /// The first translation without its brackets, in bytes of the kept text.
+    pub translation: Option<Span>,
+}
