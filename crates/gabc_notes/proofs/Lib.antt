@@ -1,0 +1,9 @@
+pub mod Machine
+pub mod Characters
+pub mod Snippets
+pub mod FirstItem
+pub mod Told
+pub mod Looked
+pub mod Keeping
+pub mod OpenRaw
+pub mod ItemList

@@ -1,0 +1,5 @@
+use Rattle.gabc_notes.proofs.OpenRaw.{open_decides}
+use Rattle.gabc_notes.proofs.laws.inside_raw_is_an_open_bracket.Goals as goal
+
+pub returns : goal.returns
+returns c = open_decides

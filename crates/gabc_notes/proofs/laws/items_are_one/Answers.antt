@@ -1,0 +1,8 @@
+use Rattle.gabc_notes.specs.Table.{gabc}
+use Rattle.gabc_notes.proofs.Keeping.{kinds_are_one, none_empty}
+use Rattle.gabc_patterns.specs.Reading.{IsItemOf}
+use Rattle.gabc_patterns.proofs.OneReading.{one_reading}
+use Rattle.gabc_notes.proofs.laws.items_are_one.Goals as goal
+
+pub returns : goal.returns
+returns c = one_reading (IsItemOf gabc) none_empty kinds_are_one

@@ -1,0 +1,70 @@
+//! The items of a kept text.
+
+ghost use Rattle.std.specs.Prelude.{◌≡◌, ◌≤◌, ◌<◌, ◌++◌, length, drop, IfOk, IfSome, IfNone, List};
+ghost use Rattle.gabc_places.specs.Held.{HasRoom, added};
+ghost use Rattle.gabc_notes.specs.Items.{IsKept, AreItemsOf, IsFirstItem};
+ghost use Rattle.gabc_notes.specs.declared.item.Item.{Item};
+
+use crate::class::class_of;
+use crate::item::{Item, ItemKind, Items};
+use crate::state::{State, ends, goes_on};
+use gabc_places::{Room, Span};
+use std::alloc::{AllocError, Global};
+
+/// The longest item that begins the text: its kind, and how many bytes it has.
+fn first_item(text: &str) -> Option<(ItemKind, usize)>
+    ensures found { IfSome result (λ i. IsFirstItem text.now i.0 i.1) }
+    ensures none { IfNone result (0 < length text.now → ¬ IsKept text.now) }
+{
+    let mut best = None;
+    let mut state = State::Start;
+    let mut read = 0;
+    for c in text.chars() {
+        match goes_on(state, class_of(c)) {
+            Some(after) => {
+                state = after;
+                read += c.len_utf8();
+                if let Some(kind) = ends(state) {
+                    best = Some((kind, read));
+                }
+            }
+            None => return best,
+        }
+    }
+    best
+}
+
+/// The items of a snippet. It fails only for want of memory.
+pub fn items_whole(alloc: Global, kept: &str) -> Result<Items, AllocError>
+    requires { IsKept kept.now }
+    ensures { IfOk result (λ items. AreItemsOf kept.now items) }
+{
+    let mut items = Items::new(alloc);
+    let mut at = 0;
+    while let Some((kind, len)) = first_item(&kept[at..]) {
+        let span = Span {
+            from: at,
+            to: at + len,
+        };
+        items.push(Item { kind, span })?;
+        at += len;
+    }
+    Ok(items)
+}
+
+/// Adds the items of a snippet. A place for each byte of the snippet is enough.
+pub fn items_into(kept: &str, out: &mut Room<Item>)
+    requires kept { IsKept kept.now }
+    requires room { HasRoom out.old (length kept.now) }
+    ensures { (items : List Item) × AreItemsOf kept.now items × (out.new ≡ added out.old items) }
+{
+    let mut at = 0;
+    while let Some((kind, len)) = first_item(&kept[at..]) {
+        let span = Span {
+            from: at,
+            to: at + len,
+        };
+        out.push(Item { kind, span });
+        at += len;
+    }
+}

@@ -1,0 +1,21 @@
+//! Which texts are snippets.
+
+ghost use Rattle.std.specs.Prelude.{IsTrue, ◌↔◌};
+ghost use Rattle.gabc_notes.specs.Items.{IsKept};
+
+use crate::class::class_of;
+use crate::state::{State, is_whole, next_state};
+
+/// Whether the text is read whole by its items.
+pub fn is_snippet(kept: &str) -> bool
+    ensures { IsTrue result ↔ IsKept kept.now }
+{
+    let mut state = State::Start;
+    for c in kept.chars() {
+        match next_state(state, class_of(c)) {
+            Some(after) => state = after,
+            None => return false,
+        }
+    }
+    is_whole(state)
+}

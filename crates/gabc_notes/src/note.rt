@@ -1,0 +1,188 @@
+//! What a note is.
+
+ghost use Rattle.std.specs.Prelude.{◌≡◌, ◌≤◌, length, [], ◌∷◌, MatchOption, codes};
+ghost use Rattle.gabc_notes.specs.Notes.{is_digit, letters, shape_by, is_sign, digits_of, height_of, height_at, shape_at, is_debilis, from_pitch, run_of, note_in};
+ghost use Rattle.gabc_patterns.specs.Pattern.{is_in};
+
+use crate::item::{Item, ItemKind};
+use gabc_places::Span;
+
+/// The shape of a note.
+#[derive(Clone, Copy, Debug, PartialEq, Eq)]
+pub enum Shape {
+    Punctum,
+    Inclinatum,
+    Virga,
+    Bivirga,
+    Trivirga,
+    VirgaReversa,
+    Stropha,
+    Distropha,
+    Tristropha,
+    Oriscus,
+    OriscusScapus,
+    Quilisma,
+    QuilismaQuadratum,
+    Quadratum,
+    Cavum,
+    Lined,
+    Linea,
+}
+
+/// A note: its height from 0 for `a` to 13 for `n` and 14 for `p`, its shape, whether it is initio debilis, and the span
+/// of its item.
+#[derive(Clone, Copy, Debug, PartialEq, Eq)]
+pub struct Note {
+    pub height: u8,
+    pub shape: Shape,
+    pub debilis: bool,
+    pub span: Span,
+}
+
+fn is_digit_byte(byte: u8) -> bool
+    ensures { result ≡ is_digit byte }
+{
+    b'0' <= byte && byte <= b'9'
+}
+
+/// Whether `r` with these characters behind it is a sign: its digits are neither none nor `0` alone.
+fn makes_sign(text: &[u8]) -> bool
+    ensures { result ≡ is_sign (digits_of text.now) }
+{
+    match text {
+        [b'0', second, ..] => is_digit_byte(*second),
+        [b'0'] => false,
+        [first, ..] => is_digit_byte(*first),
+        [] => false,
+    }
+}
+
+fn is_shape_letter(byte: u8) -> bool
+    ensures { result ≡ is_in byte (codes "vVsoOwWqrR=") }
+{
+    match byte {
+        b'v' | b'V' | b's' | b'o' | b'O' | b'w' | b'W' | b'q' | b'r' | b'R' | b'=' => true,
+        _ => false,
+    }
+}
+
+/// The first letter that names the shape, and what follows it.
+fn next_letter(text: &[u8]) -> Option<(u8, &[u8])>
+    ensures { MatchOption result (letters text.now ≡ []) (λ p. letters text.now ≡ p.0 ∷ letters p.1.now) }
+{
+    for (i, byte) in text.iter().enumerate() {
+        let rest = &text[i + 1..];
+        if is_shape_letter(*byte) && !(*byte == b'r' && makes_sign(rest)) {
+            return Some((*byte, rest));
+        }
+    }
+    None
+}
+
+/// How many letters in a row are this one, of at most three: those of `text`, and one before it.
+fn repeated(letter: u8, text: &[u8]) -> u8
+    ensures { result ≡ run_of letter (letters text.now) }
+{
+    match next_letter(text) {
+        Some((second, rest)) if second == letter => match next_letter(rest) {
+            Some((third, _)) if third == letter => 3,
+            _ => 2,
+        },
+        _ => 1,
+    }
+}
+
+/// The shape that the characters behind a small pitch name.
+fn shape_behind(text: &[u8]) -> Shape
+    ensures { result ≡ shape_by (letters text.now) }
+{
+    let Some((letter, rest)) = next_letter(text) else {
+        return Shape::Punctum;
+    };
+    match letter {
+        b'v' => match repeated(letter, rest) {
+            3 => Shape::Trivirga,
+            2 => Shape::Bivirga,
+            _ => Shape::Virga,
+        },
+        b's' => match repeated(letter, rest) {
+            3 => Shape::Tristropha,
+            2 => Shape::Distropha,
+            _ => Shape::Stropha,
+        },
+        b'V' => Shape::VirgaReversa,
+        b'o' => Shape::Oriscus,
+        b'O' => Shape::OriscusScapus,
+        b'w' => Shape::Quilisma,
+        b'W' => Shape::QuilismaQuadratum,
+        b'q' => Shape::Quadratum,
+        b'r' => Shape::Cavum,
+        b'R' => Shape::Lined,
+        b'=' => Shape::Linea,
+        _ => Shape::Punctum,
+    }
+}
+
+/// The height of a pitch.
+fn height(pitch: u8) -> u8
+    ensures { result ≡ height_of pitch }
+{
+    match pitch {
+        b'p' | b'P' => 14,
+        b'A'..=b'Z' => pitch - b'A',
+        _ => pitch.saturating_sub(b'a'),
+    }
+}
+
+/// Whether the text begins with `-`, and what follows that.
+fn split_debilis(text: &[u8]) -> (bool, &[u8])
+    ensures debilis { result.0 ≡ is_debilis text.now }
+    ensures rest { result.1.now ≡ from_pitch text.now }
+{
+    match text {
+        [b'-', rest @ ..] => (true, rest),
+        _ => (false, text),
+    }
+}
+
+/// The height and shape of a text that begins with its pitch.
+fn height_and_shape(text: &[u8]) -> (u8, Shape)
+    ensures height { result.0 ≡ height_at text.now }
+    ensures shape { result.1 ≡ shape_at text.now }
+{
+    match text {
+        [pitch, rest @ ..] => (height(*pitch), shape_of(*pitch, rest)),
+        [] => (0, Shape::Punctum),
+    }
+}
+
+/// The note that an item of a kept text is, if it is a note.
+pub fn note_of(kept: &str, item: Item) -> Option<Note>
+    requires { (item.span.from ≤ item.span.to) × (item.span.to ≤ length kept.now) }
+    ensures { result ≡ note_in kept.now item }
+{
+    match item.kind {
+        ItemKind::Note => {
+            let text = &kept.as_bytes()[item.span.from..item.span.to];
+            let (debilis, text) = split_debilis(text);
+            let (height, shape) = height_and_shape(text);
+            Some(Note {
+                height,
+                shape,
+                debilis,
+                span: item.span,
+            })
+        }
+        _ => None,
+    }
+}
+
+/// The shape of a note: an inclinatum for a capital.
+fn shape_of(pitch: u8, rest: &[u8]) -> Shape
+    ensures { result ≡ shape_at (pitch ∷ rest.now) }
+{
+    match pitch {
+        b'A'..=b'Z' => Shape::Inclinatum,
+        _ => shape_behind(rest),
+    }
+}
