@@ -1,8 +1,7 @@
 -- Lines are cut into groups in one way, and the groups tell the parts.
-use Rattle.std.proofs.Common.{◌≡◌, ℕ, ◌+◌, List, [], ◌∷◌, ◌++◌, length, Bool, true, false, cond, Option, Some, None, refl, sym, ap, ap₂, ◌∙◌, subst, append_assoc, append-nil, arith, length-append}
-use Rattle.gabc_headers.specs.Lines.{is_bare, has_mark, before_mark, mark_end, has_colon, before_colon, after_colon, lines_len}
-use Rattle.gabc_headers.specs.Parts.{Part, left_out, unended, outside, within, parts, given, below, name_of, bad_name, ended}
-use Rattle.gabc_headers.specs.Groups.{Group, skipped, colonless, valued, unfinished, lines_in, EndAtMark, HaveNoMark, BeginsHeader, EndsValue, IsGroup, AreGroups, value_below, value_text, mark_below, mark_point, told_by, told}
+use Rattle.std.proofs.Common.{◌≡◌, ℕ, List, [], ◌∷◌, ◌++◌, Bool, true, false, cond, Option, Some, None, refl, sym, ap, ◌∙◌, subst, append_assoc, append-nil}
+use Rattle.gabc_headers.specs.Lines.{is_bare, has_mark, has_colon, after_colon}
+use Rattle.gabc_headers.specs.Groups.{Group, skipped, colonless, valued, unfinished, EndAtMark, HaveNoMark, BeginsHeader, EndsValue, AreGroups}
 
 -- the groups of these lines, in a value (its header's line and the lines below so far) or outside of one
 pub cut : Option (List ℕ × List (List ℕ)) → List (List ℕ) → List Group

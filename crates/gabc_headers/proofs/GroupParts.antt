@@ -1,8 +1,8 @@
 -- The parts of lines are what their groups tell.
-use Rattle.std.proofs.Common.{◌≡◌, ℕ, ◌+◌, List, [], ◌∷◌, ◌++◌, length, Bool, true, false, cond, ◌||◌, not, Option, Some, None, refl, sym, ap, ap₂, ◌∙◌, append_assoc, append-nil, arith, length-append}
+use Rattle.std.proofs.Common.{◌≡◌, ℕ, ◌+◌, List, [], ◌∷◌, ◌++◌, length, Bool, true, false, cond, Option, refl, sym, ap, ap₂, ◌∙◌, append_assoc, append-nil, arith}
 use Rattle.gabc_headers.specs.Lines.{is_bare, has_mark, before_mark, mark_end, has_colon, before_colon, after_colon, lines_len}
-use Rattle.gabc_headers.specs.Parts.{Part, left_out, unended, Where, outside, within, parts, given, below, name_of, bad_name, ended}
-use Rattle.gabc_headers.specs.Groups.{Group, skipped, colonless, valued, unfinished, lines_in, EndAtMark, HaveNoMark, BeginsHeader, EndsValue, IsGroup, AreGroups, value_below, value_text, mark_below, mark_point, told_by, told}
+use Rattle.gabc_headers.specs.Parts.{Part, left_out, unended, outside, within, parts, name_of, bad_name, ended}
+use Rattle.gabc_headers.specs.Groups.{Group, skipped, colonless, valued, unfinished, EndAtMark, HaveNoMark, BeginsHeader, EndsValue, AreGroups, value_below, mark_below, told_by, told}
 
 -- the lines of a value that ends
 value_parts : (j : ℕ) (name : Option (List ℕ)) (v : List ℕ) (k n : ℕ) (b rest : List (List ℕ)) → EndAtMark b

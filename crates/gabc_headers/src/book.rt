@@ -1,6 +1,6 @@
 //! The book of headers.
 
-ghost use Rattle.std.specs.Prelude.{◌≡◌, ◌<◌, ◌^◌, ◌==◌, [], ◌∷◌, ◌++◌, None, Some, length, slice_get, OnOk, MatchOption, IsSomeAnd};
+ghost use Rattle.std.specs.Prelude.{◌≡◌, ◌<◌, ◌^◌, ◌==◌, [], ◌∷◌, ◌++◌, None, Some, length, slice_get, OnOk, MatchOption, IsSomeAnd, encode_utf8_all};
 ghost use Rattle.std.specs.Str.{chars};
 ghost use Rattle.gabc_headers.specs.Book.{lines_by, value_named, has_header, macro_name, nabc_lines_of};
 ghost use Rattle.gabc_headers.specs.Canonical.{canonical_heads};
@@ -154,7 +154,8 @@ impl HeaderBook {
 
     /// The number of bytes of the canonical header lines and `%%`.
     pub fn canonical_len(&self) -> usize
-        ensures { result ≡ bytes_len (canonical_heads self.now) }
+        ensures len { result ≡ bytes_len (canonical_heads self.now) }
+        ensures bytes { result ≡ length (encode_utf8_all (canonical_heads self.now)) }
     {
         let mut len = 2;
         for index in 0..self.entries.len() {

@@ -3,7 +3,16 @@ pub mod Characters
 pub mod Snippets
 pub mod FirstItem
 pub mod Told
+pub mod LastItem
 pub mod Looked
 pub mod Keeping
 pub mod OpenRaw
+pub mod ItemAt
+pub mod ItemStates
+pub mod Opened
+pub mod Says
+pub mod Gathering
+pub mod Reaching
+pub mod Positions
+pub mod Ordered
 pub mod ItemList

@@ -7,7 +7,7 @@ use Rattle.gabc_patterns.proofs.Standing.{run-append}
 use Rattle.gabc_patterns.proofs.Automaton.{reading, reading_of}
 use Rattle.gabc_notes.specs.Table.{gabc}
 use Rattle.gabc_notes.specs.Class.{class_of_character}
-use Rattle.gabc_notes.specs.Told.{is_attribute_kind, kind_at, macro_digit, seen, role_in, before_in, given_in, outputs, raw_with, follows, told}
+use Rattle.gabc_notes.specs.Told.{is_attribute_kind, kind_at, macro_digit, seen, role_in, before_in, given_in, outputs, raw_with, nothing_more, follows, told}
 use Rattle.gabc_notes.specs.Machine.{following, example, raw_state, attribute_state, digit_named, looked, name_on, named_after, example_name, advanced, rest_of}
 use Rattle.gabc_notes.specs.declared.item.ItemKind.{ItemKind}
 use Rattle.gabc_notes.specs.declared.stage.Name.{Name}
@@ -61,7 +61,7 @@ raw_is (Done FullAttribute) = refl
 raw_is (Done FullFusion) = refl
 
 -- whether a state ends with an attribute
-attribute_is : (s : State) → is_attribute_kind (kind_at (reading gabc machine s)) ≡ attribute_state s
+pub attribute_is : (s : State) → is_attribute_kind (kind_at (reading gabc machine s)) ≡ attribute_state s
 attribute_is Start = refl
 attribute_is Dash = refl
 attribute_is DashPitch = refl
@@ -175,7 +175,7 @@ not_kept split comment s n c e = go (comment && not (c == 10)) (not (raw_state s
 -- what follows a character is what the stage tells from there on
 follow_rest : (st : NoteStage) (x : Char) (xs : List Char) (o : Option State) (e : Seen) (r : Role) → st.ended ≡ false
     → following st.state (class_of_character x.c) ≡ o → (o ≡ None → r ≡ Keep → ⊥)
-    → follows r (told st.split st.macros (example st.state ++ x.c ∷ []) (raw_with e (example_name st.name) x.c) (before_in r st.before e x) xs)
+    → follows r (nothing_more xs) (told st.split st.macros (example st.state ++ x.c ∷ []) (raw_with e (example_name st.name) x.c) (before_in r st.before e x) xs)
     (told st.split st.macros (example st.state) (example_name st.name) (before_in r st.before e x) xs)
     ≡ rest_of (advanced st r e o x) xs
 follow_rest st x xs o e Silent f g h = rw f refl
@@ -192,20 +192,20 @@ follow_rest st x xs (Some z) e Keep f g h =
 -- what a push gives, and then what the stage still gives, is what it gave before
 pub push_law : (st : NoteStage) (x : Char) (xs : List Char) (o : Option State) (e : Seen) (r : Role) → st.ended ≡ false
     → o ≡ following st.state (class_of_character x.c) → e ≡ looked st.state o st.name → r ≡ role_in st.split st.before.comment e x.c
-    → rest_of st (x ∷ xs) ≡ outputs (given_in r st.macros st.before e x) ++ rest_of (advanced st r e o x) xs
+    → rest_of st (x ∷ xs) ≡ outputs (given_in r st.macros st.before e x) ∷ rest_of (advanced st r e o x) xs
 push_law st x xs o e r f g h k =
     let same : seen (example st.state) (example_name st.name) x.c ≡ e = looked_is st.state st.name x.c ∙ (ap (λ (p : Option State). looked st.state p st.name) (sym g) ∙ sym h) in
     let none : o ≡ None → r ≡ Keep → ⊥ = λ a b. not_kept st.split st.before.comment st.state st.name x.c
     (ap (λ (v : Seen). role_in st.split st.before.comment v x.c) (ap (λ (p : Option State). looked st.state p st.name) (sym a) ∙ sym h) ∙ (sym k ∙ b)) in
-    let kept : Seen → List NoteOut = λ v. told st.split st.macros (example st.state ++ x.c ∷ []) (raw_with v (example_name st.name) x.c) (before_in (role_in st.split st.before.comment v x.c) st.before v x) xs in
-    let left : Seen → List NoteOut = λ v. told st.split st.macros (example st.state) (example_name st.name) (before_in (role_in st.split st.before.comment v x.c) st.before v x) xs in
-    let all : Seen → List NoteOut = λ v. outputs (given_in (role_in st.split st.before.comment v x.c) st.macros st.before v x) ++ follows (role_in st.split st.before.comment v x.c) (kept v) (left v) in
-    let one : Role → List NoteOut = λ q. outputs (given_in q st.macros st.before e x)
-    ++ follows q (told st.split st.macros (example st.state ++ x.c ∷ []) (raw_with e (example_name st.name) x.c) (before_in q st.before e x) xs)
+    let kept : Seen → List (List NoteOut) = λ v. told st.split st.macros (example st.state ++ x.c ∷ []) (raw_with v (example_name st.name) x.c) (before_in (role_in st.split st.before.comment v x.c) st.before v x) xs in
+    let left : Seen → List (List NoteOut) = λ v. told st.split st.macros (example st.state) (example_name st.name) (before_in (role_in st.split st.before.comment v x.c) st.before v x) xs in
+    let all : Seen → List (List NoteOut) = λ v. outputs (given_in (role_in st.split st.before.comment v x.c) st.macros st.before v x) ∷ follows (role_in st.split st.before.comment v x.c) (nothing_more xs) (kept v) (left v) in
+    let one : Role → List (List NoteOut) = λ q. outputs (given_in q st.macros st.before e x)
+    ∷ follows q (nothing_more xs) (told st.split st.macros (example st.state ++ x.c ∷ []) (raw_with e (example_name st.name) x.c) (before_in q st.before e x) xs)
     (told st.split st.macros (example st.state) (example_name st.name) (before_in q st.before e x) xs) in
-    let outer : Bool → List NoteOut = λ b. cond b [] (told st.split st.macros (example st.state) (example_name st.name) st.before (x ∷ xs)) in
+    let outer : Bool → List (List NoteOut) = λ b. cond b (nothing_more (x ∷ xs)) (told st.split st.macros (example st.state) (example_name st.name) st.before (x ∷ xs)) in
     ap outer f
-    ∙ (ap all same ∙ (ap one (sym k) ∙ ap (λ (l : List NoteOut). outputs (given_in r st.macros st.before e x) ++ l) (follow_rest st x xs o e r f (sym g) none)))
+    ∙ (ap all same ∙ (ap one (sym k) ∙ ap (λ (l : List (List NoteOut)). outputs (given_in r st.macros st.before e x) ∷ l) (follow_rest st x xs o e r f (sym g) none)))
 
 -- one call gives at most three outputs
 pub few_given : (g : Given) → length (outputs g) ≤ 3
@@ -230,7 +230,7 @@ push_gives st next x o e r g old new f h k l m n p = record {
   given = outputs g;
   out = p;
   few = few_given g;
-  law = λ xs. push_law st x xs o e r f h k l ∙ (ap (λ (y : Given). outputs y ++ rest_of (advanced st r e o x) xs) (sym m) ∙ ap (λ (y : NoteStage). outputs g ++ rest_of y xs) (sym n));
+  law = λ xs. push_law st x xs o e r f h k l ∙ (ap (λ (y : Given). outputs y ∷ rest_of (advanced st r e o x) xs) (sym m) ∙ ap (λ (y : NoteStage). outputs g ∷ rest_of y xs) (sym n));
 }
 
 -- after the end nothing is given

@@ -1,15 +1,15 @@
 -- A text lies inside raw exactly where a bracket is open.
-use Rattle.std.proofs.Common.{◌≡◌, ℕ, ◌≤◌, List, [], ◌∷◌, ◌++◌, Bool, true, false, cond, not, ◌&&◌, ◌||◌, ◌==◌, ◌⊎◌, inl, inr, refl, sym, ap, ◌∙◌, subst, Option, Some, None, arith, eqb-true, ne_eqb, Decides}
+use Rattle.std.proofs.Common.{◌≡◌, ℕ, ◌≤◌, List, [], ◌∷◌, ◌++◌, Bool, true, false, cond, not, ◌&&◌, ◌||◌, ◌==◌, ◌⊎◌, inl, inr, refl, sym, ap, ◌∙◌, subst, Option, Some, None, arith, eqb-true, ne_eqb}
 use native.Mathlib.Decide.{dec_lt}
 use Rattle.gabc_patterns.specs.Pattern.{is_in}
+use Rattle.gabc_patterns.specs.Reading.{IsSnippet}
 use Rattle.gabc_patterns.specs.Derivative.{Munch, start, nowhere, run, is_whole, is_snippet}
 use Rattle.gabc_patterns.proofs.Automaton.{reading_of, below, below_at}
 use Rattle.gabc_patterns.proofs.Bools.{and_true, or_true}
 use Rattle.gabc_patterns.proofs.Munch.{snippet_to, snippet_from}
 use Rattle.gabc_notes.specs.Table.{gabc}
 use Rattle.gabc_notes.specs.Class.{class_of_character}
-use Rattle.gabc_notes.specs.Raw.{IsOpen}
-use Rattle.gabc_notes.specs.Told.{in_raw}
+use Rattle.gabc_notes.specs.Said.{in_raw}
 use Rattle.gabc_notes.specs.Machine.{following, whole_at, raw_state}
 use Rattle.gabc_notes.specs.declared.item.ItemKind.{ItemKind}
 use Rattle.gabc_notes.specs.declared.state.State.{State}
@@ -18,6 +18,15 @@ use Rattle.gabc_notes.specs.declared.state.Full.TheVariants.{Alteration as FullA
 use Rattle.gabc_notes.proofs.Machine.{machine, snippets_read, far}
 use Rattle.gabc_notes.proofs.Told.{raw_at, raw_by}
 use Rattle.gabc_notes.proofs.Looked.{raw_is}
+
+-- The text is a snippet, a `[` with which it is none, and no `]` from there on.
+pub record OpenBy (t : List ℕ) : Type 0 where
+  pub before : List ℕ
+  pub behind : List ℕ
+  pub cut : t ≡ before ++ 91 ∷ behind
+  pub snippet : IsSnippet gabc before
+  pub opens : ¬ IsSnippet gabc (before ++ 91 ∷ [])
+  pub unclosed : is_in 93 behind ≡ false
 
 -- the state behind a character, and behind a text
 abbrev pub on : State → ℕ → Option State
@@ -50,7 +59,7 @@ walk_reads o [] = refl
 walk_reads None (c ∷ u) = run_nowhere u
 walk_reads (Some s) (c ∷ u) = ap (λ (m : Munch ItemKind). run gabc m u) (snippets_read.steps s c) ∙ walk_reads (on s c) u
 
-walked : (t : List ℕ) → run gabc start t ≡ reading_of gabc machine (walk_from (Some Start) t)
+pub walked : (t : List ℕ) → run gabc start t ≡ reading_of gabc machine (walk_from (Some Start) t)
 walked t = walk_reads (Some Start) t
 
 raw_walk : (o : Option State) → raw_at (reading_of gabc machine o) ≡ is_raw o
@@ -58,7 +67,7 @@ raw_walk None = refl
 raw_walk (Some s) = raw_is s
 
 -- inside raw by the walk
-raw_told : (t : List ℕ) → in_raw t ≡ is_raw (walk_from (Some Start) t)
+pub raw_told : (t : List ℕ) → in_raw t ≡ is_raw (walk_from (Some Start) t)
 raw_told t = raw_by t ∙ (ap raw_at (walked t) ∙ raw_walk (walk_from (Some Start) t))
 
 abbrev pub is_whole_state : Option State → Bool
@@ -174,7 +183,7 @@ not_true true e = absurd (cc)
 not_true false e = refl
 
 -- a character behind which the text lies inside raw
-step_in : (s z : State) (c : ℕ) → on s c ≡ Some z → raw_state z ≡ true → ((raw_state s ≡ true) × (c == 93 ≡ false)) ⊎ ((c ≡ 91) × (whole_at s ≡ true))
+pub step_in : (s z : State) (c : ℕ) → on s c ≡ Some z → raw_state z ≡ true → ((raw_state s ≡ true) × (c == 93 ≡ false)) ⊎ ((c ≡ 91) × (whole_at s ≡ true))
 step_in s z c e h =
     let r : is_raw (on s c) ≡ true = ap is_raw e ∙ h in
     let f = raw_then (is_raw (on s c)) ((raw_state s && not (c == 93)) || ((c == 91) && (whole_at s && not (raw_state s)))) (not (raw_state s) || (c == 93)) r (test_at s c) in
@@ -184,7 +193,7 @@ step_in s z c e h =
     ]
 
 -- inside raw only a `]` leads out
-step_on : (s : State) (c : ℕ) → raw_state s ≡ true → c == 93 ≡ false → is_raw (on s c) ≡ true
+pub step_on : (s : State) (c : ℕ) → raw_state s ≡ true → c == 93 ≡ false → is_raw (on s c) ≡ true
 step_on s c h e = go (is_raw (on s c)) (test_at s c)
   where
     go : (b : Bool) → cond b ((raw_state s && not (c == 93)) || ((c == 91) && (whole_at s && not (raw_state s)))) (not (raw_state s) || (c == 93)) ≡ true → b ≡ true
@@ -210,7 +219,7 @@ find s (c ∷ u) h = go (on s c) refl (λ z. find z u)
       | inr x ↦ inr (c ∷ x.0, x.1, x.2, ap (λ (l : List ℕ). c ∷ l) x.3, ap (λ (o : Option State). walk_from o x.0) e ∙ x.4, x.5, x.6, x.7)
     ]
 
-raw_not_whole : (s : State) → raw_state s ≡ true → whole_at s ≡ false
+pub raw_not_whole : (s : State) → raw_state s ≡ true → whole_at s ≡ false
 raw_not_whole Raw e = refl
 raw_not_whole SlashRaw e = refl
 raw_not_whole _ e = absurd (cc)
@@ -220,7 +229,7 @@ raw_no_snippet None e = absurd (cc)
 raw_no_snippet (Some s) e = raw_not_whole s e
 
 -- inside raw a bracket is open
-pub open_to : (t : List ℕ) → in_raw t ≡ true → IsOpen t
+pub open_to : (t : List ℕ) → in_raw t ≡ true → OpenBy t
 open_to t h = elim (find Start t (sym (raw_told t) ∙ h)) [
   | inl x ↦ absurd (let f : false ≡ true = x.0 in cc)
   | inr x ↦ record {
@@ -249,7 +258,7 @@ stays s (c ∷ r) h e =
     go (Some z) k F = F z k
 
 -- where a bracket is open the text lies inside raw
-pub open_from : (t : List ℕ) → IsOpen t → in_raw t ≡ true
+pub open_from : (t : List ℕ) → OpenBy t → in_raw t ≡ true
 open_from t h = raw_told t ∙ (ap (λ (u : List ℕ). is_raw (walk_from (Some Start) u)) h.cut ∙ (ap is_raw (walk_append (Some Start) h.before (91 ∷ h.behind))
     ∙ go (walk_from (Some Start) h.before) (sym (whole_told h.before) ∙ snippet_to gabc refl h.before h.snippet) here))
   where
@@ -263,7 +272,3 @@ open_from t h = raw_told t ∙ (ap (λ (u : List ℕ). is_raw (walk_from (Some S
     go : (o : Option State) → is_whole_state o ≡ true → (is_whole_state (walk_from o (91 ∷ [])) ≡ true → ⊥) → is_raw (walk_from o (91 ∷ h.behind)) ≡ true
     go None w n = absurd (cc)
     go (Some y) w n = next (on y 91) (raw_then (whole_at y) (whole_or_raw (on y 91)) true w (opened y)) n
-
--- so the test decides it
-pub open_decides : (t : List ℕ) → Decides (in_raw t) (IsOpen t)
-open_decides t = (open_to t, open_from t)

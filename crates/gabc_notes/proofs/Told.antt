@@ -4,7 +4,8 @@ use Rattle.gabc_places.specs.declared.place.Char.{Char}
 use Rattle.gabc_patterns.specs.Derivative.{Munch, start, step, run, is_whole, is_alive}
 use Rattle.gabc_patterns.proofs.Standing.{run-append}
 use Rattle.gabc_notes.specs.Table.{gabc}
-use Rattle.gabc_notes.specs.Told.{in_raw, is_attribute_kind, kind_at, macro_digit, seen, role_in, before_in, given_in, outputs, cut_at, raw_with, follows, told}
+use Rattle.gabc_notes.specs.Told.{is_attribute_kind, kind_at, macro_digit, seen, role_in, before_in, given_in, outputs, cut_at, raw_with, nothing_more, follows, told}
+use Rattle.gabc_notes.specs.Said.{in_raw}
 use Rattle.gabc_notes.specs.declared.item.ItemKind.{ItemKind}
 use Rattle.gabc_notes.specs.declared.stage.Before.{Before}
 use Rattle.gabc_notes.specs.declared.stage.NoteOut.{NoteOut}
@@ -59,7 +60,7 @@ alike_with e r s c h = go e.raw_after
 -- two texts at which the reading stands alike are told alike
 pub told_alike : (split : Bool) (macros : ℕ) (xs : List Char) (t u r s : List ℕ) (b : Before) → at_end t ≡ at_end u → Alike r s
     → told split macros t r b xs ≡ told split macros u s b xs
-told_alike split macros [] t u r s b e h = ap (λ (x : Bool). cut_at x b ∷ []) (raw_by t ∙ (ap raw_at e ∙ sym (raw_by u)))
+told_alike split macros [] t u r s b e h = ap (λ (x : Bool). (cut_at x b ∷ []) ∷ []) (raw_by t ∙ (ap raw_at e ∙ sym (raw_by u)))
 told_alike split macros (x ∷ xs) t u r s b e h =
     let same : seen t r x.c ≡ seen u s x.c = seen_by t r x.c ∙ (rw (e, alike_now r s h) refl ∙ sym (seen_by u s x.c)) in
     let next : at_end (t ++ x.c ∷ []) ≡ at_end (u ++ x.c ∷ []) = run-append gabc start t (x.c ∷ []) ∙ (ap (λ (m : Munch ItemKind). step gabc m x.c) e ∙ sym (run-append gabc start u (x.c ∷ []))) in
@@ -68,8 +69,8 @@ told_alike split macros (x ∷ xs) t u r s b e h =
     let after : Before = before_in role b v x in
     let kept = told_alike split macros xs (t ++ x.c ∷ []) (u ++ x.c ∷ []) (raw_with v r x.c) (raw_with v s x.c) after next (alike_with v r s x.c h) in
     let left = told_alike split macros xs t u r s after e h in
-    ap (λ (v : Seen). outputs (given_in (role_in split b.comment v x.c) macros b v x) ++ follows (role_in split b.comment v x.c)
+    ap (λ (v : Seen). outputs (given_in (role_in split b.comment v x.c) macros b v x) ∷ follows (role_in split b.comment v x.c) (nothing_more xs)
     (told split macros (t ++ x.c ∷ []) (raw_with v r x.c) (before_in (role_in split b.comment v x.c) b v x) xs)
     (told split macros t r (before_in (role_in split b.comment v x.c) b v x) xs)) same
-    ∙ (ap (λ (k : List NoteOut). outputs (given_in role macros b v x) ++ follows role k (told split macros t r after xs)) kept
-    ∙ ap (λ (k : List NoteOut). outputs (given_in role macros b v x) ++ follows role (told split macros (u ++ x.c ∷ []) (raw_with v s x.c) after xs) k) left)
+    ∙ (ap (λ (k : List (List NoteOut)). outputs (given_in role macros b v x) ∷ follows role (nothing_more xs) k (told split macros t r after xs)) kept
+    ∙ ap (λ (k : List (List NoteOut)). outputs (given_in role macros b v x) ∷ follows role (nothing_more xs) (told split macros (u ++ x.c ∷ []) (raw_with v s x.c) after xs) k) left)

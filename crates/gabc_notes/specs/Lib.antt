@@ -4,5 +4,7 @@ pub mod Notes
 pub mod Told
 pub mod Class
 pub mod Machine
-pub mod Kept
 pub mod Raw
+pub mod Said
+pub mod Read
+pub mod Heard

@@ -3,7 +3,8 @@ use Rattle.std.specs.Prelude.{ℕ, List, [], ◌∷◌, Bool, true, false, codes
 use Rattle.gabc_patterns.specs.Pattern.{is_in}
 use Rattle.gabc_notes.specs.Notes.{is_digit}
 use Rattle.gabc_places.specs.declared.place.Char.{Char}
-use Rattle.gabc_notes.specs.Told.{digit_if, told, before_in}
+use Rattle.gabc_notes.specs.Told.{nothing_more, told, before_in}
+use Rattle.gabc_notes.specs.Said.{digit_if}
 use Rattle.gabc_notes.specs.declared.stage.NoteOut.{NoteOut}
 use Rattle.gabc_notes.specs.declared.stage.NoteStage.{NoteStage}
 use Rattle.gabc_notes.specs.declared.stage.Role.{Role}
@@ -259,6 +260,6 @@ advanced st Ends e o x = record st { ended = true }
 advanced st Keep e (Some z) x = record st { state = z; name = named_after e st.name x.c; before = before_in Keep st.before e x }
 advanced st r e o x = record st { before = before_in r st.before e x }
 
--- What a stage will still give for these characters and then the end: it depends on a text that ends in its state.
-abbrev pub rest_of : NoteStage → List Char → List NoteOut
-rest_of st xs = if st.ended then [] else told st.split st.macros (example st.state) (example_name st.name) st.before xs
+-- What a stage will still give for these characters, and then the end: it depends on a text that ends in its state.
+abbrev pub rest_of : NoteStage → List Char → List (List NoteOut)
+rest_of st xs = if st.ended then nothing_more xs else told st.split st.macros (example st.state) (example_name st.name) st.before xs

@@ -1,29 +1,24 @@
--- What is told of a snippet, character by character. What becomes of a character depends on the text kept before it.
-use Rattle.std.specs.Prelude.{ℕ, ◌+◌, ◌-◌, ◌/◌, ◌%◌, ◌^◌, min, nat_lt, List, [], ◌∷◌, ◌++◌, Bool, true, false, not, ◌&&◌, ◌||◌, ◌==◌, codes, if◌then◌else◌, Option, Some, None, option_to_list}
+-- What a stage tells, character by character, by the kept text and what stands before a character. It is no promise: that it
+-- is what `Said` says is proved.
+use Rattle.std.specs.Prelude.{ℕ, ◌+◌, ◌-◌, ◌^◌, min, List, [], ◌∷◌, ◌++◌, Bool, true, false, not, ◌&&◌, ◌||◌, ◌==◌, codes, if◌then◌else◌, Option, Some, None, option_to_list}
 use Rattle.std.specs.Char.{len_utf8}
-use Rattle.gabc_places.specs.declared.code.Code.{Code}
 use Rattle.gabc_places.specs.declared.code.Code.TheVariants.{E1, E6, W8, W10}
 use Rattle.gabc_places.specs.declared.place.Char.{Char}
-use Rattle.gabc_places.specs.declared.place.Place.{Place}
 use Rattle.gabc_patterns.specs.Pattern.{is_in}
 use Rattle.gabc_patterns.specs.Derivative.{Munch, start, within, run, end_kind, is_snippet, is_viable}
 use Rattle.gabc_notes.specs.Table.{gabc}
 use Rattle.gabc_notes.specs.Notes.{is_digit}
+use Rattle.gabc_notes.specs.Said.{in_raw, digit_if, is_missing, found, ended_by}
 use Rattle.gabc_notes.specs.declared.item.ItemKind.{ItemKind}
 use Rattle.gabc_notes.specs.declared.item.ItemKind.TheVariants.{Attribute}
 use Rattle.gabc_notes.specs.declared.stage.Before.{Before}
 use Rattle.gabc_notes.specs.declared.stage.Given.{Given}
-use Rattle.gabc_notes.specs.declared.stage.NoteEnd.{NoteEnd}
-use Rattle.gabc_notes.specs.declared.stage.NoteEnd.TheVariants.{Next, Close, Cut}
+use Rattle.gabc_notes.specs.declared.stage.NoteEnd.TheVariants.{Cut}
 use Rattle.gabc_notes.specs.declared.stage.NoteOut.{NoteOut}
-use Rattle.gabc_notes.specs.declared.stage.NoteOut.TheVariants.{Kept, Found, Ended}
+use Rattle.gabc_notes.specs.declared.stage.NoteOut.TheVariants.{Kept, Ended}
 use Rattle.gabc_notes.specs.declared.stage.Role.{Role}
 use Rattle.gabc_notes.specs.declared.stage.Role.TheVariants.{Silent, Comment, Ends, Keep, LeaveOut}
 use Rattle.gabc_notes.specs.declared.stage.Seen.{Seen}
-
--- inside raw: no snippet, but one with a closing bracket
-abbrev pub in_raw : List ℕ → Bool
-in_raw kept = is_snippet gabc (kept ++ codes "]") && not (is_snippet gabc kept)
 
 abbrev pub is_attribute_kind : Option ItemKind → Bool
 is_attribute_kind (Some Attribute) = true
@@ -37,9 +32,6 @@ kind_at _ = None
 -- the last item of the text is an attribute
 abbrev pub ends_with_attribute : List ℕ → Bool
 ends_with_attribute kept = is_attribute_kind (kind_at (run gabc start kept))
-
-abbrev pub digit_if : Bool → ℕ → Option ℕ
-digit_if b d = if b then Some (d - 48) else None
 
 -- the digit of a macro's name behind its bracket: `[nm`, `[gm` or `[em`, and a digit
 abbrev pub macro_digit : List ℕ → Option ℕ
@@ -66,18 +58,6 @@ role_in split comment e c =
     if not e.raw && ((c == 41) || (split && (c == 124))) then Ends else
     if not e.raw && (c == 37) then Comment else
     if e.viable then Keep else LeaveOut
-
--- the bit of that digit is set
-abbrev pub is_defined : ℕ → ℕ → Bool
-is_defined macros digit = nat_lt digit 16 && ((macros / 2 ^ digit) % 2 == 1)
-
--- the macro of that digit is used and not defined
-abbrev pub is_missing : ℕ → Option ℕ → Bool
-is_missing macros None = false
-is_missing macros (Some digit) = not (is_defined macros digit)
-
-abbrev pub found : Place → Code → NoteOut
-found place code = Found (record { place = place; code = code })
 
 -- W8 of an attribute that names a macro that is not defined; W10 of an `@[` while one is open, and of a `]` while none is
 abbrev pub warning_in : ℕ → Before → Seen → Char → Option NoteOut
@@ -106,9 +86,6 @@ before_in Keep b e x = record {
 }
 before_in _ b e x = b
 
-abbrev pub ended_by : ℕ → NoteEnd
-ended_by c = if c == 124 then Next else Close
-
 -- What a character gives. At the end of the snippet an unfinished end is E6, and an open `@[` is W10.
 abbrev pub given_in : Role → ℕ → Before → Seen → Char → Given
 given_in Keep macros b e x = record { first = Some (Kept x); second = warning_in macros b e x; third = None }
@@ -131,20 +108,25 @@ cut_at raw b = Ended (Cut (if raw then b.place else record { line = 0; column = 
 abbrev pub raw_with : Seen → List ℕ → ℕ → List ℕ
 raw_with e raw c = if e.raw_after then raw ++ c ∷ [] else []
 
--- what follows a character: nothing behind the end; kept if it was kept, else left
-abbrev pub follows : Role → List NoteOut → List NoteOut → List NoteOut
-follows Ends kept left = []
-follows Keep kept left = kept
-follows _ kept left = left
+-- behind the end of the snippet: nothing, for each character and for the end
+abbrev pub nothing_more : List Char → List (List NoteOut)
+nothing_more [] = [] ∷ []
+nothing_more (x ∷ xs) = [] ∷ nothing_more xs
 
--- What is told of the characters behind this kept text, and of their end.
-abbrev pub told : Bool → ℕ → List ℕ → List ℕ → Before → List Char → List NoteOut
-told split macros kept raw b [] = cut_at (in_raw kept) b ∷ []
+-- what follows a character: nothing behind the end; kept if it was kept, else left
+abbrev pub follows : Role → List (List NoteOut) → List (List NoteOut) → List (List NoteOut) → List (List NoteOut)
+follows Ends over kept left = over
+follows Keep over kept left = kept
+follows _ over kept left = left
+
+-- What is told of the characters behind this kept text, a list for each, and of their end, a list more.
+abbrev pub told : Bool → ℕ → List ℕ → List ℕ → Before → List Char → List (List NoteOut)
+told split macros kept raw b [] = (cut_at (in_raw kept) b ∷ []) ∷ []
 told split macros kept raw b (x ∷ xs) =
     let e = seen kept raw x.c in
     let r = role_in split b.comment e x.c in
     outputs (given_in r macros b e x)
-    ++ follows r (told split macros (kept ++ x.c ∷ []) (raw_with e raw x.c) (before_in r b e x) xs) (told split macros kept raw (before_in r b e x) xs)
+    ∷ follows r (nothing_more xs) (told split macros (kept ++ x.c ∷ []) (raw_with e raw x.c) (before_in r b e x) xs) (told split macros kept raw (before_in r b e x) xs)
 
 -- before the first character
 abbrev pub nothing_before : Before

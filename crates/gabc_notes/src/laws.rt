@@ -1,13 +1,16 @@
 //! Laws of the definitions that contracts speak of. The functions do nothing: each is there for its clauses.
 
-ghost use Rattle.std.specs.Prelude.{◌≡◌, ◌≤◌, ℕ, List, [], ◌∷◌, ◌++◌, Bool, length, codes, Decides};
+ghost use Rattle.std.specs.Prelude.{◌≡◌, ◌≤◌, ℕ, List, [], ◌∷◌, ◌++◌, Bool, true, length, take, sum_by, codes, Decides};
+ghost use Rattle.std.specs.Char.{len_utf8};
 ghost use Rattle.gabc_places.specs.declared.place.Char.{Char};
+ghost use Rattle.gabc_places.specs.declared.place.Place.{Place};
+ghost use Rattle.gabc_places.specs.Findings.{AreInOrder};
+ghost use Rattle.gabc_places.specs.Law.{joined};
 ghost use Rattle.gabc_patterns.specs.Reading.{Reads, IsSnippet, IsViable};
-ghost use Rattle.gabc_patterns.specs.Kept.{Keeps};
 ghost use Rattle.gabc_notes.specs.Table.{gabc};
-ghost use Rattle.gabc_notes.specs.Told.{in_raw, told, nothing_before};
-ghost use Rattle.gabc_notes.specs.Kept.{kept_of, characters_of};
-ghost use Rattle.gabc_notes.specs.Raw.{IsOpen};
+ghost use Rattle.gabc_notes.specs.Said.{in_raw, Point, is_comment, is_over, kept, bytes_of, said, says};
+ghost use Rattle.gabc_notes.specs.Read.{placed_from, kept_of, findings_of, ends_of, stop_after, kept_by, end_by};
+ghost use Rattle.gabc_notes.specs.Raw.{IsOpen, InComment, IsOpenedAt};
 ghost use Rattle.gabc_notes.specs.declared.item.ItemKind.{ItemKind};
 
 /// A text has at most one list of items.
@@ -25,12 +28,39 @@ pub fn inside_raw_is_decided()
     ensures { (t : List ℕ) → Decides (in_raw t) (IsSnippet gabc (t ++ codes "]") × (¬ IsSnippet gabc t)) }
 {}
 
-/// The characters that are told as kept are those that go on a viable text, of the characters of the snippet.
-pub fn kept_is_keep()
-    ensures { (split : Bool) (macros : ℕ) (xs : List Char) → Keeps gabc [] (characters_of split [] [] nothing_before xs) (kept_of (told split macros [] [] nothing_before xs)) }
-{}
-
-/// A text lies inside raw exactly if it is a snippet, a `[` that ends no item of it, and characters other than `]`.
+/// A text lies inside raw exactly if it is a snippet whose last item is no `@`, a `[`, and characters other than `]`.
 pub fn inside_raw_is_an_open_bracket()
     ensures { (t : List ℕ) → Decides (in_raw t) (IsOpen t) }
+{}
+
+/// Inside raw, the opener is the place of the `[` from which on the kept text lies inside raw.
+pub fn the_opener_is_the_bracket()
+    ensures { (back : List Char) → in_raw (kept back) ≡ true → IsOpenedAt back }
+{}
+
+/// A character lies in a comment exactly if from a `%` outside raw up to it there is no LF.
+pub fn a_comment_begins_with_a_percent()
+    ensures { (back : List Char) (x : Char) → Decides (is_comment (record { back = back; here = x })) (InComment (x ∷ back)) }
+{}
+
+/// The characters that are told as kept are the kept text of the characters before the end of the snippet.
+pub fn the_kept_text_is_told()
+    ensures { (split : Bool) (macros : ℕ) (xs : List Char) → kept_of (joined (says split macros xs)) ≡ kept (stop_after split [] xs).back }
+{}
+
+/// One end is told, with the bytes of the kept text: at most those of the characters that are told as kept.
+pub fn one_end_is_told()
+    ensures end { (split : Bool) (macros : ℕ) (xs : List Char) → (let s = stop_after split [] xs in ends_of (joined (says split macros xs)) ≡ (end_by s.mark s.back, bytes_of (kept_by s.mark s.back)) ∷ []) }
+    ensures bytes { (split : Bool) (macros : ℕ) (xs : List Char) → (let s = stop_after split [] xs in bytes_of (kept_by s.mark s.back) ≤ sum_by len_utf8 (kept_of (joined (says split macros xs)))) }
+{}
+
+/// What is told of characters does not depend on those that follow them, and behind the end nothing is told.
+pub fn what_follows_tells_nothing()
+    ensures end { (split : Bool) (macros : ℕ) (p : Point) → is_over split p.back ≡ true → said split macros p ≡ [] }
+    ensures front { (split : Bool) (macros : ℕ) (xs ys zs : List Char) → take (length xs) (says split macros (xs ++ ys)) ≡ take (length xs) (says split macros (xs ++ zs)) }
+{}
+
+/// Of a text, each finding stands strictly before the next.
+pub fn findings_are_in_order()
+    ensures { (at : Place) (split : Bool) (macros : ℕ) (t : List ℕ) → AreInOrder (findings_of (joined (says split macros (placed_from at t)))) }
 {}

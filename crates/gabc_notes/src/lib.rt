@@ -5,13 +5,17 @@
 //! viable. Going left to right, a character is kept exactly if the kept text with it is viable.
 //!
 //! - `is_snippet`, `items_whole`, `items_into` and `note_of` read a kept text. Spans count its bytes.
+//! - `snippet_whole` reads the snippet with which a text begins: its kept text, its findings and its end.
 //! - `NoteStage` reads the characters of a snippet one at a time: it tells those that are kept, the findings, and the end.
-//!   What it tells is `told` of `specs/Told.antt`, which knows of no states: what becomes of a character depends on the kept
-//!   text before it.
+//!   What is told is `says` of `specs/Said.antt`, which knows of no states: what is told of a character depends on it and on
+//!   the characters before it.
 //! - `laws` has what follows of the definitions.
+//!
+//! The rules are those of GregorioRef, chapter Notation, section Note Syntax.
 //!
 //! The machine of `state.rt` is proved to read the table (`proofs/Machine.antt`): each state stands for a text that ends in
 //! it, and what may follow that text in the table is compared with the machine's next state, for each character below 128.
+//! What the stage holds is proved to be what the definition says of the characters so far (`proofs/Says.antt`).
 #![tactic(auto)]
 
 mod class;
@@ -20,14 +24,15 @@ mod items;
 mod kept;
 pub mod laws;
 mod note;
+mod read;
 mod stage;
 mod state;
+mod whole;
 
 pub use item::{Item, ItemKind, Items};
 pub use items::{items_into, items_whole};
 pub use kept::is_snippet;
 pub use note::{Note, Shape, note_of};
+pub use read::{SnippetHow, SnippetRead};
 pub use stage::{NoteEnd, NoteOut, NoteStage};
-
-#[cfg(test)]
-mod tests;
+pub use whole::snippet_whole;

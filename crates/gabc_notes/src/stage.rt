@@ -4,7 +4,8 @@ ghost use Rattle.std.specs.Prelude.{◌≡◌, List, []};
 ghost use Rattle.gabc_places.specs.declared.place.Char.{Char};
 ghost use Rattle.gabc_places.specs.Held.{HasRoom, added};
 ghost use Rattle.gabc_notes.specs.Machine.{raw_state, attribute_state, digit_named, looked, name_on, named_after, advanced, rest_of};
-ghost use Rattle.gabc_notes.specs.Told.{is_defined, role_in, warning_in, before_in, ended_by, given_in, outputs, told, nothing_before};
+ghost use Rattle.gabc_notes.specs.Told.{role_in, warning_in, before_in, given_in, outputs};
+ghost use Rattle.gabc_notes.specs.Said.{is_defined, ended_by, says};
 
 use crate::class::class_of;
 use crate::state::{Full, State, is_whole, next_state};
@@ -324,7 +325,7 @@ impl NoteStage {
     /// A stage before the first character of a snippet, which stands at `_at`; each character brings its own place. With `split`
     /// a `|` ends the snippet too. The bit `d` of `macros`, from 0 to 9, tells that the macro of the digit `d` is defined.
     pub fn new(_at: Place, split: bool, macros: u16) -> NoteStage
-        ensures { (xs : List Char) → rest_of result xs ≡ told split macros [] [] nothing_before xs }
+        ensures { (xs : List Char) → rest_of result xs ≡ says split macros xs }
     {
         NoteStage {
             split,

@@ -5,6 +5,7 @@
 ghost use Rattle.std.specs.Prelude.{◌≡◌, ℕ, ◌+◌, ◌*◌, ◌^◌, ◌<◌, ◌≤◌, length};
 ghost use Rattle.gabc_places.specs.Held.{HasRoom};
 ghost use Rattle.gabc_places.specs.Law.{GivesAll};
+ghost use Rattle.gabc_places.specs.Chained.{in_a_row};
 
 use crate::{Room, Stage};
 use std::marker::Model;
@@ -62,7 +63,7 @@ impl<A: Stage, B: Stage<Input = A::Output>> Stage for Chain<A, B> {
 
     type Output = B::Output;
 
-    ghost rest = { λ c xs. B.rest c.second (A.rest c.first xs) };
+    ghost rest = { λ c xs. in_a_row (A.rest c.first) (B.rest c.second) xs };
 
     ghost most_of = { λ c. (A.most_of c.first + 1) * B.most_of c.second };
 

@@ -2,7 +2,7 @@
 
 ghost use Rattle.std.specs.Prelude.{◌≡◌, ℕ, ◌+◌, ◌*◌, ◌≤◌, List, length};
 ghost use Rattle.gabc_places.specs.Held.{HasRoom, added};
-ghost use Rattle.gabc_places.specs.Law.{Gives, Ends};
+ghost use Rattle.gabc_places.specs.Law.{joined, Gives, Ends};
 
 use crate::Room;
 
@@ -12,8 +12,8 @@ pub trait Stage {
 
     type Output: Copy;
 
-    // what it will still give for these inputs and then the end
-    ghost rest: { Self → List Self.Input → List Self.Output };
+    // what it will still give for these inputs and then the end: a list for each of them, and one for the end
+    ghost rest: { Self → List Self.Input → List (List Self.Output) };
 
     // how many outputs one call gives at most
     ghost most_of: { Self → ℕ };
@@ -41,7 +41,7 @@ where
     S::Input: Drop,
     requires { HasRoom out.old (S.most_of stage.old * (length inputs.items + 1)) }
     ensures most { S.most_of stage.new ≡ S.most_of stage.old }
-    ensures gives { out.new ≡ added out.old (S.rest stage.old inputs.items) }
+    ensures gives { out.new ≡ added out.old (joined (S.rest stage.old inputs.items)) }
 {
     for input in inputs {
         stage.push(input, out);

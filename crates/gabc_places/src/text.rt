@@ -1,6 +1,6 @@
 //! A text of characters.
 
-ghost use Rattle.std.specs.Prelude.{◌≡◌, [], ◌∷◌, ◌++◌, filter, IfOk, OnOk, OnErr, encode_utf8_all};
+ghost use Rattle.std.specs.Prelude.{◌≡◌, ◌<◌, ◌^◌, [], ◌∷◌, ◌++◌, length, filter, IfOk, OnOk, OnErr, encode_utf8_all};
 ghost use Rattle.std.specs.Str.{chars};
 ghost use Rattle.gabc_places.specs.Place.{place_after};
 ghost use Rattle.gabc_places.specs.Text.{is_shown};
@@ -43,8 +43,9 @@ impl Text {
         })
     }
 
-    /// The text.
+    /// The text, which has fewer than 2^63 bytes.
     pub fn as_str(&self) -> &str
+        ensures short { length result.now < 2 ^ 63 }
         ensures bytes { result.now ≡ encode_utf8_all self.now }
         ensures characters { chars result.now ≡ self.now }
     {

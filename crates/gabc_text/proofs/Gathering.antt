@@ -23,9 +23,9 @@ use Rattle.gabc_text.specs.declared.stage.TextOut.{TextOut}
 use Rattle.gabc_text.specs.declared.stage.TextOut.TheVariants as out
 use Rattle.gabc_text.specs.Token.{Token, tokens}
 use Rattle.gabc_text.specs.View.{along, sort, kind_of, piece_kind, is_space, has_word, starts_word, follows_blank, has_translation, place_of, found_at, findings_at, findings_at_end, findings, kept, kept_at, early_codes, late_codes, is_blank_piece, count_pieces, begin_of, end_of, centre_by, piece_of, Said}
-use Rattle.gabc_text.specs.Outs.{outs, outs_at, outs_end, found_outs, chars_at, parts_at, kept_of, piece_at, all_pieces_at, all_pieces_by, waiting, waiting_by, listed, is_whole_translation, translation_at, centre_of, count_by, end_after, after_tokens}
+use Rattle.gabc_text.specs.Outs.{outs, outs_at, outs_end, whole_outs, found_outs, chars_at, parts_at, kept_of, piece_at, all_pieces_at, all_pieces_by, waiting, waiting_by, listed, is_whole_translation, translation_at, centre_of, count_by, end_after, after_tokens}
 use Rattle.gabc_text.specs.Read.{but_last_blank, pieces_in, translation_of, view_in}
-use Rattle.gabc_text.specs.Told.{Told, with_out, with_part, told_after, nothing_told}
+use Rattle.gabc_text.specs.Told.{Told, with_out, with_part, told_after, nothing_told, kept_in}
 use Rattle.gabc_text.proofs.Run.{onto}
 use Rattle.gabc_text.proofs.Held.{codes_kept}
 
@@ -70,15 +70,15 @@ told_parts t (p ∷ ps) = told_parts (with_out t (out.Part p)) ps
 
 -- ---- after the tokens before
 
-abbrev so_far : {X : Type 0} → (List Token → Token → List X) → List Token → List X
+abbrev pub so_far : {X : Type 0} → (List Token → Token → List X) → List Token → List X
 so_far at [] = []
 so_far at (k ∷ before) = so_far at before ++ at before k
 
-along_onto : {X : Type 0} (at : List Token → Token → List X) (ks before : List Token) → so_far at (onto ks before) ≡ so_far at before ++ along at before ks
+pub along_onto : {X : Type 0} (at : List Token → Token → List X) (ks before : List Token) → so_far at (onto ks before) ≡ so_far at before ++ along at before ks
 along_onto at [] before = sym (append-nil (so_far at before))
 along_onto at (k ∷ ks) before = along_onto at ks (k ∷ before) ∙ append_assoc (so_far at before) (at before k) (along at (k ∷ before) ks)
 
-kept_so : (before : List Token) → kept_of before ≡ so_far kept_at before
+pub kept_so : (before : List Token) → kept_of before ≡ so_far kept_at before
 kept_so [] = refl
 kept_so (k ∷ before) = ap (λ (x : List ℕ). x ++ kept_at before k) (kept_so before)
 
@@ -326,3 +326,56 @@ module _ (at : Place) (t : List ℕ) where
         findings = f ++ findings_at_end at (onto (tokens t) []);
         end = end_after at (onto (tokens t) []) (after_tokens t);
       }
+
+-- ---- the kept characters
+
+kept_more : (xs ys : List TextOut) → kept_in (xs ++ ys) ≡ kept_in xs ++ kept_in ys
+kept_more [] ys = refl
+kept_more (out.Kept c ∷ xs) ys = ap (λ (x : List ℕ). c.c ∷ x) (kept_more xs ys)
+kept_more (out.Part p ∷ xs) ys = kept_more xs ys
+kept_more (out.Found f ∷ xs) ys = kept_more xs ys
+kept_more (out.Ended e ∷ xs) ys = kept_more xs ys
+
+none_kept : {X : Type 0} (f : X → TextOut) → ((x : X) → kept_in (f x ∷ []) ≡ []) → (xs : List X) → kept_in (map f xs) ≡ []
+none_kept f h [] = refl
+none_kept f h (x ∷ xs) = kept_more (f x ∷ []) (map f xs) ∙ ap (λ (y : List ℕ). y ++ kept_in (map f xs)) (h x) ∙ none_kept f h xs
+
+kept_chars : (cs : List Char) → kept_in (map (λ (c : Char). out.Kept c) cs) ≡ map (λ (c : Char). c.c) cs
+kept_chars [] = refl
+kept_chars (c ∷ cs) = ap (λ (x : List ℕ). c.c ∷ x) (kept_chars cs)
+
+module _ (at : Place) where
+  kept_token : (before : List Token) (k : Token) → kept_in (outs_at at before k) ≡ kept_at before k
+  kept_token before k =
+      kept_more (found_outs at before (early_codes before k.kind)) _
+      ∙ ap (λ (x : List ℕ). x ++ kept_in (map (λ (c : Char). out.Kept c) (chars_at at before k) ++ whole_outs at before k)) (none_kept (λ (c : Code). out.Found (found_at (place_of at before) c)) (λ c. refl) (early_codes before k.kind))
+      ∙ kept_more (map (λ (c : Char). out.Kept c) (chars_at at before k)) (whole_outs at before k)
+      ∙ ap (λ (x : List ℕ). kept_in (map (λ (c : Char). out.Kept c) (chars_at at before k)) ++ x) quiet
+      ∙ append-nil (kept_in (map (λ (c : Char). out.Kept c) (chars_at at before k)))
+      ∙ kept_chars (chars_at at before k) ∙ codes_kept at before k
+    where
+      quiet : kept_in (whole_outs at before k) ≡ []
+      quiet =
+          kept_more (map (λ (p : TextPart). out.Part p) (parts_at before k)) (found_outs at before (late_codes before k.kind (sort k)))
+          ∙ ap (λ (x : List ℕ). x ++ kept_in (found_outs at before (late_codes before k.kind (sort k)))) (none_kept (λ (p : TextPart). out.Part p) (λ p. refl) (parts_at before k))
+          ∙ none_kept (λ (c : Code). out.Found (found_at (place_of at before) c)) (λ c. refl) (late_codes before k.kind (sort k))
+
+  kept_along : (ks before : List Token) → kept_in (along (outs_at at) before ks) ≡ along kept_at before ks
+  kept_along [] before = refl
+  kept_along (k ∷ ks) before =
+      kept_more (outs_at at before k) (along (outs_at at) (k ∷ before) ks)
+      ∙ ap (λ (x : List ℕ). x ++ kept_in (along (outs_at at) (k ∷ before) ks)) (kept_token before k)
+      ∙ ap (λ (x : List ℕ). kept_at before k ++ x) (kept_along ks (k ∷ before))
+
+  pub kept_whole : (t : List ℕ) → kept_in (outs at t) ≡ kept t
+  kept_whole t =
+      kept_more (along (outs_at at) [] (tokens t)) (outs_end at (reverse (tokens t)) (after_tokens t))
+      ∙ ap (λ (x : List ℕ). kept_in (along (outs_at at) [] (tokens t)) ++ x) ended
+      ∙ append-nil (kept_in (along (outs_at at) [] (tokens t))) ∙ kept_along (tokens t) []
+    where
+      ended : kept_in (outs_end at (reverse (tokens t)) (after_tokens t)) ≡ []
+      ended =
+          kept_more (map out.Found (findings_at_end at (reverse (tokens t)))) _
+          ∙ ap (λ (x : List ℕ). x ++ kept_in (map (λ (s : Span). out.Part (part.Centre s)) (listed (centre_of (reverse (tokens t)))) ++ out.Ended (end_after at (reverse (tokens t)) (after_tokens t)) ∷ [])) (none_kept out.Found (λ f. refl) (findings_at_end at (reverse (tokens t))))
+          ∙ kept_more (map (λ (s : Span). out.Part (part.Centre s)) (listed (centre_of (reverse (tokens t))))) _
+          ∙ ap (λ (x : List ℕ). x ++ []) (none_kept (λ (s : Span). out.Part (part.Centre s)) (λ s. refl) (listed (centre_of (reverse (tokens t)))))

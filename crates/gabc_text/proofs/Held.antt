@@ -1,5 +1,5 @@
 -- What the machine has given of a token that goes on.
-use Rattle.std.proofs.Common.{◌≡◌, ℕ, ◌+◌, ◌<◌, ◌^◌, ◌==◌, nat_lt, List, [], ◌∷◌, ◌++◌, Bool, true, false, cond, refl, sym, ap, ◌∙◌, append_assoc, append-nil, inl, inr, ◌⊎◌, map, Option, Some, None, codes}
+use Rattle.std.proofs.Common.{◌≡◌, ℕ, ◌==◌, nat_lt, List, [], ◌∷◌, ◌++◌, Bool, true, false, cond, refl, sym, ap, ◌∙◌, append_assoc, append-nil, map, Option, Some, None, codes}
 use Rattle.gabc_places.specs.Place.{next_place}
 use Rattle.gabc_places.specs.declared.place.Place.{Place}
 use Rattle.gabc_places.specs.declared.place.Char.{Char}
@@ -16,18 +16,17 @@ use Rattle.gabc_text.specs.declared.mode.Went.TheVariants.{Stays, Ends}
 use Rattle.gabc_text.specs.declared.stage.TextOut.{TextOut}
 use Rattle.gabc_text.specs.declared.stage.TextOut.TheVariants as out
 use Rattle.gabc_text.specs.Token.{Token, spelling, single, is_blank, is_one_of}
-use Rattle.gabc_text.specs.View.{place_past, place_of, bytes_of, is_left_out, is_space, follows_space, has_translation, early_codes, kept_at, sort}
-use Rattle.gabc_text.specs.Outs.{placed_from, chars_at, found_outs, outs_at, kept_of, last_at}
+use Rattle.gabc_text.specs.View.{place_past, place_of, is_left_out, is_space, follows_space, has_translation, early_codes, kept_at}
+use Rattle.gabc_text.specs.Outs.{placed_from, chars_at, found_outs, nothing_each, kept_each, kept_lists_by, owed, with_first}
 use Rattle.gabc_text.specs.Machine.{early_lem}
-use Rattle.gabc_text.specs.Mode.{go_lem, begin_lem, keep_lem, keep_first_lem, is_blank_kind, tag_ends_lem, wanted_lem}
+use Rattle.gabc_text.specs.Mode.{is_plain_lem, go_lem, begin_lem, keep_lem, keep_first_lem, is_blank_kind, tag_ends_lem, wanted_lem}
 use Rattle.gabc_text.specs.Name.{sort_named_lem}
-use Rattle.gabc_text.specs.Step.{option_list, char_out, found_out, token_outs}
+use Rattle.gabc_text.specs.Step.{option_list, char_out, found_out}
 use Rattle.gabc_text.proofs.Names.{by_case}
 use Rattle.gabc_text.proofs.SeenSoFar.{seen_of, left_out_of}
 use Rattle.gabc_text.proofs.Going.{kept_held, is_within, is_kept_whole, IsKept, within_kept, keep_within, held_within}
 use Rattle.gabc_text.proofs.Modes.{Holds}
 use Rattle.gabc_text.proofs.Counts.{placed_append}
-use Rattle.gabc_text.proofs.Given.{spot_of, needs_last, token_given}
 
 module _ (at : Place) (before : List Token) where
   -- a second translation is told at its `[`
@@ -37,9 +36,6 @@ module _ (at : Place) (before : List Token) where
 
   abbrev pub held_chars : Mode → List ℕ → List Char
   held_chars mode held = placed_from (place_of at before) (kept_held mode held)
-
-  abbrev pub outs_held : Mode → List ℕ → List TextOut
-  outs_held mode held = found_outs at before (early_held mode) ++ map (λ (c : Char). out.Kept c) (held_chars mode held)
 
   abbrev pub chars_by : Kind → List ℕ → List Char
   chars_by d s = cond (is_left_out before d) [] (cond (is_space d) (cond (follows_space before) [] (record { c = 32; place = place_of at before } ∷ [])) (placed_from (place_of at before) s))
@@ -160,6 +156,143 @@ module _ (at : Place) (before : List Token) where
           (kept_go (go_lem m c) (placed_from (place_of at before) held ++ record { c = c; place = p } ∷ []) held c (within_kept m c w)
           (rw e (sym (placed_append (place_of at before) held (c ∷ [])))))
 
+  -- ---- what is given with each character
+
+  early_listed : (o : Option Code) → option_list (found_out (place_of at before) o) ≡ found_outs at before (option_list o)
+  early_listed None = refl
+  early_listed (Some c) = refl
+
+  abbrev pub each_held : Mode → List ℕ → List (List TextOut)
+  each_held Plain held = []
+  each_held Comment held = nothing_each held
+  each_held _ held = kept_each (place_of at before) held
+
+  abbrev pub lists_held : Mode → List ℕ → List (List TextOut)
+  lists_held mode held = with_first (owed at before ++ found_outs at before (early_held mode)) (each_held mode held)
+
+  -- what is owed to the next character
+  abbrev pub owed_at : List ℕ → List TextOut
+  owed_at [] = owed at before
+  owed_at (c ∷ held) = []
+
+  abbrev EachGo : List (List TextOut) → List ℕ → ℕ → Went → Type 0
+  EachGo xs held c (Stays next) = xs ≡ each_held next (held ++ c ∷ [])
+  EachGo xs held c (Ends d s) = xs ≡ kept_lists_by at before d (held ++ c ∷ [])
+
+  abbrev pub ListsGo : List (List TextOut) → List ℕ → ℕ → Went → Type 0
+  ListsGo xs held c (Stays next) = xs ≡ lists_held next (held ++ c ∷ [])
+  ListsGo xs held c (Ends d s) = xs ≡ with_first (owed at before ++ found_outs at before (early_codes before d)) (kept_lists_by at before d (held ++ c ∷ []))
+
+  lists_both : (w : Went) (es : List Code) (xs : List (List TextOut)) (held : List ℕ) (c : ℕ) → SameEarly es w → EachGo xs held c w
+      → ListsGo (with_first (owed at before ++ found_outs at before es) xs) held c w
+  lists_both (Stays next) es xs held c e f = rw (e, f) refl
+  lists_both (Ends d s) es xs held c e f = rw (e, f) refl
+
+  nothing_more : (held : List ℕ) (c : ℕ) → nothing_each held ++ [] ∷ [] ≡ nothing_each (held ++ c ∷ [])
+  nothing_more [] c = refl
+  nothing_more (x ∷ held) c = ap (λ (xs : List (List TextOut)). [] ∷ xs) (nothing_more held c)
+
+  each_more : (p : Place) (held : List ℕ) (c : ℕ) → kept_each p held ++ (out.Kept (record { c = c; place = place_past p held }) ∷ []) ∷ [] ≡ kept_each p (held ++ c ∷ [])
+  each_more p [] c = refl
+  each_more p (x ∷ held) c = ap (λ (xs : List (List TextOut)). (out.Kept (record { c = x; place = p }) ∷ []) ∷ xs) (each_more (next_place p x) held c)
+
+  whole_each : (d : Kind) (s : List ℕ) → is_kept_whole d ≡ true → kept_lists_by at before d s ≡ kept_each (place_of at before) s
+  whole_each kind.Letter s e = refl
+  whole_each kind.Tag s e = refl
+  whole_each kind.Raw s e = refl
+  whole_each kind.Translation s e = refl
+  whole_each _ s e = absurd (cc)
+
+  pub each_within : (mode : Mode) (held : List ℕ) → is_within mode ≡ true → each_held mode held ≡ kept_each (place_of at before) held
+  each_within Plain held e = absurd (cc)
+  each_within Comment held e = absurd (cc)
+  each_within _ held e = refl
+
+  each_kept : (w : Went) (xs : List (List TextOut)) (held : List ℕ) (c : ℕ) → IsKept w → xs ≡ kept_each (place_of at before) (held ++ c ∷ []) → EachGo xs held c w
+  each_kept (Stays next) xs held c i e = e ∙ sym (each_within next (held ++ c ∷ []) i)
+  each_kept (Ends d s) xs held c i e = e ∙ sym (whole_each d (held ++ c ∷ []) i)
+
+  first_each : (c : ℕ) (d : Kind) → c == 37 ≡ false → option_list (char_out (place_of at before) (keep_first_lem (seen_of before) c d)) ∷ [] ≡ kept_lists_by at before d (c ∷ [])
+  first_each c d e = rw (e, left_out_of before d) (by (is_left_out before d) d)
+    where
+      blank : (b : Bool) → option_list (char_out (place_of at before) (cond b None (Some 32))) ∷ [] ≡ cond b [] (out.Kept (record { c = 32; place = place_of at before }) ∷ []) ∷ []
+      blank true = refl
+      blank false = refl
+
+      by : (b : Bool) (d : Kind) → option_list (char_out (place_of at before) (cond b None (cond (is_blank_kind d) (cond (follows_space before) None (Some 32)) (Some c)))) ∷ []
+          ≡ cond b ([] ∷ []) (cond (is_space d) (cond (follows_space before) [] (out.Kept (record { c = 32; place = place_of at before }) ∷ []) ∷ []) ((out.Kept (record { c = c; place = place_of at before }) ∷ []) ∷ []))
+      by true d = refl
+      by false kind.Blank = blank (follows_space before)
+      by false _ = refl
+
+  abbrev EachBegin : ℕ → Type 0
+  EachBegin c = EachGo (option_list (char_out (place_of at before) (keep_first_lem (seen_of before) c (single c))) ∷ []) [] c (begin_lem c)
+
+  each_begin : (c : ℕ) → EachBegin c
+  each_begin c =
+      by_case 36 c EachBegin refl (λ e36.
+      by_case 37 c EachBegin refl (λ e37.
+      by_case 60 c EachBegin refl (λ e60.
+      by_case 91 c EachBegin refl (λ e91.
+      let f = first_each c (single c) e37 in
+      rw (e36, e37, e60, e91) (rw e37 at f)))))
+
+  each_go : (mode : Mode) (held : List ℕ) (c : ℕ) (p : Place) → Holds mode held → p ≡ place_past (place_of at before) held
+      → EachGo (each_held mode held ++ option_list (char_out p (keep_lem (seen_of before) mode c)) ∷ []) held c (go_lem mode c)
+  each_go Plain held c p h e = rw (e, h) (each_begin c)
+  each_go Comment held c p h e = nothing_more held c
+  each_go mode held c p h e = within mode refl
+    where
+      within : (m : Mode) → is_within m ≡ true → EachGo (each_held m held ++ option_list (char_out p (keep_lem (seen_of before) m c)) ∷ []) held c (go_lem m c)
+      within m w =
+          rw (keep_within (seen_of before) m c w, each_within m held w)
+          (each_kept (go_lem m c) (kept_each (place_of at before) held ++ (out.Kept (record { c = c; place = p }) ∷ []) ∷ []) held c (within_kept m c w)
+          (rw e (each_more (place_of at before) held c)))
+
+  -- a token of which something was read has a first character
+  pub held_some : (mode : Mode) (held : List ℕ) → Holds mode held → is_plain_lem mode ≡ false → (c : ℕ) × (s : List ℕ) × (held ≡ c ∷ s)
+  held_some Plain held h e = absurd (cc)
+  held_some Dollar held h e = (36, [], h)
+  held_some Comment held h e = (37, h.s, h.held_is)
+  held_some (Tag name) held h e = (60, h.s, h.held_is)
+  held_some (Raw raw m) held h e = (60, (h.s ++ 62 ∷ []) ++ h.r, h.held_is)
+  held_some Translation held h e = (91, h.s, h.held_is)
+
+  pub none_owed : (held : List ℕ) (c : ℕ) → owed_at (held ++ c ∷ []) ≡ []
+  none_owed [] c = refl
+  none_owed (x ∷ held) c = refl
+
+  lists_on : (mode : Mode) (x : ℕ) (held : List ℕ) (c : ℕ) (ks : List TextOut) → is_plain_lem mode ≡ false
+      → lists_held mode (x ∷ held) ++ (owed_at (x ∷ held) ++ (option_list (found_out (place_of at before) (early_lem (seen_of before) mode c)) ++ ks)) ∷ []
+      ≡ with_first (owed at before ++ found_outs at before (early_held mode ++ option_list (early_lem (seen_of before) mode c))) (each_held mode (x ∷ held) ++ ks ∷ [])
+  lists_on Plain x held c ks e = absurd (cc)
+  lists_on Dollar x held c ks e = refl
+  lists_on Comment x held c ks e = refl
+  lists_on (Tag name) x held c ks e = refl
+  lists_on (Raw raw m) x held c ks e = refl
+  lists_on Translation x held c ks e = rw (append-nil (early_held Translation)) refl
+
+  lists_by : (mode : Mode) (held : List ℕ) (c : ℕ) (ks : List TextOut) → Holds mode held
+      → lists_held mode held ++ (owed_at held ++ (option_list (found_out (place_of at before) (early_lem (seen_of before) mode c)) ++ ks)) ∷ []
+      ≡ with_first (owed at before ++ found_outs at before (early_held mode ++ option_list (early_lem (seen_of before) mode c))) (each_held mode held ++ ks ∷ [])
+  lists_by Plain held c ks h =
+      rw (h, early_listed (early_lem (seen_of before) Plain c))
+      (ap (λ (x : List TextOut). x ∷ []) (sym (append_assoc (owed at before) (found_outs at before (option_list (early_lem (seen_of before) Plain c))) ks)))
+  lists_by mode held c ks h = other mode refl h
+    where
+      other : (m : Mode) → is_plain_lem m ≡ false → Holds m held
+          → lists_held m held ++ (owed_at held ++ (option_list (found_out (place_of at before) (early_lem (seen_of before) m c)) ++ ks)) ∷ []
+          ≡ with_first (owed at before ++ found_outs at before (early_held m ++ option_list (early_lem (seen_of before) m c))) (each_held m held ++ ks ∷ [])
+      other m e h = let (x, s, f) = held_some m held h e in rw f (lists_on m x s c ks e)
+
+  -- a character more
+  pub lists_go : (mode : Mode) (held : List ℕ) (c : ℕ) (p : Place) → Holds mode held → p ≡ place_past (place_of at before) held
+      → ListsGo (lists_held mode held ++ (owed_at held ++ (option_list (found_out (place_of at before) (early_lem (seen_of before) mode c)) ++ option_list (char_out p (keep_lem (seen_of before) mode c)))) ∷ []) held c (go_lem mode c)
+  lists_go mode held c p h e =
+      rw (lists_by mode held c (option_list (char_out p (keep_lem (seen_of before) mode c))) h)
+      (lists_both (go_lem mode c) (early_held mode ++ option_list (early_lem (seen_of before) mode c)) (each_held mode held ++ option_list (char_out p (keep_lem (seen_of before) mode c)) ∷ []) held c
+      (early_goes mode c) (each_go mode held c p h e))
+
   -- ---- the bytes that are kept
 
   abbrev pub codes_in : List Char → List ℕ
@@ -177,50 +310,3 @@ module _ (at : Place) (before : List Token) where
       by false true true = refl
       by false true false = refl
       by false false z = codes_placed (place_of at before) (spelling k)
-
-  -- ---- the outputs so far and the next ones
-
-  pub apart : (mode : Mode) (held : List ℕ) (c : ℕ) → (held_chars mode held ≡ []) ⊎ (early_lem (seen_of before) mode c ≡ None)
-  apart Plain held c = inl refl
-  apart _ held c = inr refl
-
-  early_listed : (o : Option Code) → option_list (found_out (place_of at before) o) ≡ found_outs at before (option_list o)
-  early_listed None = refl
-  early_listed (Some c) = refl
-
-  map_more : {X Y : Type 0} (f : X → Y) (xs ys : List X) → map f (xs ++ ys) ≡ map f xs ++ map f ys
-  map_more f [] ys = refl
-  map_more f (x ∷ xs) ys = ap (λ zs. f x ∷ zs) (map_more f xs ys)
-
-  -- the outputs of a character follow those of the token before it
-  pub goes_with : (mode : Mode) (held : List ℕ) (c : ℕ) (p : Place) (rest : List TextOut)
-      → outs_held mode held ++ (option_list (found_out (place_of at before) (early_lem (seen_of before) mode c)) ++ (option_list (char_out p (keep_lem (seen_of before) mode c)) ++ rest))
-      ≡ found_outs at before (early_held mode ++ option_list (early_lem (seen_of before) mode c))
-      ++ (map (λ (x : Char). out.Kept x) (held_chars mode held ++ chars_opt p (keep_lem (seen_of before) mode c)) ++ rest)
-  goes_with mode held c p rest =
-      rw (
-        early_listed (early_lem (seen_of before) mode c),
-        chars_out p (keep_lem (seen_of before) mode c),
-        map_more (λ (x : Code). out.Found (record { place = place_of at before; code = x })) (early_held mode) (option_list (early_lem (seen_of before) mode c)),
-        map_more (λ (x : Char). out.Kept x) (held_chars mode held) (chars_opt p (keep_lem (seen_of before) mode c)),
-      )
-      (joins (apart mode held c))
-    where
-      A : List TextOut
-      A = found_outs at before (early_held mode)
-
-      K : List TextOut
-      K = map (λ (x : Char). out.Kept x) (chars_opt p (keep_lem (seen_of before) mode c))
-
-      joins : (held_chars mode held ≡ []) ⊎ (early_lem (seen_of before) mode c ≡ None)
-          → (found_outs at before (early_held mode) ++ map (λ (x : Char). out.Kept x) (held_chars mode held)) ++ (found_outs at before (option_list (early_lem (seen_of before) mode c)) ++ (map (λ (x : Char). out.Kept x) (chars_opt p (keep_lem (seen_of before) mode c)) ++ rest))
-          ≡ (found_outs at before (early_held mode) ++ found_outs at before (option_list (early_lem (seen_of before) mode c)))
-          ++ ((map (λ (x : Char). out.Kept x) (held_chars mode held) ++ map (λ (x : Char). out.Kept x) (chars_opt p (keep_lem (seen_of before) mode c))) ++ rest)
-      joins (inl e) = simp (e, append_assoc)
-      joins (inr e) = simp (e, append_assoc)
-
-  -- what is given of a token through its end
-  pub closes : (k : Token) (so : Sort) (last : ℕ) (p : Place) (es : List Code) (cs : List Char) → bytes_of (kept_of before) + 1 < 2 ^ 64
-      → es ≡ early_codes before k.kind → cs ≡ chars_at at before k → sort k ≡ so → (needs_last k.kind ≡ true → last ≡ last_at before k)
-      → found_outs at before es ++ (map (λ (x : Char). out.Kept x) cs ++ token_outs (seen_of before) (spot_of at before p (bytes_of (kept_of (k ∷ before)))) k.kind so last) ≡ outs_at at before k
-  closes k so last p es cs small e f g h = rw (e, f, token_given at before k p last small so g h) refl

@@ -3,7 +3,9 @@ use Rattle.std.proofs.Common.{◌≡◌, ℕ, ◌+◌, ◌<◌, ◌≤◌, ◌^�
 use Rattle.std.specs.Str.{chars}
 use Rattle.std.proofs.lemmas.Str.{length-encode, encodes-chars, length-le-encodes, chars-nil}
 use lib.Utf8.{encode, encodes}
+use Rattle.gabc_places.specs.Law.{joined}
 use Rattle.gabc_places.specs.declared.place.Place.{Place}
+use Rattle.gabc_text.specs.declared.stage.TextOut.{TextOut}
 use Rattle.gabc_text.specs.declared.stage.TextStage.{TextStage}
 use Rattle.gabc_text.specs.declared.stage.TextEnd.TheVariants as ending
 use Rattle.gabc_text.specs.declared.view.How.TheVariants as ways
@@ -16,10 +18,11 @@ use Rattle.gabc_text.specs.Told.{Told, told_after, nothing_told, how_of_end}
 use Rattle.gabc_text.proofs.Counts.{bytes_append}
 use Rattle.gabc_text.proofs.Run.{rest_done}
 use Rattle.gabc_text.proofs.Steps.{fresh_gives}
+use Rattle.gabc_text.proofs.Joined.{joined_nothing, points_joined}
 use Rattle.gabc_text.proofs.Gathering.{told_append, told_whole}
 
 -- the bytes of characters are those of their spelling
-bytes_encodes : (t : List ℕ) → bytes_of t ≡ length (encodes t)
+pub bytes_encodes : (t : List ℕ) → bytes_of t ≡ length (encodes t)
 bytes_encodes [] = refl
 bytes_encodes (c ∷ t) = omega (arith, bytes_encodes t, length-encode c, length-append (encode c) (encodes t))
 
@@ -41,11 +44,11 @@ text_fits at bs u line column =
     }
 
 -- a character more
-pub told_goes : (told now target : Told) (stage next : TextStage) (c : ℕ) (cs : List ℕ) → told_after told (rest_of stage (c ∷ cs)) ≡ target
-    → next ≡ push_stage stage c → now ≡ told_after told (push_outs stage c) → told_after now (rest_of next cs) ≡ target
+pub told_goes : (told now target : Told) (stage next : TextStage) (c : ℕ) (cs : List ℕ) → told_after told (joined (rest_of stage (c ∷ cs))) ≡ target
+    → next ≡ push_stage stage c → now ≡ told_after told (push_outs stage c) → told_after now (joined (rest_of next cs)) ≡ target
 told_goes told now target stage next c cs e f g =
-    ap (λ (x : TextStage). told_after now (rest_of x cs)) f ∙ ap (λ (x : Told). told_after x (rest_of (push_stage stage c) cs)) g
-    ∙ sym (told_append told (push_outs stage c) (rest_of (push_stage stage c) cs)) ∙ e
+    ap (λ (x : TextStage). told_after now (joined (rest_of x cs))) f ∙ ap (λ (x : Told). told_after x (joined (rest_of (push_stage stage c) cs))) g
+    ∙ sym (told_append told (push_outs stage c) (joined (rest_of (push_stage stage c) cs))) ∙ e
 
 left_by : TextStage → ℕ → List ℕ → List ℕ
 left_by s c cs = cond s.done (c ∷ cs) (left_of s cs)
@@ -86,11 +89,11 @@ pub record Meant (at : Place) (t : List ℕ) (told : Told) (index : ℕ) : Type 
   pub findings_are : told.findings ≡ findings at t
   pub how_is : how_of_end told.end index ≡ how at t
 
-pub all_meant : (at : Place) (t : List ℕ) (told : Told) (index : ℕ) (rest : List ℕ) → Fits at t → told ≡ told_after nothing_told (rest_of (fresh at) t)
+pub all_meant : (at : Place) (t : List ℕ) (told : Told) (index : ℕ) (rest : List ℕ) → Fits at t → told ≡ told_after nothing_told (joined (rest_of (fresh at) t))
     → rest ≡ left_of (fresh at) t → index + bytes_of rest ≡ bytes_of t → Meant at t told index
 all_meant at t told index rest fits e f g =
     let r = fresh_gives at t fits in
-    let all = e ∙ ap (told_after nothing_told) r.0 ∙ told_whole at t in
+    let all = e ∙ ap (λ (x : List (List TextOut)). told_after nothing_told (joined x)) r.0 ∙ ap (told_after nothing_told) (points_joined at t) ∙ told_whole at t in
     let left : rest ≡ drop (length_of t) t = f ∙ r.1 in
     let whole : bytes_of t ≡ bytes_of (take (length_of t) t) + bytes_of (drop (length_of t) t) =
     ap bytes_of (sym (take-append-drop (length_of t) t)) ∙ bytes_append (take (length_of t) t) (drop (length_of t) t) in
@@ -103,5 +106,5 @@ all_meant at t told index rest fits e f g =
           ∙ how_meant at (reverse (tokens t)) (take (length_of t) t) (drop (length_of t) t);
     }
 
-pub told_ends : (now target : Told) (next : TextStage) (cs : List ℕ) → told_after now (rest_of next cs) ≡ target → next.done ≡ true → now ≡ target
-told_ends now target next cs e f = sym (ap (told_after now) (rest_done next cs f)) ∙ e
+pub told_ends : (now target : Told) (next : TextStage) (cs : List ℕ) → told_after now (joined (rest_of next cs)) ≡ target → next.done ≡ true → now ≡ target
+told_ends now target next cs e f = sym (ap (told_after now) (ap joined (rest_done next cs f) ∙ joined_nothing cs)) ∙ e

@@ -1,10 +1,9 @@
 -- A character more, and the end: from any character on, the machine gives what the definitions say of the rest.
-use Rattle.std.proofs.Common.{◌≡◌, ℕ, suc, ◌+◌, ◌<◌, ◌≤◌, ◌^◌, ◌==◌, ◌||◌, ◌&&◌, List, [], ◌∷◌, ◌++◌, Bool, true, false, cond, refl, sym, ap, ◌∙◌, subst, append_assoc, append-nil, length, length-append, map, drop, Option, Some, None, arith}
+use Rattle.std.proofs.Common.{◌≡◌, ℕ, suc, ◌+◌, ◌<◌, ◌≤◌, ◌^◌, ◌==◌, ◌||◌, ◌&&◌, List, [], ◌∷◌, ◌++◌, Bool, true, false, cond, refl, sym, ap, ◌∙◌, subst, append_assoc, append-nil, length, length-append, drop, Option, Some, None, arith, codes}
 use Rattle.std.proofs.lemmas.Bool.{eqb-true}
 use Rattle.gabc_places.specs.Place.{next_place}
 use Rattle.gabc_places.specs.declared.place.Place.{Place}
 use Rattle.gabc_places.specs.declared.place.Char.{Char}
-use Rattle.gabc_places.specs.declared.code.Code.{Code}
 use Rattle.gabc_text.specs.declared.token.Kind.{Kind}
 use Rattle.gabc_text.specs.declared.token.Kind.TheVariants as kind
 use Rattle.gabc_text.specs.declared.token.Sort.{Sort}
@@ -16,10 +15,9 @@ use Rattle.gabc_text.specs.declared.mode.Went.TheVariants.{Stays, Ends}
 use Rattle.gabc_text.specs.declared.stage.TextStage.{TextStage}
 use Rattle.gabc_text.specs.declared.stage.TextEnd.TheVariants as ending
 use Rattle.gabc_text.specs.declared.stage.TextOut.{TextOut}
-use Rattle.gabc_text.specs.declared.stage.TextOut.TheVariants as out
 use Rattle.gabc_text.specs.Token.{Token, spelling, tokens}
 use Rattle.gabc_text.specs.View.{sort, text_of, place_past, place_of, bytes_of, is_cut, is_open_kind, early_codes, count_pieces}
-use Rattle.gabc_text.specs.Outs.{outs, outs_at, outs_end, after_tokens, chars_at, kept_of, last_at, but_last, end_after, found_outs, Fits}
+use Rattle.gabc_text.specs.Outs.{outs_by_point, outs_end, lists_at, owed, is_lone, with_first, nothing_each, kept_lists_by, after_tokens, chars_at, kept_of, last_at, but_last, end_after, found_outs, Fits}
 use Rattle.gabc_text.specs.Step.{later, fresh, rest_of, left_of, option_list, found_out, settle_outs_by, settle_stage_by, settled_push, settled_push_outs, read_outs, read_stage, went_outs, went_stage, bytes_lem, token_stage, token_outs, end_outs, end_stage, finish_outs_by, end_by, is_cut_lem, char_out}
 use Rattle.gabc_text.specs.Machine.{early_lem, after_lem}
 use Rattle.gabc_text.specs.Mode.{settled_lem, go_lem, keep_lem, at_end_lem, is_plain_lem}
@@ -28,13 +26,14 @@ use Rattle.gabc_text.proofs.Modes.{Holds, Settles, WentBy, goes, settles, ends, 
 use Rattle.gabc_text.proofs.Going.{kept_held, sort_settled, settled_uncut, ends_uncut}
 use Rattle.gabc_text.proofs.Counts.{bytes_append, place_append, up_is, later_is, place_small, kept_small, held_small, pieces_small, some_bytes}
 use Rattle.gabc_text.proofs.Given.{spot_of, spot_given}
-use Rattle.gabc_text.proofs.Held.{SameEarly, CharsGo, early_held, held_chars, outs_held, chars_by, chars_opt, early_goes, chars_go, goes_with, closes, codes_kept, codes_placed, codes_in}
+use Rattle.gabc_text.proofs.Held.{CharsGo, held_chars, lists_held, owed_at, ListsGo, lists_go, held_some, none_owed, chars_by, chars_opt, chars_go, codes_kept, codes_placed, codes_in}
 use Rattle.std.specs.Char.{len_utf8}
 use Rattle.gabc_text.specs.Mode.{is_blank_kind}
 use Rattle.gabc_text.specs.declared.seen.Seen.{Seen}
-use Rattle.gabc_text.specs.Token.{single}
+use Rattle.gabc_text.specs.Token.{single, is_text}
+use Rattle.gabc_text.specs.declared.name.Word.TheVariants as word
 use Rattle.gabc_text.specs.Machine.{left_out_lem}
-use Rattle.gabc_text.proofs.Run.{size, drop_more, after_is, whole, whole_more, whole_is, end_given, rest_done, settle_closing, end_closing, end_other, kept_closing, closed}
+use Rattle.gabc_text.proofs.Run.{size, drop_more, after_is, whole, whole_more, whole_is, end_given, rest_done, settle_closing, end_closing, end_other, kept_closing, closed, ended_lists}
 
 -- a character that is kept has no more bytes than the one that was read
 abbrev IsSmall : ℕ → Option ℕ → Type 0
@@ -69,6 +68,30 @@ held_kept Plain c d so held h e = sym h
 held_kept Comment c d so held h e = absurd (cc)
 held_kept _ c d so held h e = refl
 
+-- a token that its last character ends is no `$` by itself
+not_lone : (mode : Mode) (held : List ℕ) (c : ℕ) (k : Token) (so : Sort) → Holds mode held → go_lem mode c ≡ Ends k.kind so → spelling k ≡ held ++ c ∷ [] → is_lone k ≡ false
+not_lone Plain held c k so h e f = by (c == 36) refl e
+  where
+    by : (b : Bool) → c == 36 ≡ b → cond b (Stays Dollar) (cond (c == 37) (Stays Comment) (cond (c == 60) (Stays (Tag (record { closing = false; word = word.Start }))) (cond (c == 91) (Stays Translation) (Ends (single c) Other)))) ≡ Ends k.kind so → is_lone k ≡ false
+    by true g i = absurd (cc)
+    by false g i = ap (is_text (codes "$")) (f ∙ ap (λ (x : List ℕ). x ++ c ∷ []) h) ∙ rw g refl
+not_lone mode held c k so h e f = other mode refl h
+  where
+    longer : (x : ℕ) (s : List ℕ) → is_text (codes "$") (x ∷ (s ++ c ∷ [])) ≡ false
+    longer x [] = no (x == 36)
+      where
+        no : (b : Bool) → (b && false) ≡ false
+        no true = refl
+        no false = refl
+    longer x (y ∷ s) = no (x == 36)
+      where
+        no : (b : Bool) → (b && false) ≡ false
+        no true = refl
+        no false = refl
+
+    other : (m : Mode) → is_plain_lem m ≡ false → Holds m held → is_lone k ≡ false
+    other m g h = let (x, s, i) = held_some (record { line = 1; column = 1 }) [] m held h g in ap (is_text (codes "$")) (f ∙ ap (λ (y : List ℕ). y ++ c ∷ []) i) ∙ longer x s
+
 module _ (at : Place) (full : List ℕ) (fits : Fits at full) where
   abbrev pub stage_at : Mode → List Token → Place → ℕ → TextStage
   stage_at mode before p n = record { mode = mode; seen = seen_of before; spot = spot_of at before p n; done = false }
@@ -93,10 +116,10 @@ module _ (at : Place) (full : List ℕ) (fits : Fits at full) where
     pub all : text_of before ++ (held ++ t) ≡ full
 
   abbrev pub Gives : Mode → List Token → List ℕ → Place → ℕ → List ℕ → Type 0
-  Gives mode before held p n t = (outs_held at before mode held ++ rest_of (stage_at mode before p n) t ≡ whole at before (held ++ t)) × (left_of (stage_at mode before p n) t ≡ beyond (held ++ t))
+  Gives mode before held p n t = (lists_held at before mode held ++ rest_of (stage_at mode before p n) t ≡ whole at before (held ++ t)) × (left_of (stage_at mode before p n) t ≡ beyond (held ++ t))
 
   abbrev pub Runs : List ℕ → Type 0
-  Runs t = (mode : Mode) (before : List Token) (held : List ℕ) (p : Place) (n : ℕ) → Reads mode before held p n t → Gives mode before held p n t
+  Runs t = (mode : Mode) (before : List Token) (held : List ℕ) (p : Place) (n : ℕ) → Reads mode before held p n t → owed_at at before held ≡ [] → Gives mode before held p n t
 
   small_kept : (before : List Token) (k : Token) (y : List ℕ) → text_of before ++ (spelling k ++ y) ≡ full → bytes_of (kept_of before) + 1 < 2 ^ 64
   small_kept before k y e =
@@ -115,13 +138,15 @@ module _ (at : Place) (full : List ℕ) (fits : Fits at full) where
 
   -- ---- a token that ends before the character
 
+  -- what is given from the character c on, behind what is held
+  abbrev pub From : Mode → List Token → List ℕ → Place → ℕ → ℕ → List ℕ → List TextOut → TextStage → Type 0
+  From mode before held p n c t given next = (lists_held at before mode held ++ (given ∷ rest_of next t) ≡ whole at before (held ++ c ∷ t)) × (LeftAt next c t ≡ beyond (held ++ c ∷ t))
+
   settle_gives : (c : ℕ) (t : List ℕ) (mode : Mode) (before : List Token) (held : List ℕ) (p : Place) (n : ℕ) (k : Token) → Reads mode before held p n (c ∷ t)
       → settled_lem mode c ≡ Some k.kind → spelling k ≡ held → ((u : List ℕ) → tokens (held ++ c ∷ u) ≡ k ∷ tokens (c ∷ u))
-      → (Reads Plain (k ∷ before) [] p n (c ∷ t) → (settled_push_outs (stage_at Plain (k ∷ before) p n) c ++ rest_of (settled_push (stage_at Plain (k ∷ before) p n) c) t ≡ whole at (k ∷ before) (c ∷ t))
-      × (LeftAt (settled_push (stage_at Plain (k ∷ before) p n) c) c t ≡ beyond (c ∷ t)))
-      → (outs_held at before mode held ++ ((settle_outs_by (stage_at mode before p n) (Some k.kind) ++ settled_push_outs (settle_stage_by (stage_at mode before p n) (Some k.kind)) c)
-      ++ rest_of (settled_push (settle_stage_by (stage_at mode before p n) (Some k.kind)) c) t) ≡ whole at before (held ++ c ∷ t))
-      × (LeftAt (settled_push (settle_stage_by (stage_at mode before p n) (Some k.kind)) c) c t ≡ beyond (held ++ c ∷ t))
+      → (Reads Plain (k ∷ before) [] p n (c ∷ t) → From Plain (k ∷ before) [] p n c t (owed at (k ∷ before) ++ settled_push_outs (stage_at Plain (k ∷ before) p n) c) (settled_push (stage_at Plain (k ∷ before) p n) c))
+      → From mode before held p n c t (settle_outs_by (stage_at mode before p n) (Some k.kind) ++ settled_push_outs (settle_stage_by (stage_at mode before p n) (Some k.kind)) c)
+      (settled_push (settle_stage_by (stage_at mode before p n) (Some k.kind)) c)
   settle_gives c t mode before held p n k s e f cuts next =
       let all : text_of before ++ (spelling k ++ c ∷ t) ≡ full = ap (λ (x : List ℕ). text_of before ++ (x ++ c ∷ t)) f ∙ s.all in
       let cl = settle_closing at before mode held c k s.holds e f in
@@ -136,13 +161,12 @@ module _ (at : Place) (full : List ℕ) (fits : Fits at full) where
         bytes = nb ∙ ap bytes_of (sym (append-nil (kept_of (k ∷ before))));
         all = append_assoc (text_of before) (spelling k) (c ∷ t) ∙ all;
       } in
-      let given : outs_held at before mode held ++ settle_outs_by (stage_at mode before p n) (Some k.kind) ≡ outs_at at before k =
-      rw nb (closed at before mode held k Other p (small_kept before k (c ∷ t) all) cl so) in (
-        ap (λ (x : TextStage). outs_held at before mode held ++ ((settle_outs_by (stage_at mode before p n) (Some k.kind) ++ settled_push_outs x c) ++ rest_of (settled_push x c) t)) st
-            ∙ ap (λ (x : List TextOut). outs_held at before mode held ++ x) (append_assoc (settle_outs_by (stage_at mode before p n) (Some k.kind)) (settled_push_outs (stage_at Plain (k ∷ before) p n) c) _)
-            ∙ sym (append_assoc (outs_held at before mode held) (settle_outs_by (stage_at mode before p n) (Some k.kind)) _)
-            ∙ ap (λ (x : List TextOut). x ++ (settled_push_outs (stage_at Plain (k ∷ before) p n) c ++ rest_of (settled_push (stage_at Plain (k ∷ before) p n) c) t)) given
-            ∙ ap (λ (x : List TextOut). outs_at at before k ++ x) (next r).0
+      let given = closed at before mode held k Other p (small_kept before k (c ∷ t) all) cl so refl in
+      let owes : settle_outs_by (stage_at mode before p n) (Some k.kind) ≡ owed at (k ∷ before) = rw nb given.1 in (
+        ap (λ (x : TextStage). lists_held at before mode held ++ ((settle_outs_by (stage_at mode before p n) (Some k.kind) ++ settled_push_outs x c) ∷ rest_of (settled_push x c) t)) st
+            ∙ ap (λ (x : List TextOut). lists_held at before mode held ++ ((x ++ settled_push_outs (stage_at Plain (k ∷ before) p n) c) ∷ rest_of (settled_push (stage_at Plain (k ∷ before) p n) c) t)) owes
+            ∙ ap (λ (x : List (List TextOut)). x ++ ((owed at (k ∷ before) ++ settled_push_outs (stage_at Plain (k ∷ before) p n) c) ∷ rest_of (settled_push (stage_at Plain (k ∷ before) p n) c) t)) given.0
+            ∙ ap (λ (x : List (List TextOut)). lists_at at before k ++ x) (next r).0
             ∙ sym (whole_more at before k (held ++ c ∷ t) (c ∷ t) (cuts t) (ap (λ (x : List ℕ). x ++ c ∷ t) (sym f))),
         ap (λ (x : TextStage). LeftAt (settled_push x c) c t) st ∙ (next r).1 ∙ sym (beyond_more k (held ++ c ∷ t) (c ∷ t) (cuts t) (ap (λ (x : List ℕ). x ++ c ∷ t) (sym f))),
       )
@@ -196,9 +220,6 @@ module _ (at : Place) (full : List ℕ) (fits : Fits at full) where
     abbrev kept_next : List Char
     kept_next = held_chars at before mode held ++ chars_opt at before p (keep_lem (seen_of before) mode c)
 
-    abbrev early_next : List Code
-    early_next = early_held at before mode ++ option_list (early_lem (seen_of before) mode c)
-
     abbrev n_next : ℕ
     n_next = bytes_lem n (keep_lem (seen_of before) mode c)
 
@@ -206,21 +227,19 @@ module _ (at : Place) (full : List ℕ) (fits : Fits at full) where
     in_held = s.place ∙ place_append at (text_of before) held
 
     abbrev Reading : Went → Type 0
-    Reading w = (outs_held at before mode held ++ ((option_list (found_out (place_of at before) (early_lem (seen_of before) mode c)) ++ (option_list (char_out p (keep_lem (seen_of before) mode c)) ++ went_outs (stage_at mode before (later p c) n_next) w n))
-        ++ rest_of (went_stage (stage_at mode before (later p c) n_next) w) t) ≡ whole at before (held ++ c ∷ t))
-        × (LeftAt (went_stage (stage_at mode before (later p c) n_next) w) c t ≡ beyond (held ++ c ∷ t))
+    Reading w = From mode before held p n c t
+        (owed_at at before held ++ (option_list (found_out (place_of at before) (early_lem (seen_of before) mode c)) ++ (option_list (char_out p (keep_lem (seen_of before) mode c)) ++ went_outs (stage_at mode before (later p c) n_next) w n)))
+        (went_stage (stage_at mode before (later p c) n_next) w)
 
-    regroup : (xs es ks ws rs : List TextOut) → xs ++ ((es ++ (ks ++ ws)) ++ rs) ≡ xs ++ (es ++ (ks ++ (ws ++ rs)))
-    regroup xs es ks ws rs = simp append_assoc
+    -- one list more
+    moved : (xs : List (List TextOut)) (ys : List TextOut) (rest : List (List TextOut)) → xs ++ (ys ∷ rest) ≡ (xs ++ ys ∷ []) ++ rest
+    moved xs ys rest = sym (append_assoc xs (ys ∷ []) rest)
 
-    gives_next : (w : Went) → (rest : List TextOut)
-        → outs_held at before mode held ++ (option_list (found_out (place_of at before) (early_lem (seen_of before) mode c)) ++ (option_list (char_out p (keep_lem (seen_of before) mode c)) ++ rest))
-        ≡ found_outs at before early_next ++ (map (λ (x : Char). out.Kept x) kept_next ++ rest)
-    gives_next w rest = goes_with at before mode held c p rest
+    lists_next : ListsGo at before (lists_held at before mode held ++ (owed_at at before held ++ (option_list (found_out (place_of at before) (early_lem (seen_of before) mode c)) ++ option_list (char_out p (keep_lem (seen_of before) mode c)))) ∷ []) held c (go_lem mode c)
+    lists_next = lists_go at before mode held c p s.holds in_held
 
     stays : (next : Mode) → Runs t → go_lem mode c ≡ Stays next → Holds next (held ++ c ∷ []) → Reading (Stays next)
     stays next ih e h =
-        let es : early_next ≡ early_held at before next = early_if (go_lem mode c) e (early_goes at before mode c) in
         let cs : kept_next ≡ held_chars at before next (held ++ c ∷ []) = chars_if (go_lem mode c) e (chars_go at before mode held c p s.holds in_held) in
         let nb : n_next ≡ bytes_of (kept_of before ++ kept_held next (held ++ c ∷ [])) = past_bytes mode before held p n c t s
         ∙ ap (λ (x : List Char). bytes_of (kept_of before ++ codes_in at before x)) cs ∙ ap (λ (x : List ℕ). bytes_of (kept_of before ++ x)) (codes_placed at before (place_of at before) (kept_held next (held ++ c ∷ []))) in
@@ -230,19 +249,18 @@ module _ (at : Place) (full : List ℕ) (fits : Fits at full) where
           place = past_place mode before held p n c t s;
           bytes = nb;
           all = ap (λ (x : List ℕ). text_of before ++ x) (append_assoc held (c ∷ []) t) ∙ s.all;
-        }) in (
-          regroup (outs_held at before mode held) (option_list (found_out (place_of at before) (early_lem (seen_of before) mode c))) (option_list (char_out p (keep_lem (seen_of before) mode c))) [] (rest_of (stage_at next before (later p c) n_next) t)
-              ∙ gives_next (Stays next) (rest_of (stage_at next before (later p c) n_next) t)
-              ∙ ap (λ (x : List Code). found_outs at before x ++ (map (λ (y : Char). out.Kept y) kept_next ++ rest_of (stage_at next before (later p c) n_next) t)) es
-              ∙ ap (λ (x : List Char). found_outs at before (early_held at before next) ++ (map (λ (y : Char). out.Kept y) x ++ rest_of (stage_at next before (later p c) n_next) t)) cs
-              ∙ sym (append_assoc (found_outs at before (early_held at before next)) (map (λ (y : Char). out.Kept y) (held_chars at before next (held ++ c ∷ []))) (rest_of (stage_at next before (later p c) n_next) t))
+        })
+        (none_owed at before held c) in (
+          rw (append-nil (option_list (char_out p (keep_lem (seen_of before) mode c))))
+              (moved (lists_held at before mode held) (owed_at at before held ++ (option_list (found_out (place_of at before) (early_lem (seen_of before) mode c)) ++ option_list (char_out p (keep_lem (seen_of before) mode c)))) (rest_of (stage_at next before (later p c) n_next) t)
+              ∙ ap (λ (x : List (List TextOut)). x ++ rest_of (stage_at next before (later p c) n_next) t) (lists_if (go_lem mode c) e lists_next)
               ∙ run.0
-              ∙ ap (whole at before) (append_assoc held (c ∷ []) t),
+              ∙ ap (whole at before) (append_assoc held (c ∷ []) t)),
           run.1 ∙ ap beyond (append_assoc held (c ∷ []) t),
         )
       where
-        early_if : (w : Went) → w ≡ Stays next → SameEarly at before early_next w → early_next ≡ early_held at before next
-        early_if w e f = subst (SameEarly at before early_next) e f
+        lists_if : {xs : List (List TextOut)} (w : Went) → w ≡ Stays next → ListsGo at before xs held c w → xs ≡ lists_held at before next (held ++ c ∷ [])
+        lists_if {xs} w e f = subst (ListsGo at before xs held c) e f
 
         chars_if : (w : Went) → w ≡ Stays next → CharsGo at before kept_next held c w → kept_next ≡ held_chars at before next (held ++ c ∷ [])
         chars_if w e f = subst (CharsGo at before kept_next held c) e f
@@ -250,7 +268,6 @@ module _ (at : Place) (full : List ℕ) (fits : Fits at full) where
     ends_so : (so : Sort) → Runs t → (h : (token : Token) × (go_lem mode c ≡ Ends token.kind so) × (sort token ≡ so) × (spelling token ≡ held ++ c ∷ []) × ((u : List ℕ) → tokens (held ++ c ∷ u) ≡ token ∷ tokens u))
         → Reading (Ends h.0.kind so)
     ends_so so ih (k, e, sk, f, cuts) =
-        let es : early_next ≡ early_codes before k.kind = subst (SameEarly at before early_next) e (early_goes at before mode c) in
         let cs : kept_next ≡ chars_at at before k = subst (CharsGo at before kept_next held c) e (chars_go at before mode held c p s.holds in_held) ∙ ap (chars_by at before k.kind) (sym f) in
         let all : text_of before ++ (spelling k ++ t) ≡ full = ap (λ (x : List ℕ). text_of before ++ (x ++ t)) f ∙ ap (λ (x : List ℕ). text_of before ++ x) (append_assoc held (c ∷ []) t) ∙ s.all in
         let nb : n_next ≡ bytes_of (kept_of (k ∷ before)) = past_bytes mode before held p n c t s
@@ -258,23 +275,24 @@ module _ (at : Place) (full : List ℕ) (fits : Fits at full) where
         let pl : later p c ≡ place_of at (k ∷ before) = past_place mode before held p n c t s ∙ ap (λ (x : List ℕ). place_past at (text_of before ++ x)) (sym f) in
         let st : went_stage (stage_at mode before (later p c) n_next) (Ends k.kind so) ≡ stage_at Plain (k ∷ before) (later p c) n_next =
         subst (λ (m : ℕ). token_stage (stage_at mode before (later p c) m) k.kind so (later p c) ≡ stage_at Plain (k ∷ before) (later p c) m) (sym nb) (after_token mode before k (later p c) (later p c) so t all sk pl) in
+        let lone : is_lone k ≡ false = not_lone mode held c k so s.holds e f in
         let run = ih Plain (k ∷ before) [] (later p c) n_next (record {
           holds = refl;
           uncut = ends_uncut mode c k.kind so e;
           place = pl ∙ ap (place_past at) (sym (append-nil (text_of (k ∷ before))));
           bytes = nb ∙ ap bytes_of (sym (append-nil (kept_of (k ∷ before))));
           all = append_assoc (text_of before) (spelling k) t ∙ all;
-        }) in
-        let given : found_outs at before early_next ++ (map (λ (y : Char). out.Kept y) kept_next ++ token_outs (seen_of before) (spot_of at before (later p c) n_next) k.kind so n) ≡ outs_at at before k =
-        subst (λ (m : ℕ). found_outs at before early_next ++ (map (λ (y : Char). out.Kept y) kept_next ++ token_outs (seen_of before) (spot_of at before (later p c) m) k.kind so n) ≡ outs_at at before k) (sym nb)
-        (closes at before k so n (later p c) early_next kept_next (small_kept before k t all) es cs sk (λ _. last k e f)) in (
-          regroup (outs_held at before mode held) (option_list (found_out (place_of at before) (early_lem (seen_of before) mode c))) (option_list (char_out p (keep_lem (seen_of before) mode c))) (token_outs (seen_of before) (spot_of at before (later p c) n_next) k.kind so n) (rest_of (went_stage (stage_at mode before (later p c) n_next) (Ends k.kind so)) t)
-              ∙ gives_next (Ends k.kind so) (token_outs (seen_of before) (spot_of at before (later p c) n_next) k.kind so n ++ rest_of (went_stage (stage_at mode before (later p c) n_next) (Ends k.kind so)) t)
-              ∙ sym (ap (λ (x : List TextOut). found_outs at before early_next ++ x) (append_assoc (map (λ (y : Char). out.Kept y) kept_next) (token_outs (seen_of before) (spot_of at before (later p c) n_next) k.kind so n) (rest_of (went_stage (stage_at mode before (later p c) n_next) (Ends k.kind so)) t)))
-              ∙ sym (append_assoc (found_outs at before early_next) (map (λ (y : Char). out.Kept y) kept_next ++ token_outs (seen_of before) (spot_of at before (later p c) n_next) k.kind so n) (rest_of (went_stage (stage_at mode before (later p c) n_next) (Ends k.kind so)) t))
-              ∙ ap (λ (x : List TextOut). x ++ rest_of (went_stage (stage_at mode before (later p c) n_next) (Ends k.kind so)) t) given
-              ∙ ap (λ (x : TextStage). outs_at at before k ++ rest_of x t) st
-              ∙ ap (λ (x : List TextOut). outs_at at before k ++ x) run.0
+        })
+        (rw lone refl) in
+        let given = subst (ListsGo at before (lists_held at before mode held ++ (owed_at at before held ++ (option_list (found_out (place_of at before) (early_lem (seen_of before) mode c)) ++ option_list (char_out p (keep_lem (seen_of before) mode c)))) ∷ []) held c) e lists_next
+        ∙ ap (λ (x : List ℕ). with_first (owed at before ++ found_outs at before (early_codes before k.kind)) (kept_lists_by at before k.kind x)) (sym f) in
+        let lists : lists_held at before mode held ++ (owed_at at before held ++ (option_list (found_out (place_of at before) (early_lem (seen_of before) mode c)) ++ (option_list (char_out p (keep_lem (seen_of before) mode c)) ++ token_outs (seen_of before) (spot_of at before (later p c) n_next) k.kind so n))) ∷ [] ≡ lists_at at before k =
+        subst (λ (m : ℕ). lists_held at before mode held ++ (owed_at at before held ++ (option_list (found_out (place_of at before) (early_lem (seen_of before) mode c)) ++ (option_list (char_out p (keep_lem (seen_of before) mode c)) ++ token_outs (seen_of before) (spot_of at before (later p c) m) k.kind so n))) ∷ [] ≡ lists_at at before k) (sym nb)
+        (ended_lists at before mode held c k so p (later p c) n (option_list (found_out (place_of at before) (early_lem (seen_of before) mode c))) (option_list (char_out p (keep_lem (seen_of before) mode c))) (small_kept before k t all) sk (λ _. last k e f) lone given) in (
+          moved (lists_held at before mode held) (owed_at at before held ++ (option_list (found_out (place_of at before) (early_lem (seen_of before) mode c)) ++ (option_list (char_out p (keep_lem (seen_of before) mode c)) ++ token_outs (seen_of before) (spot_of at before (later p c) n_next) k.kind so n))) (rest_of (went_stage (stage_at mode before (later p c) n_next) (Ends k.kind so)) t)
+              ∙ ap (λ (x : List (List TextOut)). x ++ rest_of (went_stage (stage_at mode before (later p c) n_next) (Ends k.kind so)) t) lists
+              ∙ ap (λ (x : TextStage). lists_at at before k ++ rest_of x t) st
+              ∙ ap (λ (x : List (List TextOut)). lists_at at before k ++ x) run.0
               ∙ sym (whole_more at before k (held ++ c ∷ t) t (cuts t) (sym (append_assoc held (c ∷ []) t) ∙ ap (λ (x : List ℕ). x ++ t) (sym f))),
           ap (λ (x : TextStage). LeftAt x c t) st ∙ run.1 ∙ sym (beyond_more k (held ++ c ∷ t) t (cuts t) (sym (append_assoc held (c ∷ []) t) ∙ ap (λ (x : List ℕ). x ++ t) (sym f))),
         )
@@ -292,8 +310,7 @@ module _ (at : Place) (full : List ℕ) (fits : Fits at full) where
 
     -- a character before which no token ends
     settled_gives : Runs t → settled_lem mode c ≡ None
-        → (outs_held at before mode held ++ (settled_push_outs (stage_at mode before p n) c ++ rest_of (settled_push (stage_at mode before p n) c) t) ≡ whole at before (held ++ c ∷ t))
-        × (LeftAt (settled_push (stage_at mode before p n) c) c t ≡ beyond (held ++ c ∷ t))
+        → From mode before held p n c t (owed_at at before held ++ settled_push_outs (stage_at mode before p n) c) (settled_push (stage_at mode before p n) c)
     settled_gives ih e = by (c == 40) (is_plain_lem mode) refl refl
       where
         plain : (m : Mode) → is_plain_lem m ≡ true → m ≡ Plain
@@ -301,54 +318,48 @@ module _ (at : Place) (full : List ℕ) (fits : Fits at full) where
         plain _ f = absurd (cc)
 
         by : (b x : Bool) → c == 40 ≡ b → is_plain_lem mode ≡ x
-            → (outs_held at before mode held ++ (cond (b && x) (end_outs (seen_of before) (spot_of at before p n) ending.Notes) (read_outs (stage_at mode before p n) c) ++ rest_of (cond (b && x) (end_stage (stage_at mode before p n)) (read_stage (stage_at mode before p n) c)) t) ≡ whole at before (held ++ c ∷ t))
-            × (LeftAt (cond (b && x) (end_stage (stage_at mode before p n)) (read_stage (stage_at mode before p n) c)) c t ≡ beyond (held ++ c ∷ t))
+            → From mode before held p n c t (owed_at at before held ++ cond (b && x) (end_outs (seen_of before) (spot_of at before p n) ending.Notes) (read_outs (stage_at mode before p n) c)) (cond (b && x) (end_stage (stage_at mode before p n)) (read_stage (stage_at mode before p n) c))
         by true true f g = notes (eqb-true c 40 f) (plain mode g)
           where
             at_notes : (bs : List Token) → is_cut bs ≡ false → ending.Notes ≡ end_after at bs (40 ∷ t)
             at_notes [] u = refl
             at_notes (k ∷ bs) u = rw u refl
 
-            notes : c ≡ 40 → mode ≡ Plain → (outs_held at before mode held ++ (end_outs (seen_of before) (spot_of at before p n) ending.Notes ++ rest_of (end_stage (stage_at mode before p n)) t) ≡ whole at before (held ++ c ∷ t))
-                × (c ∷ t ≡ beyond (held ++ c ∷ t))
+            notes : c ≡ 40 → mode ≡ Plain → From mode before held p n c t (owed_at at before held ++ end_outs (seen_of before) (spot_of at before p n) ending.Notes) (end_stage (stage_at mode before p n))
             notes f g =
                 let none : held ≡ [] = subst (λ (m : Mode). Holds m held) g s.holds in
                 rw (f, g, none, rest_done (end_stage (stage_at Plain before p n)) t refl) (
-                  append-nil (end_outs (seen_of before) (spot_of at before p n) ending.Notes)
-                      ∙ end_given at before p n (40 ∷ t) ending.Notes (s.place ∙ ap (λ (x : List ℕ). place_past at (text_of before ++ x)) none ∙ ap (place_past at) (append-nil (text_of before))) (sym s.uncut) (at_notes before s.uncut),
+                  ap (λ (x : List TextOut). (owed at before ++ x) ∷ ([] ∷ nothing_each t))
+                      (end_given at before p n (40 ∷ t) ending.Notes (s.place ∙ ap (λ (x : List ℕ). place_past at (text_of before ++ x)) none ∙ ap (place_past at) (append-nil (text_of before))) (sym s.uncut) (at_notes before s.uncut)),
                   refl,
                 )
         by true false f g = read_gives ih (λ h. absurd (let z : true ≡ false = sym (ap is_plain_lem h) ∙ g in cc)) e
         by false x f g = read_gives ih (λ h. f) e
 
-  abbrev Settling : ℕ → List ℕ → Mode → List Token → List ℕ → Place → ℕ → Kind → Type 0
-  Settling c t mode before held p n d = (outs_held at before mode held ++ ((settle_outs_by (stage_at mode before p n) (Some d) ++ settled_push_outs (settle_stage_by (stage_at mode before p n) (Some d)) c)
-      ++ rest_of (settled_push (settle_stage_by (stage_at mode before p n) (Some d)) c) t) ≡ whole at before (held ++ c ∷ t))
-      × (LeftAt (settled_push (settle_stage_by (stage_at mode before p n) (Some d)) c) c t ≡ beyond (held ++ c ∷ t))
-
   step : (c : ℕ) (t : List ℕ) → Runs t → Runs (c ∷ t)
-  step c t ih mode before held p n s = by (settled_lem mode c) refl
+  step c t ih mode before held p n s owes = by (settled_lem mode c) refl
     where
       by : (o : Option Kind) → settled_lem mode c ≡ o
-          → (outs_held at before mode held ++ ((settle_outs_by (stage_at mode before p n) o ++ settled_push_outs (settle_stage_by (stage_at mode before p n) o) c)
-          ++ rest_of (settled_push (settle_stage_by (stage_at mode before p n) o) c) t) ≡ whole at before (held ++ c ∷ t))
-          × (LeftAt (settled_push (settle_stage_by (stage_at mode before p n) o) c) c t ≡ beyond (held ++ c ∷ t))
-      by None e = settled_gives c t mode before held p n s ih e
+          → From mode before held p n c t (settle_outs_by (stage_at mode before p n) o ++ settled_push_outs (settle_stage_by (stage_at mode before p n) o) c)
+          (settled_push (settle_stage_by (stage_at mode before p n) o) c)
+      by None e =
+          subst (λ (x : List TextOut). From mode before held p n c t (x ++ settled_push_outs (stage_at mode before p n) c) (settled_push (stage_at mode before p n) c)) owes
+          (settled_gives c t mode before held p n s ih e)
       by (Some d) e = ends (settles mode held c d s.holds e)
         where
-          ends : Settles held c d → Settling c t mode before held p n d
+          ends : Settles held c d → From mode before held p n c t (settle_outs_by (stage_at mode before p n) (Some d) ++ settled_push_outs (settle_stage_by (stage_at mode before p n) (Some d)) c) (settled_push (settle_stage_by (stage_at mode before p n) (Some d)) c)
           ends h =
-              subst (Settling c t mode before held p n) h.kind_is
+              subst (λ (d : Kind). From mode before held p n c t (settle_outs_by (stage_at mode before p n) (Some d) ++ settled_push_outs (settle_stage_by (stage_at mode before p n) (Some d)) c) (settled_push (settle_stage_by (stage_at mode before p n) (Some d)) c)) h.kind_is
               (settle_gives c t mode before held p n h.token s (e ∙ ap Some (sym h.kind_is)) h.spelled h.cuts
               (λ r. settled_gives c t Plain (h.token ∷ before) [] p n r ih refl))
 
   -- ---- the end
 
   abbrev EndingOf : Mode → List Token → List ℕ → Place → ℕ → Option Kind → Type 0
-  EndingOf mode before held p n o = (outs_held at before mode held ++ finish_outs_by (stage_at mode before p n) o ≡ whole at before (held ++ [])) × ([] ≡ beyond (held ++ []))
+  EndingOf mode before held p n o = (lists_held at before mode held ++ finish_outs_by (stage_at mode before p n) o ∷ [] ≡ whole at before (held ++ [])) × ([] ≡ beyond (held ++ []))
 
   finish : Runs []
-  finish mode before held p n s = by (at_end_lem mode) refl (ends mode held s.holds)
+  finish mode before held p n s owes = by (at_end_lem mode) refl (ends mode held s.holds)
     where
       here : p ≡ place_past at (text_of before ++ held)
       here = s.place
@@ -374,7 +385,12 @@ module _ (at : Place) (full : List ℕ) (fits : Fits at full) where
       none : mode ≡ Plain → EndingOf mode before held p n None
       none g =
           let empty : held ≡ [] = subst (λ (m : Mode). Holds m held) g s.holds in
-          rw (g, empty) (end_given at before p n [] ending.Finished (s.place ∙ ap (λ (x : List ℕ). place_past at (text_of before ++ x)) empty ∙ ap (place_past at) (append-nil (text_of before))) (sym s.uncut) (at_end before s.uncut), refl)
+          let none_left : owed at before ≡ [] = ap (owed_at at before) (sym empty) ∙ owes in
+          rw (g, empty) (
+            ap (λ (x : List TextOut). x ∷ []) (end_given at before p n [] ending.Finished (s.place ∙ ap (λ (x : List ℕ). place_past at (text_of before ++ x)) empty ∙ ap (place_past at) (append-nil (text_of before))) (sym s.uncut) (at_end before s.uncut)
+                ∙ ap (λ (x : List TextOut). x ++ outs_end at before []) (sym none_left)),
+            refl,
+          )
 
       token : (k : Token) → at_end_lem mode ≡ Some k.kind → spelling k ≡ held → tokens held ≡ k ∷ [] → EndingOf mode before held p n (Some k.kind)
       token k e f g =
@@ -384,14 +400,14 @@ module _ (at : Place) (full : List ℕ) (fits : Fits at full) where
           let nb : n ≡ bytes_of (kept_of (k ∷ before)) = s.bytes ∙ ap (λ (x : List ℕ). bytes_of (kept_of before ++ x)) (kept_closing at before mode held k cl) in
           let pl : p ≡ place_of at (k ∷ before) = s.place ∙ ap (λ (x : List ℕ). place_past at (text_of before ++ x)) (sym f) in
           let st : token_stage (stage_at mode before p n) k.kind Other p ≡ stage_at Plain (k ∷ before) p n = rw nb (after_token mode before k p p Other [] all so pl) in
-          let given : outs_held at before mode held ++ token_outs (seen_of before) (spot_of at before p n) k.kind Other (bytes_of (kept_of before)) ≡ outs_at at before k =
-          rw nb (closed at before mode held k Other p (small_kept before k [] all) cl so) in
+          let given = closed at before mode held k Other p (small_kept before k [] all) cl so refl in
+          let owes_it : token_outs (seen_of before) (spot_of at before p n) k.kind Other (bytes_of (kept_of before)) ≡ owed at (k ∷ before) = rw nb given.1 in
           let last : end_outs (seen_of (k ∷ before)) (spot_of at (k ∷ before) p n) (end_by k.kind (place_of at before)) ≡ outs_end at (k ∷ before) [] =
           end_given at (k ∷ before) p n [] (end_by k.kind (place_of at before)) pl (cut_is k.kind (place_of at before)) (end_is k.kind (place_of at before)) in (
-            sym (append_assoc (outs_held at before mode held) (token_outs (seen_of before) (spot_of at before p n) k.kind Other (bytes_of (kept_of before))) _)
-                ∙ ap (λ (x : List TextOut). x ++ end_outs (token_stage (stage_at mode before p n) k.kind Other p).seen (token_stage (stage_at mode before p n) k.kind Other p).spot (end_by k.kind (place_of at before))) given
-                ∙ ap (λ (x : TextStage). outs_at at before k ++ end_outs x.seen x.spot (end_by k.kind (place_of at before))) st
-                ∙ ap (λ (x : List TextOut). outs_at at before k ++ x) last
+            ap (λ (x : TextStage). lists_held at before mode held ++ (token_outs (seen_of before) (spot_of at before p n) k.kind Other (bytes_of (kept_of before)) ++ end_outs x.seen x.spot (end_by k.kind (place_of at before))) ∷ []) st
+                ∙ ap (λ (x : List TextOut). lists_held at before mode held ++ (token_outs (seen_of before) (spot_of at before p n) k.kind Other (bytes_of (kept_of before)) ++ x) ∷ []) last
+                ∙ ap (λ (x : List TextOut). lists_held at before mode held ++ (x ++ outs_end at (k ∷ before) []) ∷ []) owes_it
+                ∙ ap (λ (x : List (List TextOut)). x ++ (owed at (k ∷ before) ++ outs_end at (k ∷ before) []) ∷ []) given.0
                 ∙ sym (whole_more at before k (held ++ []) [] (ap tokens (append-nil held) ∙ g) (ap (λ (x : List ℕ). x ++ []) (sym f))),
             sym (beyond_more k (held ++ []) [] (ap tokens (append-nil held) ∙ g) (ap (λ (x : List ℕ). x ++ []) (sym f))),
           )
@@ -405,7 +421,7 @@ module _ (at : Place) (full : List ℕ) (fits : Fits at full) where
   runs (c ∷ t) = step c t (runs t)
 
 -- a fresh machine gives what the definitions say of the text
-pub fresh_gives : (at : Place) (t : List ℕ) → Fits at t → (rest_of (fresh at) t ≡ outs at t) × (left_of (fresh at) t ≡ after_tokens t)
+pub fresh_gives : (at : Place) (t : List ℕ) → Fits at t → (rest_of (fresh at) t ≡ outs_by_point at t) × (left_of (fresh at) t ≡ after_tokens t)
 fresh_gives at t fits =
-    let r = runs at t fits t Plain [] [] at 0 (record { holds = refl; uncut = refl; place = refl; bytes = refl; all = refl }) in
+    let r = runs at t fits t Plain [] [] at 0 (record { holds = refl; uncut = refl; place = refl; bytes = refl; all = refl }) refl in
     (r.0 ∙ whole_is at t, r.1 ∙ sym (after_is t))

@@ -1,8 +1,12 @@
+pub mod Canonical
+pub mod Changes
 pub mod Machine
 pub mod Mode
 pub mod Name
 pub mod Outs
 pub mod Read
+pub mod Printed
+pub mod Said
 pub mod Step
 pub mod Told
 pub mod Token

@@ -1,5 +1,5 @@
 -- What a text gives as it is read: its kept characters, the parts of its view, its findings and its end.
-use Rattle.std.specs.Prelude.{ℕ, ◌+◌, ◌-◌, ◌<◌, ◌^◌, List, [], ◌∷◌, ◌++◌, Bool, true, false, cond, not, ◌&&◌, length, Option, Some, None, map, reverse, drop}
+use Rattle.std.specs.Prelude.{ℕ, ◌+◌, ◌-◌, ◌<◌, ◌^◌, List, [], ◌∷◌, ◌++◌, Bool, true, false, cond, not, ◌&&◌, length, Option, Some, None, map, reverse, drop, codes}
 use Rattle.gabc_places.specs.Place.{next_place}
 use Rattle.gabc_places.specs.declared.place.Place.{Place}
 use Rattle.gabc_places.specs.declared.place.Span.{Span}
@@ -18,7 +18,7 @@ use Rattle.gabc_text.specs.declared.stage.TextEnd.{TextEnd}
 use Rattle.gabc_text.specs.declared.stage.TextEnd.TheVariants as ending
 use Rattle.gabc_text.specs.declared.stage.TextOut.{TextOut}
 use Rattle.gabc_text.specs.declared.stage.TextOut.TheVariants as out
-use Rattle.gabc_text.specs.Token.{Token, spelling, tokens}
+use Rattle.gabc_text.specs.Token.{Token, spelling, tokens, is_text}
 use Rattle.gabc_text.specs.View.{along, sort, kind_of, is_open, is_space, is_left_out, follows_space, follows_blank, has_word, starts_word, has_translation, kept_at, text_of, place_of, bytes_of, begin_of, end_of, centre_by, count_pieces, early_codes, late_codes, found_at, findings_at_end, is_open_kind}
 
 -- the set of styles that are open
@@ -119,12 +119,12 @@ found_outs at before cs = map (λ (c : Code). out.Found (found_at (place_of at b
 abbrev pub early_outs : Place → List Token → Kind → List TextOut
 early_outs at before k = found_outs at before (early_codes before k)
 
+-- what is given of a token as a whole: its parts and its findings, but for a second translation's
+abbrev pub whole_outs : Place → List Token → Token → List TextOut
+whole_outs at before k = map (λ (p : TextPart). out.Part p) (parts_at before k) ++ found_outs at before (late_codes before k.kind (sort k))
+
 abbrev pub outs_at : Place → List Token → Token → List TextOut
-outs_at at before k =
-    early_outs at before k.kind
-    ++ (map (λ (c : Char). out.Kept c) (chars_at at before k)
-    ++ (map (λ (p : TextPart). out.Part p) (parts_at before k)
-    ++ found_outs at before (late_codes before k.kind (sort k))))
+outs_at at before k = early_outs at before k.kind ++ (map (λ (c : Char). out.Kept c) (chars_at at before k) ++ whole_outs at before k)
 
 -- how many pieces are given
 abbrev pub count_by : ℕ → Option Piece → ℕ
@@ -156,6 +156,60 @@ after_tokens t = drop (length (text_of (reverse (tokens t)))) t
 -- what a text gives whose first character stands at this place
 abbrev pub outs : Place → List ℕ → List TextOut
 outs at t = along (outs_at at) [] (tokens t) ++ outs_end at (reverse (tokens t)) (after_tokens t)
+
+-- ---- the outputs by their points: a list for each character
+
+-- a list of nothing for each
+abbrev pub nothing_each : List ℕ → List (List TextOut)
+nothing_each t = map (λ _. []) t
+
+abbrev pub kept_each : Place → List ℕ → List (List TextOut)
+kept_each p t = map (λ (c : Char). out.Kept c ∷ []) (placed_from p t)
+
+-- what is kept of each character of a token of this kind and spelling
+abbrev pub kept_lists_by : Place → List Token → Kind → List ℕ → List (List TextOut)
+kept_lists_by at before k s =
+    cond (is_left_out before k) (nothing_each s)
+    (cond (is_space k) (cond (follows_space before) [] (out.Kept (record { c = 32; place = place_of at before }) ∷ []) ∷ [])
+    (kept_each (place_of at before) s))
+
+-- a `$` that is no escape shows only by the character after it, or by the end, that it stands for itself
+abbrev pub is_lone : Token → Bool
+is_lone k = is_text (codes "$") (spelling k)
+
+-- what a token gives with its last character
+abbrev pub now_outs : Place → List Token → Token → List TextOut
+now_outs at before k = cond (is_lone k) [] (whole_outs at before k)
+
+-- what the last of the tokens before gives with the character after it, or with the end
+abbrev pub owed : Place → List Token → List TextOut
+owed at [] = []
+owed at (k ∷ before) = cond (is_lone k) (whole_outs at before k) []
+
+abbrev pub with_first : List TextOut → List (List TextOut) → List (List TextOut)
+with_first xs [] = []
+with_first xs (ys ∷ lists) = (xs ++ ys) ∷ lists
+
+abbrev pub with_last : List TextOut → List (List TextOut) → List (List TextOut)
+with_last xs [] = []
+with_last xs (ys ∷ []) = (ys ++ xs) ∷ []
+with_last xs (ys ∷ zs ∷ lists) = ys ∷ with_last xs (zs ∷ lists)
+
+-- What is given with each character of a token: with its first what the token before owes and the finding of a second
+-- translation, then what is kept of each, and with its last the rest.
+abbrev pub lists_at : Place → List Token → Token → List (List TextOut)
+lists_at at before k =
+    with_last (now_outs at before k)
+    (with_first (owed at before ++ early_outs at before k.kind)
+    (kept_lists_by at before k.kind (spelling k)))
+
+-- what is given with the character after the tokens, or with the end, and then nothing
+abbrev pub lists_end : Place → List Token → List ℕ → List (List TextOut)
+lists_end at before rest = (owed at before ++ outs_end at before rest) ∷ nothing_each rest
+
+-- What a text gives whose first character stands at this place: a list for each of its characters, and one for the end.
+abbrev pub outs_by_point : Place → List ℕ → List (List TextOut)
+outs_by_point at t = along (lists_at at) [] (tokens t) ++ lists_end at (reverse (tokens t)) (after_tokens t)
 
 -- no count of a text that begins at this place reaches its last value
 pub record Fits (at : Place) (t : List ℕ) : Type 0 where

@@ -3,7 +3,7 @@
 ghost use Rattle.std.specs.Prelude.{◌≡◌, ℕ, ◌+◌, ◌≤◌, List, length};
 ghost use Rattle.gabc_places.specs.Held.{HasRoom, added};
 ghost use Rattle.gabc_text.specs.Step.{up, later, option_list, part_lem, span_lem, pending_lem, spot_lem, token_stage, token_outs, settle_stage, settle_outs, read_stage, read_outs, keep_spot, end_outs, end_stage, push_stage, push_outs, finish_stage, finish_outs, fresh, is_piece_lem, char_out, found_out, centre_lem, part_out_lem, piece_out_lem, centre_out_lem, is_cut_lem, style_code_lem, centre_code_lem, end_by, rest_of};
-ghost use Rattle.gabc_text.specs.Outs.{Fits, codes_of, outs};
+ghost use Rattle.gabc_text.specs.Outs.{Fits, codes_of, outs_by_point};
 
 use crate::mode::{Mode, Went, at_end, go, is_plain, settled};
 use crate::seen::{Seen, after, code_at, early_at, keep, nothing_seen, piece_at};
@@ -63,7 +63,8 @@ pub(crate) struct Spot {
     end: Option<usize>,
 }
 
-/// Reads a text, one character at a time, up to the `(` of its notes. It asks for no memory.
+/// Reads a text, one character at a time, up to the `(` of its notes (GregorioRef, "Syllable Text Syntax"). What a character
+/// makes known is given with it; after the `(` nothing is given. It asks for no memory.
 #[derive(Clone, Copy)]
 pub struct TextStage {
     mode: Mode,
@@ -326,10 +327,11 @@ fn centre_code(seen: Seen, how: TextEnd) -> Option<Code>
 }
 
 impl TextStage {
-    /// A machine that has read nothing. The first character stands at this place.
+    /// A machine that has read nothing. The first character stands at this place. Spans that it tells count bytes of the kept
+    /// text, a centre counts pieces. A count that has reached its last value stays there.
     pub fn new(at: Place) -> TextStage
         ensures fresh { result ≡ fresh at }
-        ensures gives { (t : List ℕ) → Fits at t → rest_of result t ≡ outs at t }
+        ensures gives { (t : List ℕ) → Fits at t → rest_of result t ≡ outs_by_point at t }
     {
         TextStage {
             mode: Mode::Plain,

@@ -3,7 +3,7 @@
 ghost use Rattle.std.specs.Prelude.{◌≡◌};
 ghost use Rattle.gabc_text.specs.Machine.{has_lem, with_lem, is_empty_lem};
 
-/// The styles, in the order in which they are printed.
+/// The styles of a text, in the order in which they are printed (GregorioRef, "Syllable Text Syntax").
 #[derive(Clone, Copy, Debug, PartialEq, Eq)]
 pub enum Style {
     B,

@@ -1,7 +1,9 @@
 //! The pieces of a text.
 
 ghost use Rattle.std.specs.Prelude.{◌≡◌, [], ◌∷◌, ◌++◌, OnOk, OnErr};
+ghost use Rattle.gabc_text.specs.Told.{nothing_in_view, with_part};
 
+use crate::stage::TextPart;
 use crate::styles::Styles;
 use gabc_places::{Place, Span};
 use smallvec::SmallVec;
@@ -100,8 +102,36 @@ pub struct TextView {
     /// Whether the syllable begins a word.
     pub word_start: bool,
     pub pieces: Pieces,
-    /// The centre: from and to how many pieces.
+    /// The centre: from and to how many pieces (GregorioRef, "Lyric Centering").
     pub centre: Option<Span>,
-    /// The first translation without its brackets, in bytes of the kept text.
+    /// The first translation without its brackets, in bytes of the kept text (GregorioRef, "Translation Text").
     pub translation: Option<Span>,
+}
+
+impl TextView {
+    /// A view that says nothing.
+    pub fn new(alloc: Global) -> TextView
+        ensures { result ≡ nothing_in_view }
+    {
+        TextView {
+            word_start: false,
+            pieces: Pieces::new(alloc),
+            centre: None,
+            translation: None,
+        }
+    }
+
+    /// Adds what the machine told of a text. If there is no memory, the view is as it was.
+    pub fn add(&mut self, part: TextPart) -> Result<(), AllocError>
+        ensures added { OnOk result (self.new ≡ with_part self.old part) }
+        ensures unchanged { OnErr result (self.new ≡ self.old) }
+    {
+        match part {
+            TextPart::WordStart => self.word_start = true,
+            TextPart::Piece(piece) => self.pieces.push(piece)?,
+            TextPart::Centre(span) => self.centre = Some(span),
+            TextPart::Translation(span) => self.translation = Some(span),
+        }
+        Ok(())
+    }
 }

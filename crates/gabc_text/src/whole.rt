@@ -2,12 +2,12 @@
 
 ghost use Rattle.std.specs.Prelude.{◌≡◌, ◌+◌, ◌^◌, ◌<◌, [], length, IfOk, OnOk, string_bytes};
 ghost use Rattle.std.specs.Str.{chars};
-ghost use Rattle.gabc_text.specs.Told.{told_of, with_out, with_part, told_after, nothing_told, how_of_end};
+ghost use Rattle.gabc_text.specs.Told.{told_of, with_out, told_after, nothing_told, how_of_end};
 ghost use Rattle.gabc_text.specs.Read.{IsRead};
 ghost use Rattle.gabc_text.specs.Step.{push_stage, push_outs, finish_outs};
 
-use crate::stage::{TextEnd, TextOut, TextPart, TextStage};
-use crate::view::{How, Pieces, TextView};
+use crate::stage::{TextEnd, TextOut, TextStage};
+use crate::view::{How, TextView};
 use gabc_places::{Findings, Place, Room};
 use std::alloc::{AllocError, Global};
 
@@ -30,31 +30,13 @@ struct Reading {
     end: TextEnd,
 }
 
-/// Adds a part to a view.
-fn add_part(view: &mut TextView, part: TextPart) -> Result<(), AllocError>
-    ensures { OnOk result (view.new ≡ with_part view.old part) }
-{
-    match part {
-        TextPart::WordStart => view.word_start = true,
-        TextPart::Piece(piece) => view.pieces.push(piece)?,
-        TextPart::Centre(span) => view.centre = Some(span),
-        TextPart::Translation(span) => view.translation = Some(span),
-    }
-    Ok(())
-}
-
 impl Reading {
     fn new(alloc: Global) -> Reading
         ensures { told_of result ≡ nothing_told }
     {
         Reading {
             kept: String::new(alloc),
-            view: TextView {
-                word_start: false,
-                pieces: Pieces::new(alloc),
-                centre: None,
-                translation: None,
-            },
+            view: TextView::new(alloc),
             findings: Findings::new(alloc),
             end: TextEnd::Finished,
         }
@@ -66,7 +48,7 @@ impl Reading {
     {
         match out {
             TextOut::Kept(kept) => self.kept.push(kept.c)?,
-            TextOut::Part(part) => add_part(&mut self.view, part)?,
+            TextOut::Part(part) => self.view.add(part)?,
             TextOut::Found(finding) => self.findings.push(finding)?,
             TextOut::Ended(end) => self.end = end,
         }
@@ -143,7 +125,8 @@ fn how_of(end: TextEnd, index: usize) -> How
     }
 }
 
-/// The text of a syllable, up to its `(` or the end of `body`. The first character of `body` stands at this place.
+/// The text of a syllable, up to its `(` or the end of `body` (GregorioRef, "Syllable Text Syntax"). The first character of
+/// `body` stands at this place. It fails only if there is no memory.
 pub fn text_whole(alloc: Global, body: &str, at: Place) -> Result<TextRead, AllocError>
     requires line { at.line + length body.now < 2 ^ 64 }
     requires column { at.column + length body.now < 2 ^ 64 }

@@ -1,21 +1,22 @@
 -- How a run ends.
-use Rattle.std.proofs.Common.{◌≡◌, ℕ, ◌<◌, List, ◌++◌, take, Bool, true, false, cond, Option, Some, None, Result, Ok, Err, refl, sym, ap, ◌∙◌, subst, inr, inl}
+use Rattle.std.proofs.Common.{◌≡◌, ℕ, ◌<◌, List, take, Bool, true, false, Option, Some, None, refl, sym, ap, ◌∙◌, subst}
 use Rattle.std.specs.Io.KnownBytes.{Appends, Keeps}
 use Rattle.std.specs.List.{list_any}
 use Rattle.gabc_places.specs.declared.limits.Limits.{Limits}
 use Rattle.gabc_places.specs.declared.code.Fault.{Fault}
-use Rattle.gabc_headers.specs.declared.heads.Heads.{Heads}
-use Rattle.gabc_headers.specs.declared.heads.HeadFault.{HeadFault}
-use Rattle.gabc_headers.specs.Heads.{heads_of}
+use Rattle.gabc_places.specs.declared.decoded.Decoded.{Decoded}
+use Rattle.gabc_score.specs.declared.ending.Ending as score
+use Rattle.gabc_score.specs.declared.score.Score.{Score}
+use Rattle.gabc_score.specs.Score.{score_of}
 use Rattle.gabc_places.specs.Text.{decoded_of}
 use Rattle.gregorio.specs.declared.given.Ending.{Ending}
 use Rattle.gregorio.specs.declared.given.Ending.TheVariants.{Whole as Ended, Broken}
 use Rattle.gregorio.specs.declared.job.Job.{Job}
 use Rattle.gregorio.specs.declared.job.Status.{Status}
-use Rattle.gregorio.specs.declared.job.Status.TheVariants.{Whole, Errors, Fatal, ReadFault, WriteFault, NoMemory}
+use Rattle.gregorio.specs.declared.job.Status.TheVariants.{ReadFault}
 use Rattle.gregorio.specs.declared.outcome.Outcome.{Outcome}
-use Rattle.gregorio.specs.Compiles.{Use, Input, Done, OutputCut, MessagesCut, Compiles}
-use Rattle.gregorio.specs.Outcome.{is_whole, at_end, stopped, outcome_by, outcome_of, output_of, messages_of, status_by, status_of, is_error_finding}
+use Rattle.gregorio.specs.Compiles.{Use, Done, OutputCut, MessagesCut, Compiles}
+use Rattle.gregorio.specs.Outcome.{is_whole, ending_by, is_cut_short, outcome_of, output_of, messages_of, status_by, status_of, is_error_finding}
 use Rattle.gregorio.specs.Reads.{Reads}
 
 module _ (job : Job) (limits : Limits) (source out messages : Use) where
@@ -36,7 +37,7 @@ module _ (job : Job) (limits : Limits) (source out messages : Use) where
       let m : Outcome = outcome_of limits ending bytes in
       let e : status ≡ status_of m = s ∙ ap status_of o in
       let d : Done job limits source out messages (status_of m) = record { input = record { bytes = bytes; ending = ending; reads = r }; written = w'; told = t'; ends = refl } in
-      subst (λ (x : Status). Compiles job limits source out messages x) (sym e) (done_by m.fault m.broken (list_any is_error_finding m.findings) d)
+      subst (λ (x : Status). Compiles job limits source out messages x) (sym e) (done_by m.score.fault m.broken (list_any is_error_finding m.score.findings) d)
 
   -- a run whose messages were cut
   pub runs_cut : (bytes : List ℕ) (ending : Ending) (outcome : Outcome) (output told : List ℕ) (n : ℕ)
@@ -64,24 +65,23 @@ module _ (job : Job) (limits : Limits) (source out messages : Use) where
     failed = f;
   }
 
+-- what is made of an input, part by part
+pub outcome_by_parts : (limits : Limits) (ending : Ending) (bytes : List ℕ) (ended : Bool) (decoded : Decoded) (how : score.Ending) (made : Score) (broken : Bool)
+    → ended ≡ is_whole ending → decoded ≡ decoded_of limits ended bytes → how ≡ ending_by ending decoded.fault → made ≡ score_of limits how decoded.text
+    → broken ≡ is_cut_short ending made.fault → record { score = made; broken = broken } ≡ outcome_of limits ending bytes
+outcome_by_parts limits ending bytes ended decoded how made broken e d h m b = rw (b, m, h, d, e) refl
+
 -- a read fault comes of a source that failed
-whole_status : (b : Bool) → status_by None false b ≡ ReadFault → ⊥
-whole_status true e = cc
-whole_status false e = cc
-
-ended_status : (b : Bool) (f : Option Fault) (stop : HeadFault) → status_of (cond {A = Outcome} b (at_end Ended f stop) (record { book = None; findings = stop.findings; fault = Some stop.fault; broken = false })) ≡ ReadFault → ⊥
-ended_status true (Some f) stop e = cc
-ended_status true None stop e = cc
-ended_status false f stop e = cc
-
-broken_by : (e : Ending) (f : Option Fault) (h : Result Heads HeadFault) → status_of (outcome_by e f h) ≡ ReadFault → e ≡ Broken
-broken_by Broken f h s = refl
-broken_by Ended f (Ok heads) s = absurd (whole_status (list_any is_error_finding heads.findings) s)
-broken_by Ended f (Err stop) s = absurd (ended_status stop.at_end f stop s)
+broken_by : (ending : Ending) (fault : Option Fault) (errors : Bool) → status_by fault (is_cut_short ending fault) errors ≡ ReadFault → ending ≡ Broken
+broken_by Broken fault errors s = refl
+broken_by Ended (Some fault) errors s = cc
+broken_by Ended None true s = cc
+broken_by Ended None false s = cc
 
 pub read_fault_broken : (limits : Limits) (ending : Ending) (bytes : List ℕ) → status_of (outcome_of limits ending bytes) ≡ ReadFault → ending ≡ Broken
 read_fault_broken limits ending bytes s =
-    broken_by ending (decoded_of limits (is_whole ending) bytes).fault (heads_of limits (decoded_of limits (is_whole ending) bytes).text) s
+    let m = outcome_of limits ending bytes in
+    broken_by ending m.score.fault (list_any is_error_finding m.score.findings) s
 
 pub keeps_same : (known : Option (List ℕ)) → Keeps known known
 keeps_same None = tt

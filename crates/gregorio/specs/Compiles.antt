@@ -1,5 +1,5 @@
 -- What a run does to its source and its sinks.
-use Rattle.std.specs.Prelude.{◌≡◌, ℕ, ◌<◌, ◌≤◌, List, take, Option, ◌⊎◌}
+use Rattle.std.specs.Prelude.{◌≡◌, ℕ, ◌<◌, List, take, Option, ◌⊎◌}
 use Rattle.std.specs.Io.KnownBytes.{Appends, Keeps}
 use Rattle.gabc_places.specs.declared.limits.Limits.{Limits}
 use Rattle.gregorio.specs.declared.given.Ending.{Ending}

@@ -1,18 +1,19 @@
 -- What a run makes of its input, and what it writes: functions of the job, the limits, the bytes that the source gave and how it stopped.
-use Rattle.std.specs.Prelude.{ℕ, List, [], ◌∷◌, ◌++◌, Bool, true, false, ◌||◌, not, filter, Option, Some, None, Result, Ok, Err, codes, encode_utf8_all, if◌then◌else◌}
+use Rattle.std.specs.Prelude.{ℕ, List, [], ◌++◌, Bool, true, false, ◌||◌, not, Option, Some, None, codes, encode_utf8_all, if◌then◌else◌}
 use Rattle.std.specs.List.{flat_map, list_any}
 use Rattle.gabc_places.specs.declared.limits.Limits.{Limits}
-use Rattle.gabc_places.specs.declared.code.Code.{Code}
 use Rattle.gabc_places.specs.declared.code.Kind.{Kind}
-use Rattle.gabc_places.specs.declared.code.Kind.TheVariants.{Warning, Error, Fatal}
+use Rattle.gabc_places.specs.declared.code.Kind.TheVariants.{Warning, Error}
 use Rattle.gabc_places.specs.declared.code.Finding.{Finding}
 use Rattle.gabc_places.specs.declared.code.Fault.{Fault}
 use Rattle.gabc_places.specs.Code.{kind_of}
 use Rattle.gabc_places.specs.Text.{decoded_of}
-use Rattle.gabc_headers.specs.declared.heads.Heads.{Heads}
-use Rattle.gabc_headers.specs.declared.heads.HeadFault.{HeadFault}
 use Rattle.gabc_headers.specs.Canonical.{canonical_heads}
-use Rattle.gabc_headers.specs.Heads.{heads_of}
+use Rattle.gabc_score.specs.declared.ending.Ending as score
+use Rattle.gabc_score.specs.declared.ending.Ending.TheVariants as score_ending
+use Rattle.gabc_score.specs.Syllable.{Said}
+use Rattle.gabc_score.specs.Canonical.{canonical, starts_word}
+use Rattle.gabc_score.specs.Score.{score_of}
 use Rattle.gregorio.specs.declared.given.Ending.{Ending}
 use Rattle.gregorio.specs.declared.given.Ending.TheVariants.{Whole as Ended, Broken}
 use Rattle.gregorio.specs.declared.job.Input.{Input}
@@ -21,7 +22,7 @@ use Rattle.gregorio.specs.declared.job.Job.{Job}
 use Rattle.gregorio.specs.declared.job.Status.{Status}
 use Rattle.gregorio.specs.declared.job.Status.TheVariants.{Whole, Errors, Fatal as FatalFault, ReadFault}
 use Rattle.gregorio.specs.declared.outcome.Outcome.{Outcome}
-use Rattle.gregorio.specs.Message.{message_line}
+use Rattle.gabc_write.specs.Message.{line_of}
 
 -- ---- the outcome
 
@@ -29,37 +30,40 @@ abbrev pub is_whole : Ending → Bool
 is_whole Ended = true
 is_whole Broken = false
 
--- The text has no line `%%` and stops at its end. What stopped the text stops the run; else the source's failure does;
--- else the end itself.
-abbrev pub at_end : Ending → Option Fault → HeadFault → Outcome
-at_end ending (Some fault) stop = record { book = None; findings = stop.findings; fault = Some fault; broken = false }
-at_end Broken None stop = record { book = None; findings = stop.findings; fault = None; broken = true }
-at_end Ended None stop = record { book = None; findings = stop.findings; fault = Some stop.fault; broken = false }
+-- how the text ended: at the fault that stopped it, or else as the source did
+abbrev pub ending_by : Ending → Option Fault → score.Ending
+ending_by ending (Some fault) = score_ending.At fault
+ending_by Broken None = score_ending.Broken
+ending_by Ended None = score_ending.Whole
 
-abbrev pub stopped : Ending → Option Fault → HeadFault → Outcome
-stopped ending fault stop = if stop.at_end
-    then at_end ending fault stop
-    else record { book = None; findings = stop.findings; fault = Some stop.fault; broken = false }
-
--- Behind the line `%%` the input counts as ended, whatever follows, since syllables are not read yet.
-abbrev pub outcome_by : Ending → Option Fault → Result Heads HeadFault → Outcome
-outcome_by ending fault (Ok heads) = record { book = Some heads.book; findings = heads.findings; fault = None; broken = false }
-outcome_by ending fault (Err stop) = stopped ending fault stop
+-- the source failed, and no fault stops the run
+abbrev pub is_cut_short : Ending → Option Fault → Bool
+is_cut_short Broken None = true
+is_cut_short ending fault = false
 
 abbrev pub outcome_of : Limits → Ending → List ℕ → Outcome
 outcome_of limits ending bytes =
     let decoded = decoded_of limits (is_whole ending) bytes in
-    outcome_by ending decoded.fault (heads_of limits decoded.text)
+    let score = score_of limits (ending_by ending decoded.fault) decoded.text in
+    record { score = score; broken = is_cut_short ending score.fault }
 
 -- ---- what is written
 
--- the canonical file: the header lines, `%%` and LF
-abbrev pub canonical_file : Option (List (List ℕ × List ℕ)) → List ℕ
-canonical_file None = []
-canonical_file (Some book) = encode_utf8_all (canonical_heads book ++ codes "\n")
+-- the canonical texts of the syllables
+abbrev pub canonical_text_of : List Said → List ℕ
+canonical_text_of syllables = flat_map (λ (s : Said). canonical (starts_word s.position) s.made) syllables
+
+-- the header lines, `%%`, the syllables and LF
+abbrev pub score_text : List (List ℕ × List ℕ) → List Said → List ℕ
+score_text book syllables = encode_utf8_all (canonical_heads book) ++ (canonical_text_of syllables ++ codes "\n")
+
+-- the canonical file; nothing, where the headers are not whole
+abbrev pub canonical_file : Option (List (List ℕ × List ℕ)) → List Said → List ℕ
+canonical_file None syllables = []
+canonical_file (Some book) syllables = score_text book syllables
 
 abbrev pub output_of : Outcome → List ℕ
-output_of outcome = canonical_file outcome.book
+output_of outcome = canonical_file outcome.score.book outcome.score.syllables
 
 abbrev pub is_warning : Kind → Bool
 is_warning Warning = true
@@ -69,16 +73,16 @@ abbrev pub is_error : Kind → Bool
 is_error Error = true
 is_error kind = false
 
--- the findings that are written: warnings only where all are wanted
+-- a finding is written: warnings only where all are wanted
 abbrev pub is_shown : Bool → Finding → Bool
 is_shown all_warnings finding = all_warnings || not (is_warning (kind_of finding.code))
 
-abbrev pub finding_lines : List ℕ → List Finding → List ℕ
-finding_lines name findings = flat_map (λ (f : Finding). message_line name f.place f.code) findings
+abbrev pub shown_line : List ℕ → Bool → Finding → List ℕ
+shown_line name all_warnings f = if is_shown all_warnings f then line_of name f.place f.code else []
 
 abbrev pub fault_line : List ℕ → Option Fault → List ℕ
 fault_line name None = []
-fault_line name (Some fault) = message_line name fault.place fault.code
+fault_line name (Some fault) = line_of name fault.place fault.code
 
 -- what messages call the input
 abbrev pub input_name : Input → List ℕ
@@ -88,7 +92,7 @@ input_name (File name) = name
 -- the lines of the findings, and last that of the fatal fault
 abbrev pub messages_of : Job → Outcome → List ℕ
 messages_of job outcome =
-    finding_lines (input_name job.input) (filter (is_shown job.all_warnings) outcome.findings) ++ fault_line (input_name job.input) outcome.fault
+    flat_map (shown_line (input_name job.input) job.all_warnings) outcome.score.findings ++ fault_line (input_name job.input) outcome.score.fault
 
 abbrev pub status_by : Option Fault → Bool → Bool → Status
 status_by (Some fault) broken errors = FatalFault
@@ -101,4 +105,4 @@ is_error_finding finding = is_error (kind_of finding.code)
 
 -- a fatal fault hides the source's failure and errors, and a failure hides errors
 abbrev pub status_of : Outcome → Status
-status_of outcome = status_by outcome.fault outcome.broken (list_any is_error_finding outcome.findings)
+status_of outcome = status_by outcome.score.fault outcome.broken (list_any is_error_finding outcome.score.findings)

@@ -1,64 +1,51 @@
 //! The canonical file.
 
-ghost use Rattle.std.specs.Prelude.{◌≡◌, ◌++◌, OnOk, string_bytes, encode_utf8_all, Some};
-ghost use Rattle.std.specs.Str.{chars};
-ghost use Rattle.gabc_headers.specs.Canonical.{header_line, wants_lines};
-ghost use Rattle.gabc_headers.specs.Lines.{lines};
-ghost use Rattle.gregorio.specs.Frame.{before_value, after_value};
-ghost use Rattle.gregorio.specs.Outcome.{canonical_file};
+ghost use Rattle.std.specs.Prelude.{◌≡◌, ◌++◌, ◌+◌, ◌-◌, ◌^◌, min, length, map};
+ghost use Rattle.gabc_places.specs.Held.{HasRoom, added};
+ghost use Rattle.gabc_score.specs.Syllable.{said};
+ghost use Rattle.gregorio.specs.Outcome.{canonical_text_of, score_text};
 
-use gabc_headers::{HeaderBook, wants_own_lines};
-use std::alloc::AllocError;
+use gabc_headers::HeaderBook;
+use gabc_places::Room;
+use gabc_score::Syllable;
+use gabc_write::{canon_header, canon_len, canon_syllable};
 
-/// What stands round the value of a header.
-#[derive(Clone, Copy)]
-struct Frame {
-    before: &'static str,
-    after: &'static str,
+/// The number of bytes of the canonical texts of the syllables; or the last value, if that is less.
+fn syllables_len(syllables: &[Syllable]) -> usize
+    ensures { result ≡ min (length (canonical_text_of (map said syllables.now))) (2 ^ 64 - 1) }
+{
+    let mut len: usize = 0;
+    for syllable in syllables {
+        len = len.saturating_add(canon_len(syllable));
+    }
+    len
 }
 
-/// What stands round this value: an empty value has no blank before it, and a value on its own lines ends with two `;`.
-fn frame_of(value: &str) -> Frame
-    ensures before { result.before.now ≡ before_value (wants_lines (lines (chars value.now))) (chars value.now) }
-    ensures after { result.after.now ≡ after_value (wants_lines (lines (chars value.now))) (chars value.now) }
+/// The number of bytes of the canonical file; or the last value, if that is less.
+pub(crate) fn file_len(book: &HeaderBook, syllables: &[Syllable]) -> usize
+    ensures { result ≡ min (length (score_text book.now (map said syllables.now))) (2 ^ 64 - 1) }
 {
-    if value.is_empty() {
-        Frame {
-            before: ":",
-            after: ";\n",
-        }
-    } else if wants_own_lines(value) {
-        Frame {
-            before: ":\n ",
-            after: ";;\n",
-        }
-    } else {
-        Frame {
-            before: ": ",
-            after: ";\n",
-        }
+    book.canonical_len()
+        .saturating_add(syllables_len(syllables))
+        .saturating_add(1)
+}
+
+/// Adds the canonical texts of the syllables.
+fn add_syllables(syllables: &[Syllable], out: &mut Room<u8>)
+    requires { HasRoom out.old (length (canonical_text_of (map said syllables.now))) }
+    ensures { out.new ≡ added out.old (canonical_text_of (map said syllables.now)) }
+{
+    for syllable in syllables {
+        canon_syllable(syllable, out);
     }
 }
 
-/// Adds the canonical line, or lines, of a header.
-fn push_header(out: &mut String, name: &str, value: &str) -> Result<(), AllocError>
-    ensures { OnOk result (string_bytes out.new ≡ string_bytes out.old ++ encode_utf8_all (header_line (chars name.now, chars value.now))) }
+/// Adds the canonical file: the header lines, `%%`, the syllables and LF.
+pub(crate) fn add_file(book: &HeaderBook, syllables: &[Syllable], out: &mut Room<u8>)
+    requires { HasRoom out.old (length (score_text book.now (map said syllables.now))) }
+    ensures { out.new ≡ added out.old (score_text book.now (map said syllables.now)) }
 {
-    let frame = frame_of(value);
-    out.push_str(name)?;
-    out.push_str(frame.before)?;
-    out.push_str(value)?;
-    out.push_str(frame.after)?;
-    Ok(())
-}
-
-/// Adds the canonical file: the header lines, `%%` and LF.
-pub(crate) fn push_file(out: &mut String, book: &HeaderBook) -> Result<(), AllocError>
-    ensures { OnOk result (string_bytes out.new ≡ string_bytes out.old ++ canonical_file (Some book.now)) }
-{
-    for index in 0..book.len() {
-        push_header(out, book.name(index), book.value(index))?;
-    }
-    out.push_str("%%\n")?;
-    Ok(())
+    canon_header(book, out);
+    add_syllables(syllables, out);
+    out.append(b"\n");
 }

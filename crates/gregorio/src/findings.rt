@@ -1,14 +1,14 @@
 //! What is told of findings and the fault.
 
-ghost use Rattle.std.specs.Prelude.{◌≡◌, ◌++◌, OnOk, string_bytes};
-ghost use Rattle.gregorio.specs.Outcome.{messages_of, status_of as status_of_outcome, input_name as name_of_input, is_shown as shown, is_error_finding};
-ghost use Rattle.std.specs.List.{list_any};
+ghost use Rattle.std.specs.Prelude.{◌≡◌, ◌-◌, ◌^◌, min, length};
+ghost use Rattle.std.specs.List.{flat_map, list_any};
+ghost use Rattle.gabc_places.specs.Held.{HasRoom, added};
+ghost use Rattle.gregorio.specs.Outcome.{messages_of, status_of as status_of_outcome, input_name as name_of_input, is_shown as shown, shown_line, fault_line, is_error_finding};
 
 use crate::job::{Input, Job, Status};
-use crate::message::push_message;
 use crate::outcome::Outcome;
-use gabc_places::{Finding, Kind};
-use std::alloc::AllocError;
+use gabc_places::{Fault, Finding, Kind, Room};
+use gabc_write::{message_len, message_line};
 
 /// What messages call the input.
 fn input_name(input: &Input) -> &str
@@ -27,24 +27,89 @@ fn is_shown(all_warnings: bool, finding: Finding) -> bool
     all_warnings || finding.code.kind() != Kind::Warning
 }
 
-/// Adds the lines of the findings, and last that of the fatal fault.
-pub(crate) fn push_messages(
-    out: &mut String,
-    job: &Job,
-    outcome: &Outcome,
-) -> Result<(), AllocError>
-    ensures { OnOk result (string_bytes out.new ≡ string_bytes out.old ++ messages_of job.now outcome.now) }
+/// The number of bytes of the line of a finding, if it is written.
+fn finding_len(name: &str, all_warnings: bool, finding: Finding) -> usize
+    ensures { result ≡ length (shown_line name.now all_warnings finding) }
+{
+    if is_shown(all_warnings, finding) {
+        message_len(name, finding.place, finding.code)
+    } else {
+        0
+    }
+}
+
+/// The number of bytes of the lines of the findings that are written; or the last value, if that is less.
+fn findings_len(name: &str, all_warnings: bool, findings: &[Finding]) -> usize
+    ensures { result ≡ min (length (flat_map (shown_line name.now all_warnings) findings.now)) (2 ^ 64 - 1) }
+{
+    let mut len: usize = 0;
+    for finding in findings {
+        len = len.saturating_add(finding_len(name, all_warnings, *finding));
+    }
+    len
+}
+
+/// The number of bytes of the line of the fatal fault, if there is one.
+fn fault_len(name: &str, fault: Option<Fault>) -> usize
+    ensures { result ≡ length (fault_line name.now fault) }
+{
+    match fault {
+        Some(fault) => message_len(name, fault.place, fault.code),
+        None => 0,
+    }
+}
+
+/// The number of bytes of all messages; or the last value, if that is less.
+pub(crate) fn messages_len(job: &Job, outcome: &Outcome) -> usize
+    ensures { result ≡ min (length (messages_of job.now outcome.now)) (2 ^ 64 - 1) }
 {
     let name = input_name(&job.input);
-    for finding in outcome.findings.as_slice() {
-        if is_shown(job.all_warnings, *finding) {
-            push_message(out, name, finding.place, finding.code)?;
-        }
+    let findings = outcome.score.findings.as_slice();
+    findings_len(name, job.all_warnings, findings).saturating_add(fault_len(
+        name,
+        outcome.score.fault,
+    ))
+}
+
+/// Adds the line of a finding, if it is written.
+fn add_finding(name: &str, all_warnings: bool, finding: Finding, out: &mut Room<u8>)
+    requires { HasRoom out.old (length (shown_line name.now all_warnings finding)) }
+    ensures { out.new ≡ added out.old (shown_line name.now all_warnings finding) }
+{
+    if is_shown(all_warnings, finding) {
+        message_line(name, finding.place, finding.code, out);
     }
-    if let Some(fault) = outcome.fault {
-        push_message(out, name, fault.place, fault.code)?;
+}
+
+/// Adds the lines of the findings that are written.
+fn add_findings(name: &str, all_warnings: bool, findings: &[Finding], out: &mut Room<u8>)
+    requires { HasRoom out.old (length (flat_map (shown_line name.now all_warnings) findings.now)) }
+    ensures { out.new ≡ added out.old (flat_map (shown_line name.now all_warnings) findings.now) }
+{
+    for finding in findings {
+        add_finding(name, all_warnings, *finding, out);
     }
-    Ok(())
+}
+
+/// Adds the line of the fatal fault, if there is one.
+fn add_fault(name: &str, fault: Option<Fault>, out: &mut Room<u8>)
+    requires { HasRoom out.old (length (fault_line name.now fault)) }
+    ensures { out.new ≡ added out.old (fault_line name.now fault) }
+{
+    if let Some(fault) = fault {
+        message_line(name, fault.place, fault.code, out);
+    }
+}
+
+/// Adds the lines of the findings, and last that of the fatal fault.
+pub(crate) fn add_messages(job: &Job, outcome: &Outcome, out: &mut Room<u8>)
+    requires { HasRoom out.old (length (messages_of job.now outcome.now)) }
+    ensures { out.new ≡ added out.old (messages_of job.now outcome.now) }
+{
+    let name = input_name(&job.input);
+    let findings = outcome.score.findings.as_slice();
+    add_findings(name, job.all_warnings, findings, out);
+    add_fault(name, outcome.score.fault, out);
 }
 
 /// Whether one of the findings is an error.
@@ -58,8 +123,8 @@ fn has_errors(findings: &[Finding]) -> bool
 pub(crate) fn status_of(outcome: &Outcome) -> Status
     ensures { result ≡ status_of_outcome outcome.now }
 {
-    let errors = has_errors(outcome.findings.as_slice());
-    match (outcome.fault, outcome.broken, errors) {
+    let errors = has_errors(outcome.score.findings.as_slice());
+    match (outcome.score.fault, outcome.broken, errors) {
         (Some(_), _, _) => Status::Fatal,
         (None, true, _) => Status::ReadFault,
         (None, false, true) => Status::Errors,

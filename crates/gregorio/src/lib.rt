@@ -5,7 +5,6 @@ mod canonical;
 mod findings;
 mod given;
 mod job;
-mod message;
 mod name;
 mod outcome;
 mod read_all;
@@ -15,6 +14,3 @@ pub use given::Ending;
 pub use job::{Format, Input, Job, Output, Status};
 pub use name::Name;
 pub use run::compile;
-
-#[cfg(test)]
-mod tests;

@@ -1,48 +1,38 @@
 //! A run from its source to its sinks.
 
-ghost use Rattle.std.specs.Prelude.{◌≡◌, ◌<◌, ◌⊎◌, IfOk, string_bytes};
+ghost use Rattle.std.specs.Prelude.{◌≡◌, ◌-◌, ◌^◌, ◌<◌, ◌⊎◌, [], IfOk};
 ghost use Rattle.gregorio.specs.declared.job.Status.TheVariants.{ReadFault, WriteFault};
 ghost use Rattle.gregorio.specs.Compiles.{Compiles, Use};
-ghost use Rattle.gregorio.specs.Outcome.{outcome_of as outcome_of_bytes, at_end as outcome_at_end, output_of, messages_of};
+ghost use Rattle.gregorio.specs.Outcome.{outcome_of as outcome_of_bytes, ending_by, is_cut_short as cut_short, canonical_file, messages_of};
 
-use crate::canonical::push_file;
-use crate::findings::{push_messages, status_of};
+use crate::canonical::{add_file, file_len};
+use crate::findings::{add_messages, messages_len, status_of};
 use crate::given::{Ending, Given};
 use crate::job::{Job, Status};
 use crate::outcome::Outcome;
 use crate::read_all::read_all;
-use gabc_headers::{HeadFault, headers_whole};
-use gabc_places::{Fault, Limits, Sink, Source, send_all, text_of};
+use gabc_places::{Fault, Limits, Room, Sink, Source, send_all, text_of};
+use gabc_score::{Score, score_whole};
 use std::alloc::{AllocError, Global};
 
-/// The outcome of headers that a text without a line `%%` stops at its end.
-fn at_end(ending: Ending, fault: Option<Fault>, stop: HeadFault) -> Outcome
-    ensures { result ≡ outcome_at_end ending fault stop }
+/// How a text ended: at the fault that stopped it, or else as the source did.
+fn ending_of(ending: Ending, fault: Option<Fault>) -> gabc_score::Ending
+    ensures { result ≡ ending_by ending fault }
 {
-    let HeadFault {
-        fault: at_end,
-        findings,
-        at_end: _,
-    } = stop;
     match (fault, ending) {
-        (Some(fault), _) => Outcome {
-            book: None,
-            findings,
-            fault: Some(fault),
-            broken: false,
-        },
-        (None, Ending::Broken) => Outcome {
-            book: None,
-            findings,
-            fault: None,
-            broken: true,
-        },
-        (None, Ending::Whole) => Outcome {
-            book: None,
-            findings,
-            fault: Some(at_end),
-            broken: false,
-        },
+        (Some(fault), _) => gabc_score::Ending::At(fault),
+        (None, Ending::Broken) => gabc_score::Ending::Broken,
+        (None, Ending::Whole) => gabc_score::Ending::Whole,
+    }
+}
+
+/// Whether the source failed, and no fault stops the run.
+fn is_cut_short(ending: Ending, fault: Option<Fault>) -> bool
+    ensures { result ≡ cut_short ending fault }
+{
+    match (fault, ending) {
+        (None, Ending::Broken) => true,
+        _ => false,
     }
 }
 
@@ -52,42 +42,42 @@ fn outcome_of(alloc: Global, given: &Given, limits: Limits) -> Result<Outcome, A
 {
     let ended = given.ending == Ending::Whole;
     let decoded = text_of(alloc, given.bytes.as_slice(), ended, limits)?;
-    match headers_whole(alloc, &decoded.text, limits)? {
-        Ok(heads) => Ok(Outcome {
-            book: Some(heads.book),
-            findings: heads.findings,
-            fault: None,
-            broken: false,
-        }),
-        Err(stop) if stop.at_end => Ok(at_end(given.ending, decoded.fault, stop)),
-        Err(stop) => Ok(Outcome {
-            book: None,
-            findings: stop.findings,
-            fault: Some(stop.fault),
-            broken: false,
-        }),
-    }
+    let ending = ending_of(given.ending, decoded.fault);
+    let score = score_whole(alloc, &decoded.text, ending, limits)?;
+    let broken = is_cut_short(given.ending, score.fault);
+    Ok(Outcome { score, broken })
 }
 
-/// The two texts that a run writes.
-#[derive(Drop)]
-struct Streams {
-    output: String,
-    messages: String,
-}
-
-/// The texts that a run with this outcome writes.
-fn streams_of(alloc: Global, job: &Job, outcome: &Outcome) -> Result<Streams, AllocError>
-    ensures output { IfOk result (λ streams. string_bytes streams.output ≡ output_of outcome.now) }
-    ensures messages { IfOk result (λ streams. string_bytes streams.messages ≡ messages_of job.now outcome.now) }
+/// Room for so many bytes. No memory has as many as the largest number tells.
+fn room_for(alloc: Global, len: usize) -> Result<Room<u8>, AllocError>
+    ensures { IfOk result (λ room. (room ≡ record { items = []; limit = len }) × (len < 2 ^ 64 - 1)) }
 {
-    let mut output = String::new(alloc);
-    if let Some(book) = &outcome.book {
-        push_file(&mut output, book)?;
+    if len == usize::MAX {
+        return Err(AllocError);
     }
-    let mut messages = String::new(alloc);
-    push_messages(&mut messages, job, outcome)?;
-    Ok(Streams { output, messages })
+    Room::with_limit(alloc, len)
+}
+
+/// The output of a run with this outcome.
+fn output_room(alloc: Global, score: &Score) -> Result<Room<u8>, AllocError>
+    ensures { IfOk result (λ room. room.items ≡ canonical_file score.now.book score.now.syllables) }
+{
+    let Some(book) = &score.book else {
+        return room_for(alloc, 0);
+    };
+    let syllables = score.syllables.as_slice();
+    let mut room = room_for(alloc, file_len(book, syllables))?;
+    add_file(book, syllables, &mut room);
+    Ok(room)
+}
+
+/// The messages of a run with this outcome.
+fn messages_room(alloc: Global, job: &Job, outcome: &Outcome) -> Result<Room<u8>, AllocError>
+    ensures { IfOk result (λ room. room.items ≡ messages_of job.now outcome.now) }
+{
+    let mut room = room_for(alloc, messages_len(job, outcome))?;
+    add_messages(job, outcome, &mut room);
+    Ok(room)
 }
 
 /// Reads a score, at most `limits.input` bytes and one more, and writes first its canonical form and then its messages.
@@ -113,13 +103,16 @@ pub fn compile<S: Source, O: Sink, M: Sink>(
     let Ok(outcome) = outcome_of(alloc, &given, limits) else {
         return Status::NoMemory;
     };
-    let Ok(streams) = streams_of(alloc, job, &outcome) else {
+    let Ok(output) = output_room(alloc, &outcome.score) else {
         return Status::NoMemory;
     };
-    if let Err(_) = send_all(out, streams.output.as_bytes()) {
+    let Ok(told) = messages_room(alloc, job, &outcome) else {
+        return Status::NoMemory;
+    };
+    if let Err(_) = send_all(out, output.slice()) {
         return Status::WriteFault;
     }
-    if let Err(_) = send_all(messages, streams.messages.as_bytes()) {
+    if let Err(_) = send_all(messages, told.slice()) {
         return Status::WriteFault;
     }
     status_of(&outcome)

@@ -1,45 +1,48 @@
-//! Runs the chant reader on rows of inputs, each with the output, the messages and the status that it must give. The rows
-//! were computed apart from this project. Prints the rows that differ, and how many agree.
+//! Runs the chant reader on rows of inputs and on scores, each with the output and the messages that it must give; the rows
+//! also have the status. What is wanted was computed or written apart from this project. Prints the rows and scores that
+//! differ, and how many agree.
 #![tactic(auto)]
 
 mod row;
+mod run;
 
-use gabc_places::{Limits, ToWriter, TrialSource};
-use gregorio::{Format, Input, Job, Output, compile};
+use gabc_places::Limits;
 use row::{Row, row_of};
-use std::alloc::{AllocError, Global};
+use run::run;
+use std::alloc::Global;
 use std::{fs, io};
 
+/// The example scores: each is a file `NAME.gabc`, with its canonical form and the messages under `-W` beside it.
+const SCORES: [&str; 8] = [
+    "antiphon",
+    "ave-maria",
+    "every-finding",
+    "every-item",
+    "hymn",
+    "introit",
+    "kyrie",
+    "psalm-tone",
+];
+
 /// Whether a run on the row's input gives what the row says.
-fn agrees(alloc: Global, row: &Row) -> Result<bool, AllocError> {
+fn agrees(alloc: Global, row: &Row) -> bool {
     let Some(limits) = Limits::new(row.header, row.syllable, row.input) else {
-        return Ok(false);
+        return false;
     };
-    let job = Job {
-        format: Format::Gabc,
-        input: Input::Stdin,
-        output: Output::Stdout,
-        messages: None,
-        all_warnings: row.all_warnings,
-    };
-    let fails_after = if row.broken {
-        Some(row.bytes.len())
-    } else {
-        None
-    };
-    let mut source = TrialSource::new(row.bytes.as_slice(), 4096, fails_after);
-    let mut out = ToWriter::new(Vec::new(alloc));
-    let mut messages = ToWriter::new(Vec::new(alloc));
-    let status = compile(alloc, &job, limits, &mut source, &mut out, &mut messages);
-    Ok(
-        out.inner().as_slice() == row.output.as_slice()
-            && messages.inner().as_slice() == row.messages.as_slice()
-            && status.code() == row.status,
-    )
+    let ran = run(
+        alloc,
+        row.bytes.as_slice(),
+        row.broken,
+        limits,
+        row.all_warnings,
+    );
+    ran.output.inner().as_slice() == row.output.as_slice()
+        && ran.messages.inner().as_slice() == row.messages.as_slice()
+        && ran.status == row.status
 }
 
 /// Runs the rows of a file. The first line of the file is its head.
-fn check(rt: &HostRuntime, path: &str) -> io::Result<()> {
+fn check_rows(rt: &HostRuntime, path: &str) -> io::Result<()> {
     let text = fs::read_to_string(rt, path)?;
     let mut rows = 0u32;
     let mut agreed = 0u32;
@@ -49,7 +52,7 @@ fn check(rt: &HostRuntime, path: &str) -> io::Result<()> {
         }
         rows = rows.saturating_add(1);
         match row_of(rt.alloc(), line)? {
-            Some(row) if agrees(rt.alloc(), &row)? => agreed = agreed.saturating_add(1),
+            Some(row) if agrees(rt.alloc(), &row) => agreed = agreed.saturating_add(1),
             Some(_) => println!(rt; "{path}: the run on line {number} differs")?,
             None => println!(rt; "{path}: line {number} is no row")?,
         }
@@ -57,6 +60,45 @@ fn check(rt: &HostRuntime, path: &str) -> io::Result<()> {
     println!(rt; "{path}: {agreed} of {rows} rows agree")
 }
 
+/// The file of a score with this ending.
+fn read_file(rt: &HostRuntime, name: &str, ending: &str) -> io::Result<String> {
+    let path = format!(in rt.alloc(); "{name}.{ending}")?;
+    fs::read_to_string(rt, path.as_str())
+}
+
+/// Whether a score gives its canonical form and its messages, and the canonical form itself.
+fn is_canonical(rt: &HostRuntime, name: &str) -> io::Result<bool> {
+    let score = read_file(rt, name, "gabc")?;
+    let canonical = read_file(rt, name, "canonical")?;
+    let messages = read_file(rt, name, "messages")?;
+    let Some(limits) = Limits::new(65_536, 16_384, u32::MAX) else {
+        return Ok(false);
+    };
+    let ran = run(rt.alloc(), score.as_bytes(), false, limits, true);
+    let again = run(rt.alloc(), canonical.as_bytes(), false, limits, false);
+    Ok(
+        ran.output.inner().as_slice() == canonical.as_bytes()
+            && ran.messages.inner().as_slice() == messages.as_bytes()
+            && again.output.inner().as_slice() == canonical.as_bytes()
+            && again.status == 0,
+    )
+}
+
+/// Runs the example scores.
+fn check_scores(rt: &HostRuntime) -> io::Result<()> {
+    let mut agreed = 0u32;
+    for name in SCORES {
+        if is_canonical(rt, name)? {
+            agreed = agreed.saturating_add(1);
+        } else {
+            println!(rt; "{name}.gabc differs")?;
+        }
+    }
+    println!(rt; "scores: {agreed} of {} agree", SCORES.len())
+}
+
 fn main(rt: HostRuntime) -> io::Result<()> {
-    check(&rt, "headers.tsv")
+    check_rows(&rt, "rows.tsv")?;
+    check_rows(&rt, "canonical.tsv")?;
+    check_scores(&rt)
 }

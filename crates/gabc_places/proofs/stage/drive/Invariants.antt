@@ -1,6 +1,7 @@
 use Rattle.std.proofs.Common.{◌≡◌, ◌+◌, ◌*◌, length}
 use Rattle.std.specs.Vec.Iter.{into_iter_items}
 use Rattle.gabc_places.specs.Held.{HasRoom, added}
+use Rattle.gabc_places.specs.Law.{joined}
 use Rattle.gabc_places.proofs.stage.drive.Given as goal
 
 abbrev pub invariant-loop-input : goal.invariant-loop-input
@@ -9,5 +10,5 @@ invariant-loop-input g l = record {
   ends : (goal.iterator-loop-input g).is_finite l.input-iterator;
   most : g.S.Stage.most_of l.stage ≡ g.S.Stage.most_of l.initial.stage;
   room : HasRoom l.out (g.S.Stage.most_of l.stage * (length (into_iter_items l.input-iterator) + 1));
-  law : added l.out (g.S.Stage.rest l.stage (into_iter_items l.input-iterator)) ≡ added l.initial.out (g.S.Stage.rest l.initial.stage l.fn.inputs.items);
+  law : added l.out (joined (g.S.Stage.rest l.stage (into_iter_items l.input-iterator))) ≡ added l.initial.out (joined (g.S.Stage.rest l.initial.stage l.fn.inputs.items));
 }

@@ -1,9 +1,10 @@
-use Rattle.std.proofs.Common.{◌≡◌, [], ◌∷◌, refl, sym, ap, ◌∙◌, arith}
+use Rattle.std.proofs.Common.{◌≡◌, [], ◌∷◌, refl, sym, ap, ◌∙◌, append-nil, arith}
 use Rattle.std.specs.Str.{chars}
 use Rattle.std.specs.Str.Iter.{chars_rest}
 use Rattle.std.proofs.lemmas.Str.{chars_past_char, IsUtf8-past_char}
+use Rattle.gabc_places.specs.Law.{joined}
 use Rattle.gabc_text.specs.View.{bytes_of}
-use Rattle.gabc_text.specs.Step.{rest_of, fresh}
+use Rattle.gabc_text.specs.Step.{rest_of, finish_outs, fresh}
 use Rattle.gabc_text.specs.Told.{Told, told_of, told_after}
 use Rattle.gabc_text.proofs.Reaching.{told_goes, left_goes, left_ends, all_meant, told_ends, text_fits, chars_none}
 use Rattle.gabc_text.proofs.whole.text_whole.Goals as goal
@@ -16,7 +17,7 @@ loop-c-init c =
       ends = tt;
       utf8 = c.utf8.body;
       running = refl;
-      told = ap (λ (x : Told). told_after x (rest_of (fresh c.args.at) (chars c.args.body.now))) c.new-reading.ensures;
+      told = ap (λ (x : Told). told_after x (joined (rest_of (fresh c.args.at) (chars c.args.body.now)))) c.new-reading.ensures;
       left = refl;
       index = omega arith;
       empty = c.in_ok-room.ensures;
@@ -71,7 +72,7 @@ returns c =
     let none : chars (chars_rest c.loop-c.c-iterator) ≡ [] = chars_none (chars_rest c.loop-c.c-iterator) c.in-None.ensures.steps.0.0 in
     let fits = text_fits c.args.at c.args.body.now c.utf8.body c.requires.line c.requires.column in
     let m = all_meant c.args.at (chars c.args.body.now) (told_of c.close.new.self) c.loop-c.index [] fits
-    (c.in_ok-close.ensures ∙ (rw none at i.told)) (rw none at i.left) (rw none at i.index) in
+    (c.in_ok-close.ensures ∙ ap (told_after (told_of c.loop-c.reading)) (sym (append-nil (finish_outs c.loop-c.stage))) ∙ (rw none at i.told)) (rw none at i.left) (rw none at i.index) in
     record {
       kept_is = c.ended-2.ensures.kept ∙ m.kept_is;
       view_is = c.ended-2.ensures.view ∙ m.view_is;

@@ -5,6 +5,7 @@ use Rattle.gabc_headers.specs.Lines.{bytes_len}
 use Rattle.gabc_headers.specs.Canonical.{header_line, header_lines, canonical_heads}
 use Rattle.gabc_headers.specs.Shown.{shown}
 use Rattle.gabc_headers.proofs.BookEntries.{length-shown}
+use Rattle.gabc_headers.proofs.Texts.{length-encodes}
 use Rattle.gabc_headers.proofs.BookReads.{lines_here, lines_none, heads_len}
 use Rattle.gabc_headers.proofs.book.HeaderBook.canonical_len.Goals as goal
 
@@ -47,8 +48,11 @@ loop-index-init c = heads_len c.args.self.now
 at_end : (i e n m : ℕ) → e ≤ i → e ≡ n → n ≡ m → m ≤ i
 at_end i e n m l a b = omega arith
 
-pub returns : goal.returns
-returns c =
+pub returns-clause-len : goal.returns-clause-len
+returns-clause-len c =
     let l : length c.args.self.now ≤ c.loop-index.index = rw (← c.self.view_is) (at_end c.loop-index.index c.len-index-end.result (length c.self.inside.entries.items) (length (shown (string_bytes c.self.inside.text) c.self.inside.entries.items))
     c.loop-index-test.false (c.len-index-end.ensures ∙ c.self.inside.entries.ok.0) (sym (length-shown (string_bytes c.self.inside.text) c.self.inside.entries.items))) in
     sym (sym c.loop-index.invariant ∙ (ap (λ (n : ℕ). c.loop-index.len + n) (lines_none c.args.self.now c.loop-index.index l) ∙ add-zero c.loop-index.len))
+
+pub returns-clause-bytes : goal.returns-clause-bytes
+returns-clause-bytes c = returns-clause-len c ∙ sym (length-encodes (canonical_heads c.args.self.now))

@@ -1,0 +1,15 @@
+pub mod Machine
+pub mod Characters
+pub mod Snippets
+pub mod FirstPart
+pub mod PartList
+pub mod NameRows
+pub mod Behind
+pub mod Fresh
+pub mod Gathering
+pub mod Going
+pub mod CodeList
+pub mod Definitions
+pub mod TwoLetters
+pub mod Order
+pub mod GlyphCodes

@@ -1,0 +1,5 @@
+use Rattle.gabc_nabc.proofs.GlyphCodes.{codes_are}
+use Rattle.gabc_nabc.proofs.laws.codes_are_of_glyphs.Goals as goal
+
+pub returns : goal.returns
+returns c = codes_are

@@ -1,0 +1,5 @@
+use Rattle.gabc_nabc.proofs.TwoLetters.{letters_spell}
+use Rattle.gabc_nabc.proofs.laws.codes_are_two_letters.Goals as goal
+
+pub returns : goal.returns
+returns c = letters_spell

@@ -1,0 +1,5 @@
+use Rattle.gabc_nabc.proofs.Order.{in_order}
+use Rattle.gabc_nabc.proofs.laws.findings_are_in_order.Goals as goal
+
+pub returns : goal.returns
+returns c = in_order

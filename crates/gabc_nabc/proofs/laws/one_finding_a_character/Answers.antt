@@ -1,0 +1,5 @@
+use Rattle.gabc_nabc.proofs.Order.{one_at_most}
+use Rattle.gabc_nabc.proofs.laws.one_finding_a_character.Goals as goal
+
+pub returns : goal.returns
+returns c = one_at_most

@@ -1,0 +1,26 @@
+use Rattle.std.proofs.Common.{◌≤◌, ◌∷◌, ap, sym, Bool, true, false, cond, length, arith, Option, Some, None, []}
+use Rattle.gabc_notes.specs.declared.stage.NoteOut.{NoteOut}
+use Rattle.gabc_nabc.specs.Machine.{outputs, given_at, rest_of, given_in, role_at, seen_at}
+use Rattle.gabc_nabc.specs.declared.stage.Given.{Given}
+use Rattle.gabc_nabc.specs.declared.stage.NabcStage.{NabcStage}
+use Rattle.gabc_nabc.proofs.stage.NabcStageStage.push.Goals as goal
+
+few_outputs : (b : Bool) (g : Given) → length (cond b [] (outputs g)) ≤ 3
+few_outputs true g = omega arith
+few_outputs false g = go g.first g.second
+  where
+    go : (o p : Option NoteOut) → length (outputs (record { first = o; second = p })) ≤ 3
+    go None None = omega arith
+    go None (Some p) = omega arith
+    go (Some o) None = omega arith
+    go (Some o) (Some p) = omega arith
+
+pub returns-clause-gives : goal.returns-clause-gives
+returns-clause-gives c =
+    let st = c.args.self.now in
+    let x = c.args.x in record {
+      given = given_at st x;
+      out = c.take.ensures.out;
+      few = few_outputs st.ended (given_in (role_at st x.c) (seen_at st x.c) st.whole x);
+      law = λ xs. ap (λ (n : NabcStage). given_at st x ∷ rest_of n xs) (sym c.take.ensures.stage);
+    }

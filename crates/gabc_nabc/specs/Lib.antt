@@ -1,0 +1,9 @@
+pub mod Table
+pub mod Class
+pub mod Machine
+pub mod Parts
+pub mod Names
+pub mod Told
+pub mod Read
+pub mod Gathered
+pub mod Codes

@@ -1,0 +1,54 @@
+//! Characters, by what they may do in NABC.
+
+ghost use Rattle.std.specs.Prelude.{◌≡◌};
+ghost use Rattle.gabc_nabc.specs.Class.{class_of_character};
+
+/// What a character may be in a descriptor or a space.
+#[derive(Clone, Copy)]
+pub(crate) enum Class {
+    /// `h`, which begins a pitch and no code, and is a pitch itself.
+    LetterH,
+    /// `l` and `p`, which are pitches, and `s`: with the letters that would make no code of them.
+    LetterL,
+    LetterP,
+    LetterS,
+    LetterT,
+    LetterU,
+    /// Another letter that is a pitch.
+    Pitch,
+    /// Another letter.
+    Letter,
+    /// `1` to `9`.
+    Digit,
+    /// `S`, `G`, `M`, `>` and `~`.
+    Modifier,
+    /// `-`, a modifier that stands in letters too.
+    Hyphen,
+    Bang,
+    Slash,
+    Tick,
+    Other,
+}
+
+/// The class of a character.
+pub(crate) fn class_of(c: char) -> Class
+    ensures { result ≡ class_of_character c }
+{
+    match c {
+        'h' => Class::LetterH,
+        'l' => Class::LetterL,
+        'p' => Class::LetterP,
+        's' => Class::LetterS,
+        't' => Class::LetterT,
+        'u' => Class::LetterU,
+        'a'..='n' => Class::Pitch,
+        'o'..='z' => Class::Letter,
+        '1'..='9' => Class::Digit,
+        'S' | 'G' | 'M' | '>' | '~' => Class::Modifier,
+        '-' => Class::Hyphen,
+        '!' => Class::Bang,
+        '/' => Class::Slash,
+        '`' => Class::Tick,
+        _ => Class::Other,
+    }
+}

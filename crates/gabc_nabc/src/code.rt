@@ -1,0 +1,20 @@
+//! The code of a glyph.
+
+/// The two letters that say which neume a glyph is.
+#[derive(Clone, Copy, Debug, PartialEq, Eq)]
+pub struct GlyphCode {
+    pub first: char,
+    pub second: char,
+}
+
+impl GlyphCode {
+    ghost use Rattle.std.specs.Prelude.{◌≡◌, MatchOption, Some, None};
+    ghost use Rattle.gabc_nabc.specs.Names.{name_by};
+
+    /// Its name in this project's words, such as `virga` of `vi`. A code that the table of names lacks has none.
+    pub fn name(self) -> Option<&'static str>
+        ensures { MatchOption result (name_by self.first self.second ≡ None) (λ name. name_by self.first self.second ≡ Some name.now) }
+    {
+        crate::name::name_at(self.first, self.second)
+    }
+}

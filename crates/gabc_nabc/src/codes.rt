@@ -1,0 +1,44 @@
+//! The codes of a descriptor's glyphs.
+
+ghost use Rattle.std.specs.Prelude.{◌≡◌, ◌<◌, ◌≤◌, ◌-◌, length, option_to_list};
+ghost use Rattle.gabc_places.specs.Held.{HasRoom, added};
+ghost use Rattle.gabc_nabc.specs.Codes.{code_at, codes_of};
+
+use crate::code::GlyphCode;
+use crate::descriptor::Descriptor;
+use gabc_places::Room;
+
+/// The code whose second letter stands at this place of the text, from 1.
+fn code_ending(text: &[u8], at: usize) -> Option<GlyphCode>
+    requires from { 1 ≤ at }
+    requires within { at < length text.now }
+    ensures { option_to_list result ≡ code_at text.now at }
+{
+    if at == 1 || text[at - 2] == b'!' {
+        Some(GlyphCode {
+            first: char::from(text[at - 1]),
+            second: char::from(text[at]),
+        })
+    } else {
+        None
+    }
+}
+
+/// Adds the codes of a descriptor's glyphs, in order: what stands at its front and behind each `!`. A space has none. A place for
+/// each byte of the descriptor is enough.
+pub fn codes_into(kept: &str, part: Descriptor, out: &mut Room<GlyphCode>)
+    requires order { part.span.from ≤ part.span.to }
+    requires within { part.span.to ≤ length kept.now }
+    requires room { HasRoom out.old (part.span.to - part.span.from) }
+    ensures { out.new ≡ added out.old (codes_of kept.now part) }
+{
+    if part.space {
+        return;
+    }
+    let text = &kept.as_bytes()[part.span.from..part.span.to];
+    for at in 1..text.len() {
+        if let Some(code) = code_ending(text, at) {
+            out.push(code);
+        }
+    }
+}

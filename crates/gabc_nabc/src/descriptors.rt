@@ -1,0 +1,70 @@
+//! The descriptors and spaces of a kept text.
+
+ghost use Rattle.std.specs.Prelude.{◌≡◌, ◌≤◌, ◌<◌, ◌++◌, length, drop, IfOk, IfSome, IfNone, List};
+ghost use Rattle.gabc_places.specs.Held.{HasRoom, added};
+ghost use Rattle.gabc_nabc.specs.Parts.{IsNabc, AreDescriptorsOf, IsFirstPart};
+ghost use Rattle.gabc_nabc.specs.declared.descriptor.Descriptor.{Descriptor};
+
+use crate::class::class_of;
+use crate::descriptor::{Descriptor, Descriptors};
+use crate::state::{State, ends, goes_on};
+use gabc_places::{Room, Span};
+use std::alloc::{AllocError, Global};
+
+/// The longest part that begins the text: whether it is a space, and how many bytes it has.
+fn first_part(text: &str) -> Option<(bool, usize)>
+    ensures found { IfSome result (λ i. IsFirstPart text.now i.0 i.1) }
+    ensures none { IfNone result (0 < length text.now → ¬ IsNabc text.now) }
+{
+    let mut best = None;
+    let mut state = State::Start;
+    let mut read = 0;
+    for c in text.chars() {
+        match goes_on(state, class_of(c)) {
+            Some(after) => {
+                state = after;
+                read += c.len_utf8();
+                if let Some(space) = ends(state) {
+                    best = Some((space, read));
+                }
+            }
+            None => return best,
+        }
+    }
+    best
+}
+
+/// The descriptors and spaces of an NABC snippet. It fails only for want of memory.
+pub fn descriptors_whole(alloc: Global, kept: &str) -> Result<Descriptors, AllocError>
+    requires { IsNabc kept.now }
+    ensures { IfOk result (λ parts. AreDescriptorsOf kept.now parts) }
+{
+    let mut parts = Descriptors::new(alloc);
+    let mut at = 0;
+    while let Some((space, len)) = first_part(&kept[at..]) {
+        let span = Span {
+            from: at,
+            to: at + len,
+        };
+        parts.push(Descriptor { space, span })?;
+        at += len;
+    }
+    Ok(parts)
+}
+
+/// Adds the descriptors and spaces of an NABC snippet. A place for each byte of the snippet is enough.
+pub fn descriptors_into(kept: &str, out: &mut Room<Descriptor>)
+    requires kept { IsNabc kept.now }
+    requires room { HasRoom out.old (length kept.now) }
+    ensures { (parts : List Descriptor) × AreDescriptorsOf kept.now parts × (out.new ≡ added out.old parts) }
+{
+    let mut at = 0;
+    while let Some((space, len)) = first_part(&kept[at..]) {
+        let span = Span {
+            from: at,
+            to: at + len,
+        };
+        out.push(Descriptor { space, span });
+        at += len;
+    }
+}

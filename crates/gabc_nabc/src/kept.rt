@@ -1,0 +1,21 @@
+//! Which texts are NABC snippets.
+
+ghost use Rattle.std.specs.Prelude.{IsTrue, ◌↔◌};
+ghost use Rattle.gabc_nabc.specs.Parts.{IsNabc};
+
+use crate::class::class_of;
+use crate::state::{State, is_whole, next_state};
+
+/// Whether the text is read whole by spaces and descriptors.
+pub fn is_nabc(kept: &str) -> bool
+    ensures { IsTrue result ↔ IsNabc kept.now }
+{
+    let mut state = State::Start;
+    for c in kept.chars() {
+        match next_state(state, class_of(c)) {
+            Some(after) => state = after,
+            None => return false,
+        }
+    }
+    is_whole(state)
+}

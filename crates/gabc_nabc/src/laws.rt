@@ -1,0 +1,61 @@
+//! Laws of the definitions that contracts speak of. The functions do nothing: each is there for its clauses.
+
+ghost use Rattle.std.specs.Prelude.{◌≡◌, ◌≤◌, ℕ, List, [], ◌∷◌, ◌++◌, Bool, length, take, map, true, encode_utf8_all, IsTrue, ◌↔◌};
+ghost use Rattle.gabc_places.specs.Findings.{AreInOrder};
+ghost use Rattle.gabc_places.specs.Law.{joined};
+ghost use Rattle.gabc_places.specs.declared.place.Place.{Place};
+ghost use Rattle.gabc_places.specs.declared.place.Char.{Char};
+ghost use Rattle.gabc_patterns.specs.Pattern.{Spells};
+ghost use Rattle.gabc_patterns.specs.Reading.{Reads, IsSnippet, IsViable};
+ghost use Rattle.gabc_nabc.specs.Table.{nabc, code, descriptor};
+ghost use Rattle.gabc_nabc.specs.Codes.{HasCodesOfGlyphs};
+ghost use Rattle.gabc_nabc.specs.Told.{bytes_in, has_end, is_code, kept_of, told, told_at, told_behind};
+ghost use Rattle.gabc_notes.specs.Read.{ends_of, findings_of, kept_of as kept_in, placed_from};
+ghost use Rattle.gabc_nabc.specs.Read.{before_end, from_end, kept_before, end_before, AreAtMostOne};
+
+/// A text has at most one list of descriptors and spaces.
+pub fn descriptors_are_one()
+    ensures { (is js : List (Bool × List ℕ)) (t : List ℕ) → Reads nabc is t → Reads nabc js t → is ≡ js }
+{}
+
+/// A viable text is an NABC snippet with at most two characters more.
+pub fn two_characters_complete()
+    ensures { (t : List ℕ) → IsViable nabc t → (more : List ℕ) × (length more ≤ 2) × IsSnippet nabc (t ++ more) }
+{}
+
+/// The two letters that W7 takes for a code are those that the table spells as one.
+pub fn codes_are_two_letters()
+    ensures { (a c : ℕ) → IsTrue (is_code a c) ↔ Spells code (a ∷ c ∷ []) }
+{}
+
+/// What is told of characters does not depend on what follows them, and behind the end nothing is told.
+pub fn what_follows_tells_nothing()
+    ensures front { (xs ys zs : List Char) → take (length xs) (told (xs ++ ys)) ≡ take (length xs) (told (xs ++ zs)) }
+    ensures end { (t : List ℕ) (xs : List Char) → has_end t ≡ true → joined (told_behind t xs) ≡ [] }
+{}
+
+/// The characters that are told as kept are what the table keeps of the text before the snippet's end.
+pub fn the_kept_text_is_told()
+    ensures { (xs : List Char) → kept_in (joined (told xs)) ≡ kept_of (before_end (map (λ x. x.c) xs)) }
+{}
+
+/// One end is told, with the bytes of the kept text: at most those of the characters that are told as kept.
+pub fn one_end_is_told()
+    ensures end { (xs : List Char) → (let t = map (λ x. x.c) xs in ends_of (joined (told xs)) ≡ (end_before (from_end t), bytes_in (kept_before (before_end t) (from_end t))) ∷ []) }
+    ensures bytes { (xs : List Char) → (let t = map (λ x. x.c) xs in bytes_in (kept_before (before_end t) (from_end t)) ≤ length (encode_utf8_all (kept_in (joined (told xs))))) }
+{}
+
+/// What is told of a character has at most one finding, which stands at its place.
+pub fn one_finding_a_character()
+    ensures { (t : List ℕ) (x : Char) → AreAtMostOne x.place (findings_of (told_at t x)) }
+{}
+
+/// The findings of a text are in the order of their places, none twice.
+pub fn findings_are_in_order()
+    ensures { (at : Place) (t : List ℕ) → AreInOrder (findings_of (joined (told (placed_from at t)))) }
+{}
+
+/// The codes of a descriptor are the first two letters of its glyphs, in order.
+pub fn codes_are_of_glyphs()
+    ensures { (t : List ℕ) → Spells descriptor t → HasCodesOfGlyphs t }
+{}

@@ -1,0 +1,5 @@
+use Rattle.gabc_notes.proofs.Ordered.{all_in_order}
+use Rattle.gabc_notes.proofs.laws.findings_are_in_order.Goals as goal
+
+pub returns : goal.returns
+returns c = all_in_order

@@ -1,0 +1,77 @@
+-- What a snippet says as a whole.
+use Rattle.std.specs.Prelude.{◌≡◌, ℕ, sum_by, List, [], ◌∷◌, Bool, ◌==◌, if◌then◌else◌, Option, Some, None, string_bytes, encode_utf8_all}
+use Rattle.std.specs.Char.{len_utf8}
+use Rattle.gabc_places.specs.declared.code.Finding.{Finding}
+use Rattle.gabc_places.specs.declared.place.Char.{Char}
+use Rattle.gabc_places.specs.declared.place.Place.{Place}
+use Rattle.gabc_places.specs.Law.{joined}
+use Rattle.gabc_places.specs.Place.{next_place}
+use Rattle.gabc_patterns.specs.Function.{trim}
+use Rattle.gabc_notes.specs.Table.{gabc}
+use Rattle.gabc_notes.specs.Said.{in_raw, kept, opener, ended_by, is_end, says}
+use Rattle.gabc_notes.specs.declared.read.SnippetHow.{SnippetHow}
+use Rattle.gabc_notes.specs.declared.read.SnippetHow.TheVariants.{Next, Close, Cut}
+use Rattle.gabc_notes.specs.declared.read.SnippetRead.{SnippetRead}
+use Rattle.gabc_notes.specs.declared.stage.NoteEnd.{NoteEnd}
+use Rattle.gabc_notes.specs.declared.stage.NoteEnd.TheVariants as end
+use Rattle.gabc_notes.specs.declared.stage.NoteOut.{NoteOut}
+use Rattle.gabc_notes.specs.declared.stage.NoteOut.TheVariants.{Kept, Found, Ended}
+
+-- the characters of a text that begins at this place, each with its own
+abbrev pub placed_from : Place → List ℕ → List Char
+placed_from at [] = []
+placed_from at (c ∷ cs) = record { c = c; place = at } ∷ placed_from (next_place at c) cs
+
+-- the characters that are told as kept
+abbrev pub kept_of : List NoteOut → List ℕ
+kept_of [] = []
+kept_of (Kept x ∷ told) = x.c ∷ kept_of told
+kept_of (o ∷ told) = kept_of told
+
+-- the findings, in order
+abbrev pub findings_of : List NoteOut → List Finding
+findings_of [] = []
+findings_of (Found f ∷ told) = f ∷ findings_of told
+findings_of (o ∷ told) = findings_of told
+
+-- the ends that are told, and the bytes with them
+abbrev pub ends_of : List NoteOut → List (NoteEnd × ℕ)
+ends_of [] = []
+ends_of (Ended how bytes ∷ told) = (how, bytes) ∷ ends_of told
+ends_of (o ∷ told) = ends_of told
+
+-- where a snippet stops: the characters before its end, the nearest first, and the mark that ends it, if there is one
+pub record Stop : Type 0 where
+  pub back : List Char
+  pub mark : Option ℕ
+
+-- of these characters behind those: at the first mark that ends the snippet
+abbrev pub stop_after : Bool → List Char → List Char → Stop
+stop_after split back [] = record { back = back; mark = None }
+stop_after split back (x ∷ xs) =
+    if is_end split (record { back = back; here = x }) then record { back = back; mark = Some x.c } else stop_after split (x ∷ back) xs
+
+-- the kept text, without an unfinished end if the snippet ended
+abbrev pub kept_by : Option ℕ → List Char → List ℕ
+kept_by None back = kept back
+kept_by (Some c) back = trim gabc (kept back)
+
+-- the bytes of these characters
+abbrev pub index_of : List Char → ℕ
+index_of back = sum_by (λ (x : Char). len_utf8 x.c) back
+
+-- how it ends: at the byte of the mark; cut with the place of the bracket that is open
+abbrev pub how_by : Option ℕ → List Char → SnippetHow
+how_by None back = Cut (if in_raw (kept back) then opener back else record { line = 0; column = 0 })
+how_by (Some c) back = if c == 124 then Next (index_of back) else Close (index_of back)
+
+-- the same, as a stage tells it
+abbrev pub end_by : Option ℕ → List Char → NoteEnd
+end_by None back = end.Cut (if in_raw (kept back) then opener back else record { line = 0; column = 0 })
+end_by (Some c) back = ended_by c
+
+-- what is read of a text that begins at this place
+pub record IsRead (at : Place) (split : Bool) (macros : ℕ) (text : List ℕ) (read : SnippetRead) : Type 0 where
+  pub kept_is : string_bytes read.kept ≡ encode_utf8_all (let s = stop_after split [] (placed_from at text) in kept_by s.mark s.back)
+  pub findings_are : read.findings ≡ findings_of (joined (says split macros (placed_from at text)))
+  pub how_is : read.how ≡ (let s = stop_after split [] (placed_from at text) in how_by s.mark s.back)

@@ -1,0 +1,10 @@
+pub mod Bodies
+pub mod Ends
+pub mod Gathering
+pub mod Lengths
+pub mod Placing
+pub mod Points
+pub mod Slices
+pub mod Texts
+pub mod Places
+pub mod Fronts

@@ -1,0 +1,40 @@
+-- The places of a text, by the text before and by the place of its first character.
+use Rattle.std.proofs.Common.{◌≡◌, ℕ, ◌+◌, ◌≤◌, Bool, true, false, cond, List, [], ◌∷◌, ◌++◌, length, refl, sym, ap, ◌∙◌, arith, append_assoc, append-nil, length-append, encode_utf8}
+use Rattle.std.specs.Str.{chars}
+use Rattle.std.proofs.lemmas.Grind.{common_steps}
+use Rattle.std.proofs.lemmas.Str.{chars-nil, length-encode, len_utf8_bounds}
+use Rattle.std.proofs.lemmas.List.{nil_from_length}
+use Rattle.gabc_places.specs.declared.place.Place.{Place}
+use Rattle.gabc_places.specs.declared.place.Char.{Char}
+use Rattle.gabc_places.specs.Place.{next_place, is_line_feed, place_after, placed_after}
+use Rattle.gabc_score.specs.Reader.{placed_from, place_behind}
+
+next_after : (f : List ℕ) (c : ℕ) → next_place (place_after f) c ≡ place_after (f ++ c ∷ [])
+next_after f c = grind (arith, common_steps)
+
+pub placed_behind : (f cs : List ℕ) → placed_from (place_after f) cs ≡ placed_after f cs
+placed_behind f [] = refl
+placed_behind f (c ∷ cs) =
+    ap (λ (l : List Char). record { c = c; place = place_after f } ∷ l) (ap (λ p. placed_from p cs) (next_after f c) ∙ placed_behind (f ++ c ∷ []) cs)
+
+pub behind_after : (f cs : List ℕ) → place_behind (place_after f) cs ≡ place_after (f ++ cs)
+behind_after f [] = ap place_after (sym (append-nil f))
+behind_after f (c ∷ cs) =
+    ap (λ p. place_behind p cs) (next_after f c) ∙ behind_after (f ++ c ∷ []) cs ∙ ap place_after (append_assoc f (c ∷ []) cs)
+
+-- no count of a place grows by more than the bytes that were read
+module _ (p : Place) (n m most : ℕ) (less : m + 1 ≤ n) (line : p.line + n ≤ most) (column : p.column + n ≤ most) where
+  within_by : (b : Bool) → ((cond {A = Place} b (record { line = p.line + 1; column = 1 }) (record { line = p.line; column = p.column + 1 })).line + m ≤ most)
+      × ((cond {A = Place} b (record { line = p.line + 1; column = 1 }) (record { line = p.line; column = p.column + 1 })).column + m ≤ most)
+  within_by true = (omega (arith, less, line, column), omega (arith, less, line, column))
+  within_by false = (omega (arith, less, line, column), omega (arith, less, line, column))
+
+  pub within_on : (c : ℕ) (q : Place) → q ≡ next_place p c → (q.line + m ≤ most) × (q.column + m ≤ most)
+  within_on c q h = rw h (within_by (is_line_feed c))
+
+-- a character has a byte at least
+pub shorter : (rest next : List ℕ) (c : ℕ) → rest ≡ encode_utf8 c ++ next → length next + 1 ≤ length rest
+shorter rest next c h = rw h (omega (arith, length-append (encode_utf8 c) next, length-encode c, (len_utf8_bounds c).0))
+
+pub no_chars : (bytes : List ℕ) → length bytes ≡ 0 → chars bytes ≡ []
+no_chars bytes h = ap chars (nil_from_length bytes h) ∙ chars-nil

@@ -1,0 +1,23 @@
+use Rattle.std.proofs.Common.{◌≡◌, ◌+◌, ◌<◌, ◌^◌, List, [], length, IsUtf8}
+use Rattle.std.specs.Str.{chars}
+use Rattle.std.specs.Str.Iter.{chars_rest}
+use Rattle.gabc_score.specs.declared.told.Told.{Told}
+use Rattle.gabc_score.specs.Body.{reached}
+use Rattle.gabc_score.specs.Reader.{placed_from, place_behind, state_of}
+use Rattle.gabc_score.proofs.Ends.{holding}
+use Rattle.gabc_score.proofs.read_body.read_body.Given as goal
+
+abbrev pub invariant-loop-c : goal.invariant-loop-c
+invariant-loop-c g l = record {
+  can : (goal.iterator-loop-c g).can_next l.c-iterator;
+  ends : (goal.iterator-loop-c g).is_finite l.c-iterator;
+  utf8 : IsUtf8 (chars_rest l.c-iterator);
+  most : g.S.Stage.most_of l.stage ≡ g.S.Stage.most_of l.initial.stage;
+  before : List Told;
+  holds : state_of l.reader ≡ holding l.limits l.fn.start.head l.fn.start.findings (g.S.Stage.most_of l.initial.stage) before [];
+  reads : reached l.limits l.fn.start.head before (placed_from l.place (chars (chars_rest l.c-iterator))) (g.S.Stage.rest l.stage (placed_from l.place (chars (chars_rest l.c-iterator))))
+      ≡ reached l.limits l.fn.start.head [] (placed_from l.fn.start.at (chars l.fn.body)) (g.S.Stage.rest l.initial.stage (placed_from l.fn.start.at (chars l.fn.body)));
+  behind : place_behind l.place (chars (chars_rest l.c-iterator)) ≡ place_behind l.fn.start.at (chars l.fn.body);
+  line : l.place.line + length (chars_rest l.c-iterator) < 2 ^ 64;
+  column : l.place.column + length (chars_rest l.c-iterator) < 2 ^ 64;
+}

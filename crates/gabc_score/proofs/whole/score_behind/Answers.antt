@@ -1,0 +1,19 @@
+use Rattle.std.proofs.Common.{◌+◌, ap, ◌∙◌}
+use Rattle.std.specs.Str.{chars}
+use Rattle.gabc_headers.specs.Heads.{head_len}
+use Rattle.gabc_score.specs.Read.{rest_told}
+use Rattle.gabc_score.specs.Score.{with_body}
+use Rattle.gabc_score.proofs.Fronts.{boundary_here, chars_front, chars_behind, body_is}
+use Rattle.gabc_score.proofs.whole.score_behind.Goals as goal
+
+pub split_at-requires : goal.split_at-requires
+split_at-requires c = boundary_here c.args.text.now c.as_str.result.now c.as_str.ensures.bytes c.as_str.utf8 (head_len c.args.text.now + 2) c.args.heads.body c.requires
+
+pub returns : goal.returns
+returns c =
+    let t = c.args.text.now in
+    let n = head_len t + 2 in
+    let front = ap chars c.split_at.ensures.front ∙ chars_front t c.as_str.result.now c.as_str.ensures.bytes c.as_str.utf8 n c.args.heads.body c.requires in
+    let behind = ap chars c.split_at.ensures.back ∙ chars_behind t c.as_str.result.now c.as_str.ensures.bytes c.as_str.utf8 n c.args.heads.body c.requires in
+    ap (with_body c.args.heads) (c.in_ok-syllables.ensures ∙ body_is c.args.limits c.args.ending t c.args.heads (rest_told c.in_ok-stage.stage) c.nabc_lines.result c.macros_in.result c.canonical_len.result c.place_past.result
+    (chars c.split_at.result.0.now) (chars c.split_at.result.1.now) c.in_ok-stage.ensures c.nabc_lines.ensures c.macros_in.ensures c.canonical_len.ensures.len c.place_past.ensures.place front behind)

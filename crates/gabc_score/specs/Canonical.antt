@@ -1,0 +1,67 @@
+-- The canonical text of a syllable, and where in its word it stands.
+use Rattle.std.specs.Prelude.{ℕ, ◌||◌, List, [], ◌∷◌, ◌++◌, Bool, true, false, cond, length, Option, Some, None, codes}
+use Rattle.std.specs.List.{sum_by}
+use Rattle.gabc_places.specs.declared.place.Span.{Span}
+use Rattle.gabc_text.specs.Canonical.{canonical_text}
+use Rattle.gabc_score.specs.declared.snippets.Snippet.{Snippet}
+use Rattle.gabc_score.specs.declared.syllable.Position.{Position}
+use Rattle.gabc_score.specs.declared.syllable.Position.TheVariants.{One, Beginning, Middle, End}
+use Rattle.gabc_score.specs.Syllable.{Made, Said, slice}
+
+-- ---- the canonical text
+
+abbrev pub translated : List ℕ → Option Span → List ℕ
+translated kept None = []
+translated kept (Some span) = codes "[" ++ (slice span kept ++ codes "]")
+
+-- the snippets, with `|` between them
+abbrev pub with_bars : List ℕ → List Snippet → List ℕ
+with_bars kept [] = []
+with_bars kept (s ∷ []) = slice s.span kept
+with_bars kept (s ∷ t ∷ rest) = slice s.span kept ++ (codes "|" ++ with_bars kept (t ∷ rest))
+
+-- the canonical text of a syllable that begins a word or not, in bytes
+abbrev pub canonical : Bool → Made → List ℕ
+canonical starts m =
+    cond starts (10 ∷ []) []
+    ++ (canonical_text m.text m.kept
+    ++ (translated m.kept m.text.translation
+    ++ (codes "(" ++ (with_bars m.kept m.snippets ++ codes ")"))))
+
+-- The canonical texts of syllables. The first syllable of a score begins a word; `first` tells that these begin with it.
+abbrev pub canonicals : Bool → List Made → List (List ℕ)
+canonicals first [] = []
+canonicals first (m ∷ ms) = canonical (first || m.text.word_start) m ∷ canonicals false ms
+
+-- the bytes of all of them
+abbrev pub canonical_bytes : List Made → ℕ
+canonical_bytes ms = sum_by (λ (text : List ℕ). length text) (canonicals true ms)
+
+-- ---- the position
+
+-- of a syllable that begins a word or not, before a word's beginning or not
+abbrev pub position_by : Bool → Bool → Position
+position_by true true = One
+position_by true false = Beginning
+position_by false true = End
+position_by false false = Middle
+
+-- whether a syllable that stands there begins its word
+abbrev pub starts_word : Position → Bool
+starts_word One = true
+starts_word Beginning = true
+starts_word Middle = false
+starts_word End = false
+
+-- the end of the list counts as a word's beginning
+abbrev pub next_starts : List Made → Bool
+next_starts [] = true
+next_starts (m ∷ ms) = m.text.word_start
+
+abbrev pub placed_by : Bool → List Made → List Said
+placed_by first [] = []
+placed_by first (m ∷ ms) = record { made = m; position = position_by (first || m.text.word_start) (next_starts ms) } ∷ placed_by false ms
+
+-- the syllables of a score with their positions
+abbrev pub with_positions : List Made → List Said
+with_positions ms = placed_by true ms

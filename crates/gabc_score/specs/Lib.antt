@@ -1,0 +1,11 @@
+pub mod Body
+pub mod Canonical
+pub mod Gathered
+pub mod Lengths
+pub mod Parts
+pub mod Pushed
+pub mod Read
+pub mod Reader
+pub mod Score
+pub mod Step
+pub mod Syllable

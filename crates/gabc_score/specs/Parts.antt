@@ -1,0 +1,111 @@
+-- What each character of a body tells, and its end: one list for each.
+--
+-- The body begins with a comment, up to its first LF. Then comes a text, up to its `(`, then a snippet of notes, up to its end;
+-- at a `|` the next snippet, at a `)` the next text. Each part is read from where it begins by the definition of texts, of GABC or
+-- of NABC snippets, and told from there to the character that ends it.
+use Rattle.std.specs.Prelude.{ℕ, ◌+◌, ◌-◌, ◌^◌, min, nat_lt, List, [], ◌∷◌, map, Bool, true, false, ◌==◌, if◌then◌else◌}
+use Rattle.std.specs.List.{list_any}
+use Rattle.gabc_places.specs.declared.place.Place.{Place}
+use Rattle.gabc_places.specs.declared.place.Char.{Char}
+use Rattle.gabc_text.specs.declared.stage.TextEnd.TheVariants as text_end
+use Rattle.gabc_text.specs.declared.stage.TextOut.{TextOut}
+use Rattle.gabc_text.specs.declared.stage.TextOut.TheVariants as text_out
+use Rattle.gabc_text.specs.Outs.{codes_of}
+use Rattle.gabc_text.specs.Step.{fresh, rest_of}
+use Rattle.gabc_notes.specs.declared.stage.NoteEnd.{NoteEnd}
+use Rattle.gabc_notes.specs.declared.stage.NoteEnd.TheVariants as note_end
+use Rattle.gabc_notes.specs.declared.stage.NoteOut.{NoteOut}
+use Rattle.gabc_notes.specs.declared.stage.NoteOut.TheVariants as note_out
+use Rattle.gabc_notes.specs.Said as notes
+use Rattle.gabc_nabc.specs.Told as nabc
+use Rattle.gabc_score.specs.declared.told.Told.{Told}
+use Rattle.gabc_score.specs.declared.told.Told.TheVariants.{Text, Notes}
+
+-- The part of a body that a character stands in, with the lists that the part will still tell: for each character to come and the
+-- end. The notes with their line and the place of their `(`.
+pub data Part : Type 0 where
+  InComment : Part
+  InText : List (List TextOut) → Part
+  InNotes : ℕ → Place → List (List NoteOut) → Part
+
+-- a text has ended at its `(`
+abbrev pub is_text_end : TextOut → Bool
+is_text_end (text_out.Ended text_end.Notes) = true
+is_text_end out = false
+
+-- a snippet has ended at a `|`, or at a `)`
+abbrev pub is_next : NoteOut → Bool
+is_next (note_out.Ended note_end.Next kept) = true
+is_next out = false
+
+abbrev pub is_close : NoteOut → Bool
+is_close (note_out.Ended note_end.Close kept) = true
+is_close out = false
+
+-- the innermost bracket that is open: that of the snippet, or else the `(`
+abbrev pub innermost : Place → NoteEnd → NoteEnd
+innermost opened (note_end.Cut place) = note_end.Cut (if place.line == 0 then opened else place)
+innermost opened how = how
+
+abbrev pub notes_told : ℕ → Place → NoteOut → Told
+notes_told line opened (note_out.Ended how kept) = Notes line (note_out.Ended (innermost opened how) kept)
+notes_told line opened out = Notes line out
+
+abbrev pub first_list : {X : Type 0} → List (List X) → List X
+first_list [] = []
+first_list (xs ∷ lists) = xs
+
+abbrev pub other_lists : {X : Type 0} → List (List X) → List (List X)
+other_lists [] = []
+other_lists (xs ∷ lists) = lists
+
+-- what the character tells that stands in this part, or the end
+abbrev pub told_in : Part → List Told
+told_in InComment = []
+told_in (InText lists) = map (λ (o : TextOut). Text o) (first_list lists)
+told_in (InNotes line opened lists) = map (notes_told line opened) (first_list lists)
+
+abbrev pub told_at_end : Part → List Told
+told_at_end InComment = Text (text_out.Ended text_end.Finished) ∷ []
+told_at_end part = told_in part
+
+-- the text that begins with these characters, the first of them here
+abbrev pub text_from : Place → List Char → Part
+text_from at xs = InText (rest_of (fresh at) (codes_of xs))
+
+-- the snippet of that line that begins with these characters: GABC or NABC
+abbrev pub snippet_from : ℕ → ℕ → ℕ → Place → List Char → Part
+snippet_from lines macros line opened xs =
+    InNotes line opened (if line == 0 then notes.says (nat_lt 0 lines) macros xs else nabc.told xs)
+
+-- behind the last NABC line comes GABC again
+abbrev pub next_line : ℕ → ℕ → ℕ
+next_line lines line = if nat_lt line lines then line + 1 else 0
+
+-- the place behind a mark; a column that has reached its last value stays there
+abbrev pub behind_mark : Place → Place
+behind_mark place = record { line = place.line; column = min (place.column + 1) (2 ^ 64 - 1) }
+
+-- the LF that ends the comment is the first character of a text
+abbrev pub standing : Part → Char → List Char → Part
+standing InComment x xs = if x.c == 10 then text_from x.place (x ∷ xs) else InComment
+standing part x xs = part
+
+-- the part in which the characters xs behind x stand, where x stands in this part
+abbrev pub behind : ℕ → ℕ → Part → Char → List Char → Part
+behind lines macros InComment x xs = InComment
+behind lines macros (InText lists) x xs =
+    if list_any is_text_end (first_list lists) then snippet_from lines macros 0 x.place xs else InText (other_lists lists)
+behind lines macros (InNotes line opened lists) x xs =
+    if list_any is_next (first_list lists) then snippet_from lines macros (next_line lines line) opened xs else
+    if list_any is_close (first_list lists) then text_from (behind_mark x.place) xs else
+    InNotes line opened (other_lists lists)
+
+-- what the characters tell, the first of which stands in this part, and the end
+abbrev pub told_from : ℕ → ℕ → Part → List Char → List (List Told)
+told_from lines macros part [] = told_at_end part ∷ []
+told_from lines macros part (x ∷ xs) = told_in (standing part x xs) ∷ told_from lines macros (behind lines macros (standing part x xs) x xs) xs
+
+-- what the characters of a body tell, with so many NABC lines and the macros of these bits
+abbrev pub body_told : ℕ → ℕ → List Char → List (List Told)
+body_told lines macros xs = told_from lines macros InComment xs

@@ -1,0 +1,98 @@
+-- What the reader of a body does.
+use Rattle.std.specs.Prelude.{ℕ, ◌+◌, ◌||◌, ◌&&◌, not, nat_lt, List, [], ◌∷◌, ◌++◌, Bool, cond, length, Option, Some, None, take}
+use Rattle.std.specs.Option.{option_map}
+use Rattle.gabc_places.specs.declared.code.Code.{Code}
+use Rattle.gabc_places.specs.declared.code.Code.TheVariants.{W9, W11, F5, F6, F7}
+use Rattle.gabc_places.specs.declared.code.Finding.{Finding}
+use Rattle.gabc_places.specs.declared.limits.Limits.{Limits}
+use Rattle.gabc_places.specs.declared.place.Place.{Place}
+use Rattle.gabc_places.specs.declared.place.Char.{Char}
+use Rattle.gabc_places.specs.Place.{next_place}
+use Rattle.gabc_places.specs.Held.{Held}
+use Rattle.gabc_places.specs.declared.code.Fault.{Fault}
+use Rattle.gabc_score.specs.declared.told.Told.{Told}
+use Rattle.gabc_score.specs.declared.body_read.BodyRead.{BodyRead}
+use Rattle.gabc_score.specs.declared.reader.BodyReader.{BodyReader}
+use Rattle.gabc_score.specs.Canonical.{with_positions}
+use Rattle.gabc_score.specs.Body.{is_longer, is_none, findings_with, fault_at, has_text}
+use Rattle.gabc_score.specs.Gathered.{Gathered, gathered_of, with_told, with_last}
+
+-- ---- places
+
+-- the characters of a text that begins at this place
+abbrev pub placed_from : Place → List ℕ → List Char
+placed_from at [] = []
+placed_from at (c ∷ cs) = record { c = c; place = at } ∷ placed_from (next_place at c) cs
+
+-- the place behind it
+abbrev pub place_behind : Place → List ℕ → Place
+place_behind at [] = at
+place_behind at (c ∷ cs) = place_behind (next_place at c) cs
+
+-- ---- what is told at a point
+
+abbrev pub with_all : Gathered → List Told → Gathered
+with_all g [] = g
+with_all g (t ∷ now) = with_all (with_told g t) now
+
+abbrev pub findings_after : List Finding → List Told → List Finding
+findings_after found [] = found
+findings_after found (t ∷ now) = findings_after (findings_with found t) now
+
+-- which limit is passed
+abbrev pub code_in : Limits → Gathered → Option Code
+code_in limits g =
+    cond (is_longer g.limit g.reading.kept || g.over) (Some F5)
+    (cond (not (is_none g.made) && nat_lt limits.input (g.total + 1)) (Some F7) None)
+
+-- ---- the reader
+
+-- what was told at the point that is being read, what was gathered, and what was found at the points before
+pub record State : Type 0 where
+  pub room : Held Told
+  pub gathered : Gathered
+  pub found : List Finding
+
+abbrev pub state_of : BodyReader → State
+state_of r = record { room = r.room; gathered = gathered_of r.gatherer; found = r.findings }
+
+abbrev pub told_gathered : State → Gathered
+told_gathered s = with_all s.gathered s.room.items
+
+-- the first syllables of those gathered, as many as there are in the first
+abbrev pub only_made : Gathered → Gathered → Gathered
+only_made before g = record g { made = take (length before.made) g.made }
+
+-- after a point, where a limit is passed or none
+abbrev pub past_point : State → Option Code → State
+past_point s None = record { room = record s.room { items = [] }; gathered = told_gathered s; found = findings_after s.found s.room.items }
+past_point s (Some code) = record s { gathered = only_made s.gathered (told_gathered s) }
+
+abbrev pub stopped_at : State → Option Fault → BodyRead
+stopped_at s fault = record { syllables = with_positions s.gathered.made; findings = s.found; fault = fault }
+
+-- ---- the end
+
+abbrev pub end_fault_by : Limits → Place → Gathered → Option Place → Option Fault
+end_fault_by limits at g (Some place) = Some (fault_at place F6)
+end_fault_by limits at g None = option_map (fault_at at) (code_in limits g)
+
+abbrev pub end_fault : Limits → Place → Gathered → Option Fault
+end_fault limits at g = end_fault_by limits at g g.cut
+
+abbrev pub end_findings : Place → Bool → Bool → List Finding
+end_findings at has_last is_open =
+    cond has_last (record { place = at; code = W9 } ∷ []) []
+    ++ cond is_open (record { place = at; code = W11 } ∷ []) []
+
+-- after the end, where there is a fault or none
+abbrev pub past_end : Place → State → Option Fault → State
+past_end at s (Some fault) = record s { gathered = only_made s.gathered (with_last (told_gathered s)) }
+past_end at s None =
+    let g = told_gathered s in
+    record s { gathered = with_last g; found = findings_after s.found s.room.items ++ end_findings at (has_text g.reading.view) ((with_last g).eu || (with_last g).nlba) }
+
+abbrev pub end_of : Limits → Place → State → BodyRead
+end_of limits at s =
+    let fault = end_fault limits at (with_last (told_gathered s)) in
+    stopped_at (past_end at s fault) fault

@@ -1,0 +1,28 @@
+//! The score: syllables with their positions, what was found, and what stopped the reading.
+#![tactic(auto)]
+
+mod body;
+mod body_read;
+mod canonical;
+mod ending;
+mod gather;
+mod read_body;
+mod reader;
+mod reading;
+mod score;
+mod slice;
+mod snippets;
+mod start;
+mod syllable;
+mod syllables;
+mod told;
+mod whole;
+
+pub use body::BodyStage;
+pub use ending::Ending;
+pub use score::Score;
+pub use snippets::{Snippet, Snippets};
+pub use syllable::{Position, Syllable};
+pub use syllables::Syllables;
+pub use told::Told;
+pub use whole::score_whole;

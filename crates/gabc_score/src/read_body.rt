@@ -1,0 +1,47 @@
+//! The reading of a whole body.
+
+ghost use Rattle.std.specs.Prelude.{◌≡◌, ◌+◌, ◌<◌, ◌^◌, length, IfOk};
+ghost use Rattle.std.specs.Str.{chars};
+ghost use Rattle.gabc_score.specs.Body.{body_of};
+ghost use Rattle.gabc_score.specs.Reader.{placed_from, place_behind};
+
+use crate::body_read::BodyRead;
+use crate::ending::Ending;
+use crate::reader::BodyReader;
+use crate::start::Start;
+use crate::told::Told;
+use gabc_places::{Char, Fault, Limits, Stage};
+use std::alloc::{AllocError, Global};
+
+/// Reads a body to its end or the first fault, by what the stage tells of its characters.
+pub(crate) fn read_body<S: Stage<Input = Char, Output = Told>>(
+    alloc: Global,
+    stage: &mut S,
+    body: &str,
+    start: Start,
+    limits: Limits,
+    ending: Ending,
+) -> Result<BodyRead, AllocError>
+    requires line { start.at.line + length body.now < 2 ^ 64 }
+    requires column { start.at.column + length body.now < 2 ^ 64 }
+    ensures { let xs = placed_from start.at (chars body.now) in IfOk result (λ read. read ≡ body_of limits start.head start.findings (place_behind start.at (chars body.now)) ending xs (S.rest stage.old xs)) }
+{
+    let Start { at, head, findings } = start;
+    let mut reader = BodyReader::new(alloc, stage.most(), limits, head, findings)?;
+    let mut place = at;
+    for c in body.chars() {
+        stage.push(Char { c, place }, &mut reader.room);
+        if let Some(code) = reader.pass_point(alloc, limits)? {
+            return Ok(reader.stopped(Some(Fault { place, code })));
+        }
+        place = place.after(c);
+    }
+    match ending {
+        Ending::Whole => {
+            stage.finish(&mut reader.room);
+            reader.end(alloc, limits, place)
+        }
+        Ending::Broken => Ok(reader.stopped(None)),
+        Ending::At(fault) => Ok(reader.stopped(Some(fault))),
+    }
+}

@@ -1,0 +1,177 @@
+//! The reading of a body, one character at a time.
+
+use crate::body_read::BodyRead;
+use crate::gather::Gatherer;
+use crate::syllables::Syllables;
+use crate::told::Told;
+use gabc_notes::NoteOut;
+use gabc_places::{Code, Fault, Finding, Findings, Limits, Place, Room};
+use gabc_text::TextOut;
+use std::alloc::{AllocError, Global};
+
+/// What was read of a body.
+#[derive(Drop)]
+pub(crate) struct BodyReader {
+    /// What is told at the point that is being read.
+    pub(crate) room: Room<Told>,
+    pub(crate) gatherer: Gatherer,
+    /// What was found at the points before.
+    pub(crate) findings: Findings,
+}
+
+impl BodyReader {
+    ghost use Rattle.std.specs.Prelude.{◌≡◌, ◌<◌, ◌^◌, [], OnOk, IfOk};
+    ghost use Rattle.gabc_score.specs.Gathered.{nothing_gathered, with_last};
+    ghost use Rattle.gabc_score.specs.Reader.{State, state_of, told_gathered, code_in, past_point, past_end, end_fault, stopped_at, end_of};
+
+    /// Nothing was read of a body whose canonical headers have `head` bytes, and in whose headers this was found. At most
+    /// `most` things are told at a point.
+    pub(crate) fn new(
+        alloc: Global,
+        most: usize,
+        limits: Limits,
+        head: usize,
+        findings: Findings,
+    ) -> Result<BodyReader, AllocError>
+        ensures { IfOk result (λ reader. state_of reader ≡ record { room = record { items = []; limit = most }; gathered = nothing_gathered limits.syllable head; found = findings }) }
+    {
+        Ok(BodyReader {
+            room: Room::with_limit(alloc, most)?,
+            gatherer: Gatherer::new(alloc, limits.syllable as usize, head),
+            findings,
+        })
+    }
+
+    /// Adds what is told at a point. Where a limit is passed, which is then answered, nothing of the point counts.
+    pub(crate) fn pass_point(
+        &mut self,
+        alloc: Global,
+        limits: Limits,
+    ) -> Result<Option<Code>, AllocError>
+        ensures fits { OnOk result (limits.input < 2 ^ 32) }
+        ensures code { IfOk result (λ code. code ≡ code_in limits (told_gathered (state_of self.old))) }
+        ensures state { IfOk result (λ code. state_of self.new ≡ past_point (state_of self.old) code) }
+    {
+        let whole = self.gatherer.made.len();
+        self.gatherer.add_all(alloc, self.room.slice())?;
+        let code = self.gatherer.code(limits);
+        match code {
+            Some(_) => self.gatherer.keep_made(whole),
+            None => {
+                add_found(&mut self.findings, self.room.slice())?;
+                self.room.clear();
+            }
+        }
+        Ok(code)
+    }
+
+    /// What was read, where it stops.
+    pub(crate) fn stopped(self, fault: Option<Fault>) -> BodyRead
+        ensures { result ≡ stopped_at (state_of self) fault }
+    {
+        let BodyReader {
+            room: _,
+            gatherer,
+            findings,
+        } = self;
+        BodyRead {
+            syllables: Syllables::placed(gatherer.made),
+            findings,
+            fault,
+        }
+    }
+
+    /// Adds what is told at the end, which is at this place, and closes the last text. Where there is a fault, which is then
+    /// answered, nothing of the end counts.
+    fn pass_end(
+        &mut self,
+        alloc: Global,
+        limits: Limits,
+        at: Place,
+    ) -> Result<Option<Fault>, AllocError>
+        ensures fits { OnOk result (limits.input < 2 ^ 32) }
+        ensures fault { IfOk result (λ fault. fault ≡ end_fault limits at (with_last (told_gathered (state_of self.old)))) }
+        ensures state { IfOk result (λ fault. state_of self.new ≡ past_end at (state_of self.old) fault) }
+    {
+        let whole = self.gatherer.made.len();
+        self.gatherer.add_all(alloc, self.room.slice())?;
+        let has_last = self.gatherer.close_last(alloc)?;
+        let fault = self.gatherer.end_fault(limits, at);
+        match fault {
+            Some(_) => self.gatherer.keep_made(whole),
+            None => {
+                let is_open = self.gatherer.has_open();
+                add_found(&mut self.findings, self.room.slice())?;
+                add_found_at_end(&mut self.findings, at, has_last, is_open)?;
+            }
+        }
+        Ok(fault)
+    }
+
+    /// What was read, to the end, which is at this place. What is told there is still to be added.
+    pub(crate) fn end(
+        mut self,
+        alloc: Global,
+        limits: Limits,
+        at: Place,
+    ) -> Result<BodyRead, AllocError>
+        ensures fits { OnOk result (limits.input < 2 ^ 32) }
+        ensures read { IfOk result (λ read. read ≡ end_of limits at (state_of self)) }
+    {
+        let fault = self.pass_end(alloc, limits, at)?;
+        Ok(self.stopped(fault))
+    }
+}
+
+ghost use Rattle.std.specs.Prelude.{◌≡◌, ◌++◌, OnOk};
+ghost use Rattle.gabc_score.specs.Body.{findings_with};
+ghost use Rattle.gabc_score.specs.Reader.{findings_after, end_findings};
+
+/// The finding that is told, if one is.
+fn add_finding(findings: &mut Findings, told: Told) -> Result<(), AllocError>
+    ensures { OnOk result (findings.new ≡ findings_with findings.old told) }
+{
+    match told {
+        Told::Text(TextOut::Found(finding)) => findings.push(finding)?,
+        Told::Notes {
+            line: _,
+            out: NoteOut::Found(finding),
+        } => findings.push(finding)?,
+        _ => {}
+    }
+    Ok(())
+}
+
+/// Adds what is found of what is told.
+fn add_found(findings: &mut Findings, told: &[Told]) -> Result<(), AllocError>
+    ensures { OnOk result (findings.new ≡ findings_after findings.old told.now) }
+{
+    for told in told {
+        add_finding(findings, *told)?;
+    }
+    Ok(())
+}
+
+/// Adds what is found at the end, at this place: a last text without notes, and a span that is open.
+fn add_found_at_end(
+    findings: &mut Findings,
+    at: Place,
+    has_last: bool,
+    is_open: bool,
+) -> Result<(), AllocError>
+    ensures { OnOk result (findings.new ≡ findings.old ++ end_findings at has_last is_open) }
+{
+    if has_last {
+        findings.push(Finding {
+            place: at,
+            code: Code::W9,
+        })?;
+    }
+    if is_open {
+        findings.push(Finding {
+            place: at,
+            code: Code::W11,
+        })?;
+    }
+    Ok(())
+}

@@ -1,0 +1,16 @@
+//! What a score says.
+
+use crate::syllables::Syllables;
+use gabc_headers::HeaderBook;
+use gabc_places::{Fault, Findings};
+
+/// What a score says: its headers, which are missing where a fault lies in them, its whole syllables, what was found, and what
+/// stopped the reading.
+#[derive(Drop)]
+pub struct Score {
+    pub book: Option<HeaderBook>,
+    pub syllables: Syllables,
+    /// What was found before the stop, in the order of places.
+    pub findings: Findings,
+    pub fault: Option<Fault>,
+}

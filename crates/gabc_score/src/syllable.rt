@@ -1,0 +1,72 @@
+//! A syllable: a text with its notes.
+
+use crate::canonical::canonical_len;
+use crate::slice::slice_of;
+use crate::snippets::Snippets;
+use gabc_places::Span;
+use gabc_text::TextView;
+
+/// Where in its word a syllable stands.
+#[derive(Clone, Copy, Debug, PartialEq, Eq)]
+pub enum Position {
+    /// It is the whole word.
+    One,
+    Beginning,
+    Middle,
+    End,
+}
+
+impl Position {
+    ghost use Rattle.std.specs.Prelude.{◌≡◌};
+    ghost use Rattle.gabc_score.specs.Canonical.{starts_word};
+
+    /// Whether a syllable that stands there begins its word.
+    pub fn starts_word(self) -> bool
+        ensures { result ≡ starts_word self }
+    {
+        match self {
+            Position::One | Position::Beginning => true,
+            Position::Middle | Position::End => false,
+        }
+    }
+}
+
+/// A text with its notes.
+#[derive(Drop)]
+pub struct Syllable {
+    pub text: TextView,
+    /// The text from the blanks before it to its `)`, without comments and what was left out. Spans count its bytes.
+    pub kept: String,
+    pub snippets: Snippets,
+    pub position: Position,
+    /// Whether the span that `<eu>` opens is open at the end of its text, and that of `<nlba>`.
+    pub eu: bool,
+    pub nlba: bool,
+}
+
+impl Syllable {
+    ghost use Rattle.std.specs.Prelude.{◌≡◌, ◌-◌, ◌^◌, min, length, string_bytes};
+    ghost use Rattle.gabc_score.specs.Syllable.{made_of, slice};
+    ghost use Rattle.gabc_score.specs.Canonical.{canonical, starts_word};
+
+    /// The bytes of a span of its kept text. What lies past the text has none.
+    pub fn slice(&self, span: Span) -> &[u8]
+        ensures { result.now ≡ slice span (string_bytes self.now.kept) }
+    {
+        slice_of(self.kept.as_str(), span)
+    }
+
+    /// Whether it begins a word.
+    pub fn starts_word(&self) -> bool
+        ensures { result ≡ starts_word self.now.position }
+    {
+        self.position.starts_word()
+    }
+
+    /// The bytes of its canonical text, or the last value of a `usize` where there are more. It asks for no memory.
+    pub fn canonical_len(&self) -> usize
+        ensures { result ≡ min (length (canonical (starts_word self.now.position) (made_of self.now))) (2 ^ 64 - 1) }
+    {
+        canonical_len(self, self.starts_word())
+    }
+}

@@ -1,0 +1,72 @@
+//! A list of syllables.
+
+ghost use Rattle.std.specs.Prelude.{◌≡◌};
+ghost use Rattle.gabc_score.specs.Canonical.{position_by};
+
+use crate::syllable::{Position, Syllable};
+use std::alloc::Global;
+use std::marker::Model;
+
+/// Syllables in order. Contracts see the list of them, each with the bytes of its kept text.
+#[derive(Drop)]
+pub struct Syllables {
+    items: Vec<Syllable>,
+}
+
+impl Model for Syllables {
+    ghost use Rattle.std.specs.Prelude.{List, map};
+    ghost use Rattle.gabc_score.specs.Syllable.{Said, said};
+
+    ghost Value = { List Said };
+
+    ghost view = { λ s. map said s.items.items };
+}
+
+/// The position of a syllable that begins a word or not, before a word's beginning or not.
+fn position_by(starts: bool, next_starts: bool) -> Position
+    ensures { result ≡ position_by starts next_starts }
+{
+    match (starts, next_starts) {
+        (true, true) => Position::One,
+        (true, false) => Position::Beginning,
+        (false, true) => Position::End,
+        (false, false) => Position::Middle,
+    }
+}
+
+impl Syllables {
+    ghost use Rattle.std.specs.Prelude.{[], map};
+    ghost use Rattle.gabc_score.specs.Syllable.{made_of, said};
+    ghost use Rattle.gabc_score.specs.Canonical.{with_positions};
+
+    /// No syllables.
+    pub(crate) fn new(alloc: Global) -> Syllables
+        ensures { result ≡ [] }
+    {
+        Syllables {
+            items: Vec::new(alloc),
+        }
+    }
+
+    /// The syllables of a score, in order. Each gets its position: the first begins a word, and the end of the list counts as a
+    /// word's beginning.
+    pub(crate) fn placed(mut items: Vec<Syllable>) -> Syllables
+        ensures { result ≡ with_positions (map made_of items.items) }
+    {
+        let mut next_starts = true;
+        for index in (0..items.len()).rev() {
+            let syllable = &mut items[index];
+            let word_start = syllable.text.word_start;
+            syllable.position = position_by(index == 0 || word_start, next_starts);
+            next_starts = word_start;
+        }
+        Syllables { items }
+    }
+
+    /// The syllables in order.
+    pub fn as_slice(&self) -> &[Syllable]
+        ensures { map said result.now ≡ self.now }
+    {
+        self.items.as_slice()
+    }
+}

@@ -1,0 +1,129 @@
+//! The score of a whole text.
+
+ghost use Rattle.std.specs.Prelude.{◌≡◌, ◌+◌, ◌<◌, ◌≤◌, ◌^◌, [], length, IfOk};
+ghost use Rattle.std.specs.Str.{chars};
+ghost use Rattle.gabc_headers.specs.Heads.{body_byte};
+ghost use Rattle.gabc_score.specs.Reader.{place_behind};
+ghost use Rattle.gabc_score.specs.Score.{macros_of, body_in, with_body, head_fault_by, score_of};
+
+use crate::body::BodyStage;
+use crate::body_read::BodyRead;
+use crate::ending::Ending;
+use crate::read_body::read_body;
+use crate::score::Score;
+use crate::start::Start;
+use crate::syllables::Syllables;
+use gabc_headers::{HeadFault, HeaderBook, Heads, headers_whole};
+use gabc_places::{Fault, Limits, Place, Text};
+use std::alloc::{AllocError, Global};
+
+/// The score of a text that ended so: its headers, its syllables and what was found, up to the first fault.
+pub fn score_whole(
+    alloc: Global,
+    text: &Text,
+    ending: Ending,
+    limits: Limits,
+) -> Result<Score, AllocError>
+    ensures { IfOk result (λ score. score ≡ score_of limits ending text.now) }
+{
+    match headers_whole(alloc, text, limits)? {
+        Ok(heads) => score_behind(alloc, text, ending, limits, heads),
+        Err(stop) => Ok(stopped_in_heads(alloc, ending, stop)),
+    }
+}
+
+/// The score of a text whose headers have a fault.
+fn stopped_in_heads(alloc: Global, ending: Ending, stop: HeadFault) -> Score
+    ensures { result ≡ record { book = None; syllables = []; findings = stop.findings; fault = head_fault_by ending stop.at_end stop.fault } }
+{
+    let HeadFault {
+        fault,
+        findings,
+        at_end,
+    } = stop;
+    Score {
+        book: None,
+        syllables: Syllables::new(alloc),
+        findings,
+        fault: head_fault(ending, at_end, fault),
+    }
+}
+
+/// The fault of headers: one that has the end as its point gives way to what ended the text.
+fn head_fault(ending: Ending, at_end: bool, fault: Fault) -> Option<Fault>
+    ensures { result ≡ head_fault_by ending at_end fault }
+{
+    if !at_end {
+        return Some(fault);
+    }
+    match ending {
+        Ending::Whole => Some(fault),
+        Ending::Broken => None,
+        Ending::At(other) => Some(other),
+    }
+}
+
+/// The score of a text with these headers.
+fn score_behind(
+    alloc: Global,
+    text: &Text,
+    ending: Ending,
+    limits: Limits,
+    heads: Heads,
+) -> Result<Score, AllocError>
+    requires { heads.body ≡ body_byte text.now }
+    ensures { IfOk result (λ score. score ≡ with_body heads (body_in limits ending text.now heads)) }
+{
+    let Heads {
+        book,
+        body,
+        findings,
+    } = heads;
+    let (front, behind) = text.as_str().split_at(body);
+    let mut stage = BodyStage::new(alloc, book.nabc_lines(), macros_in(&book))?;
+    let start = Start {
+        at: place_past(front),
+        head: book.canonical_len(),
+        findings,
+    };
+    let BodyRead {
+        syllables,
+        findings,
+        fault,
+    } = read_body(alloc, &mut stage, behind, start, limits, ending)?;
+    Ok(Score {
+        book: Some(book),
+        syllables,
+        findings,
+        fault,
+    })
+}
+
+/// The macros that have a header: the bit of each digit.
+fn macros_in(book: &HeaderBook) -> u16
+    ensures { result ≡ macros_of book.now }
+{
+    let mut macros: u16 = 0;
+    let mut bit: u16 = 1;
+    for digit in 0..10u8 {
+        if book.is_macro(digit) {
+            macros += bit;
+        }
+        bit *= 2;
+    }
+    macros
+}
+
+/// The place behind a text.
+fn place_past(front: &str) -> Place
+    requires { length front.now < 2 ^ 63 }
+    ensures place { result ≡ place_behind Place.START (chars front.now) }
+    ensures line { result.line ≤ 1 + length front.now }
+    ensures column { result.column ≤ 1 + length front.now }
+{
+    let mut place = Place::START;
+    for c in front.chars() {
+        place = place.after(c);
+    }
+    place
+}

@@ -1,0 +1,5 @@
+use Rattle.gabc_text.proofs.Written.{canonical_is}
+use Rattle.gabc_text.proofs.laws.canonical_is_printed.Goals as goal
+
+pub returns : goal.returns
+returns c t = canonical_is t

@@ -1,0 +1,5 @@
+use Rattle.gabc_text.proofs.Ordered.{findings_ordered}
+use Rattle.gabc_text.proofs.laws.findings_in_order.Goals as goal
+
+pub returns : goal.returns
+returns c at t = findings_ordered at t

@@ -1,0 +1,88 @@
+-- The printed form of what a text says, as tokens: its canonical text, with the LF before a word and the translation.
+use Rattle.std.specs.Prelude.{ℕ, ◌+◌, List, [], ◌∷◌, ◌++◌, Bool, true, false, cond, ◌==◌, Option, Some, None, map, reverse, codes}
+use Rattle.std.specs.List.{concat}
+use Rattle.gabc_text.specs.declared.styles.Style.{Style}
+use Rattle.gabc_text.specs.declared.styles.Style.TheVariants.{B, C, E, I, Sc, Tt, Ul}
+use Rattle.gabc_text.specs.declared.view.PieceKind.{PieceKind}
+use Rattle.gabc_text.specs.declared.view.PieceKind.TheVariants as piece
+use Rattle.gabc_text.specs.declared.token.Kind.{Kind}
+use Rattle.gabc_text.specs.declared.token.Kind.TheVariants as kind
+use Rattle.gabc_text.specs.Token.{Token, spelling, is_special}
+use Rattle.gabc_places.specs.declared.place.Span.{Span}
+use Rattle.gabc_text.specs.View.{Said}
+use Rattle.gabc_text.specs.Said.{SaidView}
+use Rattle.gabc_text.specs.Canonical.{after_common}
+
+-- what stands in a style's tags, with the `>`
+abbrev pub name_of : Style → List ℕ
+name_of B = codes "b>"
+name_of C = codes "c>"
+name_of E = codes "e>"
+name_of I = codes "i>"
+name_of Sc = codes "sc>"
+name_of Tt = codes "tt>"
+name_of Ul = codes "ul>"
+
+abbrev pub opening_tag : Style → Token
+opening_tag s = record { kind = kind.Tag; first = 60; more = name_of s }
+
+abbrev pub closing_tag : Style → Token
+closing_tag s = record { kind = kind.Tag; first = 60; more = 47 ∷ name_of s }
+
+-- the braces at a position
+abbrev pub begin_brace : Token
+begin_brace = record { kind = kind.Begin; first = 123; more = [] }
+
+abbrev pub end_brace : Token
+end_brace = record { kind = kind.End; first = 125; more = [] }
+
+abbrev pub brace_tokens : Option Span → ℕ → List Token
+brace_tokens None i = []
+brace_tokens (Some c) i =
+    cond (c.from == i) (cond (c.to == i) (begin_brace ∷ end_brace ∷ []) (begin_brace ∷ []))
+    (cond (c.to == i) (end_brace ∷ []) [])
+
+-- between two pieces, or before the first and after the last
+abbrev pub between : List Style → List Style → List Token → List Token
+between old new middle = map closing_tag (reverse (after_common old new).0) ++ middle ++ map opening_tag (after_common old new).1
+
+abbrev pub letter : List ℕ → Token
+letter [] = record { kind = kind.Letter; first = 36; more = [] }
+letter (c ∷ s) = cond (is_special c) (record { kind = kind.Letter; first = 36; more = c ∷ [] }) (record { kind = kind.Letter; first = c; more = [] })
+
+abbrev pub spelled_as : Kind → List ℕ → Token
+spelled_as k [] = record { kind = k; first = 60; more = [] }
+spelled_as k (c ∷ s) = record { kind = k; first = c; more = s }
+
+abbrev pub printed : PieceKind → List ℕ → Token
+printed piece.Char t = letter t
+printed piece.Blank t = record { kind = kind.Blank; first = 32; more = [] }
+printed piece.Raw t = spelled_as kind.Raw t
+printed piece.Tag t = spelled_as kind.Tag t
+printed piece.Mark t = spelled_as kind.Tag t
+
+-- the pieces from position i on, after a piece with the styles old
+abbrev pub print_from : Option Span → ℕ → List Style → List Said → List Token
+print_from centre i old [] = between old [] (brace_tokens centre i)
+print_from centre i old (p ∷ ps) = between old p.styles (brace_tokens centre i) ++ printed p.kind p.text ∷ print_from centre (i + 1) p.styles ps
+
+abbrev pub translated : Option (List ℕ) → List Token
+translated None = []
+translated (Some t) = record { kind = kind.Translation; first = 91; more = t ++ 93 ∷ [] } ∷ []
+
+abbrev pub word_break : Bool → List Token
+word_break true = record { kind = kind.Blank; first = 10; more = [] } ∷ []
+word_break false = []
+
+-- the text without translation, and all of it, with the LF before a word
+abbrev pub text_tokens : SaidView → List Token
+text_tokens v = print_from v.centre 0 [] v.pieces
+
+abbrev pub print_tokens : SaidView → List Token
+print_tokens v = word_break v.word_start ++ text_tokens v ++ translated v.translation
+
+abbrev pub written : List Token → List ℕ
+written ks = concat (map spelling ks)
+
+abbrev pub print : SaidView → List ℕ
+print v = written (print_tokens v)

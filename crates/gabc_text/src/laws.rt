@@ -1,0 +1,80 @@
+//! Laws of the definitions that contracts speak of. The functions do nothing: each is there for its clauses.
+
+ghost use Rattle.std.specs.Prelude.{◌≡◌, ℕ, ◌+◌, List, [], ◌∷◌, ◌++◌, length, take, false, cond, codes, encode_utf8_all};
+ghost use Rattle.gabc_places.specs.Law.{joined};
+ghost use Rattle.gabc_places.specs.Findings.{AreInOrder};
+ghost use Rattle.gabc_places.specs.declared.place.Place.{Place};
+ghost use Rattle.gabc_text.specs.declared.stage.TextStage.{TextStage};
+ghost use Rattle.gabc_text.specs.Step.{fresh, rest_of, left_of};
+ghost use Rattle.gabc_text.specs.Outs.{Fits, outs, outs_by_point, after_tokens, nothing_each};
+ghost use Rattle.gabc_text.specs.View.{kept, findings};
+ghost use Rattle.gabc_text.specs.Read.{view_in};
+ghost use Rattle.gabc_text.specs.Said.{Stands, StandsFor, view_said, has_error};
+ghost use Rattle.gabc_text.specs.Printed.{print, text_tokens, translated, written};
+ghost use Rattle.gabc_text.specs.Canonical.{spanned, canonical_text};
+ghost use Rattle.gabc_places.specs.declared.place.Span.{Span};
+ghost use Rattle.gabc_text.specs.Told.{told_after, nothing_told, told_in, kept_in};
+
+/// A fresh machine gives what the definition says, where no count of the text reaches its last value, and what it does not
+/// read begins with the `(` that ends the text.
+pub fn fresh_gives()
+    ensures given { (at : Place) (t : List ℕ) → Fits at t → rest_of (fresh at) t ≡ outs_by_point at t }
+    ensures left { (at : Place) (t : List ℕ) → Fits at t → left_of (fresh at) t ≡ after_tokens t }
+{}
+
+/// A text gives a list of outputs for each character and one for the end. Joined, they are its outputs in order.
+pub fn outs_in_order()
+    ensures each { (at : Place) (t : List ℕ) → Fits at t → length (outs_by_point at t) ≡ length t + 1 }
+    ensures joined { (at : Place) (t : List ℕ) → joined (outs_by_point at t) ≡ outs at t }
+{}
+
+/// The outputs of a text, gathered in order, are its kept text, its view, its findings and its end.
+pub fn outs_tell_all()
+    ensures told { (at : Place) (t : List ℕ) → told_after nothing_told (joined (outs_by_point at t)) ≡ told_in at t }
+    ensures kept { (at : Place) (t : List ℕ) → kept_in (joined (outs_by_point at t)) ≡ kept t }
+{}
+
+/// The findings of a text are sorted by their places, those of one place by their codes, and none stands twice.
+pub fn findings_in_order()
+    ensures { (at : Place) (t : List ℕ) → AreInOrder (findings at t) }
+{}
+
+/// A machine gives a list for each character and one for the end. What it gives for some characters does not depend on what
+/// follows them.
+pub fn given_so_far()
+    ensures each { (s : TextStage) (t : List ℕ) → length (rest_of s t) ≡ length t + 1 }
+    ensures front { (s : TextStage) (t u v : List ℕ) → take (length t) (rest_of s (t ++ u)) ≡ take (length t) (rest_of s (t ++ v)) }
+{}
+
+/// If the `(` behind a text ends it, then it does so whatever follows, and nothing more is given.
+pub fn nothing_after_the_notes_begin()
+    ensures left { (s : TextStage) (t u v : List ℕ) → left_of s (t ++ 40 ∷ u) ≡ 40 ∷ u → left_of s (t ++ 40 ∷ v) ≡ 40 ∷ v }
+    ensures given { (s : TextStage) (t u v : List ℕ) → left_of s (t ++ 40 ∷ u) ≡ 40 ∷ u → rest_of s (t ++ 40 ∷ v) ≡ take (length t + 1) (rest_of s (t ++ 40 ∷ u)) ++ ([] ∷ nothing_each v) }
+{}
+
+/// The spans of a text's view stand for what the view says, and its centre lies among its pieces. A span that stands for a
+/// part of a text holds that part's bytes.
+pub fn spans_stand()
+    ensures view { (t : List ℕ) → Stands (kept t) (view_in t) t }
+    ensures bytes { (text : List ℕ) (span : Span) (part : List ℕ) → StandsFor text span part → spanned (encode_utf8_all text) span ≡ encode_utf8_all part }
+{}
+
+/// The canonical text of a text's view is the printed form of what the text says, but for the blank before a word and the
+/// translation.
+pub fn canonical_is_printed()
+    ensures { (t : List ℕ) → canonical_text (view_in t) (encode_utf8_all (kept t)) ≡ encode_utf8_all (written (text_tokens (view_said t))) }
+{}
+
+/// What is printed of a text is read again, before a `(` and whatever follows, as what was said, without
+/// an error. All of it is kept, the LF before a word as a blank.
+pub fn printed_again()
+    ensures said { (t rest : List ℕ) → view_said (print (view_said t) ++ 40 ∷ rest) ≡ view_said t }
+    ensures errors { (at : Place) (t rest : List ℕ) → has_error (findings at (print (view_said t) ++ 40 ∷ rest)) ≡ false }
+    ensures kept { (t rest : List ℕ) → kept (print (view_said t) ++ 40 ∷ rest) ≡ cond (view_said t).word_start (codes " ") [] ++ written (text_tokens (view_said t) ++ translated (view_said t).translation) }
+{}
+
+/// The kept text of a text is read again as itself, and says the same.
+pub fn kept_again()
+    ensures kept { (t : List ℕ) → kept (kept t) ≡ kept t }
+    ensures said { (t : List ℕ) → view_said (kept t) ≡ view_said t }
+{}

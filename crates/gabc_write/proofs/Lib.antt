@@ -1,0 +1,3 @@
+pub mod HeaderBytes
+pub mod Rooms
+pub mod Snippets

@@ -1,0 +1,40 @@
+//! One run of the reader, whose output and messages are kept.
+
+use gabc_places::{Limits, ToWriter, TrialSource};
+use gregorio::{Format, Input, Job, Output, compile};
+use std::alloc::Global;
+
+/// What a run wrote, and its exit status.
+#[derive(Drop)]
+pub(crate) struct Ran {
+    pub output: ToWriter<Vec<u8>>,
+    pub messages: ToWriter<Vec<u8>>,
+    pub status: u8,
+}
+
+/// Runs the reader on these bytes, from a source that fails behind them if it is `broken`.
+pub(crate) fn run(
+    alloc: Global,
+    bytes: &[u8],
+    broken: bool,
+    limits: Limits,
+    all_warnings: bool,
+) -> Ran {
+    let job = Job {
+        format: Format::Gabc,
+        input: Input::Stdin,
+        output: Output::Stdout,
+        messages: None,
+        all_warnings,
+    };
+    let fails_after = if broken { Some(bytes.len()) } else { None };
+    let mut source = TrialSource::new(bytes, 4096, fails_after);
+    let mut output = ToWriter::new(Vec::new(alloc));
+    let mut messages = ToWriter::new(Vec::new(alloc));
+    let status = compile(alloc, &job, limits, &mut source, &mut output, &mut messages);
+    Ran {
+        output,
+        messages,
+        status: status.code(),
+    }
+}

@@ -1,0 +1,55 @@
+//! What the writers add to a room.
+
+use gabc_headers::headers_whole;
+use gabc_places::{Code, Limits, Place, Room, Text};
+use gabc_score::{Ending, score_whole};
+use gabc_write::{canon_header, canon_len, canon_syllable, message_len, message_line};
+use std::test::Fail;
+
+#[test]
+fn writes_message_lines(rt: HostRuntime) -> Result<(), Fail> {
+    let line = "x.gabc:18446744073709551615:10: error: E6: unfinished end of the notes left out\n";
+    let place = Place {
+        line: u64::MAX,
+        column: 10,
+    };
+    assert_eq!(rt; message_len("x.gabc", place, Code::E6), line.len());
+    let mut room = Room::with_limit(rt.alloc(), message_len("x.gabc", place, Code::E6))?;
+    message_line("x.gabc", place, Code::E6, &mut room);
+    assert_eq!(rt; room.slice(), line.as_bytes());
+    Ok(())
+}
+
+#[test]
+fn writes_headers(rt: HostRuntime) -> Result<(), Fail> {
+    let limits = Limits::new(64, 64, 64).ok_or("limits")?;
+    let text = Text::from_str(rt.alloc(), "name:A;\nmode: ;\nx: \n %%y\nz;;\n%%")?;
+    let canonical = "name: A;\nmode:;\nx:\n %%y\nz;;\n%%";
+    let Ok(heads) = headers_whole(rt.alloc(), &text, limits)? else {
+        return Err("headers".into());
+    };
+    assert_eq!(rt; heads.book.canonical_len(), canonical.len());
+    let mut room = Room::with_limit(rt.alloc(), heads.book.canonical_len())?;
+    canon_header(&heads.book, &mut room);
+    assert_eq!(rt; room.slice(), canonical.as_bytes());
+    Ok(())
+}
+
+#[test]
+fn writes_syllables(rt: HostRuntime) -> Result<(), Fail> {
+    let limits = Limits::new(64, 64, 64).ok_or("limits")?;
+    let text = Text::from_str(
+        rt.alloc(),
+        "nabc-lines:1;%%\n;\n%%\n<i>a<b>b</i>[x]</b>(f|pe)$((|) c",
+    )?;
+    let score = score_whole(rt.alloc(), &text, Ending::Whole, limits)?;
+    let wanted = ["\n<i>a</i><b><i>b</i></b>[x](f|pe)", "$((|)", "\nc()"];
+    assert_eq!(rt; score.syllables.as_slice().len(), wanted.len());
+    for (syllable, wanted) in score.syllables.as_slice().iter().zip(wanted) {
+        assert_eq!(rt; canon_len(syllable), wanted.len());
+        let mut room = Room::with_limit(rt.alloc(), 64)?;
+        canon_syllable(syllable, &mut room);
+        assert_eq!(rt; room.slice(), wanted.as_bytes());
+    }
+    Ok(())
+}
