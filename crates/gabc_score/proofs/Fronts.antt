@@ -59,11 +59,14 @@ module _ (t bytes : List ℕ) (whole : bytes ≡ encodes t) (utf8 : IsUtf8 bytes
   pub chars_front : chars (take at bytes) ≡ take n t
   chars_front = encodes_same (chars (take at bytes)) (take n t) (encodes-chars (take at bytes) (IsUtf8-take bytes at utf8 boundary_here) ∙ front_bytes)
 
+  pub utf8_here : IsUtf8 (drop at bytes)
+  utf8_here = IsUtf8-drop bytes at utf8 boundary_here
+
   pub chars_behind : chars (drop at bytes) ≡ drop n t
-  chars_behind = encodes_same (chars (drop at bytes)) (drop n t) (encodes-chars (drop at bytes) (IsUtf8-drop bytes at utf8 boundary_here) ∙ behind_bytes)
+  chars_behind = encodes_same (chars (drop at bytes)) (drop n t) (encodes-chars (drop at bytes) utf8_here ∙ behind_bytes)
 
 module _ (limits : Limits) (ending : Ending) (t : List ℕ) (heads : Heads) (rest : List Char → List (List Told)) (lines macros head : ℕ) (at : Place) (front behind : List ℕ) where
-  pub body_is : ((xs : List Char) → rest xs ≡ body_told lines macros xs) → lines ≡ nabc_lines_of heads.book → macros ≡ macros_of heads.book → head ≡ bytes_len (canonical_heads heads.book)
+  pub body_is : rest (placed_from at behind) ≡ body_told lines macros (placed_from at behind) → lines ≡ nabc_lines_of heads.book → macros ≡ macros_of heads.book → head ≡ bytes_len (canonical_heads heads.book)
       → at ≡ place_behind (record { line = 1; column = 1 }) front → front ≡ front_of t → behind ≡ behind_heads t
       → body_of limits head heads.findings (place_behind at behind) ending (placed_from at behind) (rest (placed_from at behind)) ≡ body_in limits ending t heads
   body_is law l m h p f b =
@@ -72,7 +75,7 @@ module _ (limits : Limits) (ending : Ending) (t : List ℕ) (heads : Heads) (res
       ap (λ q. placed_from q behind) place ∙ ap (placed_from (place_after (front_of t))) b ∙ placed_behind (front_of t) (behind_heads t) in
       let end : place_behind at behind ≡ place_after t =
       ap (λ q. place_behind q behind) place ∙ ap (place_behind (place_after (front_of t))) b ∙ behind_after (front_of t) (behind_heads t) ∙ ap place_after (take-append-drop (head_len t + 2) t) in
-      ap (λ lists. body_of limits head heads.findings (place_behind at behind) ending (placed_from at behind) lists) (law (placed_from at behind))
+      ap (λ lists. body_of limits head heads.findings (place_behind at behind) ending (placed_from at behind) lists) law
       ∙ ap (λ k. body_of limits k heads.findings (place_behind at behind) ending (placed_from at behind) (body_told lines macros (placed_from at behind))) h
       ∙ ap (λ q. body_of limits (bytes_len (canonical_heads heads.book)) heads.findings q ending (placed_from at behind) (body_told lines macros (placed_from at behind))) end
       ∙ ap (λ ys. body_of limits (bytes_len (canonical_heads heads.book)) heads.findings (place_after t) ending ys (body_told lines macros ys)) xs

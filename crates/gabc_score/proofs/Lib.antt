@@ -1,5 +1,6 @@
 pub mod Bodies
 pub mod Ends
+pub mod Fitting
 pub mod Gathering
 pub mod Lengths
 pub mod Placing
@@ -8,3 +9,4 @@ pub mod Slices
 pub mod Texts
 pub mod Places
 pub mod Fronts
+pub mod Units

@@ -9,3 +9,4 @@ pub mod Reader
 pub mod Score
 pub mod Step
 pub mod Syllable
+pub mod Units

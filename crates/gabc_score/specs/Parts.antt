@@ -3,6 +3,8 @@
 -- The body begins with a comment, up to its first LF. Then comes a text, up to its `(`, then a snippet of notes, up to its end;
 -- at a `|` the next snippet, at a `)` the next text. Each part is read from where it begins by the definition of texts, of GABC or
 -- of NABC snippets, and told from there to the character that ends it.
+--
+-- In these definitions `texts` is how a text is read. What a body tells, `body_told`, takes the definition of texts for it.
 use Rattle.std.specs.Prelude.{ℕ, ◌+◌, ◌-◌, ◌^◌, min, nat_lt, List, [], ◌∷◌, map, Bool, true, false, ◌==◌, if◌then◌else◌}
 use Rattle.std.specs.List.{list_any}
 use Rattle.gabc_places.specs.declared.place.Place.{Place}
@@ -10,8 +12,7 @@ use Rattle.gabc_places.specs.declared.place.Char.{Char}
 use Rattle.gabc_text.specs.declared.stage.TextEnd.TheVariants as text_end
 use Rattle.gabc_text.specs.declared.stage.TextOut.{TextOut}
 use Rattle.gabc_text.specs.declared.stage.TextOut.TheVariants as text_out
-use Rattle.gabc_text.specs.Outs.{codes_of}
-use Rattle.gabc_text.specs.Step.{fresh, rest_of}
+use Rattle.gabc_text.specs.Outs.{codes_of, outs_by_point}
 use Rattle.gabc_notes.specs.declared.stage.NoteEnd.{NoteEnd}
 use Rattle.gabc_notes.specs.declared.stage.NoteEnd.TheVariants as note_end
 use Rattle.gabc_notes.specs.declared.stage.NoteOut.{NoteOut}
@@ -69,9 +70,13 @@ abbrev pub told_at_end : Part → List Told
 told_at_end InComment = Text (text_out.Ended text_end.Finished) ∷ []
 told_at_end part = told_in part
 
+-- what a text gives that begins at a place with these characters: a list for each of them, and one for the end
+abbrev pub Texts : Type 0
+Texts = Place → List Char → List (List TextOut)
+
 -- the text that begins with these characters, the first of them here
-abbrev pub text_from : Place → List Char → Part
-text_from at xs = InText (rest_of (fresh at) (codes_of xs))
+abbrev pub text_from : Texts → Place → List Char → Part
+text_from texts at xs = InText (texts at xs)
 
 -- the snippet of that line that begins with these characters: GABC or NABC
 abbrev pub snippet_from : ℕ → ℕ → ℕ → Place → List Char → Part
@@ -87,25 +92,30 @@ abbrev pub behind_mark : Place → Place
 behind_mark place = record { line = place.line; column = min (place.column + 1) (2 ^ 64 - 1) }
 
 -- the LF that ends the comment is the first character of a text
-abbrev pub standing : Part → Char → List Char → Part
-standing InComment x xs = if x.c == 10 then text_from x.place (x ∷ xs) else InComment
-standing part x xs = part
+abbrev pub standing : Texts → Part → Char → List Char → Part
+standing texts InComment x xs = if x.c == 10 then text_from texts x.place (x ∷ xs) else InComment
+standing texts part x xs = part
 
 -- the part in which the characters xs behind x stand, where x stands in this part
-abbrev pub behind : ℕ → ℕ → Part → Char → List Char → Part
-behind lines macros InComment x xs = InComment
-behind lines macros (InText lists) x xs =
+abbrev pub behind : Texts → ℕ → ℕ → Part → Char → List Char → Part
+behind texts lines macros InComment x xs = InComment
+behind texts lines macros (InText lists) x xs =
     if list_any is_text_end (first_list lists) then snippet_from lines macros 0 x.place xs else InText (other_lists lists)
-behind lines macros (InNotes line opened lists) x xs =
+behind texts lines macros (InNotes line opened lists) x xs =
     if list_any is_next (first_list lists) then snippet_from lines macros (next_line lines line) opened xs else
-    if list_any is_close (first_list lists) then text_from (behind_mark x.place) xs else
+    if list_any is_close (first_list lists) then text_from texts (behind_mark x.place) xs else
     InNotes line opened (other_lists lists)
 
 -- what the characters tell, the first of which stands in this part, and the end
-abbrev pub told_from : ℕ → ℕ → Part → List Char → List (List Told)
-told_from lines macros part [] = told_at_end part ∷ []
-told_from lines macros part (x ∷ xs) = told_in (standing part x xs) ∷ told_from lines macros (behind lines macros (standing part x xs) x xs) xs
+abbrev pub told_from : Texts → ℕ → ℕ → Part → List Char → List (List Told)
+told_from texts lines macros part [] = told_at_end part ∷ []
+told_from texts lines macros part (x ∷ xs) =
+    told_in (standing texts part x xs) ∷ told_from texts lines macros (behind texts lines macros (standing texts part x xs) x xs) xs
+
+-- the texts of a body by their definition
+abbrev pub texts_said : Texts
+texts_said at xs = outs_by_point at (codes_of xs)
 
 -- what the characters of a body tell, with so many NABC lines and the macros of these bits
 abbrev pub body_told : ℕ → ℕ → List Char → List (List Told)
-body_told lines macros xs = told_from lines macros InComment xs
+body_told lines macros xs = told_from texts_said lines macros InComment xs

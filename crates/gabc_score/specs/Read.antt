@@ -1,4 +1,5 @@
--- What the machine over a body will still tell.
+-- What the machine over a body will still tell. It is no promise: that it tells what a body tells is proved, where no count of
+-- the body reaches its last value.
 use Rattle.std.specs.Prelude.{ℕ, List}
 use Rattle.gabc_places.specs.declared.place.Char.{Char}
 use Rattle.gabc_text.specs.Outs.{codes_of}
@@ -8,7 +9,7 @@ use Rattle.gabc_nabc.specs.Machine as nabc
 use Rattle.gabc_score.specs.declared.told.Told.{Told}
 use Rattle.gabc_score.specs.declared.body.Part as rust
 use Rattle.gabc_score.specs.declared.body.Part.TheVariants as part
-use Rattle.gabc_score.specs.Parts.{Part, InComment, InText, InNotes, told_from}
+use Rattle.gabc_score.specs.Parts.{Part, InComment, InText, InNotes, Texts, told_from}
 
 pub record Reads : Type 0 where
   pub nabc_lines : ℕ
@@ -22,5 +23,9 @@ part_with (part.Text stage) xs = InText (text.rest_of stage (codes_of xs))
 part_with (part.Notes opened stage) xs = InNotes 0 opened (notes.rest_of stage xs)
 part_with (part.Nabc line opened stage) xs = InNotes line opened (nabc.rest_of stage xs)
 
+-- a text as its machine reads it
+abbrev pub texts_run : Texts
+texts_run at xs = text.rest_of (text.fresh at) (codes_of xs)
+
 abbrev pub rest_told : Reads → List Char → List (List Told)
-rest_told r xs = told_from r.nabc_lines r.macros (part_with r.part xs) xs
+rest_told r xs = told_from texts_run r.nabc_lines r.macros (part_with r.part xs) xs

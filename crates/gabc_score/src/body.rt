@@ -2,20 +2,23 @@
 
 ghost use Rattle.std.specs.Prelude.{◌≡◌, ◌+◌, ◌∷◌, ℕ, List, [], map, length, ◌≤◌, OnOk, IfOk, option_map, if◌then◌else◌};
 ghost use Rattle.gabc_places.specs.declared.place.Char.{Char};
+ghost use Rattle.gabc_places.specs.declared.place.Place.{Place};
 ghost use Rattle.gabc_places.specs.Held.{HasRoom, added};
 ghost use Rattle.gabc_places.specs.Law.{Gives};
 ghost use Rattle.std.specs.List.{list_any};
-ghost use Rattle.gabc_score.specs.Parts.{body_told, behind_mark, is_text_end as text_end, is_next as note_next, is_close as note_close, notes_told as told_of_notes, next_line as line_after, snippet_from, text_from, standing};
+ghost use Rattle.gabc_score.specs.Parts.{InComment, told_from, body_told, behind_mark, is_text_end as text_end, is_next as note_next, is_close as note_close, notes_told as told_of_notes, next_line as line_after, snippet_from, text_from, standing};
 ghost use Rattle.gabc_text.specs.Step.{rest_of as text_rest};
-ghost use Rattle.gabc_text.specs.Outs.{codes_of};
+ghost use Rattle.gabc_text.specs.Outs.{codes_of, Fits};
 ghost use Rattle.gabc_score.specs.Pushed.{Pushes, Finishes};
-ghost use Rattle.gabc_score.specs.Read.{part_with, rest_told};
+ghost use Rattle.gabc_score.specs.Reader.{placed_from};
+ghost use Rattle.gabc_score.specs.Read.{part_with, rest_told, texts_run};
 ghost use Rattle.gabc_score.specs.declared.told.Told.TheVariants.{Text as of_text};
 
 use crate::Told;
 use gabc_nabc::NabcStage;
 use gabc_notes::{NoteEnd, NoteOut, NoteStage};
 use gabc_places::{Char, Place, Room, Stage};
+use gabc_text::laws::fresh_gives;
 use gabc_text::{TextEnd, TextOut, TextStage};
 use std::alloc::{AllocError, Global};
 use std::marker::Model;
@@ -208,10 +211,14 @@ fn behind(place: Place) -> Place
 
 impl BodyStage {
     /// A stage before the first character of a body, behind the `%%` of the headers. `nabc_lines` is the number of NABC lines
-    /// under each GABC snippet, and the bit `d` of `macros` tells that the macro of the digit `d` is defined.
+    /// under each GABC snippet, and the bit `d` of `macros` tells that the macro of the digit `d` is defined. It tells what the
+    /// definition says of each body in which no count reaches its last value.
     pub fn new(alloc: Global, nabc_lines: u8, macros: u16) -> Result<BodyStage, AllocError>
-        ensures { IfOk result (λ stage. (xs : List Char) → rest_told stage xs ≡ body_told nabc_lines macros xs) }
+        ensures run { IfOk result (λ stage. (xs : List Char) → rest_told stage xs ≡ told_from texts_run nabc_lines macros InComment xs) }
+        ensures said { IfOk result (λ stage. (at : Place) (t : List ℕ) → Fits at t → rest_told stage (placed_from at t) ≡ body_told nabc_lines macros (placed_from at t)) }
     {
+        // Its clause says where the machine over a text gives what the definition says.
+        fresh_gives();
         let texts = Room::with_limit(alloc, 8)?;
         let notes = Room::with_limit(alloc, 3)?;
         Ok(BodyStage {
@@ -243,7 +250,7 @@ impl BodyStage {
 
     /// The part behind a snippet that ended at a `|` or a `)`.
     fn after_snippet(&self, line: u8, opened: Place, mark: Place, is_next: bool) -> Part
-        ensures { (xs : List Char) → part_with result xs ≡ (if is_next then snippet_from self.now.nabc_lines self.now.macros (line_after self.now.nabc_lines line) opened xs else text_from (behind_mark mark) xs) }
+        ensures { (xs : List Char) → part_with result xs ≡ (if is_next then snippet_from self.now.nabc_lines self.now.macros (line_after self.now.nabc_lines line) opened xs else text_from texts_run (behind_mark mark) xs) }
     {
         if is_next {
             self.snippet(next_line(self.nabc_lines, line), opened)
@@ -254,7 +261,7 @@ impl BodyStage {
 
     /// Pushes a character to the part that it stands in, which is no comment.
     fn push_part(&mut self, x: Char, out: &mut Room<Told>)
-        requires part { (xs : List Char) → standing (part_with self.old.part (x ∷ xs)) x xs ≡ part_with self.old.part (x ∷ xs) }
+        requires part { (xs : List Char) → standing texts_run (part_with self.old.part (x ∷ xs)) x xs ≡ part_with self.old.part (x ∷ xs) }
         requires out { HasRoom out.old 8 }
         ensures { Gives (rest_told self.old) (rest_told self.new) x 8 out.old out.new }
     {

@@ -6,6 +6,7 @@ mod body_read;
 mod canonical;
 mod ending;
 mod gather;
+pub mod laws;
 mod read_body;
 mod reader;
 mod reading;

@@ -6,8 +6,8 @@ use gabc_places::Span;
 use std::alloc::{AllocError, Global};
 use std::marker::Model;
 
-/// A snippet of the notes: line 0 is GABC, and line 1 the NABC of the GABC snippet before it. The span counts bytes of the
-/// kept text.
+/// A snippet of the notes: line 0 is GABC, and line 1 the NABC of the GABC snippet before it (GregorioRef, "Headers":
+/// `nabc-lines`). The span counts bytes of the kept text.
 #[derive(Clone, Copy, Debug, PartialEq, Eq)]
 pub struct Snippet {
     pub line: u8,

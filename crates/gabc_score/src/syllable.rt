@@ -6,7 +6,8 @@ use crate::snippets::Snippets;
 use gabc_places::Span;
 use gabc_text::TextView;
 
-/// Where in its word a syllable stands.
+/// Where in its word a syllable stands. A syllable begins a word if blanks stand before its text (GregorioRef, "Syllable Text
+/// Syntax"); the first one of a score does, and behind the last one a word would begin.
 #[derive(Clone, Copy, Debug, PartialEq, Eq)]
 pub enum Position {
     /// It is the whole word.
@@ -31,7 +32,7 @@ impl Position {
     }
 }
 
-/// A text with its notes.
+/// A text with its notes in parentheses (GregorioRef, "Syllable Text Syntax").
 #[derive(Drop)]
 pub struct Syllable {
     pub text: TextView,

@@ -1,7 +1,7 @@
 //! Scores: syllables, findings and faults.
 
 use gabc_places::{Char, Code, Fault, Finding, Limits, Place, Room, Stage, Text};
-use gabc_score::{BodyStage, Ending, Position, Score, Syllable, score_whole};
+use gabc_score::{BodyStage, Ending, Position, Score, Syllable, laws, score_whole};
 use std::alloc::{AllocError, Global};
 use std::test::Fail;
 
@@ -397,4 +397,10 @@ fn tells_a_body(rt: HostRuntime) -> Result<(), Fail> {
     // the LF ends the comment: it is kept as a blank, and begins a word
     assert!(rt; room.slice().len() == 2);
     Ok(())
+}
+
+#[test]
+fn laws_are_called() {
+    laws::a_body_has_one_cutting();
+    laws::a_body_tells_its_units();
 }

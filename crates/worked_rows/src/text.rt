@@ -2,7 +2,7 @@
 
 use gabc_places::{Char, Code, Finding, Place, Room, Span, Stage, drive};
 use gabc_text::{
-    How, PieceKind, Style, TextEnd, TextOut, TextStage, text_len, text_whole, write_text,
+    How, PieceKind, Style, TextEnd, TextOut, TextStage, laws, text_len, text_whole, write_text,
 };
 use std::alloc::{AllocError, Global};
 use std::process::Abort;
@@ -172,4 +172,18 @@ fn drives_the_machine(rt: HostRuntime) -> Result<(), AllocError> {
     );
     assert_eq!(rt; outs[3], TextOut::Ended(TextEnd::Finished));
     Ok(())
+}
+
+#[test]
+fn laws_are_called() {
+    laws::fresh_gives();
+    laws::outs_in_order();
+    laws::outs_tell_all();
+    laws::findings_in_order();
+    laws::given_so_far();
+    laws::nothing_after_the_notes_begin();
+    laws::spans_stand();
+    laws::canonical_is_printed();
+    laws::printed_again();
+    laws::kept_again();
 }

@@ -1,0 +1,83 @@
+-- Texts as their machine reads them and by their definition are the same, where no count of a body reaches its last value.
+use Rattle.std.proofs.Common.{◌≡◌, ℕ, ◌+◌, ◌<◌, ◌^◌, ◌==◌, Bool, true, false, if◌then◌else◌, List, [], ◌∷◌, length, refl, ap, ◌∙◌, arith, length-append, IsUtf8, ◌≤◌}
+use Rattle.std.specs.List.{list_any}
+use Rattle.std.specs.Str.{chars}
+use Rattle.std.proofs.lemmas.Str.{encodes-chars, length-encode, length-le-encodes}
+use lib.Utf8.{encode, encodes}
+use Rattle.gabc_places.specs.declared.place.Place.{Place}
+use Rattle.gabc_places.specs.declared.place.Char.{Char}
+use Rattle.gabc_places.specs.Place.{next_place, is_line_feed}
+use Rattle.gabc_text.specs.declared.stage.TextOut.{TextOut}
+use Rattle.gabc_text.specs.Outs.{Fits, codes_of, outs_by_point}
+use Rattle.gabc_text.specs.View.{bytes_of}
+use Rattle.gabc_text.specs.Step.{fresh, rest_of}
+use Rattle.gabc_score.specs.declared.told.Told.{Told}
+use Rattle.gabc_score.specs.Parts.{Part, InComment, InText, InNotes, is_next, is_close, first_list, other_lists, told_in, snippet_from, next_line, behind_mark, standing, behind, told_from, texts_said}
+use Rattle.gabc_score.specs.Read.{texts_run}
+use Rattle.gabc_score.specs.Reader.{placed_from}
+
+codes_placed : (at : Place) (t : List ℕ) → codes_of (placed_from at t) ≡ t
+codes_placed at [] = refl
+codes_placed at (c ∷ t) = ap (λ (l : List ℕ). c ∷ l) (codes_placed (next_place at c) t)
+
+-- the text behind a character fits if the text from it on does
+fits_by : (at : Place) (c : ℕ) (t : List ℕ) (b : Bool) → Fits at (c ∷ t)
+    → Fits (if b then record { line = at.line + 1; column = 1 } else record { line = at.line; column = at.column + 1 }) t
+fits_by at c t true f = record { line = omega (arith, f.line); column = omega (arith, f.column); bytes = omega (arith, f.bytes) }
+fits_by at c t false f = record { line = omega (arith, f.line); column = omega (arith, f.column); bytes = omega (arith, f.bytes) }
+
+fits_next : (at : Place) (c : ℕ) (t : List ℕ) → Fits at (c ∷ t) → Fits (next_place at c) t
+fits_next at c t f = fits_by at c t (is_line_feed c) f
+
+fits_behind : (at : Place) (c : ℕ) (t : List ℕ) → Fits at (c ∷ t) → Fits (behind_mark at) t
+fits_behind at c t f = record { line = omega (arith, f.line); column = omega (arith, f.column); bytes = omega (arith, f.bytes) }
+
+bytes_encodes : (t : List ℕ) → bytes_of t ≡ length (encodes t)
+bytes_encodes [] = refl
+bytes_encodes (c ∷ t) = rw (bytes_encodes t, length-append (encode c) (encodes t), length-encode c) refl
+
+-- a body fits behind a front if the bytes of both are few, and the place behind the front counts no more than the front has
+pub fits_behind_front : (at : Place) (front bytes : List ℕ) → IsUtf8 bytes → at.line ≤ 1 + length front → at.column ≤ 1 + length front
+    → length front + length bytes < 2 ^ 63 → Fits at (chars bytes)
+fits_behind_front at front bytes utf8 line column few =
+    let same : length (encodes (chars bytes)) ≡ length bytes = ap (length {A = ℕ}) (encodes-chars bytes utf8) in
+    let less = length-le-encodes (chars bytes) in
+    record {
+      line = omega (arith, line, few, less, same);
+      column = omega (arith, column, few, less, same);
+      bytes = omega (arith, few, same, bytes_encodes (chars bytes));
+    }
+
+module _ (gives : (at : Place) (t : List ℕ) → Fits at t → rest_of (fresh at) t ≡ outs_by_point at t) (lines macros : ℕ) where
+  same_texts : (at from : Place) (t : List ℕ) → Fits at t → texts_run at (placed_from from t) ≡ texts_said at (placed_from from t)
+  same_texts at from t f = rw (codes_placed from t) (gives at t f)
+
+  same_standing : (at : Place) (c : ℕ) (t : List ℕ) (part : Part) → Fits at (c ∷ t)
+      → standing texts_run part (record { c = c; place = at }) (placed_from (next_place at c) t)
+      ≡ standing texts_said part (record { c = c; place = at }) (placed_from (next_place at c) t)
+  same_standing at c t InComment f = ap (λ (lists : List (List TextOut)). if c == 10 then InText lists else InComment) (same_texts at at (c ∷ t) f)
+  same_standing at c t (InText lists) f = refl
+  same_standing at c t (InNotes line opened lists) f = refl
+
+  same_behind : (at : Place) (c : ℕ) (t : List ℕ) (part : Part) → Fits at (c ∷ t)
+      → behind texts_run lines macros part (record { c = c; place = at }) (placed_from (next_place at c) t)
+      ≡ behind texts_said lines macros part (record { c = c; place = at }) (placed_from (next_place at c) t)
+  same_behind at c t InComment f = refl
+  same_behind at c t (InText lists) f = refl
+  same_behind at c t (InNotes line opened lists) f =
+      ap (λ (text : List (List TextOut)).
+      if list_any is_next (first_list lists) then snippet_from lines macros (next_line lines line) opened (placed_from (next_place at c) t) else
+      if list_any is_close (first_list lists) then InText text else
+      InNotes line opened (other_lists lists))
+      (same_texts (behind_mark at) (next_place at c) t (fits_behind at c t f))
+
+  pub same_told : (at : Place) (t : List ℕ) (part : Part) → Fits at t
+      → told_from texts_run lines macros part (placed_from at t) ≡ told_from texts_said lines macros part (placed_from at t)
+  same_told at [] part f = refl
+  same_told at (c ∷ t) part f =
+      let x : Char = record { c = c; place = at } in
+      let xs = placed_from (next_place at c) t in
+      let here = standing texts_said part x xs in
+      ap (λ (p : Part). told_in p ∷ told_from texts_run lines macros (behind texts_run lines macros p x xs) xs) (same_standing at c t part f)
+      ∙ ap (λ (p : Part). told_in here ∷ told_from texts_run lines macros p xs) (same_behind at c t here f)
+      ∙ ap (λ (lists : List (List Told)). told_in here ∷ lists) (same_told (next_place at c) t (behind texts_said lines macros here x xs) (fits_next at c t f))
