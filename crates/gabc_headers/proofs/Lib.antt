@@ -33,4 +33,6 @@ pub mod TrimSteps
 pub mod Trims
 pub mod Wants
 pub mod WholeCases
+pub mod Within
 pub mod WholeRead
+pub mod Marked

@@ -20,7 +20,7 @@ rise_from : (j k m : ℕ) (fs : List Known) → j ≤ k → Rise k m fs → Rise
 rise_from j k m [] l h = (let x : k < m = h in omega arith)
 rise_from j k m (f ∷ fs) l h = ((let x : k < f.finding.place.line = h.0 in omega arith), h.1)
 
-rise_up : (k m : ℕ) (fs : List Known) → Rise k m fs → k < m
+pub rise_up : (k m : ℕ) (fs : List Known) → Rise k m fs → k < m
 rise_up k m [] h = h
 rise_up k m (f ∷ fs) h = let x = rise_up f.finding.place.line m fs h.1 in let y : k < f.finding.place.line = h.0 in omega arith
 
@@ -123,7 +123,7 @@ fits_below None i k j l h = omega arith
 fits_below (Some n) i k j l h = let x : j < i = h in omega arith
 
 -- the findings of the parts from line k on are behind line j, and on lines before the one behind them
-rises : (ls : List (List ℕ)) (w : Where) (k n : ℕ) (s : List (List ℕ)) (j : ℕ) → Starts w k j → Rise j (k + length ls) (found s (parts w k n ls))
+pub rises : (ls : List (List ℕ)) (w : Where) (k n : ℕ) (s : List (List ℕ)) (j : ℕ) → Starts w k j → Rise j (k + length ls) (found s (parts w k n ls))
 rises [] outside k n s j h = (let x : j < k = h in omega arith)
 rises [] (within i o v) k n s j h = (let x = fits_below o i k j h.0 h.1 in omega arith)
 rises (l ∷ ls) outside k n s j h =
@@ -183,7 +183,7 @@ head_below (l ∷ ls) h = by (is_score_line l) h (head_below ls)
     by true h r = omega arith
     by false h r = let x = r h in omega arith
 
-score_line : (t : List ℕ) → has_score (lines t) ≡ true → (place_after (take (head_len t) t)).line ≡ 1 + length (head_of (lines t))
+pub score_line : (t : List ℕ) → has_score (lines t) ≡ true → (place_after (take (head_len t) t)).line ≡ 1 + length (head_of (lines t))
 score_line t s =
     let e : head_len t ≡ lines_len (head_of (lines t)) = rw s refl in
     ap (λ (n : ℕ). 1 + count_by is_line_feed (take n t)) (e ∙ sym (ap (λ (x : List (List ℕ)). lines_len x) (head_take (lines t))))

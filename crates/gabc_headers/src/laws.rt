@@ -1,6 +1,11 @@
 //! Laws of the definitions alone. Each function's contract is a law, and its body does nothing.
 
-ghost use Rattle.std.specs.Prelude.{◌≡◌, ℕ, List, []};
+ghost use Rattle.std.specs.Prelude.{◌≡◌, ◌+◌, ◌≤◌, ℕ, List, [], length, take, Ok};
+ghost use Rattle.gabc_places.specs.declared.limits.Limits.{Limits};
+ghost use Rattle.gabc_places.specs.Findings.{AreInOrder, LieBetween};
+ghost use Rattle.gabc_places.specs.Place.{place_after};
+ghost use Rattle.gabc_headers.specs.declared.heads.Heads.{Heads};
+ghost use Rattle.gabc_headers.specs.Heads.{head_len, heads_of, findings_of, line_place};
 ghost use Rattle.gabc_headers.specs.Book.{standing};
 ghost use Rattle.gabc_headers.specs.Gather.{put_all};
 ghost use Rattle.gabc_headers.specs.Groups.{Group, AreGroups, told};
@@ -26,4 +31,19 @@ pub fn groups_tell_parts()
 /// `annotation`, leave what stands: each name at the place of its first header and with the value of its last.
 pub fn last_value_at_first_place()
     ensures { (entries : List (List ℕ × List ℕ)) → put_all [] entries ≡ standing [] entries }
+{}
+
+/// What is found in headers stands in order: by its places, none twice.
+pub fn findings_in_order()
+    ensures { (limits : Limits) (t : List ℕ) → AreInOrder (findings_of (heads_of limits t)) }
+{}
+
+/// Headers that are read without a fault have a line that begins with `%%`; their body stands behind these two characters.
+pub fn the_body_follows_the_mark()
+    ensures { (limits : Limits) (t : List ℕ) (heads : Heads) → heads_of limits t ≡ Ok heads → head_len t + 2 ≤ length t }
+{}
+
+/// Headers that are read whole have their findings at the first place of the text or later, and no later than the line `%%`.
+pub fn findings_lie_before_the_body()
+    ensures { (limits : Limits) (t : List ℕ) (heads : Heads) → heads_of limits t ≡ Ok heads → LieBetween (line_place 1) (place_after (take (head_len t) t)) heads.findings }
 {}

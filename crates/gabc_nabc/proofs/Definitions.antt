@@ -228,7 +228,7 @@ one_end t x e f = rw (e, f) (go (is_snippet nabc (kept_of t)))
     go false = refl
 
 -- before it
-no_end : (t : List ℕ) (x : Char) → has_end t ≡ false → is_end t x.c ≡ false → ends_of (told_at t x) ≡ []
+pub no_end : (t : List ℕ) (x : Char) → has_end t ≡ false → is_end t x.c ≡ false → ends_of (told_at t x) ≡ []
 no_end t x e f = rw (e, f) (by (is_character t x.c))
   where
     warned : (b : Bool) → ends_of (Kept x ∷ cond b (found x.place W7 ∷ []) []) ≡ []

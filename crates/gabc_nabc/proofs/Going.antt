@@ -9,7 +9,7 @@ use lib.Utf8.{encode, encodes, scalar, scalars}
 use Rattle.gabc_places.specs.declared.code.Finding.{Finding}
 use Rattle.gabc_places.specs.declared.place.Char.{Char}
 use Rattle.gabc_places.specs.declared.place.Place.{Place}
-use Rattle.gabc_places.specs.Place.{next_place, is_line_feed}
+use Rattle.gabc_places.specs.Place.{next_place, is_line_feed, placed_from}
 use Rattle.gabc_places.specs.Law.{joined}
 use Rattle.gabc_notes.specs.declared.read.SnippetHow.{SnippetHow}
 use Rattle.gabc_notes.specs.declared.read.SnippetHow.TheVariants as how
@@ -23,7 +23,7 @@ use Rattle.gabc_patterns.proofs.Bools.{and_true}
 use Rattle.gabc_patterns.proofs.Functions.{trim_trims}
 use Rattle.gabc_nabc.specs.Table.{nabc}
 use Rattle.gabc_nabc.specs.Told.{is_character, is_end, has_end, characters_behind, kept_of, bytes_in, ended_by, told_at, told_behind, told_cut, told}
-use Rattle.gabc_notes.specs.Read.{placed_from, findings_of}
+use Rattle.gabc_notes.specs.Read.{findings_of}
 use Rattle.gabc_nabc.specs.Read.{before_end_behind, before_end, from_end, kept_before, how_behind}
 use Rattle.gabc_nabc.specs.Machine.{given_at, stage_after, rest_of, cut_given}
 use Rattle.gabc_nabc.specs.Gathered.{Gathered, with_outputs, how_of_end}

@@ -12,4 +12,5 @@ pub mod CodeList
 pub mod Definitions
 pub mod TwoLetters
 pub mod Order
+pub mod Within
 pub mod GlyphCodes

@@ -7,7 +7,7 @@ use Rattle.gabc_places.specs.declared.place.Char.{Char}
 use Rattle.gabc_places.specs.declared.place.Place.{Place}
 use Rattle.gabc_places.specs.Findings.{StandsBefore, StandBehind, AreInOrder}
 use Rattle.gabc_places.specs.Law.{joined}
-use Rattle.gabc_places.specs.Place.{next_place, is_line_feed}
+use Rattle.gabc_places.specs.Place.{next_place, is_line_feed, placed_from}
 use Rattle.gabc_patterns.specs.Derivative.{is_snippet, is_viable}
 use Rattle.gabc_patterns.specs.Function.{trim}
 use Rattle.gabc_notes.specs.declared.stage.NoteOut.TheVariants.{Kept, Ended}
@@ -15,7 +15,7 @@ use Rattle.gabc_notes.specs.declared.stage.NoteOut.{NoteOut}
 use Rattle.gabc_notes.specs.declared.stage.NoteEnd.TheVariants.{Cut}
 use Rattle.gabc_nabc.specs.Table.{nabc}
 use Rattle.gabc_nabc.specs.Told.{is_character, is_end, has_end, kept_of, first_of, is_missing, bytes_in, found, ended_by, told_at, told_cut, told_behind, told}
-use Rattle.gabc_notes.specs.Read.{placed_from, findings_of}
+use Rattle.gabc_notes.specs.Read.{findings_of}
 use Rattle.gabc_nabc.specs.Read.{AreAtMostOne}
 use Rattle.gabc_nabc.proofs.Gathering.{findings_append}
 
@@ -87,7 +87,7 @@ before_next p c code (f ∷ fs) h = (go (next_behind p c f h.0), h.1)
     go (inl l) = inl l
     go (inr (l, k)) = inr (l, inl (omega arith))
 
-cut_quiet : (t : List ℕ) → findings_of (joined (told_cut t ∷ [])) ≡ []
+pub cut_quiet : (t : List ℕ) → findings_of (joined (told_cut t ∷ [])) ≡ []
 cut_quiet t = go (has_end t)
   where
     go : (b : Bool) → findings_of (joined (cond b [] (Ended (Cut (record { line = 0; column = 0 })) (bytes_in (kept_of t)) ∷ []) ∷ [])) ≡ []

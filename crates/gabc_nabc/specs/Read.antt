@@ -10,7 +10,8 @@ use Rattle.gabc_notes.specs.declared.read.SnippetHow.TheVariants.{Next, Close, C
 use Rattle.gabc_notes.specs.declared.read.SnippetRead.{SnippetRead}
 use Rattle.gabc_notes.specs.declared.stage.NoteEnd.{NoteEnd}
 use Rattle.gabc_notes.specs.declared.stage.NoteEnd.TheVariants as end
-use Rattle.gabc_notes.specs.Read.{placed_from, findings_of}
+use Rattle.gabc_notes.specs.Read.{findings_of}
+use Rattle.gabc_places.specs.Place.{placed_from}
 use Rattle.gabc_nabc.specs.Table.{nabc}
 use Rattle.gabc_nabc.specs.Told.{is_end, kept_of, ended_by, told}
 

@@ -1,7 +1,7 @@
 //! Laws of the definitions that contracts speak of. The functions do nothing: each is there for its clauses.
 
-ghost use Rattle.std.specs.Prelude.{◌≡◌, ◌≤◌, ℕ, List, [], ◌∷◌, ◌++◌, Bool, length, take, map, true, encode_utf8_all, IsTrue, ◌↔◌};
-ghost use Rattle.gabc_places.specs.Findings.{AreInOrder};
+ghost use Rattle.std.specs.Prelude.{◌≡◌, ◌≤◌, ◌+◌, ℕ, List, [], ◌∷◌, ◌++◌, Bool, length, take, map, true, encode_utf8_all, IsTrue, ◌↔◌};
+ghost use Rattle.gabc_places.specs.Findings.{AreInOrder, LieBetween};
 ghost use Rattle.gabc_places.specs.Law.{joined};
 ghost use Rattle.gabc_places.specs.declared.place.Place.{Place};
 ghost use Rattle.gabc_places.specs.declared.place.Char.{Char};
@@ -9,8 +9,10 @@ ghost use Rattle.gabc_patterns.specs.Pattern.{Spells};
 ghost use Rattle.gabc_patterns.specs.Reading.{Reads, IsSnippet, IsViable};
 ghost use Rattle.gabc_nabc.specs.Table.{nabc, code, descriptor};
 ghost use Rattle.gabc_nabc.specs.Codes.{HasCodesOfGlyphs};
-ghost use Rattle.gabc_nabc.specs.Told.{bytes_in, has_end, is_code, kept_of, told, told_at, told_behind};
-ghost use Rattle.gabc_notes.specs.Read.{ends_of, findings_of, kept_of as kept_in, placed_from};
+ghost use Rattle.gabc_nabc.specs.Told.{bytes_in, has_end, is_code, kept_of, told, told_at, told_behind, told_cut};
+ghost use Rattle.gabc_notes.specs.Read.{ends_of, findings_of, kept_of as kept_in};
+ghost use Rattle.gabc_notes.specs.Ends.{EndAtMost, AreCutAtMost};
+ghost use Rattle.gabc_places.specs.Place.{place_past, placed_from};
 ghost use Rattle.gabc_nabc.specs.Read.{before_end, from_end, kept_before, end_before, AreAtMostOne};
 
 /// A text has at most one list of descriptors and spaces.
@@ -58,4 +60,17 @@ pub fn findings_are_in_order()
 /// The codes of a descriptor are the first two letters of its glyphs, in order.
 pub fn codes_are_of_glyphs()
     ensures { (t : List ℕ) → Spells descriptor t → HasCodesOfGlyphs t }
+{}
+
+/// What is told of a text through the character behind a front has its findings at the text's place or later, and no later
+/// than that character.
+pub fn findings_lie_within()
+    ensures { (at : Place) (front rest : List ℕ) → LieBetween at (place_past at front) (findings_of (joined (take (length front + 1) (told (placed_from at (front ++ rest)))))) }
+{}
+
+/// Of a character at most one end is told, behind all else: at a `)` or a `|`. Of the end of the characters nothing is told
+/// but that they were cut.
+pub fn a_snippet_ends_at_its_mark()
+    ensures mark { (t : List ℕ) (x : Char) → EndAtMost true x.c (told_at t x) }
+    ensures last { (t : List ℕ) → AreCutAtMost (told_cut t) }
 {}

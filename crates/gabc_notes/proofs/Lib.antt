@@ -16,3 +16,4 @@ pub mod Reaching
 pub mod Positions
 pub mod Ordered
 pub mod ItemList
+pub mod Within

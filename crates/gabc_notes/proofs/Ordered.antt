@@ -6,7 +6,7 @@ use Rattle.gabc_places.specs.declared.place.Char.{Char}
 use Rattle.gabc_places.specs.declared.place.Place.{Place}
 use Rattle.gabc_places.specs.Findings.{StandsBefore, AreInOrder}
 use Rattle.gabc_places.specs.Law.{joined}
-use Rattle.gabc_places.specs.Place.{next_place}
+use Rattle.gabc_places.specs.Place.{next_place, placed_from}
 use Rattle.gabc_patterns.specs.Derivative.{is_alive, is_snippet, is_viable}
 use Rattle.gabc_patterns.specs.Function.{items, trim}
 use Rattle.gabc_patterns.proofs.Automaton.{reading_of}
@@ -16,7 +16,7 @@ use Rattle.gabc_patterns.proofs.Standing.{state_of, after_char}
 use Rattle.gabc_notes.specs.Table.{gabc}
 use Rattle.gabc_notes.specs.Told.{nothing_before, seen, raw_with, before_in}
 use Rattle.gabc_notes.specs.Said.{Piece, Point, in_raw, kept, kept_with, is_comment, is_kept, is_end, is_over, is_fused, is_unpaired, is_missing, opener, item_at, opens_fusion, closes_fusion, macro_of, bytes_of, found, ended_by, last_of, warnings, at_end, said, says, says_after}
-use Rattle.gabc_notes.specs.Read.{findings_of, placed_from}
+use Rattle.gabc_notes.specs.Read.{findings_of}
 use Rattle.gabc_notes.specs.declared.item.ItemKind.TheVariants.{Attribute}
 use Rattle.gabc_notes.specs.declared.stage.Before.{Before}
 use Rattle.gabc_notes.specs.declared.stage.NoteOut.{NoteOut}
@@ -42,14 +42,14 @@ Lt p q = (p.line < q.line) ⊎ ((p.line ≡ q.line) × (p.column < q.column))
 abbrev pub Le : Place → Place → Type 0
 Le p q = (p.line < q.line) ⊎ ((p.line ≡ q.line) × (p.column ≤ q.column))
 
-lt_le : (p q : Place) → Lt p q → Le p q
+pub lt_le : (p q : Place) → Lt p q → Le p q
 lt_le p q (inl l) = inl l
 lt_le p q (inr h) = (let l = h.1 in inr (h.0, omega arith))
 
-le_self : (p : Place) → Le p p
+pub le_self : (p : Place) → Le p p
 le_self p = inr (refl, omega arith)
 
-le_then : (p q r : Place) → Le p q → Le q r → Le p r
+pub le_then : (p q r : Place) → Le p q → Le q r → Le p r
 le_then p q r (inl a) (inl b) = inl (omega arith)
 le_then p q r (inl a) (inr b) = (let e = b.0 in inl (omega arith))
 le_then p q r (inr a) (inl b) = (let e = a.0 in inl (omega arith))
@@ -61,7 +61,7 @@ lt_then p q r (inl a) (inr b) = (let e = b.0 in inl (omega arith))
 lt_then p q r (inr a) (inl b) = (let e = a.0 in inl (omega arith))
 lt_then p q r (inr a) (inr b) = (let d = a.0 in let e = b.0 in let l = a.1 in let m = b.1 in inr (omega arith, omega arith))
 
-next_after : (p : Place) (c : ℕ) → Lt p (next_place p c)
+pub next_after : (p : Place) (c : ℕ) → Lt p (next_place p c)
 next_after p c = go (c == 10)
   where
     go : (b : Bool) → Lt p (cond b (record { line = p.line + 1; column = 1 }) (record { line = p.line; column = p.column + 1 }))
@@ -109,7 +109,7 @@ pub record Stood (split : Bool) (back : List Char) : Type 0 where
   pub stood : Before
   pub holds : Holds split back raw stood
 
-stand : (split : Bool) (back : List Char) → is_over split back ≡ false → Stood split back
+pub stand : (split : Bool) (back : List Char) → is_over split back ≡ false → Stood split back
 stand split [] o = record { raw = []; stood = nothing_before; holds = begun split }
 stand split (x ∷ back) o =
     let f = or_false (is_end split (point back x)) (is_over split back) o in
@@ -242,6 +242,18 @@ low_kept back x q k l b = subst (λ (o : Place). Le (low back x.place) (cond (in
     go true e false = lt_le (opener back) q (lt_then (opener back) x.place q (b e) (lt_le x.place q l))
     go false e false = lt_le x.place q l
 
+-- an item that uses a macro closes a bracket
+pub missing_inside : (split : Bool) (macros : ℕ) (back : List Char) (x : Char) → Stood split back → is_comment (point back x) ≡ false → is_end split (point back x) ≡ false
+    → is_viable gabc (kept_with (point back x)) ≡ true → is_missing macros (macro_of (item_at (point back x))) ≡ true → in_raw (kept back) ≡ true
+missing_inside split macros back x t c n w e = by (in_raw (kept back)) _ _ (macro_is split back t.raw t.stood x (record { holds = t.holds; plain = c; going = n; viable = w }))
+  where
+    by : (r : Bool) (a : Bool) (d : Option ℕ) → macro_of (item_at (point back x)) ≡ cond (r && a) d None → r ≡ true
+    by true a d f = refl
+    by false a d f = absurd (let g = sym e ∙ ap (is_missing macros) f in differ g)
+      where
+        differ : true ≡ false → ⊥
+        differ g = cc
+
 -- the findings of a character that is kept
 kept_sorted : (split : Bool) (macros : ℕ) (back : List Char) (x : Char) (q : Place) (fs : List Finding) → Stood split back → is_comment (point back x) ≡ false → is_end split (point back x) ≡ false
     → is_viable gabc (kept_with (point back x)) ≡ true → Lt x.place q → OpenerBefore back x.place → Sorted (low (x ∷ back) q) fs
@@ -267,16 +279,6 @@ kept_sorted split macros back x q fs t c n w l b s = go (is_unpaired (point back
           (item_snippet closes_fusion (point back x) refl f, close_no_macro (item_at (point back x)) f))
     ]
 
-    inside : is_missing macros (macro_of (item_at (point back x))) ≡ true → in_raw (kept back) ≡ true
-    inside e = by (in_raw (kept back)) _ _ (macro_is split back t.raw t.stood x (record { holds = t.holds; plain = c; going = n; viable = w }))
-      where
-        by : (r : Bool) (a : Bool) (d : Option ℕ) → macro_of (item_at (point back x)) ≡ cond (r && a) d None → r ≡ true
-        by true a d f = refl
-        by false a d f = absurd (let g = sym e ∙ ap (is_missing macros) f in differ g)
-          where
-            differ : true ≡ false → ⊥
-            differ g = cc
-
     go : (u : Bool) → is_unpaired (point back x) ≡ u → (m : Bool) → is_missing macros (macro_of (item_at (point back x))) ≡ m
         → Sorted (low back x.place) (findings_of (cond u (found x.place W10 ∷ []) [] ++ cond m (found (opener back) W8 ∷ []) []) ++ fs)
     go true e true f = absurd (let g = sym f ∙ ap (is_missing macros) (mark e).1 in differ g)
@@ -285,7 +287,7 @@ kept_sorted split macros back x q fs t c n w l b s = go (is_unpaired (point back
         differ g = cc
     go true e false f = prepend (low back x.place) q (record { place = x.place; code = W10 }) fs (low_before back x.place b) l (later (mark e).0)
     go false e true f =
-        let r = inside f in
+        let r = missing_inside split macros back x t c n w f in
         prepend (low back x.place) q (record { place = opener back; code = W8 }) fs
         (subst (λ (a : Bool). Le (cond a (opener back) x.place) (opener back)) (sym r) (le_self (opener back)))
         (lt_then (opener back) x.place q (b r) (lt_le x.place q l))
@@ -310,7 +312,7 @@ SaidHow split macros back x =
     ⊎ (((is_comment (point back x) ≡ false) × (is_viable gabc (kept_with (point back x)) ≡ true) × (said split macros (point back x) ≡ Kept x ∷ warnings macros (point back x)))
     ⊎ ((is_comment (point back x) ≡ false) × (is_viable gabc (kept_with (point back x)) ≡ false) × (said split macros (point back x) ≡ found x.place E1 ∷ [])))
 
-said_how : (split : Bool) (macros : ℕ) (back : List Char) (x : Char) → is_over split back ≡ false → is_end split (point back x) ≡ false → SaidHow split macros back x
+pub said_how : (split : Bool) (macros : ℕ) (back : List Char) (x : Char) → is_over split back ≡ false → is_end split (point back x) ≡ false → SaidHow split macros back x
 said_how split macros back x o n = go (is_comment (point back x)) refl (is_viable gabc (kept_with (point back x))) refl
   where
     go : (c : Bool) → is_comment (point back x) ≡ c → (v : Bool) → is_viable gabc (kept_with (point back x)) ≡ v → SaidHow split macros back x

@@ -7,4 +7,5 @@ pub mod Machine
 pub mod Raw
 pub mod Said
 pub mod Read
+pub mod Ends
 pub mod Heard

@@ -5,7 +5,7 @@ use Rattle.gabc_places.specs.declared.code.Finding.{Finding}
 use Rattle.gabc_places.specs.declared.place.Char.{Char}
 use Rattle.gabc_places.specs.declared.place.Place.{Place}
 use Rattle.gabc_places.specs.Law.{joined}
-use Rattle.gabc_places.specs.Place.{next_place}
+use Rattle.gabc_places.specs.Place.{placed_from}
 use Rattle.gabc_patterns.specs.Function.{trim}
 use Rattle.gabc_notes.specs.Table.{gabc}
 use Rattle.gabc_notes.specs.Said.{in_raw, kept, opener, ended_by, is_end, says}
@@ -16,11 +16,6 @@ use Rattle.gabc_notes.specs.declared.stage.NoteEnd.{NoteEnd}
 use Rattle.gabc_notes.specs.declared.stage.NoteEnd.TheVariants as end
 use Rattle.gabc_notes.specs.declared.stage.NoteOut.{NoteOut}
 use Rattle.gabc_notes.specs.declared.stage.NoteOut.TheVariants.{Kept, Found, Ended}
-
--- the characters of a text that begins at this place, each with its own
-abbrev pub placed_from : Place → List ℕ → List Char
-placed_from at [] = []
-placed_from at (c ∷ cs) = record { c = c; place = at } ∷ placed_from (next_place at c) cs
 
 -- the characters that are told as kept
 abbrev pub kept_of : List NoteOut → List ℕ

@@ -1,15 +1,17 @@
 //! Laws of the definitions that contracts speak of. The functions do nothing: each is there for its clauses.
 
-ghost use Rattle.std.specs.Prelude.{◌≡◌, ◌≤◌, ℕ, List, [], ◌∷◌, ◌++◌, Bool, true, length, take, sum_by, codes, Decides};
+ghost use Rattle.std.specs.Prelude.{◌≡◌, ◌≤◌, ◌+◌, ℕ, List, [], ◌∷◌, ◌++◌, Bool, true, length, take, sum_by, codes, Decides};
 ghost use Rattle.std.specs.Char.{len_utf8};
 ghost use Rattle.gabc_places.specs.declared.place.Char.{Char};
 ghost use Rattle.gabc_places.specs.declared.place.Place.{Place};
-ghost use Rattle.gabc_places.specs.Findings.{AreInOrder};
+ghost use Rattle.gabc_places.specs.Findings.{AreInOrder, LieBetween};
 ghost use Rattle.gabc_places.specs.Law.{joined};
 ghost use Rattle.gabc_patterns.specs.Reading.{Reads, IsSnippet, IsViable};
 ghost use Rattle.gabc_notes.specs.Table.{gabc};
-ghost use Rattle.gabc_notes.specs.Said.{in_raw, Point, is_comment, is_over, kept, bytes_of, said, says};
-ghost use Rattle.gabc_notes.specs.Read.{placed_from, kept_of, findings_of, ends_of, stop_after, kept_by, end_by};
+ghost use Rattle.gabc_notes.specs.Said.{in_raw, Point, is_comment, is_over, kept, bytes_of, said, cut, says};
+ghost use Rattle.gabc_notes.specs.Read.{kept_of, findings_of, ends_of, stop_after, kept_by, end_by};
+ghost use Rattle.gabc_places.specs.Place.{place_past, placed_from};
+ghost use Rattle.gabc_notes.specs.Ends.{EndAtMost, AreCutAtMost};
 ghost use Rattle.gabc_notes.specs.Raw.{IsOpen, InComment, IsOpenedAt};
 ghost use Rattle.gabc_notes.specs.declared.item.ItemKind.{ItemKind};
 
@@ -63,4 +65,17 @@ pub fn what_follows_tells_nothing()
 /// Of a text, each finding stands strictly before the next.
 pub fn findings_are_in_order()
     ensures { (at : Place) (split : Bool) (macros : ℕ) (t : List ℕ) → AreInOrder (findings_of (joined (says split macros (placed_from at t)))) }
+{}
+
+/// What is told of a text through the character behind a front has its findings at the text's place or later, and no later
+/// than that character.
+pub fn findings_lie_within()
+    ensures { (at : Place) (split : Bool) (macros : ℕ) (front rest : List ℕ) → LieBetween at (place_past at front) (findings_of (joined (take (length front + 1) (says split macros (placed_from at (front ++ rest)))))) }
+{}
+
+/// Of a character at most one end is told, behind all else: at a `)`, or where notes are split at a `|`. Of the end of the
+/// characters nothing is told but that they were cut.
+pub fn a_snippet_ends_at_its_mark()
+    ensures mark { (split : Bool) (macros : ℕ) (p : Point) → EndAtMost split p.here.c (said split macros p) }
+    ensures last { (split : Bool) (back : List Char) → AreCutAtMost (cut split back) }
 {}

@@ -1,6 +1,7 @@
 -- Findings and stops with the points at which they become known. A point is an index into the text; its length is the end.
 use Rattle.std.specs.Prelude.{◌≡◌, ℕ, ◌<◌, ◌≤◌, ◌==◌, ◌||◌, ◌&&◌, nat_lt, List, [], ◌∷◌, map, filter, if◌then◌else◌, Option, None, Some, ◌⊎◌}
 use Rattle.gabc_places.specs.declared.code.Finding.{Finding}
+use Rattle.gabc_places.specs.declared.place.Place.{Place}
 use Rattle.gabc_places.specs.declared.code.Fault.{Fault}
 use Rattle.gabc_places.specs.Code.{rank_of}
 
@@ -25,6 +26,15 @@ StandBehind f (g ∷ gs) = StandsBefore f g × StandBehind g gs
 abbrev pub AreInOrder : List Finding → Type 0
 AreInOrder [] = Unit {0}
 AreInOrder (f ∷ fs) = StandBehind f fs
+
+-- p is no later than q
+abbrev pub IsUpTo : Place → Place → Type 0
+IsUpTo p q = (p.line < q.line) ⊎ ((p.line ≡ q.line) × (p.column ≤ q.column))
+
+-- each of the findings stands at p or later, and no later than q
+abbrev pub LieBetween : Place → Place → List Finding → Type 0
+LieBetween p q [] = Unit {0}
+LieBetween p q (f ∷ fs) = (IsUpTo p f.place × IsUpTo f.place q) × LieBetween p q fs
 
 -- a fault and the point at which it stops the run
 pub record Stop : Type 0 where

@@ -23,3 +23,13 @@ placed_after front (c ∷ cs) = record { c = c; place = place_after front } ∷ 
 -- the characters of a text with their places
 abbrev pub placed : List ℕ → List Char
 placed text = placed_after [] text
+
+-- the place behind a text that begins at p
+abbrev pub place_past : Place → List ℕ → Place
+place_past p [] = p
+place_past p (c ∷ cs) = place_past (next_place p c) cs
+
+-- the characters of a text that begins at p, each with its place
+abbrev pub placed_from : Place → List ℕ → List Char
+placed_from p [] = []
+placed_from p (c ∷ cs) = record { c = c; place = p } ∷ placed_from (next_place p c) cs

@@ -15,8 +15,8 @@ use Rattle.gabc_score.specs.declared.body_read.BodyRead.{BodyRead}
 use Rattle.gabc_score.specs.Syllable.{Made, all_made}
 use Rattle.gabc_score.specs.Canonical.{with_positions}
 use Rattle.gabc_score.specs.Body.{onto, code_at, fault_at, Reached, stopped_by, reached, findings_of, stopped, read_by}
-use Rattle.gabc_places.specs.Place.{next_place}
-use Rattle.gabc_score.specs.Reader.{placed_from, State, findings_after, code_in, told_gathered, past_point, stopped_at, end_of}
+use Rattle.gabc_places.specs.Place.{next_place, placed_from}
+use Rattle.gabc_score.specs.Reader.{State, findings_after, code_in, told_gathered, past_point, stopped_at, end_of}
 use Rattle.gabc_score.proofs.Gathering.{gathered}
 use Rattle.gabc_score.proofs.Points.{gathered_all, found_all, code_is, made_before}
 use Rattle.gabc_score.proofs.Ends.{holding, end_is}

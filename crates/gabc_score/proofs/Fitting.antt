@@ -6,7 +6,7 @@ use Rattle.std.proofs.lemmas.Str.{encodes-chars, length-encode, length-le-encode
 use lib.Utf8.{encode, encodes}
 use Rattle.gabc_places.specs.declared.place.Place.{Place}
 use Rattle.gabc_places.specs.declared.place.Char.{Char}
-use Rattle.gabc_places.specs.Place.{next_place, is_line_feed}
+use Rattle.gabc_places.specs.Place.{next_place, is_line_feed, placed_from}
 use Rattle.gabc_text.specs.declared.stage.TextOut.{TextOut}
 use Rattle.gabc_text.specs.Outs.{Fits, codes_of, outs_by_point}
 use Rattle.gabc_text.specs.View.{bytes_of}
@@ -14,7 +14,6 @@ use Rattle.gabc_text.specs.Step.{fresh, rest_of}
 use Rattle.gabc_score.specs.declared.told.Told.{Told}
 use Rattle.gabc_score.specs.Parts.{Part, InComment, InText, InNotes, is_next, is_close, first_list, other_lists, told_in, snippet_from, next_line, behind_mark, standing, behind, told_from, texts_said}
 use Rattle.gabc_score.specs.Read.{texts_run}
-use Rattle.gabc_score.specs.Reader.{placed_from}
 
 codes_placed : (at : Place) (t : List ℕ) → codes_of (placed_from at t) ≡ t
 codes_placed at [] = refl

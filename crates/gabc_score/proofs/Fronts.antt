@@ -9,7 +9,7 @@ use lib.Utf8.{encode, encodes}
 use Rattle.gabc_places.specs.declared.limits.Limits.{Limits}
 use Rattle.gabc_places.specs.declared.place.Place.{Place}
 use Rattle.gabc_places.specs.declared.place.Char.{Char}
-use Rattle.gabc_places.specs.Place.{place_after, placed_after}
+use Rattle.gabc_places.specs.Place.{place_after, placed_after, place_past, placed_from}
 use Rattle.gabc_headers.specs.declared.heads.Heads.{Heads}
 use Rattle.gabc_headers.specs.Lines.{bytes_len}
 use Rattle.gabc_headers.specs.Book.{nabc_lines_of}
@@ -19,7 +19,6 @@ use Rattle.gabc_score.specs.declared.told.Told.{Told}
 use Rattle.gabc_score.specs.declared.ending.Ending.{Ending}
 use Rattle.gabc_score.specs.Parts.{body_told}
 use Rattle.gabc_score.specs.Body.{body_of}
-use Rattle.gabc_score.specs.Reader.{placed_from, place_behind}
 use Rattle.gabc_score.specs.Score.{front_of, behind_heads, macros_of, body_in}
 use Rattle.gabc_score.proofs.Places.{placed_behind, behind_after}
 
@@ -67,16 +66,16 @@ module _ (t bytes : List ℕ) (whole : bytes ≡ encodes t) (utf8 : IsUtf8 bytes
 
 module _ (limits : Limits) (ending : Ending) (t : List ℕ) (heads : Heads) (rest : List Char → List (List Told)) (lines macros head : ℕ) (at : Place) (front behind : List ℕ) where
   pub body_is : rest (placed_from at behind) ≡ body_told lines macros (placed_from at behind) → lines ≡ nabc_lines_of heads.book → macros ≡ macros_of heads.book → head ≡ bytes_len (canonical_heads heads.book)
-      → at ≡ place_behind (record { line = 1; column = 1 }) front → front ≡ front_of t → behind ≡ behind_heads t
-      → body_of limits head heads.findings (place_behind at behind) ending (placed_from at behind) (rest (placed_from at behind)) ≡ body_in limits ending t heads
+      → at ≡ place_past (record { line = 1; column = 1 }) front → front ≡ front_of t → behind ≡ behind_heads t
+      → body_of limits head heads.findings (place_past at behind) ending (placed_from at behind) (rest (placed_from at behind)) ≡ body_in limits ending t heads
   body_is law l m h p f b =
-      let place : at ≡ place_after (front_of t) = p ∙ ap (place_behind (record { line = 1; column = 1 })) f ∙ behind_after [] (front_of t) in
+      let place : at ≡ place_after (front_of t) = p ∙ ap (place_past (record { line = 1; column = 1 })) f ∙ behind_after [] (front_of t) in
       let xs : placed_from at behind ≡ placed_after (front_of t) (behind_heads t) =
       ap (λ q. placed_from q behind) place ∙ ap (placed_from (place_after (front_of t))) b ∙ placed_behind (front_of t) (behind_heads t) in
-      let end : place_behind at behind ≡ place_after t =
-      ap (λ q. place_behind q behind) place ∙ ap (place_behind (place_after (front_of t))) b ∙ behind_after (front_of t) (behind_heads t) ∙ ap place_after (take-append-drop (head_len t + 2) t) in
-      ap (λ lists. body_of limits head heads.findings (place_behind at behind) ending (placed_from at behind) lists) law
-      ∙ ap (λ k. body_of limits k heads.findings (place_behind at behind) ending (placed_from at behind) (body_told lines macros (placed_from at behind))) h
+      let end : place_past at behind ≡ place_after t =
+      ap (λ q. place_past q behind) place ∙ ap (place_past (place_after (front_of t))) b ∙ behind_after (front_of t) (behind_heads t) ∙ ap place_after (take-append-drop (head_len t + 2) t) in
+      ap (λ lists. body_of limits head heads.findings (place_past at behind) ending (placed_from at behind) lists) law
+      ∙ ap (λ k. body_of limits k heads.findings (place_past at behind) ending (placed_from at behind) (body_told lines macros (placed_from at behind))) h
       ∙ ap (λ q. body_of limits (bytes_len (canonical_heads heads.book)) heads.findings q ending (placed_from at behind) (body_told lines macros (placed_from at behind))) end
       ∙ ap (λ ys. body_of limits (bytes_len (canonical_heads heads.book)) heads.findings (place_after t) ending ys (body_told lines macros ys)) xs
       ∙ ap (λ k. body_of limits (bytes_len (canonical_heads heads.book)) heads.findings (place_after t) ending (placed_after (front_of t) (behind_heads t)) (body_told k macros (placed_after (front_of t) (behind_heads t)))) l

@@ -10,3 +10,10 @@ pub mod Texts
 pub mod Places
 pub mod Fronts
 pub mod Units
+pub mod Sorted
+pub mod PartsSorted
+pub mod PiecesSorted
+pub mod ScoreSorted
+pub mod Stopping
+pub mod LayersSorted
+pub mod Marks

@@ -6,8 +6,7 @@ use Rattle.std.proofs.lemmas.Str.{chars-nil, length-encode, len_utf8_bounds}
 use Rattle.std.proofs.lemmas.List.{nil_from_length}
 use Rattle.gabc_places.specs.declared.place.Place.{Place}
 use Rattle.gabc_places.specs.declared.place.Char.{Char}
-use Rattle.gabc_places.specs.Place.{next_place, is_line_feed, place_after, placed_after}
-use Rattle.gabc_score.specs.Reader.{placed_from, place_behind}
+use Rattle.gabc_places.specs.Place.{next_place, is_line_feed, place_after, placed_after, place_past, placed_from}
 
 next_after : (f : List ℕ) (c : ℕ) → next_place (place_after f) c ≡ place_after (f ++ c ∷ [])
 next_after f c = grind (arith, common_steps)
@@ -17,10 +16,10 @@ placed_behind f [] = refl
 placed_behind f (c ∷ cs) =
     ap (λ (l : List Char). record { c = c; place = place_after f } ∷ l) (ap (λ p. placed_from p cs) (next_after f c) ∙ placed_behind (f ++ c ∷ []) cs)
 
-pub behind_after : (f cs : List ℕ) → place_behind (place_after f) cs ≡ place_after (f ++ cs)
+pub behind_after : (f cs : List ℕ) → place_past (place_after f) cs ≡ place_after (f ++ cs)
 behind_after f [] = ap place_after (sym (append-nil f))
 behind_after f (c ∷ cs) =
-    ap (λ p. place_behind p cs) (next_after f c) ∙ behind_after (f ++ c ∷ []) cs ∙ ap place_after (append_assoc f (c ∷ []) cs)
+    ap (λ p. place_past p cs) (next_after f c) ∙ behind_after (f ++ c ∷ []) cs ∙ ap place_after (append_assoc f (c ∷ []) cs)
 
 -- no count of a place grows by more than the bytes that were read
 module _ (p : Place) (n m most : ℕ) (less : m + 1 ≤ n) (line : p.line + n ≤ most) (column : p.column + n ≤ most) where

@@ -310,7 +310,7 @@ module _ (texts : Texts) (lines macros : ℕ) where
       by false true = tt
       by false false = tt
 
-  text_mark : (lists : List (List TextOut)) (front : List Char) (mark : Mark) → EndsBehind lines (InText lists) front mark → IsOpens mark
+  pub text_mark : (lists : List (List TextOut)) (front : List Char) (mark : Mark) → EndsBehind lines (InText lists) front mark → IsOpens mark
   text_mark lists [] mark h = subst OfText h (of_text lists)
   text_mark lists (x ∷ xs) mark h = text_mark (other_lists lists) xs mark h.1
 

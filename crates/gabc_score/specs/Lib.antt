@@ -10,3 +10,5 @@ pub mod Score
 pub mod Step
 pub mod Syllable
 pub mod Units
+pub mod Stops
+pub mod Marks

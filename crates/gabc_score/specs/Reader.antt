@@ -1,13 +1,11 @@
 -- What the reader of a body does.
-use Rattle.std.specs.Prelude.{ℕ, ◌+◌, ◌||◌, ◌&&◌, not, nat_lt, List, [], ◌∷◌, ◌++◌, Bool, cond, length, Option, Some, None, take}
+use Rattle.std.specs.Prelude.{◌+◌, ◌||◌, ◌&&◌, not, nat_lt, List, [], ◌∷◌, ◌++◌, Bool, cond, length, Option, Some, None, take}
 use Rattle.std.specs.Option.{option_map}
 use Rattle.gabc_places.specs.declared.code.Code.{Code}
 use Rattle.gabc_places.specs.declared.code.Code.TheVariants.{W9, W11, F5, F6, F7}
 use Rattle.gabc_places.specs.declared.code.Finding.{Finding}
 use Rattle.gabc_places.specs.declared.limits.Limits.{Limits}
 use Rattle.gabc_places.specs.declared.place.Place.{Place}
-use Rattle.gabc_places.specs.declared.place.Char.{Char}
-use Rattle.gabc_places.specs.Place.{next_place}
 use Rattle.gabc_places.specs.Held.{Held}
 use Rattle.gabc_places.specs.declared.code.Fault.{Fault}
 use Rattle.gabc_score.specs.declared.told.Told.{Told}
@@ -16,18 +14,6 @@ use Rattle.gabc_score.specs.declared.reader.BodyReader.{BodyReader}
 use Rattle.gabc_score.specs.Canonical.{with_positions}
 use Rattle.gabc_score.specs.Body.{is_longer, is_none, findings_with, fault_at, has_text}
 use Rattle.gabc_score.specs.Gathered.{Gathered, gathered_of, with_told, with_last}
-
--- ---- places
-
--- the characters of a text that begins at this place
-abbrev pub placed_from : Place → List ℕ → List Char
-placed_from at [] = []
-placed_from at (c ∷ cs) = record { c = c; place = at } ∷ placed_from (next_place at c) cs
-
--- the place behind it
-abbrev pub place_behind : Place → List ℕ → Place
-place_behind at [] = at
-place_behind at (c ∷ cs) = place_behind (next_place at c) cs
 
 -- ---- what is told at a point
 

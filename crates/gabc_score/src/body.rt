@@ -10,7 +10,7 @@ ghost use Rattle.gabc_score.specs.Parts.{InComment, told_from, body_told, behind
 ghost use Rattle.gabc_text.specs.Step.{rest_of as text_rest};
 ghost use Rattle.gabc_text.specs.Outs.{codes_of, Fits};
 ghost use Rattle.gabc_score.specs.Pushed.{Pushes, Finishes};
-ghost use Rattle.gabc_score.specs.Reader.{placed_from};
+ghost use Rattle.gabc_places.specs.Place.{placed_from};
 ghost use Rattle.gabc_score.specs.Read.{part_with, rest_told, texts_run};
 ghost use Rattle.gabc_score.specs.declared.told.Told.TheVariants.{Text as of_text};
 

@@ -3,7 +3,7 @@
 ghost use Rattle.std.specs.Prelude.{◌≡◌, ◌+◌, ◌<◌, ◌^◌, length, IfOk};
 ghost use Rattle.std.specs.Str.{chars};
 ghost use Rattle.gabc_score.specs.Body.{body_of};
-ghost use Rattle.gabc_score.specs.Reader.{placed_from, place_behind};
+ghost use Rattle.gabc_places.specs.Place.{place_past, placed_from};
 
 use crate::body_read::BodyRead;
 use crate::ending::Ending;
@@ -24,7 +24,7 @@ pub(crate) fn read_body<S: Stage<Input = Char, Output = Told>>(
 ) -> Result<BodyRead, AllocError>
     requires line { start.at.line + length body.now < 2 ^ 64 }
     requires column { start.at.column + length body.now < 2 ^ 64 }
-    ensures { let xs = placed_from start.at (chars body.now) in IfOk result (λ read. read ≡ body_of limits start.head start.findings (place_behind start.at (chars body.now)) ending xs (S.rest stage.old xs)) }
+    ensures { let xs = placed_from start.at (chars body.now) in IfOk result (λ read. read ≡ body_of limits start.head start.findings (place_past start.at (chars body.now)) ending xs (S.rest stage.old xs)) }
 {
     let Start { at, head, findings } = start;
     let mut reader = BodyReader::new(alloc, stage.most(), limits, head, findings)?;

@@ -3,7 +3,7 @@
 ghost use Rattle.std.specs.Prelude.{◌≡◌, ◌+◌, ◌<◌, ◌≤◌, ◌^◌, [], length, IfOk};
 ghost use Rattle.std.specs.Str.{chars};
 ghost use Rattle.gabc_headers.specs.Heads.{body_byte};
-ghost use Rattle.gabc_score.specs.Reader.{place_behind};
+ghost use Rattle.gabc_places.specs.Place.{place_past};
 ghost use Rattle.gabc_score.specs.Score.{macros_of, body_in, with_body, head_fault_by, score_of};
 
 use crate::body::BodyStage;
@@ -118,7 +118,7 @@ fn macros_in(book: &HeaderBook) -> u16
 /// The place behind a text.
 fn place_past(front: &str) -> Place
     requires { length front.now < 2 ^ 63 }
-    ensures place { result ≡ place_behind Place.START (chars front.now) }
+    ensures place { result ≡ place_past Place.START (chars front.now) }
     ensures line { result.line ≤ 1 + length front.now }
     ensures column { result.column ≤ 1 + length front.now }
 {

@@ -1,15 +1,15 @@
 -- Counts and places of a text that grows.
 use Rattle.std.proofs.Common.{◌≡◌, ℕ, ◌+◌, ◌<◌, ◌≤◌, ◌^◌, ◌==◌, ◌&&◌, not, List, [], ◌∷◌, ◌++◌, Bool, true, false, cond, refl, ap, length, length-append, Option, Some, None, arith, nat_lt}
 use Rattle.std.specs.Char.{len_utf8}
-use Rattle.gabc_places.specs.Place.{next_place}
+use Rattle.gabc_places.specs.Place.{next_place, place_past, placed_from}
 use Rattle.gabc_places.specs.declared.place.Place.{Place}
 use Rattle.gabc_places.specs.declared.place.Char.{Char}
 use Rattle.gabc_text.specs.declared.view.PieceKind.{PieceKind}
 use Rattle.gabc_text.specs.declared.mode.Mode.{Mode}
 use Rattle.gabc_text.specs.declared.mode.Mode.TheVariants.{Plain, Comment}
 use Rattle.gabc_text.specs.Token.{Token, spelling}
-use Rattle.gabc_text.specs.View.{text_of, place_past, bytes_of, kept_at, is_left_out, is_space, follows_space, count_pieces, pieces_at, piece_of, Said, kind_of, has_word, follows_blank}
-use Rattle.gabc_text.specs.Outs.{kept_of, placed_from}
+use Rattle.gabc_text.specs.View.{text_of, bytes_of, kept_at, is_left_out, is_space, follows_space, count_pieces, pieces_at, piece_of, Said, kind_of, has_word, follows_blank}
+use Rattle.gabc_text.specs.Outs.{kept_of}
 use Rattle.gabc_text.specs.Step.{up, later}
 use Rattle.gabc_text.proofs.Going.{kept_held}
 

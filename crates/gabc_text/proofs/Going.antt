@@ -114,7 +114,7 @@ begin_ends c =
     by_case 91 c Single (λ k so e. absurd (cc)) (λ e91.
     λ k so e. let f = rw (e36, e37, e60, e91) at e in ((let g : k ≡ single c = cc in g), e37)))))
 
-single_uncut : (c : ℕ) → is_open_kind (single c) ≡ false
+pub single_uncut : (c : ℕ) → is_open_kind (single c) ≡ false
 single_uncut c = by (is_blank c) (is_one_of (codes ")]>") c) (c == 123) (c == 125)
   where
     by : (a b d e : Bool) → is_open_kind (cond a kind.Blank (cond b kind.Stray (cond d kind.Begin (cond e kind.End kind.Letter)))) ≡ false

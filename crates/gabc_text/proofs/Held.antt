@@ -1,6 +1,6 @@
 -- What the machine has given of a token that goes on.
 use Rattle.std.proofs.Common.{◌≡◌, ℕ, ◌==◌, nat_lt, List, [], ◌∷◌, ◌++◌, Bool, true, false, cond, refl, sym, ap, ◌∙◌, append_assoc, append-nil, map, Option, Some, None, codes}
-use Rattle.gabc_places.specs.Place.{next_place}
+use Rattle.gabc_places.specs.Place.{next_place, place_past, placed_from}
 use Rattle.gabc_places.specs.declared.place.Place.{Place}
 use Rattle.gabc_places.specs.declared.place.Char.{Char}
 use Rattle.gabc_places.specs.declared.code.Code.{Code}
@@ -16,8 +16,8 @@ use Rattle.gabc_text.specs.declared.mode.Went.TheVariants.{Stays, Ends}
 use Rattle.gabc_text.specs.declared.stage.TextOut.{TextOut}
 use Rattle.gabc_text.specs.declared.stage.TextOut.TheVariants as out
 use Rattle.gabc_text.specs.Token.{Token, spelling, single, is_blank, is_one_of}
-use Rattle.gabc_text.specs.View.{place_past, place_of, is_left_out, is_space, follows_space, has_translation, early_codes, kept_at}
-use Rattle.gabc_text.specs.Outs.{placed_from, chars_at, found_outs, nothing_each, kept_each, kept_lists_by, owed, with_first}
+use Rattle.gabc_text.specs.View.{place_of, is_left_out, is_space, follows_space, has_translation, early_codes, kept_at}
+use Rattle.gabc_text.specs.Outs.{chars_at, found_outs, nothing_each, kept_each, kept_lists_by, owed, with_first}
 use Rattle.gabc_text.specs.Machine.{early_lem}
 use Rattle.gabc_text.specs.Mode.{is_plain_lem, go_lem, begin_lem, keep_lem, keep_first_lem, is_blank_kind, tag_ends_lem, wanted_lem}
 use Rattle.gabc_text.specs.Name.{sort_named_lem}

@@ -2,14 +2,14 @@
 use Rattle.std.proofs.Common.{◌≡◌, ℕ, List, [], ◌∷◌, ◌++◌, Bool, true, false, cond, refl, sym, ap, ◌∙◌, append_assoc, append-nil, map}
 use Rattle.std.proofs.lemmas.List.Concat.{flat_map-append}
 use Rattle.gabc_places.specs.Law.{joined}
-use Rattle.gabc_places.specs.Place.{next_place}
+use Rattle.gabc_places.specs.Place.{next_place, placed_from}
 use Rattle.gabc_places.specs.declared.place.Place.{Place}
 use Rattle.gabc_places.specs.declared.place.Char.{Char}
 use Rattle.gabc_text.specs.declared.stage.TextOut.{TextOut}
 use Rattle.gabc_text.specs.declared.stage.TextOut.TheVariants as out
 use Rattle.gabc_text.specs.Token.{Token, spelling, tokens}
 use Rattle.gabc_text.specs.View.{along, is_left_out, is_space, follows_space, place_of}
-use Rattle.gabc_text.specs.Outs.{outs, outs_by_point, outs_at, outs_end, early_outs, whole_outs, now_outs, owed, is_lone, lists_at, lists_end, with_first, with_last, kept_each, nothing_each, placed_from, chars_at, after_tokens}
+use Rattle.gabc_text.specs.Outs.{outs, outs_by_point, outs_at, outs_end, early_outs, whole_outs, now_outs, owed, is_lone, lists_at, lists_end, with_first, with_last, kept_each, nothing_each, chars_at, after_tokens}
 use Rattle.gabc_text.proofs.Run.{onto}
 
 pub joined_append : (a b : List (List TextOut)) → joined (a ++ b) ≡ joined a ++ joined b
@@ -61,7 +61,7 @@ module _ (at : Place) where
         ∙ five (owed at before) (early_outs at before k.kind) (map (λ (c : Char). out.Kept c) (chars_at at before k)) (now_outs at before k) (owed at (k ∷ before))
         ∙ ap (λ (x : List TextOut). owed at before ++ (early_outs at before k.kind ++ (map (λ (c : Char). out.Kept c) (chars_at at before k) ++ x))) (parted (is_lone k) (whole_outs at before k))
 
-  along_joined : (ks before : List Token) → joined (along (lists_at at) before ks) ++ owed at (onto ks before) ≡ owed at before ++ along (outs_at at) before ks
+  pub along_joined : (ks before : List Token) → joined (along (lists_at at) before ks) ++ owed at (onto ks before) ≡ owed at before ++ along (outs_at at) before ks
   along_joined [] before = sym (append-nil (owed at before))
   along_joined (k ∷ ks) before =
       ap (λ (x : List TextOut). x ++ owed at (onto ks (k ∷ before))) (joined_append (lists_at at before k) (along (lists_at at) (k ∷ before) ks))

@@ -30,6 +30,10 @@ pub mod Backward
 pub mod Written
 pub mod NoErrors
 pub mod Ordered
+pub mod Parted
+pub mod Findings
+pub mod Within
+pub mod Ending
 pub mod PrintedKept
 pub mod KeptAgain
 pub mod KeptTokens

@@ -1,7 +1,7 @@
 -- The findings of a text are in the order of their places, each once.
 use Rattle.std.proofs.Common.{◌≡◌, ℕ, ◌+◌, ◌<◌, ◌==◌, ◌&&◌, not, List, [], ◌∷◌, ◌++◌, Bool, true, false, cond, refl, sym, ◌∙◌, subst, append_assoc, map, arith, inl, inr, ◌⊎◌}
 use Rattle.std.specs.List.{list_any}
-use Rattle.gabc_places.specs.Place.{next_place}
+use Rattle.gabc_places.specs.Place.{next_place, place_past}
 use Rattle.gabc_places.specs.Findings.{StandsBefore, StandBehind, AreInOrder}
 use Rattle.gabc_places.specs.declared.place.Place.{Place}
 use Rattle.gabc_places.specs.declared.code.Code.{Code}
@@ -12,7 +12,7 @@ use Rattle.gabc_text.specs.declared.token.Kind.TheVariants as kind
 use Rattle.gabc_text.specs.declared.token.Sort.{Sort}
 use Rattle.gabc_text.specs.declared.token.Sort.TheVariants.{Opens, Closes, Mark, Begins, Other}
 use Rattle.gabc_text.specs.Token.{Token, spelling, tokens}
-use Rattle.gabc_text.specs.View.{along, sort, is_open, all_styles, has_begin, has_end, has_translation, is_cut, early_codes, late_codes, found_at, findings_at, findings_at_end, findings, place_of, place_past, text_of}
+use Rattle.gabc_text.specs.View.{along, sort, is_open, all_styles, has_begin, has_end, has_translation, is_cut, early_codes, late_codes, found_at, findings_at, findings_at_end, findings, place_of, text_of}
 use Rattle.gabc_text.proofs.Counts.{place_append}
 use Rattle.gabc_text.proofs.Run.{onto}
 

@@ -18,7 +18,8 @@ use Rattle.gabc_text.specs.declared.stage.TextOut.{TextOut}
 use Rattle.gabc_text.specs.declared.stage.TextOut.TheVariants as out
 use Rattle.gabc_text.specs.Token.{Token, spelling, tokens, is_special}
 use Rattle.gabc_text.specs.View.{along, sort, sort_as, text_of, place_of, bytes_of, is_cut, early_codes, is_open, has_begin, has_end, kept_at, found_at, findings_at_end}
-use Rattle.gabc_text.specs.Outs.{outs_by_point, outs_end, lists_at, lists_end, whole_outs, now_outs, owed, is_lone, with_first, with_last, nothing_each, kept_each, kept_lists_by, after_tokens, kept_of, last_at, but_last, centre_of, listed, end_after, found_outs, placed_from}
+use Rattle.gabc_text.specs.Outs.{outs_by_point, outs_end, lists_at, lists_end, whole_outs, now_outs, owed, is_lone, with_first, with_last, nothing_each, kept_each, kept_lists_by, after_tokens, kept_of, last_at, but_last, centre_of, listed, end_after, found_outs}
+use Rattle.gabc_places.specs.Place.{placed_from}
 use Rattle.gabc_text.specs.Step.{rest_of, option_list, found_out, token_outs, end_outs, is_cut_lem, style_code_lem, centre_code_lem, centre_out_lem}
 use Rattle.gabc_text.specs.Mode.{settled_lem, at_end_lem}
 use Rattle.gabc_text.proofs.SeenSoFar.{seen_of}

@@ -1,7 +1,7 @@
 -- A character more, and the end: from any character on, the machine gives what the definitions say of the rest.
 use Rattle.std.proofs.Common.{◌≡◌, ℕ, suc, ◌+◌, ◌<◌, ◌≤◌, ◌^◌, ◌==◌, ◌||◌, ◌&&◌, List, [], ◌∷◌, ◌++◌, Bool, true, false, cond, refl, sym, ap, ◌∙◌, subst, append_assoc, append-nil, length, length-append, drop, Option, Some, None, arith, codes}
 use Rattle.std.proofs.lemmas.Bool.{eqb-true}
-use Rattle.gabc_places.specs.Place.{next_place}
+use Rattle.gabc_places.specs.Place.{next_place, place_past}
 use Rattle.gabc_places.specs.declared.place.Place.{Place}
 use Rattle.gabc_places.specs.declared.place.Char.{Char}
 use Rattle.gabc_text.specs.declared.token.Kind.{Kind}
@@ -16,7 +16,7 @@ use Rattle.gabc_text.specs.declared.stage.TextStage.{TextStage}
 use Rattle.gabc_text.specs.declared.stage.TextEnd.TheVariants as ending
 use Rattle.gabc_text.specs.declared.stage.TextOut.{TextOut}
 use Rattle.gabc_text.specs.Token.{Token, spelling, tokens}
-use Rattle.gabc_text.specs.View.{sort, text_of, place_past, place_of, bytes_of, is_cut, is_open_kind, early_codes, count_pieces}
+use Rattle.gabc_text.specs.View.{sort, text_of, place_of, bytes_of, is_cut, is_open_kind, early_codes, count_pieces}
 use Rattle.gabc_text.specs.Outs.{outs_by_point, outs_end, lists_at, owed, is_lone, with_first, nothing_each, kept_lists_by, after_tokens, chars_at, kept_of, last_at, but_last, end_after, found_outs, Fits}
 use Rattle.gabc_text.specs.Step.{later, fresh, rest_of, left_of, option_list, found_out, settle_outs_by, settle_stage_by, settled_push, settled_push_outs, read_outs, read_stage, went_outs, went_stage, bytes_lem, token_stage, token_outs, end_outs, end_stage, finish_outs_by, end_by, is_cut_lem, char_out}
 use Rattle.gabc_text.specs.Machine.{early_lem, after_lem}

@@ -1,5 +1,6 @@
 pub mod Canonical
 pub mod Changes
+pub mod Ends
 pub mod Machine
 pub mod Mode
 pub mod Name

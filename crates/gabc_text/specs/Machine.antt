@@ -82,15 +82,18 @@ nothing_lem = record {
   starts = false;
 }
 
+abbrev pub after_piece : Seen → Seen
+after_piece s = record s { word = true; blank = false; space = false }
+
 abbrev pub after_tag : Seen → Sort → Seen
 after_tag s Mark = record s { blank = false; space = false }
-after_tag s Other = record s { word = true; blank = false; space = false }
+after_tag s Other = after_piece s
 after_tag s sort = record s { styles = styles_lem s.styles sort; space = false }
 
 abbrev pub after_lem : Seen → Kind → Sort → Seen
 after_lem s Blank sort = record s { starts = not s.word || s.starts; blank = true; space = true }
-after_lem s Letter sort = record s { word = true; blank = false; space = false }
-after_lem s Raw sort = record s { word = true; blank = false; space = false }
+after_lem s Letter sort = after_piece s
+after_lem s Raw sort = after_piece s
 after_lem s Begin sort = record s { begun = true; space = s.begun && s.space }
 after_lem s End sort = record s { ended = s.begun || s.ended; space = not (s.begun && not s.ended) && s.space }
 after_lem s Translation sort = record s { translated = true; space = false }

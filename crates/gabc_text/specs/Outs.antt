@@ -1,6 +1,6 @@
 -- What a text gives as it is read: its kept characters, the parts of its view, its findings and its end.
 use Rattle.std.specs.Prelude.{ℕ, ◌+◌, ◌-◌, ◌<◌, ◌^◌, List, [], ◌∷◌, ◌++◌, Bool, true, false, cond, not, ◌&&◌, length, Option, Some, None, map, reverse, drop, codes}
-use Rattle.gabc_places.specs.Place.{next_place}
+use Rattle.gabc_places.specs.Place.{placed_from}
 use Rattle.gabc_places.specs.declared.place.Place.{Place}
 use Rattle.gabc_places.specs.declared.place.Span.{Span}
 use Rattle.gabc_places.specs.declared.place.Char.{Char}
@@ -99,10 +99,6 @@ abbrev pub parts_at : List Token → Token → List TextPart
 parts_at before k = parts_by before k (kind_of k)
 
 -- ---- kept characters
-
-abbrev pub placed_from : Place → List ℕ → List Char
-placed_from p [] = []
-placed_from p (c ∷ t) = record { c = c; place = p } ∷ placed_from (next_place p c) t
 
 -- the characters that are kept of a token, each with its place
 abbrev pub chars_at : Place → List Token → Token → List Char

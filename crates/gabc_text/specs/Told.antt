@@ -68,3 +68,9 @@ abbrev pub kept_in : List TextOut → List ℕ
 kept_in [] = []
 kept_in (out.Kept c ∷ os) = c.c ∷ kept_in os
 kept_in (o ∷ os) = kept_in os
+
+-- the findings among the outputs
+abbrev pub found_in : List TextOut → List Finding
+found_in [] = []
+found_in (out.Found f ∷ os) = f ∷ found_in os
+found_in (o ∷ os) = found_in os

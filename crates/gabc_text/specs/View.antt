@@ -9,7 +9,7 @@ use Rattle.gabc_places.specs.declared.code.Code.{Code}
 use Rattle.gabc_places.specs.declared.code.Code.TheVariants.{E2, W3, W4, W5, W6}
 use Rattle.gabc_places.specs.declared.code.Finding.{Finding}
 use Rattle.std.specs.Char.{len_utf8}
-use Rattle.gabc_places.specs.Place.{next_place}
+use Rattle.gabc_places.specs.Place.{place_past}
 use Rattle.gabc_places.specs.declared.place.Place.{Place}
 use Rattle.gabc_places.specs.declared.place.Span.{Span}
 use Rattle.gabc_text.specs.declared.view.How.{How}
@@ -39,11 +39,6 @@ along at before (k ∷ ks) = at before k ++ along at (k ∷ before) ks
 abbrev pub text_of : List Token → List ℕ
 text_of [] = []
 text_of (k ∷ before) = text_of before ++ spelling k
-
--- the place behind a text that begins at p
-abbrev pub place_past : Place → List ℕ → Place
-place_past p [] = p
-place_past p (c ∷ t) = place_past (next_place p c) t
 
 abbrev pub place_of : Place → List Token → Place
 place_of at before = place_past at (text_of before)

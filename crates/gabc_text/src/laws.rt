@@ -1,8 +1,13 @@
 //! Laws of the definitions that contracts speak of. The functions do nothing: each is there for its clauses.
 
-ghost use Rattle.std.specs.Prelude.{◌≡◌, ℕ, ◌+◌, List, [], ◌∷◌, ◌++◌, length, take, false, cond, codes, encode_utf8_all};
+ghost use Rattle.std.specs.Prelude.{◌≡◌, ℕ, ◌+◌, ◌<◌, List, [], ◌∷◌, ◌++◌, length, take, false, cond, codes, encode_utf8_all};
 ghost use Rattle.gabc_places.specs.Law.{joined};
-ghost use Rattle.gabc_places.specs.Findings.{AreInOrder};
+ghost use Rattle.std.specs.List.{All};
+ghost use Rattle.gabc_places.specs.Findings.{AreInOrder, LieBetween};
+ghost use Rattle.gabc_places.specs.Place.{place_past};
+ghost use Rattle.gabc_places.specs.Code.{rank_of};
+ghost use Rattle.gabc_places.specs.declared.code.Code.TheVariants.{W9};
+ghost use Rattle.gabc_places.specs.declared.code.Finding.{Finding};
 ghost use Rattle.gabc_places.specs.declared.place.Place.{Place};
 ghost use Rattle.gabc_text.specs.declared.stage.TextStage.{TextStage};
 ghost use Rattle.gabc_text.specs.Step.{fresh, rest_of, left_of};
@@ -13,7 +18,8 @@ ghost use Rattle.gabc_text.specs.Said.{Stands, StandsFor, view_said, has_error};
 ghost use Rattle.gabc_text.specs.Printed.{print, text_tokens, translated, written};
 ghost use Rattle.gabc_text.specs.Canonical.{spanned, canonical_text};
 ghost use Rattle.gabc_places.specs.declared.place.Span.{Span};
-ghost use Rattle.gabc_text.specs.Told.{told_after, nothing_told, told_in, kept_in};
+ghost use Rattle.gabc_text.specs.Told.{told_after, nothing_told, told_in, kept_in, found_in};
+ghost use Rattle.gabc_text.specs.Ends.{EndsOnce};
 
 /// A fresh machine gives what the definition says, where no count of the text reaches its last value, and what it does not
 /// read begins with the `(` that ends the text.
@@ -77,4 +83,17 @@ pub fn printed_again()
 pub fn kept_again()
     ensures kept { (t : List ℕ) → kept (kept t) ≡ kept t }
     ensures said { (t : List ℕ) → view_said (kept t) ≡ view_said t }
+{}
+
+/// What is told of a text through the character behind a front of it, or through its end, is found no earlier than the text
+/// begins and no later than that character. All that is found is the text's findings, and each has a code below W9.
+pub fn findings_lie_within()
+    ensures within { (at : Place) (front rest : List ℕ) → LieBetween at (place_past at front) (found_in (joined (take (length front + 1) (outs_by_point at (front ++ rest))))) }
+    ensures all { (at : Place) (t : List ℕ) → found_in (joined (outs_by_point at t)) ≡ findings at t }
+    ensures low { (at : Place) (t : List ℕ) → All (λ (f : Finding). rank_of f.code < rank_of W9) (findings at t) }
+{}
+
+/// A text's end is told once, as the last of what is told: with the `(` of its notes, or with the end of the input.
+pub fn a_text_ends_once()
+    ensures { (at : Place) (t : List ℕ) → EndsOnce at t }
 {}

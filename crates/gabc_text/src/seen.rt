@@ -1,7 +1,7 @@
 //! What the tokens so far have shown.
 
 ghost use Rattle.std.specs.Prelude.{◌≡◌};
-ghost use Rattle.gabc_text.specs.Machine.{styles_lem, left_out_lem, piece_lem, early_lem, code_lem, after_lem, nothing_lem};
+ghost use Rattle.gabc_text.specs.Machine.{styles_lem, left_out_lem, piece_lem, early_lem, code_lem, after_piece, after_tag, after_lem, nothing_lem};
 ghost use Rattle.gabc_text.specs.Mode.{keep_lem, keep_first_lem};
 ghost use Rattle.gabc_text.specs.View.{piece_kind};
 
@@ -131,6 +131,37 @@ pub(crate) fn code_at(seen: Seen, kind: Kind, sort: Sort) -> Option<Code>
     }
 }
 
+/// What has been seen after a piece that is no blank and no span mark.
+fn after_piece(seen: Seen) -> Seen
+    ensures { result ≡ after_piece seen }
+{
+    Seen {
+        word: true,
+        blank: false,
+        space: false,
+        ..seen
+    }
+}
+
+/// What has been seen after a tag of this sort.
+fn after_tag(seen: Seen, sort: Sort) -> Seen
+    ensures { result ≡ after_tag seen sort }
+{
+    match sort {
+        Sort::Mark => Seen {
+            blank: false,
+            space: false,
+            ..seen
+        },
+        Sort::Other => after_piece(seen),
+        _ => Seen {
+            styles: styles_after(seen.styles, sort),
+            space: false,
+            ..seen
+        },
+    }
+}
+
 /// What has been seen after a token more.
 pub(crate) fn after(seen: Seen, kind: Kind, sort: Sort) -> Seen
     ensures { result ≡ after_lem seen kind sort }
@@ -142,25 +173,17 @@ pub(crate) fn after(seen: Seen, kind: Kind, sort: Sort) -> Seen
             space: true,
             ..seen
         },
-        Kind::Letter | Kind::Raw => Seen {
-            word: true,
-            blank: false,
-            space: false,
-            ..seen
-        },
+        Kind::Letter | Kind::Raw => after_piece(seen),
         Kind::Begin => Seen {
             begun: true,
             space: seen.begun && seen.space,
             ..seen
         },
-        Kind::End => {
-            let ends = seen.begun && !seen.ended;
-            Seen {
-                ended: seen.begun || seen.ended,
-                space: !ends && seen.space,
-                ..seen
-            }
-        }
+        Kind::End => Seen {
+            ended: seen.begun || seen.ended,
+            space: is_left_out(seen, kind) && seen.space,
+            ..seen
+        },
         Kind::Comment | Kind::Stray => seen,
         Kind::Translation | Kind::OpenTranslation => Seen {
             translated: true,
@@ -171,27 +194,11 @@ pub(crate) fn after(seen: Seen, kind: Kind, sort: Sort) -> Seen
             space: false,
             ..seen
         },
-        Kind::Tag => match sort {
-            Sort::Mark => Seen {
-                blank: false,
-                space: false,
-                ..seen
-            },
-            Sort::Other => Seen {
-                word: true,
-                blank: false,
-                space: false,
-                ..seen
-            },
-            _ => Seen {
-                styles: styles_after(seen.styles, sort),
-                space: false,
-                ..seen
-            },
-        },
+        Kind::Tag => after_tag(seen, sort),
     }
 }
 
+/// What is kept of a character between tokens, where this is its kind.
 pub(crate) fn keep_first(seen: Seen, c: char, kind: Kind) -> Option<char>
     ensures { result ≡ keep_first_lem seen c kind }
 {

@@ -7,8 +7,7 @@ use Rattle.std.proofs.lemmas.Str.{chars_past_char, IsUtf8-past_char, scalars-cha
 use lib.Utf8.{encode, scalars}
 use Rattle.gabc_places.specs.declared.place.Char.{Char}
 use Rattle.gabc_places.specs.declared.place.Place.{Place}
-use Rattle.gabc_places.specs.Place.{next_place}
-use Rattle.gabc_notes.specs.Read.{placed_from}
+use Rattle.gabc_places.specs.Place.{next_place, placed_from}
 use Rattle.gabc_notes.specs.Heard.{Heard, heard_of, Fed, Closed}
 use Rattle.gabc_notes.specs.declared.stage.NoteEnd.{NoteEnd}
 use Rattle.gabc_notes.specs.declared.stage.NoteEnd.TheVariants.{Close}

@@ -2,7 +2,7 @@ use Rattle.std.proofs.Common.{◌≡◌, ◌+◌, ◌<◌, ◌^◌, [], List, le
 use Rattle.std.specs.Str.{chars}
 use Rattle.std.specs.Str.Iter.{chars_rest}
 use Rattle.gabc_places.specs.declared.place.Char.{Char}
-use Rattle.gabc_notes.specs.Read.{placed_from}
+use Rattle.gabc_places.specs.Place.{placed_from}
 use Rattle.gabc_notes.specs.Heard.{heard_of}
 use Rattle.gabc_notes.proofs.Reaching.{Reaches}
 use Rattle.gabc_notes.proofs.whole.snippet_whole.Given as goal

@@ -5,7 +5,8 @@ use Rattle.std.proofs.lemmas.Str.{chars_past_char, IsUtf8-past_char}
 use Rattle.gabc_places.specs.declared.limits.Limits.{Limits}
 use Rattle.gabc_score.specs.declared.body_read.BodyRead.{BodyRead}
 use Rattle.gabc_score.specs.Body.{onto, reached, fault_at}
-use Rattle.gabc_score.specs.Reader.{placed_from, place_behind, state_of, stopped_at}
+use Rattle.gabc_score.specs.Reader.{state_of, stopped_at}
+use Rattle.gabc_places.specs.Place.{place_past, placed_from}
 use Rattle.gabc_score.proofs.Places.{within_on, shorter, no_chars}
 use Rattle.gabc_score.proofs.Bodies.{pushed, held_on, held_back, reads_on, reads_to, stopped_here, ended_broken, ended_fault, ended_all}
 use Rattle.gabc_score.proofs.read_body.read_body.Goals as goal
@@ -38,7 +39,7 @@ loop-c-preserved g c =
           ∙ held_on c.args.limits start.head start.findings most (small_limit c.args.limits) low i.before gives.given s holds c.in_ok-code.field-0 c.in_ok-code.ensures.code none;
       reads = reads_on c.args.limits start.head start.findings most (small_limit c.args.limits) low i.before gives.given s holds c.in_ok-code.field-0 c.in_ok-code.ensures.code
           (g.S.Stage.rest c.loop-c.stage) (g.S.Stage.rest c.push.new.self) c.loop-c.place c.in-Some.c gives.law (chars rest) (chars next) past (reached c.args.limits c.args.start.head [] (placed_from c.args.start.at (chars c.args.body.now)) (g.S.Stage.rest c.args.stage.now (placed_from c.args.start.at (chars c.args.body.now)))) i.reads c.after-place.result c.after-place.ensures.next none;
-      behind = ap (λ p. place_behind p (chars next)) c.after-place.ensures.next ∙ (rw past at i.behind);
+      behind = ap (λ p. place_past p (chars next)) c.after-place.ensures.next ∙ (rw past at i.behind);
       line = omega (arith, fits.0);
       column = omega (arith, fits.1);
     }
@@ -60,7 +61,7 @@ returns-in-Some-2 g c =
     c.stopped.ensures
     ∙ ap (λ t. stopped_at t (Some fault)) c.in_ok-code.ensures.state
     ∙ held_back c.args.limits start.head start.findings most (small_limit c.args.limits) low i.before gives.given s holds c.in_ok-code.field-0 c.in_ok-code.ensures.code c.in-Some-2.code fault c.in-Some-2.is
-    ∙ stopped_here c.args.limits start.head start.findings (place_behind start.at (chars c.args.body.now)) c.args.ending i.before fault (reached c.args.limits c.args.start.head [] (placed_from c.args.start.at (chars c.args.body.now)) (g.S.Stage.rest c.args.stage.now (placed_from c.args.start.at (chars c.args.body.now))))
+    ∙ stopped_here c.args.limits start.head start.findings (place_past start.at (chars c.args.body.now)) c.args.ending i.before fault (reached c.args.limits c.args.start.head [] (placed_from c.args.start.at (chars c.args.body.now)) (g.S.Stage.rest c.args.stage.now (placed_from c.args.start.at (chars c.args.body.now))))
     (reads_to c.args.limits start.head start.findings most (small_limit c.args.limits) low i.before gives.given s holds c.in_ok-code.field-0 c.in_ok-code.ensures.code
     (g.S.Stage.rest c.loop-c.stage) (g.S.Stage.rest c.push.new.self) c.loop-c.place c.in-Some.c gives.law (chars rest) (chars next) past (reached c.args.limits c.args.start.head [] (placed_from c.args.start.at (chars c.args.body.now)) (g.S.Stage.rest c.args.stage.now (placed_from c.args.start.at (chars c.args.body.now)))) i.reads c.in-Some-2.code c.in-Some-2.is)
 
@@ -78,7 +79,7 @@ returns-in-Whole g c =
     let most = g.S.Stage.most_of c.args.stage.now in
     let start = c.args.start in
     let s = state_of (record c.loop-c.reader { room = c.finish.new.out }) in
-    let at = place_behind start.at (chars c.args.body.now) in
+    let at = place_past start.at (chars c.args.body.now) in
     let here : c.loop-c.place ≡ at = rw none at i.behind in
     on_ok c.end.result _ _ c.end.ensures.fits c.end.ensures.read (λ f.
     let low : c.args.limits.input < 2 ^ 64 - 1 = omega (arith, f) in
@@ -93,7 +94,7 @@ returns-in-Broken g c =
     let rest = chars_rest c.loop-c.c-iterator in
     let none = no_chars rest c.in-None.ensures.steps.0.0 in
     c.stopped-in-Broken.ensures
-    ∙ ended_broken c.args.limits c.args.start.head c.args.start.findings (g.S.Stage.most_of c.args.stage.now) i.before (place_behind c.args.start.at (chars c.args.body.now)) c.args.ending
+    ∙ ended_broken c.args.limits c.args.start.head c.args.start.findings (g.S.Stage.most_of c.args.stage.now) i.before (place_past c.args.start.at (chars c.args.body.now)) c.args.ending
     (g.S.Stage.rest c.loop-c.stage) c.loop-c.place (chars rest) none (reached c.args.limits c.args.start.head [] (placed_from c.args.start.at (chars c.args.body.now)) (g.S.Stage.rest c.args.stage.now (placed_from c.args.start.at (chars c.args.body.now)))) i.reads (state_of c.loop-c.reader) i.holds c.in-Broken.is
 
 pub returns-in-At : goal.returns-in-At
@@ -102,5 +103,5 @@ returns-in-At g c =
     let rest = chars_rest c.loop-c.c-iterator in
     let none = no_chars rest c.in-None.ensures.steps.0.0 in
     c.stopped-in-At.ensures
-    ∙ ended_fault c.args.limits c.args.start.head c.args.start.findings (g.S.Stage.most_of c.args.stage.now) i.before (place_behind c.args.start.at (chars c.args.body.now)) c.args.ending
+    ∙ ended_fault c.args.limits c.args.start.head c.args.start.findings (g.S.Stage.most_of c.args.stage.now) i.before (place_past c.args.start.at (chars c.args.body.now)) c.args.ending
     (g.S.Stage.rest c.loop-c.stage) c.loop-c.place (chars rest) none (reached c.args.limits c.args.start.head [] (placed_from c.args.start.at (chars c.args.body.now)) (g.S.Stage.rest c.args.stage.now (placed_from c.args.start.at (chars c.args.body.now)))) i.reads (state_of c.loop-c.reader) c.in-At.fault i.holds c.in-At.is

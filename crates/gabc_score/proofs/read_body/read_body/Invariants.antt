@@ -3,7 +3,8 @@ use Rattle.std.specs.Str.{chars}
 use Rattle.std.specs.Str.Iter.{chars_rest}
 use Rattle.gabc_score.specs.declared.told.Told.{Told}
 use Rattle.gabc_score.specs.Body.{reached}
-use Rattle.gabc_score.specs.Reader.{placed_from, place_behind, state_of}
+use Rattle.gabc_score.specs.Reader.{state_of}
+use Rattle.gabc_places.specs.Place.{place_past, placed_from}
 use Rattle.gabc_score.proofs.Ends.{holding}
 use Rattle.gabc_score.proofs.read_body.read_body.Given as goal
 
@@ -17,7 +18,7 @@ invariant-loop-c g l = record {
   holds : state_of l.reader ≡ holding l.limits l.fn.start.head l.fn.start.findings (g.S.Stage.most_of l.initial.stage) before [];
   reads : reached l.limits l.fn.start.head before (placed_from l.place (chars (chars_rest l.c-iterator))) (g.S.Stage.rest l.stage (placed_from l.place (chars (chars_rest l.c-iterator))))
       ≡ reached l.limits l.fn.start.head [] (placed_from l.fn.start.at (chars l.fn.body)) (g.S.Stage.rest l.initial.stage (placed_from l.fn.start.at (chars l.fn.body)));
-  behind : place_behind l.place (chars (chars_rest l.c-iterator)) ≡ place_behind l.fn.start.at (chars l.fn.body);
+  behind : place_past l.place (chars (chars_rest l.c-iterator)) ≡ place_past l.fn.start.at (chars l.fn.body);
   line : l.place.line + length (chars_rest l.c-iterator) < 2 ^ 64;
   column : l.place.column + length (chars_rest l.c-iterator) < 2 ^ 64;
 }

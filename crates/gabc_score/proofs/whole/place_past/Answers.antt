@@ -2,7 +2,7 @@ use Rattle.std.proofs.Common.{◌+◌, length, ap, ◌∙◌}
 use Rattle.std.specs.Str.{chars}
 use Rattle.std.specs.Str.Iter.{chars_rest}
 use Rattle.std.proofs.lemmas.Str.{chars_past_char, IsUtf8-past_char}
-use Rattle.gabc_score.specs.Reader.{place_behind}
+use Rattle.gabc_places.specs.Place.{place_past}
 use Rattle.gabc_score.proofs.Places.{within_on, shorter, no_chars}
 use Rattle.gabc_score.proofs.whole.place_past.Goals as goal
 
@@ -16,7 +16,7 @@ loop-c-preserved c =
     let within = within_on c.loop-c.place (length rest) (length next) (1 + length c.args.front.now) (shorter rest next c.in-Some.c step) i.line i.column c.in-Some.c c.after-place.result c.after-place.ensures.next in
     record {
       utf8 = IsUtf8-past_char rest next c.in-Some.c i.utf8 step;
-      behind = ap (λ p. place_behind p (chars next)) c.after-place.ensures.next ∙ (rw past at i.behind);
+      behind = ap (λ p. place_past p (chars next)) c.after-place.ensures.next ∙ (rw past at i.behind);
       line = within.0;
       column = within.1;
     }

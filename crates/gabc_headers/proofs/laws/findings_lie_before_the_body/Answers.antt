@@ -1,0 +1,5 @@
+use Rattle.gabc_headers.proofs.Within.{heads_within}
+use Rattle.gabc_headers.proofs.laws.findings_lie_before_the_body.Goals as goal
+
+pub returns : goal.returns
+returns c = heads_within

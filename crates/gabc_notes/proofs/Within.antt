@@ -1,0 +1,192 @@
+-- The places between which findings lie, and the marks at which ends are told.
+use Rattle.std.proofs.Common.{◌≡◌, ℕ, ◌+◌, suc, List, [], ◌∷◌, ◌++◌, Bool, true, false, cond, not, ◌&&◌, ◌||◌, ◌==◌, inl, inr, refl, sym, ap, ◌∙◌, subst, length, take, eqb-true, None, arith}
+use Rattle.gabc_places.specs.declared.code.Code.TheVariants.{E1, E6, W8, W10}
+use Rattle.gabc_places.specs.declared.code.Finding.{Finding}
+use Rattle.gabc_places.specs.declared.place.Char.{Char}
+use Rattle.gabc_places.specs.declared.place.Place.{Place}
+use Rattle.gabc_places.specs.Findings.{IsUpTo, LieBetween}
+use Rattle.gabc_places.specs.Law.{joined}
+use Rattle.gabc_places.specs.Place.{next_place, place_past, placed_from}
+use Rattle.gabc_patterns.specs.Derivative.{is_snippet}
+use Rattle.gabc_patterns.specs.Function.{trim}
+use Rattle.gabc_patterns.proofs.Bools.{and_true, or_true}
+use Rattle.gabc_notes.specs.Table.{gabc}
+use Rattle.gabc_notes.specs.Said.{Point, in_raw, kept, is_comment, is_end, is_over, is_fused, is_unpaired, is_missing, opener, item_at, macro_of, bytes_of, found, ended_by, warnings, at_end, said, cut, says, says_after}
+use Rattle.gabc_notes.specs.Read.{findings_of, ends_of, end_by}
+use Rattle.gabc_notes.specs.Ends.{IsMarkOf, EndWithMark, EndAtMost, AreCutAtMost}
+use Rattle.gabc_notes.specs.declared.stage.NoteEnd.TheVariants.{Next, Close, Cut}
+use Rattle.gabc_notes.specs.declared.stage.NoteOut.{NoteOut}
+use Rattle.gabc_notes.specs.declared.stage.NoteOut.TheVariants.{Kept, Ended}
+use Rattle.gabc_notes.proofs.Ordered.{lt_le, le_self, le_then, next_after, stand, SaidHow, said_how, missing_inside}
+use Rattle.gabc_notes.proofs.Positions.{opened, nothing_over}
+use Rattle.gabc_notes.proofs.Reaching.{findings_append, is_told, goes}
+use Rattle.gabc_notes.proofs.Says.{point}
+
+-- ---- bounds
+
+widen : (p q r : Place) (fs : List Finding) → IsUpTo q r → LieBetween p q fs → LieBetween p r fs
+widen p q r [] l h = tt
+widen p q r (f ∷ fs) l h = ((h.0.0, le_then f.place q r h.0.1 l), widen p q r fs l h.1)
+
+lie_append : (p q : Place) (fs gs : List Finding) → LieBetween p q fs → LieBetween p q gs → LieBetween p q (fs ++ gs)
+lie_append p q [] gs h k = k
+lie_append p q (f ∷ fs) gs h k = (h.0, lie_append p q fs gs h.1 k)
+
+-- a text ends no earlier than it begins
+past : (p : Place) (t : List ℕ) → IsUpTo p (place_past p t)
+past p [] = le_self p
+past p (c ∷ t) = le_then p (next_place p c) (place_past (next_place p c) t) (lt_le p (next_place p c) (next_after p c)) (past (next_place p c) t)
+
+-- each of the characters stands at p or later, and no later than q
+abbrev StandBetween : Place → Place → List Char → Type 0
+StandBetween p q [] = Unit {0}
+StandBetween p q (x ∷ xs) = (IsUpTo p x.place × IsUpTo x.place q) × StandBetween p q xs
+
+stand_widen : (p q r : Place) (xs : List Char) → IsUpTo q r → StandBetween p q xs → StandBetween p r xs
+stand_widen p q r [] l h = tt
+stand_widen p q r (x ∷ xs) l h = ((h.0.0, le_then x.place q r h.0.1 l), stand_widen p q r xs l h.1)
+
+mark_stands : (p q : Place) (line before : List Char) (mark : Char) → StandBetween p q (line ++ mark ∷ before) → IsUpTo p mark.place × IsUpTo mark.place q
+mark_stands p q [] before mark h = h.0
+mark_stands p q (y ∷ line) before mark h = mark_stands p q line before mark h.1
+
+-- inside raw, so does the bracket that is open
+opener_stands : (p q : Place) (back : List Char) → StandBetween p q back → in_raw (kept back) ≡ true → IsUpTo p (opener back) × IsUpTo (opener back) q
+opener_stands p q back h r =
+    let o = opened back r in
+    subst (λ (a : Place). IsUpTo p a × IsUpTo a q) o.place (mark_stands p q o.line o.before o.mark (subst (StandBetween p q) o.cut h))
+
+-- ---- a character
+
+end_within : (at : Place) (back : List Char) (x : Char) → IsUpTo at x.place → LieBetween at x.place (findings_of (at_end (point back x)))
+end_within at back x l = go (is_snippet gabc (kept back)) (is_fused back)
+  where
+    here : IsUpTo at x.place × IsUpTo x.place x.place
+    here = (l, le_self x.place)
+
+    go : (a b : Bool) → LieBetween at x.place (findings_of (cond a [] (found x.place E6 ∷ []) ++ (cond b (found x.place W10 ∷ []) [] ++ Ended (ended_by x.c) (bytes_of (trim gabc (kept back))) ∷ [])))
+    go true true = (here, tt)
+    go true false = tt
+    go false true = (here, (here, tt))
+    go false false = (here, tt)
+
+warned_within : (at : Place) (macros : ℕ) (back : List Char) (x : Char) → IsUpTo at x.place
+    → (is_missing macros (macro_of (item_at (point back x))) ≡ true → IsUpTo at (opener back) × IsUpTo (opener back) x.place)
+    → LieBetween at x.place (findings_of (warnings macros (point back x)))
+warned_within at macros back x l o = go (is_unpaired (point back x)) (is_missing macros (macro_of (item_at (point back x)))) refl
+  where
+    here : IsUpTo at x.place × IsUpTo x.place x.place
+    here = (l, le_self x.place)
+
+    go : (u m : Bool) → is_missing macros (macro_of (item_at (point back x))) ≡ m
+        → LieBetween at x.place (findings_of (cond u (found x.place W10 ∷ []) [] ++ cond m (found (opener back) W8 ∷ []) []))
+    go true true e = (here, (o e, tt))
+    go true false e = (here, tt)
+    go false true e = (o e, tt)
+    go false false e = tt
+
+said_within : (at : Place) (split : Bool) (macros : ℕ) (back : List Char) (x : Char) → IsUpTo at x.place → StandBetween at x.place back
+    → LieBetween at x.place (findings_of (said split macros (point back x)))
+said_within at split macros back x l h = start (is_over split back) refl
+  where
+    told : (outs : List NoteOut) → said split macros (point back x) ≡ outs → LieBetween at x.place (findings_of outs) → LieBetween at x.place (findings_of (said split macros (point back x)))
+    told outs e k = subst (λ (os : List NoteOut). LieBetween at x.place (findings_of os)) (sym e) k
+
+    going : is_over split back ≡ false → is_end split (point back x) ≡ false → SaidHow split macros back x → LieBetween at x.place (findings_of (said split macros (point back x)))
+    going o n (inl k) = told [] k.1 tt
+    going o n (inr (inl k)) = told (Kept x ∷ warnings macros (point back x)) k.2
+        (warned_within at macros back x l (λ m. opener_stands at x.place back h (missing_inside split macros back x (stand split back o) k.0 n k.1 m)))
+    going o n (inr (inr k)) = told (found x.place E1 ∷ []) k.2 ((l, le_self x.place), tt)
+
+    start : (o : Bool) → is_over split back ≡ o → LieBetween at x.place (findings_of (said split macros (point back x)))
+    start true o = told [] (nothing_over split macros (point back x) o) tt
+    start false o = elim (is_told split macros back x o) [
+      | inl n ↦ going o n (said_how split macros back x o n)
+      | inr e ↦ told (at_end (point back x)) e.1 (end_within at back x l)
+    ]
+
+-- ---- the characters of a front and the one behind it
+
+cut_quiet : (split : Bool) (back : List Char) → findings_of (cut split back ++ []) ≡ []
+cut_quiet split back = go (is_over split back)
+  where
+    go : (o : Bool) → findings_of (cond o [] (Ended (end_by None back) (bytes_of (kept back)) ∷ []) ++ []) ≡ []
+    go true = refl
+    go false = refl
+
+through : (at : Place) (split : Bool) (macros : ℕ) (front rest : List ℕ) (back : List Char) (p : Place) → IsUpTo at p → StandBetween at p back
+    → LieBetween at (place_past p front) (findings_of (joined (take (length front + 1) (says_after split macros back (placed_from p (front ++ rest))))))
+through at split macros [] [] back p l h = subst (LieBetween at p) (sym (cut_quiet split back)) tt
+through at split macros [] (c ∷ rest) back p l h =
+    let x : Char = record { c = c; place = p } in
+    subst (LieBetween at p) (sym (findings_append (said split macros (point back x)) []))
+    (lie_append at p (findings_of (said split macros (point back x))) [] (said_within at split macros back x l h) tt)
+through at split macros (c ∷ front) rest back p l h =
+    let x : Char = record { c = c; place = p } in
+    let next = lt_le p (next_place p c) (next_after p c) in
+    let later = says_after split macros (x ∷ back) (placed_from (next_place p c) (front ++ rest)) in
+    let n : length (c ∷ front) + 1 ≡ suc (length front + 1) = omega arith in
+    subst (λ (k : ℕ). LieBetween at (place_past (next_place p c) front) (findings_of (joined (take k (said split macros (point back x) ∷ later))))) (sym n)
+    (subst (LieBetween at (place_past (next_place p c) front)) (sym (findings_append (said split macros (point back x)) (joined (take (length front + 1) later))))
+    (lie_append at (place_past (next_place p c) front) (findings_of (said split macros (point back x))) (findings_of (joined (take (length front + 1) later)))
+    (widen at p (place_past (next_place p c) front) (findings_of (said split macros (point back x))) (past p (c ∷ front)) (said_within at split macros back x l h))
+    (through at split macros front rest (x ∷ back) (next_place p c) (le_then at p (next_place p c) l next) ((l, next), stand_widen at p (next_place p c) back next h))))
+
+pub all_within : (at : Place) (split : Bool) (macros : ℕ) (front rest : List ℕ)
+    → LieBetween at (place_past at front) (findings_of (joined (take (length front + 1) (says split macros (placed_from at (front ++ rest))))))
+unfolding says
+all_within at split macros front rest = through at split macros front rest [] at (le_self at) tt
+
+-- ---- marks
+
+-- the end of a snippet is its mark
+mark_is : (split : Bool) (c : ℕ) → ((c == 41) || (split && (c == 124))) ≡ true → IsMarkOf split (ended_by c) c
+mark_is split c h = go (c == 124) refl
+  where
+    go : (b : Bool) → (c == 124) ≡ b → IsMarkOf split (cond b Next Close) c
+    go true e = (
+      eqb-true c 124 e,
+      elim (or_true (c == 41) (split && (c == 124)) h) [
+        | inl d ↦ absurd (let f = eqb-true c 41 d in let g = eqb-true c 124 e in omega arith)
+        | inr d ↦ (and_true split (c == 124) d).0
+      ],
+    )
+    go false e = elim (or_true (c == 41) (split && (c == 124)) h) [
+      | inl d ↦ eqb-true c 41 d
+      | inr d ↦ absurd (let f = sym e ∙ (and_true split (c == 124) d).1 in cc)
+    ]
+
+end_marked : (split : Bool) (back : List Char) (x : Char) → is_end split (point back x) ≡ true → EndWithMark split x.c (at_end (point back x))
+end_marked split back x e = go (is_snippet gabc (kept back)) (is_fused back)
+  where
+    bytes : ℕ
+    bytes = bytes_of (trim gabc (kept back))
+
+    mark : IsMarkOf split (ended_by x.c) x.c
+    mark = mark_is split x.c (and_true (not (in_raw (kept back))) ((x.c == 41) || (split && (x.c == 124))) (and_true (not (is_comment (point back x))) _ e).1).1
+
+    go : (a b : Bool) → EndWithMark split x.c (cond a [] (found x.place E6 ∷ []) ++ (cond b (found x.place W10 ∷ []) [] ++ Ended (ended_by x.c) (bytes_of (trim gabc (kept back))) ∷ []))
+    go true true = record { before = found x.place W10 ∷ []; how = ended_by x.c; bytes = bytes_of (trim gabc (kept back)); cut = refl; endless = refl; mark = mark }
+    go true false = record { before = []; how = ended_by x.c; bytes = bytes_of (trim gabc (kept back)); cut = refl; endless = refl; mark = mark }
+    go false true = record { before = found x.place E6 ∷ found x.place W10 ∷ []; how = ended_by x.c; bytes = bytes_of (trim gabc (kept back)); cut = refl; endless = refl; mark = mark }
+    go false false = record { before = found x.place E6 ∷ []; how = ended_by x.c; bytes = bytes_of (trim gabc (kept back)); cut = refl; endless = refl; mark = mark }
+
+pub ends_at_mark : (split : Bool) (macros : ℕ) (p : Point) → EndAtMost split p.here.c (said split macros p)
+ends_at_mark split macros p = start (is_over split p.back) refl
+  where
+    start : (o : Bool) → is_over split p.back ≡ o → EndAtMost split p.here.c (said split macros p)
+    start true o = inl (ap ends_of (nothing_over split macros p o))
+    start false o = elim (is_told split macros p.back p.here o) [
+      | inl n ↦ inl (goes split macros p.back p.here o n).ends
+      | inr e ↦ inr (subst (EndWithMark split p.here.c) (sym e.1) (end_marked split p.back p.here e.0))
+    ]
+
+pub cut_at_most : (split : Bool) (back : List Char) → AreCutAtMost (cut split back)
+cut_at_most split back = go (is_over split back)
+  where
+    where_cut : Place
+    where_cut = cond (in_raw (kept back)) (opener back) (record { line = 0; column = 0 })
+
+    go : (o : Bool) → AreCutAtMost (cond o [] (Ended (Cut (cond (in_raw (kept back)) (opener back) (record { line = 0; column = 0 }))) (bytes_of (kept back)) ∷ []))
+    go true = inl refl
+    go false = inr (cond (in_raw (kept back)) (opener back) (record { line = 0; column = 0 }), bytes_of (kept back), refl)

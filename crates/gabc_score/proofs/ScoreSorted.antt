@@ -1,0 +1,221 @@
+-- The findings of a score stand in order.
+use Rattle.std.proofs.Common.{◌≡◌, ℕ, ◌+◌, ◌<◌, ◌≤◌, ◌^◌, nat_lt, List, [], ◌∷◌, ◌++◌, Bool, true, false, cond, refl, sym, ap, subst, ◌∙◌, append_assoc, append-nil, length, map, take, get_or, arith, inl, inr, Option, Some, None, Result, Ok, Err, take-append-drop}
+use Rattle.std.proofs.lemmas.List.{take_more}
+use Rattle.std.specs.Option.{option_map}
+use Rattle.gabc_places.specs.declared.place.Place.{Place}
+use Rattle.gabc_places.specs.declared.place.Char.{Char}
+use Rattle.gabc_places.specs.declared.code.Code.{Code}
+use Rattle.gabc_places.specs.declared.code.Code.TheVariants.{W9, W11}
+use Rattle.gabc_places.specs.declared.code.Finding.{Finding}
+use Rattle.gabc_places.specs.declared.code.Fault.{Fault}
+use Rattle.gabc_places.specs.declared.limits.Limits.{Limits}
+use Rattle.gabc_places.specs.Findings.{StandsBefore, AreInOrder, IsUpTo, LieBetween}
+use Rattle.gabc_places.specs.Law.{joined}
+use Rattle.gabc_places.specs.Place.{place_after, placed_after, next_place, place_past, placed_from}
+use Rattle.gabc_headers.specs.declared.heads.Heads.{Heads}
+use Rattle.gabc_headers.specs.declared.heads.HeadFault.{HeadFault}
+use Rattle.gabc_headers.specs.Book.{nabc_lines_of}
+use Rattle.gabc_headers.specs.Heads.{head_len, heads_of, findings_of as heads_found}
+use Rattle.gabc_notes.specs.Said as notes
+use Rattle.gabc_nabc.specs.Told as nabc
+use Rattle.gabc_score.specs.declared.told.Told.{Told}
+use Rattle.gabc_score.specs.declared.ending.Ending.{Ending}
+use Rattle.gabc_score.specs.declared.ending.Ending.TheVariants.{Whole, Broken, At}
+use Rattle.gabc_score.specs.Parts.{texts_said, text_from, snippet_from, body_told}
+use Rattle.gabc_score.specs.Units.{Closes, Cutting, IsCutFrom, EndsBehind, whole, cutting_of, parts_told, first_text, BeginsWithLf, cut_told}
+use Rattle.gabc_score.specs.Body.{onto, findings_of, Reached, reached, stopped_by, code_at, read_by, ended_at, ended_by, ended_whole, stopped, found_at_end, has_last, fault_of_end, cut_of}
+use Rattle.gabc_score.specs.Score.{front_of, behind_heads, macros_of, score_of, score_by}
+use Rattle.gabc_score.proofs.Units.{one, body_tells}
+use Rattle.gabc_score.proofs.Places.{placed_behind, behind_after}
+use Rattle.gabc_score.proofs.Sorted.{IsBefore, AllFrom, AllUpTo, AllBefore, past_up_to, past_append, next_behind, before_then, from_earlier, from_front, before_append, order_append, order_then, order_front, all_before, lie_up_to, no_notes}
+use Rattle.gabc_score.proofs.PartsSorted.{found, found_append, found_onto, TextsLie, SnippetsLie, LieLast}
+use Rattle.gabc_score.proofs.PiecesSorted.{Short, short_past, pieces_lie}
+
+-- ---- the body
+
+blanks : (comment : List Char) (lists : List (List Told)) → joined (map (λ (x : Char). []) comment ++ lists) ≡ joined lists
+blanks [] lists = refl
+blanks (x ∷ comment) lists = blanks comment lists
+
+record Behind (front : List Char) (ys : List Char) (p : Place) (cs : List ℕ) : Type 0 where
+  before : List ℕ
+  rest : List ℕ
+  all : cs ≡ before ++ rest
+  placed : ys ≡ placed_from (place_past p before) rest
+
+part_behind : (front ys : List Char) (p : Place) (cs : List ℕ) → placed_from p cs ≡ front ++ ys → Behind front ys p cs
+part_behind [] ys p cs e = record { before = []; rest = cs; all = refl; placed = sym e }
+part_behind (x ∷ front) ys p [] e = absurd (cc)
+part_behind (x ∷ front) ys p (c ∷ cs) e =
+    let f : placed_from (next_place p c) cs ≡ front ++ ys = cc in
+    let b = part_behind front ys (next_place p c) cs f in
+    record { before = c ∷ b.before; rest = b.rest; all = ap (λ ds. c ∷ ds) b.all; placed = b.placed }
+
+-- the first text begins at the LF
+first_begins : (ys : List Char) (p : Place) (cs : List ℕ) → ys ≡ placed_from p cs → BeginsWithLf ys → first_text texts_said ys ≡ text_from texts_said p ys
+first_begins [] p cs e k = elim k [ ]
+first_begins (y ∷ ys) p [] e k = absurd (cc)
+first_begins (y ∷ ys) p (c ∷ cs) e k =
+    let f : y ≡ record { c = c; place = p } = cc in
+    ap (λ (z : Char). text_from texts_said z.place (y ∷ ys)) f
+
+module _ (texts : TextsLie)
+    (gabc : (lines macros : ℕ) → SnippetsLie (λ xs. notes.says (nat_lt 0 lines) macros xs)) (marks : SnippetsLie (λ xs. nabc.told xs))
+    (closes : (lines macros line : ℕ) (opened : Place) (front : List Char) (x : Char) (rest : List Char) → EndsBehind lines (snippet_from lines macros line opened (front ++ x ∷ rest)) front Closes → x.c ≡ 41) where
+  parts_lie : (lines macros : ℕ) (p : Place) (cs : List ℕ) (comment : List Char) (parts : Option Cutting) → Short p cs
+      → IsCutFrom texts_said lines macros (placed_from p cs) comment parts
+      → LieLast p (place_past p cs) (found (joined (map (λ (x : Char). []) comment ++ parts_told texts_said lines macros parts)))
+  parts_lie lines macros p cs comment None short h = rw (blanks comment (parts_told texts_said lines macros None)) (record { order = tt; from = tt; before = tt })
+  parts_lie lines macros p cs comment (Some d) short h =
+      let ys = whole d.pieces d.last in
+      let b = part_behind comment (whole d.pieces d.last) p cs h.0 in
+      let q = place_past p b.before in
+      let k = pieces_lie lines macros texts (gabc lines macros) marks (closes lines macros) d.pieces d.last (first_text texts_said (whole d.pieces d.last)) (place_past p b.before) b.rest b.placed
+      (short_past p b.before b.rest (subst (Short p) b.all short))
+      (inl (first_begins (whole d.pieces d.last) (place_past p b.before) b.rest b.placed h.1.1.0)) h.1.1.1 in
+      rw (blanks comment (parts_told texts_said lines macros (Some d)))
+      (subst (λ e. LieLast p e (found (joined (cut_told texts_said lines macros (first_text texts_said (whole d.pieces d.last)) d.pieces d.last))))
+      (sym (past_append p b.before b.rest) ∙ ap (place_past p) (sym b.all))
+      (record { order = k.order; from = from_earlier p (place_past p b.before) _ (past_up_to p b.before) k.from; before = k.before }))
+
+  body_lies : (lines macros : ℕ) (p : Place) (cs : List ℕ) → Short p cs → LieLast p (place_past p cs) (found (joined (body_told lines macros (placed_from p cs))))
+  body_lies lines macros p cs short =
+      let o = one texts_said lines macros (placed_from p cs) in
+      subst (λ ls. LieLast p (place_past p cs) (found (joined ls))) (sym (body_tells texts_said lines macros (placed_from p cs) o.0 o.1))
+      (parts_lie lines macros p cs o.0.comment (option_map (cutting_of lines) o.0.units) short o.1)
+
+-- ---- the stop
+
+pub onto_append : (xs ys before : List Told) → onto (xs ++ ys) before ≡ onto ys (onto xs before)
+onto_append [] ys before = refl
+onto_append (x ∷ xs) ys before = onto_append xs ys (x ∷ before)
+
+-- what was told before the stop is a front of all that is told; without a fault, it is all
+pub record IsFront (before : List Told) (ts : List Told) (r : Reached) : Type 0 where
+  pub front : List Told
+  pub more : List Told
+  pub all : ts ≡ front ++ more
+  pub told : r.before ≡ onto front before
+  pub last : r.fault ≡ None → onto r.last r.before ≡ onto ts before
+
+pub reached_front : (limits : Limits) (head : ℕ) (before : List Told) (xs : List Char) (lists : List (List Told)) → IsFront before (joined lists) (reached limits head before xs lists)
+reached_front limits head before [] lists = record { front = []; more = joined lists; all = refl; told = refl; last = λ e. refl }
+reached_front limits head before (x ∷ xs) [] = record { front = []; more = []; all = refl; told = refl; last = λ e. refl }
+reached_front limits head before (x ∷ xs) (now ∷ lists) = by (code_at limits head (onto now before)) (reached_front limits head (onto now before) xs lists)
+  where
+    by : (o : Option Code) → IsFront (onto now before) (joined lists) (reached limits head (onto now before) xs lists) → IsFront before (now ++ joined lists) (stopped_by o x.place before (reached limits head (onto now before) xs lists))
+    by (Some code) r = record { front = []; more = now ++ joined lists; all = refl; told = refl; last = λ e. absurd (cc) }
+    by None r = record {
+      front = now ++ r.front;
+      more = r.more;
+      all = ap (λ ts. now ++ ts) r.all ∙ sym (append_assoc now r.front r.more);
+      told = r.told ∙ sym (onto_append now r.front before);
+      last = λ e. r.last e ∙ sym (onto_append now (joined lists) before);
+    }
+
+-- ---- the end
+
+eu_last : (p : Place) (f : Finding) → StandsBefore f (no_notes p) → StandsBefore f (record { place = p; code = W11 })
+eu_last p f (inl l) = inl l
+eu_last p f (inr (l, inl c)) = inr (l, inl c)
+eu_last p f (inr (l, inr (c, r))) = inr (l, inr (c, omega (arith, r)))
+
+eu_all : (p : Place) (fs : List Finding) → AllBefore (no_notes p) fs → AllBefore (record { place = p; code = W11 }) fs
+eu_all p [] h = tt
+eu_all p (f ∷ fs) h = (eu_last p f h.0, eu_all p fs h.1)
+
+with_end : (at : Place) (fs : List Finding) (a b : Bool) → AreInOrder fs → AllBefore (no_notes at) fs
+    → AreInOrder (fs ++ (cond a (record { place = at; code = W9 } ∷ []) [] ++ cond b (record { place = at; code = W11 } ∷ []) []))
+with_end at fs true true h k = order_then fs (no_notes at) _ h k (inr (refl, inr (refl, omega arith)), tt)
+with_end at fs true false h k = order_then fs (no_notes at) [] h k tt
+with_end at fs false true h k = order_then fs (record { place = at; code = W11 }) [] h (eu_all at fs k) tt
+with_end at fs false false h k = subst AreInOrder (sym (append-nil fs)) h
+
+module _ (limits : Limits) (head : ℕ) (fs : List Finding) (at q p : Place) (ts : List Told)
+    (order : AreInOrder fs) (up : AllUpTo q fs) (next : IsBefore q p) (end : IsUpTo p at) (all : LieLast p at (found ts)) where
+  stopped_sorted : (front more before : List Told) (fault : Option Fault) → ts ≡ front ++ more → before ≡ onto front [] → AreInOrder (stopped fs before fault).findings
+  stopped_sorted front more before fault e f =
+      let same : found ts ≡ found front ++ found more = ap found e ∙ found_append front more in
+      subst (λ gs. AreInOrder (fs ++ gs)) (sym (ap findings_of f ∙ found_onto front []))
+      (order_append fs (found front) q p order up next (order_front (found front) (found more) (subst AreInOrder same all.order)) (from_front p (found front) (found more) (subst (AllFrom p) same all.from)))
+
+  whole_sorted : (told : List Told) → told ≡ onto ts [] → AreInOrder (ended_whole fs at told).findings
+  whole_sorted told e =
+      let same : findings_of told ≡ found ts = ap findings_of e ∙ found_onto ts [] in
+      subst (λ gs. AreInOrder (fs ++ (gs ++ found_at_end at told))) (sym same)
+      (subst AreInOrder (append_assoc fs (found ts) (found_at_end at told))
+      (with_end at (fs ++ found ts) (has_last told) _ (order_append fs (found ts) q p order up next all.order all.from)
+      (before_append (no_notes at) fs (found ts) (all_before q (no_notes at) fs up (before_then q p at next end)) all.before)))
+
+  read_sorted : (ending : Ending) (r : Reached) → IsFront [] ts r → AreInOrder (read_by limits head fs at ending r.before r.last r.fault).findings
+  read_sorted ending r i = by r.fault i.last
+    where
+      ended : (o : Option Fault) → onto r.last r.before ≡ onto ts [] → AreInOrder (ended_by fs at r.before (onto r.last r.before) o).findings
+      ended (Some fault) e = stopped_sorted i.front i.more r.before (Some fault) i.all i.told
+      ended None e = whole_sorted (onto r.last r.before) e
+
+      at_end : (how : Ending) → onto r.last r.before ≡ onto ts [] → AreInOrder (ended_at limits head fs at how r.before (onto r.last r.before)).findings
+      at_end Whole e = ended (fault_of_end limits head at (onto r.last r.before) (cut_of (onto r.last r.before))) e
+      at_end Broken e = stopped_sorted i.front i.more r.before None i.all i.told
+      at_end (At fault) e = stopped_sorted i.front i.more r.before (Some fault) i.all i.told
+
+      by : (o : Option Fault) → (o ≡ None → onto r.last r.before ≡ onto ts []) → AreInOrder (read_by limits head fs at ending r.before r.last o).findings
+      by (Some fault) e = stopped_sorted i.front i.more r.before (Some fault) i.all i.told
+      by None e = at_end ending (e refl)
+
+-- ---- the score
+
+-- what the headers say of their findings
+pub record HeadsLie : Type 0 where
+  pub order : (limits : Limits) (t : List ℕ) → AreInOrder (heads_found (heads_of limits t))
+  pub within : (limits : Limits) (t : List ℕ) (heads : Heads) → heads_of limits t ≡ Ok heads → LieBetween (place_after []) (place_after (take (head_len t) t)) heads.findings
+  pub behind : (limits : Limits) (t : List ℕ) (heads : Heads) → heads_of limits t ≡ Ok heads → head_len t + 2 ≤ length t
+
+-- the body begins behind the line `%%`
+body_behind : (t : List ℕ) → head_len t + 2 ≤ length t → IsBefore (place_after (take (head_len t) t)) (place_after (front_of t))
+body_behind t h =
+    let n = head_len t in
+    let f = take (head_len t) t in
+    let c = get_or t (head_len t) 0 in
+    let d = get_or t (head_len t + 1) 0 in
+    let one : head_len t < length t = omega (arith, h) in
+    let two : head_len t + 1 < length t = omega (arith, h) in
+    let same : take (head_len t + 1 + 1) t ≡ (take (head_len t) t ++ c ∷ []) ++ d ∷ [] = take_more t (head_len t + 1) 0 two ∙ ap (λ g. g ++ d ∷ []) (take_more t (head_len t) 0 one) in
+    let count : head_len t + 1 + 1 ≡ head_len t + 2 = omega arith in
+    let all : front_of t ≡ take (head_len t) t ++ (c ∷ d ∷ []) = ap (λ m. take m t) (sym count) ∙ same ∙ append_assoc (take (head_len t) t) (c ∷ []) (d ∷ []) in
+    subst (IsBefore (place_after (take (head_len t) t))) (behind_after (take (head_len t) t) (c ∷ d ∷ []) ∙ ap place_after (sym all))
+    (before_then (place_after (take (head_len t) t)) (next_place (place_after (take (head_len t) t)) c) _ (next_behind (place_after (take (head_len t) t)) c)
+    (past_up_to (next_place (place_after (take (head_len t) t)) c) (d ∷ [])))
+
+short_body : (t : List ℕ) → length t < 2 ^ 63 → Short (place_after (front_of t)) (behind_heads t)
+short_body t h =
+    subst (λ p. Short p (behind_heads t)) (behind_after [] (front_of t))
+    (short_past (place_after []) (front_of t) (behind_heads t)
+    (subst (Short (place_after [])) (sym (take-append-drop (head_len t + 2) t)) (record { here = omega (arith, h); begun = omega (arith, h) })))
+
+module _ (texts : TextsLie) (heads : HeadsLie)
+    (gabc : (lines macros : ℕ) → SnippetsLie (λ xs. notes.says (nat_lt 0 lines) macros xs)) (marks : SnippetsLie (λ xs. nabc.told xs))
+    (closes : (lines macros line : ℕ) (opened : Place) (front : List Char) (x : Char) (rest : List Char) → EndsBehind lines (snippet_from lines macros line opened (front ++ x ∷ rest)) front Closes → x.c ≡ 41) where
+  behind_sorted : (limits : Limits) (ending : Ending) (t : List ℕ) (h : Heads) → length t < 2 ^ 63 → heads_of limits t ≡ Ok h → AreInOrder (score_by limits ending t (Ok h)).findings
+  behind_sorted limits ending t h short e =
+      let f = front_of t in
+      let u = behind_heads t in
+      let xs : placed_from (place_after (front_of t)) (behind_heads t) ≡ placed_after (front_of t) (behind_heads t) = placed_behind (front_of t) (behind_heads t) in
+      let end : place_past (place_after (front_of t)) (behind_heads t) ≡ place_after t = behind_after (front_of t) (behind_heads t) ∙ ap place_after (take-append-drop (head_len t + 2) t) in
+      let lists = body_told (nabc_lines_of h.book) (macros_of h.book) (placed_after (front_of t) (behind_heads t)) in
+      let all = body_lies texts gabc marks closes (nabc_lines_of h.book) (macros_of h.book) (place_after (front_of t)) (behind_heads t) (short_body t short) in
+      read_sorted limits _ h.findings (place_after t) (place_after (take (head_len t) t)) (place_after (front_of t)) (joined lists)
+      (subst (λ r. AreInOrder (heads_found r)) e (heads.order limits t))
+      (lie_up_to (place_after []) (place_after (take (head_len t) t)) h.findings (heads.within limits t h e))
+      (body_behind t (heads.behind limits t h e))
+      (subst (IsUpTo (place_after (front_of t))) end (past_up_to (place_after (front_of t)) (behind_heads t)))
+      (subst (λ p. LieLast (place_after (front_of t)) p (found (joined lists))) end
+      (subst (λ ys. LieLast (place_after (front_of t)) (place_past (place_after (front_of t)) (behind_heads t)) (found (joined (body_told (nabc_lines_of h.book) (macros_of h.book) ys)))) xs all))
+      ending _ (reached_front limits _ [] (placed_after (front_of t) (behind_heads t)) lists)
+
+  pub score_sorted : (limits : Limits) (ending : Ending) (t : List ℕ) → length t < 2 ^ 63 → AreInOrder (score_of limits ending t).findings
+  score_sorted limits ending t short = by (heads_of limits t) refl
+    where
+      by : (r : Result Heads HeadFault) → heads_of limits t ≡ r → AreInOrder (score_by limits ending t r).findings
+      by (Ok h) e = behind_sorted limits ending t h short e
+      by (Err stop) e = subst (λ r. AreInOrder (heads_found r)) e (heads.order limits t)

@@ -1,0 +1,12 @@
+use Rattle.gabc_text.proofs.Within.{found_within}
+use Rattle.gabc_text.proofs.Findings.{found_all, findings_low}
+use Rattle.gabc_text.proofs.laws.findings_lie_within.Goals as goal
+
+pub returns-clause-within : goal.returns-clause-within
+returns-clause-within c at front rest = found_within at front rest
+
+pub returns-clause-all : goal.returns-clause-all
+returns-clause-all c at t = found_all at t
+
+pub returns-clause-low : goal.returns-clause-low
+returns-clause-low c at t = findings_low at t
