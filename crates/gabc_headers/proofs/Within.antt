@@ -76,7 +76,7 @@ nameless_between t p = by (has_score (lines t) && not (has_header (codes "name")
 
 -- ---- headers that are read whole
 
--- a line `%%` stands behind them
+-- of some stops one is the earliest
 one_stop : (xs : List Stop) (s : Stop) (ss : List Stop) → earliest (xs ++ s ∷ ss) ≡ None → ⊥
 one_stop [] s ss e = cc
 one_stop (x ∷ xs) s ss e = cc
@@ -87,6 +87,7 @@ stops_by limits t b = text_stops limits.header t
     ++ cond b (open_stops (head_len t + 1) (open_line (head_parts t)) ++ score_stops limits t)
     (open_stops (length t) (open_line (head_parts t)) ++ missing_score (open_line (head_parts t)) t)
 
+-- headers that nothing stops end at a line `%%`
 score_there : (limits : Limits) (t : List ℕ) → earliest (head_stops limits t) ≡ None → has_score (lines t) ≡ true
 score_there limits t e = by (has_score (lines t)) refl e
   where

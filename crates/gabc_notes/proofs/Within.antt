@@ -159,9 +159,6 @@ mark_is split c h = go (c == 124) refl
 end_marked : (split : Bool) (back : List Char) (x : Char) → is_end split (point back x) ≡ true → EndWithMark split x.c (at_end (point back x))
 end_marked split back x e = go (is_snippet gabc (kept back)) (is_fused back)
   where
-    bytes : ℕ
-    bytes = bytes_of (trim gabc (kept back))
-
     mark : IsMarkOf split (ended_by x.c) x.c
     mark = mark_is split x.c (and_true (not (in_raw (kept back))) ((x.c == 41) || (split && (x.c == 124))) (and_true (not (is_comment (point back x))) _ e).1).1
 
@@ -184,9 +181,6 @@ ends_at_mark split macros p = start (is_over split p.back) refl
 pub cut_at_most : (split : Bool) (back : List Char) → AreCutAtMost (cut split back)
 cut_at_most split back = go (is_over split back)
   where
-    where_cut : Place
-    where_cut = cond (in_raw (kept back)) (opener back) (record { line = 0; column = 0 })
-
     go : (o : Bool) → AreCutAtMost (cond o [] (Ended (Cut (cond (in_raw (kept back)) (opener back) (record { line = 0; column = 0 }))) (bytes_of (kept back)) ∷ []))
     go true = inl refl
     go false = inr (cond (in_raw (kept back)) (opener back) (record { line = 0; column = 0 }), bytes_of (kept back), refl)

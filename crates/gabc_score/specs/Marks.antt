@@ -13,16 +13,17 @@ pub record EndsAtItsMarks (u : BodyUnit) : Type 0 where
   pub nexts : EndAt 124 u.nexts
   pub final : u.final.end.c ≡ 41
 
+-- each of these units does
 abbrev pub EndAtTheirMarks : List BodyUnit → Type 0
 EndAtTheirMarks [] = Unit {0}
 EndAtTheirMarks (u ∷ us) = EndsAtItsMarks u × EndAtTheirMarks us
 
--- of notes that never end, the text and the snippets before the rest
+-- of notes that never end, the text ends at a `(`, and the snippets before the rest at a `|`
 abbrev pub LastEndsAtItsMarks : LastUnit → Type 0
 LastEndsAtItsMarks (JustText xs) = Unit {0}
 LastEndsAtItsMarks (OpenNotes text nexts xs) = (text.end.c ≡ 40) × EndAt 124 nexts
 
--- so each text and each snippet of the units
+-- each text and each snippet of the units ends so
 abbrev pub AllEndAtTheirMarks : Option Units → Type 0
 AllEndAtTheirMarks None = Unit {0}
 AllEndAtTheirMarks (Some u) = EndAtTheirMarks u.closed × LastEndsAtItsMarks u.last
