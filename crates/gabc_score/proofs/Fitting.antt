@@ -10,7 +10,8 @@ use Rattle.gabc_places.specs.Place.{next_place, is_line_feed, placed_from}
 use Rattle.gabc_text.specs.declared.stage.TextOut.{TextOut}
 use Rattle.gabc_text.specs.Outs.{Fits, codes_of, outs_by_point}
 use Rattle.gabc_text.specs.View.{bytes_of}
-use Rattle.gabc_text.specs.Step.{fresh, rest_of}
+use Rattle.gabc_text.specs.Rest.{rest_of}
+use Rattle.gabc_text.specs.Step.{fresh}
 use Rattle.gabc_score.specs.declared.told.Told.{Told}
 use Rattle.gabc_score.specs.Parts.{Part, InComment, InText, InNotes, is_next, is_close, first_list, other_lists, told_in, snippet_from, next_line, behind_mark, standing, behind, told_from, texts_said}
 use Rattle.gabc_score.specs.Read.{texts_run}

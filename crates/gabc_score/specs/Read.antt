@@ -3,7 +3,8 @@
 use Rattle.std.specs.Prelude.{ℕ, List}
 use Rattle.gabc_places.specs.declared.place.Char.{Char}
 use Rattle.gabc_text.specs.Outs.{codes_of}
-use Rattle.gabc_text.specs.Step as text
+use Rattle.gabc_text.specs.Rest as text
+use Rattle.gabc_text.specs.Step.{fresh}
 use Rattle.gabc_notes.specs.Machine as notes
 use Rattle.gabc_nabc.specs.Machine as nabc
 use Rattle.gabc_score.specs.declared.told.Told.{Told}
@@ -25,7 +26,7 @@ part_with (part.Nabc line opened stage) xs = InNotes line opened (nabc.rest_of s
 
 -- a text as its machine reads it
 abbrev pub texts_run : Texts
-texts_run at xs = text.rest_of (text.fresh at) (codes_of xs)
+texts_run at xs = text.rest_of (fresh at) (codes_of xs)
 
 abbrev pub rest_told : Reads → List Char → List (List Told)
 rest_told r xs = told_from texts_run r.nabc_lines r.macros (part_with r.part xs) xs

@@ -7,7 +7,7 @@ ghost use Rattle.gabc_places.specs.Held.{HasRoom, added};
 ghost use Rattle.gabc_places.specs.Law.{Gives};
 ghost use Rattle.std.specs.List.{list_any};
 ghost use Rattle.gabc_score.specs.Parts.{InComment, told_from, body_told, behind_mark, is_text_end as text_end, is_next as note_next, is_close as note_close, notes_told as told_of_notes, next_line as line_after, snippet_from, text_from, standing};
-ghost use Rattle.gabc_text.specs.Step.{rest_of as text_rest};
+ghost use Rattle.gabc_text.specs.Rest.{rest_of as text_rest};
 ghost use Rattle.gabc_text.specs.Outs.{codes_of, Fits};
 ghost use Rattle.gabc_score.specs.Pushed.{Pushes, Finishes};
 ghost use Rattle.gabc_places.specs.Place.{placed_from};

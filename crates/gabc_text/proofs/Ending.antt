@@ -19,7 +19,7 @@ use Rattle.gabc_text.specs.Printed.{written}
 use Rattle.gabc_text.proofs.Run.{onto}
 use Rattle.gabc_text.proofs.Joined.{along_joined}
 use Rattle.gabc_text.proofs.Parted.{AllGo, parted}
-use Rattle.gabc_text.proofs.Within.{many_lists, outs_parted}
+use Rattle.gabc_text.proofs.Lying.{many_lists, outs_parted}
 
 ends_more : (xs ys : List TextOut) → ends_in (xs ++ ys) ≡ ends_in xs ++ ends_in ys
 ends_more [] ys = refl

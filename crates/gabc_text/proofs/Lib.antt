@@ -1,3 +1,4 @@
+pub mod Stepwise
 pub mod Cutting
 pub mod Endings
 pub mod SeenSoFar
@@ -7,6 +8,8 @@ pub mod Going
 pub mod Counts
 pub mod Given
 pub mod Held
+pub mod RawParts
+pub mod Fronts
 pub mod Run
 pub mod Steps
 pub mod Gathering
@@ -32,8 +35,15 @@ pub mod NoErrors
 pub mod Ordered
 pub mod Parted
 pub mod Findings
-pub mod Within
+pub mod Lying
 pub mod Ending
 pub mod PrintedKept
 pub mod KeptAgain
 pub mod KeptTokens
+pub mod Since
+pub mod Alike
+pub mod Within
+pub mod Shifted
+pub mod Onward
+pub mod Stands
+pub mod Ahead

@@ -13,7 +13,8 @@ use Rattle.gabc_text.specs.Token.{Token, tokens}
 use Rattle.gabc_text.specs.View.{place_of, bytes_of, kept, findings, how, how_after, how_by, length_of, is_open_kind}
 use Rattle.gabc_text.specs.Outs.{Fits, after_tokens, end_after, end_by_rest}
 use Rattle.gabc_text.specs.Read.{view_in}
-use Rattle.gabc_text.specs.Step.{fresh, rest_of, left_of, push_stage, push_outs}
+use Rattle.gabc_text.specs.Step.{fresh, push_stage, push_outs}
+use Rattle.gabc_text.proofs.Stepwise.{stepwise, stepwise_left}
 use Rattle.gabc_text.specs.Told.{Told, told_after, nothing_told, how_of_end}
 use Rattle.gabc_text.proofs.Counts.{bytes_append}
 use Rattle.gabc_text.proofs.Run.{rest_done}
@@ -44,26 +45,26 @@ text_fits at bs u line column =
     }
 
 -- a character more
-pub told_goes : (told now target : Told) (stage next : TextStage) (c : ℕ) (cs : List ℕ) → told_after told (joined (rest_of stage (c ∷ cs))) ≡ target
-    → next ≡ push_stage stage c → now ≡ told_after told (push_outs stage c) → told_after now (joined (rest_of next cs)) ≡ target
+pub told_goes : (told now target : Told) (stage next : TextStage) (c : ℕ) (cs : List ℕ) → told_after told (joined (stepwise stage (c ∷ cs))) ≡ target
+    → next ≡ push_stage stage c → now ≡ told_after told (push_outs stage c) → told_after now (joined (stepwise next cs)) ≡ target
 told_goes told now target stage next c cs e f g =
-    ap (λ (x : TextStage). told_after now (joined (rest_of x cs))) f ∙ ap (λ (x : Told). told_after x (joined (rest_of (push_stage stage c) cs))) g
-    ∙ sym (told_append told (push_outs stage c) (joined (rest_of (push_stage stage c) cs))) ∙ e
+    ap (λ (x : TextStage). told_after now (joined (stepwise x cs))) f ∙ ap (λ (x : Told). told_after x (joined (stepwise (push_stage stage c) cs))) g
+    ∙ sym (told_append told (push_outs stage c) (joined (stepwise (push_stage stage c) cs))) ∙ e
 
 left_by : TextStage → ℕ → List ℕ → List ℕ
-left_by s c cs = cond s.done (c ∷ cs) (left_of s cs)
+left_by s c cs = cond s.done (c ∷ cs) (stepwise_left s cs)
 
-pub left_goes : (stage next : TextStage) (c : ℕ) (cs left : List ℕ) → left_of stage (c ∷ cs) ≡ left → next ≡ push_stage stage c → next.done ≡ false → left_of next cs ≡ left
-left_goes stage next c cs left e f g = by (next.done) g ∙ ap (λ (x : TextStage). cond x.done (c ∷ cs) (left_of x cs)) f ∙ e
+pub left_goes : (stage next : TextStage) (c : ℕ) (cs left : List ℕ) → stepwise_left stage (c ∷ cs) ≡ left → next ≡ push_stage stage c → next.done ≡ false → stepwise_left next cs ≡ left
+left_goes stage next c cs left e f g = by (next.done) g ∙ ap (λ (x : TextStage). cond x.done (c ∷ cs) (stepwise_left x cs)) f ∙ e
   where
-    by : (b : Bool) → b ≡ false → left_of next cs ≡ cond b (c ∷ cs) (left_of next cs)
+    by : (b : Bool) → b ≡ false → stepwise_left next cs ≡ cond b (c ∷ cs) (stepwise_left next cs)
     by false h = refl
     by true h = absurd (cc)
 
-pub left_ends : (stage next : TextStage) (c : ℕ) (cs left : List ℕ) → left_of stage (c ∷ cs) ≡ left → next ≡ push_stage stage c → next.done ≡ true → c ∷ cs ≡ left
-left_ends stage next c cs left e f g = by (next.done) g ∙ ap (λ (x : TextStage). cond x.done (c ∷ cs) (left_of x cs)) f ∙ e
+pub left_ends : (stage next : TextStage) (c : ℕ) (cs left : List ℕ) → stepwise_left stage (c ∷ cs) ≡ left → next ≡ push_stage stage c → next.done ≡ true → c ∷ cs ≡ left
+left_ends stage next c cs left e f g = by (next.done) g ∙ ap (λ (x : TextStage). cond x.done (c ∷ cs) (stepwise_left x cs)) f ∙ e
   where
-    by : (b : Bool) → b ≡ true → c ∷ cs ≡ cond b (c ∷ cs) (left_of next cs)
+    by : (b : Bool) → b ≡ true → c ∷ cs ≡ cond b (c ∷ cs) (stepwise_left next cs)
     by true h = refl
     by false h = absurd (cc)
 
@@ -89,8 +90,8 @@ pub record Meant (at : Place) (t : List ℕ) (told : Told) (index : ℕ) : Type 
   pub findings_are : told.findings ≡ findings at t
   pub how_is : how_of_end told.end index ≡ how at t
 
-pub all_meant : (at : Place) (t : List ℕ) (told : Told) (index : ℕ) (rest : List ℕ) → Fits at t → told ≡ told_after nothing_told (joined (rest_of (fresh at) t))
-    → rest ≡ left_of (fresh at) t → index + bytes_of rest ≡ bytes_of t → Meant at t told index
+pub all_meant : (at : Place) (t : List ℕ) (told : Told) (index : ℕ) (rest : List ℕ) → Fits at t → told ≡ told_after nothing_told (joined (stepwise (fresh at) t))
+    → rest ≡ stepwise_left (fresh at) t → index + bytes_of rest ≡ bytes_of t → Meant at t told index
 all_meant at t told index rest fits e f g =
     let r = fresh_gives at t fits in
     let all = e ∙ ap (λ (x : List (List TextOut)). told_after nothing_told (joined x)) r.0 ∙ ap (told_after nothing_told) (points_joined at t) ∙ told_whole at t in
@@ -106,5 +107,5 @@ all_meant at t told index rest fits e f g =
           ∙ how_meant at (reverse (tokens t)) (take (length_of t) t) (drop (length_of t) t);
     }
 
-pub told_ends : (now target : Told) (next : TextStage) (cs : List ℕ) → told_after now (joined (rest_of next cs)) ≡ target → next.done ≡ true → now ≡ target
+pub told_ends : (now target : Told) (next : TextStage) (cs : List ℕ) → told_after now (joined (stepwise next cs)) ≡ target → next.done ≡ true → now ≡ target
 told_ends now target next cs e f = sym (ap (told_after now) (ap joined (rest_done next cs f) ∙ joined_nothing cs)) ∙ e

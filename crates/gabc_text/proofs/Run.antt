@@ -20,7 +20,8 @@ use Rattle.gabc_text.specs.Token.{Token, spelling, tokens, is_special}
 use Rattle.gabc_text.specs.View.{along, sort, sort_as, text_of, place_of, bytes_of, is_cut, early_codes, is_open, has_begin, has_end, kept_at, found_at, findings_at_end}
 use Rattle.gabc_text.specs.Outs.{outs_by_point, outs_end, lists_at, lists_end, whole_outs, now_outs, owed, is_lone, with_first, with_last, nothing_each, kept_each, kept_lists_by, after_tokens, kept_of, last_at, but_last, centre_of, listed, end_after, found_outs}
 use Rattle.gabc_places.specs.Place.{placed_from}
-use Rattle.gabc_text.specs.Step.{rest_of, option_list, found_out, token_outs, end_outs, is_cut_lem, style_code_lem, centre_code_lem, centre_out_lem}
+use Rattle.gabc_text.specs.Step.{option_list, found_out, token_outs, end_outs, is_cut_lem, style_code_lem, centre_code_lem, centre_out_lem}
+use Rattle.gabc_text.proofs.Stepwise.{stepwise}
 use Rattle.gabc_text.specs.Mode.{settled_lem, at_end_lem}
 use Rattle.gabc_text.proofs.SeenSoFar.{seen_of}
 use Rattle.gabc_text.proofs.Modes.{Holds}
@@ -99,7 +100,7 @@ module _ (at : Place) where
       ∙ ap (λ (x : List TextOut). map out.Found (findings_at_end at before) ++ (x ++ out.Ended h ∷ [])) (centre_listed (centre_of before))
       ∙ ap (λ (x : TextEnd). map out.Found (findings_at_end at before) ++ (map (λ (s : Span). out.Part (part.Centre s)) (listed (centre_of before)) ++ out.Ended x ∷ [])) g
 
-pub rest_done : (s : TextStage) (t : List ℕ) → s.done ≡ true → rest_of s t ≡ [] ∷ nothing_each t
+pub rest_done : (s : TextStage) (t : List ℕ) → s.done ≡ true → stepwise s t ≡ [] ∷ nothing_each t
 rest_done s [] e = rw e refl
 rest_done s (c ∷ t) e = rw e (ap (λ (x : List (List TextOut)). [] ∷ x) (rest_done (record s { done = true }) t refl))
 

@@ -18,7 +18,8 @@ use Rattle.gabc_text.specs.declared.stage.TextOut.{TextOut}
 use Rattle.gabc_text.specs.Token.{Token, spelling, tokens}
 use Rattle.gabc_text.specs.View.{sort, text_of, place_of, bytes_of, is_cut, is_open_kind, early_codes, count_pieces}
 use Rattle.gabc_text.specs.Outs.{outs_by_point, outs_end, lists_at, owed, is_lone, with_first, nothing_each, kept_lists_by, after_tokens, chars_at, kept_of, last_at, but_last, end_after, found_outs, Fits}
-use Rattle.gabc_text.specs.Step.{later, fresh, rest_of, left_of, option_list, found_out, settle_outs_by, settle_stage_by, settled_push, settled_push_outs, read_outs, read_stage, went_outs, went_stage, bytes_lem, token_stage, token_outs, end_outs, end_stage, finish_outs_by, end_by, is_cut_lem, char_out}
+use Rattle.gabc_text.specs.Step.{later, fresh, option_list, found_out, settle_outs_by, settle_stage_by, settled_push, settled_push_outs, read_outs, read_stage, went_outs, went_stage, bytes_lem, token_stage, token_outs, end_outs, end_stage, finish_outs_by, end_by, is_cut_lem, char_out}
+use Rattle.gabc_text.proofs.Stepwise.{stepwise, stepwise_left}
 use Rattle.gabc_text.specs.Machine.{early_lem, after_lem}
 use Rattle.gabc_text.specs.Mode.{settled_lem, go_lem, keep_lem, at_end_lem, is_plain_lem}
 use Rattle.gabc_text.proofs.SeenSoFar.{seen_of, seen_more}
@@ -54,7 +55,7 @@ keep_small seen (Tag name) c = omega arith
 keep_small seen (Raw raw m) c = omega arith
 keep_small seen Translation c = omega arith
 
-but_last_is : (x : ℕ) (xs held : List ℕ) (c : ℕ) → x ∷ xs ≡ held ++ c ∷ [] → but_last x xs ≡ held
+pub but_last_is : (x : ℕ) (xs held : List ℕ) (c : ℕ) → x ∷ xs ≡ held ++ c ∷ [] → but_last x xs ≡ held
 but_last_is x [] [] c e = refl
 but_last_is x [] (h ∷ []) c e = absurd (cc)
 but_last_is x [] (h ∷ i ∷ hs) c e = absurd (cc)
@@ -63,13 +64,13 @@ but_last_is x (y ∷ ys) (h ∷ hs) c e =
     let f : y ∷ ys ≡ hs ++ c ∷ [] = cc in
     let g = but_last_is y ys hs c f in cc
 
-held_kept : (mode : Mode) (c : ℕ) (d : Kind) (so : Sort) (held : List ℕ) → Holds mode held → go_lem mode c ≡ Ends d so → kept_held mode held ≡ held
+pub held_kept : (mode : Mode) (c : ℕ) (d : Kind) (so : Sort) (held : List ℕ) → Holds mode held → go_lem mode c ≡ Ends d so → kept_held mode held ≡ held
 held_kept Plain c d so held h e = sym h
 held_kept Comment c d so held h e = absurd (cc)
 held_kept _ c d so held h e = refl
 
 -- a token that its last character ends is no `$` by itself
-not_lone : (mode : Mode) (held : List ℕ) (c : ℕ) (k : Token) (so : Sort) → Holds mode held → go_lem mode c ≡ Ends k.kind so → spelling k ≡ held ++ c ∷ [] → is_lone k ≡ false
+pub not_lone : (mode : Mode) (held : List ℕ) (c : ℕ) (k : Token) (so : Sort) → Holds mode held → go_lem mode c ≡ Ends k.kind so → spelling k ≡ held ++ c ∷ [] → is_lone k ≡ false
 not_lone Plain held c k so h e f = by (c == 36) refl e
   where
     by : (b : Bool) → c == 36 ≡ b → cond b (Stays Dollar) (cond (c == 37) (Stays Comment) (cond (c == 60) (Stays (Tag (record { closing = false; word = word.Start }))) (cond (c == 91) (Stays Translation) (Ends (single c) Other)))) ≡ Ends k.kind so → is_lone k ≡ false
@@ -105,7 +106,7 @@ module _ (at : Place) (full : List ℕ) (fits : Fits at full) where
 
   -- what is left where the machine goes on with this stage at c
   abbrev LeftAt : TextStage → ℕ → List ℕ → List ℕ
-  LeftAt s c t = cond s.done (c ∷ t) (left_of s t)
+  LeftAt s c t = cond s.done (c ∷ t) (stepwise_left s t)
 
   -- the machine has read some tokens and a part of the next, and t follows
   pub record Reads (mode : Mode) (before : List Token) (held : List ℕ) (p : Place) (n : ℕ) (t : List ℕ) : Type 0 where
@@ -116,7 +117,7 @@ module _ (at : Place) (full : List ℕ) (fits : Fits at full) where
     pub all : text_of before ++ (held ++ t) ≡ full
 
   abbrev pub Gives : Mode → List Token → List ℕ → Place → ℕ → List ℕ → Type 0
-  Gives mode before held p n t = (lists_held at before mode held ++ rest_of (stage_at mode before p n) t ≡ whole at before (held ++ t)) × (left_of (stage_at mode before p n) t ≡ beyond (held ++ t))
+  Gives mode before held p n t = (lists_held at before mode held ++ stepwise (stage_at mode before p n) t ≡ whole at before (held ++ t)) × (stepwise_left (stage_at mode before p n) t ≡ beyond (held ++ t))
 
   abbrev pub Runs : List ℕ → Type 0
   Runs t = (mode : Mode) (before : List Token) (held : List ℕ) (p : Place) (n : ℕ) → Reads mode before held p n t → owed_at at before held ≡ [] → Gives mode before held p n t
@@ -140,7 +141,7 @@ module _ (at : Place) (full : List ℕ) (fits : Fits at full) where
 
   -- what is given from the character c on, behind what is held
   abbrev pub From : Mode → List Token → List ℕ → Place → ℕ → ℕ → List ℕ → List TextOut → TextStage → Type 0
-  From mode before held p n c t given next = (lists_held at before mode held ++ (given ∷ rest_of next t) ≡ whole at before (held ++ c ∷ t)) × (LeftAt next c t ≡ beyond (held ++ c ∷ t))
+  From mode before held p n c t given next = (lists_held at before mode held ++ (given ∷ stepwise next t) ≡ whole at before (held ++ c ∷ t)) × (LeftAt next c t ≡ beyond (held ++ c ∷ t))
 
   settle_gives : (c : ℕ) (t : List ℕ) (mode : Mode) (before : List Token) (held : List ℕ) (p : Place) (n : ℕ) (k : Token) → Reads mode before held p n (c ∷ t)
       → settled_lem mode c ≡ Some k.kind → spelling k ≡ held → ((u : List ℕ) → tokens (held ++ c ∷ u) ≡ k ∷ tokens (c ∷ u))
@@ -163,9 +164,9 @@ module _ (at : Place) (full : List ℕ) (fits : Fits at full) where
       } in
       let given = closed at before mode held k Other p (small_kept before k (c ∷ t) all) cl so refl in
       let owes : settle_outs_by (stage_at mode before p n) (Some k.kind) ≡ owed at (k ∷ before) = rw nb given.1 in (
-        ap (λ (x : TextStage). lists_held at before mode held ++ ((settle_outs_by (stage_at mode before p n) (Some k.kind) ++ settled_push_outs x c) ∷ rest_of (settled_push x c) t)) st
-            ∙ ap (λ (x : List TextOut). lists_held at before mode held ++ ((x ++ settled_push_outs (stage_at Plain (k ∷ before) p n) c) ∷ rest_of (settled_push (stage_at Plain (k ∷ before) p n) c) t)) owes
-            ∙ ap (λ (x : List (List TextOut)). x ++ ((owed at (k ∷ before) ++ settled_push_outs (stage_at Plain (k ∷ before) p n) c) ∷ rest_of (settled_push (stage_at Plain (k ∷ before) p n) c) t)) given.0
+        ap (λ (x : TextStage). lists_held at before mode held ++ ((settle_outs_by (stage_at mode before p n) (Some k.kind) ++ settled_push_outs x c) ∷ stepwise (settled_push x c) t)) st
+            ∙ ap (λ (x : List TextOut). lists_held at before mode held ++ ((x ++ settled_push_outs (stage_at Plain (k ∷ before) p n) c) ∷ stepwise (settled_push (stage_at Plain (k ∷ before) p n) c) t)) owes
+            ∙ ap (λ (x : List (List TextOut)). x ++ ((owed at (k ∷ before) ++ settled_push_outs (stage_at Plain (k ∷ before) p n) c) ∷ stepwise (settled_push (stage_at Plain (k ∷ before) p n) c) t)) given.0
             ∙ ap (λ (x : List (List TextOut)). lists_at at before k ++ x) (next r).0
             ∙ sym (whole_more at before k (held ++ c ∷ t) (c ∷ t) (cuts t) (ap (λ (x : List ℕ). x ++ c ∷ t) (sym f))),
         ap (λ (x : TextStage). LeftAt (settled_push x c) c t) st ∙ (next r).1 ∙ sym (beyond_more k (held ++ c ∷ t) (c ∷ t) (cuts t) (ap (λ (x : List ℕ). x ++ c ∷ t) (sym f))),
@@ -252,8 +253,8 @@ module _ (at : Place) (full : List ℕ) (fits : Fits at full) where
         })
         (none_owed at before held c) in (
           rw (append-nil (option_list (char_out p (keep_lem (seen_of before) mode c))))
-              (moved (lists_held at before mode held) (owed_at at before held ++ (option_list (found_out (place_of at before) (early_lem (seen_of before) mode c)) ++ option_list (char_out p (keep_lem (seen_of before) mode c)))) (rest_of (stage_at next before (later p c) n_next) t)
-              ∙ ap (λ (x : List (List TextOut)). x ++ rest_of (stage_at next before (later p c) n_next) t) (lists_if (go_lem mode c) e lists_next)
+              (moved (lists_held at before mode held) (owed_at at before held ++ (option_list (found_out (place_of at before) (early_lem (seen_of before) mode c)) ++ option_list (char_out p (keep_lem (seen_of before) mode c)))) (stepwise (stage_at next before (later p c) n_next) t)
+              ∙ ap (λ (x : List (List TextOut)). x ++ stepwise (stage_at next before (later p c) n_next) t) (lists_if (go_lem mode c) e lists_next)
               ∙ run.0
               ∙ ap (whole at before) (append_assoc held (c ∷ []) t)),
           run.1 ∙ ap beyond (append_assoc held (c ∷ []) t),
@@ -289,9 +290,9 @@ module _ (at : Place) (full : List ℕ) (fits : Fits at full) where
         let lists : lists_held at before mode held ++ (owed_at at before held ++ (option_list (found_out (place_of at before) (early_lem (seen_of before) mode c)) ++ (option_list (char_out p (keep_lem (seen_of before) mode c)) ++ token_outs (seen_of before) (spot_of at before (later p c) n_next) k.kind so n))) ∷ [] ≡ lists_at at before k =
         subst (λ (m : ℕ). lists_held at before mode held ++ (owed_at at before held ++ (option_list (found_out (place_of at before) (early_lem (seen_of before) mode c)) ++ (option_list (char_out p (keep_lem (seen_of before) mode c)) ++ token_outs (seen_of before) (spot_of at before (later p c) m) k.kind so n))) ∷ [] ≡ lists_at at before k) (sym nb)
         (ended_lists at before mode held c k so p (later p c) n (option_list (found_out (place_of at before) (early_lem (seen_of before) mode c))) (option_list (char_out p (keep_lem (seen_of before) mode c))) (small_kept before k t all) sk (λ _. last k e f) lone given) in (
-          moved (lists_held at before mode held) (owed_at at before held ++ (option_list (found_out (place_of at before) (early_lem (seen_of before) mode c)) ++ (option_list (char_out p (keep_lem (seen_of before) mode c)) ++ token_outs (seen_of before) (spot_of at before (later p c) n_next) k.kind so n))) (rest_of (went_stage (stage_at mode before (later p c) n_next) (Ends k.kind so)) t)
-              ∙ ap (λ (x : List (List TextOut)). x ++ rest_of (went_stage (stage_at mode before (later p c) n_next) (Ends k.kind so)) t) lists
-              ∙ ap (λ (x : TextStage). lists_at at before k ++ rest_of x t) st
+          moved (lists_held at before mode held) (owed_at at before held ++ (option_list (found_out (place_of at before) (early_lem (seen_of before) mode c)) ++ (option_list (char_out p (keep_lem (seen_of before) mode c)) ++ token_outs (seen_of before) (spot_of at before (later p c) n_next) k.kind so n))) (stepwise (went_stage (stage_at mode before (later p c) n_next) (Ends k.kind so)) t)
+              ∙ ap (λ (x : List (List TextOut)). x ++ stepwise (went_stage (stage_at mode before (later p c) n_next) (Ends k.kind so)) t) lists
+              ∙ ap (λ (x : TextStage). lists_at at before k ++ stepwise x t) st
               ∙ ap (λ (x : List (List TextOut)). lists_at at before k ++ x) run.0
               ∙ sym (whole_more at before k (held ++ c ∷ t) t (cuts t) (sym (append_assoc held (c ∷ []) t) ∙ ap (λ (x : List ℕ). x ++ t) (sym f))),
           ap (λ (x : TextStage). LeftAt x c t) st ∙ run.1 ∙ sym (beyond_more k (held ++ c ∷ t) t (cuts t) (sym (append_assoc held (c ∷ []) t) ∙ ap (λ (x : List ℕ). x ++ t) (sym f))),
@@ -421,7 +422,7 @@ module _ (at : Place) (full : List ℕ) (fits : Fits at full) where
   runs (c ∷ t) = step c t (runs t)
 
 -- a fresh machine gives what the definitions say of the text
-pub fresh_gives : (at : Place) (t : List ℕ) → Fits at t → (rest_of (fresh at) t ≡ outs_by_point at t) × (left_of (fresh at) t ≡ after_tokens t)
+pub fresh_gives : (at : Place) (t : List ℕ) → Fits at t → (stepwise (fresh at) t ≡ outs_by_point at t) × (stepwise_left (fresh at) t ≡ after_tokens t)
 fresh_gives at t fits =
     let r = runs at t fits t Plain [] [] at 0 (record { holds = refl; uncut = refl; place = refl; bytes = refl; all = refl }) refl in
     (r.0 ∙ whole_is at t, r.1 ∙ sym (after_is t))

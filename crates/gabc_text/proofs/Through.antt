@@ -2,38 +2,39 @@
 use Rattle.std.proofs.Common.{◌≡◌, ℕ, suc, ◌+◌, ◌≤◌, List, [], ◌∷◌, ◌++◌, Bool, true, false, cond, refl, ap, ◌∙◌, length, length-append, take, arith}
 use Rattle.gabc_text.specs.declared.stage.TextStage.{TextStage}
 use Rattle.gabc_text.specs.declared.stage.TextOut.{TextOut}
-use Rattle.gabc_text.specs.Step.{rest_of, left_of, push_stage, push_outs}
+use Rattle.gabc_text.specs.Step.{push_stage, push_outs}
+use Rattle.gabc_text.proofs.Stepwise.{stepwise, stepwise_left}
 use Rattle.gabc_text.specs.Outs.{nothing_each}
 use Rattle.gabc_text.proofs.Run.{rest_done}
 
-pub each_gives : (s : TextStage) (t : List ℕ) → length (rest_of s t) ≡ length t + 1
+pub each_gives : (s : TextStage) (t : List ℕ) → length (stepwise s t) ≡ length t + 1
 each_gives s [] = refl
 each_gives s (c ∷ t) = omega (arith, each_gives (push_stage s c) t)
 
-pub front_gives : (s : TextStage) (t u v : List ℕ) → take (length t) (rest_of s (t ++ u)) ≡ take (length t) (rest_of s (t ++ v))
+pub front_gives : (s : TextStage) (t u v : List ℕ) → take (length t) (stepwise s (t ++ u)) ≡ take (length t) (stepwise s (t ++ v))
 front_gives s [] u v = refl
 front_gives s (c ∷ t) u v = ap (λ (x : List (List TextOut)). push_outs s c ∷ x) (front_gives (push_stage s c) t u v)
 
-few_left : (s : TextStage) (t : List ℕ) → length (left_of s t) ≤ length t
+few_left : (s : TextStage) (t : List ℕ) → length (stepwise_left s t) ≤ length t
 few_left s [] = omega arith
 few_left s (c ∷ t) = by ((push_stage s c).done) (few_left (push_stage s c) t)
   where
-    by : (b : Bool) → length (left_of (push_stage s c) t) ≤ length t → length (cond b (c ∷ t) (left_of (push_stage s c) t)) ≤ suc (length t)
+    by : (b : Bool) → length (stepwise_left (push_stage s c) t) ≤ length t → length (cond b (c ∷ t) (stepwise_left (push_stage s c) t)) ≤ suc (length t)
     by true h = omega arith
     by false h = omega arith
 
 -- the `(` ends the text
-ended_there : (s : TextStage) (u : List ℕ) → left_of s (40 ∷ u) ≡ 40 ∷ u → (push_stage s 40).done ≡ true
+ended_there : (s : TextStage) (u : List ℕ) → stepwise_left s (40 ∷ u) ≡ 40 ∷ u → (push_stage s 40).done ≡ true
 ended_there s u e = by ((push_stage s 40).done) refl
   where
     by : (b : Bool) → (push_stage s 40).done ≡ b → b ≡ true
     by true f = refl
     by false f =
-        let g : left_of (push_stage s 40) u ≡ 40 ∷ u = (rw f refl) ∙ e in
+        let g : stepwise_left (push_stage s 40) u ≡ 40 ∷ u = (rw f refl) ∙ e in
         absurd (omega (arith, few_left (push_stage s 40) u, ap (length {A = ℕ}) g))
 
 -- no character before it does
-not_before : (s : TextStage) (c : ℕ) (t u : List ℕ) → left_of s (c ∷ (t ++ 40 ∷ u)) ≡ 40 ∷ u → (push_stage s c).done ≡ false
+not_before : (s : TextStage) (c : ℕ) (t u : List ℕ) → stepwise_left s (c ∷ (t ++ 40 ∷ u)) ≡ 40 ∷ u → (push_stage s c).done ≡ false
 not_before s c t u e = by ((push_stage s c).done) refl
   where
     by : (b : Bool) → (push_stage s c).done ≡ b → b ≡ false
@@ -42,17 +43,17 @@ not_before s c t u e = by ((push_stage s c).done) refl
         let g : c ∷ (t ++ 40 ∷ u) ≡ 40 ∷ u = (rw f refl) ∙ e in
         absurd (omega (arith, ap (length {A = ℕ}) g, length-append t (40 ∷ u)))
 
-pub left_through : (s : TextStage) (t u v : List ℕ) → left_of s (t ++ 40 ∷ u) ≡ 40 ∷ u → left_of s (t ++ 40 ∷ v) ≡ 40 ∷ v
+pub left_through : (s : TextStage) (t u v : List ℕ) → stepwise_left s (t ++ 40 ∷ u) ≡ 40 ∷ u → stepwise_left s (t ++ 40 ∷ v) ≡ 40 ∷ v
 left_through s [] u v e = rw (ended_there s u e) refl
 left_through s (c ∷ t) u v e =
     let f = not_before s c t u e in
-    let g : left_of (push_stage s c) (t ++ 40 ∷ u) ≡ 40 ∷ u = rw f at e in
+    let g : stepwise_left (push_stage s c) (t ++ 40 ∷ u) ≡ 40 ∷ u = rw f at e in
     rw f (left_through (push_stage s c) t u v g)
 
-pub given_through : (s : TextStage) (t u v : List ℕ) → left_of s (t ++ 40 ∷ u) ≡ 40 ∷ u → rest_of s (t ++ 40 ∷ v) ≡ take (length t + 1) (rest_of s (t ++ 40 ∷ u)) ++ ([] ∷ nothing_each v)
+pub given_through : (s : TextStage) (t u v : List ℕ) → stepwise_left s (t ++ 40 ∷ u) ≡ 40 ∷ u → stepwise s (t ++ 40 ∷ v) ≡ take (length t + 1) (stepwise s (t ++ 40 ∷ u)) ++ ([] ∷ nothing_each v)
 given_through s [] u v e = ap (λ (x : List (List TextOut)). push_outs s 40 ∷ x) (rest_done (push_stage s 40) v (ended_there s u e))
 given_through s (c ∷ t) u v e =
     let f = not_before s c t u e in
-    let g : left_of (push_stage s c) (t ++ 40 ∷ u) ≡ 40 ∷ u = rw f at e in
+    let g : stepwise_left (push_stage s c) (t ++ 40 ∷ u) ≡ 40 ∷ u = rw f at e in
     ap (λ (x : List (List TextOut)). push_outs s c ∷ x) (given_through (push_stage s c) t u v g)
-    ∙ ap (λ (n : ℕ). take n (rest_of s (c ∷ t ++ 40 ∷ u)) ++ ([] ∷ nothing_each v)) (let h : suc (length t + 1) ≡ suc (length t) + 1 = omega arith in h)
+    ∙ ap (λ (n : ℕ). take n (stepwise s (c ∷ t ++ 40 ∷ u)) ++ ([] ∷ nothing_each v)) (let h : suc (length t + 1) ≡ suc (length t) + 1 = omega arith in h)

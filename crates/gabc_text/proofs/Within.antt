@@ -1,268 +1,274 @@
--- What is told of a text by a point is found no later than there.
-use Rattle.std.proofs.Common.{◌≡◌, ℕ, suc, ◌+◌, ◌==◌, List, [], ◌∷◌, ◌++◌, Bool, true, false, cond, refl, sym, ap, ◌∙◌, subst, append_assoc, append-nil, length, length-append, drop, take, map, arith, inl, inr}
-use Rattle.gabc_places.specs.Law.{joined}
-use Rattle.gabc_places.specs.Place.{next_place, place_past}
-use Rattle.gabc_places.specs.Findings.{IsUpTo, LieBetween}
+-- What the machine has given of the characters to come of a token that goes on.
+use Rattle.std.proofs.Common.{◌≡◌, ℕ, ◌==◌, ◌&&◌, nat_lt, List, [], ◌∷◌, ◌++◌, Bool, true, false, cond, refl, sym, ap, ◌∙◌, subst, Option, Some, None, codes}
 use Rattle.gabc_places.specs.declared.place.Place.{Place}
-use Rattle.gabc_places.specs.declared.place.Span.{Span}
-use Rattle.gabc_places.specs.declared.code.Code.{Code}
-use Rattle.gabc_places.specs.declared.code.Finding.{Finding}
-use Rattle.gabc_text.specs.declared.stage.TextPart.{TextPart}
-use Rattle.gabc_text.specs.declared.stage.TextPart.TheVariants as part
+use Rattle.gabc_places.specs.declared.code.Code.TheVariants.{W5}
+use Rattle.gabc_text.specs.declared.token.Kind.{Kind}
+use Rattle.gabc_text.specs.declared.token.Kind.TheVariants as kind
+use Rattle.gabc_text.specs.declared.token.Sort.{Sort}
+use Rattle.gabc_text.specs.declared.token.Sort.TheVariants.{Opens, Closes, Mark, Begins, Other}
+use Rattle.gabc_text.specs.declared.mode.Mode.{Mode}
+use Rattle.gabc_text.specs.declared.mode.Mode.TheVariants.{Plain, Dollar, Comment, Tag, Raw, Translation}
+use Rattle.gabc_text.specs.declared.mode.Went.{Went}
+use Rattle.gabc_text.specs.declared.mode.Went.TheVariants.{Stays, Ends}
+use Rattle.gabc_text.specs.declared.seen.Seen.{Seen}
 use Rattle.gabc_text.specs.declared.stage.TextOut.{TextOut}
 use Rattle.gabc_text.specs.declared.stage.TextOut.TheVariants as out
-use Rattle.gabc_text.specs.Token.{Token, spelling, tokens}
-use Rattle.gabc_text.specs.View.{along, sort, is_left_out, is_space, follows_space, place_of, text_of, found_at, findings_at_end, early_codes, late_codes, is_cut, codes_at_end}
-use Rattle.gabc_text.specs.Outs.{outs_by_point, after_tokens, outs_end, lists_at, lists_end, with_first, with_last, nothing_each, kept_each, kept_lists_by, owed, now_outs, early_outs, whole_outs, found_outs, is_lone, parts_at, listed, centre_of, end_after}
-use Rattle.gabc_text.specs.Told.{found_in}
-use Rattle.gabc_text.specs.Printed.{written}
-use Rattle.gabc_text.proofs.Counts.{place_append}
-use Rattle.gabc_text.proofs.Run.{onto, after_is, size}
-use Rattle.gabc_text.proofs.Cutting.{drop_past}
-use Rattle.gabc_text.proofs.Parted.{Goes, AllGo, Parted, parted}
+use Rattle.gabc_text.specs.Token.{single, is_blank, is_one_of}
+use Rattle.gabc_text.specs.View.{is_space, is_translation}
+use Rattle.gabc_text.specs.Outs.{nothing_each, with_first}
+use Rattle.gabc_text.specs.Machine.{early_lem, left_out_lem}
+use Rattle.gabc_text.specs.Mode.{is_plain_lem, go_lem, begin_lem, keep_lem, keep_first_lem, is_blank_kind, tag_ends_lem, wanted_lem}
+use Rattle.gabc_text.specs.Name.{sort_named_lem}
+use Rattle.gabc_text.specs.Step.{option_list, char_out, found_out, later, bytes_lem}
+use Rattle.gabc_text.specs.Rest.{past, bytes_past, kept_by, each_kept, lists_kept, early_by}
+use Rattle.gabc_text.proofs.Names.{by_case}
+use Rattle.gabc_text.proofs.Going.{kept_held, is_within, is_kept_whole, IsKept, within_kept, keep_within, held_within}
+use Rattle.gabc_text.proofs.Modes.{Holds}
+use Rattle.gabc_text.proofs.Held.{held_some}
 
--- ---- the order of places
+abbrev pub in_translation : Mode → Bool
+in_translation Translation = true
+in_translation _ = false
 
-same_place : (p : Place) → IsUpTo p p
-same_place p = inr (refl, omega arith)
-
-up_then : (p q r : Place) → IsUpTo p q → IsUpTo q r → IsUpTo p r
-up_then p q r (inl h) (inl g) = inl (omega arith)
-up_then p q r (inl h) (inr g) = inl (omega (arith, g.0))
-up_then p q r (inr h) (inl g) = inl (omega (arith, h.0))
-up_then p q r (inr h) (inr g) = inr (h.0 ∙ g.0, (let a = h.1 in let b = g.1 in omega arith))
-
-up_next : (p : Place) (c : ℕ) → IsUpTo p (next_place p c)
-up_next p c = by (c == 10)
+single_kind : (P : Kind → Type 0) → P kind.Blank → P kind.Stray → P kind.Begin → P kind.End → P kind.Letter → (c : ℕ) → P (single c)
+single_kind P a b d e l c = by (is_blank c) (is_one_of (codes ")]>") c) (c == 123) (c == 125)
   where
-    by : (b : Bool) → IsUpTo p (cond b (record { line = p.line + 1; column = 1 }) (record { line = p.line; column = p.column + 1 }))
-    by true = inl (omega arith)
-    by false = inr (refl, omega arith)
+    by : (w x y z : Bool) → P (cond w kind.Blank (cond x kind.Stray (cond y kind.Begin (cond z kind.End kind.Letter))))
+    by true x y z = a
+    by false true y z = b
+    by false false true z = d
+    by false false false true = e
+    by false false false false = l
 
-up_past : (p : Place) (t : List ℕ) → IsUpTo p (place_past p t)
-up_past p [] = same_place p
-up_past p (c ∷ t) = up_then p (next_place p c) (place_past (next_place p c) t) (up_next p c) (up_past (next_place p c) t)
+single_no_translation : (c : ℕ) → is_translation (single c) ≡ false
+single_no_translation c = single_kind (λ k. is_translation k ≡ false) refl refl refl refl refl c
 
-up_token : (at : Place) (before : List Token) (k : Token) → IsUpTo (place_of at before) (place_of at (k ∷ before))
-up_token at before k = subst (IsUpTo (place_of at before)) (sym (place_append at (text_of before) (spelling k))) (up_past (place_of at before) (spelling k))
+-- a token that goes on is a translation, or the token that ends is one
+abbrev pub SameTold : Bool → Went → Type 0
+SameTold b (Stays next) = in_translation next ≡ b
+SameTold b (Ends d s) = is_translation d ≡ b
 
--- ---- lists of findings
+either_told : (a b : Bool) (x y : Went) → SameTold a x → SameTold a y → SameTold a (cond b x y)
+either_told a true x y f g = f
+either_told a false x y f g = g
 
-lie_wide : (p q r : Place) (fs : List Finding) → IsUpTo q r → LieBetween p q fs → LieBetween p r fs
-lie_wide p q r [] h g = tt
-lie_wide p q r (f ∷ fs) h g = ((g.0.0, up_then f.place q r g.0.1 h), lie_wide p q r fs h g.1)
+tag_told : (s : Sort) → SameTold false (tag_ends_lem s)
+tag_told (Begins raw) = refl
+tag_told (Opens r) = refl
+tag_told (Closes r) = refl
+tag_told Mark = refl
+tag_told Other = refl
 
-lie_append : (p q : Place) (fs gs : List Finding) → LieBetween p q fs → LieBetween p q gs → LieBetween p q (fs ++ gs)
-lie_append p q [] gs h g = g
-lie_append p q (f ∷ fs) gs h g = (h.0, lie_append p q fs gs h.1 g)
+pub told_goes : (mode : Mode) (c : ℕ) → is_plain_lem mode ≡ false → SameTold (in_translation mode) (go_lem mode c)
+told_goes Plain c e = absurd (cc)
+told_goes Dollar c e = refl
+told_goes Comment c e = refl
+told_goes (Tag name) c e = either_told false (c == 62) _ _ (tag_told (sort_named_lem name.closing name.word)) refl
+told_goes (Raw raw m) c e =
+    either_told false (c == wanted_lem raw m) _ _
+    (either_told false (c == 62) _ _ refl (either_told false (nat_lt m 5) _ _ refl refl))
+    (either_told false (c == 60) _ _ refl refl)
+told_goes Translation c e = either_told true (c == 93) _ _ refl refl
 
-pub found_more : (xs ys : List TextOut) → found_in (xs ++ ys) ≡ found_in xs ++ found_in ys
-found_more [] ys = refl
-found_more (out.Kept c ∷ xs) ys = found_more xs ys
-found_more (out.Part p ∷ xs) ys = found_more xs ys
-found_more (out.Found f ∷ xs) ys = ap (λ (x : List Finding). f ∷ x) (found_more xs ys)
-found_more (out.Ended e ∷ xs) ys = found_more xs ys
+each_more : (p : Place) (more : List ℕ) (c : ℕ) → each_kept p more ++ (out.Kept (record { c = c; place = past p more }) ∷ []) ∷ [] ≡ each_kept p (more ++ c ∷ [])
+each_more p [] c = refl
+each_more p (x ∷ more) c = ap (λ (xs : List (List TextOut)). (out.Kept (record { c = x; place = p }) ∷ []) ∷ xs) (each_more (later p x) more c)
 
-no_parts : (ps : List TextPart) → found_in (map (λ (p : TextPart). out.Part p) ps) ≡ []
-no_parts [] = refl
-no_parts (p ∷ ps) = no_parts ps
+nothing_more : (more : List ℕ) (c : ℕ) → nothing_each more ++ [] ∷ [] ≡ nothing_each (more ++ c ∷ [])
+nothing_more [] c = refl
+nothing_more (x ∷ more) c = ap (λ (xs : List (List TextOut)). [] ∷ xs) (nothing_more more c)
 
-all_found : (fs : List Finding) → found_in (map out.Found fs) ≡ fs
-all_found [] = refl
-all_found (f ∷ fs) = ap (λ (x : List Finding). f ∷ x) (all_found fs)
+pub bytes_go : (n : ℕ) (o : Option ℕ) → bytes_lem n o ≡ bytes_past n (option_list o)
+bytes_go n None = refl
+bytes_go n (Some c) = refl
 
--- ---- lists by the characters of a text
+module _ (seen : Seen) where
+  -- ---- what is kept
 
-module _ (at : Place) where
-  -- what is told with each character of a text that begins at p is found no later than the character
-  abbrev Walk : Place → List ℕ → List (List TextOut) → Type 0
-  Walk p t [] = Unit {0}
-  Walk p [] (xs ∷ lists) = LieBetween at p (found_in xs) × Walk p [] lists
-  Walk p (c ∷ t) (xs ∷ lists) = LieBetween at p (found_in xs) × Walk (next_place p c) t lists
+  abbrev pub KeptGo : List ℕ → List ℕ → ℕ → Went → Type 0
+  KeptGo xs more c (Stays next) = xs ≡ kept_held next (more ++ c ∷ [])
+  KeptGo xs more c (Ends d s) = xs ≡ kept_by seen d (more ++ c ∷ [])
 
-  both : (p : Place) (xs ys : List TextOut) → LieBetween at p (found_in xs) → LieBetween at p (found_in ys) → LieBetween at p (found_in (xs ++ ys))
-  both p xs ys h g = rw (found_more xs ys) (lie_append at p (found_in xs) (found_in ys) h g)
+  whole_kept : (d : Kind) (cs : List ℕ) → is_kept_whole d ≡ true → kept_by seen d cs ≡ cs
+  whole_kept kind.Letter cs e = refl
+  whole_kept kind.Tag cs e = refl
+  whole_kept kind.Raw cs e = refl
+  whole_kept kind.Translation cs e = refl
+  whole_kept _ cs e = absurd (cc)
 
-  -- what is told through the character behind the front
-  walked : (p : Place) (front rest : List ℕ) (lists : List (List TextOut)) → Walk p (front ++ rest) lists → LieBetween at (place_past p front) (found_in (joined (take (suc (length front)) lists)))
-  walked p front rest [] h = tt
-  walked p [] [] (xs ∷ lists) h = both p xs [] h.0 tt
-  walked p [] (c ∷ rest) (xs ∷ lists) h = both p xs [] h.0 tt
-  walked p (c ∷ front) rest (xs ∷ lists) h =
-      both (place_past (next_place p c) front) xs (joined (take (suc (length front)) lists))
-      (lie_wide at p (place_past (next_place p c) front) (found_in xs) (up_past p (c ∷ front)) h.0)
-      (walked (next_place p c) front rest lists h.1)
+  kept_on : (w : Went) (more : List ℕ) (c : ℕ) → IsKept w → KeptGo (more ++ c ∷ []) more c w
+  kept_on (Stays next) more c i = sym (held_within next (more ++ c ∷ []) i)
+  kept_on (Ends d s) more c i = sym (whole_kept d (more ++ c ∷ []) i)
 
-  walk_nothing : (p : Place) (t u : List ℕ) → Walk p t (nothing_each u)
-  walk_nothing p t [] = tt
-  walk_nothing p [] (d ∷ u) = (tt, walk_nothing p [] u)
-  walk_nothing p (c ∷ t) (d ∷ u) = (tt, walk_nothing (next_place p c) t u)
-
-  walk_append : (p : Place) (s t : List ℕ) (ls ms : List (List TextOut)) → length ls ≡ length s → Walk p s ls → Walk (place_past p s) t ms → Walk p (s ++ t) (ls ++ ms)
-  walk_append p [] t [] ms e h g = g
-  walk_append p [] t (xs ∷ ls) ms e h g = absurd (omega arith)
-  walk_append p (c ∷ s) t [] ms e h g = absurd (omega arith)
-  walk_append p (c ∷ s) t (xs ∷ ls) ms e h g = (h.0, walk_append (next_place p c) s t ls ms (omega arith) h.1 g)
-
-  walk_first : (p : Place) (s : List ℕ) (xs : List TextOut) (ls : List (List TextOut)) → LieBetween at p (found_in xs) → Walk p s ls → Walk p s (with_first xs ls)
-  walk_first p s xs [] h g = tt
-  walk_first p [] xs (ys ∷ ls) h g = (both p xs ys h g.0, g.1)
-  walk_first p (c ∷ s) xs (ys ∷ ls) h g = (both p xs ys h g.0, g.1)
-
-  walk_last : (p : Place) (s : List ℕ) (xs : List TextOut) (ls : List (List TextOut)) → LieBetween at p (found_in xs) → Walk p s ls → Walk p s (with_last xs ls)
-  walk_last p s xs [] h g = tt
-  walk_last p [] xs (ys ∷ []) h g = (both p ys xs g.0 h, tt)
-  walk_last p (c ∷ s) xs (ys ∷ []) h g = (both p ys xs g.0 h, tt)
-  walk_last p [] xs (ys ∷ zs ∷ ls) h g = (g.0, walk_last p [] xs (zs ∷ ls) h g.1)
-  walk_last p (c ∷ s) xs (ys ∷ zs ∷ ls) h g =
-      (g.0, walk_last (next_place p c) s xs (zs ∷ ls) (lie_wide at p (next_place p c) (found_in xs) (up_next p c) h) g.1)
-
-  walk_kept : (p q : Place) (s t : List ℕ) → Walk p s (kept_each q t)
-  walk_kept p q s [] = tt
-  walk_kept p q [] (d ∷ t) = (tt, walk_kept p (next_place q d) [] t)
-  walk_kept p q (c ∷ s) (d ∷ t) = (tt, walk_kept (next_place p c) (next_place q d) s t)
-
-  walk_base : (before : List Token) (k : Token) → Walk (place_of at before) (spelling k) (kept_lists_by at before k.kind (spelling k))
-  walk_base before k = by (is_left_out before k.kind) (is_space k.kind) (follows_space before)
+  first_kept : (c : ℕ) (d : Kind) → c == 37 ≡ false → option_list (keep_first_lem seen c d) ≡ kept_by seen d (c ∷ [])
+  first_kept c d e = rw e (by (left_out_lem seen d) d)
     where
-      by : (a b f : Bool) → Walk (place_of at before) (spelling k) (cond a (nothing_each (spelling k)) (cond b (cond f [] (out.Kept (record { c = 32; place = place_of at before }) ∷ []) ∷ []) (kept_each (place_of at before) (spelling k))))
-      by true b f = walk_nothing (place_of at before) (spelling k) (spelling k)
-      by false true true = (tt, tt)
-      by false true false = (tt, tt)
-      by false false f = walk_kept (place_of at before) (place_of at before) (spelling k) (spelling k)
+      blank : (b : Bool) → option_list {X = ℕ} (cond b None (Some 32)) ≡ cond b [] (32 ∷ [])
+      blank true = refl
+      blank false = refl
 
-  -- ---- how many lists a token has
+      by : (b : Bool) (d : Kind) → option_list {X = ℕ} (cond b None (cond (is_blank_kind d) (cond seen.space None (Some 32)) (Some c))) ≡ cond b [] (cond (is_space d) (cond seen.space [] (32 ∷ [])) (c ∷ []))
+      by true d = refl
+      by false kind.Blank = blank seen.space
+      by false _ = refl
 
-  many_first : (xs : List TextOut) (ls : List (List TextOut)) → length (with_first xs ls) ≡ length ls
-  many_first xs [] = refl
-  many_first xs (ys ∷ ls) = refl
+  abbrev KeptBegin : ℕ → Type 0
+  KeptBegin c = KeptGo (option_list (keep_first_lem seen c (single c))) [] c (begin_lem c)
 
-  many_last : (xs : List TextOut) (ls : List (List TextOut)) → length (with_last xs ls) ≡ length ls
-  many_last xs [] = refl
-  many_last xs (ys ∷ []) = refl
-  many_last xs (ys ∷ zs ∷ ls) = ap suc (many_last xs (zs ∷ ls))
+  kept_begin : (c : ℕ) → KeptBegin c
+  kept_begin c =
+      by_case 36 c KeptBegin refl (λ e36.
+      by_case 37 c KeptBegin refl (λ e37.
+      by_case 60 c KeptBegin refl (λ e60.
+      by_case 91 c KeptBegin refl (λ e91.
+      let f = first_kept c (single c) e37 in
+      rw (e36, e37, e60, e91) (rw e37 at f)))))
 
-  many_nothing : (s : List ℕ) → length (nothing_each s) ≡ length s
-  many_nothing [] = refl
-  many_nothing (c ∷ s) = ap suc (many_nothing s)
-
-  many_kept : (p : Place) (s : List ℕ) → length (kept_each p s) ≡ length s
-  many_kept p [] = refl
-  many_kept p (c ∷ s) = ap suc (many_kept (next_place p c) s)
-
-  many_base : (before : List Token) (k : Token) → (is_space k.kind ≡ true → k.more ≡ []) → length (kept_lists_by at before k.kind (spelling k)) ≡ length (spelling k)
-  many_base before k h = by (is_left_out before k.kind) (is_space k.kind) refl
+  -- what is kept with a character more
+  pub kept_goes : (mode : Mode) (more : List ℕ) (c : ℕ) → (mode ≡ Plain → more ≡ []) → KeptGo (kept_held mode more ++ option_list (keep_lem seen mode c)) more c (go_lem mode c)
+  kept_goes Plain more c h = rw (h refl) (kept_begin c)
+  kept_goes Comment more c h = refl
+  kept_goes mode more c h = within mode refl
     where
-      by : (a b : Bool) → is_space k.kind ≡ b
-          → length (cond a (nothing_each (spelling k)) (cond b (cond (follows_space before) [] (out.Kept (record { c = 32; place = place_of at before }) ∷ []) ∷ []) (kept_each (place_of at before) (spelling k)))) ≡ length (spelling k)
-      by true b e = many_nothing (spelling k)
-      by false true e = ap (λ (s : List ℕ). length (k.first ∷ s)) (sym (h e))
-      by false false e = many_kept (place_of at before) (spelling k)
+      within : (m : Mode) → is_within m ≡ true → KeptGo (kept_held m more ++ option_list (keep_lem seen m c)) more c (go_lem m c)
+      within m w = rw (keep_within seen m c w, held_within m more w) (kept_on (go_lem m c) more c (within_kept m c w))
 
-  pub many_lists : (before : List Token) (k : Token) (u : List ℕ) → Goes k u → length (lists_at at before k) ≡ length (spelling k)
-  many_lists before k u g =
-      many_last (now_outs at before k) (with_first (owed at before ++ early_outs at before k.kind) (kept_lists_by at before k.kind (spelling k)))
-      ∙ many_first (owed at before ++ early_outs at before k.kind) (kept_lists_by at before k.kind (spelling k))
-      ∙ many_base before k g.blank
+-- a second translation is told at its `[`
+abbrev pub told_early : Seen → Place → List ℕ → Bool → List TextOut
+told_early seen p [] b = cond (b && seen.translated) (out.Found (record { place = p; code = W5 }) ∷ []) []
+told_early seen p (c ∷ read) b = []
 
-  -- ---- what a token tells
+pub early_is : (seen : Seen) (p : Place) (read : List ℕ) (k : Kind) → early_by seen p read k ≡ told_early seen p read (is_translation k)
+early_is seen p [] k = refl
+early_is seen p (c ∷ read) k = refl
 
-  from_here : (before : List Token) → IsUpTo at (place_of at before)
-  from_here before = up_past at (text_of before)
+pub none_first : (lists : List (List TextOut)) → with_first [] lists ≡ lists
+none_first [] = refl
+none_first (xs ∷ lists) = refl
 
-  lie_codes : (before : List Token) (cs : List Code) → LieBetween at (place_of at before) (found_in (found_outs at before cs))
-  lie_codes before [] = tt
-  lie_codes before (c ∷ cs) = ((from_here before, same_place (place_of at before)), lie_codes before cs)
+module _ (read : List ℕ) (seen : Seen) (place next : Place) where
+  -- ---- what is kept of each character
 
-  lie_whole : (before : List Token) (k : Token) → LieBetween at (place_of at before) (found_in (whole_outs at before k))
-  lie_whole before k =
-      both (place_of at before) (map (λ (p : TextPart). out.Part p) (parts_at before k)) (found_outs at before (late_codes before k.kind (sort k)))
-      (rw (no_parts (parts_at before k)) tt) (lie_codes before (late_codes before k.kind (sort k)))
+  abbrev pub each_held : Mode → List ℕ → List (List TextOut)
+  each_held Plain more = []
+  each_held Comment more = nothing_each more
+  each_held _ more = each_kept next more
 
-  lie_now : (before : List Token) (k : Token) → LieBetween at (place_of at before) (found_in (now_outs at before k))
-  lie_now before k = by (is_lone k)
+  abbrev pub lists_held : Mode → List ℕ → List (List TextOut)
+  lists_held mode more = with_first (told_early seen place read (in_translation mode)) (each_held mode more)
+
+  abbrev EachGo : List (List TextOut) → List ℕ → ℕ → Went → Type 0
+  EachGo xs more c (Stays m) = xs ≡ each_held m (more ++ c ∷ [])
+  EachGo xs more c (Ends d s) = xs ≡ lists_kept seen next d (more ++ c ∷ [])
+
+  whole_each : (d : Kind) (cs : List ℕ) → is_kept_whole d ≡ true → lists_kept seen next d cs ≡ each_kept next cs
+  whole_each kind.Letter cs e = refl
+  whole_each kind.Tag cs e = refl
+  whole_each kind.Raw cs e = refl
+  whole_each kind.Translation cs e = refl
+  whole_each _ cs e = absurd (cc)
+
+  pub each_within : (mode : Mode) (more : List ℕ) → is_within mode ≡ true → each_held mode more ≡ each_kept next more
+  each_within Plain more e = absurd (cc)
+  each_within Comment more e = absurd (cc)
+  each_within _ more e = refl
+
+  each_on : (w : Went) (xs : List (List TextOut)) (more : List ℕ) (c : ℕ) → IsKept w → xs ≡ each_kept next (more ++ c ∷ []) → EachGo xs more c w
+  each_on (Stays m) xs more c i e = e ∙ sym (each_within m (more ++ c ∷ []) i)
+  each_on (Ends d s) xs more c i e = e ∙ sym (whole_each d (more ++ c ∷ []) i)
+
+  first_each : (c : ℕ) (d : Kind) → c == 37 ≡ false → option_list (char_out next (keep_first_lem seen c d)) ∷ [] ≡ lists_kept seen next d (c ∷ [])
+  first_each c d e = rw e (by (left_out_lem seen d) d)
     where
-      by : (b : Bool) → LieBetween at (place_of at before) (found_in (cond b [] (whole_outs at before k)))
-      by true = tt
-      by false = lie_whole before k
+      blank : (b : Bool) → option_list (char_out next (cond b None (Some 32))) ∷ [] ≡ cond b [] (out.Kept (record { c = 32; place = next }) ∷ []) ∷ []
+      blank true = refl
+      blank false = refl
 
-  lie_owed : (before : List Token) → LieBetween at (place_of at before) (found_in (owed at before))
-  lie_owed [] = tt
-  lie_owed (k ∷ before) = by (is_lone k)
+      by : (b : Bool) (d : Kind) → option_list (char_out next (cond b None (cond (is_blank_kind d) (cond seen.space None (Some 32)) (Some c)))) ∷ []
+          ≡ cond b ([] ∷ []) (cond (is_space d) (cond seen.space [] (out.Kept (record { c = 32; place = next }) ∷ []) ∷ []) ((out.Kept (record { c = c; place = next }) ∷ []) ∷ []))
+      by true d = refl
+      by false kind.Blank = blank seen.space
+      by false _ = refl
+
+  each_goes : (mode : Mode) (more : List ℕ) (c : ℕ) → is_plain_lem mode ≡ false → EachGo (each_held mode more ++ option_list (char_out (past next more) (keep_lem seen mode c)) ∷ []) more c (go_lem mode c)
+  each_goes Plain more c e = absurd (cc)
+  each_goes Comment more c e = nothing_more more c
+  each_goes mode more c e = within mode refl
     where
-      by : (b : Bool) → LieBetween at (place_of at (k ∷ before)) (found_in (cond b (whole_outs at before k) []))
-      by true = lie_wide at (place_of at before) (place_of at (k ∷ before)) (found_in (whole_outs at before k)) (up_token at before k) (lie_whole before k)
-      by false = tt
+      within : (m : Mode) → is_within m ≡ true → EachGo (each_held m more ++ option_list (char_out (past next more) (keep_lem seen m c)) ∷ []) more c (go_lem m c)
+      within m w =
+          rw (keep_within seen m c w, each_within m more w)
+          (each_on (go_lem m c) (each_kept next more ++ (out.Kept (record { c = c; place = past next more }) ∷ []) ∷ []) more c (within_kept m c w) (each_more next more c))
 
-  walk_token : (before : List Token) (k : Token) → Walk (place_of at before) (spelling k) (lists_at at before k)
-  walk_token before k =
-      walk_last (place_of at before) (spelling k) (now_outs at before k) (with_first (owed at before ++ early_outs at before k.kind) (kept_lists_by at before k.kind (spelling k)))
-      (lie_now before k)
-      (walk_first (place_of at before) (spelling k) (owed at before ++ early_outs at before k.kind) (kept_lists_by at before k.kind (spelling k))
-      (both (place_of at before) (owed at before) (early_outs at before k.kind) (lie_owed before) (lie_codes before (early_codes before k.kind)))
-      (walk_base before k))
+  -- ---- what is given with each character
 
-  -- ---- the whole
+  abbrev pub ListsGo : List (List TextOut) → List ℕ → ℕ → Went → Type 0
+  ListsGo xs more c (Stays m) = xs ≡ lists_held m (more ++ c ∷ [])
+  ListsGo xs more c (Ends d s) = xs ≡ with_first (early_by seen place read d) (lists_kept seen next d (more ++ c ∷ []))
 
-  lie_map : (before : List Token) (cs : List Code) → LieBetween at (place_of at before) (map (found_at (place_of at before)) cs)
-  lie_map before [] = tt
-  lie_map before (c ∷ cs) = ((from_here before, same_place (place_of at before)), lie_map before cs)
+  lists_both : (w : Went) (b : Bool) (xs : List (List TextOut)) (more : List ℕ) (c : ℕ) → SameTold b w → EachGo xs more c w → ListsGo (with_first (told_early seen place read b) xs) more c w
+  lists_both (Stays m) b xs more c e f = rw (e, f) refl
+  lists_both (Ends d s) b xs more c e f = rw (early_is seen place read d, e, f) refl
 
-  lie_end : (before : List Token) → LieBetween at (place_of at before) (findings_at_end at before)
-  lie_end before = by (is_cut before)
+  -- the characters so far, and one more
+  lists_more : (mode : Mode) (more : List ℕ) (ks : List TextOut) → is_plain_lem mode ≡ false → Holds mode (read ++ more)
+      → lists_held mode more ++ ks ∷ [] ≡ with_first (told_early seen place read (in_translation mode)) (each_held mode more ++ ks ∷ [])
+  lists_more mode more ks e h = by mode read more e h
     where
-      by : (b : Bool) → LieBetween at (place_of at before) (cond b [] (map (found_at (place_of at before)) (codes_at_end before)))
-      by true = tt
-      by false = lie_map before (codes_at_end before)
+      by : (m : Mode) (r more : List ℕ) → is_plain_lem m ≡ false → Holds m (r ++ more)
+          → with_first (told_early seen place r (in_translation m)) (each_held m more) ++ ks ∷ [] ≡ with_first (told_early seen place r (in_translation m)) (each_held m more ++ ks ∷ [])
+      by m (x ∷ r) more e h = ap (λ (l : List (List TextOut)). l ++ ks ∷ []) (none_first (each_held m more)) ∙ sym (none_first (each_held m more ++ ks ∷ []))
+      by m [] [] e h = let (x, s, f) = held_some place [] m [] h e in absurd (cc)
+      by Plain [] (x ∷ more) e h = absurd (cc)
+      by Dollar [] (x ∷ more) e h = refl
+      by Comment [] (x ∷ more) e h = refl
+      by (Tag name) [] (x ∷ more) e h = refl
+      by (Raw raw m) [] (x ∷ more) e h = refl
+      by Translation [] (x ∷ more) e h = refl
 
-  pub end_found : (before : List Token) (rest : List ℕ) → found_in (outs_end at before rest) ≡ findings_at_end at before
-  end_found before rest =
-      let centre = map (λ (s : Span). out.Part (part.Centre s)) (listed (centre_of before)) in
-      found_more (map out.Found (findings_at_end at before)) (centre ++ out.Ended (end_after at before rest) ∷ [])
-      ∙ ap (λ (x : List Finding). x ++ found_in (centre ++ out.Ended (end_after at before rest) ∷ [])) (all_found (findings_at_end at before))
-      ∙ ap (λ (x : List Finding). findings_at_end at before ++ x) (found_more centre (out.Ended (end_after at before rest) ∷ []) ∙ ap (λ (x : List Finding). x ++ []) (centres (listed (centre_of before))))
-      ∙ append-nil (findings_at_end at before)
+module _ (seen : Seen) (place next : Place) where
+  abbrev ListsBegins : ℕ → Type 0
+  ListsBegins c = ListsGo [] seen place next ((option_list (found_out place (early_lem seen Plain c)) ++ option_list (char_out next (keep_first_lem seen c (single c)))) ∷ []) [] c (begin_lem c)
+
+  lists_begin : (c : ℕ) → ListsBegins c
+  lists_begin c =
+      by_case 36 c ListsBegins refl (λ e36.
+      by_case 37 c ListsBegins refl (λ e37.
+      by_case 60 c ListsBegins refl (λ e60.
+      by_case 91 c ListsBegins (second seen.translated) (λ e91.
+      let f : with_first [] (option_list (char_out next (keep_first_lem seen c (single c))) ∷ []) ≡ with_first [] (lists_kept seen next (single c) (c ∷ [])) =
+      ap (with_first []) (first_each [] seen place next c (single c) e37) in
+      rw (e36, e37, e60, e91) (rw (single_no_translation c) (rw e37 at f))))))
     where
-      centres : (ss : List Span) → found_in (map (λ (s : Span). out.Part (part.Centre s)) ss) ≡ []
-      centres [] = refl
-      centres (s ∷ ss) = centres ss
+      second : (b : Bool) → (option_list (found_out place (cond b (Some W5) None)) ++ out.Kept (record { c = 91; place = next }) ∷ []) ∷ [] ≡ (cond b (out.Found (record { place = place; code = W5 }) ∷ []) [] ++ out.Kept (record { c = 91; place = next }) ∷ []) ∷ []
+      second true = refl
+      second false = refl
 
-  walk_end : (p : Place) (xs : List TextOut) (t : List ℕ) → LieBetween at p (found_in xs) → Walk p t (xs ∷ nothing_each t)
-  walk_end p xs [] h = (h, tt)
-  walk_end p xs (c ∷ t) h = (h, walk_nothing (next_place p c) t (c ∷ t))
-
-  walk_along : (ks before : List Token) (rest : List ℕ) → AllGo ks rest → Walk (place_of at before) (written ks ++ rest) (along (lists_at at) before ks ++ lists_end at (onto ks before) rest)
-  walk_along [] before rest g =
-      walk_end (place_of at before) (owed at before ++ outs_end at before rest) rest
-      (both (place_of at before) (owed at before) (outs_end at before rest) (lie_owed before) (rw (end_found before rest) (lie_end before)))
-  walk_along (k ∷ ks) before rest g =
-      let more = along (lists_at at) (k ∷ before) ks ++ lists_end at (onto ks (k ∷ before)) rest in
-      subst (λ (t : List ℕ). Walk (place_of at before) t ((lists_at at before k ++ along (lists_at at) (k ∷ before) ks) ++ lists_end at (onto ks (k ∷ before)) rest))
-      (sym (append_assoc (spelling k) (written ks) rest))
-      (subst (Walk (place_of at before) (spelling k ++ (written ks ++ rest))) (sym (append_assoc (lists_at at before k) (along (lists_at at) (k ∷ before) ks) (lists_end at (onto ks (k ∷ before)) rest)))
-      (walk_append (place_of at before) (spelling k) (written ks ++ rest) (lists_at at before k) more
-      (many_lists before k (written ks ++ rest) g.0) (walk_token before k)
-      (subst (λ (p : Place). Walk p (written ks ++ rest) more) (place_append at (text_of before) (spelling k)) (walk_along ks (k ∷ before) rest g.1))))
-
--- the text as it is parted, and what it gives
-pub outs_parted : (at : Place) (t : List ℕ) (p : Parted t (tokens t)) → outs_by_point at t ≡ along (lists_at at) [] (tokens t) ++ lists_end at (onto (tokens t) []) p.rest
-outs_parted at t p = ap (λ (x : List ℕ). along (lists_at at) [] (tokens t) ++ lists_end at (onto (tokens t) []) x) (left_is t p)
+-- between tokens nothing is held
+pub none_held : (mode : Mode) (read more : List ℕ) → mode ≡ Plain → Holds mode (read ++ more) → (read ≡ []) × (more ≡ [])
+none_held mode read more e h = by read more (subst (λ (m : Mode). Holds m (read ++ more)) e h)
   where
-    spelled : (ks : List Token) → size ks ≡ length (written ks)
-    spelled [] = refl
-    spelled (k ∷ ks) = ap (λ (n : ℕ). length (spelling k) + n) (spelled ks) ∙ sym (length-append (spelling k) (written ks))
+    by : (r more : List ℕ) → r ++ more ≡ [] → (r ≡ []) × (more ≡ [])
+    by [] more f = (refl, f)
+    by (x ∷ r) more f = absurd (cc)
 
-    left_is : (t : List ℕ) (p : Parted t (tokens t)) → after_tokens t ≡ p.rest
-    left_is t p =
-        after_is t ∙ ap (λ (n : ℕ). drop n t) (spelled (tokens t)) ∙ ap (drop (length (written (tokens t)))) p.parts ∙ drop_past (written (tokens t)) p.rest
+module _ (read : List ℕ) (seen : Seen) (place next : Place) where
+  abbrev pub given_read : Mode → List ℕ → ℕ → List TextOut
+  given_read mode more c = option_list (found_out place (early_lem seen mode c)) ++ option_list (char_out (past next more) (keep_lem seen mode c))
 
-pub found_within : (at : Place) (front rest : List ℕ) → LieBetween at (place_past at front) (found_in (joined (take (length front + 1) (outs_by_point at (front ++ rest)))))
-found_within at front rest =
-    let t = front ++ rest in
-    let p = parted t in
-    let w = walk_along at (tokens t) [] p.rest p.go in
-    let v = subst (λ (s : List ℕ). Walk at at s (along (lists_at at) [] (tokens t) ++ lists_end at (onto (tokens t) []) p.rest)) (sym p.parts) w in
-    let h = subst (Walk at at t) (sym (outs_parted at t p)) v in
-    let one : suc (length front) ≡ length front + 1 = omega arith in
-    subst (λ (n : ℕ). LieBetween at (place_past at front) (found_in (joined (take n (outs_by_point at t))))) one
-    (walked at at front rest (outs_by_point at t) h)
+  -- a character more
+  pub lists_goes : (mode : Mode) (more : List ℕ) (c : ℕ) → Holds mode (read ++ more) → ListsGo read seen place next (lists_held read seen place next mode more ++ given_read mode more c ∷ []) more c (go_lem mode c)
+  lists_goes Plain more c h =
+      let n = none_held Plain read more refl h in
+      rw (n.0, n.1) (lists_begin seen place next c)
+  lists_goes mode more c h = other mode refl h
+    where
+      none_early : (m : Mode) → is_plain_lem m ≡ false → early_lem seen m c ≡ None
+      none_early Plain e = absurd (cc)
+      none_early _ e = refl
+
+      other : (m : Mode) → is_plain_lem m ≡ false → Holds m (read ++ more) → ListsGo read seen place next (lists_held read seen place next m more ++ given_read m more c ∷ []) more c (go_lem m c)
+      other m e h =
+          rw (none_early m e, lists_more read seen place next m more (option_list (char_out (past next more) (keep_lem seen m c))) e h)
+          (lists_both read seen place next (go_lem m c) (in_translation m) (each_held read seen place next m more ++ option_list (char_out (past next more) (keep_lem seen m c)) ∷ []) more c
+          (told_goes m c e) (each_goes read seen place next m more c e))

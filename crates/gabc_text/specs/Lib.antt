@@ -5,7 +5,9 @@ pub mod Machine
 pub mod Mode
 pub mod Name
 pub mod Outs
+pub mod Raw
 pub mod Read
+pub mod Rest
 pub mod Printed
 pub mod Said
 pub mod Step

@@ -232,13 +232,3 @@ fresh at = record {
   spot = record { place = at; start = 0; next = at; kept = 0; pieces = 0; blank = None; begin = None; end = None };
   done = false;
 }
-
--- what the machine will still give for these characters and then the end: a list for each of them, and one for the end
-abbrev pub rest_of : TextStage → List ℕ → List (List TextOut)
-rest_of t [] = finish_outs t ∷ []
-rest_of t (c ∷ cs) = push_outs t c ∷ rest_of (push_stage t c) cs
-
--- the characters that the machine does not read, from the `(` on
-abbrev pub left_of : TextStage → List ℕ → List ℕ
-left_of t [] = []
-left_of t (c ∷ cs) = cond (push_stage t c).done (c ∷ cs) (left_of (push_stage t c) cs)

@@ -2,6 +2,7 @@
 
 ghost use Rattle.std.specs.Prelude.{◌≡◌};
 ghost use Rattle.gabc_text.specs.Mode.{settled_lem, wanted_lem, in_raw_lem, tag_ends_lem, begin_lem, go_lem, at_end_lem, is_plain_lem};
+ghost use Rattle.gabc_text.specs.Raw.{is_unmatched};
 
 use crate::name::{Name, Word, next_name, sort_named};
 use crate::token::{Kind, RawKind, Sort, is_special, single};
@@ -159,6 +160,16 @@ pub(crate) fn is_plain(mode: Mode) -> bool
 {
     match mode {
         Mode::Plain => true,
+        _ => false,
+    }
+}
+
+/// In a raw part, with no character of its ending read.
+pub(crate) fn is_unmatched(mode: Mode) -> bool
+    ensures { result ≡ is_unmatched mode }
+{
+    match mode {
+        Mode::Raw(_, matched) => matched == 0,
         _ => false,
     }
 }

@@ -1,11 +1,14 @@
 //! The machine that reads a text, one character at a time.
 
-ghost use Rattle.std.specs.Prelude.{◌≡◌, ℕ, ◌+◌, ◌≤◌, List, length};
+ghost use Rattle.std.specs.Prelude.{◌≡◌, ◌==◌, ℕ, ◌+◌, ◌≤◌, List, length, true};
+ghost use Rattle.std.specs.Str.{chars, NonePass};
 ghost use Rattle.gabc_places.specs.Held.{HasRoom, added};
-ghost use Rattle.gabc_text.specs.Step.{up, later, option_list, part_lem, span_lem, pending_lem, spot_lem, token_stage, token_outs, settle_stage, settle_outs, read_stage, read_outs, keep_spot, end_outs, end_stage, push_stage, push_outs, finish_stage, finish_outs, fresh, is_piece_lem, char_out, found_out, centre_lem, part_out_lem, piece_out_lem, centre_out_lem, is_cut_lem, style_code_lem, centre_code_lem, end_by, rest_of};
+ghost use Rattle.gabc_text.specs.Step.{up, later, option_list, part_lem, span_lem, pending_lem, spot_lem, token_stage, token_outs, settle_stage, settle_outs, read_stage, read_outs, keep_spot, end_outs, end_stage, push_stage, push_outs, finish_stage, finish_outs, fresh, is_piece_lem, char_out, found_out, centre_lem, part_out_lem, piece_out_lem, centre_out_lem, is_cut_lem, style_code_lem, centre_code_lem, end_by};
+ghost use Rattle.gabc_text.specs.Rest.{rest_of};
+ghost use Rattle.gabc_text.specs.Raw.{pushed, is_in_raw};
 ghost use Rattle.gabc_text.specs.Outs.{Fits, codes_of, outs_by_point};
 
-use crate::mode::{Mode, Went, at_end, go, is_plain, settled};
+use crate::mode::{Mode, Went, at_end, go, is_plain, is_unmatched, settled};
 use crate::seen::{Seen, after, code_at, early_at, keep, nothing_seen, piece_at};
 use crate::token::{Kind, Sort};
 use crate::view::{Piece, PieceKind};
@@ -436,6 +439,24 @@ impl TextStage {
             } else {
                 self.read(c, out);
             }
+        }
+    }
+
+    /// Whether it stands in a raw part, with no character of the ending read.
+    pub(crate) fn is_in_raw(&self) -> bool
+        ensures { result ≡ is_in_raw self.now }
+    {
+        !self.done && is_unmatched(self.mode)
+    }
+
+    /// Takes the characters of a text in a raw part. None of them begins the ending, so that each is kept, and no more is given.
+    pub(crate) fn pass(&mut self, text: &str)
+        requires raw { is_in_raw self.old ≡ true }
+        requires no_ending { NonePass (λ c. c == 60) (chars text.now) }
+        ensures { self.new ≡ pushed self.old (chars text.now) }
+    {
+        for c in text.chars() {
+            self.spot = spot_past(self.spot, c, Some(c));
         }
     }
 

@@ -1,7 +1,9 @@
 //! The text of a syllable as a whole.
 
-ghost use Rattle.std.specs.Prelude.{◌≡◌, ◌+◌, ◌^◌, ◌<◌, [], length, IfOk, OnOk, string_bytes};
-ghost use Rattle.std.specs.Str.{chars};
+ghost use Rattle.std.specs.Prelude.{◌≡◌, ◌==◌, ◌+◌, ◌^◌, ◌<◌, [], length, take, true, IfOk, OnOk, string_bytes};
+ghost use Rattle.std.specs.Str.{chars, NonePass};
+ghost use Rattle.gabc_text.specs.Token.{before_first};
+ghost use Rattle.gabc_text.specs.Raw.{pushed, given, is_in_raw};
 ghost use Rattle.gabc_text.specs.Told.{told_of, with_out, told_after, nothing_told, how_of_end};
 ghost use Rattle.gabc_text.specs.Read.{IsRead};
 ghost use Rattle.gabc_text.specs.Step.{push_stage, push_outs, finish_outs};
@@ -9,6 +11,7 @@ ghost use Rattle.gabc_text.specs.Step.{push_stage, push_outs, finish_outs};
 use crate::stage::{TextEnd, TextOut, TextStage};
 use crate::view::{How, TextView};
 use gabc_places::{Findings, Place, Room};
+use memchr::memchr;
 use std::alloc::{AllocError, Global};
 
 /// What a text says.
@@ -83,6 +86,18 @@ impl Reading {
         Ok(())
     }
 
+    /// Passes the characters of a text in a raw part to the machine, and adds what it gives: it keeps them all, since none of
+    /// them begins the ending.
+    fn pass(&mut self, stage: &mut TextStage, text: &str) -> Result<(), AllocError>
+        requires raw { is_in_raw stage.old ≡ true }
+        requires no_ending { NonePass (λ c. c == 60) (chars text.now) }
+        ensures stage { stage.new ≡ pushed stage.old (chars text.now) }
+        ensures told { OnOk result (told_of self.new ≡ told_after (told_of self.old) (given stage.old (chars text.now))) }
+    {
+        stage.pass(text);
+        self.kept.push_str(text)
+    }
+
     /// Ends the machine, and adds what it gives.
     fn close(&mut self, stage: &mut TextStage, room: &mut Room<TextOut>) -> Result<(), AllocError>
         requires { room.old ≡ record { items = []; limit = 8 } }
@@ -125,6 +140,17 @@ fn how_of(end: TextEnd, index: usize) -> How
     }
 }
 
+/// The text before its first `<`, or all of it.
+fn before_tag(text: &str) -> &str
+    ensures front { chars result.now ≡ before_first 60 (chars text.now) }
+    ensures begins { result.now ≡ take (length result.now) text.now }
+{
+    match memchr(b'<', text.as_bytes()) {
+        Some(at) => &text[..at],
+        None => text,
+    }
+}
+
 /// The text of a syllable, up to its `(` or the end of `body` (GregorioRef, "Syllable Text Syntax"). The first character of
 /// `body` stands at this place. It fails only if there is no memory.
 pub fn text_whole(alloc: Global, body: &str, at: Place) -> Result<TextRead, AllocError>
@@ -135,16 +161,23 @@ pub fn text_whole(alloc: Global, body: &str, at: Place) -> Result<TextRead, Allo
     let mut room = Room::with_limit(alloc, 8)?;
     let mut reading = Reading::new(alloc);
     let mut stage = TextStage::new(at);
-    let mut index = 0;
-    for c in body.chars() {
-        reading.feed(&mut stage, c, &mut room)?;
-        if stage.is_done() {
-            let how = how_of(reading.end, index);
-            return Ok(reading.ended(how));
+    let mut rest = body;
+    while let Some(c) = rest.chars().next() {
+        if c != '<' && stage.is_in_raw() {
+            // None of these characters begins the ending of the raw part.
+            let raw = before_tag(rest);
+            reading.pass(&mut stage, raw)?;
+            rest = &rest[raw.len()..];
+        } else {
+            reading.feed(&mut stage, c, &mut room)?;
+            if stage.is_done() {
+                let how = how_of(reading.end, body.len() - rest.len());
+                return Ok(reading.ended(how));
+            }
+            rest = &rest[c.len_utf8()..];
         }
-        index += c.len_utf8();
     }
     reading.close(&mut stage, &mut room)?;
-    let how = how_of(reading.end, index);
+    let how = how_of(reading.end, body.len());
     Ok(reading.ended(how))
 }

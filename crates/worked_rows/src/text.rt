@@ -13,7 +13,7 @@ const fn place(column: u64) -> Place {
 }
 
 /// Texts with their kept text and their canonical text.
-const PRINTED: [(&str, &str, &str); 23] = [
+const PRINTED: [(&str, &str, &str); 25] = [
     (
         "<i>a<b>b</i>c</b>(f)",
         "<i>a<b>b</i>c</b>",
@@ -36,6 +36,12 @@ const PRINTED: [(&str, &str, &str); 23] = [
     ("<sp>'(a</sp>b(f)", "<sp>'(a</sp>b", "<sp>'(a</sp>b"),
     ("<alt>[x(y</alt>(f)", "<alt>[x(y</alt>", "<alt>[x(y</alt>"),
     ("<v>\\a{}</v>(f)", "<v>\\a{}</v>", "<v>\\a{}</v>"),
+    ("<v><<(</</v>b(f)", "<v><<(</</v>b", "<v><<(</</v>b"),
+    (
+        "<sp>\u{C9}<\u{20AC}a</sp>(f)",
+        "<sp>\u{C9}<\u{20AC}a</sp>",
+        "<sp>\u{C9}<\u{20AC}a</sp>",
+    ),
     ("$", "$", "$$"),
     ("$x", "$x", "$$x"),
     ("\u{C9}$\u{C9}(f)", "\u{C9}$\u{C9}", "\u{C9}$$\u{C9}"),
@@ -186,4 +192,6 @@ fn laws_are_called() {
     laws::canonical_is_printed();
     laws::printed_again();
     laws::kept_again();
+    laws::findings_lie_within();
+    laws::a_text_ends_once();
 }

@@ -1,4 +1,4 @@
-use Rattle.gabc_text.proofs.Within.{found_within}
+use Rattle.gabc_text.proofs.Lying.{found_within}
 use Rattle.gabc_text.proofs.Findings.{found_all, findings_low}
 use Rattle.gabc_text.proofs.laws.findings_lie_within.Goals as goal
 

@@ -1,6 +1,6 @@
 use Rattle.std.proofs.Common.{refl}
 use Rattle.gabc_text.specs.Outs.{codes_of}
-use Rattle.gabc_text.specs.Step.{rest_of}
+use Rattle.gabc_text.specs.Rest.{rest_of}
 use Rattle.gabc_score.proofs.Texts.{text_gives}
 use Rattle.gabc_score.proofs.body.BodyStage.push_part.Goals as goal
 

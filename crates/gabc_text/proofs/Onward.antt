@@ -1,0 +1,406 @@
+-- A character more, and the end: from any state on, the machine gives what the definitions say of the tokens ahead.
+use Rattle.std.proofs.Common.{◌≡◌, ℕ, ◌==◌, ◌&&◌, List, [], ◌∷◌, ◌++◌, Bool, true, false, cond, refl, sym, ap, ◌∙◌, subst, append_assoc, append-nil, length, drop, Option, Some, None, inl, inr, ◌⊎◌}
+use Rattle.std.proofs.lemmas.Bool.{eqb-true}
+use Rattle.gabc_places.specs.declared.place.Place.{Place}
+use Rattle.gabc_text.specs.declared.seen.Seen.{Seen}
+use Rattle.gabc_text.specs.declared.token.Kind.{Kind}
+use Rattle.gabc_text.specs.declared.token.Kind.TheVariants as kind
+use Rattle.gabc_text.specs.declared.token.Sort.{Sort}
+use Rattle.gabc_text.specs.declared.token.Sort.TheVariants.{Other}
+use Rattle.gabc_text.specs.declared.mode.Mode.{Mode}
+use Rattle.gabc_text.specs.declared.mode.Mode.TheVariants.{Plain, Dollar, Comment, Tag, Raw, Translation}
+use Rattle.gabc_text.specs.declared.mode.Went.{Went}
+use Rattle.gabc_text.specs.declared.mode.Went.TheVariants.{Stays, Ends}
+use Rattle.gabc_text.specs.declared.stage.Spot.{Spot}
+use Rattle.gabc_text.specs.declared.stage.TextStage.{TextStage}
+use Rattle.gabc_text.specs.declared.stage.TextEnd.{TextEnd}
+use Rattle.gabc_text.specs.declared.stage.TextEnd.TheVariants as ending
+use Rattle.gabc_text.specs.declared.stage.TextOut.{TextOut}
+use Rattle.gabc_text.specs.Token.{Token, spelling, tokens, is_special}
+use Rattle.gabc_text.specs.View.{sort, is_open_kind, is_translation}
+use Rattle.gabc_text.specs.Outs.{is_lone, with_first, with_last, nothing_each}
+use Rattle.gabc_text.specs.Machine.{early_lem, after_lem}
+use Rattle.gabc_text.specs.Mode.{settled_lem, go_lem, keep_lem, at_end_lem, is_plain_lem}
+use Rattle.gabc_text.specs.Step.{later, option_list, settle_outs_by, settle_stage_by, settled_push, settled_push_outs, read_outs, read_stage, went_outs, went_stage, kept_stage, keep_spot, char_out, found_out, bytes_lem, token_stage, token_outs, end_outs, end_stage, finish_outs_by, end_by, spot_lem, is_cut_lem}
+use Rattle.gabc_text.specs.Rest.{past, bytes_past, kept_by, lists_kept, early_by, last_by, but_end, whole_by, lists_past, lists_last, owed_at, seen_at, spot_at}
+use Rattle.gabc_text.proofs.Stepwise.{stepwise, stepwise_left}
+use Rattle.gabc_text.proofs.Cutting.{drop_past}
+use Rattle.gabc_text.proofs.Modes.{Holds, Settles, WentBy, goes, settles, ends, EndsAs}
+use Rattle.gabc_text.proofs.Going.{kept_held, sort_settled, settled_uncut, ends_uncut}
+use Rattle.gabc_text.proofs.Run.{size, drop_more, rest_done, with_none, with_more, end_other}
+use Rattle.gabc_text.proofs.Steps.{but_last_is, not_lone}
+use Rattle.gabc_text.proofs.Since.{past_append, bytes_past_append, seen_on, spot_on, past_token, behind}
+use Rattle.gabc_text.proofs.Alike.{whole_same, end_same}
+use Rattle.gabc_text.proofs.Within.{KeptGo, ListsGo, kept_goes, lists_goes, bytes_go, none_held, none_first, lists_held, each_held, early_is, in_translation, given_read}
+use Rattle.gabc_text.proofs.Shifted.{lists_from, first_token}
+
+-- what follows the tokens
+abbrev pub remaining : List ℕ → List ℕ
+remaining t = drop (size (tokens t)) t
+
+remaining_more : (k : Token) (t rest : List ℕ) → tokens t ≡ k ∷ tokens rest → t ≡ spelling k ++ rest → remaining t ≡ remaining rest
+remaining_more k t rest e f = rw (e, f) (drop_more (spelling k) rest (size (tokens rest)))
+
+-- what is left where the machine goes on with this stage at c
+abbrev LeftAt : TextStage → ℕ → List ℕ → List ℕ
+LeftAt s c t = cond s.done (c ∷ t) (stepwise_left s t)
+
+-- the last of some characters
+but_end_is : (held : List ℕ) (c : ℕ) → but_end (held ++ c ∷ []) ≡ held
+but_end_is [] c = refl
+but_end_is (x ∷ held) c = but_last_is x (held ++ c ∷ []) (x ∷ held) c refl
+
+module _ (read : List ℕ) (s : TextStage) where
+  -- the machine has read this more of the first token
+  abbrev pub spot_in : Mode → List ℕ → Spot
+  spot_in mode more = record (s.spot) { next = past s.spot.next more; kept = bytes_past s.spot.kept (kept_held mode more) }
+
+  abbrev pub stage_in : Mode → List ℕ → TextStage
+  stage_in mode more = record { mode = mode; seen = s.seen; spot = spot_in mode more; done = false }
+
+  abbrev pub given_in : Mode → List ℕ → List (List TextOut)
+  given_in mode more = lists_held read s.seen s.spot.place s.spot.next mode more
+
+  -- what is given of a text that begins with what was read
+  abbrev pub ahead : List ℕ → List (List TextOut)
+  ahead t = lists_from read s [] (tokens t) (remaining t)
+
+  ahead_more : (k : Token) (t rest : List ℕ) → tokens t ≡ k ∷ tokens rest → t ≡ spelling k ++ rest → is_open_kind k.kind ≡ false
+      → ahead t ≡ lists_past read s [] k ++ with_first (owed_at read s (k ∷ [])) (lists_from [] (past_token read s k) [] (tokens rest) (remaining rest))
+  ahead_more k t rest e f u =
+      rw (e, f, drop_more (spelling k) rest (size (tokens rest))) (first_token read s k (tokens rest) (remaining rest) u)
+
+  -- ---- a token that ends before the next character, or at the end
+
+  -- nothing is given of the token but what is given of its characters, or it shows only by what follows
+  abbrev Quiet : Token → Kind → Type 0
+  Quiet k d = (is_lone k ≡ true) ⊎ ((spot : Spot) (last : ℕ) → token_outs s.seen spot d Other last ≡ [])
+
+  -- a token of this kind is what was read of it
+  abbrev Closing : Mode → List ℕ → Token → Kind → Type 0
+  Closing mode more k d = (kept_held mode more ≡ kept_by s.seen d more) × (in_translation mode ≡ is_translation d) × (each_held read s.seen s.spot.place s.spot.next mode more ≡ lists_kept s.seen s.spot.next d more) × Quiet k d
+
+  closing_letter : (held more : List ℕ) (k : Token) → held ≡ 36 ∷ [] → spelling k ≡ held → Closing Dollar more k kind.Letter
+  closing_letter held more k h f =
+      let g : k.more ≡ [] = cc in
+      let first : k.first ≡ 36 = cc in (refl, refl, refl, inl (rw (first, g) refl))
+
+  closing_comment : (more : List ℕ) (k : Token) → Closing Comment more k kind.Comment
+  closing_comment more k = (refl, refl, refl, inr (λ spot last. refl))
+
+  settle_closing : (mode : Mode) (held more : List ℕ) (c : ℕ) (k : Token) → Holds mode held → settled_lem mode c ≡ Some k.kind → spelling k ≡ held → Closing mode more k k.kind
+  settle_closing Plain held more c k h e f = absurd (cc)
+  settle_closing Dollar held more c k h e f = by (is_special c) k.kind e
+    where
+      by : (b : Bool) (d : Kind) → cond b None (Some kind.Letter) ≡ Some d → Closing Dollar more k d
+      by true d g = absurd (cc)
+      by false d g = let same : kind.Letter ≡ d = cc in subst (Closing Dollar more k) same (closing_letter held more k h f)
+  settle_closing Comment held more c k h e f = by (c == 10) k.kind e
+    where
+      by : (b : Bool) (d : Kind) → cond b (Some kind.Comment) None ≡ Some d → Closing Comment more k d
+      by true d g = let same : kind.Comment ≡ d = cc in subst (Closing Comment more k) same (closing_comment more k)
+      by false d g = absurd (cc)
+  settle_closing (Tag name) held more c k h e f = absurd (cc)
+  settle_closing (Raw raw m) held more c k h e f = absurd (cc)
+  settle_closing Translation held more c k h e f = absurd (cc)
+
+  end_closing : (mode : Mode) (held more : List ℕ) (k : Token) (d : Kind) → Holds mode held → at_end_lem mode ≡ Some d → spelling k ≡ held → Closing mode more k d
+  end_closing Plain held more k d h e f = absurd (cc)
+  end_closing Dollar held more k d h e f = let same : kind.Letter ≡ d = cc in subst (Closing Dollar more k) same (closing_letter held more k h f)
+  end_closing Comment held more k d h e f = let same : kind.Comment ≡ d = cc in subst (Closing Comment more k) same (closing_comment more k)
+  end_closing (Tag name) held more k d h e f = let same : kind.OpenTag ≡ d = cc in subst (Closing (Tag name) more k) same (refl, refl, refl, inr (λ spot last. refl))
+  end_closing (Raw raw m) held more k d h e f = let same : kind.OpenTag ≡ d = cc in subst (Closing (Raw raw m) more k) same (refl, refl, refl, inr (λ spot last. refl))
+  end_closing Translation held more k d h e f = let same : kind.OpenTranslation ≡ d = cc in subst (Closing Translation more k) same (refl, refl, refl, inr (λ spot last. refl))
+
+  record Closed (mode : Mode) (more : List ℕ) (k : Token) : Type 0 where
+    lists : given_in mode more ≡ lists_past read s [] k
+    owes : token_outs s.seen (spot_in mode more) k.kind Other s.spot.start ≡ owed_at read s (k ∷ [])
+    state : token_stage (stage_in mode more) k.kind Other (past s.spot.next more) ≡ past_token read s k
+
+  closed : (mode : Mode) (more : List ℕ) (k : Token) → drop (length read) (spelling k) ≡ more → sort k ≡ Other → Closing mode more k k.kind → Closed mode more k
+  closed mode more k e so h = record {
+    lists = sym (ap (λ (x : List TextOut). with_last x (with_first (early_by s.seen s.spot.place read k.kind) (lists_kept s.seen s.spot.next k.kind (drop (length read) (spelling k))))) (nothing_now (is_lone k) refl h.3)
+        ∙ with_none (with_first (early_by s.seen s.spot.place read k.kind) (lists_kept s.seen s.spot.next k.kind (drop (length read) (spelling k))))
+        ∙ rw (e, early_is s.seen s.spot.place read k.kind, ← h.1, ← h.2) refl);
+    owes = owes_it (is_lone k) refl h.3;
+    state = rw (e, so, h.0) refl;
+  }
+    where
+      whole_is : (last : ℕ) → token_outs s.seen (spot_in mode more) k.kind Other last ≡ token_outs s.seen (behind s.seen s.spot k.kind (drop (length read) (spelling k))) k.kind (sort k) last
+      whole_is last = rw (e, so, h.0) refl
+
+      nothing_now : (b : Bool) → is_lone k ≡ b → Quiet k k.kind → cond (is_lone k) [] (whole_by s.seen s.spot k (drop (length read) (spelling k))) ≡ []
+      nothing_now true f q = ap (λ (b : Bool). cond b [] (whole_by s.seen s.spot k (drop (length read) (spelling k)))) f
+      nothing_now false f (inl q) = absurd (cc)
+      nothing_now false f (inr q) =
+          ap (λ (b : Bool). cond b [] (whole_by s.seen s.spot k (drop (length read) (spelling k)))) f
+          ∙ sym (whole_same s.seen s.spot k (drop (length read) (spelling k)))
+          ∙ ap (λ (x : Sort). token_outs s.seen (behind s.seen s.spot k.kind (drop (length read) (spelling k))) k.kind x (last_by s.spot k (drop (length read) (spelling k)))) so
+          ∙ q (behind s.seen s.spot k.kind (drop (length read) (spelling k))) (last_by s.spot k (drop (length read) (spelling k)))
+
+      owed_is : (b : Bool) → is_lone k ≡ b → cond b (whole_by s.seen s.spot k (drop (length read) (spelling k))) [] ≡ owed_at read s (k ∷ [])
+      owed_is b f = ap (λ (b : Bool). cond b (whole_by s.seen s.spot k (drop (length read) (spelling k))) []) (sym f)
+
+      owes_it : (b : Bool) → is_lone k ≡ b → Quiet k k.kind → token_outs s.seen (spot_in mode more) k.kind Other s.spot.start ≡ owed_at read s (k ∷ [])
+      owes_it true f q =
+          whole_is s.spot.start
+          ∙ ap (λ (b : Bool). token_outs s.seen (behind s.seen s.spot k.kind (drop (length read) (spelling k))) k.kind (sort k) (cond b s.spot.start (bytes_past s.spot.kept (but_end (drop (length read) (spelling k)))))) (sym f)
+          ∙ whole_same s.seen s.spot k (drop (length read) (spelling k))
+          ∙ owed_is true f
+      owes_it false f (inl q) = absurd (cc)
+      owes_it false f (inr q) = q (spot_in mode more) s.spot.start ∙ owed_is false f
+
+  -- ---- the counts at a character that is read
+
+  next_goes : (more : List ℕ) (c : ℕ) → later (past s.spot.next more) c ≡ past s.spot.next (more ++ c ∷ [])
+  next_goes more c = sym (past_append s.spot.next more (c ∷ []))
+
+  bytes_goes : (mode : Mode) (more : List ℕ) (c : ℕ) (kept : List ℕ) → kept_held mode more ++ option_list (keep_lem s.seen mode c) ≡ kept
+      → bytes_lem (bytes_past s.spot.kept (kept_held mode more)) (keep_lem s.seen mode c) ≡ bytes_past s.spot.kept kept
+  bytes_goes mode more c kept e =
+      bytes_go (bytes_past s.spot.kept (kept_held mode more)) (keep_lem s.seen mode c)
+      ∙ sym (bytes_past_append s.spot.kept (kept_held mode more) (option_list (keep_lem s.seen mode c)))
+      ∙ ap (bytes_past s.spot.kept) e
+
+  -- ---- what is given from the character c on
+
+  abbrev From : Mode → List ℕ → List ℕ → ℕ → List ℕ → List TextOut → TextStage → Type 0
+  From mode more held c t given next = (given_in mode more ++ (given ∷ stepwise next t) ≡ ahead (held ++ c ∷ t)) × (LeftAt next c t ≡ remaining (held ++ c ∷ t))
+
+-- from any state on, for these characters
+abbrev pub Runs : List ℕ → Type 0
+Runs t = (read : List ℕ) (s : TextStage) (mode : Mode) (more held : List ℕ) → held ≡ read ++ more → Holds mode held
+    → (given_in read s mode more ++ stepwise (stage_in read s mode more) t ≡ ahead read s (held ++ t)) × (stepwise_left (stage_in read s mode more) t ≡ remaining (held ++ t))
+
+-- one list more
+moved : (xs : List (List TextOut)) (ys : List TextOut) (rest : List (List TextOut)) → xs ++ (ys ∷ rest) ≡ (xs ++ ys ∷ []) ++ rest
+moved xs ys rest = sym (append_assoc xs (ys ∷ []) rest)
+
+-- the part of a token that was to come
+to_come : (read more : List ℕ) (k : Token) → spelling k ≡ read ++ more → drop (length read) (spelling k) ≡ more
+to_come read more k e = ap (drop (length read)) e ∙ drop_past read more
+
+more_kept : (mode : Mode) (c : ℕ) (d : Kind) (so : Sort) (more : List ℕ) → (mode ≡ Plain → more ≡ []) → go_lem mode c ≡ Ends d so → kept_held mode more ≡ more
+more_kept Plain c d so more h e = sym (h refl)
+more_kept Comment c d so more h e = absurd (cc)
+more_kept _ c d so more h e = refl
+
+-- the `(` between tokens
+notes_end : (s : TextStage) (t : List ℕ) → From [] s Plain [] [] 40 t (end_outs s.seen (spot_in [] s Plain []) ending.Notes) (end_stage (stage_in [] s Plain []))
+notes_end s t = (
+  ap (λ (x : List (List TextOut)). end_outs s.seen s.spot ending.Notes ∷ x) (rest_done (end_stage (stage_in [] s Plain [])) t refl)
+      ∙ ap (λ (x : List TextOut). x ∷ ([] ∷ nothing_each t)) (end_same s.seen s.spot ending.Notes false refl),
+  refl,
+)
+
+module _ (c : ℕ) (t : List ℕ) (read : List ℕ) (s : TextStage) (mode : Mode) (more held : List ℕ) (here : held ≡ read ++ more) (holds : Holds mode held) where
+  abbrev stage : TextStage
+  stage = stage_in read s mode more
+
+  abbrev Reading : Went → Type 0
+  Reading w = From read s mode more held c t
+      (option_list (found_out s.spot.place (early_lem s.seen mode c)) ++ (option_list (char_out (past s.spot.next more) (keep_lem s.seen mode c)) ++ went_outs (kept_stage stage c) w (bytes_past s.spot.kept (kept_held mode more))))
+      (went_stage (kept_stage stage c) w)
+
+  in_read : Holds mode (read ++ more)
+  in_read = subst (Holds mode) here holds
+
+  plain_none : mode ≡ Plain → more ≡ []
+  plain_none e = (none_held mode read more e in_read).1
+
+  given_next : ListsGo read s.seen s.spot.place s.spot.next (given_in read s mode more ++ given_read read s.seen s.spot.place s.spot.next mode more c ∷ []) more c (go_lem mode c)
+  given_next = lists_goes read s.seen s.spot.place s.spot.next mode more c in_read
+
+  kept_next : KeptGo s.seen (kept_held mode more ++ option_list (keep_lem s.seen mode c)) more c (go_lem mode c)
+  kept_next = kept_goes s.seen mode more c plain_none
+
+  longer : held ++ c ∷ [] ≡ read ++ (more ++ c ∷ [])
+  longer = ap (λ (x : List ℕ). x ++ c ∷ []) here ∙ append_assoc read more (c ∷ [])
+
+  stays : (next : Mode) → Runs t → go_lem mode c ≡ Stays next → Holds next (held ++ c ∷ []) → Reading (Stays next)
+  stays next ih e h =
+      let kept : kept_held mode more ++ option_list (keep_lem s.seen mode c) ≡ kept_held next (more ++ c ∷ []) =
+      subst (KeptGo s.seen (kept_held mode more ++ option_list (keep_lem s.seen mode c)) more c) e kept_next in
+      let lists : given_in read s mode more ++ given_read read s.seen s.spot.place s.spot.next mode more c ∷ [] ≡ given_in read s next (more ++ c ∷ []) =
+      subst (ListsGo read s.seen s.spot.place s.spot.next (given_in read s mode more ++ given_read read s.seen s.spot.place s.spot.next mode more c ∷ []) more c) e given_next in
+      let state : went_stage (kept_stage stage c) (Stays next) ≡ stage_in read s next (more ++ c ∷ []) =
+      rw (next_goes read s more c, bytes_goes read s mode more c (kept_held next (more ++ c ∷ [])) kept) refl in
+      let run = ih read s next (more ++ c ∷ []) (held ++ c ∷ []) longer h in (
+        ap (λ (x : TextStage). given_in read s mode more ++ ((option_list (found_out s.spot.place (early_lem s.seen mode c)) ++ (option_list (char_out (past s.spot.next more) (keep_lem s.seen mode c)) ++ [])) ∷ stepwise x t)) state
+            ∙ ap (λ (x : List TextOut). given_in read s mode more ++ ((option_list (found_out s.spot.place (early_lem s.seen mode c)) ++ x) ∷ stepwise (stage_in read s next (more ++ c ∷ [])) t)) (append-nil (option_list (char_out (past s.spot.next more) (keep_lem s.seen mode c))))
+            ∙ moved (given_in read s mode more) (given_read read s.seen s.spot.place s.spot.next mode more c) (stepwise (stage_in read s next (more ++ c ∷ [])) t)
+            ∙ ap (λ (x : List (List TextOut)). x ++ stepwise (stage_in read s next (more ++ c ∷ [])) t) lists
+            ∙ run.0
+            ∙ ap (ahead read s) (append_assoc held (c ∷ []) t),
+        ap (λ (x : TextStage). LeftAt x c t) state ∙ run.1 ∙ ap remaining (append_assoc held (c ∷ []) t),
+      )
+
+  ends_token : (so : Sort) → Runs t → (h : (token : Token) × (go_lem mode c ≡ Ends token.kind so) × (sort token ≡ so) × (spelling token ≡ held ++ c ∷ []) × ((u : List ℕ) → tokens (held ++ c ∷ u) ≡ token ∷ tokens u))
+      → Reading (Ends h.0.kind so)
+  ends_token so ih (k, e, sk, f, cuts) =
+      let come : drop (length read) (spelling k) ≡ more ++ c ∷ [] = to_come read (more ++ c ∷ []) k (f ∙ longer) in
+      let kept : kept_held mode more ++ option_list (keep_lem s.seen mode c) ≡ kept_by s.seen k.kind (more ++ c ∷ []) =
+      subst (KeptGo s.seen (kept_held mode more ++ option_list (keep_lem s.seen mode c)) more c) e kept_next in
+      let lists : given_in read s mode more ++ given_read read s.seen s.spot.place s.spot.next mode more c ∷ [] ≡ with_first (early_by s.seen s.spot.place read k.kind) (lists_kept s.seen s.spot.next k.kind (more ++ c ∷ [])) =
+      subst (ListsGo read s.seen s.spot.place s.spot.next (given_in read s mode more ++ given_read read s.seen s.spot.place s.spot.next mode more c ∷ []) more c) e given_next in
+      let spot : keep_spot (spot_in read s mode more) c (keep_lem s.seen mode c) ≡ behind s.seen s.spot k.kind (more ++ c ∷ []) =
+      rw (next_goes read s more c, bytes_goes read s mode more c (kept_by s.seen k.kind (more ++ c ∷ [])) kept) refl in
+      let lone : is_lone k ≡ false = not_lone mode held c k so holds e f in
+      let last : bytes_past s.spot.kept (kept_held mode more) ≡ last_by s.spot k (more ++ c ∷ []) =
+      rw (lone, but_end_is more c) (ap (bytes_past s.spot.kept) (held_kept_more e)) in
+      let early = option_list (found_out s.spot.place (early_lem s.seen mode c)) in
+      let kept_out = option_list (char_out (past s.spot.next more) (keep_lem s.seen mode c)) in
+      let whole = whole_by s.seen s.spot k (more ++ c ∷ []) in
+      let outs : went_outs (kept_stage stage c) (Ends k.kind so) (bytes_past s.spot.kept (kept_held mode more)) ≡ whole_by s.seen s.spot k (more ++ c ∷ []) =
+      ap (λ (x : Spot). token_outs s.seen x k.kind so (bytes_past s.spot.kept (kept_held mode more))) spot
+      ∙ ap (token_outs s.seen (behind s.seen s.spot k.kind (more ++ c ∷ [])) k.kind so) last
+      ∙ ap (λ (x : Sort). token_outs s.seen (behind s.seen s.spot k.kind (more ++ c ∷ [])) k.kind x (last_by s.spot k (more ++ c ∷ []))) (sym sk)
+      ∙ whole_same s.seen s.spot k (more ++ c ∷ []) in
+      let state : went_stage (kept_stage stage c) (Ends k.kind so) ≡ past_token read s k =
+      ap (λ (x : Spot). record { mode = Plain; seen = after_lem s.seen k.kind so; spot = spot_lem s.seen x k.kind so x.next; done = false }) spot
+      ∙ ap (λ (x : Sort). record { mode = Plain; seen = after_lem s.seen k.kind x; spot = spot_lem s.seen (behind s.seen s.spot k.kind (more ++ c ∷ [])) k.kind x (past s.spot.next (more ++ c ∷ [])); done = false }) (sym sk)
+      ∙ ap (λ (x : List ℕ). record { mode = Plain; seen = after_lem s.seen k.kind (sort k); spot = spot_lem s.seen (behind s.seen s.spot k.kind x) k.kind (sort k) (past s.spot.next x); done = false }) (sym come) in
+      let now : cond (is_lone k) [] whole ≡ whole = ap (λ (b : Bool). cond b [] whole) lone in
+      let all : given_in read s mode more ++ (early ++ (kept_out ++ whole)) ∷ [] ≡ lists_past read s [] k =
+      ap (λ (x : List TextOut). given_in read s mode more ++ x ∷ []) (sym (append_assoc early kept_out whole))
+      ∙ sym (with_more whole (given_in read s mode more) (early ++ kept_out))
+      ∙ ap (with_last whole) lists
+      ∙ ap (λ (x : List TextOut). with_last x (with_first (early_by s.seen s.spot.place read k.kind) (lists_kept s.seen s.spot.next k.kind (more ++ c ∷ [])))) (sym now)
+      ∙ ap (λ (x : List ℕ). with_last (cond (is_lone k) [] (whole_by s.seen s.spot k x)) (with_first (early_by s.seen s.spot.place read k.kind) (lists_kept s.seen s.spot.next k.kind x))) (sym come) in
+      let none_owed : owed_at read s (k ∷ []) ≡ [] = ap (λ (b : Bool). cond b (whole_by s.seen s.spot k (drop (length read) (spelling k))) []) lone in
+      let spelled : held ++ c ∷ t ≡ spelling k ++ t = sym (append_assoc held (c ∷ []) t) ∙ ap (λ (x : List ℕ). x ++ t) (sym f) in
+      let run = ih [] (past_token read s k) Plain [] [] refl refl in (
+        ap (λ (x : List TextOut). given_in read s mode more ++ ((early ++ (kept_out ++ x)) ∷ stepwise (went_stage (kept_stage stage c) (Ends k.kind so)) t)) outs
+            ∙ moved (given_in read s mode more) (early ++ (kept_out ++ whole)) (stepwise (went_stage (kept_stage stage c) (Ends k.kind so)) t)
+            ∙ ap (λ (x : List (List TextOut)). x ++ stepwise (went_stage (kept_stage stage c) (Ends k.kind so)) t) all
+            ∙ ap (λ (x : TextStage). lists_past read s [] k ++ stepwise x t) state
+            ∙ ap (λ (x : List (List TextOut)). lists_past read s [] k ++ x) run.0
+            ∙ ap (λ (x : List (List TextOut)). lists_past read s [] k ++ x) (sym (none_first (ahead [] (past_token read s k) t)))
+            ∙ ap (λ (x : List TextOut). lists_past read s [] k ++ with_first x (ahead [] (past_token read s k) t)) (sym none_owed)
+            ∙ sym (ahead_more read s k (held ++ c ∷ t) t (cuts t) spelled (ends_uncut mode c k.kind so e)),
+        ap (λ (x : TextStage). LeftAt x c t) state ∙ run.1 ∙ sym (remaining_more k (held ++ c ∷ t) t (cuts t) spelled),
+      )
+    where
+      held_kept_more : {k : Kind} → go_lem mode c ≡ Ends k so → kept_held mode more ≡ more
+      held_kept_more {k} e = more_kept mode c k so more plain_none e
+
+  read_gives : Runs t → (mode ≡ Plain → c == 40 ≡ false) → settled_lem mode c ≡ None → Reading (go_lem mode c)
+  read_gives ih plain e = by (go_lem mode c) refl (goes mode held c holds e plain)
+    where
+      by : (w : Went) → go_lem mode c ≡ w → WentBy w held c → Reading w
+      by (Stays next) f h = stays next ih f h
+      by (Ends d so) f h =
+          subst (λ (x : Kind). Reading (Ends x so)) h.kind_is (ends_token so ih (h.token, f ∙ ap (λ (x : Kind). Ends x so) (sym h.kind_is), h.sort_is, h.spelled, h.cuts))
+
+  -- a character before which no token ends
+  settled_gives : Runs t → settled_lem mode c ≡ None → From read s mode more held c t (settled_push_outs stage c) (settled_push stage c)
+  settled_gives ih e = by (c == 40) (is_plain_lem mode) refl refl
+    where
+      plain : (m : Mode) → is_plain_lem m ≡ true → m ≡ Plain
+      plain Plain f = refl
+      plain _ f = absurd (cc)
+
+      notes : c ≡ 40 → mode ≡ Plain → From read s mode more held c t (end_outs s.seen (spot_in read s mode more) ending.Notes) (end_stage stage)
+      notes f g =
+          let none = none_held mode read more g in_read in
+          let empty : held ≡ [] = subst (λ (m : Mode). Holds m held) g holds in
+          rw (f, g, none.0, none.1, empty) (notes_end s t)
+
+      by : (b x : Bool) → c == 40 ≡ b → is_plain_lem mode ≡ x
+          → From read s mode more held c t (cond (b && x) (end_outs s.seen (spot_in read s mode more) ending.Notes) (read_outs stage c)) (cond (b && x) (end_stage stage) (read_stage stage c))
+      by true true f g = notes (eqb-true c 40 f) (plain mode g)
+      by true false f g = read_gives ih (λ h. absurd (let z : true ≡ false = sym (ap is_plain_lem h) ∙ g in cc)) e
+      by false x f g = read_gives ih (λ h. f) e
+
+-- ---- a token that ends before the character
+
+settle_gives : (c : ℕ) (t : List ℕ) (read : List ℕ) (s : TextStage) (mode : Mode) (more held : List ℕ) (k : Token) → Runs t → held ≡ read ++ more → Holds mode held
+    → settled_lem mode c ≡ Some k.kind → spelling k ≡ held → ((u : List ℕ) → tokens (held ++ c ∷ u) ≡ k ∷ tokens (c ∷ u))
+    → From read s mode more held c t (settle_outs_by (stage_in read s mode more) (Some k.kind) ++ settled_push_outs (settle_stage_by (stage_in read s mode more) (Some k.kind)) c)
+    (settled_push (settle_stage_by (stage_in read s mode more) (Some k.kind)) c)
+settle_gives c t read s mode more held k ih here holds e f cuts =
+    let cl = closed read s mode more k (to_come read more k (f ∙ here)) (sort_settled mode c k e) (settle_closing read s mode held more c k holds e f) in
+    let next = settled_gives c t [] (past_token read s k) Plain [] [] refl refl ih refl in
+    let owes = token_outs s.seen (spot_in read s mode more) k.kind Other s.spot.start in
+    let spelled : held ++ c ∷ t ≡ spelling k ++ c ∷ t = ap (λ (x : List ℕ). x ++ c ∷ t) (sym f) in (
+      ap (λ (x : TextStage). given_in read s mode more ++ ((owes ++ settled_push_outs x c) ∷ stepwise (settled_push x c) t)) cl.state
+          ∙ ap (λ (x : List TextOut). given_in read s mode more ++ ((x ++ settled_push_outs (past_token read s k) c) ∷ stepwise (settled_push (past_token read s k) c) t)) cl.owes
+          ∙ ap (λ (x : List (List TextOut)). x ++ ((owed_at read s (k ∷ []) ++ settled_push_outs (past_token read s k) c) ∷ stepwise (settled_push (past_token read s k) c) t)) cl.lists
+          ∙ ap (λ (x : List (List TextOut)). lists_past read s [] k ++ with_first (owed_at read s (k ∷ [])) x) next.0
+          ∙ sym (ahead_more read s k (held ++ c ∷ t) (c ∷ t) (cuts t) spelled (settled_uncut mode c k.kind e)),
+      ap (λ (x : TextStage). LeftAt (settled_push x c) c t) cl.state ∙ next.1 ∙ sym (remaining_more k (held ++ c ∷ t) (c ∷ t) (cuts t) spelled),
+    )
+
+step : (c : ℕ) (t : List ℕ) → Runs t → Runs (c ∷ t)
+step c t ih read s mode more held here holds = by (settled_lem mode c) refl
+  where
+    by : (o : Option Kind) → settled_lem mode c ≡ o
+        → From read s mode more held c t (settle_outs_by (stage_in read s mode more) o ++ settled_push_outs (settle_stage_by (stage_in read s mode more) o) c) (settled_push (settle_stage_by (stage_in read s mode more) o) c)
+    by None e = settled_gives c t read s mode more held here holds ih e
+    by (Some d) e = go (settles mode held c d holds e)
+      where
+        go : Settles held c d → From read s mode more held c t (settle_outs_by (stage_in read s mode more) (Some d) ++ settled_push_outs (settle_stage_by (stage_in read s mode more) (Some d)) c) (settled_push (settle_stage_by (stage_in read s mode more) (Some d)) c)
+        go h =
+            subst (λ (d : Kind). From read s mode more held c t (settle_outs_by (stage_in read s mode more) (Some d) ++ settled_push_outs (settle_stage_by (stage_in read s mode more) (Some d)) c) (settled_push (settle_stage_by (stage_in read s mode more) (Some d)) c)) h.kind_is
+            (settle_gives c t read s mode more held h.token ih here holds (e ∙ ap Some (sym h.kind_is)) h.spelled h.cuts)
+
+-- ---- the end
+
+abbrev EndingOf : List ℕ → TextStage → Mode → List ℕ → List ℕ → Option Kind → Type 0
+EndingOf read s mode more held o = (given_in read s mode more ++ finish_outs_by (stage_in read s mode more) o ∷ [] ≡ ahead read s (held ++ [])) × ([] ≡ remaining (held ++ []))
+
+finish : Runs []
+finish read s mode more held here holds = by (at_end_lem mode) refl (ends mode held holds)
+  where
+    plain : (m : Mode) → at_end_lem m ≡ None → m ≡ Plain
+    plain Plain e = refl
+    plain _ e = absurd (cc)
+
+    end_is : (d : Kind) (q : Place) → end_by d q ≡ cond (is_open_kind d) (ending.Cut q) ending.Finished
+    end_is kind.OpenTag q = refl
+    end_is kind.OpenTranslation q = refl
+    end_is _ q = refl
+
+    cut_is : (b : Bool) (q : Place) → is_cut_lem (cond b (ending.Cut q) ending.Finished) ≡ b
+    cut_is true q = refl
+    cut_is false q = refl
+
+    at_plain : (s : TextStage) → EndingOf [] s Plain [] [] None
+    at_plain s = (ap (λ (x : List TextOut). x ∷ []) (end_same s.seen s.spot ending.Finished false refl), refl)
+
+    none : mode ≡ Plain → EndingOf read s mode more held None
+    none g =
+        let n = none_held mode read more g (subst (Holds mode) here holds) in
+        let empty : held ≡ [] = subst (λ (m : Mode). Holds m held) g holds in
+        rw (g, n.0, n.1, empty) (at_plain s)
+
+    token : (k : Token) → at_end_lem mode ≡ Some k.kind → spelling k ≡ held → tokens held ≡ k ∷ [] → EndingOf read s mode more held (Some k.kind)
+    token k e f g =
+        let so : sort k ≡ Other = end_other s.spot.place [] mode k k.kind e refl in
+        let cl = closed read s mode more k (to_come read more k (f ∙ here)) so (end_closing read s mode held more k k.kind holds e f) in
+        let owes = token_outs s.seen (spot_in read s mode more) k.kind Other s.spot.start in
+        let cut : tokens (held ++ []) ≡ k ∷ [] = ap tokens (append-nil held) ∙ g in
+        let spelled : held ++ [] ≡ spelling k ++ [] = ap (λ (x : List ℕ). x ++ []) (sym f) in
+        let none_left : remaining (held ++ []) ≡ [] = remaining_more k (held ++ []) [] cut spelled in
+        let there : seen_at read s (k ∷ []) ≡ (past_token read s k).seen = seen_on s.seen k [] in
+        let spot : spot_at read s (k ∷ []) ≡ (past_token read s k).spot = spot_on read s k [] in
+        let whole : ahead read s (held ++ []) ≡ lists_past read s [] k ++ lists_last read s (k ∷ []) [] =
+        rw (none_left, cut) (ap (λ (x : List (List TextOut)). x ++ lists_last read s (k ∷ []) []) (append-nil (lists_past read s [] k))) in (
+          ap (λ (x : TextStage). given_in read s mode more ++ (owes ++ end_outs x.seen x.spot (end_by k.kind s.spot.place)) ∷ []) cl.state
+              ∙ ap (λ (x : List TextOut). given_in read s mode more ++ (x ++ end_outs (past_token read s k).seen (past_token read s k).spot (end_by k.kind s.spot.place)) ∷ []) cl.owes
+              ∙ ap (λ (x : List (List TextOut)). x ++ (owed_at read s (k ∷ []) ++ end_outs (past_token read s k).seen (past_token read s k).spot (end_by k.kind s.spot.place)) ∷ []) cl.lists
+              ∙ ap (λ (x : Seen). lists_past read s [] k ++ (owed_at read s (k ∷ []) ++ end_outs x (past_token read s k).spot (end_by k.kind s.spot.place)) ∷ []) (sym there)
+              ∙ ap (λ (x : Spot). lists_past read s [] k ++ (owed_at read s (k ∷ []) ++ end_outs (seen_at read s (k ∷ [])) x (end_by k.kind s.spot.place)) ∷ []) (sym spot)
+              ∙ ap (λ (x : TextEnd). lists_past read s [] k ++ (owed_at read s (k ∷ []) ++ end_outs (seen_at read s (k ∷ [])) (spot_at read s (k ∷ [])) x) ∷ []) (end_is k.kind s.spot.place)
+              ∙ ap (λ (x : List TextOut). lists_past read s [] k ++ (owed_at read s (k ∷ []) ++ x) ∷ []) (end_same (seen_at read s (k ∷ [])) (spot_at read s (k ∷ [])) (cond (is_open_kind k.kind) (ending.Cut s.spot.place) ending.Finished) (is_open_kind k.kind) (cut_is (is_open_kind k.kind) s.spot.place))
+              ∙ sym whole,
+          sym none_left,
+        )
+
+    by : (o : Option Kind) → at_end_lem mode ≡ o → EndsAs o held → EndingOf read s mode more held o
+    by None e h = none (plain mode e)
+    by (Some d) e (k, kd, sp, tk) = subst (λ (x : Kind). EndingOf read s mode more held (Some x)) kd (token k (e ∙ ap Some (sym kd)) sp tk)
+
+pub runs : (t : List ℕ) → Runs t
+runs [] = finish
+runs (c ∷ t) = step c t (runs t)
