@@ -17,3 +17,15 @@ pub mod ScoreSorted
 pub mod Stopping
 pub mod LayersSorted
 pub mod Marks
+pub mod Seams
+pub mod Events
+pub mod SnippetEnds
+pub mod GabcEnds
+pub mod NabcEnds
+pub mod LineEnds
+pub mod TextEnds
+pub mod HeldNotes
+pub mod HeldSteps
+pub mod HeldPieces
+pub mod HeldScore
+pub mod Standing

@@ -12,3 +12,4 @@ pub mod Syllable
 pub mod Units
 pub mod Stops
 pub mod Marks
+pub mod Holding

@@ -1,11 +1,16 @@
 //! Laws of the definitions that contracts speak of. The functions do nothing, or call the laws below that they stand on: each is
 //! there for its clauses.
 
-ghost use Rattle.std.specs.Prelude.{◌≡◌, ◌+◌, ◌<◌, ◌^◌, ℕ, List, [], length, ◌⊎◌};
+ghost use Rattle.std.specs.Prelude.{◌≡◌, ◌+◌, ◌<◌, ◌^◌, ℕ, List, [], ◌∷◌, ◌++◌, length, ◌⊎◌, encode_utf8_all};
+ghost use Rattle.std.specs.List.{All};
 ghost use Rattle.gabc_places.specs.Findings.{AreInOrder};
 ghost use Rattle.gabc_places.specs.declared.place.Char.{Char};
 ghost use Rattle.gabc_places.specs.declared.limits.Limits.{Limits};
+ghost use Rattle.gabc_places.specs.declared.place.Span.{Span};
+ghost use Rattle.gabc_text.specs.Said.{StandsFor};
 ghost use Rattle.gabc_score.specs.declared.ending.Ending.{Ending};
+ghost use Rattle.gabc_score.specs.Syllable.{Said, slice};
+ghost use Rattle.gabc_score.specs.Holding.{HoldsParts, HoldsWithNotes, lines_of};
 ghost use Rattle.gabc_score.specs.Score.{score_of};
 ghost use Rattle.gabc_score.specs.Body.{reached};
 ghost use Rattle.gabc_score.specs.Stops.{StopsAt, NeverStops};
@@ -57,3 +62,17 @@ pub fn findings_in_order()
 pub fn the_stop_is_the_first_point()
     ensures { (limits : Limits) (head : ℕ) (xs : List Char) (lists : List (List Told)) → length lists ≡ length xs + 1 → (let r = reached limits head [] xs lists in NeverStops limits head [] xs lists r ⊎ StopsAt limits head [] xs lists r) }
 {}
+
+/// Each syllable of a score holds its parts: its view is that of a text, its kept text is that of this text and of its notes, and
+/// the spans of its view and its snippets stand for parts of it. Only the last may have no notes. A span that stands for a part of
+/// a text has that part's bytes.
+pub fn a_syllable_holds_its_parts()
+    ensures held { (limits : Limits) (ending : Ending) (t : List ℕ) → length (encode_utf8_all t) < 2 ^ 63 → (let score = score_of limits ending t in All (λ (s : Said). HoldsParts t (lines_of score) s.made) score.syllables) }
+    ensures noted { (limits : Limits) (ending : Ending) (t : List ℕ) → length (encode_utf8_all t) < 2 ^ 63 → (let score = score_of limits ending t in (before after : List Said) (s next : Said) → score.syllables ≡ before ++ s ∷ next ∷ after → HoldsWithNotes t (lines_of score) s.made) }
+    ensures bytes { (text : List ℕ) (span : Span) (part : List ℕ) → StandsFor text span part → slice span (encode_utf8_all text) ≡ encode_utf8_all part }
+{
+    // Texts are read by their own definition, and end once.
+    gabc_text::laws::a_text_ends_once();
+    gabc_text::laws::outs_tell_all();
+    gabc_text::laws::spans_stand();
+}
