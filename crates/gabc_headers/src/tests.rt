@@ -180,4 +180,7 @@ fn laws_are_called() {
     laws::groups_are_unique();
     laws::groups_tell_parts();
     laws::last_value_at_first_place();
+    laws::findings_in_order();
+    laws::findings_lie_before_the_body();
+    laws::the_body_follows_the_mark();
 }

@@ -403,4 +403,8 @@ fn tells_a_body(rt: HostRuntime) -> Result<(), Fail> {
 fn laws_are_called() {
     laws::a_body_has_one_cutting();
     laws::a_body_tells_its_units();
+    laws::units_end_at_their_marks();
+    laws::the_stop_is_the_first_point();
+    laws::a_syllable_holds_its_parts();
+    laws::findings_in_order();
 }
