@@ -13,7 +13,8 @@ use Rattle.gabc_text.specs.Token.{tokens}
 use Rattle.gabc_text.specs.View.{along}
 use Rattle.gabc_text.specs.Outs.{codes_of, after_tokens, nothing_each}
 use Rattle.gabc_text.specs.Step.{push_stage, push_outs, finish_outs}
-use Rattle.gabc_text.specs.Rest.{stands_for, lists_past, lists_last, lists_ahead, rest_of, left_of}
+use Rattle.gabc_text.specs.Begun.{stands_for}
+use Rattle.gabc_text.specs.Rest.{lists_past, lists_last, lists_ahead, rest_of, left_of}
 use Rattle.gabc_text.proofs.Stepwise.{stepwise, stepwise_left}
 use Rattle.gabc_text.proofs.Going.{kept_held}
 use Rattle.gabc_text.proofs.Run.{after_is, rest_done}
@@ -57,11 +58,11 @@ left_done : (s : TextStage) (t : List ℕ) → s.done ≡ true → stepwise_left
 left_done s [] e = refl
 left_done s (c ∷ t) e = rw e refl
 
-rest_by : (s : TextStage) (t : List ℕ) → rest_of s t ≡ cond s.done ([] ∷ nothing_each t) (lists_ahead (stands_for s.mode) s (stands_for s.mode ++ t))
+pub rest_by : (s : TextStage) (t : List ℕ) → rest_of s t ≡ cond s.done ([] ∷ nothing_each t) (lists_ahead (stands_for s.mode) s (stands_for s.mode ++ t))
 unfolding rest_of
 rest_by s t = refl
 
-left_by : (s : TextStage) (t : List ℕ) → left_of s t ≡ cond s.done t (after_tokens (stands_for s.mode ++ t))
+pub left_by : (s : TextStage) (t : List ℕ) → left_of s t ≡ cond s.done t (after_tokens (stands_for s.mode ++ t))
 unfolding left_of
 left_by s t = refl
 

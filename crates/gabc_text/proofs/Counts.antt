@@ -1,17 +1,14 @@
 -- Counts and places of a text that grows.
-use Rattle.std.proofs.Common.{◌≡◌, ℕ, ◌+◌, ◌<◌, ◌≤◌, ◌^◌, ◌==◌, ◌&&◌, not, List, [], ◌∷◌, ◌++◌, Bool, true, false, cond, refl, ap, length, length-append, Option, Some, None, arith, nat_lt}
+use Rattle.std.proofs.Common.{◌≡◌, ℕ, ◌+◌, ◌<◌, ◌≤◌, ◌^◌, ◌==◌, ◌&&◌, not, List, [], ◌∷◌, ◌++◌, Bool, true, false, cond, refl, ap, map, length, length-append, Option, Some, None, arith, nat_lt}
 use Rattle.std.specs.Char.{len_utf8}
 use Rattle.gabc_places.specs.Place.{next_place, place_past, placed_from}
 use Rattle.gabc_places.specs.declared.place.Place.{Place}
 use Rattle.gabc_places.specs.declared.place.Char.{Char}
 use Rattle.gabc_text.specs.declared.view.PieceKind.{PieceKind}
-use Rattle.gabc_text.specs.declared.mode.Mode.{Mode}
-use Rattle.gabc_text.specs.declared.mode.Mode.TheVariants.{Plain, Comment}
 use Rattle.gabc_text.specs.Token.{Token, spelling}
-use Rattle.gabc_text.specs.View.{text_of, bytes_of, kept_at, is_left_out, is_space, follows_space, count_pieces, pieces_at, piece_of, Said, kind_of, has_word, follows_blank}
-use Rattle.gabc_text.specs.Outs.{kept_of}
+use Rattle.gabc_text.specs.View.{text_of, place_of, bytes_of, kept_at, is_left_out, is_space, follows_space, count_pieces, pieces_at, piece_of, Said, kind_of, has_word, follows_blank}
+use Rattle.gabc_text.specs.Outs.{kept_of, chars_at}
 use Rattle.gabc_text.specs.Step.{up, later}
-use Rattle.gabc_text.proofs.Going.{kept_held}
 
 -- the bytes of two texts
 pub bytes_append : (s t : List ℕ) → bytes_of (s ++ t) ≡ bytes_of s + bytes_of t
@@ -64,7 +61,7 @@ place_small p (c ∷ t) =
     let r = place_small (next_place p c) t in
     (omega (arith, n.0, r.0), omega (arith, n.1, r.1))
 
-kept_at_small : (before : List Token) (k : Token) → bytes_of (kept_at before k) ≤ bytes_of (spelling k)
+pub kept_at_small : (before : List Token) (k : Token) → bytes_of (kept_at before k) ≤ bytes_of (spelling k)
 kept_at_small before k = by (is_left_out before k.kind) (is_space k.kind) (follows_space before)
   where
     by : (x y z : Bool) → bytes_of (cond x [] (cond y (cond z [] (32 ∷ [])) (spelling k))) ≤ bytes_of (spelling k)
@@ -77,11 +74,6 @@ kept_at_small before k = by (is_left_out before k.kind) (is_space k.kind) (follo
 pub kept_small : (before : List Token) → bytes_of (kept_of before) ≤ bytes_of (text_of before)
 kept_small [] = omega arith
 kept_small (k ∷ before) = omega (arith, kept_small before, kept_at_small before k, bytes_append (kept_of before) (kept_at before k), bytes_append (text_of before) (spelling k))
-
-pub held_small : (mode : Mode) (held : List ℕ) → bytes_of (kept_held mode held) ≤ bytes_of held
-held_small Plain held = omega arith
-held_small Comment held = omega arith
-held_small _ held = omega arith
 
 at_most_one : (b : Bool) (p : Said) → length (cond b (p ∷ []) []) ≤ 1
 at_most_one true p = omega arith
@@ -98,3 +90,18 @@ one_piece before k = one_piece_by before k (kind_of k)
 pub pieces_small : (before : List Token) → count_pieces before ≤ length (text_of before)
 pieces_small [] = omega arith
 pieces_small (k ∷ before) = omega (arith, pieces_small before, one_piece before k, length-append (text_of before) (spelling k))
+
+-- ---- the characters that are kept, without their places
+
+codes_placed : (p : Place) (s : List ℕ) → map (λ (c : Char). c.c) (placed_from p s) ≡ s
+codes_placed p [] = refl
+codes_placed p (c ∷ s) = ap (λ (t : List ℕ). c ∷ t) (codes_placed (next_place p c) s)
+
+pub codes_kept : (at : Place) (before : List Token) (k : Token) → map (λ (c : Char). c.c) (chars_at at before k) ≡ kept_at before k
+codes_kept at before k = by (is_left_out before k.kind) (is_space k.kind) (follows_space before)
+  where
+    by : (x y z : Bool) → map (λ (c : Char). c.c) (cond x [] (cond y (cond z [] (record { c = 32; place = place_of at before } ∷ [])) (placed_from (place_of at before) (spelling k)))) ≡ cond x [] (cond y (cond z [] (32 ∷ [])) (spelling k))
+    by true y z = refl
+    by false true true = refl
+    by false true false = refl
+    by false false z = codes_placed (place_of at before) (spelling k)

@@ -27,7 +27,7 @@ use Rattle.gabc_text.specs.Outs.{outs, outs_at, outs_end, whole_outs, found_outs
 use Rattle.gabc_text.specs.Read.{but_last_blank, pieces_in, translation_of, view_in}
 use Rattle.gabc_text.specs.Told.{Told, with_out, with_part, told_after, nothing_told, kept_in}
 use Rattle.gabc_text.proofs.Run.{onto}
-use Rattle.gabc_text.proofs.Held.{codes_kept}
+use Rattle.gabc_text.proofs.Counts.{codes_kept}
 
 -- the outputs one after another
 pub told_append : (t : Told) (xs ys : List TextOut) → told_after t (xs ++ ys) ≡ told_after (told_after t xs) ys

@@ -7,11 +7,7 @@ pub mod Modes
 pub mod Going
 pub mod Counts
 pub mod Given
-pub mod Held
-pub mod RawParts
-pub mod Fronts
 pub mod Run
-pub mod Steps
 pub mod Gathering
 pub mod Joined
 pub mod Differing
@@ -33,10 +29,6 @@ pub mod Backward
 pub mod Written
 pub mod NoErrors
 pub mod Ordered
-pub mod Parted
-pub mod Findings
-pub mod Lying
-pub mod Ending
 pub mod PrintedKept
 pub mod KeptAgain
 pub mod KeptTokens
@@ -47,3 +39,11 @@ pub mod Shifted
 pub mod Onward
 pub mod Stands
 pub mod Ahead
+pub mod Spelled
+pub mod Fresh
+pub mod RawParts
+pub mod Fronts
+pub mod Parted
+pub mod Findings
+pub mod Ending
+pub mod Lying

@@ -22,16 +22,17 @@ use Rattle.gabc_text.specs.Outs.{is_lone, with_first, with_last, nothing_each}
 use Rattle.gabc_text.specs.Machine.{early_lem, after_lem}
 use Rattle.gabc_text.specs.Mode.{settled_lem, go_lem, keep_lem, at_end_lem, is_plain_lem}
 use Rattle.gabc_text.specs.Step.{later, option_list, settle_outs_by, settle_stage_by, settled_push, settled_push_outs, read_outs, read_stage, went_outs, went_stage, kept_stage, keep_spot, char_out, found_out, bytes_lem, token_stage, token_outs, end_outs, end_stage, finish_outs_by, end_by, spot_lem, is_cut_lem}
-use Rattle.gabc_text.specs.Rest.{past, bytes_past, kept_by, lists_kept, early_by, last_by, but_end, whole_by, lists_past, lists_last, owed_at, seen_at, spot_at}
+use Rattle.gabc_text.specs.Past.{past, bytes_past}
+use Rattle.gabc_text.specs.Rest.{kept_by, lists_kept, early_by, last_by, whole_by, lists_past, lists_last, owed_at, seen_at, spot_at}
+use Rattle.gabc_text.specs.Said.{but_end}
 use Rattle.gabc_text.proofs.Stepwise.{stepwise, stepwise_left}
 use Rattle.gabc_text.proofs.Cutting.{drop_past}
 use Rattle.gabc_text.proofs.Modes.{Holds, Settles, WentBy, goes, settles, ends, EndsAs}
 use Rattle.gabc_text.proofs.Going.{kept_held, sort_settled, settled_uncut, ends_uncut}
 use Rattle.gabc_text.proofs.Run.{size, drop_more, rest_done, with_none, with_more, end_other}
-use Rattle.gabc_text.proofs.Steps.{but_last_is, not_lone}
 use Rattle.gabc_text.proofs.Since.{past_append, bytes_past_append, seen_on, spot_on, past_token, behind}
 use Rattle.gabc_text.proofs.Alike.{whole_same, end_same}
-use Rattle.gabc_text.proofs.Within.{KeptGo, ListsGo, kept_goes, lists_goes, bytes_go, none_held, none_first, lists_held, each_held, early_is, in_translation, given_read}
+use Rattle.gabc_text.proofs.Within.{KeptGo, ListsGo, kept_goes, lists_goes, bytes_go, none_held, none_first, lists_held, each_held, early_is, in_translation, given_read, but_last_is, not_lone}
 use Rattle.gabc_text.proofs.Shifted.{lists_from, first_token}
 
 -- what follows the tokens
@@ -202,6 +203,13 @@ module _ (c : ℕ) (t : List ℕ) (read : List ℕ) (s : TextStage) (mode : Mode
       (option_list (found_out s.spot.place (early_lem s.seen mode c)) ++ (option_list (char_out (past s.spot.next more) (keep_lem s.seen mode c)) ++ went_outs (kept_stage stage c) w (bytes_past s.spot.kept (kept_held mode more))))
       (went_stage (kept_stage stage c) w)
 
+  -- what is given with the character of a second translation, and of itself
+  abbrev given_early : List TextOut
+  given_early = option_list (found_out s.spot.place (early_lem s.seen mode c))
+
+  abbrev given_kept : List TextOut
+  given_kept = option_list (char_out (past s.spot.next more) (keep_lem s.seen mode c))
+
   in_read : Holds mode (read ++ more)
   in_read = subst (Holds mode) here holds
 
@@ -235,54 +243,65 @@ module _ (c : ℕ) (t : List ℕ) (read : List ℕ) (s : TextStage) (mode : Mode
         ap (λ (x : TextStage). LeftAt x c t) state ∙ run.1 ∙ ap remaining (append_assoc held (c ∷ []) t),
       )
 
-  ends_token : (so : Sort) → Runs t → (h : (token : Token) × (go_lem mode c ≡ Ends token.kind so) × (sort token ≡ so) × (spelling token ≡ held ++ c ∷ []) × ((u : List ℕ) → tokens (held ++ c ∷ u) ≡ token ∷ tokens u))
-      → Reading (Ends h.0.kind so)
-  ends_token so ih (k, e, sk, f, cuts) =
-      let come : drop (length read) (spelling k) ≡ more ++ c ∷ [] = to_come read (more ++ c ∷ []) k (f ∙ longer) in
-      let kept : kept_held mode more ++ option_list (keep_lem s.seen mode c) ≡ kept_by s.seen k.kind (more ++ c ∷ []) =
-      subst (KeptGo s.seen (kept_held mode more ++ option_list (keep_lem s.seen mode c)) more c) e kept_next in
-      let lists : given_in read s mode more ++ given_read read s.seen s.spot.place s.spot.next mode more c ∷ [] ≡ with_first (early_by s.seen s.spot.place read k.kind) (lists_kept s.seen s.spot.next k.kind (more ++ c ∷ [])) =
-      subst (ListsGo read s.seen s.spot.place s.spot.next (given_in read s mode more ++ given_read read s.seen s.spot.place s.spot.next mode more c ∷ []) more c) e given_next in
-      let spot : keep_spot (spot_in read s mode more) c (keep_lem s.seen mode c) ≡ behind s.seen s.spot k.kind (more ++ c ∷ []) =
-      rw (next_goes read s more c, bytes_goes read s mode more c (kept_by s.seen k.kind (more ++ c ∷ [])) kept) refl in
-      let lone : is_lone k ≡ false = not_lone mode held c k so holds e f in
-      let last : bytes_past s.spot.kept (kept_held mode more) ≡ last_by s.spot k (more ++ c ∷ []) =
-      rw (lone, but_end_is more c) (ap (bytes_past s.spot.kept) (held_kept_more e)) in
-      let early = option_list (found_out s.spot.place (early_lem s.seen mode c)) in
-      let kept_out = option_list (char_out (past s.spot.next more) (keep_lem s.seen mode c)) in
-      let whole = whole_by s.seen s.spot k (more ++ c ∷ []) in
-      let outs : went_outs (kept_stage stage c) (Ends k.kind so) (bytes_past s.spot.kept (kept_held mode more)) ≡ whole_by s.seen s.spot k (more ++ c ∷ []) =
-      ap (λ (x : Spot). token_outs s.seen x k.kind so (bytes_past s.spot.kept (kept_held mode more))) spot
-      ∙ ap (token_outs s.seen (behind s.seen s.spot k.kind (more ++ c ∷ [])) k.kind so) last
-      ∙ ap (λ (x : Sort). token_outs s.seen (behind s.seen s.spot k.kind (more ++ c ∷ [])) k.kind x (last_by s.spot k (more ++ c ∷ []))) (sym sk)
-      ∙ whole_same s.seen s.spot k (more ++ c ∷ []) in
-      let state : went_stage (kept_stage stage c) (Ends k.kind so) ≡ past_token read s k =
-      ap (λ (x : Spot). record { mode = Plain; seen = after_lem s.seen k.kind so; spot = spot_lem s.seen x k.kind so x.next; done = false }) spot
-      ∙ ap (λ (x : Sort). record { mode = Plain; seen = after_lem s.seen k.kind x; spot = spot_lem s.seen (behind s.seen s.spot k.kind (more ++ c ∷ [])) k.kind x (past s.spot.next (more ++ c ∷ [])); done = false }) (sym sk)
-      ∙ ap (λ (x : List ℕ). record { mode = Plain; seen = after_lem s.seen k.kind (sort k); spot = spot_lem s.seen (behind s.seen s.spot k.kind x) k.kind (sort k) (past s.spot.next x); done = false }) (sym come) in
-      let now : cond (is_lone k) [] whole ≡ whole = ap (λ (b : Bool). cond b [] whole) lone in
-      let all : given_in read s mode more ++ (early ++ (kept_out ++ whole)) ∷ [] ≡ lists_past read s [] k =
-      ap (λ (x : List TextOut). given_in read s mode more ++ x ∷ []) (sym (append_assoc early kept_out whole))
-      ∙ sym (with_more whole (given_in read s mode more) (early ++ kept_out))
-      ∙ ap (with_last whole) lists
-      ∙ ap (λ (x : List TextOut). with_last x (with_first (early_by s.seen s.spot.place read k.kind) (lists_kept s.seen s.spot.next k.kind (more ++ c ∷ [])))) (sym now)
-      ∙ ap (λ (x : List ℕ). with_last (cond (is_lone k) [] (whole_by s.seen s.spot k x)) (with_first (early_by s.seen s.spot.place read k.kind) (lists_kept s.seen s.spot.next k.kind x))) (sym come) in
-      let none_owed : owed_at read s (k ∷ []) ≡ [] = ap (λ (b : Bool). cond b (whole_by s.seen s.spot k (drop (length read) (spelling k))) []) lone in
-      let spelled : held ++ c ∷ t ≡ spelling k ++ t = sym (append_assoc held (c ∷ []) t) ∙ ap (λ (x : List ℕ). x ++ t) (sym f) in
-      let run = ih [] (past_token read s k) Plain [] [] refl refl in (
-        ap (λ (x : List TextOut). given_in read s mode more ++ ((early ++ (kept_out ++ x)) ∷ stepwise (went_stage (kept_stage stage c) (Ends k.kind so)) t)) outs
-            ∙ moved (given_in read s mode more) (early ++ (kept_out ++ whole)) (stepwise (went_stage (kept_stage stage c) (Ends k.kind so)) t)
-            ∙ ap (λ (x : List (List TextOut)). x ++ stepwise (went_stage (kept_stage stage c) (Ends k.kind so)) t) all
-            ∙ ap (λ (x : TextStage). lists_past read s [] k ++ stepwise x t) state
-            ∙ ap (λ (x : List (List TextOut)). lists_past read s [] k ++ x) run.0
-            ∙ ap (λ (x : List (List TextOut)). lists_past read s [] k ++ x) (sym (none_first (ahead [] (past_token read s k) t)))
-            ∙ ap (λ (x : List TextOut). lists_past read s [] k ++ with_first x (ahead [] (past_token read s k) t)) (sym none_owed)
-            ∙ sym (ahead_more read s k (held ++ c ∷ t) t (cuts t) spelled (ends_uncut mode c k.kind so e)),
-        ap (λ (x : TextStage). LeftAt x c t) state ∙ run.1 ∙ sym (remaining_more k (held ++ c ∷ t) t (cuts t) spelled),
-      )
-    where
-      held_kept_more : {k : Kind} → go_lem mode c ≡ Ends k so → kept_held mode more ≡ more
-      held_kept_more {k} e = more_kept mode c k so more plain_none e
+  -- a token that the character ends
+  module _ (so : Sort) (k : Token) (e : go_lem mode c ≡ Ends k.kind so) (sk : sort k ≡ so) (f : spelling k ≡ held ++ c ∷ []) where
+    come : drop (length read) (spelling k) ≡ more ++ c ∷ []
+    come = to_come read (more ++ c ∷ []) k (f ∙ longer)
+
+    lone : is_lone k ≡ false
+    lone = not_lone mode held c k so holds e f
+
+    spot_is : keep_spot (spot_in read s mode more) c (keep_lem s.seen mode c) ≡ behind s.seen s.spot k.kind (more ++ c ∷ [])
+    spot_is =
+        let kept : kept_held mode more ++ option_list (keep_lem s.seen mode c) ≡ kept_by s.seen k.kind (more ++ c ∷ []) =
+        subst (KeptGo s.seen (kept_held mode more ++ option_list (keep_lem s.seen mode c)) more c) e kept_next in
+        rw (next_goes read s more c, bytes_goes read s mode more c (kept_by s.seen k.kind (more ++ c ∷ [])) kept) refl
+
+    last_is : bytes_past s.spot.kept (kept_held mode more) ≡ last_by s.spot k (more ++ c ∷ [])
+    last_is = rw (lone, but_end_is more c) (ap (bytes_past s.spot.kept) (more_kept mode c k.kind so more plain_none e))
+
+    outs_are : went_outs (kept_stage stage c) (Ends k.kind so) (bytes_past s.spot.kept (kept_held mode more)) ≡ whole_by s.seen s.spot k (more ++ c ∷ [])
+    outs_are =
+        ap (λ (x : Spot). token_outs s.seen x k.kind so (bytes_past s.spot.kept (kept_held mode more))) spot_is
+        ∙ ap (token_outs s.seen (behind s.seen s.spot k.kind (more ++ c ∷ [])) k.kind so) last_is
+        ∙ ap (λ (x : Sort). token_outs s.seen (behind s.seen s.spot k.kind (more ++ c ∷ [])) k.kind x (last_by s.spot k (more ++ c ∷ []))) (sym sk)
+        ∙ whole_same s.seen s.spot k (more ++ c ∷ [])
+
+    state_is : went_stage (kept_stage stage c) (Ends k.kind so) ≡ past_token read s k
+    state_is =
+        ap (λ (x : Spot). record { mode = Plain; seen = after_lem s.seen k.kind so; spot = spot_lem s.seen x k.kind so x.next; done = false }) spot_is
+        ∙ ap (λ (x : Sort). record { mode = Plain; seen = after_lem s.seen k.kind x; spot = spot_lem s.seen (behind s.seen s.spot k.kind (more ++ c ∷ [])) k.kind x (past s.spot.next (more ++ c ∷ [])); done = false }) (sym sk)
+        ∙ ap (λ (x : List ℕ). record { mode = Plain; seen = after_lem s.seen k.kind (sort k); spot = spot_lem s.seen (behind s.seen s.spot k.kind x) k.kind (sort k) (past s.spot.next x); done = false }) (sym come)
+
+    lists_are : given_in read s mode more ++ (given_early ++ (given_kept ++ whole_by s.seen s.spot k (more ++ c ∷ []))) ∷ [] ≡ lists_past read s [] k
+    lists_are =
+        let whole = whole_by s.seen s.spot k (more ++ c ∷ []) in
+        let lists : given_in read s mode more ++ (given_early ++ given_kept) ∷ [] ≡ with_first (early_by s.seen s.spot.place read k.kind) (lists_kept s.seen s.spot.next k.kind (more ++ c ∷ [])) =
+        subst (ListsGo read s.seen s.spot.place s.spot.next (given_in read s mode more ++ (given_early ++ given_kept) ∷ []) more c) e given_next in
+        let now : cond (is_lone k) [] whole ≡ whole = ap (λ (b : Bool). cond b [] whole) lone in
+        ap (λ (x : List TextOut). given_in read s mode more ++ x ∷ []) (sym (append_assoc given_early given_kept whole))
+        ∙ sym (with_more whole (given_in read s mode more) (given_early ++ given_kept))
+        ∙ ap (with_last whole) lists
+        ∙ ap (λ (x : List TextOut). with_last x (with_first (early_by s.seen s.spot.place read k.kind) (lists_kept s.seen s.spot.next k.kind (more ++ c ∷ [])))) (sym now)
+        ∙ ap (λ (x : List ℕ). with_last (cond (is_lone k) [] (whole_by s.seen s.spot k x)) (with_first (early_by s.seen s.spot.place read k.kind) (lists_kept s.seen s.spot.next k.kind x))) (sym come)
+
+    none_owed : owed_at read s (k ∷ []) ≡ []
+    none_owed = ap (λ (b : Bool). cond b (whole_by s.seen s.spot k (drop (length read) (spelling k))) []) lone
+
+    ends_token : Runs t → ((u : List ℕ) → tokens (held ++ c ∷ u) ≡ k ∷ tokens u) → Reading (Ends k.kind so)
+    ends_token ih cuts =
+        let spelled : held ++ c ∷ t ≡ spelling k ++ t = sym (append_assoc held (c ∷ []) t) ∙ ap (λ (x : List ℕ). x ++ t) (sym f) in
+        let run = ih [] (past_token read s k) Plain [] [] refl refl in (
+          ap (λ (x : List TextOut). given_in read s mode more ++ ((given_early ++ (given_kept ++ x)) ∷ stepwise (went_stage (kept_stage stage c) (Ends k.kind so)) t)) outs_are
+              ∙ moved (given_in read s mode more) (given_early ++ (given_kept ++ whole_by s.seen s.spot k (more ++ c ∷ []))) (stepwise (went_stage (kept_stage stage c) (Ends k.kind so)) t)
+              ∙ ap (λ (x : List (List TextOut)). x ++ stepwise (went_stage (kept_stage stage c) (Ends k.kind so)) t) lists_are
+              ∙ ap (λ (x : TextStage). lists_past read s [] k ++ stepwise x t) state_is
+              ∙ ap (λ (x : List (List TextOut)). lists_past read s [] k ++ x) run.0
+              ∙ ap (λ (x : List (List TextOut)). lists_past read s [] k ++ x) (sym (none_first (ahead [] (past_token read s k) t)))
+              ∙ ap (λ (x : List TextOut). lists_past read s [] k ++ with_first x (ahead [] (past_token read s k) t)) (sym none_owed)
+              ∙ sym (ahead_more read s k (held ++ c ∷ t) t (cuts t) spelled (ends_uncut mode c k.kind so e)),
+          ap (λ (x : TextStage). LeftAt x c t) state_is ∙ run.1 ∙ sym (remaining_more k (held ++ c ∷ t) t (cuts t) spelled),
+        )
 
   read_gives : Runs t → (mode ≡ Plain → c == 40 ≡ false) → settled_lem mode c ≡ None → Reading (go_lem mode c)
   read_gives ih plain e = by (go_lem mode c) refl (goes mode held c holds e plain)
@@ -290,7 +309,7 @@ module _ (c : ℕ) (t : List ℕ) (read : List ℕ) (s : TextStage) (mode : Mode
       by : (w : Went) → go_lem mode c ≡ w → WentBy w held c → Reading w
       by (Stays next) f h = stays next ih f h
       by (Ends d so) f h =
-          subst (λ (x : Kind). Reading (Ends x so)) h.kind_is (ends_token so ih (h.token, f ∙ ap (λ (x : Kind). Ends x so) (sym h.kind_is), h.sort_is, h.spelled, h.cuts))
+          subst (λ (x : Kind). Reading (Ends x so)) h.kind_is (ends_token so h.token (f ∙ ap (λ (x : Kind). Ends x so) (sym h.kind_is)) h.sort_is h.spelled ih h.cuts)
 
   -- a character before which no token ends
   settled_gives : Runs t → settled_lem mode c ≡ None → From read s mode more held c t (settled_push_outs stage c) (settled_push stage c)
@@ -376,7 +395,7 @@ finish read s mode more held here holds = by (at_end_lem mode) refl (ends mode h
 
     token : (k : Token) → at_end_lem mode ≡ Some k.kind → spelling k ≡ held → tokens held ≡ k ∷ [] → EndingOf read s mode more held (Some k.kind)
     token k e f g =
-        let so : sort k ≡ Other = end_other s.spot.place [] mode k k.kind e refl in
+        let so : sort k ≡ Other = end_other mode k k.kind e refl in
         let cl = closed read s mode more k (to_come read more k (f ∙ here)) so (end_closing read s mode held more k k.kind holds e f) in
         let owes = token_outs s.seen (spot_in read s mode more) k.kind Other s.spot.start in
         let cut : tokens (held ++ []) ≡ k ∷ [] = ap tokens (append-nil held) ∙ g in

@@ -18,7 +18,7 @@ use Rattle.gabc_text.proofs.Stepwise.{stepwise, stepwise_left}
 use Rattle.gabc_text.specs.Told.{Told, told_after, nothing_told, how_of_end}
 use Rattle.gabc_text.proofs.Counts.{bytes_append}
 use Rattle.gabc_text.proofs.Run.{rest_done}
-use Rattle.gabc_text.proofs.Steps.{fresh_gives}
+use Rattle.gabc_text.proofs.Fresh.{fresh_stepwise}
 use Rattle.gabc_text.proofs.Joined.{joined_nothing, points_joined}
 use Rattle.gabc_text.proofs.Gathering.{told_append, told_whole}
 
@@ -93,7 +93,7 @@ pub record Meant (at : Place) (t : List ℕ) (told : Told) (index : ℕ) : Type 
 pub all_meant : (at : Place) (t : List ℕ) (told : Told) (index : ℕ) (rest : List ℕ) → Fits at t → told ≡ told_after nothing_told (joined (stepwise (fresh at) t))
     → rest ≡ stepwise_left (fresh at) t → index + bytes_of rest ≡ bytes_of t → Meant at t told index
 all_meant at t told index rest fits e f g =
-    let r = fresh_gives at t fits in
+    let r = fresh_stepwise at t fits in
     let all = e ∙ ap (λ (x : List (List TextOut)). told_after nothing_told (joined x)) r.0 ∙ ap (told_after nothing_told) (points_joined at t) ∙ told_whole at t in
     let left : rest ≡ drop (length_of t) t = f ∙ r.1 in
     let whole : bytes_of t ≡ bytes_of (take (length_of t) t) + bytes_of (drop (length_of t) t) =

@@ -1,5 +1,5 @@
 -- What the code keeps of the tokens so far is what the definitions say of them.
-use Rattle.std.proofs.Common.{◌≡◌, ℕ, List, [], ◌∷◌, Bool, true, false, not, cond, ◌||◌, ◌&&◌, refl, Some, None, is_some}
+use Rattle.std.proofs.Common.{◌≡◌, ℕ, List, ◌∷◌, not, ◌||◌, ◌&&◌, refl, is_some}
 use Rattle.gabc_text.specs.declared.styles.Style.{Style}
 use Rattle.gabc_text.specs.declared.styles.Style.TheVariants.{B, C, E, I, Sc, Tt, Ul}
 use Rattle.gabc_text.specs.declared.seen.Seen.{Seen}
@@ -7,11 +7,10 @@ use Rattle.gabc_text.specs.declared.token.Kind.{Kind}
 use Rattle.gabc_text.specs.declared.token.Kind.TheVariants.{Letter, Blank, Comment, Stray, Begin, End, Tag, Raw, Translation, OpenTag, OpenTranslation}
 use Rattle.gabc_text.specs.declared.token.Sort.{Sort}
 use Rattle.gabc_text.specs.declared.token.Sort.TheVariants.{Opens, Closes, Mark, Begins, Other}
-use Rattle.gabc_text.specs.Step.{option_list}
 use Rattle.gabc_text.specs.Outs.{styles_of}
 use Rattle.gabc_text.specs.Token.{Token, spelling, sort_of}
-use Rattle.gabc_text.specs.View.{sort, sort_as, is_open, is_open_after, has_word, follows_blank, follows_space, has_begin, has_end, has_translation, starts_word, is_left_out, piece_kind, is_word_kind, late_codes, is_space, is_begin, is_end, is_translation}
-use Rattle.gabc_text.specs.Machine.{has_lem, left_out_lem, code_lem, after_lem, after_tag}
+use Rattle.gabc_text.specs.View.{sort, sort_as, is_open, is_open_after, has_word, follows_blank, follows_space, has_begin, has_end, has_translation, starts_word, is_left_out, piece_kind, is_word_kind, is_space, is_begin, is_end, is_translation}
+use Rattle.gabc_text.specs.Machine.{has_lem, left_out_lem, after_lem, after_tag}
 
 abbrev pub seen_of : List Token → Seen
 seen_of before = record {
@@ -40,24 +39,6 @@ left_out_of before Stray = refl
 left_out_of before Begin = refl
 left_out_of before End = refl
 left_out_of before _ = refl
-
-when : {X : Type 0} (b : Bool) (x : X) → option_list (cond b (Some x) None) ≡ cond b (x ∷ []) []
-when true x = refl
-when false x = refl
-
-unless : {X : Type 0} (b : Bool) (x : X) → option_list (cond b None (Some x)) ≡ cond b [] (x ∷ [])
-unless true x = refl
-unless false x = refl
-
-pub code_of : (before : List Token) (k : Kind) (s : Sort) → option_list (code_lem (seen_of before) k s) ≡ late_codes before k s
-code_of before Stray s = refl
-code_of before Begin s = when (has_begin before) _
-code_of before End s = unless (has_begin before && not (has_end before)) _
-code_of before Tag (Opens r) = rw (has_of before r) (when (is_open r before) _)
-code_of before Tag (Closes r) = rw (has_of before r) (unless (is_open r before) _)
-code_of before Tag Other = refl
-code_of before Tag _ = refl
-code_of before _ s = refl
 
 -- what is seen after a token of this kind and sort
 abbrev grown : List Token → Kind → Sort → Seen

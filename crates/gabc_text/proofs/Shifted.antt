@@ -11,7 +11,8 @@ use Rattle.gabc_text.specs.declared.stage.TextOut.TheVariants as out
 use Rattle.gabc_text.specs.Token.{Token, spelling}
 use Rattle.gabc_text.specs.View.{along, is_open_kind, is_space}
 use Rattle.gabc_text.specs.Outs.{is_lone, with_first, with_last, nothing_each, end_by_rest}
-use Rattle.gabc_text.specs.Rest.{seen_at, spot_at, read_at, ahead_at, whole_by, early_by, lists_kept, each_kept, lists_past, lists_last, owed_at, how_at, leaves_out, end_given_by}
+use Rattle.gabc_text.specs.Past.{leaves_out}
+use Rattle.gabc_text.specs.Rest.{seen_at, spot_at, read_at, ahead_at, whole_by, early_by, lists_kept, each_kept, lists_past, lists_last, owed_at, how_at, end_given_by}
 use Rattle.gabc_text.proofs.Run.{onto}
 use Rattle.gabc_text.proofs.Since.{seen_on, spot_on, read_on, read_none, past_token}
 
@@ -69,9 +70,6 @@ owed_first seen spot owes k others =
     ∙ first_append owes (with_last now (with_first early kept)) others (some_last now (with_first early kept) (some_first early kept (some_lists seen spot.next k.kind k.first k.more)))
 
 module _ (read : List ℕ) (s : TextStage) where
-  pub past_is : (before : List Token) (k : Token) → lists_past read s before k ≡ lists_by (seen_at read s before) (spot_at read s before) (read_at read s before) (owed_at read s before) k
-  past_is before k = refl
-
   -- what is given from some token on
   abbrev pub lists_from : List Token → List Token → List ℕ → List (List TextOut)
   lists_from before ks rest = along (lists_past read s) before ks ++ lists_last read s (onto ks before) rest
@@ -110,8 +108,8 @@ module _ (read : List ℕ) (s : TextStage) (k : Token) where
   behind_first : (ks : List Token) (rest : List ℕ) → is_open_kind k.kind ≡ false → lists_from read s (k ∷ []) ks rest ≡ with_first (owed_at read s (k ∷ [])) (lists_from [] next_state [] ks rest)
   behind_first [] rest e =
       rw (e) (
-        ap (λ (x : Seen). (owed_at read s (k ∷ []) ++ end_given_by x (spot_at read s (k ∷ [])) false (end_by_rest rest)) ∷ nothing_each rest) (seen_on s.seen k [])
-        ∙ ap (λ (x : Spot). (owed_at read s (k ∷ []) ++ end_given_by (seen_at [] next_state []) x false (end_by_rest rest)) ∷ nothing_each rest) (spot_on read s k []))
+      ap (λ (x : Seen). (owed_at read s (k ∷ []) ++ end_given_by x (spot_at read s (k ∷ [])) false (end_by_rest rest)) ∷ nothing_each rest) (seen_on s.seen k [])
+      ∙ ap (λ (x : Spot). (owed_at read s (k ∷ []) ++ end_given_by (seen_at [] next_state []) x false (end_by_rest rest)) ∷ nothing_each rest) (spot_on read s k []))
   behind_first (x ∷ ks) rest e =
       append_assoc (lists_past read s (k ∷ []) x) (along (lists_past read s) (x ∷ k ∷ []) ks) _
       ∙ ap (λ (l : List (List TextOut)). lists_past read s (k ∷ []) x ++ l) (on_more ks x [] rest)

@@ -17,7 +17,8 @@ use Rattle.gabc_text.specs.Token.{Token, spelling, sort_of}
 use Rattle.gabc_text.specs.View.{sort, sort_as, is_open_after, has_word, has_begin, has_translation, piece_kind, is_word_kind, is_space, is_begin, is_end, is_translation}
 use Rattle.gabc_text.specs.Machine.{after_lem, after_tag, piece_lem}
 use Rattle.gabc_text.specs.Step.{up, later, spot_lem, pieces_lem, blank_lem, begin_lem, end_lem}
-use Rattle.gabc_text.specs.Rest.{is_open_past, blank_past, begun_past, ended_past, space_past, starts_past, seen_past, past, bytes_past, leaves_out, piece_by, kept_by, kept_behind, seen_at, read_at, ahead_at, text_since, kept_since, bytes_at, spot_at, waiting_by}
+use Rattle.gabc_text.specs.Past.{is_open_past, blank_past, begun_past, ended_past, space_past, starts_past, seen_past, past, bytes_past, leaves_out}
+use Rattle.gabc_text.specs.Rest.{piece_by, kept_by, kept_behind, seen_at, read_at, ahead_at, text_since, kept_since, bytes_at, spot_at, waiting_by}
 
 -- ---- what was seen
 

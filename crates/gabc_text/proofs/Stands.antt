@@ -18,7 +18,7 @@ use Rattle.gabc_text.specs.declared.stage.TextOut.{TextOut}
 use Rattle.gabc_text.specs.Token.{ending_of, sort_in, tags}
 use Rattle.gabc_text.specs.Mode.{wanted_lem, in_raw_lem}
 use Rattle.gabc_text.specs.Step.{option_list, char_out, went_outs, went_stage, kept_stage, push_stage, push_outs}
-use Rattle.gabc_text.specs.Rest.{letters_of, stands_for}
+use Rattle.gabc_text.specs.Begun.{letters_of, stands_for}
 use Rattle.gabc_text.proofs.Stepwise.{stepwise, stepwise_left}
 use Rattle.gabc_text.proofs.Cutting.{lacks}
 use Rattle.gabc_text.proofs.Endings.{front_none}
@@ -121,15 +121,30 @@ within_is_below Alt m = omega arith
 
 holds_raw : (raw : RawKind) (m : ℕ) → InRaw raw (within_ending raw m) (stands_for (Raw raw m))
 holds_raw V m = record {
-  s = codes "v"; r = take (within_ending V m) (ending_of V); held_is = refl; tag_lacks = refl; begins = refl; below = within_is_below V m;
+  s = codes "v";
+  r = take (within_ending V m) (ending_of V);
+  held_is = refl;
+  tag_lacks = refl;
+  begins = refl;
+  below = within_is_below V m;
   matched = record { q = []; split = refl; goes = λ t. front_none _ };
 }
 holds_raw Sp m = record {
-  s = codes "sp"; r = take (within_ending Sp m) (ending_of Sp); held_is = refl; tag_lacks = refl; begins = refl; below = within_is_below Sp m;
+  s = codes "sp";
+  r = take (within_ending Sp m) (ending_of Sp);
+  held_is = refl;
+  tag_lacks = refl;
+  begins = refl;
+  below = within_is_below Sp m;
   matched = record { q = []; split = refl; goes = λ t. front_none _ };
 }
 holds_raw Alt m = record {
-  s = codes "alt"; r = take (within_ending Alt m) (ending_of Alt); held_is = refl; tag_lacks = refl; begins = refl; below = within_is_below Alt m;
+  s = codes "alt";
+  r = take (within_ending Alt m) (ending_of Alt);
+  held_is = refl;
+  tag_lacks = refl;
+  begins = refl;
+  below = within_is_below Alt m;
   matched = record { q = []; split = refl; goes = λ t. front_none _ };
 }
 

@@ -13,18 +13,28 @@ use Rattle.gabc_text.specs.declared.mode.Went.TheVariants.{Stays, Ends}
 use Rattle.gabc_text.specs.declared.seen.Seen.{Seen}
 use Rattle.gabc_text.specs.declared.stage.TextOut.{TextOut}
 use Rattle.gabc_text.specs.declared.stage.TextOut.TheVariants as out
-use Rattle.gabc_text.specs.Token.{single, is_blank, is_one_of}
+use Rattle.gabc_text.specs.declared.name.Word.TheVariants as word
+use Rattle.gabc_text.specs.Token.{Token, spelling, single, is_blank, is_one_of, is_text}
 use Rattle.gabc_text.specs.View.{is_space, is_translation}
-use Rattle.gabc_text.specs.Outs.{nothing_each, with_first}
+use Rattle.gabc_text.specs.Outs.{nothing_each, with_first, but_last, is_lone}
 use Rattle.gabc_text.specs.Machine.{early_lem, left_out_lem}
 use Rattle.gabc_text.specs.Mode.{is_plain_lem, go_lem, begin_lem, keep_lem, keep_first_lem, is_blank_kind, tag_ends_lem, wanted_lem}
 use Rattle.gabc_text.specs.Name.{sort_named_lem}
 use Rattle.gabc_text.specs.Step.{option_list, char_out, found_out, later, bytes_lem}
-use Rattle.gabc_text.specs.Rest.{past, bytes_past, kept_by, each_kept, lists_kept, early_by}
+use Rattle.gabc_text.specs.Past.{past, bytes_past}
+use Rattle.gabc_text.specs.Rest.{kept_by, each_kept, lists_kept, early_by}
 use Rattle.gabc_text.proofs.Names.{by_case}
 use Rattle.gabc_text.proofs.Going.{kept_held, is_within, is_kept_whole, IsKept, within_kept, keep_within, held_within}
 use Rattle.gabc_text.proofs.Modes.{Holds}
-use Rattle.gabc_text.proofs.Held.{held_some}
+
+-- a token of which something was read has a first character
+pub held_some : (mode : Mode) (held : List ℕ) → Holds mode held → is_plain_lem mode ≡ false → (c : ℕ) × (s : List ℕ) × (held ≡ c ∷ s)
+held_some Plain held h e = absurd (cc)
+held_some Dollar held h e = (36, [], h)
+held_some Comment held h e = (37, h.s, h.held_is)
+held_some (Tag name) held h e = (60, h.s, h.held_is)
+held_some (Raw raw m) held h e = (60, (h.s ++ 62 ∷ []) ++ h.r, h.held_is)
+held_some Translation held h e = (91, h.s, h.held_is)
 
 abbrev pub in_translation : Mode → Bool
 in_translation Translation = true
@@ -218,7 +228,7 @@ module _ (read : List ℕ) (seen : Seen) (place next : Place) where
       by : (m : Mode) (r more : List ℕ) → is_plain_lem m ≡ false → Holds m (r ++ more)
           → with_first (told_early seen place r (in_translation m)) (each_held m more) ++ ks ∷ [] ≡ with_first (told_early seen place r (in_translation m)) (each_held m more ++ ks ∷ [])
       by m (x ∷ r) more e h = ap (λ (l : List (List TextOut)). l ++ ks ∷ []) (none_first (each_held m more)) ∙ sym (none_first (each_held m more ++ ks ∷ []))
-      by m [] [] e h = let (x, s, f) = held_some place [] m [] h e in absurd (cc)
+      by m [] [] e h = let (x, s, f) = held_some m [] h e in absurd (cc)
       by Plain [] (x ∷ more) e h = absurd (cc)
       by Dollar [] (x ∷ more) e h = refl
       by Comment [] (x ∷ more) e h = refl
@@ -272,3 +282,38 @@ module _ (read : List ℕ) (seen : Seen) (place next : Place) where
           rw (none_early m e, lists_more read seen place next m more (option_list (char_out (past next more) (keep_lem seen m c))) e h)
           (lists_both read seen place next (go_lem m c) (in_translation m) (each_held read seen place next m more ++ option_list (char_out (past next more) (keep_lem seen m c)) ∷ []) more c
           (told_goes m c e) (each_goes read seen place next m more c e))
+
+-- ---- a token that its last character ends
+
+pub but_last_is : (x : ℕ) (xs held : List ℕ) (c : ℕ) → x ∷ xs ≡ held ++ c ∷ [] → but_last x xs ≡ held
+but_last_is x [] [] c e = refl
+but_last_is x [] (h ∷ []) c e = absurd (cc)
+but_last_is x [] (h ∷ i ∷ hs) c e = absurd (cc)
+but_last_is x (y ∷ ys) [] c e = absurd (cc)
+but_last_is x (y ∷ ys) (h ∷ hs) c e =
+    let f : y ∷ ys ≡ hs ++ c ∷ [] = cc in
+    let g = but_last_is y ys hs c f in cc
+
+-- a token that its last character ends is no `$` by itself
+pub not_lone : (mode : Mode) (held : List ℕ) (c : ℕ) (k : Token) (so : Sort) → Holds mode held → go_lem mode c ≡ Ends k.kind so → spelling k ≡ held ++ c ∷ [] → is_lone k ≡ false
+not_lone Plain held c k so h e f = by (c == 36) refl e
+  where
+    by : (b : Bool) → c == 36 ≡ b → cond b (Stays Dollar) (cond (c == 37) (Stays Comment) (cond (c == 60) (Stays (Tag (record { closing = false; word = word.Start }))) (cond (c == 91) (Stays Translation) (Ends (single c) Other)))) ≡ Ends k.kind so → is_lone k ≡ false
+    by true g i = absurd (cc)
+    by false g i = ap (is_text (codes "$")) (f ∙ ap (λ (x : List ℕ). x ++ c ∷ []) h) ∙ rw g refl
+not_lone mode held c k so h e f = other mode refl h
+  where
+    longer : (x : ℕ) (s : List ℕ) → is_text (codes "$") (x ∷ (s ++ c ∷ [])) ≡ false
+    longer x [] = no (x == 36)
+      where
+        no : (b : Bool) → (b && false) ≡ false
+        no true = refl
+        no false = refl
+    longer x (y ∷ s) = no (x == 36)
+      where
+        no : (b : Bool) → (b && false) ≡ false
+        no true = refl
+        no false = refl
+
+    other : (m : Mode) → is_plain_lem m ≡ false → Holds m held → is_lone k ≡ false
+    other m g h = let (x, s, i) = held_some m held h g in ap (is_text (codes "$")) (f ∙ ap (λ (y : List ℕ). y ++ c ∷ []) i) ∙ longer x s

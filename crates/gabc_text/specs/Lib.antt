@@ -1,11 +1,11 @@
+pub mod Begun
 pub mod Canonical
 pub mod Changes
-pub mod Ends
 pub mod Machine
 pub mod Mode
 pub mod Name
 pub mod Outs
-pub mod Raw
+pub mod Past
 pub mod Read
 pub mod Rest
 pub mod Printed
@@ -14,3 +14,5 @@ pub mod Step
 pub mod Told
 pub mod Token
 pub mod View
+pub mod Ends
+pub mod Raw

@@ -82,6 +82,7 @@ nothing_lem = record {
   starts = false;
 }
 
+-- after a piece that is no blank and no span mark
 abbrev pub after_piece : Seen → Seen
 after_piece s = record s { word = true; blank = false; space = false }
 

@@ -1,15 +1,12 @@
 -- What a stage still gives of a text, in any state. A state stands between two tokens or within one. A text of the token that
 -- it stands in, and then the characters to come, are the tokens ahead; what was seen before one of them is what the state has
 -- seen, with the tokens since. In these definitions `before` are the tokens since, the nearest first: before the first none.
-use Rattle.std.specs.Prelude.{ℕ, ◌-◌, List, [], ◌∷◌, ◌++◌, Bool, true, false, cond, not, ◌||◌, ◌&&◌, length, take, drop, min, map, Option, Some, None, is_some, reverse, codes}
+use Rattle.std.specs.Prelude.{ℕ, List, [], ◌∷◌, ◌++◌, Bool, cond, not, ◌&&◌, length, drop, map, Option, Some, None, is_some, reverse}
 use Rattle.std.specs.List.{list_any}
-use Rattle.std.specs.Char.{len_utf8}
 use Rattle.gabc_places.specs.declared.place.Place.{Place}
 use Rattle.gabc_places.specs.declared.place.Span.{Span}
 use Rattle.gabc_places.specs.declared.code.Code.{Code}
 use Rattle.gabc_places.specs.declared.code.Code.TheVariants.{E2, W3, W4, W5, W6}
-use Rattle.gabc_text.specs.declared.styles.Style.{Style}
-use Rattle.gabc_text.specs.declared.styles.Style.TheVariants as style
 use Rattle.gabc_text.specs.declared.styles.Styles.{Styles}
 use Rattle.gabc_text.specs.declared.view.PieceKind.{PieceKind}
 use Rattle.gabc_text.specs.declared.view.PieceKind.TheVariants as piece
@@ -18,12 +15,6 @@ use Rattle.gabc_text.specs.declared.token.Kind.{Kind}
 use Rattle.gabc_text.specs.declared.token.Kind.TheVariants as kind
 use Rattle.gabc_text.specs.declared.token.Sort.{Sort}
 use Rattle.gabc_text.specs.declared.token.Sort.TheVariants.{Opens, Closes, Other}
-use Rattle.gabc_text.specs.declared.token.RawKind.{RawKind}
-use Rattle.gabc_text.specs.declared.token.RawKind.TheVariants as raw
-use Rattle.gabc_text.specs.declared.name.Word.{Word}
-use Rattle.gabc_text.specs.declared.name.Word.TheVariants as word
-use Rattle.gabc_text.specs.declared.mode.Mode.{Mode}
-use Rattle.gabc_text.specs.declared.mode.Mode.TheVariants.{Plain, Dollar, Comment, Tag, Raw, Translation}
 use Rattle.gabc_text.specs.declared.seen.Seen.{Seen}
 use Rattle.gabc_text.specs.declared.stage.Spot.{Spot}
 use Rattle.gabc_text.specs.declared.stage.TextStage.{TextStage}
@@ -33,127 +24,14 @@ use Rattle.gabc_text.specs.declared.stage.TextEnd.{TextEnd}
 use Rattle.gabc_text.specs.declared.stage.TextEnd.TheVariants as ending
 use Rattle.gabc_text.specs.declared.stage.TextOut.{TextOut}
 use Rattle.gabc_text.specs.declared.stage.TextOut.TheVariants as out
-use Rattle.gabc_text.specs.Token.{Token, spelling, tokens, ending_of}
-use Rattle.gabc_text.specs.View.{along, sort, kind_of, piece_kind, is_open_after, is_space, has_word, is_begin, is_end, has_begin, is_translation, has_translation, is_open_kind, is_cut, all_styles, centre_by}
-use Rattle.gabc_text.specs.Outs.{but_last, nothing_each, is_lone, is_whole_translation, with_first, with_last, listed, count_by, end_by_rest, after_tokens}
+use Rattle.gabc_text.specs.Token.{Token, spelling, tokens}
+use Rattle.gabc_text.specs.View.{along, sort, kind_of, piece_kind, is_space, is_begin, is_end, is_translation, is_open_kind, is_cut, all_styles, centre_by}
+use Rattle.gabc_text.specs.Outs.{nothing_each, is_lone, is_whole_translation, with_first, with_last, listed, count_by, end_by_rest, after_tokens}
+use Rattle.gabc_text.specs.Said.{but_end}
 use Rattle.gabc_text.specs.Machine.{has_lem}
 use Rattle.gabc_text.specs.Step.{up, later}
-
--- ---- what a state stands in
-
--- the letters of a tag's name so far; an x where they begin no name
-abbrev pub letters_of : Word → List ℕ
-letters_of word.Start = []
-letters_of word.B = codes "b"
-letters_of word.C = codes "c"
-letters_of word.E = codes "e"
-letters_of word.Eu = codes "eu"
-letters_of word.I = codes "i"
-letters_of word.S = codes "s"
-letters_of word.Sc = codes "sc"
-letters_of word.Sp = codes "sp"
-letters_of word.T = codes "t"
-letters_of word.Tt = codes "tt"
-letters_of word.U = codes "u"
-letters_of word.Ul = codes "ul"
-letters_of word.N = codes "n"
-letters_of word.Nl = codes "nl"
-letters_of word.Nlb = codes "nlb"
-letters_of word.Nlba = codes "nlba"
-letters_of word.V = codes "v"
-letters_of word.A = codes "a"
-letters_of word.Al = codes "al"
-letters_of word.Alt = codes "alt"
-letters_of word.Other = codes "x"
-
--- the tag that begins a raw part
-abbrev pub beginning_of : RawKind → List ℕ
-beginning_of raw.V = codes "<v>"
-beginning_of raw.Sp = codes "<sp>"
-beginning_of raw.Alt = codes "<alt>"
-
--- a text of the token that the mode stands in: nothing between tokens
-abbrev pub stands_for : Mode → List ℕ
-stands_for Plain = []
-stands_for Dollar = codes "$"
-stands_for Comment = codes "%"
-stands_for (Tag name) = codes "<" ++ (cond name.closing (codes "/") [] ++ letters_of name.word)
-stands_for (Raw raw m) = beginning_of raw ++ take (min m (length (ending_of raw) - 1)) (ending_of raw)
-stands_for Translation = codes "["
-
--- ---- what was seen before a token
-
--- the nearest tag of the style opens it, or it was open
-abbrev pub is_open_past : Style → Bool → List Token → Bool
-is_open_past s was [] = was
-is_open_past s was (k ∷ before) = is_open_after s (sort k) (is_open_past s was before)
-
-abbrev pub styles_past : Styles → List Token → Styles
-styles_past was before = record {
-  b = is_open_past style.B was.b before;
-  c = is_open_past style.C was.c before;
-  e = is_open_past style.E was.e before;
-  i = is_open_past style.I was.i before;
-  sc = is_open_past style.Sc was.sc before;
-  tt = is_open_past style.Tt was.tt before;
-  ul = is_open_past style.Ul was.ul before;
-}
-
--- of the tokens that are blanks or pieces, the nearest is a blank
-abbrev pub blank_past : Bool → List Token → Bool
-blank_past was [] = was
-blank_past was (k ∷ before) = is_space k.kind || (not (is_some (kind_of k)) && blank_past was before)
-
-abbrev pub begun_past : Seen → List Token → Bool
-begun_past seen before = has_begin before || seen.begun
-
--- a `}` stands after a `{`
-abbrev pub ended_past : Seen → List Token → Bool
-ended_past seen [] = seen.ended
-ended_past seen (k ∷ before) = (is_end k.kind && begun_past seen before) || ended_past seen before
-
--- a comment, a stray character, or a brace that is not the first `{` or the first `}` after it
-abbrev pub leaves_out : Seen → Kind → Bool
-leaves_out seen kind.Comment = true
-leaves_out seen kind.Stray = true
-leaves_out seen kind.Begin = seen.begun
-leaves_out seen kind.End = not (seen.begun && not seen.ended)
-leaves_out seen _ = false
-
--- the nearest token that isn't left out is a blank
-abbrev pub space_past : Seen → List Token → Bool
-space_past seen [] = seen.space
-space_past seen (k ∷ before) =
-    is_space k.kind || (leaves_out (record seen { begun = begun_past seen before; ended = ended_past seen before }) k.kind && space_past seen before)
-
--- a blank before which no piece stands but span marks
-abbrev pub starts_past : Seen → List Token → Bool
-starts_past seen [] = seen.starts
-starts_past seen (k ∷ before) = (is_space k.kind && not (has_word before || seen.word)) || starts_past seen before
-
-abbrev pub seen_past : Seen → List Token → Seen
-seen_past seen before = record {
-  styles = styles_past seen.styles before;
-  word = has_word before || seen.word;
-  blank = blank_past seen.blank before;
-  space = space_past seen before;
-  begun = begun_past seen before;
-  ended = ended_past seen before;
-  translated = has_translation before || seen.translated;
-  starts = starts_past seen before;
-}
-
--- ---- counts: one that has reached its last value stays there
-
--- the place behind these characters
-abbrev pub past : Place → List ℕ → Place
-past p [] = p
-past p (c ∷ cs) = past (later p c) cs
-
--- how many bytes are kept with these
-abbrev pub bytes_past : ℕ → List ℕ → ℕ
-bytes_past n [] = n
-bytes_past n (c ∷ cs) = bytes_past (up n (len_utf8 c)) cs
+use Rattle.gabc_text.specs.Begun.{stands_for}
+use Rattle.gabc_text.specs.Past.{seen_past, leaves_out, past, bytes_past}
 
 -- ---- what a token gives of its characters to come, by what was seen before it and where it begins
 
@@ -161,6 +39,7 @@ bytes_past n (c ∷ cs) = bytes_past (up n (len_utf8 c)) cs
 abbrev pub kept_by : Seen → Kind → List ℕ → List ℕ
 kept_by seen k cs = cond (leaves_out seen k) [] (cond (is_space k) (cond seen.space [] (32 ∷ [])) cs)
 
+-- each character with its place, the first at this one
 abbrev pub each_kept : Place → List ℕ → List (List TextOut)
 each_kept p [] = []
 each_kept p (c ∷ cs) = (out.Kept (record { c = c; place = p }) ∷ []) ∷ each_kept (later p c) cs
@@ -176,10 +55,6 @@ lists_kept seen p k cs =
 abbrev pub piece_by : Seen → Kind → Sort → Option PieceKind
 piece_by seen k so = cond (is_space k && (seen.word && not seen.blank)) (Some piece.Blank) (piece_kind k so)
 
-abbrev pub but_end : List ℕ → List ℕ
-but_end [] = []
-but_end (c ∷ cs) = but_last c cs
-
 -- how many bytes are kept before its last character: of a `$` by itself, before the token
 abbrev pub last_by : Spot → Token → List ℕ → ℕ
 last_by spot k cs = cond (is_lone k) spot.start (bytes_past spot.kept (but_end cs))
@@ -193,6 +68,7 @@ abbrev pub from_by : Spot → PieceKind → ℕ → ℕ
 from_by spot piece.Char last = last
 from_by spot _ last = spot.start
 
+-- a piece of this kind, where so many bytes are kept before the token's last character, and so many behind it
 abbrev pub piece_there : Seen → Spot → PieceKind → ℕ → ℕ → Piece
 piece_there seen spot kind last to = record { kind = kind; styles = seen.styles; span = record { from = from_by spot kind last; to = to } }
 
@@ -204,6 +80,7 @@ parts_by seen spot k last to None =
     (cond (is_whole_translation k && not seen.translated) (part.Translation (record { from = up spot.start 1; to = last }) ∷ [])
     [])
 
+-- the finding of a tag that opens what is open, or closes what is not, or is not known
 abbrev pub tag_codes_by : Styles → Sort → List Code
 tag_codes_by styles (Opens r) = cond (has_lem styles r) (W3 ∷ []) []
 tag_codes_by styles (Closes r) = cond (has_lem styles r) [] (W3 ∷ [])
@@ -218,6 +95,7 @@ codes_by seen kind.End so = cond (seen.begun && not seen.ended) [] (W4 ∷ [])
 codes_by seen kind.Tag so = tag_codes_by seen.styles so
 codes_by seen _ so = []
 
+-- the findings of these codes at a place
 abbrev pub found_there : Place → List Code → List TextOut
 found_there p cs = map (λ (c : Code). out.Found (record { place = p; code = c })) cs
 
@@ -234,6 +112,7 @@ early_by seen p (c ∷ read) k = []
 
 -- ---- what the end gives, by what was seen and where it stands
 
+-- styles that are still open, and a centre that is
 abbrev pub codes_last : Seen → List Code
 codes_last seen =
     cond (list_any (λ r. has_lem seen.styles r) all_styles) (W3 ∷ []) []
@@ -249,6 +128,7 @@ end_given_by seen spot cut how =
 -- ---- the tokens ahead of a state, of whose first one some characters were read
 
 module _ (read : List ℕ) (s : TextStage) where
+  -- what was seen before the token
   abbrev pub seen_at : List Token → Seen
   seen_at before = seen_past s.seen before
 
@@ -271,9 +151,11 @@ module _ (read : List ℕ) (s : TextStage) where
   kept_since [] = []
   kept_since (k ∷ before) = kept_since before ++ kept_by (seen_at before) k.kind (ahead_at before k)
 
+  -- the place of the next character to come
   abbrev pub next_at : List Token → Place
   next_at before = past s.spot.next (text_since before)
 
+  -- how many bytes are kept before it
   abbrev pub bytes_at : List Token → ℕ
   bytes_at before = bytes_past s.spot.kept (kept_since before)
 
@@ -282,10 +164,12 @@ module _ (read : List ℕ) (s : TextStage) where
   place_at [] = s.spot.place
   place_at (k ∷ before) = next_at (k ∷ before)
 
+  -- how many bytes are kept before the token
   abbrev pub start_at : List Token → ℕ
   start_at [] = s.spot.start
   start_at (k ∷ before) = bytes_at (k ∷ before)
 
+  -- the piece that the token is, if any
   abbrev pub piece_at : List Token → Token → Option PieceKind
   piece_at before k = piece_by (seen_at before) k.kind (sort k)
 
@@ -294,9 +178,11 @@ module _ (read : List ℕ) (s : TextStage) where
   count_at [] = s.spot.pieces
   count_at (k ∷ before) = cond (is_some (piece_at before k)) (up (count_at before) 1) (count_at before)
 
+  -- the token, as a piece that is a blank
   abbrev pub blank_piece : List Token → Token → Piece
   blank_piece before k = record { kind = piece.Blank; styles = (seen_at before).styles; span = record { from = start_at before; to = bytes_at (k ∷ before) } }
 
+  -- a blank waits; any other piece takes it along
   abbrev pub waiting_by : List Token → Token → Option PieceKind → Option Piece → Option Piece
   waiting_by before k (Some piece.Blank) was = Some (blank_piece before k)
   waiting_by before k (Some _) was = None
@@ -307,15 +193,17 @@ module _ (read : List ℕ) (s : TextStage) where
   waiting_at [] = s.spot.blank
   waiting_at (k ∷ before) = waiting_by before k (piece_at before k) (waiting_at before)
 
-  -- how many pieces stand before the first `{`, and before the first `}` after it
+  -- how many pieces stand before the first `{`
   abbrev pub begin_at : List Token → Option ℕ
   begin_at [] = s.spot.begin
   begin_at (k ∷ before) = cond (is_begin k.kind && not (seen_at before).begun) (Some (count_at before)) (begin_at before)
 
+  -- how many stand before the first `}` after it
   abbrev pub end_at : List Token → Option ℕ
   end_at [] = s.spot.end
   end_at (k ∷ before) = cond (is_end k.kind && ((seen_at before).begun && not (seen_at before).ended)) (Some (count_at before)) (end_at before)
 
+  -- where the token begins, and what is counted before it
   abbrev pub spot_at : List Token → Spot
   spot_at before = record {
     place = place_at before;
@@ -328,6 +216,7 @@ module _ (read : List ℕ) (s : TextStage) where
     end = end_at before;
   }
 
+  -- what the token gives as a whole
   abbrev pub whole_at : List Token → Token → List TextOut
   whole_at before k = whole_by (seen_at before) (spot_at before) k (ahead_at before k)
 
@@ -344,6 +233,7 @@ module _ (read : List ℕ) (s : TextStage) where
       (with_first (owed_at before ++ early_by (seen_at before) (place_at before) (read_at before) k.kind)
       (lists_kept (seen_at before) (next_at before) k.kind (ahead_at before k)))
 
+  -- a text is cut if its last token is left open; it ends at the `(` that follows, or with the input
   abbrev pub how_at : List Token → List ℕ → TextEnd
   how_at [] rest = end_by_rest rest
   how_at (k ∷ before) rest = cond (is_open_kind k.kind) (ending.Cut (place_at before)) (end_by_rest rest)
