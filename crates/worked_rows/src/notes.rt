@@ -6,7 +6,7 @@ use gabc_notes::ItemKind::{
 use gabc_notes::SnippetHow::{Close, Cut, Next};
 use gabc_notes::*;
 use gabc_places::{Char, Code, Finding, Place, Room, Span, Stage, drive};
-use std::alloc::Global;
+use std::alloc::{AllocError, Global};
 use std::test::Fail;
 
 /// Snippets with their items.
@@ -73,25 +73,44 @@ const READ: [(&str, &[(ItemKind, &str)]); 21] = [
     ("-cc4", &[(NoteItem, "-c"), (Clef, "c4")]),
 ];
 
-#[test]
-fn reads_items(rt: HostRuntime) -> Result<(), Fail> {
-    for (text, want) in READ {
-        if !is_snippet(text) {
-            return Err("no snippet".into());
-        }
-        let items = items_whole(rt.alloc(), text)?;
-        let mut room = Room::with_limit(rt.alloc(), text.len())?;
-        items_into(text, &mut room);
-        assert_eq!(rt; room.slice(), items.as_slice(), "of {text:?}");
-        assert_eq!(rt; items.as_slice().len(), want.len(), "of {text:?}");
-        for (item, (kind, part)) in items.as_slice().iter().zip(want) {
-            assert_eq!(rt; item.kind, *kind, "of {text:?}");
-            let bytes = text.as_bytes().get(item.span.from..item.span.to);
-            assert_eq!(rt; bytes, Some(part.as_bytes()), "of {text:?}");
+/// Whether these are the items of a text with these kinds and spellings.
+fn are_items(text: &str, items: &[Item], wanted: &[(ItemKind, &str)]) -> bool {
+    for (item, (kind, part)) in items.iter().zip(wanted) {
+        let bytes = text.as_bytes().get(item.span.from..item.span.to);
+        if item.kind != *kind || bytes != Some(part.as_bytes()) {
+            return false;
         }
     }
-    for text in ["-", "[", "/[x", "g1", "gy#", "o", "é", "-c4", ",?1", "#"] {
-        assert!(rt; !is_snippet(text), "of {text:?}");
+    items.len() == wanted.len()
+}
+
+/// Whether both calls give the items of a text with these kinds and spellings.
+fn is_parted(alloc: Global, text: &str, wanted: &[(ItemKind, &str)]) -> Result<bool, AllocError> {
+    if !is_snippet(text) {
+        return Ok(false);
+    }
+    let items = items_whole(alloc, text)?;
+    let mut room = Room::with_limit(alloc, text.len())?;
+    items_into(text, &mut room);
+    Ok(room.slice() == items.as_slice() && are_items(text, items.as_slice(), wanted))
+}
+
+#[test]
+fn reads_items(rt: HostRuntime) -> Result<(), Fail> {
+    for (text, wanted) in &READ {
+        if !is_parted(rt.alloc(), text, wanted)? {
+            return Err((*text).into());
+        }
+    }
+    Ok(())
+}
+
+#[test]
+fn refuses_texts() -> Result<(), Fail> {
+    for text in &["-", "[", "/[x", "g1", "gy#", "o", "é", "-c4", ",?1", "#"] {
+        if is_snippet(text) {
+            return Err((*text).into());
+        }
     }
     Ok(())
 }
@@ -125,29 +144,35 @@ const NOTES: [(&str, u8, Shape, bool); 25] = [
     ("g=", 6, Shape::Linea, false),
 ];
 
+/// Whether a text is a note of this height and shape.
+fn is_note(text: &str, height: u8, shape: Shape, debilis: bool) -> bool {
+    let span = Span {
+        from: 0,
+        to: text.len(),
+    };
+    let wanted = Note {
+        height,
+        shape,
+        debilis,
+        span,
+    };
+    let kind = NoteItem;
+    note_of(text, Item { kind, span }) == Some(wanted)
+}
+
 #[test]
-fn tells_notes(rt: HostRuntime) {
-    for (text, height, shape, debilis) in NOTES {
-        let span = Span {
-            from: 0,
-            to: text.len(),
-        };
-        let want = Note {
-            height,
-            shape,
-            debilis,
-            span,
-        };
-        let kind = NoteItem;
-        assert_eq!(rt;
-            note_of(text, Item { kind, span }),
-            Some(want),
-            "of {text:?}"
-        );
+fn tells_notes() -> Result<(), Fail> {
+    for (text, height, shape, debilis) in &NOTES {
+        if !is_note(text, *height, *shape, *debilis) {
+            return Err((*text).into());
+        }
     }
     let span = Span { from: 0, to: 2 };
     let kind = Custos;
-    assert_eq!(rt; note_of("f+", Item { kind, span }), None);
+    if note_of("f+", Item { kind, span }).is_some() {
+        return Err("f+".into());
+    }
+    Ok(())
 }
 
 /// A body, whether `|` splits it, the macros, the kept text, the findings by their columns in line 1, and how it ends.
@@ -236,32 +261,39 @@ const ROWS: [Row; 24] = [
     ("f[nm1])", false, 2, "f[nm1]", &[], Close(6)),
 ];
 
-/// What is read of a body that begins a text.
-fn read(alloc: Global, body: &str, split: bool, macros: u16) -> Result<SnippetRead, Fail> {
+fn are_found(findings: &[Finding], wanted: &[(u64, Code)]) -> bool {
+    for (finding, (column, code)) in findings.iter().zip(wanted) {
+        let place = Place {
+            line: 1,
+            column: *column,
+        };
+        if *finding != (Finding { place, code: *code }) {
+            return false;
+        }
+    }
+    findings.len() == wanted.len()
+}
+
+/// Whether a body that begins a text is read so.
+fn is_read(alloc: Global, row: &Row) -> Result<bool, AllocError> {
+    let (body, split, macros, kept, findings, how) = *row;
     if body.len() > 40 {
-        return Err("too long".into());
+        return Ok(false);
     }
     let at = Place { line: 1, column: 1 };
-    Ok(snippet_whole(alloc, body, at, split, macros)?)
+    let read = snippet_whole(alloc, body, at, split, macros)?;
+    Ok(
+        read.kept.as_str() == kept
+            && read.how == how
+            && are_found(read.findings.as_slice(), findings),
+    )
 }
 
 #[test]
 fn reads_snippets(rt: HostRuntime) -> Result<(), Fail> {
-    for (body, split, macros, kept, findings, how) in ROWS {
-        let read = read(rt.alloc(), body, split, macros)?;
-        assert_eq!(rt; read.kept.as_str(), kept, "of {body:?}");
-        assert_eq!(rt; read.how, how, "of {body:?}");
-        assert_eq!(rt;
-            read.findings.as_slice().len(),
-            findings.len(),
-            "of {body:?}"
-        );
-        for (finding, (column, code)) in read.findings.as_slice().iter().zip(findings) {
-            let place = Place {
-                line: 1,
-                column: *column,
-            };
-            assert_eq!(rt; *finding, Finding { place, code: *code }, "of {body:?}");
+    for row in &ROWS {
+        if !is_read(rt.alloc(), row)? {
+            return Err(row.0.into());
         }
     }
     Ok(())
@@ -328,4 +360,6 @@ fn laws_are_called() {
     laws::one_end_is_told();
     laws::what_follows_tells_nothing();
     laws::findings_are_in_order();
+    laws::findings_lie_within();
+    laws::a_snippet_ends_at_its_mark();
 }

@@ -49,52 +49,48 @@ fn usual() -> Result<Limits, Fail> {
     Ok(Limits::new(65_536, 16_384, u32::MAX).ok_or("limits")?)
 }
 
+/// Whether a run wrote and answered this.
+fn is_ran(ran: &Ran, out: &[u8], messages: &[u8], status: Status) -> bool {
+    ran.out.held() == out && ran.messages.held() == messages && ran.status == status
+}
+
 #[test]
 fn takes_one_byte_a_write(rt: HostRuntime) -> Result<(), Fail> {
     let input = b"name: Kyrie;\n%%\n(c4) Ky(f)ri(gfg)e(e.) (::)";
     let output = b"name: Kyrie;\n%%\n(c4)\nKy(f)ri(gfg)e(e.)\n(::)\n";
     let ran = run(rt.alloc(), &job(true), usual()?, input, None, (64, 64))?;
-    assert_eq!(rt; ran.out.held(), output.as_slice());
-    assert_eq!(rt; ran.messages.held().len(), 0);
-    assert_eq!(rt; ran.status, Status::Whole);
+    assert!(rt; is_ran(&ran, output, b"", Status::Whole));
     Ok(())
 }
 
 #[test]
 fn keeps_warnings_back(rt: HostRuntime) -> Result<(), Fail> {
     let input = b"%%\n(/./)<x>a(f)";
+    let output = b"%%\n(//)<x>a(f)\n";
+    let message = "x.gabc:2:3: error: E1: character left out of the notes\n";
     let named = Job {
         input: Input::File(Name::new(rt.alloc(), "x.gabc")?),
         ..job(false)
     };
     let ran = run(rt.alloc(), &named, usual()?, input, None, (64, 96))?;
-    assert_eq!(rt; ran.out.held(), b"%%\n(//)<x>a(f)\n".as_slice());
-    let message = "x.gabc:2:3: error: E1: character left out of the notes\n";
-    assert_eq!(rt; ran.messages.held(), message.as_bytes());
-    assert_eq!(rt; ran.status, Status::Errors);
+    assert!(rt; is_ran(&ran, output, message.as_bytes(), Status::Errors));
     Ok(())
 }
 
 #[test]
 fn stops_where_reads_fail(rt: HostRuntime) -> Result<(), Fail> {
     let input = b"%%\nKy(f)ri(";
+    let job = job(false);
     for after in 0..=input.len() {
-        let ran = run(
-            rt.alloc(),
-            &job(false),
-            usual()?,
-            input,
-            Some(after),
-            (64, 96),
-        )?;
+        let ran = run(rt.alloc(), &job, usual()?, input, Some(after), (64, 96))?;
         let output = match after {
             0 | 1 => "",
             2..=7 => "%%\n",
             _ => "%%\nKy(f)\n",
         };
-        assert_eq!(rt; ran.out.held(), output.as_bytes(), "after {after}");
-        assert_eq!(rt; ran.messages.held().len(), 0, "after {after}");
-        assert_eq!(rt; ran.status, Status::ReadFault, "after {after}");
+        if !is_ran(&ran, output.as_bytes(), b"", Status::ReadFault) {
+            return Err(after.into());
+        }
     }
     Ok(())
 }
@@ -104,17 +100,19 @@ fn stops_where_writes_fail(rt: HostRuntime) -> Result<(), Fail> {
     let input = b"%%\nKy(f)ri(g)";
     let output = b"%%\nKy(f)ri(g)\n";
     let message = "<stdin>:1:1: warning: W1: no name header\n";
+    let job = job(true);
     for holds in 0..output.len() {
-        let ran = run(rt.alloc(), &job(true), usual()?, input, None, (holds, 64))?;
-        assert_eq!(rt; ran.out.held(), &output[..holds], "holds {holds}");
-        assert_eq!(rt; ran.messages.held().len(), 0, "holds {holds}");
-        assert_eq!(rt; ran.status, Status::WriteFault, "holds {holds}");
+        let ran = run(rt.alloc(), &job, usual()?, input, None, (holds, 64))?;
+        if !is_ran(&ran, &output[..holds], b"", Status::WriteFault) {
+            return Err(holds.into());
+        }
     }
     for holds in [0, 1, message.len() - 1] {
-        let ran = run(rt.alloc(), &job(true), usual()?, input, None, (64, holds))?;
-        assert_eq!(rt; ran.out.held(), output.as_slice(), "holds {holds}");
-        assert_eq!(rt; ran.messages.held(), &message.as_bytes()[..holds]);
-        assert_eq!(rt; ran.status, Status::WriteFault, "holds {holds}");
+        let ran = run(rt.alloc(), &job, usual()?, input, None, (64, holds))?;
+        let told = &message.as_bytes()[..holds];
+        if !is_ran(&ran, output, told, Status::WriteFault) {
+            return Err(holds.into());
+        }
     }
     Ok(())
 }
