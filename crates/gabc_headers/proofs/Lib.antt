@@ -36,3 +36,4 @@ pub mod WholeCases
 pub mod Within
 pub mod WholeRead
 pub mod Marked
+pub mod FrontHasTheSameHeaders

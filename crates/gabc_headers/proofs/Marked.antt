@@ -17,8 +17,8 @@ stopped : (limits : Limits) (t : List ℕ) → (o : Option ℕ) → (first : Sto
 stopped limits t None = some_earliest (text_stops limits.header t) [] _
 stopped limits t (Some k) = some_earliest (text_stops limits.header t) [] _
 
-pub score_behind : (limits : Limits) (t : List ℕ) (heads : Heads) → heads_of limits t ≡ Ok heads → head_len t + 2 ≤ length t
-score_behind limits t heads e = score_within t (by (has_score (lines t)) refl)
+pub has_score_line : (limits : Limits) (t : List ℕ) (heads : Heads) → heads_of limits t ≡ Ok heads → has_score (lines t) ≡ true
+has_score_line limits t heads e = by (has_score (lines t)) refl
   where
     by : (b : Bool) → has_score (lines t) ≡ b → has_score (lines t) ≡ true
     by true f = f
@@ -30,3 +30,6 @@ score_behind limits t heads e = score_within t (by (has_score (lines t)) refl)
       where
         none : {r : Result Heads HeadFault} → {h : HeadFault} → r ≡ Err h → r ≡ Ok heads → ⊥
         none f g = cc
+
+pub score_behind : (limits : Limits) (t : List ℕ) (heads : Heads) → heads_of limits t ≡ Ok heads → head_len t + 2 ≤ length t
+score_behind limits t heads e = score_within t (has_score_line limits t heads e)

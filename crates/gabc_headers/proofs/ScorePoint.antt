@@ -114,7 +114,7 @@ behind-append p (s ∷ ss) rs h k = (h.0, behind-append p ss rs h.1 k)
 
 -- ---- the limit
 
-above_within : (limit : ℕ) (t : List ℕ) (i : ℕ) → first_above limit t ≡ Some i → i < length t
+pub above_within : (limit : ℕ) (t : List ℕ) (i : ℕ) → first_above limit t ≡ Some i → i < length t
 above_within limit [] i h = absurd (cc)
 above_within limit (c ∷ t) i h = by (nat_lt limit (len_utf8 c)) h (first_above (limit - len_utf8 c) t) refl (λ n. above_within (limit - len_utf8 c) t n)
   where

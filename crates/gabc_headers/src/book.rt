@@ -12,14 +12,14 @@ use std::alloc::{AllocError, Global};
 use std::marker::Model;
 
 /// A header's name and value, as bytes of the book's text.
-#[derive(Clone, Copy)]
+#[derive(Clone, Copy, Debug)]
 pub(crate) struct Entry {
     pub name: Span,
     pub value: Span,
 }
 
 /// The headers of a text, in order. Contracts see the list of names and values, each the list of its characters.
-#[derive(Drop)]
+#[derive(Debug, Drop)]
 pub struct HeaderBook {
     text: String,
     entries: Vec<Entry>,
@@ -90,21 +90,21 @@ impl HeaderBook {
         Ok(())
     }
 
-    /// The number of headers.
+    /// Returns the number of headers.
     pub fn len(&self) -> usize
         ensures { result ≡ length self.now }
     {
         self.entries.len()
     }
 
-    /// Whether there are no headers.
+    /// Returns whether there are no headers.
     pub fn is_empty(&self) -> bool
         ensures { result ≡ (length self.now == 0) }
     {
         self.entries.is_empty()
     }
 
-    /// The name of the header with this index, from 0.
+    /// Returns the name of the header at `index`, from 0.
     pub fn name(&self, index: usize) -> &str
         requires { index < length self.now }
         ensures { IsSomeAnd (slice_get self.now index) (λ entry. chars result.now ≡ entry.0) }
@@ -113,7 +113,7 @@ impl HeaderBook {
         &self.text.as_str()[entry.name.from..entry.name.to]
     }
 
-    /// The value of the header with this index, from 0.
+    /// Returns the value of the header at `index`, from 0.
     pub fn value(&self, index: usize) -> &str
         requires { index < length self.now }
         ensures { IsSomeAnd (slice_get self.now index) (λ entry. chars result.now ≡ entry.1) }
@@ -122,7 +122,7 @@ impl HeaderBook {
         &self.text.as_str()[entry.value.from..entry.value.to]
     }
 
-    /// The value of the first header of a name.
+    /// Returns the value of the first header with this `name`, or `None` if there is none.
     pub fn get(&self, name: &str) -> Option<&str>
         ensures { MatchOption result (value_named (chars name.now) self.now ≡ None) (λ v. value_named (chars name.now) self.now ≡ Some (chars v.now)) }
     {
@@ -134,7 +134,7 @@ impl HeaderBook {
         None
     }
 
-    /// The number of lines of NABC: 0 or 1, by the header `nabc-lines`.
+    /// Returns the number of lines of NABC under each snippet of notes: 0 or 1, by the header `nabc-lines` (GregorioRef, "Headers").
     pub fn nabc_lines(&self) -> u8
         ensures { result ≡ nabc_lines_of self.now }
     {
@@ -144,7 +144,7 @@ impl HeaderBook {
         }
     }
 
-    /// Whether the macro of a digit is defined.
+    /// Returns whether the macro of `digit`, 0 to 9, is defined.
     pub fn is_macro(&self, digit: u8) -> bool
         requires { digit < 10 }
         ensures { result ≡ has_header (macro_name digit) self.now }
@@ -152,7 +152,7 @@ impl HeaderBook {
         self.get(macro_header(digit)).is_some()
     }
 
-    /// The number of bytes of the canonical header lines and `%%`.
+    /// Returns the number of bytes of the canonical header lines and `%%`.
     pub fn canonical_len(&self) -> usize
         ensures len { result ≡ bytes_len (canonical_heads self.now) }
         ensures bytes { result ≡ length (encode_utf8_all (canonical_heads self.now)) }

@@ -5,7 +5,7 @@ ghost use Rattle.std.specs.Str.{chars};
 ghost use Rattle.gabc_headers.specs.Canonical.{header_line, wants_lines};
 ghost use Rattle.gabc_headers.specs.Lines.{bytes_len, lines};
 
-/// Whether a value is written on lines of its own: it has several lines, or would end too early on its header's line.
+/// Returns whether `value` is written on lines of its own: it has several lines, or would end too early on its header's line.
 pub fn wants_own_lines(value: &str) -> bool
     ensures { result ≡ wants_lines (lines (chars value.now)) }
 {

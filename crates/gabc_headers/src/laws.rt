@@ -1,6 +1,6 @@
 //! Laws of the definitions alone. Each function's contract is a law, and its body does nothing.
 
-ghost use Rattle.std.specs.Prelude.{◌≡◌, ◌+◌, ◌≤◌, ℕ, List, [], length, take, Ok};
+ghost use Rattle.std.specs.Prelude.{◌≡◌, ◌+◌, ◌≤◌, ℕ, List, [], ◌++◌, length, take, Ok};
 ghost use Rattle.gabc_places.specs.declared.limits.Limits.{Limits};
 ghost use Rattle.gabc_places.specs.Findings.{AreInOrder, LieBetween};
 ghost use Rattle.gabc_places.specs.Place.{place_after};
@@ -46,4 +46,13 @@ pub fn the_body_follows_the_mark()
 /// Headers that are read whole have their findings at the first place of the text or later, and no later than the line `%%`.
 pub fn findings_lie_before_the_body()
     ensures { (limits : Limits) (t : List ℕ) (heads : Heads) → heads_of limits t ≡ Ok heads → LieBetween (line_place 1) (place_after (take (head_len t) t)) heads.findings }
+{}
+
+/// What stands behind the line `%%` is no matter to the headers: if those of a text are read whole, then with something else
+/// behind these two characters they end there too, and are read whole with the same book.
+pub fn the_headers_end_at_their_mark()
+    ensures length { (limits : Limits) (t more : List ℕ) (heads : Heads)
+        → heads_of limits t ≡ Ok heads → head_len (take (head_len t + 2) t ++ more) ≡ head_len t }
+    ensures book { (limits : Limits) (t more : List ℕ) (heads : Heads) → heads_of limits t ≡ Ok heads
+        → (other : Heads) × (heads_of limits (take (head_len t + 2) t ++ more) ≡ Ok other) × (other.book ≡ heads.book) }
 {}

@@ -1,4 +1,16 @@
 //! The headers of a chant score: names and values before the line `%%`.
+//!
+//! `gabc_places::text_of` gives the text, `Limits::DEFAULT` the usual limits:
+//!
+//! ```
+//! let text = Text::from_str(alloc, "name: Kyrie;\nmode: 1;\nmode: 8;\n%%\n")?;
+//! if let Ok(heads) = headers_whole(alloc, &text, Limits::DEFAULT)? {
+//!     let mode = heads.book.get("mode"); // Some("8")
+//!     for finding in &heads.findings {
+//!         let message = format!(in alloc; "{finding}")?; // "3:1: warning: W2: header given again"
+//!     }
+//! }
+//! ```
 #![tactic(auto)]
 
 mod book;

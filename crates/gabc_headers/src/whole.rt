@@ -13,7 +13,9 @@ use crate::told::End;
 use gabc_places::{Code, Fault, Finding, Findings, Limits, Place, Text};
 use std::alloc::{AllocError, Global};
 
-/// The headers of a text whose end is the input's end.
+/// Reads the headers of `text`, whose end is the input's end (GregorioRef, "Headers"). Answers the headers and where the score
+/// begins, or what stopped them: no line `%%` (F2), a value that is not ended (F3), more bytes than `limits.header` (F4), or than
+/// `limits.input` in canonical form (F7).
 pub fn headers_whole(
     alloc: Global,
     text: &Text,

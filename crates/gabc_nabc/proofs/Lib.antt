@@ -6,6 +6,7 @@ pub mod PartList
 pub mod NameRows
 pub mod Behind
 pub mod Fresh
+pub mod Stopping
 pub mod Gathering
 pub mod Going
 pub mod CodeList
@@ -14,3 +15,4 @@ pub mod TwoLetters
 pub mod Order
 pub mod Within
 pub mod GlyphCodes
+pub mod KeptText

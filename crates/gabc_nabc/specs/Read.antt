@@ -1,7 +1,8 @@
 -- What `nabc_whole` says of a text.
-use Rattle.std.specs.Prelude.{◌≡◌, ◌⊎◌, ℕ, List, [], ◌∷◌, ◌++◌, ◌==◌, if◌then◌else◌, length, drop, string_bytes, encode_utf8_all}
+use Rattle.std.specs.Prelude.{◌≡◌, ◌⊎◌, ℕ, List, [], ◌∷◌, ◌++◌, ◌==◌, if◌then◌else◌, length, take, drop, string_bytes, encode_utf8_all}
 use Rattle.gabc_places.specs.declared.code.Code.{Code}
 use Rattle.gabc_places.specs.declared.code.Finding.{Finding}
+use Rattle.gabc_places.specs.declared.place.Char.{Char}
 use Rattle.gabc_places.specs.declared.place.Place.{Place}
 use Rattle.gabc_places.specs.Law.{joined}
 use Rattle.gabc_patterns.specs.Function.{trim}
@@ -10,7 +11,7 @@ use Rattle.gabc_notes.specs.declared.read.SnippetHow.TheVariants.{Next, Close, C
 use Rattle.gabc_notes.specs.declared.read.SnippetRead.{SnippetRead}
 use Rattle.gabc_notes.specs.declared.stage.NoteEnd.{NoteEnd}
 use Rattle.gabc_notes.specs.declared.stage.NoteEnd.TheVariants as end
-use Rattle.gabc_notes.specs.Read.{findings_of}
+use Rattle.gabc_notes.specs.Read.{findings_of, kept_chars_of}
 use Rattle.gabc_places.specs.Place.{placed_from}
 use Rattle.gabc_nabc.specs.Table.{nabc}
 use Rattle.gabc_nabc.specs.Told.{is_end, kept_of, ended_by, told}
@@ -35,6 +36,10 @@ from_end t = drop (length (before_end t)) t
 abbrev pub kept_before : List ℕ → List ℕ → List ℕ
 kept_before front [] = kept_of front
 kept_before front (c ∷ cs) = trim nabc (kept_of front)
+
+-- the characters of the kept text, each with its place: of those that are told as kept as many as it has
+abbrev pub kept_chars_in : Place → List ℕ → List Char
+kept_chars_in at t = take (length (kept_before (before_end t) (from_end t))) (kept_chars_of (joined (told (placed_from at t))))
 
 -- the end that is told where the snippet ends before those characters
 abbrev pub end_before : List ℕ → NoteEnd

@@ -30,7 +30,7 @@ pub(crate) enum Class {
     Other,
 }
 
-/// The class of a character.
+/// Returns the class of a character.
 pub(crate) fn class_of(c: char) -> Class
     ensures { result ≡ class_of_character c }
 {

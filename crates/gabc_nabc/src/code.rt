@@ -11,9 +11,10 @@ impl GlyphCode {
     ghost use Rattle.std.specs.Prelude.{◌≡◌, MatchOption, Some, None};
     ghost use Rattle.gabc_nabc.specs.Names.{name_by};
 
-    /// Its name in this project's words, such as `virga` of `vi`. A code that the table of names lacks has none.
+    /// Returns its name in this project's words, such as `virga` of `vi`. A code that the table of names lacks has none.
     pub fn name(self) -> Option<&'static str>
-        ensures { MatchOption result (name_by self.first self.second ≡ None) (λ name. name_by self.first self.second ≡ Some name.now) }
+        ensures { let by_table = name_by self.first self.second in
+            MatchOption result (by_table ≡ None) (λ name. by_table ≡ Some name.now) }
     {
         crate::name::name_at(self.first, self.second)
     }

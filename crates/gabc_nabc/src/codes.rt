@@ -8,7 +8,7 @@ use crate::code::GlyphCode;
 use crate::descriptor::Descriptor;
 use gabc_places::Room;
 
-/// The code whose second letter stands at this place of the text, from 1.
+/// Returns the code whose second letter is the byte `at` of `text`, from 1, if one stands there.
 fn code_ending(text: &[u8], at: usize) -> Option<GlyphCode>
     requires from { 1 ≤ at }
     requires within { at < length text.now }
@@ -24,8 +24,9 @@ fn code_ending(text: &[u8], at: usize) -> Option<GlyphCode>
     }
 }
 
-/// Adds the codes of a descriptor's glyphs, in order: what stands at its front and behind each `!`. A space has none. A place for
-/// each byte of the descriptor is enough.
+/// Adds to `out` the codes of the glyphs of `part`, in order: what stands at its front and behind each `!`. A space has none. The
+/// span of `part` has to lie within `kept`, as that of each part of `descriptors_whole` does, and `out` to take as many codes more
+/// as `part` has bytes.
 pub fn codes_into(kept: &str, part: Descriptor, out: &mut Room<GlyphCode>)
     requires order { part.span.from ≤ part.span.to }
     requires within { part.span.to ≤ length kept.now }

@@ -11,7 +11,7 @@ use crate::state::{State, ends, goes_on};
 use gabc_places::{Room, Span};
 use std::alloc::{AllocError, Global};
 
-/// The longest part that begins the text: whether it is a space, and how many bytes it has.
+/// Returns the longest part that begins `text`: whether it is a space, and how many bytes it has.
 fn first_part(text: &str) -> Option<(bool, usize)>
     ensures found { IfSome result (λ i. IsFirstPart text.now i.0 i.1) }
     ensures none { IfNone result (0 < length text.now → ¬ IsNabc text.now) }
@@ -34,7 +34,9 @@ fn first_part(text: &str) -> Option<(bool, usize)>
     best
 }
 
-/// The descriptors and spaces of an NABC snippet. It fails only for want of memory.
+/// Returns the descriptors and spaces of `kept`, in order: spans that count its bytes, each part the longest that begins where the
+/// one before it ends. `kept` has to be an NABC snippet, as `is_nabc` tells; what `nabc_whole` keeps is one wherever the snippet
+/// ended. It fails only for want of memory.
 pub fn descriptors_whole(alloc: Global, kept: &str) -> Result<Descriptors, AllocError>
     requires { IsNabc kept.now }
     ensures { IfOk result (λ parts. AreDescriptorsOf kept.now parts) }
@@ -52,11 +54,13 @@ pub fn descriptors_whole(alloc: Global, kept: &str) -> Result<Descriptors, Alloc
     Ok(parts)
 }
 
-/// Adds the descriptors and spaces of an NABC snippet. A place for each byte of the snippet is enough.
+/// Adds to `out` the descriptors and spaces of `kept`, as `descriptors_whole` returns them, and asks for no memory. `kept` has to be
+/// an NABC snippet, as `is_nabc` tells, and `out` to take as many parts more as `kept` has bytes.
 pub fn descriptors_into(kept: &str, out: &mut Room<Descriptor>)
     requires kept { IsNabc kept.now }
     requires room { HasRoom out.old (length kept.now) }
-    ensures { (parts : List Descriptor) × AreDescriptorsOf kept.now parts × (out.new ≡ added out.old parts) }
+    ensures { (parts : List Descriptor) × AreDescriptorsOf kept.now parts ×
+        (out.new ≡ added out.old parts) }
 {
     let mut at = 0;
     while let Some((space, len)) = first_part(&kept[at..]) {

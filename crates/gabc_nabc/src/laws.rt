@@ -1,12 +1,14 @@
-//! Laws of the definitions that contracts speak of. The functions do nothing: each is there for its clauses.
+//! Laws of the definitions that contracts speak of. Each function is there for its clauses: all but one do nothing, and that one
+//! drives a fresh stage.
 
-ghost use Rattle.std.specs.Prelude.{◌≡◌, ◌≤◌, ◌+◌, ℕ, List, [], ◌∷◌, ◌++◌, Bool, length, take, map, true, encode_utf8_all, IsTrue, ◌↔◌};
+ghost use Rattle.std.specs.Prelude.{◌≡◌, ◌≤◌, ◌+◌, ◌*◌, ℕ, List, [], ◌∷◌, ◌++◌, Bool, length, take, map, true, encode_utf8_all, IsTrue, ◌↔◌};
 ghost use Rattle.gabc_places.specs.Findings.{AreInOrder, LieBetween};
+ghost use Rattle.gabc_places.specs.Held.{HasRoom, added};
 ghost use Rattle.gabc_places.specs.Law.{joined};
 ghost use Rattle.gabc_places.specs.declared.place.Place.{Place};
 ghost use Rattle.gabc_places.specs.declared.place.Char.{Char};
 ghost use Rattle.gabc_patterns.specs.Pattern.{Spells};
-ghost use Rattle.gabc_patterns.specs.Reading.{Reads, IsSnippet, IsViable};
+ghost use Rattle.gabc_patterns.specs.Reading.{Reads, IsItem, OneKind, IsSnippet, IsViable};
 ghost use Rattle.gabc_nabc.specs.Table.{nabc, code, descriptor};
 ghost use Rattle.gabc_nabc.specs.Codes.{HasCodesOfGlyphs};
 ghost use Rattle.gabc_nabc.specs.Told.{bytes_in, has_end, is_code, kept_of, told, told_at, told_behind, told_cut};
@@ -15,14 +17,39 @@ ghost use Rattle.gabc_notes.specs.Ends.{EndAtMost, AreCutAtMost};
 ghost use Rattle.gabc_places.specs.Place.{place_past, placed_from};
 ghost use Rattle.gabc_nabc.specs.Read.{before_end, from_end, kept_before, end_before, AreAtMostOne};
 
+use crate::stage::NabcStage;
+use gabc_notes::NoteOut;
+use gabc_places::{Char, Room, drive};
+
+/// A fresh stage, driven over all characters and then ended, gives what is told of them.
+pub fn a_fresh_stage_gives(inputs: Vec<Char>, out: &mut Room<NoteOut>)
+    requires { HasRoom out.old (3 * (length inputs.items + 1)) }
+    ensures { out.new ≡ added out.old (joined (told inputs.items)) }
+{
+    let mut stage = NabcStage::new();
+    drive(&mut stage, inputs, out);
+}
+
+/// No row of the table spells the empty text: what the laws of tables in `gabc_patterns` ask of a table.
+pub fn no_part_is_empty()
+    ensures { ¬ IsItem nabc [] }
+{}
+
+/// No text is spelled both as a space and as a descriptor.
+pub fn a_part_has_one_kind()
+    ensures { OneKind nabc }
+{}
+
 /// A text has at most one list of descriptors and spaces.
 pub fn descriptors_are_one()
-    ensures { (is js : List (Bool × List ℕ)) (t : List ℕ) → Reads nabc is t → Reads nabc js t → is ≡ js }
+    ensures { (is js : List (Bool × List ℕ)) (t : List ℕ) → Reads nabc is t →
+        Reads nabc js t → is ≡ js }
 {}
 
 /// A viable text is an NABC snippet with at most two characters more.
 pub fn two_characters_complete()
-    ensures { (t : List ℕ) → IsViable nabc t → (more : List ℕ) × (length more ≤ 2) × IsSnippet nabc (t ++ more) }
+    ensures { (t : List ℕ) → IsViable nabc t →
+        (more : List ℕ) × (length more ≤ 2) × IsSnippet nabc (t ++ more) }
 {}
 
 /// The two letters that W7 takes for a code are those that the table spells as one.
@@ -32,19 +59,24 @@ pub fn codes_are_two_letters()
 
 /// What is told of characters does not depend on what follows them, and behind the end nothing is told.
 pub fn what_follows_tells_nothing()
-    ensures front { (xs ys zs : List Char) → take (length xs) (told (xs ++ ys)) ≡ take (length xs) (told (xs ++ zs)) }
+    ensures front { (xs ys zs : List Char) →
+        take (length xs) (told (xs ++ ys)) ≡ take (length xs) (told (xs ++ zs)) }
     ensures end { (t : List ℕ) (xs : List Char) → has_end t ≡ true → joined (told_behind t xs) ≡ [] }
 {}
 
 /// The characters that are told as kept are what the table keeps of the text before the snippet's end.
 pub fn the_kept_text_is_told()
-    ensures { (xs : List Char) → kept_in (joined (told xs)) ≡ kept_of (before_end (map (λ x. x.c) xs)) }
+    ensures { (xs : List Char) →
+        kept_in (joined (told xs)) ≡ kept_of (before_end (map (λ x. x.c) xs)) }
 {}
 
 /// One end is told, with the bytes of the kept text: at most those of the characters that are told as kept.
 pub fn one_end_is_told()
-    ensures end { (xs : List Char) → (let t = map (λ x. x.c) xs in ends_of (joined (told xs)) ≡ (end_before (from_end t), bytes_in (kept_before (before_end t) (from_end t))) ∷ []) }
-    ensures bytes { (xs : List Char) → (let t = map (λ x. x.c) xs in bytes_in (kept_before (before_end t) (from_end t)) ≤ length (encode_utf8_all (kept_in (joined (told xs))))) }
+    ensures end { (xs : List Char) → (let t = map (λ x. x.c) xs in ends_of (joined (told xs))
+        ≡ (end_before (from_end t), bytes_in (kept_before (before_end t) (from_end t))) ∷ []) }
+    ensures bytes { (xs : List Char) → (let t = map (λ x. x.c) xs in
+        bytes_in (kept_before (before_end t) (from_end t))
+        ≤ length (encode_utf8_all (kept_in (joined (told xs))))) }
 {}
 
 /// What is told of a character has at most one finding, which stands at its place.
@@ -54,7 +86,8 @@ pub fn one_finding_a_character()
 
 /// The findings of a text are in the order of their places, none twice.
 pub fn findings_are_in_order()
-    ensures { (at : Place) (t : List ℕ) → AreInOrder (findings_of (joined (told (placed_from at t)))) }
+    ensures { (at : Place) (t : List ℕ) →
+        AreInOrder (findings_of (joined (told (placed_from at t)))) }
 {}
 
 /// The codes of a descriptor are the first two letters of its glyphs, in order.
@@ -65,7 +98,9 @@ pub fn codes_are_of_glyphs()
 /// What is told of a text through the character behind a front has its findings at the text's place or later, and no later
 /// than that character.
 pub fn findings_lie_within()
-    ensures { (at : Place) (front rest : List ℕ) → LieBetween at (place_past at front) (findings_of (joined (take (length front + 1) (told (placed_from at (front ++ rest)))))) }
+    ensures { (at : Place) (front rest : List ℕ) →
+        let events = joined (take (length front + 1) (told (placed_from at (front ++ rest)))) in
+        LieBetween at (place_past at front) (findings_of events) }
 {}
 
 /// Of a character at most one end is told, behind all else: at a `)` or a `|`. Of the end of the characters nothing is told

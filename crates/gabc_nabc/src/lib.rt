@@ -4,8 +4,37 @@
 //! The parts are the rows of one table (`specs/Table.antt`), which reads like the grammar. A text is read by taking at each
 //! place the longest part that begins there; a text that is read whole is an NABC snippet, and one that a snippet begins with
 //! is viable. Going left to right, a character is kept exactly if the kept text with it is viable.
+//!
+//! - `nabc_whole` reads the snippet with which a text begins: its kept text, its findings and its end. `kept_chars` gives the
+//!   characters of that kept text with their places in the source.
+//! - `is_nabc` tells whether a text is an NABC snippet. `descriptors_whole`, `descriptors_into` and `codes_into` read a kept text that
+//!   is one. Spans count its bytes. `name_of` names a code.
+//! - `NabcStage` reads the characters of a snippet one at a time.
+//! - `laws` has what follows of the definitions.
+//!
+//! Texts and places come from `gabc_places`: lines and columns from 1, a column a character. An NABC snippet of a score begins behind
+//! a `|`.
+//!
+//! ```
+//! let body = "vi pe7)";
+//! let read = nabc_whole(alloc, body, Place::START)?;
+//! assert_eq!(rt; read.kept.as_str(), "vipe"); // the `7` is left out, with E3 at column 6
+//! assert_eq!(rt; read.how, SnippetHow::Close(6));
+//! if is_nabc(&read.kept) {
+//!     let parts = descriptors_whole(alloc, &read.kept)?;
+//!     assert_eq!(rt; parts.as_slice(), [virga, pes].as_slice()); // `vi` and `pe`, from byte 2 to byte 4
+//! }
+//! codes_into("vipe", pes, &mut room);
+//! assert_eq!(rt;
+//!     room.slice().first().and_then(|code| code.name()),
+//!     Some("pes")
+//! );
+//! let chars = kept_chars(alloc, body, Place::START)?;
+//! assert_eq!(rt; chars.as_slice().last().map(|x| x.place.column), Some(5)); // of `e`
+//! ```
 #![tactic(auto)]
 
+mod chars;
 mod class;
 mod code;
 mod codes;
@@ -19,6 +48,7 @@ mod stage;
 mod state;
 mod whole;
 
+pub use chars::kept_chars;
 pub use code::GlyphCode;
 pub use codes::codes_into;
 pub use descriptor::{Descriptor, Descriptors};

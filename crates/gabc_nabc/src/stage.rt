@@ -3,6 +3,7 @@
 ghost use Rattle.std.specs.Prelude.{◌≡◌, List};
 ghost use Rattle.gabc_places.specs.declared.place.Char.{Char};
 ghost use Rattle.gabc_places.specs.Held.{HasRoom, added};
+ghost use Rattle.gabc_notes.specs.Ends.{is_ended};
 ghost use Rattle.gabc_nabc.specs.Told.{is_code, is_missing, ended_by, told};
 ghost use Rattle.gabc_nabc.specs.Machine.{first_at, looked, role_in, given_in, outputs, advanced, given_at, stage_after, cut_given, rest_of};
 
@@ -42,7 +43,7 @@ pub(crate) struct Given {
     pub(crate) second: Option<NoteOut>,
 }
 
-/// The first letter of a code whose second letter is to come: the last letter, in these states.
+/// Returns the first letter of a code whose second letter is to come: the last letter, in these states.
 fn first_letter(state: State, letter: char) -> Option<char>
     ensures { result ≡ first_at state letter }
 {
@@ -53,7 +54,7 @@ fn first_letter(state: State, letter: char) -> Option<char>
     }
 }
 
-/// Whether these are the letters of a code.
+/// Returns whether these are the letters of a code.
 fn makes_code(first: char, second: char) -> bool
     ensures { result ≡ is_code first second }
 {
@@ -66,7 +67,7 @@ fn makes_code(first: char, second: char) -> bool
     }
 }
 
-/// Whether a character ends a code that has no name, where `first` is the first letter of one.
+/// Returns whether a character ends a code that has no name, where `first` is the first letter of one.
 fn lacks_name(first: Option<char>, c: char) -> bool
     ensures { result ≡ is_missing first c }
 {
@@ -76,7 +77,7 @@ fn lacks_name(first: Option<char>, c: char) -> bool
     }
 }
 
-/// What is known of a character, by the state before it and the next one, if there is one.
+/// Returns what is known of a character, by the state before it and the next one, if there is one.
 fn look(state: State, next: Option<State>, letter: char, c: char) -> Seen
     ensures { result ≡ looked state next letter c }
 {
@@ -91,7 +92,7 @@ fn look(state: State, next: Option<State>, letter: char, c: char) -> Seen
     }
 }
 
-/// What becomes of a character.
+/// Returns what becomes of a character.
 fn role_of(comment: bool, viable: bool, c: char) -> Role
     ensures { result ≡ role_in comment viable c }
 {
@@ -106,7 +107,7 @@ fn role_of(comment: bool, viable: bool, c: char) -> Role
     }
 }
 
-/// How a character ends the snippet.
+/// Returns how a character ends the snippet.
 fn end_of(c: char) -> NoteEnd
     ensures { result ≡ ended_by c }
 {
@@ -117,7 +118,7 @@ fn end_of(c: char) -> NoteEnd
     }
 }
 
-/// What a character gives. The longest front of the kept text that is an NABC snippet has that many bytes.
+/// Returns what a character gives. The longest front of the kept text that is an NABC snippet has `whole` bytes.
 fn given_by(role: Role, seen: Seen, whole: usize, x: Char) -> Given
     ensures { result ≡ given_in role seen whole x }
 {
@@ -179,8 +180,8 @@ pub struct NabcStage {
 }
 
 impl NabcStage {
-    /// A stage before the first character of a snippet, which stands at `_at`; each character brings its own place.
-    pub fn new(_at: Place) -> NabcStage
+    /// Returns a stage before the first character of a snippet.
+    pub fn new() -> NabcStage
         ensures { (xs : List Char) → rest_of result xs ≡ told xs }
     {
         NabcStage {
@@ -252,6 +253,8 @@ impl Stage for NabcStage {
 
     ghost most_of = { λ _. 3 };
 
+    ghost is_end = { is_ended };
+
     fn most(&self) -> usize {
         3
     }
@@ -262,5 +265,6 @@ impl Stage for NabcStage {
 
     fn finish(&mut self, out: &mut Room<NoteOut>) {
         self.stop(out);
+        self.ended = true;
     }
 }

@@ -49,6 +49,7 @@ pub(crate) enum State {
     Space,
 }
 
+/// Returns whether it is a letter.
 fn is_letter(class: Class) -> bool
     ensures { result ≡ is_a_letter class }
 {
@@ -59,6 +60,7 @@ fn is_letter(class: Class) -> bool
     }
 }
 
+/// Returns whether it is a letter that is a pitch.
 fn is_pitch(class: Class) -> bool
     ensures { result ≡ is_a_pitch class }
 {
@@ -68,7 +70,7 @@ fn is_pitch(class: Class) -> bool
     }
 }
 
-/// A code begins.
+/// Returns where a part stands behind the first character of a code, if that may begin one.
 fn code_begins(class: Class) -> Option<State>
     ensures { result ≡ begun_code class }
 {
@@ -81,7 +83,7 @@ fn code_begins(class: Class) -> Option<State>
     }
 }
 
-/// A part begins.
+/// Returns where a part stands behind its first character, if that may begin one.
 fn begins(class: Class) -> Option<State>
     ensures { result ≡ begun class }
 {
@@ -92,7 +94,7 @@ fn begins(class: Class) -> Option<State>
     }
 }
 
-/// Points or letters begin behind a descriptor.
+/// Returns where a part stands behind the first character of points or letters.
 fn tail_begins(class: Class) -> Option<State>
     ensures { result ≡ in_tail class }
 {
@@ -104,7 +106,7 @@ fn tail_begins(class: Class) -> Option<State>
     }
 }
 
-/// The part goes on.
+/// Returns where the part stands with a character more, if it goes on.
 pub(crate) fn goes_on(state: State, class: Class) -> Option<State>
     ensures { result ≡ going_on state class }
 {
@@ -141,7 +143,7 @@ pub(crate) fn goes_on(state: State, class: Class) -> Option<State>
     }
 }
 
-/// Where the reading stands if the part ended at its longest so far.
+/// Returns where the reading stands if the part ended at its longest so far.
 fn falls_back(state: State) -> Option<State>
     ensures { result ≡ falling_back state }
 {
@@ -156,7 +158,7 @@ fn falls_back(state: State) -> Option<State>
     }
 }
 
-/// The part goes on, or it ended at its longest and the reading goes on from there.
+/// Returns where the reading stands with a character more: the part goes on, or it ended at its longest and another begins there.
 pub(crate) fn next_state(state: State, class: Class) -> Option<State>
     ensures { result ≡ following state class }
 {
@@ -169,7 +171,7 @@ pub(crate) fn next_state(state: State, class: Class) -> Option<State>
     }
 }
 
-/// Whether the part is a space, if it may end here.
+/// Returns whether the part is a space, if it may end here.
 pub(crate) fn ends(state: State) -> Option<bool>
     ensures { result ≡ ending state }
 {
@@ -181,7 +183,7 @@ pub(crate) fn ends(state: State) -> Option<bool>
     }
 }
 
-/// Whether what was read is an NABC snippet.
+/// Returns whether what was read is an NABC snippet.
 pub(crate) fn is_whole(state: State) -> bool
     ensures { result ≡ whole_at state }
 {

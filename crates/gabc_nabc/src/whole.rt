@@ -21,6 +21,7 @@ struct Reading {
 }
 
 impl Reading {
+    /// Returns a reading of nothing.
     fn new(alloc: Global) -> Reading
         ensures { gathered_in result ≡ nothing_gathered }
     {
@@ -45,7 +46,8 @@ impl Reading {
 
     /// Adds all that the stage gave.
     fn add_all(&mut self, outputs: &[NoteOut]) -> Result<(), AllocError>
-        ensures { OnOk result (gathered_in self.new ≡ with_outputs (gathered_in self.old) outputs.now) }
+        ensures { OnOk result (gathered_in self.new ≡
+            with_outputs (gathered_in self.old) outputs.now) }
     {
         for output in outputs {
             self.add(*output)?;
@@ -53,7 +55,7 @@ impl Reading {
         Ok(())
     }
 
-    /// The end, if it was told.
+    /// Returns the end, if it was told.
     fn told_end(&self) -> Option<(NoteEnd, usize)>
         ensures { result ≡ (gathered_in self.now).end }
     {
@@ -69,7 +71,8 @@ impl Reading {
     ) -> Result<(), AllocError>
         requires { room.old ≡ record { items = []; limit = 3 } }
         ensures stage { stage.new ≡ stage_after stage.old x.c }
-        ensures gathered { OnOk result (gathered_in self.new ≡ with_outputs (gathered_in self.old) (given_at stage.old x)) }
+        ensures gathered { let now = with_outputs (gathered_in self.old) (given_at stage.old x) in
+            OnOk result (gathered_in self.new ≡ now) }
         ensures room { OnOk result (room.new ≡ record { items = []; limit = 3 }) }
     {
         stage.take(x, room);
@@ -81,13 +84,14 @@ impl Reading {
     /// Ends the stage, and adds what it gives.
     fn close(&mut self, stage: &NabcStage, room: &mut Room<NoteOut>) -> Result<(), AllocError>
         requires { room.old ≡ record { items = []; limit = 3 } }
-        ensures { OnOk result (gathered_in self.new ≡ with_outputs (gathered_in self.old) (cut_given stage.now)) }
+        ensures { let now = with_outputs (gathered_in self.old) (cut_given stage.now) in
+            OnOk result (gathered_in self.new ≡ now) }
     {
         stage.stop(room);
         self.add_all(room.slice())
     }
 
-    /// Cuts the kept text to that many bytes.
+    /// Cuts the kept text to `len` bytes.
     fn cut(&mut self, len: usize)
         requires { IsCharBoundary (string_bytes self.old.kept) len }
         ensures kept { string_bytes self.new.kept ≡ take len (string_bytes self.old.kept) }
@@ -96,7 +100,7 @@ impl Reading {
         self.kept.truncate(len);
     }
 
-    /// What was read of a snippet that ends like this.
+    /// Returns what was read of a snippet that ends as `how` tells.
     fn ended(self, how: SnippetHow) -> SnippetRead
         ensures kept { string_bytes result.kept ≡ string_bytes self.kept }
         ensures findings { result.findings ≡ self.findings }
@@ -115,7 +119,7 @@ impl Reading {
     }
 }
 
-/// How a snippet ends behind so many bytes.
+/// Returns how a snippet ends at the byte `index`, by what the stage told.
 fn how_of(end: NoteEnd, index: usize) -> SnippetHow
     ensures { result ≡ how_of_end end index }
 {
@@ -126,8 +130,8 @@ fn how_of(end: NoteEnd, index: usize) -> SnippetHow
     }
 }
 
-/// The NABC snippet that begins `body`, up to its `)` or `|`, or the end of `body`. The first character of `body` stands at this
-/// place. It fails only for want of memory.
+/// Reads the NABC snippet with which `body` begins, up to its `)` or `|`, or the end of `body`. The first character of `body` stands
+/// at `at`, a line and a column from 1, as `gabc_places` counts them in a `Text`. It fails only for want of memory.
 pub fn nabc_whole(alloc: Global, body: &str, at: Place) -> Result<SnippetRead, AllocError>
     requires line { at.line + length body.now < 2 ^ 64 }
     requires column { at.column + length body.now < 2 ^ 64 }
@@ -135,7 +139,7 @@ pub fn nabc_whole(alloc: Global, body: &str, at: Place) -> Result<SnippetRead, A
 {
     let mut room = Room::with_limit(alloc, 3)?;
     let mut reading = Reading::new(alloc);
-    let mut stage = NabcStage::new(at);
+    let mut stage = NabcStage::new();
     let mut place = at;
     let mut index = 0;
     for c in body.chars() {

@@ -4,7 +4,9 @@ pub mod Snippets
 pub mod FirstItem
 pub mod Told
 pub mod LastItem
+pub mod EndsLast
 pub mod Looked
+pub mod Stopping
 pub mod Keeping
 pub mod OpenRaw
 pub mod ItemAt
@@ -12,8 +14,10 @@ pub mod ItemStates
 pub mod Opened
 pub mod Says
 pub mod Gathering
+pub mod KeptChars
 pub mod Reaching
 pub mod Positions
 pub mod Ordered
 pub mod ItemList
+pub mod KeptText
 pub mod Within

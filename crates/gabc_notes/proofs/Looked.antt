@@ -7,7 +7,7 @@ use Rattle.gabc_patterns.proofs.Standing.{run-append}
 use Rattle.gabc_patterns.proofs.Automaton.{reading, reading_of}
 use Rattle.gabc_notes.specs.Table.{gabc}
 use Rattle.gabc_notes.specs.Class.{class_of_character}
-use Rattle.gabc_notes.specs.Told.{is_attribute_kind, kind_at, macro_digit, seen, role_in, before_in, given_in, outputs, raw_with, nothing_more, follows, told}
+use Rattle.gabc_notes.specs.Told.{is_attribute_kind, kind_at, macro_digit, seen, role_in, before_in, given_in, outputs, raw_with, follows, told}
 use Rattle.gabc_notes.specs.Machine.{following, example, raw_state, attribute_state, digit_named, looked, name_on, named_after, example_name, advanced, rest_of}
 use Rattle.gabc_notes.specs.declared.item.ItemKind.{ItemKind}
 use Rattle.gabc_notes.specs.declared.stage.Name.{Name}
@@ -23,7 +23,7 @@ use Rattle.gabc_notes.specs.declared.state.Full.TheVariants.{Alteration as FullA
 use Rattle.gabc_notes.proofs.Machine.{machine, snippets_read}
 use Rattle.gabc_notes.proofs.Told.{at_end, raw_at, seen_at, seen_by, Alike, told_alike}
 use Rattle.gabc_places.specs.Held.{Held, added}
-use Rattle.gabc_places.specs.Law.{Gives}
+use Rattle.gabc_places.specs.Law.{Gives, silence}
 use Rattle.gabc_notes.specs.declared.stage.Given.{Given}
 
 -- whether a state lies inside raw
@@ -175,7 +175,7 @@ not_kept split comment s n c e = go (comment && not (c == 10)) (not (raw_state s
 -- what follows a character is what the stage tells from there on
 follow_rest : (st : NoteStage) (x : Char) (xs : List Char) (o : Option State) (e : Seen) (r : Role) → st.ended ≡ false
     → following st.state (class_of_character x.c) ≡ o → (o ≡ None → r ≡ Keep → ⊥)
-    → follows r (nothing_more xs) (told st.split st.macros (example st.state ++ x.c ∷ []) (raw_with e (example_name st.name) x.c) (before_in r st.before e x) xs)
+    → follows r (silence xs) (told st.split st.macros (example st.state ++ x.c ∷ []) (raw_with e (example_name st.name) x.c) (before_in r st.before e x) xs)
     (told st.split st.macros (example st.state) (example_name st.name) (before_in r st.before e x) xs)
     ≡ rest_of (advanced st r e o x) xs
 follow_rest st x xs o e Silent f g h = rw f refl
@@ -199,11 +199,11 @@ push_law st x xs o e r f g h k =
     (ap (λ (v : Seen). role_in st.split st.before.comment v x.c) (ap (λ (p : Option State). looked st.state p st.name) (sym a) ∙ sym h) ∙ (sym k ∙ b)) in
     let kept : Seen → List (List NoteOut) = λ v. told st.split st.macros (example st.state ++ x.c ∷ []) (raw_with v (example_name st.name) x.c) (before_in (role_in st.split st.before.comment v x.c) st.before v x) xs in
     let left : Seen → List (List NoteOut) = λ v. told st.split st.macros (example st.state) (example_name st.name) (before_in (role_in st.split st.before.comment v x.c) st.before v x) xs in
-    let all : Seen → List (List NoteOut) = λ v. outputs (given_in (role_in st.split st.before.comment v x.c) st.macros st.before v x) ∷ follows (role_in st.split st.before.comment v x.c) (nothing_more xs) (kept v) (left v) in
+    let all : Seen → List (List NoteOut) = λ v. outputs (given_in (role_in st.split st.before.comment v x.c) st.macros st.before v x) ∷ follows (role_in st.split st.before.comment v x.c) (silence xs) (kept v) (left v) in
     let one : Role → List (List NoteOut) = λ q. outputs (given_in q st.macros st.before e x)
-    ∷ follows q (nothing_more xs) (told st.split st.macros (example st.state ++ x.c ∷ []) (raw_with e (example_name st.name) x.c) (before_in q st.before e x) xs)
+    ∷ follows q (silence xs) (told st.split st.macros (example st.state ++ x.c ∷ []) (raw_with e (example_name st.name) x.c) (before_in q st.before e x) xs)
     (told st.split st.macros (example st.state) (example_name st.name) (before_in q st.before e x) xs) in
-    let outer : Bool → List (List NoteOut) = λ b. cond b (nothing_more (x ∷ xs)) (told st.split st.macros (example st.state) (example_name st.name) st.before (x ∷ xs)) in
+    let outer : Bool → List (List NoteOut) = λ b. cond b (silence (x ∷ xs)) (told st.split st.macros (example st.state) (example_name st.name) st.before (x ∷ xs)) in
     ap outer f
     ∙ (ap all same ∙ (ap one (sym k) ∙ ap (λ (l : List (List NoteOut)). outputs (given_in r st.macros st.before e x) ∷ l) (follow_rest st x xs o e r f (sym g) none)))
 

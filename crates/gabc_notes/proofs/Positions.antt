@@ -14,7 +14,7 @@ use Rattle.gabc_patterns.proofs.Functions.{trim_trims}
 use Rattle.gabc_notes.specs.Table.{gabc}
 use Rattle.gabc_notes.specs.Machine.{whole_at, raw_state}
 use Rattle.gabc_notes.specs.Raw.{InComment, IsOpenedAt}
-use Rattle.gabc_notes.specs.Told.{nothing_more}
+use Rattle.gabc_places.proofs.StageLaws.{joined_silence}
 use Rattle.gabc_notes.specs.Said.{Point, in_raw, marked, ends_in_comment, kept, is_comment, is_kept, is_in_raw, is_end, is_over, opener, bytes_of, at_end, said, cut, says_after}
 use Rattle.gabc_notes.specs.Read.{Stop, kept_of, ends_of, stop_after, kept_by, end_by}
 use Rattle.gabc_notes.specs.declared.stage.NoteEnd.{NoteEnd}
@@ -103,13 +103,9 @@ ends_append (Ended h n ∷ a) b = ap (λ (l : List (NoteEnd × ℕ)). (h, n) ∷
 ends_append (Found f ∷ a) b = ends_append a b
 ends_append (Kept x ∷ a) b = ends_append a b
 
-none_more : (xs : List Char) → joined (nothing_more xs) ≡ []
-none_more [] = refl
-none_more (x ∷ xs) = none_more xs
-
 -- what is told behind the end of the snippet
 pub over_joined : (split : Bool) (macros : ℕ) (back xs : List Char) → is_over split back ≡ true → joined (says_after split macros back xs) ≡ []
-over_joined split macros back xs o = ap (λ (l : List (List NoteOut)). joined l) (over_says split macros xs back o) ∙ none_more xs
+over_joined split macros back xs o = ap (λ (l : List (List NoteOut)). joined l) (over_says split macros xs back o) ∙ joined_silence xs
 
 pub cut_outs : (split : Bool) (back : List Char) → is_over split back ≡ false → cut split back ≡ Ended (end_by None back) (bytes_of (kept back)) ∷ []
 cut_outs split back o = ap (λ (b : Bool). cond b [] (Ended (end_by None back) (bytes_of (kept back)) ∷ [])) o

@@ -17,7 +17,7 @@ use Rattle.gabc_patterns.specs.Function.{trim}
 use Rattle.gabc_patterns.proofs.Functions.{trim_trims}
 use Rattle.gabc_notes.specs.Table.{gabc}
 use Rattle.gabc_notes.specs.Machine.{rest_of}
-use Rattle.gabc_notes.specs.Told.{nothing_more}
+use Rattle.gabc_places.proofs.StageLaws.{joined_silence}
 use Rattle.gabc_notes.specs.Said.{in_raw, found, ended_by, is_missing, Point, kept, is_comment, is_end, is_over, is_fused, is_unpaired, opener, item_at, macro_of, bytes_of, warnings, at_end, said, cut, says, says_after}
 use Rattle.gabc_notes.specs.Read.{Stop, kept_of, ends_of, findings_of, stop_after, index_of, kept_by, how_by}
 use Rattle.gabc_notes.specs.Heard.{Heard, heard_after, Fed, Closed, how_of_end}
@@ -145,11 +145,6 @@ goes split macros back x o n = go (is_comment (point back x)) refl (is_viable ga
           no_end = λ d. ap (end_of d) e;
           ends = ap ends_of e;
         }
-
--- behind the end nothing is found
-nothing_found : (xs : List Char) → findings_of (joined (nothing_more xs)) ≡ []
-nothing_found [] = refl
-nothing_found (x ∷ xs) = nothing_found xs
 
 -- the parts of equal values
 pub parts : {X : Type 0} (x y : X) (xs ys : List X) → x ∷ xs ≡ y ∷ ys → (x ≡ y) × (xs ≡ ys)
@@ -283,7 +278,7 @@ stops_at split macros all back xs x stage next h after index bytes how r f e l =
         kept_is = c.front ∙ ap (λ (s : Stop). encodes (kept_by s.mark s.back)) (sym stop);
         findings_are = here.findings ∙ (ap (λ (t : List Finding). h.findings ++ t) (sym (append-nil (findings_of (said split macros (point back x))))
             ∙ ap (λ (t : List Finding). findings_of (said split macros (point back x)) ++ t)
-            (sym (ap (λ (o : List (List NoteOut)). findings_of (joined o)) (over_says split macros xs (x ∷ back) (ap (λ (a : Bool). a || is_over split back) n.0)) ∙ nothing_found xs)))
+            (sym (ap (λ (o : List (List NoteOut)). findings_of (joined o)) (over_says split macros xs (x ∷ back) (ap (λ (a : Bool). a || is_over split back) n.0)) ∙ ap findings_of (joined_silence xs))))
             ∙ (ap (λ (t : List Finding). h.findings ++ t) (sym (findings_append (said split macros (point back x)) (joined (says_after split macros (x ∷ back) xs)))) ∙ r.findings));
         how_is = ap (λ (w : NoteEnd). how_of_end w index) ways ∙ (mark (x.c == 124) ∙ ap (λ (s : Stop). how_by s.mark s.back) (sym stop));
       })

@@ -6,6 +6,7 @@ use Rattle.std.specs.Option.{option_map_or}
 use Rattle.std.proofs.lemmas.List.Sums.{sum_by-append}
 use Rattle.gabc_places.specs.declared.code.Code.TheVariants.{E1, E6, W8, W10}
 use Rattle.gabc_places.specs.declared.place.Char.{Char}
+use Rattle.gabc_places.specs.Law.{silence}
 use Rattle.gabc_places.specs.declared.place.Place.{Place}
 use Rattle.gabc_patterns.specs.Reading.{IsSnippet, IsViable}
 use Rattle.gabc_patterns.specs.Derivative.{Munch, is_alive, is_snippet, is_viable}
@@ -16,7 +17,7 @@ use Rattle.gabc_patterns.proofs.Longest.{split_push}
 use Rattle.gabc_patterns.proofs.Standing.{Stands, state_of, after_char}
 use Rattle.gabc_notes.specs.Table.{gabc}
 use Rattle.gabc_notes.specs.Machine.{whole_at, raw_state, attribute_state}
-use Rattle.gabc_notes.specs.Told.{ends_with_attribute, kind_at, is_attribute_kind, macro_digit, seen, role_in, before_in, fused_in, given_in, warning_in, outputs, raw_with, grown, cut_at, nothing_more, follows, told, nothing_before}
+use Rattle.gabc_notes.specs.Told.{ends_with_attribute, kind_at, is_attribute_kind, macro_digit, seen, role_in, before_in, fused_in, given_in, warning_in, outputs, raw_with, grown, cut_at, follows, told, nothing_before}
 use Rattle.gabc_notes.specs.Said.{in_raw, found, ended_by, is_missing, Point, points, uncommented, ends_in_comment, marked, kept, is_comment, is_in_raw, kept_with, is_kept, last_item, item_at, opens_fusion, closes_fusion, macro_of, is_fused, opener, bytes_of, is_end, is_over, is_unpaired, warnings, at_end, said, cut, says_after, says}
 use Rattle.gabc_notes.specs.declared.item.ItemKind.{ItemKind}
 use Rattle.gabc_notes.specs.declared.stage.Before.{Before}
@@ -381,12 +382,12 @@ module _ (split : Bool) (back : List Char) (raw : List ℕ) (b : Before) (x : Ch
 -- ---- all characters
 
 -- behind the end nothing is told
-pub over_says : (split : Bool) (macros : ℕ) (xs back : List Char) → is_over split back ≡ true → says_after split macros back xs ≡ nothing_more xs
+pub over_says : (split : Bool) (macros : ℕ) (xs back : List Char) → is_over split back ≡ true → says_after split macros back xs ≡ silence xs
 over_says split macros [] back e = ap (λ (o : Bool). cond o [] (Ended (Cut (cond (in_raw (kept back)) (opener back) (record { line = 0; column = 0 }))) (bytes_of (kept back)) ∷ []) ∷ []) e
 over_says split macros (x ∷ xs) back e =
     let later = over_says split macros xs (x ∷ back) (any (is_end split (point back x)) (is_over split back) e) in
     ap (λ (l : List (List NoteOut)). said split macros (point back x) ∷ l) later
-    ∙ ap (λ (l : List NoteOut). l ∷ nothing_more xs) (none (is_over split back) _ e)
+    ∙ ap (λ (l : List NoteOut). l ∷ silence xs) (none (is_over split back) _ e)
   where
     any : (a b : Bool) → b ≡ true → (a || b) ≡ true
     any true b f = refl
@@ -455,7 +456,7 @@ told_says split macros (x ∷ xs) back raw b h =
     go : (r : Role) → role_in split b.comment (seen (kept back) raw x.c) x.c ≡ r
         → ((r : List ℕ) (d : Before) → Holds split (x ∷ back) r d → told split macros (kept (x ∷ back)) r d xs ≡ says_after split macros (x ∷ back) xs)
         → outputs (given_in r macros b (seen (kept back) raw x.c) x)
-        ∷ follows r (nothing_more xs) (told split macros (kept back ++ x.c ∷ []) (raw_with (seen (kept back) raw x.c) raw x.c) (before_in r b (seen (kept back) raw x.c) x) xs)
+        ∷ follows r (silence xs) (told split macros (kept back ++ x.c ∷ []) (raw_with (seen (kept back) raw x.c) raw x.c) (before_in r b (seen (kept back) raw x.c) x) xs)
         (told split macros (kept back) raw (before_in r b (seen (kept back) raw x.c) x) xs)
         ≡ said split macros (point back x) ∷ says_after split macros (x ∷ back) xs
     go Silent e F =
@@ -471,7 +472,7 @@ told_says split macros (x ∷ xs) back raw b h =
     go Ends e F =
         let R = roles Ends e in
         let ended : is_end split (point back x) ≡ true = ap (λ (a : Bool). not a && (not (in_raw (kept back)) && ((x.c == 41) || (split && (x.c == 124))))) R.0 ∙ R.1 in
-        ap (λ (l : List NoteOut). l ∷ nothing_more xs) (mark_says macros back raw b x h.fused h.whole ∙ sym (pick_end _ _ _ _ _ _ _ h.over R.0 R.1))
+        ap (λ (l : List NoteOut). l ∷ silence xs) (mark_says macros back raw b x h.fused h.whole ∙ sym (pick_end _ _ _ _ _ _ _ h.over R.0 R.1))
         ∙ ap (λ (l : List (List NoteOut)). said split macros (point back x) ∷ l) (sym (over_says split macros xs (x ∷ back) (ap (λ (a : Bool). a || is_over split back) ended)))
     go LeaveOut e F =
         let R = roles LeaveOut e in

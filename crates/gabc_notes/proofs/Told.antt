@@ -1,10 +1,11 @@
 -- What is told of a snippet depends on the state of the machine alone.
 use Rattle.std.proofs.Common.{◌≡◌, ℕ, List, [], ◌∷◌, ◌++◌, Bool, true, false, cond, not, ◌&&◌, refl, sym, ap, ◌∙◌, codes, Option, append-nil, append_assoc}
 use Rattle.gabc_places.specs.declared.place.Char.{Char}
+use Rattle.gabc_places.specs.Law.{silence}
 use Rattle.gabc_patterns.specs.Derivative.{Munch, start, step, run, is_whole, is_alive}
 use Rattle.gabc_patterns.proofs.Standing.{run-append}
 use Rattle.gabc_notes.specs.Table.{gabc}
-use Rattle.gabc_notes.specs.Told.{is_attribute_kind, kind_at, macro_digit, seen, role_in, before_in, given_in, outputs, cut_at, raw_with, nothing_more, follows, told}
+use Rattle.gabc_notes.specs.Told.{is_attribute_kind, kind_at, macro_digit, seen, role_in, before_in, given_in, outputs, cut_at, raw_with, follows, told}
 use Rattle.gabc_notes.specs.Said.{in_raw}
 use Rattle.gabc_notes.specs.declared.item.ItemKind.{ItemKind}
 use Rattle.gabc_notes.specs.declared.stage.Before.{Before}
@@ -69,8 +70,8 @@ told_alike split macros (x ∷ xs) t u r s b e h =
     let after : Before = before_in role b v x in
     let kept = told_alike split macros xs (t ++ x.c ∷ []) (u ++ x.c ∷ []) (raw_with v r x.c) (raw_with v s x.c) after next (alike_with v r s x.c h) in
     let left = told_alike split macros xs t u r s after e h in
-    ap (λ (v : Seen). outputs (given_in (role_in split b.comment v x.c) macros b v x) ∷ follows (role_in split b.comment v x.c) (nothing_more xs)
+    ap (λ (v : Seen). outputs (given_in (role_in split b.comment v x.c) macros b v x) ∷ follows (role_in split b.comment v x.c) (silence xs)
     (told split macros (t ++ x.c ∷ []) (raw_with v r x.c) (before_in (role_in split b.comment v x.c) b v x) xs)
     (told split macros t r (before_in (role_in split b.comment v x.c) b v x) xs)) same
-    ∙ (ap (λ (k : List (List NoteOut)). outputs (given_in role macros b v x) ∷ follows role (nothing_more xs) k (told split macros t r after xs)) kept
-    ∙ ap (λ (k : List (List NoteOut)). outputs (given_in role macros b v x) ∷ follows role (nothing_more xs) (told split macros (u ++ x.c ∷ []) (raw_with v s x.c) after xs) k) left)
+    ∙ (ap (λ (k : List (List NoteOut)). outputs (given_in role macros b v x) ∷ follows role (silence xs) k (told split macros t r after xs)) kept
+    ∙ ap (λ (k : List (List NoteOut)). outputs (given_in role macros b v x) ∷ follows role (silence xs) (told split macros (u ++ x.c ∷ []) (raw_with v s x.c) after xs) k) left)

@@ -1,5 +1,5 @@
 -- Where an end is told.
-use Rattle.std.specs.Prelude.{◌≡◌, ℕ, List, [], ◌∷◌, ◌++◌, Bool, true, ◌⊎◌}
+use Rattle.std.specs.Prelude.{◌≡◌, ℕ, List, [], ◌∷◌, ◌++◌, Bool, true, false, ◌⊎◌}
 use Rattle.gabc_places.specs.declared.place.Place.{Place}
 use Rattle.gabc_notes.specs.Read.{ends_of}
 use Rattle.gabc_notes.specs.declared.stage.NoteEnd.{NoteEnd}
@@ -29,3 +29,8 @@ EndAtMost split c outs = (ends_of outs ≡ []) ⊎ EndWithMark split c outs
 -- The outputs are none, or that the characters were cut.
 abbrev pub AreCutAtMost : List NoteOut → Type 0
 AreCutAtMost outs = (outs ≡ []) ⊎ ((place : Place) × (bytes : ℕ) × (outs ≡ Ended (Cut place) bytes ∷ []))
+
+-- an output that ends a stage: that the snippet ended
+abbrev pub is_ended : NoteOut → Bool
+is_ended (Ended how bytes) = true
+is_ended _ = false

@@ -3,7 +3,8 @@ use Rattle.std.specs.Prelude.{ℕ, List, [], ◌∷◌, Bool, true, false, codes
 use Rattle.gabc_patterns.specs.Pattern.{is_in}
 use Rattle.gabc_notes.specs.Notes.{is_digit}
 use Rattle.gabc_places.specs.declared.place.Char.{Char}
-use Rattle.gabc_notes.specs.Told.{nothing_more, told, before_in}
+use Rattle.gabc_places.specs.Law.{silence}
+use Rattle.gabc_notes.specs.Told.{told, before_in}
 use Rattle.gabc_notes.specs.Said.{digit_if}
 use Rattle.gabc_notes.specs.declared.stage.NoteOut.{NoteOut}
 use Rattle.gabc_notes.specs.declared.stage.NoteStage.{NoteStage}
@@ -262,4 +263,4 @@ advanced st r e o x = record st { before = before_in r st.before e x }
 
 -- What a stage will still give for these characters, and then the end: it depends on a text that ends in its state.
 abbrev pub rest_of : NoteStage → List Char → List (List NoteOut)
-rest_of st xs = if st.ended then nothing_more xs else told st.split st.macros (example st.state) (example_name st.name) st.before xs
+rest_of st xs = if st.ended then silence xs else told st.split st.macros (example st.state) (example_name st.name) st.before xs

@@ -1,5 +1,5 @@
 -- What a snippet says as a whole.
-use Rattle.std.specs.Prelude.{◌≡◌, ℕ, sum_by, List, [], ◌∷◌, Bool, ◌==◌, if◌then◌else◌, Option, Some, None, string_bytes, encode_utf8_all}
+use Rattle.std.specs.Prelude.{◌≡◌, ℕ, sum_by, List, [], ◌∷◌, length, take, Bool, ◌==◌, if◌then◌else◌, Option, Some, None, string_bytes, encode_utf8_all}
 use Rattle.std.specs.Char.{len_utf8}
 use Rattle.gabc_places.specs.declared.code.Finding.{Finding}
 use Rattle.gabc_places.specs.declared.place.Char.{Char}
@@ -22,6 +22,12 @@ abbrev pub kept_of : List NoteOut → List ℕ
 kept_of [] = []
 kept_of (Kept x ∷ told) = x.c ∷ kept_of told
 kept_of (o ∷ told) = kept_of told
+
+-- those characters, each with its place
+abbrev pub kept_chars_of : List NoteOut → List Char
+kept_chars_of [] = []
+kept_chars_of (Kept x ∷ events) = x ∷ kept_chars_of events
+kept_chars_of (event ∷ events) = kept_chars_of events
 
 -- the findings, in order
 abbrev pub findings_of : List NoteOut → List Finding
@@ -50,6 +56,10 @@ stop_after split back (x ∷ xs) =
 abbrev pub kept_by : Option ℕ → List Char → List ℕ
 kept_by None back = kept back
 kept_by (Some c) back = trim gabc (kept back)
+
+-- the characters of the kept text, each with its place: of those that are told as kept as many as it has
+abbrev pub kept_chars_in : Bool → ℕ → List Char → List Char
+kept_chars_in split macros xs = let s = stop_after split [] xs in take (length (kept_by s.mark s.back)) (kept_chars_of (joined (says split macros xs)))
 
 -- the bytes of these characters
 abbrev pub index_of : List Char → ℕ

@@ -4,6 +4,7 @@ use Rattle.std.specs.Prelude.{ℕ, ◌+◌, ◌-◌, ◌^◌, min, List, [], ◌
 use Rattle.std.specs.Char.{len_utf8}
 use Rattle.gabc_places.specs.declared.code.Code.TheVariants.{E1, E6, W8, W10}
 use Rattle.gabc_places.specs.declared.place.Char.{Char}
+use Rattle.gabc_places.specs.Law.{silence}
 use Rattle.gabc_patterns.specs.Pattern.{is_in}
 use Rattle.gabc_patterns.specs.Derivative.{Munch, start, within, run, end_kind, is_snippet, is_viable}
 use Rattle.gabc_notes.specs.Table.{gabc}
@@ -108,11 +109,6 @@ cut_at raw b = Ended (Cut (if raw then b.place else record { line = 0; column = 
 abbrev pub raw_with : Seen → List ℕ → ℕ → List ℕ
 raw_with e raw c = if e.raw_after then raw ++ c ∷ [] else []
 
--- behind the end of the snippet: nothing, for each character and for the end
-abbrev pub nothing_more : List Char → List (List NoteOut)
-nothing_more [] = [] ∷ []
-nothing_more (x ∷ xs) = [] ∷ nothing_more xs
-
 -- what follows a character: nothing behind the end; kept if it was kept, else left
 abbrev pub follows : Role → List (List NoteOut) → List (List NoteOut) → List (List NoteOut) → List (List NoteOut)
 follows Ends over kept left = over
@@ -126,7 +122,7 @@ told split macros kept raw b (x ∷ xs) =
     let e = seen kept raw x.c in
     let r = role_in split b.comment e x.c in
     outputs (given_in r macros b e x)
-    ∷ follows r (nothing_more xs) (told split macros (kept ++ x.c ∷ []) (raw_with e raw x.c) (before_in r b e x) xs) (told split macros kept raw (before_in r b e x) xs)
+    ∷ follows r (silence xs) (told split macros (kept ++ x.c ∷ []) (raw_with e raw x.c) (before_in r b e x) xs) (told split macros kept raw (before_in r b e x) xs)
 
 -- before the first character
 abbrev pub nothing_before : Before

@@ -11,7 +11,7 @@ use crate::state::{State, ends, goes_on};
 use gabc_places::{Room, Span};
 use std::alloc::{AllocError, Global};
 
-/// The longest item that begins the text: its kind, and how many bytes it has.
+/// Returns the longest item that begins `text`: its kind, and how many bytes it has.
 fn first_item(text: &str) -> Option<(ItemKind, usize)>
     ensures found { IfSome result (λ i. IsFirstItem text.now i.0 i.1) }
     ensures none { IfNone result (0 < length text.now → ¬ IsKept text.now) }
@@ -34,7 +34,9 @@ fn first_item(text: &str) -> Option<(ItemKind, usize)>
     best
 }
 
-/// The items of a snippet. It fails only for want of memory.
+/// Returns the items of `kept`, in order: spans that count its bytes, each item the longest that begins where the one before it
+/// ends. `kept` has to be a snippet, as `is_snippet` tells; what `snippet_whole` keeps is one wherever the snippet ended. It fails
+/// only for want of memory.
 pub fn items_whole(alloc: Global, kept: &str) -> Result<Items, AllocError>
     requires { IsKept kept.now }
     ensures { IfOk result (λ items. AreItemsOf kept.now items) }
@@ -52,7 +54,8 @@ pub fn items_whole(alloc: Global, kept: &str) -> Result<Items, AllocError>
     Ok(items)
 }
 
-/// Adds the items of a snippet. A place for each byte of the snippet is enough.
+/// Adds to `out` the items of `kept`, as `items_whole` returns them, and asks for no memory. `kept` has to be a snippet, as
+/// `is_snippet` tells, and `out` to take as many items more as `kept` has bytes.
 pub fn items_into(kept: &str, out: &mut Room<Item>)
     requires kept { IsKept kept.now }
     requires room { HasRoom out.old (length kept.now) }

@@ -1,12 +1,14 @@
-//! Laws of the definitions that contracts speak of. The functions do nothing: each is there for its clauses.
+//! Laws of the definitions that contracts speak of. Each function is there for its clauses: all but one do nothing, and that one
+//! drives a fresh stage.
 
-ghost use Rattle.std.specs.Prelude.{◌≡◌, ◌≤◌, ◌+◌, ℕ, List, [], ◌∷◌, ◌++◌, Bool, true, length, take, sum_by, codes, Decides};
+ghost use Rattle.std.specs.Prelude.{◌≡◌, ◌≤◌, ◌+◌, ◌*◌, ℕ, List, [], ◌∷◌, ◌++◌, Bool, true, length, take, sum_by, codes, Decides};
 ghost use Rattle.std.specs.Char.{len_utf8};
 ghost use Rattle.gabc_places.specs.declared.place.Char.{Char};
 ghost use Rattle.gabc_places.specs.declared.place.Place.{Place};
 ghost use Rattle.gabc_places.specs.Findings.{AreInOrder, LieBetween};
+ghost use Rattle.gabc_places.specs.Held.{HasRoom, added};
 ghost use Rattle.gabc_places.specs.Law.{joined};
-ghost use Rattle.gabc_patterns.specs.Reading.{Reads, IsSnippet, IsViable};
+ghost use Rattle.gabc_patterns.specs.Reading.{Reads, IsItem, OneKind, IsSnippet, IsViable};
 ghost use Rattle.gabc_notes.specs.Table.{gabc};
 ghost use Rattle.gabc_notes.specs.Said.{in_raw, Point, is_comment, is_over, kept, bytes_of, said, cut, says};
 ghost use Rattle.gabc_notes.specs.Read.{kept_of, findings_of, ends_of, stop_after, kept_by, end_by};
@@ -15,19 +17,44 @@ ghost use Rattle.gabc_notes.specs.Ends.{EndAtMost, AreCutAtMost};
 ghost use Rattle.gabc_notes.specs.Raw.{IsOpen, InComment, IsOpenedAt};
 ghost use Rattle.gabc_notes.specs.declared.item.ItemKind.{ItemKind};
 
+use crate::stage::{NoteOut, NoteStage};
+use gabc_places::{Char, Room, drive};
+
+/// A fresh stage, driven over all characters and then ended, gives what is said of them.
+pub fn a_fresh_stage_gives(split: bool, macros: u16, inputs: Vec<Char>, out: &mut Room<NoteOut>)
+    requires { HasRoom out.old (3 * (length inputs.items + 1)) }
+    ensures { out.new ≡ added out.old (joined (says split macros inputs.items)) }
+{
+    let mut stage = NoteStage::new(split, macros);
+    drive(&mut stage, inputs, out);
+}
+
+/// No row of the table spells the empty text: what the laws of tables in `gabc_patterns` ask of a table.
+pub fn no_item_is_empty()
+    ensures { ¬ IsItem gabc [] }
+{}
+
+/// Rows of the table that spell one text are of one kind.
+pub fn an_item_has_one_kind()
+    ensures { OneKind gabc }
+{}
+
 /// A text has at most one list of items.
 pub fn items_are_one()
-    ensures { (is js : List (ItemKind × List ℕ)) (t : List ℕ) → Reads gabc is t → Reads gabc js t → is ≡ js }
+    ensures { (is js : List (ItemKind × List ℕ)) (t : List ℕ) → Reads gabc is t → Reads gabc js t →
+        is ≡ js }
 {}
 
 /// A viable text is a snippet with at most one character more.
 pub fn one_character_completes()
-    ensures { (t : List ℕ) → IsViable gabc t → (more : List ℕ) × (length more ≤ 1) × IsSnippet gabc (t ++ more) }
+    ensures { (t : List ℕ) → IsViable gabc t →
+        (more : List ℕ) × (length more ≤ 1) × IsSnippet gabc (t ++ more) }
 {}
 
 /// A text lies inside raw exactly if it is no snippet, but is one with a `]` more.
 pub fn inside_raw_is_decided()
-    ensures { (t : List ℕ) → Decides (in_raw t) (IsSnippet gabc (t ++ codes "]") × (¬ IsSnippet gabc t)) }
+    ensures { (t : List ℕ) →
+        Decides (in_raw t) (IsSnippet gabc (t ++ codes "]") × (¬ IsSnippet gabc t)) }
 {}
 
 /// A text lies inside raw exactly if it is a snippet whose last item is no `@`, a `[`, and characters other than `]`.
@@ -42,40 +69,53 @@ pub fn the_opener_is_the_bracket()
 
 /// A character lies in a comment exactly if from a `%` outside raw up to it there is no LF.
 pub fn a_comment_begins_with_a_percent()
-    ensures { (back : List Char) (x : Char) → Decides (is_comment (record { back = back; here = x })) (InComment (x ∷ back)) }
+    ensures { (back : List Char) (x : Char) →
+        Decides (is_comment (record { back = back; here = x })) (InComment (x ∷ back)) }
 {}
 
 /// The characters that are told as kept are the kept text of the characters before the end of the snippet.
 pub fn the_kept_text_is_told()
-    ensures { (split : Bool) (macros : ℕ) (xs : List Char) → kept_of (joined (says split macros xs)) ≡ kept (stop_after split [] xs).back }
+    ensures { (split : Bool) (macros : ℕ) (xs : List Char) →
+        kept_of (joined (says split macros xs)) ≡ kept (stop_after split [] xs).back }
 {}
 
 /// One end is told, with the bytes of the kept text: at most those of the characters that are told as kept.
 pub fn one_end_is_told()
-    ensures end { (split : Bool) (macros : ℕ) (xs : List Char) → (let s = stop_after split [] xs in ends_of (joined (says split macros xs)) ≡ (end_by s.mark s.back, bytes_of (kept_by s.mark s.back)) ∷ []) }
-    ensures bytes { (split : Bool) (macros : ℕ) (xs : List Char) → (let s = stop_after split [] xs in bytes_of (kept_by s.mark s.back) ≤ sum_by len_utf8 (kept_of (joined (says split macros xs)))) }
+    ensures end { (split : Bool) (macros : ℕ) (xs : List Char) → (let s = stop_after split [] xs in
+        ends_of (joined (says split macros xs))
+        ≡ (end_by s.mark s.back, bytes_of (kept_by s.mark s.back)) ∷ []) }
+    ensures bytes { (split : Bool) (macros : ℕ) (xs : List Char) → (let s = stop_after split [] xs in
+        bytes_of (kept_by s.mark s.back)
+        ≤ sum_by len_utf8 (kept_of (joined (says split macros xs)))) }
 {}
 
 /// What is told of characters does not depend on those that follow them, and behind the end nothing is told.
 pub fn what_follows_tells_nothing()
-    ensures end { (split : Bool) (macros : ℕ) (p : Point) → is_over split p.back ≡ true → said split macros p ≡ [] }
-    ensures front { (split : Bool) (macros : ℕ) (xs ys zs : List Char) → take (length xs) (says split macros (xs ++ ys)) ≡ take (length xs) (says split macros (xs ++ zs)) }
+    ensures end { (split : Bool) (macros : ℕ) (p : Point) → is_over split p.back ≡ true →
+        said split macros p ≡ [] }
+    ensures front { (split : Bool) (macros : ℕ) (xs ys zs : List Char) →
+        take (length xs) (says split macros (xs ++ ys))
+        ≡ take (length xs) (says split macros (xs ++ zs)) }
 {}
 
 /// Of a text, each finding stands strictly before the next.
 pub fn findings_are_in_order()
-    ensures { (at : Place) (split : Bool) (macros : ℕ) (t : List ℕ) → AreInOrder (findings_of (joined (says split macros (placed_from at t)))) }
+    ensures { (at : Place) (split : Bool) (macros : ℕ) (t : List ℕ) →
+        AreInOrder (findings_of (joined (says split macros (placed_from at t)))) }
 {}
 
 /// What is told of a text through the character behind a front has its findings at the text's place or later, and no later
 /// than that character.
 pub fn findings_lie_within()
-    ensures { (at : Place) (split : Bool) (macros : ℕ) (front rest : List ℕ) → LieBetween at (place_past at front) (findings_of (joined (take (length front + 1) (says split macros (placed_from at (front ++ rest)))))) }
+    ensures { (at : Place) (split : Bool) (macros : ℕ) (front rest : List ℕ) →
+        let events = joined (take (length front + 1) (says split macros (placed_from at (front ++ rest)))) in
+        LieBetween at (place_past at front) (findings_of events) }
 {}
 
 /// Of a character at most one end is told, behind all else: at a `)`, or where notes are split at a `|`. Of the end of the
 /// characters nothing is told but that they were cut.
 pub fn a_snippet_ends_at_its_mark()
-    ensures mark { (split : Bool) (macros : ℕ) (p : Point) → EndAtMost split p.here.c (said split macros p) }
+    ensures mark { (split : Bool) (macros : ℕ) (p : Point) →
+        EndAtMost split p.here.c (said split macros p) }
     ensures last { (split : Bool) (back : List Char) → AreCutAtMost (cut split back) }
 {}

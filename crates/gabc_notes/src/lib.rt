@@ -4,12 +4,34 @@
 //! place the longest item that begins there; a text that is read whole is a snippet, and one that a snippet begins with is
 //! viable. Going left to right, a character is kept exactly if the kept text with it is viable.
 //!
-//! - `is_snippet`, `items_whole`, `items_into` and `note_of` read a kept text. Spans count its bytes.
-//! - `snippet_whole` reads the snippet with which a text begins: its kept text, its findings and its end.
+//! - `snippet_whole` reads the snippet with which a text begins: its kept text, its findings and its end. `kept_chars` gives the
+//!   characters of that kept text with their places in the source.
+//! - `is_snippet` tells whether a text is a snippet. `items_whole`, `items_into` and `note_of` read a kept text that is one. Spans
+//!   count its bytes.
 //! - `NoteStage` reads the characters of a snippet one at a time: it tells those that are kept, the findings, and the end.
 //!   What is told is `says` of `specs/Said.antt`, which knows of no states: what is told of a character depends on it and on
 //!   the characters before it.
 //! - `laws` has what follows of the definitions.
+//!
+//! Texts and places come from `gabc_places`: lines and columns from 1, a column a character. A snippet of a score begins behind
+//! its `(`, or behind a `|`.
+//!
+//! ```
+//! let body = "g1hv)";
+//! let read = snippet_whole(alloc, body, Place::START, false, 0)?;
+//! assert_eq!(rt; read.kept.as_str(), "ghv"); // the `1` is left out, with E1 at column 2
+//! assert_eq!(rt; read.how, SnippetHow::Close(4));
+//! if is_snippet(&read.kept) {
+//!     let items = items_whole(alloc, &read.kept)?;
+//!     assert_eq!(rt; items.as_slice(), [first, second].as_slice()); // `g` and `hv`, from byte 1 to byte 3
+//! }
+//! assert_eq!(rt;
+//!     note_of("ghv", second).map(|note| note.shape),
+//!     Some(Shape::Virga)
+//! );
+//! let chars = kept_chars(alloc, body, Place::START, false, 0)?;
+//! assert_eq!(rt; chars.as_slice().last().map(|x| x.place.column), Some(4)); // of `v`
+//! ```
 //!
 //! The rules are those of GregorioRef, chapter Notation, section Note Syntax.
 //!
@@ -18,6 +40,7 @@
 //! What the stage holds is proved to be what the definition says of the characters so far (`proofs/Says.antt`).
 #![tactic(auto)]
 
+mod chars;
 mod class;
 mod item;
 mod items;
@@ -29,6 +52,7 @@ mod stage;
 mod state;
 mod whole;
 
+pub use chars::{kept_chars, kept_chars_by};
 pub use item::{Item, ItemKind, Items};
 pub use items::{items_into, items_whole};
 pub use kept::is_snippet;

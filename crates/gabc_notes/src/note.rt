@@ -29,8 +29,8 @@ pub enum Shape {
     Linea,
 }
 
-/// A note: its height from 0 for `a` to 13 for `n` and 14 for `p`, its shape, whether it is initio debilis, and the span
-/// of its item.
+/// A note: its height from 0 for `a` to 13 for `n` and 14 for `p`, its shape, whether it is initio debilis, and the span of its
+/// item, in bytes of the kept text.
 #[derive(Clone, Copy, Debug, PartialEq, Eq)]
 pub struct Note {
     pub height: u8,
@@ -39,13 +39,14 @@ pub struct Note {
     pub span: Span,
 }
 
+/// Returns whether `byte` is a digit.
 fn is_digit_byte(byte: u8) -> bool
     ensures { result ≡ is_digit byte }
 {
     b'0' <= byte && byte <= b'9'
 }
 
-/// Whether `r` with these characters behind it is a sign: its digits are neither none nor `0` alone.
+/// Returns whether `r` with `text` behind it is a sign: its digits are neither none nor `0` alone.
 fn makes_sign(text: &[u8]) -> bool
     ensures { result ≡ is_sign (digits_of text.now) }
 {
@@ -57,6 +58,7 @@ fn makes_sign(text: &[u8]) -> bool
     }
 }
 
+/// Returns whether `byte` is one of the letters that name shapes.
 fn is_shape_letter(byte: u8) -> bool
     ensures { result ≡ is_in byte (codes "vVsoOwWqrR=") }
 {
@@ -66,9 +68,10 @@ fn is_shape_letter(byte: u8) -> bool
     }
 }
 
-/// The first letter that names the shape, and what follows it.
+/// Returns the first letter of `text` that names the shape, and what follows it.
 fn next_letter(text: &[u8]) -> Option<(u8, &[u8])>
-    ensures { MatchOption result (letters text.now ≡ []) (λ p. letters text.now ≡ p.0 ∷ letters p.1.now) }
+    ensures { MatchOption result
+        (letters text.now ≡ []) (λ p. letters text.now ≡ p.0 ∷ letters p.1.now) }
 {
     for (i, byte) in text.iter().enumerate() {
         let rest = &text[i + 1..];
@@ -79,7 +82,7 @@ fn next_letter(text: &[u8]) -> Option<(u8, &[u8])>
     None
 }
 
-/// How many letters in a row are this one, of at most three: those of `text`, and one before it.
+/// Returns how many letters in a row are `letter`, of at most three: those of `text`, and one before it.
 fn repeated(letter: u8, text: &[u8]) -> u8
     ensures { result ≡ run_of letter (letters text.now) }
 {
@@ -92,7 +95,7 @@ fn repeated(letter: u8, text: &[u8]) -> u8
     }
 }
 
-/// The shape that the characters behind a small pitch name.
+/// Returns the shape that `text`, which stands behind a small pitch, names.
 fn shape_behind(text: &[u8]) -> Shape
     ensures { result ≡ shape_by (letters text.now) }
 {
@@ -123,7 +126,7 @@ fn shape_behind(text: &[u8]) -> Shape
     }
 }
 
-/// The height of a pitch.
+/// Returns the height of a pitch.
 fn height(pitch: u8) -> u8
     ensures { result ≡ height_of pitch }
 {
@@ -134,7 +137,7 @@ fn height(pitch: u8) -> u8
     }
 }
 
-/// Whether the text begins with `-`, and what follows that.
+/// Returns whether `text` begins with `-`, and what follows that.
 fn split_debilis(text: &[u8]) -> (bool, &[u8])
     ensures debilis { result.0 ≡ is_debilis text.now }
     ensures rest { result.1.now ≡ from_pitch text.now }
@@ -145,7 +148,7 @@ fn split_debilis(text: &[u8]) -> (bool, &[u8])
     }
 }
 
-/// The height and shape of a text that begins with its pitch.
+/// Returns the height and the shape of `text`, which begins with its pitch.
 fn height_and_shape(text: &[u8]) -> (u8, Shape)
     ensures height { result.0 ≡ height_at text.now }
     ensures shape { result.1 ≡ shape_at text.now }
@@ -156,7 +159,8 @@ fn height_and_shape(text: &[u8]) -> (u8, Shape)
     }
 }
 
-/// The note that an item of a kept text is, if it is a note.
+/// Returns the note that `item` is, by its bytes in `kept`: `None` unless its kind is `ItemKind::Note`. The span of `item` has to
+/// lie within `kept`, as that of each item of `items_whole` does.
 pub fn note_of(kept: &str, item: Item) -> Option<Note>
     requires { (item.span.from ≤ item.span.to) × (item.span.to ≤ length kept.now) }
     ensures { result ≡ note_in kept.now item }
@@ -177,7 +181,7 @@ pub fn note_of(kept: &str, item: Item) -> Option<Note>
     }
 }
 
-/// The shape of a note: an inclinatum for a capital.
+/// Returns the shape of the note of `pitch` with `rest` behind it: an inclinatum for a capital.
 fn shape_of(pitch: u8, rest: &[u8]) -> Shape
     ensures { result ≡ shape_at (pitch ∷ rest.now) }
 {

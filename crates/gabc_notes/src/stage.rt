@@ -4,6 +4,7 @@ ghost use Rattle.std.specs.Prelude.{◌≡◌, List, []};
 ghost use Rattle.gabc_places.specs.declared.place.Char.{Char};
 ghost use Rattle.gabc_places.specs.Held.{HasRoom, added};
 ghost use Rattle.gabc_notes.specs.Machine.{raw_state, attribute_state, digit_named, looked, name_on, named_after, advanced, rest_of};
+ghost use Rattle.gabc_notes.specs.Ends.{is_ended};
 ghost use Rattle.gabc_notes.specs.Told.{role_in, warning_in, before_in, given_in, outputs};
 ghost use Rattle.gabc_notes.specs.Said.{is_defined, ended_by, says};
 
@@ -22,13 +23,15 @@ pub enum NoteEnd {
     Cut(Place),
 }
 
-/// What a stage tells of a snippet.
+/// What a stage tells of a snippet: an event.
 #[derive(Clone, Copy, Debug, PartialEq, Eq)]
 pub enum NoteOut {
     /// A character that is kept.
     Kept(Char),
+    /// What was found, with its place.
     Found(Finding),
-    /// The end, and the bytes of the kept text without an unfinished end; of a cut snippet the bytes kept so far.
+    /// The end, behind which nothing more comes: how the snippet ended, and how many bytes its kept text has, without an unfinished
+    /// end; of a cut snippet the bytes kept so far.
     Ended { how: NoteEnd, kept: usize },
 }
 
@@ -98,6 +101,7 @@ pub(crate) struct Given {
     pub(crate) third: Option<NoteOut>,
 }
 
+/// Returns whether the kept text lies inside raw.
 fn is_raw(state: State) -> bool
     ensures { result ≡ raw_state state }
 {
@@ -107,6 +111,7 @@ fn is_raw(state: State) -> bool
     }
 }
 
+/// Returns whether the kept text ends with an attribute.
 fn is_attribute(state: State) -> bool
     ensures { result ≡ attribute_state state }
 {
@@ -116,6 +121,7 @@ fn is_attribute(state: State) -> bool
     }
 }
 
+/// Returns the digit of the macro that the open bracket names, if it names one.
 fn name_digit(name: Name) -> Option<u8>
     ensures { result ≡ digit_named name }
 {
@@ -125,7 +131,7 @@ fn name_digit(name: Name) -> Option<u8>
     }
 }
 
-/// What is known of a character, by the state before it and the next one, if there is one.
+/// Returns what is known of a character, by the state before it and the next one, if there is one.
 fn look(state: State, next: Option<State>, name: Name) -> Seen
     ensures { result ≡ looked state next name }
 {
@@ -144,7 +150,7 @@ fn look(state: State, next: Option<State>, name: Name) -> Seen
     }
 }
 
-/// What becomes of a character.
+/// Returns what becomes of a character.
 fn role_of(split: bool, comment: bool, seen: Seen, c: char) -> Role
     ensures { result ≡ role_in split comment seen c }
 {
@@ -161,14 +167,14 @@ fn role_of(split: bool, comment: bool, seen: Seen, c: char) -> Role
     }
 }
 
-/// Whether the bit of a macro's digit is set.
+/// Returns whether the bit of the digit of a macro is set.
 fn defines(macros: u16, digit: u8) -> bool
     ensures { result ≡ is_defined macros digit }
 {
     digit < 16 && (macros >> digit) % 2 == 1
 }
 
-/// The warning of a character that is kept.
+/// Returns the warning of a character that is kept.
 fn warning(macros: u16, before: Before, seen: Seen, x: Char) -> Option<NoteOut>
     ensures { result ≡ warning_in macros before seen x }
 {
@@ -192,7 +198,7 @@ fn warning(macros: u16, before: Before, seen: Seen, x: Char) -> Option<NoteOut>
     }
 }
 
-/// What stands before the next character.
+/// Returns what stands before the next character.
 fn after(role: Role, before: Before, seen: Seen, x: Char) -> Before
     ensures { result ≡ before_in role before seen x }
 {
@@ -223,7 +229,7 @@ fn after(role: Role, before: Before, seen: Seen, x: Char) -> Before
     }
 }
 
-/// How a character ends the snippet.
+/// Returns how a character ends the snippet.
 fn end_of(c: char) -> NoteEnd
     ensures { result ≡ ended_by c }
 {
@@ -234,7 +240,7 @@ fn end_of(c: char) -> NoteEnd
     }
 }
 
-/// What a character gives.
+/// Returns what a character gives.
 fn given_by(role: Role, macros: u16, before: Before, seen: Seen, x: Char) -> Given
     ensures { result ≡ given_in role macros before seen x }
 {
@@ -287,7 +293,7 @@ fn send(given: Given, out: &mut Room<NoteOut>)
     }
 }
 
-/// What the bracket holds with a character more.
+/// Returns what the bracket holds with a character more.
 fn name_with(name: Name, c: char) -> Name
     ensures { result ≡ name_on name c }
 {
@@ -300,6 +306,7 @@ fn name_with(name: Name, c: char) -> Name
     }
 }
 
+/// Returns what the open bracket holds behind a character that is kept, if one is open there.
 fn name_after(seen: Seen, name: Name, c: char) -> Name
     ensures { result ≡ named_after seen name c }
 {
@@ -322,9 +329,9 @@ pub struct NoteStage {
 }
 
 impl NoteStage {
-    /// A stage before the first character of a snippet, which stands at `_at`; each character brings its own place. With `split`
-    /// a `|` ends the snippet too. The bit `d` of `macros`, from 0 to 9, tells that the macro of the digit `d` is defined.
-    pub fn new(_at: Place, split: bool, macros: u16) -> NoteStage
+    /// Returns a stage before the first character of a snippet. With `split` a `|` ends the snippet too. The bit `d` of `macros`,
+    /// from 0 to 9, tells that the macro of the digit `d` is defined.
+    pub fn new(split: bool, macros: u16) -> NoteStage
         ensures { (xs : List Char) → rest_of result xs ≡ says split macros xs }
     {
         NoteStage {
@@ -368,6 +375,8 @@ impl Stage for NoteStage {
 
     ghost most_of = { λ _. 3 };
 
+    ghost is_end = { is_ended };
+
     fn most(&self) -> usize {
         3
     }
@@ -396,5 +405,6 @@ impl Stage for NoteStage {
             how: NoteEnd::Cut(place),
             kept: self.before.kept,
         });
+        self.ended = true;
     }
 }

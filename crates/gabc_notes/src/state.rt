@@ -65,7 +65,7 @@ pub(crate) enum State {
     Done(Full),
 }
 
-/// An item begins.
+/// Returns where an item stands behind its first character, if that may begin one.
 fn begins(class: Class) -> Option<State>
     ensures { result ≡ begun class }
 {
@@ -88,7 +88,7 @@ fn begins(class: Class) -> Option<State>
     }
 }
 
-/// An item goes on behind a small pitch.
+/// Returns where an item stands that goes on behind a small pitch.
 fn on_pitch(class: Class) -> Option<State>
     ensures { result ≡ in_pitch class }
 {
@@ -101,7 +101,7 @@ fn on_pitch(class: Class) -> Option<State>
     }
 }
 
-/// A bar goes on.
+/// Returns where a bar stands with a character more, if it goes on.
 fn on_bar(class: Class) -> Option<State>
     ensures { result ≡ in_bar class }
 {
@@ -113,7 +113,7 @@ fn on_bar(class: Class) -> Option<State>
     }
 }
 
-/// A break goes on.
+/// Returns where a break stands with a character more, if it goes on.
 fn on_break(class: Class) -> Option<State>
     ensures { result ≡ in_break class }
 {
@@ -123,7 +123,7 @@ fn on_break(class: Class) -> Option<State>
     }
 }
 
-/// The item goes on.
+/// Returns where the item stands with a character more, if it goes on.
 pub(crate) fn goes_on(state: State, class: Class) -> Option<State>
     ensures { result ≡ going_on state class }
 {
@@ -162,7 +162,7 @@ pub(crate) fn goes_on(state: State, class: Class) -> Option<State>
     }
 }
 
-/// Where the reading stands if the item ended at its longest so far.
+/// Returns where the reading stands if the item ended at its longest so far.
 fn falls_back(state: State) -> Option<State>
     ensures { result ≡ falling_back state }
 {
@@ -174,7 +174,7 @@ fn falls_back(state: State) -> Option<State>
     }
 }
 
-/// The item goes on, or a new one begins.
+/// Returns where the reading stands with a character more: the item goes on, or a new one begins.
 fn goes_on_again(state: State, class: Class) -> Option<State>
     ensures { result ≡ again state class }
 {
@@ -184,7 +184,8 @@ fn goes_on_again(state: State, class: Class) -> Option<State>
     }
 }
 
-/// The item goes on, or it ended at its longest and the reading goes on from there.
+/// Returns where the reading stands with a character more: the item goes on, or it ended at its longest and the reading goes on
+/// from there.
 pub(crate) fn next_state(state: State, class: Class) -> Option<State>
     ensures { result ≡ following state class }
 {
@@ -197,6 +198,7 @@ pub(crate) fn next_state(state: State, class: Class) -> Option<State>
     }
 }
 
+/// Returns the kind of an item that nothing can follow.
 fn full_kind(full: Full) -> ItemKind
     ensures { result ≡ kind_of_full full }
 {
@@ -211,7 +213,7 @@ fn full_kind(full: Full) -> ItemKind
     }
 }
 
-/// The kind of the item, if it may end here.
+/// Returns the kind of the item, if it may end here.
 pub(crate) fn ends(state: State) -> Option<ItemKind>
     ensures { result ≡ ending state }
 {
@@ -228,7 +230,7 @@ pub(crate) fn ends(state: State) -> Option<ItemKind>
     }
 }
 
-/// Whether what was read is a snippet.
+/// Returns whether what was read is a snippet.
 pub(crate) fn is_whole(state: State) -> bool
     ensures { result ≡ whole_at state }
 {

@@ -21,6 +21,7 @@ struct Reading {
 }
 
 impl Reading {
+    /// Returns a reading of nothing.
     fn new(alloc: Global) -> Reading
         ensures { heard_of result ≡ nothing_heard }
     {
@@ -61,7 +62,8 @@ impl Reading {
         room: &mut Room<NoteOut>,
     ) -> Result<(), AllocError>
         requires { room.old ≡ record { items = []; limit = 3 } }
-        ensures fed { OnOk result (Fed stage.old stage.new x (heard_of self.old) (heard_of self.new)) }
+        ensures fed { OnOk result (Fed stage.old stage.new x
+            (heard_of self.old) (heard_of self.new)) }
         ensures room { OnOk result (room.new ≡ record { items = []; limit = 3 }) }
     {
         stage.push(x, room);
@@ -79,7 +81,7 @@ impl Reading {
         self.add_all(room.slice())
     }
 
-    /// What was read, of a snippet that ends like this, with so many bytes of the kept text.
+    /// Returns what was read of a snippet that ends as `how` tells, with `bytes` bytes of the kept text.
     fn ended(self, how: SnippetHow, bytes: usize) -> SnippetRead
         requires { IsSplitPoint (string_bytes self.kept) bytes }
         ensures kept { string_bytes result.kept ≡ take bytes (string_bytes self.kept) }
@@ -100,7 +102,7 @@ impl Reading {
     }
 }
 
-/// How a snippet ends behind so many bytes.
+/// Returns how a snippet ends at the byte `index`, by what the machine told.
 fn how_of(end: NoteEnd, index: usize) -> SnippetHow
     ensures { result ≡ how_of_end end index }
 {
@@ -111,9 +113,9 @@ fn how_of(end: NoteEnd, index: usize) -> SnippetHow
     }
 }
 
-/// The snippet of notes with which `body` begins, up to the mark that ends it or the end of `body`. The first character of
-/// `body` stands at `at`, a line and a column from 1. With `split` a `|` ends the snippet too. The bit `d` of `macros`, from 0 to 9, tells that the macro of
-/// the digit `d` is defined. It fails only for want of memory.
+/// Reads the snippet of notes with which `body` begins, up to the mark that ends it or the end of `body`. The first character of
+/// `body` stands at `at`, a line and a column from 1, as `gabc_places` counts them in a `Text`. With `split` a `|` ends the snippet
+/// too. The bit `d` of `macros`, from 0 to 9, tells that the macro of the digit `d` is defined. It fails only for want of memory.
 pub fn snippet_whole(
     alloc: Global,
     body: &str,
@@ -127,7 +129,7 @@ pub fn snippet_whole(
 {
     let mut room = Room::with_limit(alloc, 3)?;
     let mut reading = Reading::new(alloc);
-    let mut stage = NoteStage::new(at, split, macros);
+    let mut stage = NoteStage::new(split, macros);
     let mut place = at;
     let mut index = 0;
     for c in body.chars() {

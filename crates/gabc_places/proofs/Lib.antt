@@ -1,8 +1,12 @@
 pub mod Characters
 pub mod Earliest
 pub mod Front
+pub mod GatheredOfAText
 pub mod KnownBytes
 pub mod Lines
+pub mod NothingBehindAnEnd
 pub mod Placed
+pub mod PlacesOfAText
+pub mod Regrouped
 pub mod StageLaws
 pub mod Strings

@@ -1,6 +1,6 @@
 -- What the calls of a stage do, where `before` and `after` are what it will still give: a list for each input to come, and
 -- one for the end.
-use Rattle.std.specs.Prelude.{ℕ, List, [], ◌∷◌, ◌++◌, length, ◌*◌, ◌≤◌, ◌≡◌}
+use Rattle.std.specs.Prelude.{ℕ, List, [], ◌∷◌, ◌++◌, length, ◌*◌, ◌≤◌, ◌≡◌, Bool, true}
 use Rattle.std.specs.List.{flat_map}
 use Rattle.gabc_places.specs.Held.{Held, added}
 
@@ -30,3 +30,17 @@ pub record Ends {I O : Type 0} (before : List I → List (List O)) (most : ℕ) 
   pub out : new ≡ added old given
   pub few : length given ≤ most
   pub law : before [] ≡ given ∷ []
+
+-- nothing for each of these inputs, and nothing for the end
+abbrev pub silence : {I O : Type 0} → List I → List (List O)
+silence [] = [] ∷ []
+silence (x ∷ xs) = [] ∷ silence xs
+
+-- whatever comes, it gives nothing
+abbrev pub GivesNothing : {I O : Type 0} → (List I → List (List O)) → Type 0
+GivesNothing after = (xs : _) → joined (after xs) ≡ []
+
+-- What a call did with outputs that end the stage: behind the first of them it added no other, and from then on it gives nothing.
+abbrev pub StopsAtEnd : {I O : Type 0} → (O → Bool) → (List I → List (List O)) → Held O → Held O → Type 0
+StopsAtEnd ends after old new =
+    (before behind : List _) (x : _) → new ≡ added old (before ++ x ∷ behind) → ends x ≡ true → (behind ≡ []) × GivesNothing after

@@ -1,3 +1,4 @@
+pub mod Bytes
 pub mod Chained
 pub mod Code
 pub mod Counted
@@ -7,6 +8,7 @@ pub mod Held
 pub mod Law
 pub mod Limits
 pub mod Link
+pub mod Message
 pub mod Place
 pub mod Text
 pub mod Trial

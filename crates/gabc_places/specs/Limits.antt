@@ -1,4 +1,4 @@
-use Rattle.std.specs.Prelude.{ℕ, ◌≤◌}
+use Rattle.std.specs.Prelude.{◌≡◌, ℕ, ◌≤◌}
 
 -- the numbers that limits may have, in bytes
 pub record AreLimits (header syllable input : ℕ) : Type 0 where
@@ -7,3 +7,9 @@ pub record AreLimits (header syllable input : ℕ) : Type 0 where
   pub syllable_least : 64 ≤ syllable
   pub syllable_most : syllable ≤ 16777216
   pub input_least : 64 ≤ input
+
+-- the limits of a run that is given no others
+pub record AreUsual (header syllable input : ℕ) : Type 0 where
+  pub header_is : header ≡ 65536
+  pub syllable_is : syllable ≡ 16384
+  pub input_is : input ≡ 4294967295

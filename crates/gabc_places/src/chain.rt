@@ -4,7 +4,7 @@
 
 ghost use Rattle.std.specs.Prelude.{◌≡◌, ℕ, ◌+◌, ◌*◌, ◌^◌, ◌<◌, ◌≤◌, length};
 ghost use Rattle.gabc_places.specs.Held.{HasRoom};
-ghost use Rattle.gabc_places.specs.Law.{GivesAll};
+ghost use Rattle.gabc_places.specs.Law.{GivesAll, StopsAtEnd};
 ghost use Rattle.gabc_places.specs.Chained.{in_a_row};
 
 use crate::{Room, Stage};
@@ -30,7 +30,7 @@ impl<A: Stage, B: Stage<Input = A::Output>> Model for Chain<A, B> {
 }
 
 impl<A: Stage, B: Stage<Input = A::Output>> Chain<A, B> {
-    /// A chain of the two stages. `between` holds what the first gives in one call; items that it has are dropped.
+    /// Returns a chain of the two stages. `between` holds what the first gives in one call; items that it has are dropped.
     pub fn new(first: A, second: B, between: Room<A::Output>) -> Chain<A, B>
         requires fits { (A.most_of first + 1) * B.most_of second < 2 ^ 64 }
         requires room { A.most_of first ≤ between.limit }
@@ -43,14 +43,14 @@ impl<A: Stage, B: Stage<Input = A::Output>> Chain<A, B> {
         }
     }
 
-    /// The first stage.
+    /// Returns the first stage.
     pub fn first(&self) -> &A
         ensures { result.now ≡ self.now.first }
     {
         &self.first
     }
 
-    /// The second stage.
+    /// Returns the second stage.
     pub fn second(&self) -> &B
         ensures { result.now ≡ self.now.second }
     {
@@ -66,6 +66,8 @@ impl<A: Stage, B: Stage<Input = A::Output>> Stage for Chain<A, B> {
     ghost rest = { λ c xs. in_a_row (A.rest c.first) (B.rest c.second) xs };
 
     ghost most_of = { λ c. (A.most_of c.first + 1) * B.most_of c.second };
+
+    ghost is_end = { B.is_end };
 
     fn most(&self) -> usize {
         let second = self.second.most();
@@ -97,6 +99,7 @@ where
     requires { HasRoom out.old (S.most_of stage.old * length inputs.now) }
     ensures most { S.most_of stage.new ≡ S.most_of stage.old }
     ensures gives { GivesAll (S.rest stage.old) (S.rest stage.new) inputs.now (S.most_of stage.old) out.old out.new }
+    ensures end { StopsAtEnd S.is_end (S.rest stage.new) out.old out.new }
 {
     for input in inputs {
         stage.push(*input, out);

@@ -2,10 +2,12 @@
 
 ghost use Rattle.std.specs.Prelude.{◌≡◌, ◌∷◌};
 
+use crate::codes::CODES;
 use crate::place::Place;
+use crate::severity::Severity;
 
-/// What a reader finds. An error is a character or part that is left out; a warning changes nothing;
-/// a fatal fault stops the run.
+/// What a reader finds. An error is a character or part that is left out. A warning tells of something else. A fatal fault stops
+/// the run.
 #[derive(Clone, Copy, Debug, PartialEq, Eq)]
 pub enum Code {
     /// A character left out of the notes.
@@ -58,60 +60,28 @@ pub enum Code {
     F7,
 }
 
-/// How grave a code is.
-#[derive(Clone, Copy, Debug, PartialEq, Eq)]
-pub enum Kind {
-    Warning,
-    Error,
-    Fatal,
-}
-
 impl Code {
-    ghost use Rattle.gabc_places.specs.Code.{kind_of, name_of};
+    ghost use Rattle.gabc_places.specs.Code.{severity_of, name_of, text_of};
 
-    /// How grave it is.
-    pub fn kind(self) -> Kind
-        ensures { result ≡ kind_of self }
+    /// Returns how grave it is.
+    pub fn severity(self) -> Severity
+        ensures { result ≡ severity_of self }
     {
-        match self {
-            Code::E1 | Code::E2 | Code::E3 | Code::E4 | Code::E5 | Code::E6 => Kind::Error,
-            Code::F1 | Code::F2 | Code::F3 | Code::F4 | Code::F5 | Code::F6 | Code::F7 => {
-                Kind::Fatal
-            }
-            _ => Kind::Warning,
-        }
+        CODES[self as usize].0
     }
 
-    /// Its name in messages, such as `E4`.
+    /// Returns its name in messages, such as `E4`.
     pub fn name(self) -> &'static str
         ensures { result.now ≡ name_of self }
     {
-        match self {
-            Code::E1 => "E1",
-            Code::E2 => "E2",
-            Code::E3 => "E3",
-            Code::E4 => "E4",
-            Code::E5 => "E5",
-            Code::E6 => "E6",
-            Code::W1 => "W1",
-            Code::W2 => "W2",
-            Code::W3 => "W3",
-            Code::W4 => "W4",
-            Code::W5 => "W5",
-            Code::W6 => "W6",
-            Code::W7 => "W7",
-            Code::W8 => "W8",
-            Code::W9 => "W9",
-            Code::W10 => "W10",
-            Code::W11 => "W11",
-            Code::F1 => "F1",
-            Code::F2 => "F2",
-            Code::F3 => "F3",
-            Code::F4 => "F4",
-            Code::F5 => "F5",
-            Code::F6 => "F6",
-            Code::F7 => "F7",
-        }
+        CODES[self as usize].1
+    }
+
+    /// Returns what a message says of it.
+    pub fn text(self) -> &'static str
+        ensures { result.now ≡ text_of self }
+    {
+        CODES[self as usize].2
     }
 }
 

@@ -36,7 +36,7 @@ impl Model for Count {
 }
 
 impl Count {
-    /// A count of 0.
+    /// Returns a count of 0.
     pub fn zero() -> Count
         ensures { result ≡ 0 }
     {

@@ -11,7 +11,7 @@ use crate::text::Text;
 use memchr::memchr;
 use std::alloc::{AllocError, Global};
 
-/// The text of an input's bytes, and its fault. `ended` tells that the source ended and did not fail.
+/// Returns the text of an input's `bytes`, and its fault. `ended` tells that the source ended and did not fail.
 ///
 /// The text is the longest front of the bytes that is UTF-8, without U+FEFF, with CR LF and CR as LF. Bytes past
 /// `limits.input` are not read. The fault is F1 at bytes that begin no character, else F7 where there are more bytes than

@@ -12,7 +12,7 @@ pub(crate) enum Tail {
 }
 
 /// The text of an input, and what stopped it.
-#[derive(Drop)]
+#[derive(Debug, Drop)]
 pub struct Decoded {
     pub text: Text,
     pub fault: Option<Fault>,

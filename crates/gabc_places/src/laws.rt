@@ -5,6 +5,9 @@ ghost use Rattle.std.specs.List.{slice_get, Contains, All};
 ghost use Rattle.gabc_places.specs.Place.{place_after, placed, placed_after};
 ghost use Rattle.gabc_places.specs.Text.{text_of_bytes};
 ghost use Rattle.gabc_places.specs.Findings.{Stop, earliest, IsNoLater};
+ghost use Rattle.std.specs.Prelude.{◌+◌};
+ghost use Rattle.gabc_places.specs.Law.{joined};
+ghost use Rattle.gabc_places.specs.Chained.{in_a_row};
 
 use crate::place::Place;
 
@@ -34,4 +37,11 @@ pub fn earliest_is_least()
     ensures some { (s : Stop) (stops : List Stop) → IsSome (earliest (s ∷ stops)) }
     ensures found { (stops : List Stop) (s : Stop) → earliest stops ≡ Some s → Contains stops s }
     ensures least { (stops : List Stop) (s : Stop) → earliest stops ≡ Some s → All (IsNoLater s) stops }
+{}
+
+/// What two stages in a row give in all is what the second gives for all that the first gives; there is a list for each
+/// input and one for the end.
+pub fn a_chain_gives_what_its_second_gives<I, M, O>()
+    ensures all { (first : List I → List (List M)) (second : List M → List (List O)) (xs : List I) → joined (in_a_row first second xs) ≡ joined (second (joined (first xs))) }
+    ensures one_each { (first : List I → List (List M)) (second : List M → List (List O)) (xs : List I) → length (in_a_row first second xs) ≡ length xs + 1 }
 {}

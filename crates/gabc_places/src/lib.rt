@@ -1,25 +1,43 @@
 //! The base of a reader of Gregorian chant: bytes as text with places, findings and faults, where bytes come from and go to,
 //! and machines that take one input at a time.
+//!
+//! An input's bytes are read as a text, up to the first byte that is no UTF-8:
+//!
+//! ```
+//! let decoded = text_of(alloc, b"%%\r\nKy(f)\xFF", true, Limits::DEFAULT)?;
+//! let text = decoded.text.as_str(); // "%%\nKy(f)"
+//! let fault = decoded.fault.ok_or("a fault")?;
+//! let message = format!(in alloc; "{fault}")?; // "2:6: fatal: F1: not UTF-8"
+//! ```
 #![tactic(auto)]
 
+mod bytes;
 mod chain;
 mod code;
+mod codes;
+mod collect;
 mod count;
 mod decode;
 mod decoded;
 mod findings;
 pub mod laws;
 mod limits;
+mod message;
 mod place;
 mod room;
+mod sequence;
+mod severity;
 mod sink;
 mod source;
 mod stage;
 mod text;
 mod trial;
 
+pub use bytes::place_of_byte;
 pub use chain::Chain;
-pub use code::{Code, Fault, Finding, Kind};
+pub use code::{Code, Fault, Finding};
+pub use codes::CODES;
+pub use collect::outputs_of;
 pub use count::Count;
 pub use decode::text_of;
 pub use decoded::Decoded;
@@ -27,6 +45,8 @@ pub use findings::Findings;
 pub use limits::Limits;
 pub use place::{Char, Place, Span};
 pub use room::Room;
+pub use sequence::Sequence;
+pub use severity::Severity;
 pub use sink::{Sink, SinkFault, ToWriter, Unsent, send_all};
 pub use source::{FromReader, Source, SourceFault};
 pub use stage::{Stage, drive};

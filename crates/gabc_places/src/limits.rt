@@ -1,7 +1,7 @@
 //! How much a run reads and keeps.
 
 ghost use Rattle.std.specs.Prelude.{◌≡◌, ◌↔◌, IsSome, IfSome};
-ghost use Rattle.gabc_places.specs.Limits.{AreLimits};
+ghost use Rattle.gabc_places.specs.Limits.{AreLimits, AreUsual};
 
 /// How many bytes the headers, a syllable and the whole input may have.
 #[derive(Clone, Copy, Debug, PartialEq, Eq)]
@@ -13,7 +13,14 @@ pub struct Limits {
 }
 
 impl Limits {
-    /// Limits in bytes. `header` and `syllable` are 64 to 16,777,216, and `input` is at least 64; other numbers give `None`.
+    /// The limits of a run that is given no others: 65,536 bytes of headers, 16,384 of a syllable, 4,294,967,295 of input.
+    pub const DEFAULT: Limits = Limits {
+        header: 65_536,
+        syllable: 16_384,
+        input: u32::MAX,
+    };
+
+    /// Returns limits in bytes. `header` and `syllable` are 64 to 16,777,216, and `input` is at least 64; other numbers give `None`.
     pub fn new(header: u32, syllable: u32, input: u32) -> Option<Limits>
         ensures in_range { IsSome result ↔ AreLimits header syllable input }
         ensures header { IfSome result (λ limits. limits.header ≡ header) }
@@ -30,5 +37,13 @@ impl Limits {
         } else {
             None
         }
+    }
+}
+
+impl Default for Limits {
+    ghost is_default = { λ l. AreUsual l.header l.syllable l.input };
+
+    fn default() -> Limits {
+        Limits::DEFAULT
     }
 }

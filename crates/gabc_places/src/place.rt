@@ -2,7 +2,7 @@
 
 ghost use Rattle.std.specs.Prelude.{◌≡◌, ◌+◌, ◌^◌, ◌<◌, ℕ, List, [], ◌∷◌, ◌++◌};
 
-/// The place of a character in a text: a line and a column, both from 1. A column counts characters.
+/// The place of a character in a text: its line and its column in characters, both from 1.
 #[derive(Clone, Copy, Debug, PartialEq, Eq)]
 pub struct Place {
     pub line: u64,
@@ -15,7 +15,7 @@ impl Place {
     /// The place of the first character of a text.
     pub const START: Place = Place { line: 1, column: 1 };
 
-    /// The place behind a character that stands here. If here is the place behind some text, it is the place behind that
+    /// Returns the place behind `c`, which stands here. If here is the place behind some text, it is the place behind that
     /// text with the character.
     pub fn after(self, c: char) -> Place
         requires line { self.line + 1 < 2 ^ 64 }

@@ -7,7 +7,7 @@ use std::alloc::{AllocError, Global};
 use std::marker::Model;
 
 /// A list of at most a stated number of items. Adding to it asks for no memory.
-#[derive(Drop)]
+#[derive(Debug, Drop)]
 pub struct Room<T: Copy> {
     items: Vec<T>,
     limit: usize,
@@ -25,7 +25,7 @@ impl<T: Copy> Model for Room<T> {
 }
 
 impl<T: Copy> Room<T> {
-    /// An empty room for `limit` items. It reserves their memory, and fails only if there is not enough.
+    /// Returns an empty room for `limit` items, and reserves their memory.
     pub fn with_limit(alloc: Global, limit: usize) -> Result<Room<T>, AllocError>
         ensures { IfOk result (λ r. r ≡ record { items = []; limit = limit }) }
     {
@@ -33,7 +33,7 @@ impl<T: Copy> Room<T> {
         Ok(Room { items, limit })
     }
 
-    /// How many more items it takes.
+    /// Returns how many more items it takes.
     pub fn left(&self) -> usize
         ensures left { result ≡ room_left self.now }
         ensures within { length self.now.items ≤ self.now.limit }
@@ -41,7 +41,7 @@ impl<T: Copy> Room<T> {
         self.limit - self.items.len()
     }
 
-    /// Whether it takes no more items.
+    /// Returns whether it takes no more items.
     pub fn is_full(&self) -> bool
         ensures full { IsTrue result ↔ (room_left self.now ≡ 0) }
         ensures within { length self.now.items ≤ self.now.limit }
@@ -49,14 +49,14 @@ impl<T: Copy> Room<T> {
         self.items.len() == self.limit
     }
 
-    /// The items, in the order in which they were added.
+    /// Returns the items, in the order in which they were added.
     pub fn slice(&self) -> &[T]
         ensures { result.now ≡ self.now.items }
     {
         self.items.as_slice()
     }
 
-    /// Adds an item at the end.
+    /// Adds `item` at the end.
     pub fn push(&mut self, item: T)
         requires { HasRoom self.old 1 }
         ensures { self.new ≡ added self.old (item ∷ []) }
@@ -66,7 +66,7 @@ impl<T: Copy> Room<T> {
         };
     }
 
-    /// Adds the items at the end.
+    /// Adds `items` at the end.
     pub fn append(&mut self, items: &[T])
         requires { HasRoom self.old (length items.now) }
         ensures { self.new ≡ added self.old items.now }

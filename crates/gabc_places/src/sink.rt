@@ -23,12 +23,13 @@ pub trait Sink {
     // how many writes failed
     ghost failures: { Self → ℕ };
 
-    /// Takes bytes of the front, and tells how many: at least one, if there is one.
+    /// Takes bytes of the front of `bytes`, and returns how many: at least one, if there is one. Where it fails it took none.
     fn write(&mut self, bytes: &[u8]) -> Result<usize, SinkFault>
         ensures bound { WritesAtMost result bytes.now }
         ensures bytes { WriteAppends (written self.old) (written self.new) result bytes.now }
         ensures takes { IfOk result (λ n. 0 < length bytes.now → 0 < n) }
         ensures fails { OnErr result (failures self.old < failures self.new) }
+        ensures steady { OnOk result (failures self.new ≡ failures self.old) }
         ensures counts { failures self.old ≤ failures self.new };
 }
 
@@ -40,12 +41,13 @@ pub struct Unsent {
     pub sent: usize,
 }
 
-/// Writes all bytes, or as many as the sink takes before it fails.
+/// Writes all `bytes` to `sink`. Where the sink fails, it took the first `sent` of them, and nothing more is tried.
 pub fn send_all<S: Sink>(sink: &mut S, bytes: &[u8]) -> Result<(), Unsent>
     ensures all { OnOk result (Appends (S.written sink.old) (S.written sink.new) bytes.now) }
     ensures front { IfErr result (λ u. Appends (S.written sink.old) (S.written sink.new) (take u.sent bytes.now)) }
     ensures less { IfErr result (λ u. u.sent < length bytes.now) }
     ensures fails { OnErr result (S.failures sink.old < S.failures sink.new) }
+    ensures steady { OnOk result (S.failures sink.new ≡ S.failures sink.old) }
     ensures counts { S.failures sink.old ≤ S.failures sink.new }
 {
     let mut sent = 0;
@@ -74,7 +76,7 @@ impl<W: Write + Drop> Model for ToWriter<W> {
 }
 
 impl<W: Write + Drop> ToWriter<W> {
-    /// A sink that passes on to the writer.
+    /// Returns a sink that passes on to `inner`.
     pub fn new(inner: W) -> ToWriter<W>
         ensures { result ≡ record { inner = inner; failures = 0 } }
     {
@@ -84,7 +86,7 @@ impl<W: Write + Drop> ToWriter<W> {
         }
     }
 
-    /// The writer.
+    /// Returns the writer.
     pub fn inner(&self) -> &W
         ensures { result.now ≡ self.now.inner }
     {

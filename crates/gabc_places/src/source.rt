@@ -1,6 +1,6 @@
 //! Where bytes come from.
 
-ghost use Rattle.std.specs.Prelude.{◌≡◌, ℕ, ◌<◌, ◌≤◌, List, OnErr, Option};
+ghost use Rattle.std.specs.Prelude.{◌≡◌, ℕ, ◌<◌, ◌≤◌, List, OnErr, OnOk, Option};
 ghost use Rattle.gabc_places.specs.Counted.{CountsFailure};
 ghost use Rattle.std.specs.Io.KnownBytes.{ReadConsumes};
 ghost use Rattle.std.specs.Io.{ReadsAtMost};
@@ -23,11 +23,13 @@ pub trait Source {
     // how many reads failed
     ghost failures: { Self → ℕ };
 
-    /// Reads at most as many bytes as `buf` has, into its front, and tells how many. A read of 0 bytes into a `buf` that has some is the end.
+    /// Reads at most as many bytes as `buf` has, into its front, and returns how many. A read of 0 bytes into a `buf` that has some
+    /// is the end.
     fn read(&mut self, buf: &mut [u8]) -> Result<usize, SourceFault>
         ensures bound { ReadsAtMost result buf.new }
         ensures bytes { ReadConsumes (remaining self.old) (remaining self.new) result buf.new }
         ensures fails { OnErr result (failures self.old < failures self.new) }
+        ensures steady { OnOk result (failures self.new ≡ failures self.old) }
         ensures counts { failures self.old ≤ failures self.new };
 }
 
@@ -47,7 +49,7 @@ impl<R: Read + Drop> Model for FromReader<R> {
 }
 
 impl<R: Read + Drop> FromReader<R> {
-    /// A source that gives what the reader gives.
+    /// Returns a source that gives what `inner` gives.
     pub fn new(inner: R) -> FromReader<R>
         ensures { result ≡ record { inner = inner; failures = 0 } }
     {
@@ -57,7 +59,7 @@ impl<R: Read + Drop> FromReader<R> {
         }
     }
 
-    /// The reader.
+    /// Returns the reader.
     pub fn inner(&self) -> &R
         ensures { result.now ≡ self.now.inner }
     {

@@ -1,8 +1,8 @@
 //! Machines that take one input at a time.
 
-ghost use Rattle.std.specs.Prelude.{◌≡◌, ℕ, ◌+◌, ◌*◌, ◌≤◌, List, length};
+ghost use Rattle.std.specs.Prelude.{◌≡◌, ℕ, ◌+◌, ◌*◌, ◌≤◌, List, length, Bool};
 ghost use Rattle.gabc_places.specs.Held.{HasRoom, added};
-ghost use Rattle.gabc_places.specs.Law.{joined, Gives, Ends};
+ghost use Rattle.gabc_places.specs.Law.{joined, Gives, Ends, GivesNothing, StopsAtEnd};
 
 use crate::Room;
 
@@ -18,30 +18,37 @@ pub trait Stage {
     // how many outputs one call gives at most
     ghost most_of: { Self → ℕ };
 
-    /// How many outputs one call gives at most.
+    // the outputs that end it: behind one of them it gives nothing more
+    ghost is_end: { Self.Output → Bool };
+
+    /// Returns how many outputs one call gives at most.
     fn most(&self) -> usize
         ensures { result ≡ most_of self.now };
 
-    /// Takes an input, and adds to `out` what is known to follow from it.
+    /// Takes `input`, and adds to `out` what is known to follow from it.
     fn push(&mut self, input: Self::Input, out: &mut Room<Self::Output>)
         requires { HasRoom out.old (most_of self.old) }
         ensures most { most_of self.new ≡ most_of self.old }
-        ensures gives { Gives (rest self.old) (rest self.new) input (most_of self.old) out.old out.new };
+        ensures gives { Gives (rest self.old) (rest self.new) input (most_of self.old) out.old out.new }
+        ensures end { StopsAtEnd is_end (rest self.new) out.old out.new };
 
-    /// Ends the inputs, and adds to `out` what was still to come. What a call after it does, no clause says.
+    /// Ends the inputs, and adds to `out` what was still to come. From then on it gives nothing.
     fn finish(&mut self, out: &mut Room<Self::Output>)
         requires { HasRoom out.old (most_of self.old) }
         ensures most { most_of self.new ≡ most_of self.old }
-        ensures ends { Ends (rest self.old) (most_of self.old) out.old out.new };
+        ensures ends { Ends (rest self.old) (most_of self.old) out.old out.new }
+        ensures end { StopsAtEnd is_end (rest self.new) out.old out.new }
+        ensures over { GivesNothing (rest self.new) };
 }
 
-/// Pushes all inputs, and then ends.
+/// Pushes all `inputs`, and then ends them. From then on `stage` gives nothing.
 pub fn drive<S: Stage>(stage: &mut S, inputs: Vec<S::Input>, out: &mut Room<S::Output>)
 where
     S::Input: Drop,
     requires { HasRoom out.old (S.most_of stage.old * (length inputs.items + 1)) }
     ensures most { S.most_of stage.new ≡ S.most_of stage.old }
     ensures gives { out.new ≡ added out.old (joined (S.rest stage.old inputs.items)) }
+    ensures over { GivesNothing (S.rest stage.new) }
 {
     for input in inputs {
         stage.push(input, out);

@@ -110,15 +110,15 @@ fn limits_have_edges(rt: HostRuntime) {
 #[test]
 fn codes_have_kinds_and_names(rt: HostRuntime) {
     for (code, kind, name) in [
-        (Code::E1, Kind::Error, "E1"),
-        (Code::E6, Kind::Error, "E6"),
-        (Code::W1, Kind::Warning, "W1"),
-        (Code::W10, Kind::Warning, "W10"),
-        (Code::W11, Kind::Warning, "W11"),
-        (Code::F1, Kind::Fatal, "F1"),
-        (Code::F7, Kind::Fatal, "F7"),
+        (Code::E1, Severity::Error, "E1"),
+        (Code::E6, Severity::Error, "E6"),
+        (Code::W1, Severity::Warning, "W1"),
+        (Code::W10, Severity::Warning, "W10"),
+        (Code::W11, Severity::Warning, "W11"),
+        (Code::F1, Severity::Fatal, "F1"),
+        (Code::F7, Severity::Fatal, "F7"),
     ] {
-        assert_eq!(rt; code.kind(), kind);
+        assert_eq!(rt; code.severity(), kind);
         assert_eq!(rt; code.name(), name);
     }
 }
@@ -147,4 +147,43 @@ fn laws_are_called() {
     laws::placed_at();
     laws::placed_joined();
     laws::earliest_is_least();
+}
+
+#[test]
+fn prints_the_words_of_messages(rt: HostRuntime) -> Result<(), Fail> {
+    let place = Place {
+        line: 3,
+        column: 15,
+    };
+    let finding = Finding {
+        place,
+        code: Code::W10,
+    };
+    let words = format!(in rt.alloc(); "{place} {} {} {finding}", Code::E6, Severity::Error)?;
+    assert_eq!(rt;
+        words.as_str(),
+        "3:15 E6 error 3:15: warning: W10: fusion bracket not matched"
+    );
+    let fault = Fault {
+        place,
+        code: Code::F7,
+    };
+    let words = format!(in rt.alloc(); "{fault}")?;
+    assert_eq!(rt; words.as_str(), "3:15: fatal: F7: input limit");
+    assert_eq!(rt; Limits::default(), Limits::DEFAULT);
+    Ok(())
+}
+
+#[test]
+fn finds_the_place_of_a_byte(rt: HostRuntime) {
+    let at = |c, column| Char {
+        c,
+        place: Place { line: 1, column },
+    };
+    let chars = [at('a', 1), at('\u{E9}', 5), at('b', 6)];
+    for (byte, column) in [(0, 1), (1, 5), (2, 5), (3, 6)] {
+        let place = Place { line: 1, column };
+        assert_eq!(rt; place_of_byte(&chars, byte), Some(place), "at {byte}");
+    }
+    assert_eq!(rt; place_of_byte(&chars, 4), None);
 }

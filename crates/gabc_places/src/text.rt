@@ -10,7 +10,7 @@ use std::alloc::{AllocError, Global};
 use std::marker::Model;
 
 /// The text of an input. Contracts see the list of its characters.
-#[derive(Drop)]
+#[derive(Debug, Drop)]
 pub struct Text {
     string: String,
 }
@@ -25,7 +25,7 @@ impl Model for Text {
 }
 
 impl Text {
-    /// The empty text.
+    /// Returns the empty text.
     pub fn new(alloc: Global) -> Text
         ensures { result ≡ [] }
     {
@@ -34,7 +34,7 @@ impl Text {
         }
     }
 
-    /// A text of these characters, none of them left out or changed.
+    /// Returns a text of the characters of `text`, none of them left out or changed.
     pub fn from_str(alloc: Global, text: &str) -> Result<Text, AllocError>
         ensures { IfOk result (λ t. t ≡ chars text.now) }
     {
@@ -43,7 +43,7 @@ impl Text {
         })
     }
 
-    /// The text, which has fewer than 2^63 bytes.
+    /// Returns the text, which has fewer than 2^63 bytes.
     pub fn as_str(&self) -> &str
         ensures short { length result.now < 2 ^ 63 }
         ensures bytes { result.now ≡ encode_utf8_all self.now }
@@ -79,7 +79,7 @@ impl Text {
         self.push_str(rest)
     }
 
-    /// The place behind the last character.
+    /// Returns the place behind the last character.
     pub fn end(&self) -> Place
         ensures { result ≡ place_after self.now }
     {

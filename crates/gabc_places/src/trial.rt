@@ -1,10 +1,12 @@
 //! A source and a sink for trials: they give and take as much as they are told, and fail where they are told.
 
-ghost use Rattle.std.specs.Prelude.{◌≡◌, ◌<◌, ◌≤◌, ◌↔◌, [], ◌++◌, length, IfOk, IsErr, OnErr, None, Some};
+ghost use Rattle.std.specs.Prelude.{◌≡◌, ◌<◌, ◌≤◌, ◌↔◌, [], ◌++◌, length, IfOk, IsErr, OnErr, OnOk, None, Some};
 ghost use Rattle.std.specs.Io.{ReadsAtMost, WritesAtMost};
 ghost use Rattle.std.specs.Io.KnownBytes.{ReadConsumes, WriteAppends};
 ghost use Rattle.gabc_places.specs.Counted.{CountsFailure};
 ghost use Rattle.gabc_places.specs.Trial.{given_count, taken_count};
+ghost use Rattle.std.specs.Prelude.{◌-◌};
+ghost use Rattle.std.specs.Option.{option_map};
 
 use crate::count::Count;
 use crate::room::Room;
@@ -13,7 +15,7 @@ use crate::source::{Source, SourceFault};
 use std::alloc::{AllocError, Global};
 use std::marker::Model;
 
-/// A source that gives bytes, at most so many a read. After a number of bytes its reads fail, if it is told to.
+/// A source that gives bytes, at most so many a read. Behind a number of bytes all its reads fail, if it is told to.
 #[derive(Drop)]
 pub struct TrialSource<'a> {
     rest: &'a [u8],
@@ -34,7 +36,7 @@ impl<'a> Model for TrialSource<'a> {
 }
 
 impl<'a> TrialSource<'a> {
-    /// A source of these bytes, at most `most` a read, whose reads fail once it gave `fails_after` bytes.
+    /// Returns a source of `bytes`, at most `most` a read, whose reads fail once it gave `fails_after` bytes.
     pub fn new(bytes: &'a [u8], most: usize, fails_after: Option<usize>) -> TrialSource<'a>
         requires { 0 < most }
         ensures { result ≡ record { rest = bytes.now; most = most; fails_after = fails_after; failures = 0 } }
@@ -59,8 +61,12 @@ impl Source for TrialSource<'_> {
         ensures faults { OnErr result (self.old.failures < self.new.failures) }
         ensures counts { self.old.failures ≤ self.new.failures }
         ensures counted { CountsFailure result self.old.failures self.new.failures }
+        ensures steady { OnOk result (self.new.failures ≡ self.old.failures) }
         ensures fails { IsErr result ↔ (self.old.fails_after ≡ Some 0) }
         ensures count { IfOk result (λ n. n ≡ given_count self.old (length buf.old)) }
+        ensures most { self.new.most ≡ self.old.most }
+        ensures later { IfOk result (λ n. self.new.fails_after ≡ option_map (λ left. left - n) self.old.fails_after) }
+        ensures stays { OnErr result (self.new.fails_after ≡ self.old.fails_after) }
     {
         if self.fails_after == Some(0) {
             self.failures.add_one();
@@ -78,7 +84,7 @@ impl Source for TrialSource<'_> {
     }
 }
 
-/// A sink that takes at most so many bytes a write, and fails once it holds a number of bytes.
+/// A sink that takes at most so many bytes a write. Once it holds a number of bytes, all its writes of more fail.
 #[derive(Drop)]
 pub struct TrialSink {
     taken: Room<u8>,
@@ -98,7 +104,7 @@ impl Model for TrialSink {
 }
 
 impl TrialSink {
-    /// A sink that takes at most `most` bytes a write, and fails where it holds `fails_at` bytes and is given more.
+    /// Returns a sink that takes at most `most` bytes a write, and fails where it holds `fails_at` bytes and is given more.
     pub fn new(alloc: Global, most: usize, fails_at: usize) -> Result<TrialSink, AllocError>
         requires { 0 < most }
         ensures { IfOk result (λ s. s ≡ record { held = []; most = most; fails_at = fails_at; failures = 0 }) }
@@ -110,7 +116,7 @@ impl TrialSink {
         })
     }
 
-    /// The bytes that it holds.
+    /// Returns the bytes that it holds.
     pub fn held(&self) -> &[u8]
         ensures { result.now ≡ self.now.held }
     {
@@ -130,8 +136,11 @@ impl Sink for TrialSink {
         ensures faults { OnErr result (self.old.failures < self.new.failures) }
         ensures counts { self.old.failures ≤ self.new.failures }
         ensures counted { CountsFailure result self.old.failures self.new.failures }
+        ensures steady { OnOk result (self.new.failures ≡ self.old.failures) }
         ensures fails { IsErr result ↔ ((length self.old.held ≡ self.old.fails_at) × (0 < length bytes.now)) }
         ensures count { IfOk result (λ n. n ≡ taken_count self.old (length bytes.now)) }
+        ensures most { self.new.most ≡ self.old.most }
+        ensures fails_at { self.new.fails_at ≡ self.old.fails_at }
     {
         if self.taken.is_full() && !bytes.is_empty() {
             self.failures.add_one();

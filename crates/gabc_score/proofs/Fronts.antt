@@ -20,7 +20,7 @@ use Rattle.gabc_score.specs.declared.ending.Ending.{Ending}
 use Rattle.gabc_score.specs.Parts.{body_told}
 use Rattle.gabc_score.specs.Body.{body_of}
 use Rattle.gabc_score.specs.Score.{front_of, behind_heads, macros_of, body_in}
-use Rattle.gabc_score.proofs.Places.{placed_behind, behind_after}
+use Rattle.gabc_places.proofs.PlacesOfAText.{placed_behind, behind_after}
 
 length_encodes : (t : List ℕ) → length (encodes t) ≡ bytes_len t
 length_encodes [] = refl

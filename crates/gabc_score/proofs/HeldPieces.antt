@@ -27,7 +27,7 @@ use Rattle.gabc_text.specs.Read.{view_in}
 use Rattle.gabc_score.proofs.HeldSteps.{IsBack, SoFar, text_opens, last_text, close_made, next_far, next_made, cut_is}
 use Rattle.gabc_score.proofs.Units.{one, body_tells}
 
-abbrev nothing_of : Char → List Told
+abbrev pub nothing_of : Char → List Told
 nothing_of x = []
 
 -- ---- bytes
@@ -152,7 +152,7 @@ module _ (ends : (at : Place) (t : List ℕ) → EndsOnce at t) (tells : (at : P
 
   -- ---- a body
 
-  comment_tells : (comment : List Char) → joined (map nothing_of comment) ≡ []
+  pub comment_tells : (comment : List Char) → joined (map nothing_of comment) ≡ []
   comment_tells [] = refl
   comment_tells (x ∷ comment) = comment_tells comment
 

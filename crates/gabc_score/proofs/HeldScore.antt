@@ -160,7 +160,7 @@ size_behind n t =
     omega arith
 
 module _ (ends : (at : Place) (t : List ℕ) → EndsOnce at t) (tells : (at : Place) (t : List ℕ) → told_after nothing_told (joined (outs_by_point at t)) ≡ told_in at t) (spans : (t : List ℕ) → Stands (kept t) (view_in t) t) (limits : Limits) (ending : Ending) (t : List ℕ) (short : size t < 2 ^ 63) where
-  behind_short : size (codes_of (placed_after (front_of t) (behind_heads t))) < 2 ^ 63
+  pub behind_short : size (codes_of (placed_after (front_of t) (behind_heads t))) < 2 ^ 63
   behind_short =
       let less : size (behind_heads t) ≤ size t = size_behind (head_len t + 2) t in
       let same : size (codes_of (placed_after (front_of t) (behind_heads t))) ≡ size (behind_heads t) = ap size (codes_placed (front_of t) (behind_heads t)) in

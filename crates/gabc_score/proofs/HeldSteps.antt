@@ -20,7 +20,8 @@ use Rattle.gabc_score.specs.declared.told.Told.TheVariants.{Text, Notes}
 use Rattle.gabc_score.specs.Syllable.{view_of, kept_of, Made, cut, since_close, all_made, made_by, view_with, ended_with, part_with, snippets_with, snippet_at, is_eu, is_nlba}
 use Rattle.gabc_score.specs.Body.{empty_snippet, onto, last_made, cut_of}
 use Rattle.gabc_score.specs.Parts.{notes_told, next_line}
-use Rattle.gabc_score.specs.Holding.{ReadSnippet, opened, in_brackets, HoldsNoNotes, Holds, HoldsWithNotes}
+use Rattle.gabc_score.specs.Holding.{ReadSnippet, opened, in_brackets, IsHeld, HoldsNotes, HoldsNoNotes, Holds, HoldsWithNotes}
+use Rattle.gabc_score.specs.SyllablesOfUnits.{ScoreUnit, NotesAre, HoldsUnit}
 use Rattle.gabc_score.specs.Units.{Mark}
 use Rattle.std.proofs.Math.Nat.{mod-eq_of_lt}
 use Rattle.std.proofs.Math.Numerals.{add-one}
@@ -44,7 +45,7 @@ made_from s eu nlba = record { text = s.view; kept = s.ended ++ s.part; snippets
 
 -- ---- a text
 
-abbrev text_sum : List ℕ → Sum
+abbrev pub text_sum : List ℕ → Sum
 text_sum t = record { view = view_in t; ended = []; part = encodes (kept t); snippets = [] }
 
 -- what the outputs of a text come to before its end, behind a `)` or at the beginning
@@ -63,7 +64,7 @@ text_onto t how told g before = ap (λ ts. onto ts before) g.told_are ∙ onto_a
 abbrev pub IsBack : List ℕ → List ℕ → Type 0
 IsBack input text = (before : List ℕ) × (input ≡ before ++ text)
 
-abbrev codes_in : ReadSnippet → List ℕ
+abbrev pub codes_in : ReadSnippet → List ℕ
 codes_in s = codes_of s.characters
 
 abbrev kept_in : ReadSnippet → List ℕ
@@ -105,19 +106,29 @@ text_opens input lines front end rest told b m g before h = let t = codes_of (fr
   ap all_made (text_onto t text_end.Notes told g before) ∙ (text_within g.mids before).made,
 )
 
+-- the notes that the text opens are those behind it, and have no snippet yet
+pub text_opens_is : (input : List ℕ) (lines : ℕ) (front : List Char) (end : Char) (rest : List Char) → (let t = codes_of (front ++ end ∷ rest) in (told : List Told) (b : IsBack input t) (m : end.c ≡ 40)
+    (g : TextTold t text_end.Notes told) (before : List Told) (h : since_close before ≡ [])
+    → (let far = (text_opens input lines front end rest told b m g before h).0 in (far.text ≡ t) × (far.characters ≡ codes_of front) × (far.earlier ≡ [])))
+unfolding text_opens
+text_opens_is input lines front end rest told b m g before h = (refl, refl, refl)
+
 open_ends : (how : TextEnd) → IsOpenEnd how → (s : Sum) → with_event s (Text (text.Ended how)) ≡ s
 open_ends text_end.Notes o s = absurd o
 open_ends text_end.Finished o s = refl
 open_ends (text_end.Cut place) o s = refl
 
+pub last_text_sum : (t : List ℕ) (how : TextEnd) (told : List Told) → TextTold t how told → IsOpenEnd how → (before : List Told) → since_close before ≡ [] → sum_of (since_close (onto told before)) ≡ text_sum t
+last_text_sum t how told g o before h =
+    ap (λ b. sum_of (since_close b)) (text_onto t how told g before)
+    ∙ ap (λ s. with_event s (Text (text.Ended how))) (text_gathered t how told g before h)
+    ∙ open_ends how o (text_sum t)
+
 -- a last text, which has no notes
 pub last_text : (input : List ℕ) (t : List ℕ) (how : TextEnd) (told : List Told) → IsBack input t → Stands (kept t) (view_in t) t → TextTold t how told → IsOpenEnd how
     → (before : List Told) → since_close before ≡ [] → Holds HoldsNoNotes input (last_made (onto told before)) × (all_made (onto told before) ≡ all_made before)
 last_text input t how told b stands g o before h =
-    let whole : sum_of (since_close (onto told before)) ≡ text_sum t =
-    ap (λ b. sum_of (since_close b)) (text_onto t how told g before)
-    ∙ ap (λ s. with_event s (Text (text.Ended how))) (text_gathered t how told g before h)
-    ∙ open_ends how o (text_sum t) in
+    let whole : sum_of (since_close (onto told before)) ≡ text_sum t = last_text_sum t how told g o before h in
     let view : view_of (since_close (onto told before)) ≡ view_in t = ap (λ (s : Sum). s.view) whole in
     let kept_text : kept_of (since_close (onto told before)) ≡ encodes (kept t) = ap (λ (s : Sum). s.ended ++ s.part) whole in (
       record {
@@ -144,10 +155,10 @@ module _ (input : List ℕ) (lines line : ℕ) (opened_at : Place) (from : List 
   abbrev front : List ℕ
   front = kept far.text ++ opened kept_in far.earlier
 
-  abbrev new : ReadSnippet
+  abbrev pub new : ReadSnippet
   new = record { snippet = snippet_at line (size front) (encodes l.kept); characters = from; kept = l.kept }
 
-  abbrev before_end : List Told
+  abbrev pub before_end : List Told
   before_end = onto (map (notes_told line opened_at) l.mids) before
 
   line_onto : onto told before ≡ Notes line (note.Ended l.how (size l.kept)) ∷ before_end
@@ -255,6 +266,41 @@ module _ (input : List ℕ) (lines line : ℕ) (opened_at : Place) (from : List 
     };
   }
 
+  -- behind the `)` the syllable holds the unit of this text, whose snippets are these
+  holds_unit : (u : ScoreUnit) → u.text ≡ far.text → u.notes ≡ in_brackets codes_in far.earlier new → (xs : List Char) (xss : List (List Char)) → u.snippets ≡ xs ∷ xss
+      → map (λ (s : ReadSnippet). s.characters) (far.earlier ++ new ∷ []) ≡ u.snippets → (eu nlba : Bool) → HoldsUnit lines u (made_from (behind 41) eu nlba)
+  holds_unit u t n xs xss some c eu nlba =
+      let whole = whole_of (kept far.text) far.earlier new in
+      let read : HoldsNotes lines u.notes whole (kept u.text) (behind 41).snippets = record {
+        earlier = far.earlier;
+        last = new;
+        characters_are = n;
+        whole_is = ap (λ v. kept v ++ in_brackets kept_in far.earlier new) (sym t);
+        snippets_are = refl;
+        each = subst (λ v. (before after : List ReadSnippet) (s : ReadSnippet) → far.earlier ++ new ∷ [] ≡ before ++ s ∷ after → IsHeld lines whole (kept v) before s) (sym t) (all_held lines (kept far.text) far.earlier new all_placed);
+      } in
+      record {
+        whole = whole;
+        kept_is = append-nil (encodes (front ++ (l.kept ++ codes ")"))) ∙ ap encodes (append_assoc (kept far.text) (opened kept_in far.earlier) (l.kept ++ codes ")"));
+        view_is = ap view_in (sym t);
+        stands = subst (λ v. Stands whole (view_in far.text) v) (sym t) (view_more (kept far.text) (in_brackets kept_in far.earlier new) (view_in far.text) far.text stands);
+        notes = subst (λ yss. NotesAre lines u yss whole (behind 41).snippets) (sym some) (record { holds = read; characters_are = c });
+      }
+
+  pub close_unit : l.how ≡ note_end.Close → end.c ≡ 41 → (u : ScoreUnit) → u.text ≡ far.text → u.notes ≡ in_brackets codes_in far.earlier new → (xs : List Char) (xss : List (List Char)) → u.snippets ≡ xs ∷ xss
+      → map (λ (s : ReadSnippet). s.characters) (far.earlier ++ new ∷ []) ≡ u.snippets
+      → (m : Made) × (all_made (onto told before) ≡ all_made before ++ m ∷ []) × HoldsUnit lines u m × ((m.eu ≡ is_eu before_end) × (m.nlba ≡ is_nlba before_end)) × (since_close (onto told before) ≡ [])
+  close_unit h e u t n xs xss some c =
+      let eu = is_eu before_end in
+      let nlba = is_nlba before_end in
+      let m = made_by (close_event ∷ since_close before_end) eu nlba in (
+        m,
+        ap all_made (close_onto h) ∙ ap (λ (ms : List Made). ms ++ m ∷ []) (notes_within line opened_at l.mids before l.silent).made,
+        subst (HoldsUnit lines u) (sym (ap (λ s. made_from s eu nlba) close_sum)) (holds_unit u t n xs xss some c eu nlba),
+        (refl, refl),
+        ap since_close (close_onto h),
+      )
+
   pub close_made : l.how ≡ note_end.Close → end.c ≡ 41 → (m : Made) × (all_made (onto told before) ≡ all_made before ++ m ∷ []) × HoldsWithNotes input lines m × (since_close (onto told before) ≡ [])
   close_made h e =
       let eu = is_eu before_end in
@@ -284,6 +330,11 @@ module _ (input : List ℕ) (lines line : ℕ) (opened_at : Place) (from : List 
     line_is = ap (next_line lines) far.line_is ∙ next_turn lines (length far.earlier)
         ∙ ap (λ n. n % (lines + 1)) (sym (length-append far.earlier (new ∷ []) ∙ add-one (length far.earlier)));
   }
+
+  -- the text stays, and the snippet is one more
+  pub next_far_is : (h : l.how ≡ note_end.Next) (e : end.c ≡ 124) → ((next_far h e).text ≡ far.text) × ((next_far h e).characters ≡ far.characters) × ((next_far h e).earlier ≡ far.earlier ++ new ∷ [])
+  unfolding next_far
+  next_far_is h e = (refl, refl, refl)
 
   pub next_made : l.how ≡ note_end.Next → all_made (onto told before) ≡ all_made before
   next_made h = ap all_made (line_onto ∙ ap (λ how. Notes line (note.Ended how (size l.kept)) ∷ before_end) h) ∙ (notes_within line opened_at l.mids before l.silent).made

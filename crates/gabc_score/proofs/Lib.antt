@@ -7,7 +7,6 @@ pub mod Placing
 pub mod Points
 pub mod Slices
 pub mod Texts
-pub mod Places
 pub mod Fronts
 pub mod Units
 pub mod Sorted
@@ -29,3 +28,16 @@ pub mod HeldSteps
 pub mod HeldPieces
 pub mod HeldScore
 pub mod Standing
+pub mod FindingsAreNoFaults
+pub mod NothingIsKeptAtTheEnd
+pub mod LastTagOpensTheSpan
+pub mod UnitsGiveSyllables
+pub mod SyllablesAreThoseOfUnits
+pub mod WholeScores
+pub mod ClosedWithin
+pub mod StoppedScores
+mod SyllablesOfUnitsExamples
+pub mod FrontsAreReadAlike
+pub mod StoppedScoreIsThatOfItsFront
+pub mod ScoreOfTheFront
+mod Telling

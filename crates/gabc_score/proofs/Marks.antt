@@ -145,6 +145,11 @@ module _ (lines : ℕ) where
 
 -- ---- the units
 
+-- the first text begins at the LF behind the comment
+pub first_is : (ys : List Char) → BeginsWithLf ys → (at : Place) × (first_text texts_said ys ≡ text_from texts_said at ys)
+first_is [] h = elim h [ ]
+first_is (x ∷ ys) h = (x.place, refl)
+
 module _ (ends_once : (at : Place) (t : List ℕ) → EndsOnce at t) (gabc_ends : (split : Bool) (macros : ℕ) (p : notes.Point) → EndAtMost split p.here.c (notes.said split macros p))
     (nabc_ends : (t : List ℕ) (x : Char) → EndAtMost true x.c (nabc.told_at t x)) (lines macros : ℕ) where
   gabc_marked : (split : Bool) (back xs : List Char) → Marked split (notes.says_after split macros back xs) xs
@@ -207,10 +212,6 @@ module _ (ends_once : (at : Place) (t : List ℕ) → EndsOnce at t) (gabc_ends 
         ),
         r.1,
       )
-
-  first_is : (ys : List Char) → BeginsWithLf ys → (at : Place) × (first_text texts_said ys ≡ text_from texts_said at ys)
-  first_is [] h = elim h [ ]
-  first_is (x ∷ ys) h = (x.place, refl)
 
   pub units_end : (xs : List Char) (cut : BodyCutting) → IsCut texts_said lines macros xs cut → AllEndAtTheirMarks cut.units
   units_end xs cut h = by cut.units h

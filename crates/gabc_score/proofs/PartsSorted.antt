@@ -62,7 +62,7 @@ text_told (text.Kept c ∷ outs) = text_told outs
 text_told (text.Part p ∷ outs) = text_told outs
 text_told (text.Ended e ∷ outs) = text_told outs
 
-text_found_append : (xs ys : List TextOut) → found_in (xs ++ ys) ≡ found_in xs ++ found_in ys
+pub text_found_append : (xs ys : List TextOut) → found_in (xs ++ ys) ≡ found_in xs ++ found_in ys
 text_found_append [] ys = refl
 text_found_append (text.Found f ∷ xs) ys = ap (λ (fs : List Finding). f ∷ fs) (text_found_append xs ys)
 text_found_append (text.Kept c ∷ xs) ys = text_found_append xs ys

@@ -73,7 +73,7 @@ made_more t before = by (closes t)
     by true = (made_by (t ∷ since_close before) (is_eu before) (is_nlba before) ∷ [], refl)
     by false = ([], sym (append-nil (all_made before)))
 
-made_after : (now before : List Told) → (more : List Made) × (all_made (onto now before) ≡ all_made before ++ more)
+pub made_after : (now before : List Told) → (more : List Made) × (all_made (onto now before) ≡ all_made before ++ more)
 made_after [] before = ([], sym (append-nil (all_made before)))
 made_after (t ∷ now) before =
     let first = made_more t before in

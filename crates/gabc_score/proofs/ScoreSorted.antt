@@ -26,7 +26,7 @@ use Rattle.gabc_score.specs.Units.{Closes, Cutting, IsCutFrom, EndsBehind, whole
 use Rattle.gabc_score.specs.Body.{onto, findings_of, Reached, reached, stopped_by, code_at, read_by, ended_at, ended_by, ended_whole, stopped, found_at_end, has_last, fault_of_end, cut_of}
 use Rattle.gabc_score.specs.Score.{front_of, behind_heads, macros_of, score_of, score_by}
 use Rattle.gabc_score.proofs.Units.{one, body_tells}
-use Rattle.gabc_score.proofs.Places.{placed_behind, behind_after}
+use Rattle.gabc_places.proofs.PlacesOfAText.{placed_behind, behind_after}
 use Rattle.gabc_score.proofs.Sorted.{IsBefore, AllFrom, AllUpTo, AllBefore, past_up_to, past_append, next_behind, before_then, from_earlier, from_front, before_append, order_append, order_then, order_front, all_before, lie_up_to, no_notes}
 use Rattle.gabc_score.proofs.PartsSorted.{found, found_append, found_onto, TextsLie, SnippetsLie, LieLast}
 use Rattle.gabc_score.proofs.PiecesSorted.{Short, short_past, pieces_lie}

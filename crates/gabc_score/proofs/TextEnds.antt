@@ -143,7 +143,7 @@ nothing_joined : (rest : List ℕ) → joined (nothing_each rest) ≡ []
 nothing_joined [] = refl
 nothing_joined (c ∷ rest) = nothing_joined rest
 
-length_of_codes : (xs : List Char) → length (codes_of xs) ≡ length xs
+pub length_of_codes : (xs : List Char) → length (codes_of xs) ≡ length xs
 length_of_codes [] = refl
 length_of_codes (x ∷ xs) = ap (λ n. suc n) (length_of_codes xs)
 
@@ -234,3 +234,25 @@ module _ (ends : (at : Place) (t : List ℕ) → EndsOnce at t) (tells : (at : P
     text_told_by (codes_of xs) (joined (told_through (InText (texts_said at xs)) xs))
         (ap (λ ls. joined (told_through (InText ls) xs)) e.outs_are ∙ endless_through lines e.before e.last e.how e.rest xs e.none_in_last (short xs) (subst (λ ls. Endless lines (InText ls) xs) e.outs_are h)),
   )
+
+  -- what is told of a text through its end is what it gives
+  told_all : (t : List ℕ) → (let e = ends at t in through lines e.before e.last e.how ≡ text_told (joined (outs_by_point at t)))
+  told_all t = let e = ends at t in
+      sym (map-append (λ (o : TextOut). Text o) (joined e.before ++ e.last) (text.Ended e.how ∷ []))
+      ∙ ap text_told (sym (joined_all e.before e.last e.how e.rest) ∙ ap joined (sym e.outs_are))
+
+  pub ended_tells : (front : List Char) (end : Char) (rest : List Char) (mark : Mark) → (let xs = front ++ end ∷ rest in
+      EndsBehind lines (InText (texts_said at xs)) front mark → joined (told_through (InText (texts_said at xs)) front) ≡ text_told (joined (outs_by_point at (codes_of xs))))
+  ended_tells front end rest mark h =
+      let xs = front ++ end ∷ rest in
+      let e = ends at (codes_of xs) in
+      ap (λ ls. joined (told_through (InText ls) front)) e.outs_are
+      ∙ (ends_through lines e.before e.last e.how e.rest front mark e.none_before e.none_in_last (subst (λ ls. EndsBehind lines (InText ls) front mark) e.outs_are h)).0
+      ∙ told_all (codes_of xs)
+
+  pub endless_tells : (xs : List Char) → Endless lines (InText (texts_said at xs)) xs → joined (told_through (InText (texts_said at xs)) xs) ≡ text_told (joined (outs_by_point at (codes_of xs)))
+  endless_tells xs h =
+      let e = ends at (codes_of xs) in
+      ap (λ ls. joined (told_through (InText ls) xs)) e.outs_are
+      ∙ endless_through lines e.before e.last e.how e.rest xs e.none_in_last (short xs) (subst (λ ls. Endless lines (InText ls) xs) e.outs_are h)
+      ∙ told_all (codes_of xs)

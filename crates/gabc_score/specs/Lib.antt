@@ -13,3 +13,4 @@ pub mod Units
 pub mod Stops
 pub mod Marks
 pub mod Holding
+pub mod SyllablesOfUnits

@@ -1,6 +1,7 @@
 -- What the machine over a body will still tell. It is no promise: that it tells what a body tells is proved, where no count of
 -- the body reaches its last value.
-use Rattle.std.specs.Prelude.{ℕ, List}
+use Rattle.std.specs.Prelude.{ℕ, List, Bool, if◌then◌else◌}
+use Rattle.gabc_places.specs.Law.{silence}
 use Rattle.gabc_places.specs.declared.place.Char.{Char}
 use Rattle.gabc_text.specs.Outs.{codes_of}
 use Rattle.gabc_text.specs.Rest as text
@@ -16,6 +17,7 @@ pub record Reads : Type 0 where
   pub nabc_lines : ℕ
   pub macros : ℕ
   pub part : rust.Part
+  pub over : Bool
 
 -- the part, with the lists that it will still tell of these characters and the end
 abbrev pub part_with : rust.Part → List Char → Part
@@ -30,3 +32,7 @@ texts_run at xs = text.rest_of (fresh at) (codes_of xs)
 
 abbrev pub rest_told : Reads → List Char → List (List Told)
 rest_told r xs = told_from texts_run r.nabc_lines r.macros (part_with r.part xs) xs
+
+-- behind the end of the input it tells nothing
+abbrev pub events_left : Reads → List Char → List (List Told)
+events_left r xs = if r.over then silence xs else rest_told r xs

@@ -1,6 +1,6 @@
 //! A machine over the texts and notes of a body, one part after the other.
 
-ghost use Rattle.std.specs.Prelude.{◌≡◌, ◌+◌, ◌∷◌, ℕ, List, [], map, length, ◌≤◌, OnOk, IfOk, option_map, if◌then◌else◌};
+ghost use Rattle.std.specs.Prelude.{◌≡◌, ◌+◌, ◌∷◌, ℕ, List, [], map, length, ◌≤◌, OnOk, IfOk, option_map, false, if◌then◌else◌};
 ghost use Rattle.gabc_places.specs.declared.place.Char.{Char};
 ghost use Rattle.gabc_places.specs.declared.place.Place.{Place};
 ghost use Rattle.gabc_places.specs.Held.{HasRoom, added};
@@ -11,7 +11,7 @@ ghost use Rattle.gabc_text.specs.Rest.{rest_of as text_rest};
 ghost use Rattle.gabc_text.specs.Outs.{codes_of, Fits};
 ghost use Rattle.gabc_score.specs.Pushed.{Pushes, Finishes};
 ghost use Rattle.gabc_places.specs.Place.{placed_from};
-ghost use Rattle.gabc_score.specs.Read.{part_with, rest_told, texts_run};
+ghost use Rattle.gabc_score.specs.Read.{part_with, rest_told, events_left, texts_run};
 ghost use Rattle.gabc_score.specs.declared.told.Told.TheVariants.{Text as of_text};
 
 use crate::Told;
@@ -47,6 +47,8 @@ pub struct BodyStage {
     nabc_lines: u8,
     macros: u16,
     part: Part,
+    /// Whether the input has ended.
+    over: bool,
     texts: Room<TextOut>,
     notes: Room<NoteOut>,
 }
@@ -57,7 +59,7 @@ impl Model for BodyStage {
 
     ghost Value = { Reads };
 
-    ghost view = { λ b. record { nabc_lines = b.nabc_lines; macros = b.macros; part = b.part } };
+    ghost view = { λ b. record { nabc_lines = b.nabc_lines; macros = b.macros; part = b.part; over = b.over } };
 
     ghost invariant = { λ b. (8 ≤ b.texts.limit) × (3 ≤ b.notes.limit) };
 }
@@ -210,12 +212,12 @@ fn behind(place: Place) -> Place
 }
 
 impl BodyStage {
-    /// A stage before the first character of a body, behind the `%%` of the headers. `nabc_lines` is the number of NABC lines
+    /// Returns a stage before the first character of a body, behind the `%%` of the headers. `nabc_lines` is the number of NABC lines
     /// under each GABC snippet, and the bit `d` of `macros` tells that the macro of the digit `d` is defined. It tells what the
     /// definition says of each body in which no count reaches its last value.
     pub fn new(alloc: Global, nabc_lines: u8, macros: u16) -> Result<BodyStage, AllocError>
-        ensures run { IfOk result (λ stage. (xs : List Char) → rest_told stage xs ≡ told_from texts_run nabc_lines macros InComment xs) }
-        ensures said { IfOk result (λ stage. (at : Place) (t : List ℕ) → Fits at t → rest_told stage (placed_from at t) ≡ body_told nabc_lines macros (placed_from at t)) }
+        ensures run { IfOk result (λ stage. (xs : List Char) → events_left stage xs ≡ told_from texts_run nabc_lines macros InComment xs) }
+        ensures said { IfOk result (λ stage. (at : Place) (t : List ℕ) → Fits at t → events_left stage (placed_from at t) ≡ body_told nabc_lines macros (placed_from at t)) }
     {
         // Its clause says where the machine over a text gives what the definition says.
         fresh_gives();
@@ -225,6 +227,7 @@ impl BodyStage {
             nabc_lines,
             macros,
             part: Part::Comment,
+            over: false,
             texts,
             notes,
         })
@@ -237,13 +240,13 @@ impl BodyStage {
         if line == 0 {
             Part::Notes {
                 opened,
-                stage: NoteStage::new(opened, 0 < self.nabc_lines, self.macros),
+                stage: NoteStage::new(0 < self.nabc_lines, self.macros),
             }
         } else {
             Part::Nabc {
                 line,
                 opened,
-                stage: NabcStage::new(opened),
+                stage: NabcStage::new(),
             }
         }
     }
@@ -263,7 +266,8 @@ impl BodyStage {
     fn push_part(&mut self, x: Char, out: &mut Room<Told>)
         requires part { (xs : List Char) → standing texts_run (part_with self.old.part (x ∷ xs)) x xs ≡ part_with self.old.part (x ∷ xs) }
         requires out { HasRoom out.old 8 }
-        ensures { Gives (rest_told self.old) (rest_told self.new) x 8 out.old out.new }
+        ensures gives { Gives (rest_told self.old) (rest_told self.new) x 8 out.old out.new }
+        ensures over { self.new.over ≡ self.old.over }
     {
         match &mut self.part {
             Part::Comment => {}
@@ -299,15 +303,20 @@ impl Stage for BodyStage {
 
     type Output = Told;
 
-    ghost rest = { rest_told };
+    ghost rest = { events_left };
 
     ghost most_of = { λ _. 8 };
+
+    ghost is_end = { λ _. false };
 
     fn most(&self) -> usize {
         8
     }
 
     fn push(&mut self, x: Char, out: &mut Room<Told>) {
+        if self.over {
+            return;
+        }
         if let Part::Comment = self.part {
             if x.c != '\n' {
                 return;
@@ -317,7 +326,12 @@ impl Stage for BodyStage {
         self.push_part(x, out);
     }
 
+    #[tactic(auto, using(gabc_places::proofs::StageLaws::joined_silence))]
     fn finish(&mut self, out: &mut Room<Told>) {
+        if self.over {
+            return;
+        }
+        self.over = true;
         match &mut self.part {
             Part::Comment => out.push(Told::Text(TextOut::Ended(TextEnd::Finished))),
             Part::Text(stage) => finish_text(stage, &mut self.texts, out),

@@ -1,9 +1,12 @@
 //! Laws of the definitions that contracts speak of. The functions do nothing, or call the laws below that they stand on: each is
 //! there for its clauses.
 
-ghost use Rattle.std.specs.Prelude.{◌≡◌, ◌+◌, ◌<◌, ◌^◌, ℕ, List, [], ◌∷◌, ◌++◌, length, ◌⊎◌, encode_utf8_all};
+ghost use Rattle.std.specs.Prelude.{◌≡◌, ◌≢◌, ◌+◌, ◌-◌, ◌<◌, ◌^◌, ℕ, List, [], ◌∷◌, ◌++◌, length, ◌⊎◌, encode_utf8_all, Some, None};
 ghost use Rattle.std.specs.List.{All};
 ghost use Rattle.gabc_places.specs.Findings.{AreInOrder};
+ghost use Rattle.gabc_places.specs.Code.{severity_of};
+ghost use Rattle.gabc_places.specs.declared.code.Finding.{Finding};
+ghost use Rattle.gabc_places.specs.declared.severity.Severity.TheVariants.{Fatal};
 ghost use Rattle.gabc_places.specs.declared.place.Char.{Char};
 ghost use Rattle.gabc_places.specs.declared.limits.Limits.{Limits};
 ghost use Rattle.gabc_places.specs.declared.place.Span.{Span};
@@ -11,8 +14,11 @@ ghost use Rattle.gabc_text.specs.Said.{StandsFor};
 ghost use Rattle.gabc_score.specs.declared.ending.Ending.{Ending};
 ghost use Rattle.gabc_score.specs.Syllable.{Said, slice};
 ghost use Rattle.gabc_score.specs.Holding.{HoldsParts, HoldsWithNotes, lines_of};
+ghost use Rattle.gabc_headers.specs.Book.{nabc_lines_of};
+ghost use Rattle.gabc_score.specs.declared.ending.Ending.TheVariants.{Whole};
 ghost use Rattle.gabc_score.specs.Score.{score_of};
-ghost use Rattle.gabc_score.specs.Body.{reached};
+ghost use Rattle.gabc_score.specs.SyllablesOfUnits.{unit_characters, score_units, units_within, whole_front, AreSyllablesOf, IsBodyCut, StandBeforeBodyStop};
+ghost use Rattle.gabc_score.specs.Body.{reached, onto, code_at};
 ghost use Rattle.gabc_score.specs.Stops.{StopsAt, NeverStops};
 ghost use Rattle.gabc_score.specs.declared.told.Told.{Told};
 ghost use Rattle.gabc_score.specs.Parts.{Texts, texts_said, body_told};
@@ -23,6 +29,11 @@ ghost use Rattle.gabc_score.specs.Units.{BodyCutting, IsCut, cutting_told};
 pub fn a_body_has_one_cutting()
     ensures one { (texts : Texts) (lines macros : ℕ) (xs : List Char) → (cut : BodyCutting) × IsCut texts lines macros xs cut }
     ensures no_other { (texts : Texts) (lines macros : ℕ) (xs : List Char) (cut other : BodyCutting) → IsCut texts lines macros xs cut → IsCut texts lines macros xs other → cut ≡ other }
+{}
+
+/// A body tells a list for each character, and one for its end.
+pub fn a_body_tells_each_character()
+    ensures { (lines macros : ℕ) (xs : List Char) → length (body_told lines macros xs) ≡ length xs + 1 }
 {}
 
 /// What a body tells is what the parts of its units tell, one after the other: each through the character that ends it.
@@ -75,4 +86,77 @@ pub fn a_syllable_holds_its_parts()
     gabc_text::laws::a_text_ends_once();
     gabc_text::laws::outs_tell_all();
     gabc_text::laws::spans_stand();
+}
+
+/// What a score finds is an error or a warning: no finding is a fault.
+pub fn findings_are_no_faults()
+    ensures { (limits : Limits) (ending : Ending) (t : List ℕ)
+        → All (λ (f : Finding). severity_of f.code ≢ Fatal) (score_of limits ending t).findings }
+{
+    gabc_text::laws::findings_lie_within();
+}
+
+/// Where the reading of a body gets to the end, no limit is passed by what is told there: at its end a body keeps nothing
+/// and ends no syllable. So where the input ends inside notes, a tag, a raw part or a translation, F6 hides no F5 or F7 of
+/// the same point.
+pub fn no_limit_is_passed_at_an_open_end()
+    ensures { (limits : Limits) (head lines macros : ℕ) (xs : List Char)
+        → (let r = reached limits head [] xs (body_told lines macros xs) in
+        r.fault ≡ None → code_at limits head (onto r.last r.before) ≡ None) }
+{
+    gabc_text::laws::a_text_ends_once();
+}
+
+/// The syllables of a score are those of the units of its body: of a whole score there are as many, and the syllable at a
+/// place is that of the unit at this place. Of a stopped score they are those of the units whose `)` stands before the stop.
+/// A body is its comment and the characters of its units, one after the other.
+pub fn the_syllables_are_those_of_the_units()
+    ensures characters { (texts : Texts) (lines macros : ℕ) (xs : List Char) (cut : BodyCutting)
+        → IsCut texts lines macros xs cut → xs ≡ cut.comment ++ unit_characters cut.units }
+    ensures whole { (limits : Limits) (t : List ℕ) (book : List (List ℕ × List ℕ))
+        (cut : BodyCutting) → length (encode_utf8_all t) < 2 ^ 63
+        → (let score = score_of limits Whole t in
+        score.book ≡ Some book → IsBodyCut book t cut → score.fault ≡ None
+        → AreSyllablesOf (nabc_lines_of book) (score_units cut.units) score.syllables) }
+    ensures stopped { (limits : Limits) (ending : Ending) (t : List ℕ)
+        (book : List (List ℕ × List ℕ)) (cut : BodyCutting) (n : ℕ)
+        → length (encode_utf8_all t) < 2 ^ 63
+        → (let score = score_of limits ending t in
+        score.book ≡ Some book → IsBodyCut book t cut → StandBeforeBodyStop limits book t n
+        → ¬ ((ending ≡ Whole) × (score.fault ≡ None))
+        → AreSyllablesOf (nabc_lines_of book)
+        (units_within (n - length cut.comment) cut.units) score.syllables) }
+    ensures stop { (limits : Limits) (book : List (List ℕ × List ℕ)) (t : List ℕ)
+        → (n : ℕ) × StandBeforeBodyStop limits book t n }
+{
+    gabc_text::laws::a_text_ends_once();
+    gabc_text::laws::outs_tell_all();
+    gabc_text::laws::outs_in_order();
+    gabc_text::laws::spans_stand();
+}
+
+/// A score that is stopped behind the headers, by a fault or by a source that failed, has the book and the syllables of its
+/// front read as a whole: of the text through the `)` of the last unit that ends before the stop, or through the `%%`, if
+/// none does. This front is read without a fault.
+pub fn a_stopped_score_is_that_of_its_front()
+    ensures { (limits : Limits) (ending : Ending) (t : List ℕ)
+        (book : List (List ℕ × List ℕ)) (cut : BodyCutting) (n : ℕ)
+        → length (encode_utf8_all t) < 2 ^ 63
+        → (let score = score_of limits ending t in
+        let again = score_of limits Whole (whole_front t cut n) in
+        score.book ≡ Some book → IsBodyCut book t cut → StandBeforeBodyStop limits book t n
+        → ¬ ((ending ≡ Whole) × (score.fault ≡ None))
+        → (again.book ≡ score.book)
+        × ((again.syllables ≡ score.syllables) × (again.fault ≡ None))) }
+{
+    gabc_headers::laws::the_body_follows_the_mark();
+    gabc_headers::laws::the_headers_end_at_their_mark();
+    gabc_text::laws::a_text_ends_once();
+    gabc_text::laws::outs_tell_all();
+    gabc_text::laws::outs_in_order();
+    gabc_text::laws::spans_stand();
+    gabc_text::laws::fresh_gives();
+    gabc_text::laws::given_so_far();
+    gabc_notes::laws::what_follows_tells_nothing();
+    gabc_nabc::laws::what_follows_tells_nothing();
 }

@@ -1,4 +1,17 @@
 //! The score: syllables with their positions, what was found, and what stopped the reading.
+//!
+//! ```
+//! let text = Text::from_str(alloc, "%%\nKy(f)ri(gfg)e(x.)")?;
+//! let score = score_whole(alloc, &text, Ending::Whole, Limits::DEFAULT)?;
+//! for syllable in &score.syllables {
+//!     for snippet in &syllable.snippets {
+//!         let notes = syllable.slice(snippet.span); // "f", "gfg", ""
+//!     }
+//! }
+//! for finding in &score.findings {
+//!     let message = format!(in alloc; "{finding}")?; // "2:16: error: E1: character left out of the notes"
+//! }
+//! ```
 #![tactic(auto)]
 
 mod body;

@@ -6,7 +6,7 @@ use gabc_places::{Fault, Findings};
 
 /// What a score says: its headers, which are missing where a fault lies in them, its whole syllables, what was found, and what
 /// stopped the reading.
-#[derive(Drop)]
+#[derive(Debug, Drop)]
 pub struct Score {
     pub book: Option<HeaderBook>,
     pub syllables: Syllables,

@@ -21,7 +21,7 @@ impl Position {
     ghost use Rattle.std.specs.Prelude.{◌≡◌};
     ghost use Rattle.gabc_score.specs.Canonical.{starts_word};
 
-    /// Whether a syllable that stands there begins its word.
+    /// Returns whether a syllable that stands there begins its word.
     pub fn starts_word(self) -> bool
         ensures { result ≡ starts_word self }
     {
@@ -33,7 +33,7 @@ impl Position {
 }
 
 /// A text with its notes in parentheses (GregorioRef, "Syllable Text Syntax").
-#[derive(Drop)]
+#[derive(Debug, Drop)]
 pub struct Syllable {
     pub text: TextView,
     /// The text from the blanks before it to its `)`, without comments and what was left out. Spans count its bytes.
@@ -50,21 +50,21 @@ impl Syllable {
     ghost use Rattle.gabc_score.specs.Syllable.{made_of, slice};
     ghost use Rattle.gabc_score.specs.Canonical.{canonical, starts_word};
 
-    /// The bytes of a span of its kept text. What lies past the text has none.
+    /// Returns the bytes of `span` in its kept text. What lies past the text has none.
     pub fn slice(&self, span: Span) -> &[u8]
         ensures { result.now ≡ slice span (string_bytes self.now.kept) }
     {
         slice_of(self.kept.as_str(), span)
     }
 
-    /// Whether it begins a word.
+    /// Returns whether it begins a word.
     pub fn starts_word(&self) -> bool
         ensures { result ≡ starts_word self.now.position }
     {
         self.position.starts_word()
     }
 
-    /// The bytes of its canonical text, or the last value of a `usize` where there are more. It asks for no memory.
+    /// Returns the number of bytes of its canonical text; it saturates at the last value of a `usize`.
     pub fn canonical_len(&self) -> usize
         ensures { result ≡ min (length (canonical (starts_word self.now.position) (made_of self.now))) (2 ^ 64 - 1) }
     {

@@ -1,14 +1,17 @@
 //! A list of syllables.
 
-ghost use Rattle.std.specs.Prelude.{◌≡◌};
+ghost use Rattle.std.specs.Prelude.{◌≡◌, ◌↔◌, [], length, map, IsTrue};
+ghost use Rattle.std.specs.Slice.Iter.{iter_rest};
+ghost use Rattle.gabc_score.specs.Syllable.{said};
 ghost use Rattle.gabc_score.specs.Canonical.{position_by};
 
 use crate::syllable::{Position, Syllable};
 use std::alloc::Global;
 use std::marker::Model;
+use std::slice::Iter;
 
 /// Syllables in order. Contracts see the list of them, each with the bytes of its kept text.
-#[derive(Drop)]
+#[derive(Debug, Drop)]
 pub struct Syllables {
     items: Vec<Syllable>,
 }
@@ -63,10 +66,43 @@ impl Syllables {
         Syllables { items }
     }
 
-    /// The syllables in order.
+    /// Returns the number of syllables.
+    pub fn len(&self) -> usize
+        ensures { result ≡ length self.now }
+    {
+        self.items.len()
+    }
+
+    /// Returns whether there are no syllables.
+    pub fn is_empty(&self) -> bool
+        ensures { IsTrue result ↔ (self.now ≡ []) }
+    {
+        self.items.is_empty()
+    }
+
+    /// Returns the syllables in order.
     pub fn as_slice(&self) -> &[Syllable]
         ensures { map said result.now ≡ self.now }
     {
         self.items.as_slice()
+    }
+
+    /// Goes over the syllables in order.
+    pub fn iter(&self) -> Iter<'_, Syllable>
+        ensures { map said (iter_rest result) ≡ self.now }
+    {
+        self.items.iter()
+    }
+}
+
+impl<'a> IntoIterator for &'a Syllables {
+    type Item = &'a Syllable;
+
+    type IntoIter = Iter<'a, Syllable>;
+
+    ghost into_iter_gives = { λ syllables r. map said (iter_rest r) ≡ syllables.now };
+
+    fn into_iter(self) -> Iter<'a, Syllable> {
+        self.items.iter()
     }
 }

@@ -17,8 +17,8 @@ use gabc_headers::{HeadFault, HeaderBook, Heads, headers_whole};
 use gabc_places::{Fault, Limits, Place, Text};
 use std::alloc::{AllocError, Global};
 
-/// The score of a text that ended so: its headers, its syllables and what was found, up to the first fault (GregorioRef, "Headers"
-/// and "Syllable Text Syntax"). It fails for want of memory alone.
+/// Reads the score of `text`, which ended so: its headers, its syllables and what was found, up to the first fault (GregorioRef,
+/// "Headers" and "Syllable Text Syntax"). `gabc_places::text_of` gives the text, and the fault of an `Ending::At`.
 pub fn score_whole(
     alloc: Global,
     text: &Text,

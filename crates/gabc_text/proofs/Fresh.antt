@@ -36,7 +36,8 @@ use Rattle.gabc_text.proofs.Given.{spot_of, spot_given}
 use Rattle.gabc_text.proofs.Run.{onto}
 use Rattle.gabc_text.proofs.Since.{seen_step, spot_step, spot_after, behind, read_none}
 use Rattle.gabc_text.proofs.Shifted.{lists_by, lists_from}
-use Rattle.gabc_text.proofs.Spelled.{flat, text_onto, whole_text}
+use Rattle.gabc_text.specs.Printed.{written}
+use Rattle.gabc_text.proofs.Spelled.{text_onto, whole_text}
 use Rattle.gabc_text.proofs.Stepwise.{stepwise, stepwise_left}
 use Rattle.gabc_text.proofs.Ahead.{rest_by, left_by, rest_is, left_is}
 
@@ -252,11 +253,11 @@ module _ (at : Place) (full : List ℕ) (fits : Fits at full) where
   all_fresh : (ks before : List Token) (rest : List ℕ) → Behind (onto ks before) rest → lists_from [] (fresh at) before ks rest ≡ along (lists_at at) before ks ++ lists_end at (onto ks before) rest
   all_fresh [] before rest e = end_fresh before rest e
   all_fresh (k ∷ ks) before rest e =
-      let more : Behind before (spelling k ++ (flat ks ++ rest)) =
-      sym (append_assoc (text_of before) (spelling k) (flat ks ++ rest)) ∙ sym (append_assoc (text_of before ++ spelling k) (flat ks) rest)
+      let more : Behind before (spelling k ++ (written ks ++ rest)) =
+      sym (append_assoc (text_of before) (spelling k) (written ks ++ rest)) ∙ sym (append_assoc (text_of before ++ spelling k) (written ks) rest)
       ∙ ap (λ (x : List ℕ). x ++ rest) (sym (text_onto ks (k ∷ before))) ∙ e in
       append_assoc (lists_past [] (fresh at) before k) (along (lists_past [] (fresh at)) (k ∷ before) ks) (lists_last [] (fresh at) (onto ks (k ∷ before)) rest)
-      ∙ ap (λ (x : List (List TextOut)). x ++ lists_from [] (fresh at) (k ∷ before) ks rest) (lists_fresh before k (flat ks ++ rest) more)
+      ∙ ap (λ (x : List (List TextOut)). x ++ lists_from [] (fresh at) (k ∷ before) ks rest) (lists_fresh before k (written ks ++ rest) more)
       ∙ ap (λ (x : List (List TextOut)). lists_at at before k ++ x) (all_fresh ks (k ∷ before) rest e)
       ∙ sym (append_assoc (lists_at at before k) (along (lists_at at) (k ∷ before) ks) (lists_end at (onto ks (k ∷ before)) rest))
 

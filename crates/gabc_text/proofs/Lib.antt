@@ -47,3 +47,7 @@ pub mod Parted
 pub mod Findings
 pub mod Ending
 pub mod Lying
+pub mod PrintedEnds
+pub mod WordBegins
+pub mod NothingBehindTheEnd
+pub mod KeptCharacters

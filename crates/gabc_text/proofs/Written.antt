@@ -15,7 +15,7 @@ use Rattle.gabc_text.specs.Token.{Token, spelling, tokens, is_special}
 use Rattle.gabc_text.specs.View.{Said, kept, saying, is_word_kind, is_blank_piece, centre_by, begin_of, end_of}
 use Rattle.gabc_text.specs.Read.{view_in, pieces_in}
 use Rattle.gabc_text.specs.Canonical.{after_common, opening, closing, braces, boundary, spanned, escaped, piece_text, piece_text_by, text_from, canonical_text}
-use Rattle.gabc_text.specs.Said.{said_in, view_said, IsPiece, AreSaid, kept_of_piece}
+use Rattle.gabc_text.specs.Said.{said_in, view_said, Stands, IsPiece, AreSaid, kept_of_piece}
 use Rattle.gabc_text.specs.Printed.{opening_tag, closing_tag, begin_brace, end_brace, brace_tokens, between, letter, spelled_as, printed, print_from, text_tokens, written}
 use Rattle.gabc_text.proofs.Names.{by_case}
 use Rattle.gabc_text.proofs.Modes.{turned}
@@ -171,7 +171,10 @@ same_length K [] (q ∷ qs) h = absurd h
 same_length K (p ∷ ps) [] h = absurd h
 same_length K (p ∷ ps) (q ∷ qs) h = ap (λ (n : ℕ). suc n) (same_length K ps qs h.1)
 
-pub canonical_is : (t : List ℕ) → canonical_text (view_in t) (encodes (kept t)) ≡ encodes (written (text_tokens (view_said t)))
-canonical_is t =
-    ap (λ (n : ℕ). text_from (centre_by n (begin_of (reverse (tokens t))) (end_of (reverse (tokens t)))) (encodes (kept t)) 0 [] (pieces_in t)) (same_length (kept t) (pieces_in t) (said_in t) (pieces_said t))
-    ∙ from_bytes (kept t) (centre_by (length (said_in t)) (begin_of (reverse (tokens t))) (end_of (reverse (tokens t)))) 0 [] (pieces_in t) (said_in t) false false (pieces_said t) (pieces_good t)
+pub canonical_is : (K t : List ℕ) → Stands K (view_in t) t → canonical_text (view_in t) (encodes K) ≡ encodes (written (text_tokens (view_said t)))
+canonical_is K t h =
+    ap (λ (n : ℕ). text_from (centre_by n (begin_of (reverse (tokens t))) (end_of (reverse (tokens t)))) (encodes K) 0 [] (pieces_in t)) (same_length K (pieces_in t) (said_in t) h.pieces)
+    ∙ from_bytes K (centre_by (length (said_in t)) (begin_of (reverse (tokens t))) (end_of (reverse (tokens t)))) 0 [] (pieces_in t) (said_in t) false false h.pieces (pieces_good t)
+
+pub centre_same : (t : List ℕ) → (view_in t).centre ≡ (view_said t).centre
+centre_same t = ap (λ (n : ℕ). centre_by n (begin_of (reverse (tokens t))) (end_of (reverse (tokens t)))) (same_length (kept t) (pieces_in t) (said_in t) (pieces_said t))

@@ -14,5 +14,6 @@ pub mod Step
 pub mod Told
 pub mod Token
 pub mod View
+pub mod End
 pub mod Ends
 pub mod Raw

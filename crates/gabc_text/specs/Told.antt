@@ -12,6 +12,7 @@ use Rattle.gabc_text.specs.declared.stage.TextOut.{TextOut}
 use Rattle.gabc_text.specs.declared.stage.TextOut.TheVariants as out
 use Rattle.gabc_text.specs.declared.whole.Reading.{Reading}
 use Rattle.gabc_places.specs.declared.place.Place.{Place}
+use Rattle.gabc_places.specs.declared.place.Char.{Char}
 use Rattle.gabc_text.specs.Token.{tokens}
 use Rattle.gabc_text.specs.View.{kept, findings}
 use Rattle.gabc_text.specs.Outs.{end_after, after_tokens}
@@ -74,3 +75,9 @@ abbrev pub found_in : List TextOut → List Finding
 found_in [] = []
 found_in (out.Found f ∷ os) = f ∷ found_in os
 found_in (o ∷ os) = found_in os
+
+-- the characters that are kept, among the events, each with its place
+abbrev pub kept_chars_in : List TextOut → List Char
+kept_chars_in [] = []
+kept_chars_in (out.Kept c ∷ os) = c ∷ kept_chars_in os
+kept_chars_in (o ∷ os) = kept_chars_in os

@@ -233,7 +233,7 @@ fn piece_len(piece: Piece, kept: &str) -> usize
     }
 }
 
-/// How many bytes `write_text` adds. A length that is no `usize` is told as the last one.
+/// Returns how many bytes `write_text` adds; it saturates at the last value of a `usize`.
 pub fn text_len(view: &TextView, kept: &str) -> usize
     ensures { result ≡ min (length (canonical_text view.now kept.now)) (2 ^ 64 - 1) }
 {

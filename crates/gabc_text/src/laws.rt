@@ -1,6 +1,6 @@
 //! Laws of the definitions that contracts speak of. The functions do nothing: each is there for its clauses.
 
-ghost use Rattle.std.specs.Prelude.{◌≡◌, ℕ, ◌+◌, ◌<◌, List, [], ◌∷◌, ◌++◌, length, take, false, cond, codes, encode_utf8_all};
+ghost use Rattle.std.specs.Prelude.{◌≡◌, ℕ, ◌+◌, ◌<◌, List, [], ◌∷◌, ◌++◌, length, take, true, false, cond, codes, encode_utf8_all};
 ghost use Rattle.gabc_places.specs.Law.{joined};
 ghost use Rattle.std.specs.List.{All};
 ghost use Rattle.gabc_places.specs.Findings.{AreInOrder, LieBetween};
@@ -8,11 +8,9 @@ ghost use Rattle.gabc_places.specs.Place.{place_past};
 ghost use Rattle.gabc_places.specs.Code.{rank_of};
 ghost use Rattle.gabc_places.specs.declared.code.Code.TheVariants.{W9};
 ghost use Rattle.gabc_places.specs.declared.code.Finding.{Finding};
-ghost use Rattle.gabc_places.specs.declared.place.Place.{Place};
-ghost use Rattle.gabc_text.specs.declared.stage.TextStage.{TextStage};
 ghost use Rattle.gabc_text.specs.Step.{fresh};
 ghost use Rattle.gabc_text.specs.Rest.{rest_of, left_of};
-ghost use Rattle.gabc_text.specs.Outs.{Fits, outs, outs_by_point, after_tokens, nothing_each};
+ghost use Rattle.gabc_text.specs.Outs.{Fits, codes_of, outs, outs_by_point, after_tokens, nothing_each};
 ghost use Rattle.gabc_text.specs.View.{kept, findings};
 ghost use Rattle.gabc_text.specs.Read.{view_in};
 ghost use Rattle.gabc_text.specs.Said.{Stands, StandsFor, view_said, has_error};
@@ -21,6 +19,11 @@ ghost use Rattle.gabc_text.specs.Canonical.{spanned, canonical_text};
 ghost use Rattle.gabc_places.specs.declared.place.Span.{Span};
 ghost use Rattle.gabc_text.specs.Told.{told_after, nothing_told, told_in, kept_in, found_in};
 ghost use Rattle.gabc_text.specs.Ends.{EndsOnce};
+ghost use Rattle.std.specs.Prelude.{◌*◌, ◌≤◌};
+ghost use Rattle.gabc_places.specs.Held.{HasRoom, added};
+
+use crate::stage::{TextOut, TextStage};
+use gabc_places::{Char, Place, Room, drive};
 
 /// A fresh machine gives what the definition says, where no count of the text reaches its last value, and what it does not
 /// read begins with the `(` that ends the text.
@@ -28,6 +31,16 @@ pub fn fresh_gives()
     ensures given { (at : Place) (t : List ℕ) → Fits at t → rest_of (fresh at) t ≡ outs_by_point at t }
     ensures left { (at : Place) (t : List ℕ) → Fits at t → left_of (fresh at) t ≡ after_tokens t }
 {}
+
+/// A fresh stage, driven over the characters of a text, gives what the definition says of the text.
+pub fn a_fresh_stage_gives(at: Place, inputs: Vec<Char>, out: &mut Room<TextOut>)
+    requires room { HasRoom out.old (8 * (length inputs.items + 1)) }
+    requires fits { Fits at (codes_of inputs.items) }
+    ensures { out.new ≡ added out.old (joined (outs_by_point at (codes_of inputs.items))) }
+{
+    let mut stage = TextStage::new(at);
+    drive(&mut stage, inputs, out);
+}
 
 /// A text gives a list of outputs for each character and one for the end. Joined, they are its outputs in order.
 pub fn outs_in_order()
@@ -62,6 +75,8 @@ pub fn nothing_after_the_notes_begin()
 /// The spans of a text's view stand for what the view says, and its centre lies among its pieces. A span that stands for a
 /// part of a text holds that part's bytes.
 pub fn spans_stand()
+    ensures starts { (t : List ℕ) → (view_in t).word_start ≡ (view_said t).word_start }
+    ensures centre { (t : List ℕ) → (view_in t).centre ≡ (view_said t).centre }
     ensures view { (t : List ℕ) → Stands (kept t) (view_in t) t }
     ensures bytes { (text : List ℕ) (span : Span) (part : List ℕ) → StandsFor text span part → spanned (encode_utf8_all text) span ≡ encode_utf8_all part }
 {}
@@ -69,7 +84,7 @@ pub fn spans_stand()
 /// The canonical text of a text's view is the printed form of what the text says, but for the blank before a word and the
 /// translation.
 pub fn canonical_is_printed()
-    ensures { (t : List ℕ) → canonical_text (view_in t) (encode_utf8_all (kept t)) ≡ encode_utf8_all (written (text_tokens (view_said t))) }
+    ensures { (whole t : List ℕ) → Stands whole (view_in t) t → canonical_text (view_in t) (encode_utf8_all whole) ≡ encode_utf8_all (written (text_tokens (view_said t))) }
 {}
 
 /// What is printed of a text is read again, before a `(` and whatever follows, as what was said, without
@@ -77,11 +92,13 @@ pub fn canonical_is_printed()
 pub fn printed_again()
     ensures said { (t rest : List ℕ) → view_said (print (view_said t) ++ 40 ∷ rest) ≡ view_said t }
     ensures errors { (at : Place) (t rest : List ℕ) → has_error (findings at (print (view_said t) ++ 40 ∷ rest)) ≡ false }
+    ensures ends { (t rest : List ℕ) → after_tokens (print (view_said t) ++ 40 ∷ rest) ≡ 40 ∷ rest }
     ensures kept { (t rest : List ℕ) → kept (print (view_said t) ++ 40 ∷ rest) ≡ cond (view_said t).word_start (codes " ") [] ++ written (text_tokens (view_said t) ++ translated (view_said t).translation) }
 {}
 
 /// The kept text of a text is read again as itself, and says the same.
 pub fn kept_again()
+    ensures begins { (t : List ℕ) → (view_said (10 ∷ t)).word_start ≡ true }
     ensures kept { (t : List ℕ) → kept (kept t) ≡ kept t }
     ensures said { (t : List ℕ) → view_said (kept t) ≡ view_said t }
 {}

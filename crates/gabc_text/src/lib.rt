@@ -1,7 +1,20 @@
 //! The text of a syllable: its pieces with their styles, its centre and its translation.
+//!
+//! A place of a kept text's byte is found among the characters that were kept:
+//!
+//! ```
+//! let body = "<i>a) b</i>(f)";
+//! let read = text_whole(alloc, body, Place::START)?; // read.kept is "<i>a b</i>"
+//! let kept = kept_chars(alloc, body, Place::START)?;
+//! for piece in &read.view.pieces {
+//!     let place = place_of_byte(kept.as_slice(), piece.span.from); // of `b`: 1:7
+//! }
+//! let len = text_len(&read.view, read.kept.as_str()); // 10, the bytes that `write_text` adds
+//! ```
 #![tactic(auto)]
 
 mod canonical;
+mod kept;
 pub mod laws;
 mod mode;
 mod name;
@@ -13,6 +26,7 @@ mod view;
 mod whole;
 
 pub use canonical::{text_len, write_text};
+pub use kept::kept_chars;
 pub use stage::{TextEnd, TextOut, TextPart, TextStage};
 pub use styles::{Style, Styles};
 pub use view::{How, Piece, PieceKind, Pieces, TextView};

@@ -7,6 +7,7 @@ ghost use Rattle.gabc_text.specs.Step.{up, later, option_list, part_lem, span_le
 ghost use Rattle.gabc_text.specs.Rest.{rest_of};
 ghost use Rattle.gabc_text.specs.Raw.{pushed, is_in_raw};
 ghost use Rattle.gabc_text.specs.Outs.{Fits, codes_of, outs_by_point};
+ghost use Rattle.gabc_text.specs.End.{is_end};
 
 use crate::mode::{Mode, Went, at_end, go, is_plain, is_unmatched, settled};
 use crate::seen::{Seen, after, code_at, early_at, keep, nothing_seen, piece_at};
@@ -330,8 +331,8 @@ fn centre_code(seen: Seen, how: TextEnd) -> Option<Code>
 }
 
 impl TextStage {
-    /// A machine that has read nothing. The first character stands at this place. Spans that it tells count bytes of the kept
-    /// text, a centre counts pieces. A count that has reached its last value stays there.
+    /// Returns a machine that has read nothing. The first character stands at `at`. Spans that it tells count bytes of the kept
+    /// text, a centre counts pieces. Each count saturates.
     pub fn new(at: Place) -> TextStage
         ensures fresh { result ≡ fresh at }
         ensures gives { (t : List ℕ) → Fits at t → rest_of result t ≡ outs_by_point at t }
@@ -505,6 +506,8 @@ impl Stage for TextStage {
     ghost rest = { λ s cs. rest_of s (codes_of cs) };
 
     ghost most_of = { λ _. 8 };
+
+    ghost is_end = { is_end };
 
     fn most(&self) -> usize {
         8

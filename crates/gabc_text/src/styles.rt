@@ -39,7 +39,7 @@ impl Styles {
         ul: false,
     };
 
-    /// Whether the style is open.
+    /// Returns whether `style` is open.
     pub fn has(self, style: Style) -> bool
         ensures { result ≡ has_lem self style }
     {
@@ -78,7 +78,7 @@ impl Styles {
         }
     }
 
-    /// Whether no style is open.
+    /// Returns whether no style is open.
     pub fn is_empty(self) -> bool
         ensures { result ≡ is_empty_lem self }
     {

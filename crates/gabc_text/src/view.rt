@@ -1,6 +1,7 @@
 //! The pieces of a text.
 
-ghost use Rattle.std.specs.Prelude.{◌≡◌, [], ◌∷◌, ◌++◌, OnOk, OnErr};
+ghost use Rattle.std.specs.Prelude.{◌≡◌, ◌↔◌, [], ◌∷◌, ◌++◌, length, IsTrue, OnOk, OnErr};
+ghost use Rattle.std.specs.Slice.Iter.{iter_rest};
 ghost use Rattle.gabc_text.specs.Told.{nothing_in_view, with_part};
 
 use crate::stage::TextPart;
@@ -9,6 +10,7 @@ use gabc_places::{Place, Span};
 use smallvec::SmallVec;
 use std::alloc::{AllocError, Global};
 use std::marker::Model;
+use std::slice::Iter;
 
 /// What a piece of a text is.
 #[derive(Clone, Copy, Debug, PartialEq, Eq)]
@@ -33,7 +35,13 @@ pub struct Piece {
     pub span: Span,
 }
 
+/// A character without bytes or styles.
 impl Default for Piece {
+    ghost use Rattle.gabc_text.specs.declared.view.PieceKind.TheVariants.{Char};
+    ghost use Rattle.gabc_text.specs.declared.styles.TheConstants.Styles.{NONE};
+
+    ghost is_default = { λ p. (p.kind ≡ Char) × ((p.styles ≡ NONE) × ((p.span.from ≡ 0) × (p.span.to ≡ 0))) };
+
     fn default() -> Piece {
         Piece {
             kind: PieceKind::Char,
@@ -55,7 +63,7 @@ pub enum How {
 }
 
 /// The pieces of a text, in order. Contracts see the list of them.
-#[derive(Drop)]
+#[derive(Debug, Drop)]
 pub struct Pieces {
     items: SmallVec<Piece, 8>,
 }
@@ -88,16 +96,49 @@ impl Pieces {
         Ok(())
     }
 
-    /// The pieces in order.
+    /// Returns the number of pieces.
+    pub fn len(&self) -> usize
+        ensures { result ≡ length self.now }
+    {
+        self.items.len()
+    }
+
+    /// Returns whether there are no pieces.
+    pub fn is_empty(&self) -> bool
+        ensures { IsTrue result ↔ (self.now ≡ []) }
+    {
+        self.items.is_empty()
+    }
+
+    /// Returns the pieces in order.
     pub fn as_slice(&self) -> &[Piece]
         ensures { result.now ≡ self.now }
     {
         self.items.as_slice()
     }
+
+    /// Goes over the pieces in order.
+    pub fn iter(&self) -> Iter<'_, Piece>
+        ensures { iter_rest result ≡ self.now }
+    {
+        self.items.as_slice().iter()
+    }
+}
+
+impl<'a> IntoIterator for &'a Pieces {
+    type Item = &'a Piece;
+
+    type IntoIter = Iter<'a, Piece>;
+
+    ghost into_iter_gives = { λ pieces r. iter_rest r ≡ pieces.now };
+
+    fn into_iter(self) -> Iter<'a, Piece> {
+        self.items.as_slice().iter()
+    }
 }
 
 /// What a text says.
-#[derive(Drop)]
+#[derive(Debug, Drop)]
 pub struct TextView {
     /// Whether the syllable begins a word.
     pub word_start: bool,
@@ -109,7 +150,7 @@ pub struct TextView {
 }
 
 impl TextView {
-    /// A view that says nothing.
+    /// Returns a view that says nothing.
     pub fn new(alloc: Global) -> TextView
         ensures { result ≡ nothing_in_view }
     {
@@ -121,7 +162,7 @@ impl TextView {
         }
     }
 
-    /// Adds what the machine told of a text. If there is no memory, the view is as it was.
+    /// Adds `part`, as the machine told it of a text. If there is no memory, the view is as it was.
     pub fn add(&mut self, part: TextPart) -> Result<(), AllocError>
         ensures added { OnOk result (self.new ≡ with_part self.old part) }
         ensures unchanged { OnErr result (self.new ≡ self.old) }

@@ -15,7 +15,7 @@ use memchr::memchr;
 use std::alloc::{AllocError, Global};
 
 /// What a text says.
-#[derive(Drop)]
+#[derive(Debug, Drop)]
 pub struct TextRead {
     pub view: TextView,
     /// The text without comments and what was left out, each run of blanks as one U+0020. Spans count its bytes.
@@ -151,8 +151,8 @@ fn before_tag(text: &str) -> &str
     }
 }
 
-/// The text of a syllable, up to its `(` or the end of `body` (GregorioRef, "Syllable Text Syntax"). The first character of
-/// `body` stands at this place. It fails only if there is no memory.
+/// Reads the text of a syllable, up to its `(` or the end of `body` (GregorioRef, "Syllable Text Syntax"). The first character of
+/// `body` stands at `at`. Where the text is cut, `kept` holds what was kept up to the end.
 pub fn text_whole(alloc: Global, body: &str, at: Place) -> Result<TextRead, AllocError>
     requires line { at.line + length body.now < 2 ^ 64 }
     requires column { at.column + length body.now < 2 ^ 64 }

@@ -67,7 +67,7 @@ pub fn canon_syllable(syllable: &Syllable, out: &mut Room<u8>)
     add_notes(syllable, out);
 }
 
-/// The number of bytes of the canonical text of a syllable; or the last value, if that is less.
+/// Returns the number of bytes of the canonical text of `syllable`; it saturates at the last value of a `usize`.
 pub fn canon_len(syllable: &Syllable) -> usize
     ensures { result ≡ min (length (canonical (starts_word syllable.now.position) (made_of syllable.now))) (2 ^ 64 - 1) }
 {

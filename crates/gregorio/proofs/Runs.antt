@@ -1,6 +1,6 @@
 -- How a run ends.
-use Rattle.std.proofs.Common.{◌≡◌, ℕ, ◌<◌, List, take, Bool, true, false, Option, Some, None, refl, sym, ap, ◌∙◌, subst}
-use Rattle.std.specs.Io.KnownBytes.{Appends, Keeps}
+use Rattle.std.proofs.Common.{◌≡◌, ℕ, ◌<◌, List, [], length, take, take_all, inl, inr, arith, Bool, true, false, Option, Some, None, refl, sym, ap, ◌∙◌, subst}
+use Rattle.std.specs.Io.KnownBytes.{Appends}
 use Rattle.std.specs.List.{list_any}
 use Rattle.gabc_places.specs.declared.limits.Limits.{Limits}
 use Rattle.gabc_places.specs.declared.code.Fault.{Fault}
@@ -15,9 +15,9 @@ use Rattle.gregorio.specs.declared.job.Job.{Job}
 use Rattle.gregorio.specs.declared.job.Status.{Status}
 use Rattle.gregorio.specs.declared.job.Status.TheVariants.{ReadFault}
 use Rattle.gregorio.specs.declared.outcome.Outcome.{Outcome}
-use Rattle.gregorio.specs.Compiles.{Use, Done, OutputCut, MessagesCut, Compiles}
+use Rattle.gregorio.specs.Compiles.{Use, Done, Taken, SinkCut, Compiles}
 use Rattle.gregorio.specs.Outcome.{is_whole, ending_by, is_cut_short, outcome_of, output_of, messages_of, status_by, status_of, is_error_finding}
-use Rattle.gregorio.specs.Reads.{Reads}
+use Rattle.gregorio.specs.Reads.{Reads, Takes}
 
 module _ (job : Job) (limits : Limits) (source out messages : Use) where
   done_by : (o : Option Fault) (b e : Bool) → Done job limits source out messages (status_by o b e) → Compiles job limits source out messages (status_by o b e)
@@ -25,6 +25,9 @@ module _ (job : Job) (limits : Limits) (source out messages : Use) where
   done_by None true e d = d
   done_by None false true d = d
   done_by None false false d = d
+
+  abbrev taken : (bytes : List ℕ) (ending : Ending) → Reads source.old source.new source.failed_old source.failed_new limits.input bytes ending → Taken limits source
+  taken bytes ending r = record { bytes = bytes; ending = ending; consumed = r.consumed; within = r.within; whole = r.whole }
 
   -- a run that wrote all
   pub runs_whole : (bytes : List ℕ) (ending : Ending) (outcome : Outcome) (status : Status) (output told : List ℕ)
@@ -43,26 +46,28 @@ module _ (job : Job) (limits : Limits) (source out messages : Use) where
   pub runs_cut : (bytes : List ℕ) (ending : Ending) (outcome : Outcome) (output told : List ℕ) (n : ℕ)
       → Reads source.old source.new source.failed_old source.failed_new limits.input bytes ending → outcome ≡ outcome_of limits ending bytes
       → Appends out.old out.new output → output ≡ output_of outcome → Appends messages.old messages.new (take n told) → told ≡ messages_of job outcome
-      → messages.failed_old < messages.failed_new → MessagesCut job limits source out messages
+      → messages.failed_old < messages.failed_new → SinkCut job limits source out messages
   runs_cut bytes ending outcome output told n r o w we t te f = record {
-    input = record { bytes = bytes; ending = ending; reads = r };
-    written = subst (λ (x : List ℕ). Appends out.old out.new x) (we ∙ ap output_of o) w;
-    taken = n;
+    input = taken bytes ending r;
+    written_count = length output;
+    told_count = n;
+    written = subst (λ (x : List ℕ). Appends out.old out.new x) (sym (take_all (length output) output (omega arith)) ∙ ap (take (length output)) (we ∙ ap output_of o)) w;
     told = subst (λ (x : List ℕ). Appends messages.old messages.new (take n x)) (te ∙ ap (messages_of job) o) t;
-    failed = f;
+    failed = inr f;
   }
 
   -- a run whose output was cut
   pub runs_short : (bytes : List ℕ) (ending : Ending) (outcome : Outcome) (output : List ℕ) (n : ℕ)
       → Reads source.old source.new source.failed_old source.failed_new limits.input bytes ending → outcome ≡ outcome_of limits ending bytes
-      → Appends out.old out.new (take n output) → output ≡ output_of outcome → Keeps messages.old messages.new
-      → out.failed_old < out.failed_new → OutputCut limits source out messages
+      → Appends out.old out.new (take n output) → output ≡ output_of outcome → Appends messages.old messages.new []
+      → out.failed_old < out.failed_new → SinkCut job limits source out messages
   runs_short bytes ending outcome output n r o w we t f = record {
-    input = record { bytes = bytes; ending = ending; reads = r };
-    taken = n;
+    input = taken bytes ending r;
+    written_count = n;
+    told_count = 0;
     written = subst (λ (x : List ℕ). Appends out.old out.new (take n x)) (we ∙ ap output_of o) w;
     told = t;
-    failed = f;
+    failed = inl f;
   }
 
 -- what is made of an input, part by part
@@ -83,6 +88,6 @@ read_fault_broken limits ending bytes s =
     let m = outcome_of limits ending bytes in
     broken_by ending m.score.fault (list_any is_error_finding m.score.findings) s
 
-pub keeps_same : (known : Option (List ℕ)) → Keeps known known
-keeps_same None = tt
-keeps_same (Some bytes) = refl
+-- what was read was taken
+pub takes_read : (limits : Limits) (source : Use) (bytes : List ℕ) (ending : Ending) → Reads source.old source.new source.failed_old source.failed_new limits.input bytes ending → Takes source.old source.new limits.input
+takes_read limits source bytes ending r = record { bytes = bytes; consumed = r.consumed; within = r.within }

@@ -1,13 +1,14 @@
 -- What a run does to its source and its sinks.
-use Rattle.std.specs.Prelude.{◌≡◌, ℕ, ◌<◌, List, take, Option, ◌⊎◌}
-use Rattle.std.specs.Io.KnownBytes.{Appends, Keeps}
+use Rattle.std.specs.Prelude.{◌≡◌, ℕ, ◌<◌, ◌≤◌, ◌+◌, List, length, take, Option, ◌⊎◌}
+use Rattle.std.specs.Io.KnownBytes.{Appends, Consumes, IsAtEnd, Keeps}
 use Rattle.gabc_places.specs.declared.limits.Limits.{Limits}
 use Rattle.gregorio.specs.declared.given.Ending.{Ending}
+use Rattle.gregorio.specs.declared.given.Ending.TheVariants.{Whole}
 use Rattle.gregorio.specs.declared.job.Job.{Job}
 use Rattle.gregorio.specs.declared.job.Status.{Status}
 use Rattle.gregorio.specs.declared.job.Status.TheVariants.{NoMemory, WriteFault}
 use Rattle.gregorio.specs.Outcome.{outcome_of, output_of, messages_of, status_of}
-use Rattle.gregorio.specs.Reads.{Reads}
+use Rattle.gregorio.specs.Reads.{Reads, Takes}
 
 -- An end before and after a run: its bytes, where they are known, and the number of its failures.
 pub record Use : Type 0 where
@@ -29,24 +30,25 @@ pub record Done (job : Job) (limits : Limits) (source out messages : Use) (statu
   pub told : Appends messages.old messages.new (messages_of job (outcome_of limits input.ending input.bytes))
   pub ends : status ≡ status_of (outcome_of limits input.ending input.bytes)
 
--- The sink of the output failed: it holds a front of the output, and no message was written.
-pub record OutputCut (limits : Limits) (source out messages : Use) : Type 0 where
-  pub input : Input limits source
-  pub taken : ℕ
-  pub written : Appends out.old out.new (take taken (output_of (outcome_of limits input.ending input.bytes)))
-  pub told : Keeps messages.old messages.new
-  pub failed : out.failed_old < out.failed_new
+-- Of the source these bytes were taken, and it stopped so: `Broken` also where it was not read to a stop.
+pub record Taken (limits : Limits) (source : Use) : Type 0 where
+  pub bytes : List ℕ
+  pub ending : Ending
+  pub consumed : Consumes source.old source.new bytes
+  pub within : length bytes ≤ limits.input + 1
+  pub whole : ending ≡ Whole → length bytes ≤ limits.input → IsAtEnd source.new
 
--- The sink of the messages failed: it holds a front of them, behind the whole output.
-pub record MessagesCut (job : Job) (limits : Limits) (source out messages : Use) : Type 0 where
-  pub input : Input limits source
-  pub written : Appends out.old out.new (output_of (outcome_of limits input.ending input.bytes))
-  pub taken : ℕ
-  pub told : Appends messages.old messages.new (take taken (messages_of job (outcome_of limits input.ending input.bytes)))
-  pub failed : messages.failed_old < messages.failed_new
+-- A sink failed: each stream holds a front of its text, for the bytes that were taken.
+pub record SinkCut (job : Job) (limits : Limits) (source out messages : Use) : Type 0 where
+  pub input : Taken limits source
+  pub written_count : ℕ
+  pub told_count : ℕ
+  pub written : Appends out.old out.new (take written_count (output_of (outcome_of limits input.ending input.bytes)))
+  pub told : Appends messages.old messages.new (take told_count (messages_of job (outcome_of limits input.ending input.bytes)))
+  pub failed : (out.failed_old < out.failed_new) ⊎ (messages.failed_old < messages.failed_new)
 
--- By how the run ended: there was no memory, and nothing was written; a sink failed; or all was written.
+-- By how the run ended: there was no memory, nothing was written, and no more of the source was taken than may be; a sink failed; or all was written.
 abbrev pub Compiles : Job → Limits → Use → Use → Use → Status → Type 0
-Compiles job limits source out messages NoMemory = Keeps out.old out.new × Keeps messages.old messages.new
-Compiles job limits source out messages WriteFault = OutputCut limits source out messages ⊎ MessagesCut job limits source out messages
+Compiles job limits source out messages NoMemory = Keeps out.old out.new × (Keeps messages.old messages.new × Takes source.old source.new limits.input)
+Compiles job limits source out messages WriteFault = SinkCut job limits source out messages
 Compiles job limits source out messages status = Done job limits source out messages status

@@ -2,11 +2,11 @@
 use Rattle.std.specs.Prelude.{ℕ, List, [], ◌++◌, Bool, true, false, ◌||◌, not, Option, Some, None, codes, encode_utf8_all, if◌then◌else◌}
 use Rattle.std.specs.List.{flat_map, list_any}
 use Rattle.gabc_places.specs.declared.limits.Limits.{Limits}
-use Rattle.gabc_places.specs.declared.code.Kind.{Kind}
-use Rattle.gabc_places.specs.declared.code.Kind.TheVariants.{Warning, Error}
+use Rattle.gabc_places.specs.declared.severity.Severity.{Severity}
+use Rattle.gabc_places.specs.declared.severity.Severity.TheVariants.{Warning, Error}
 use Rattle.gabc_places.specs.declared.code.Finding.{Finding}
 use Rattle.gabc_places.specs.declared.code.Fault.{Fault}
-use Rattle.gabc_places.specs.Code.{kind_of}
+use Rattle.gabc_places.specs.Code.{severity_of}
 use Rattle.gabc_places.specs.Text.{decoded_of}
 use Rattle.gabc_headers.specs.Canonical.{canonical_heads}
 use Rattle.gabc_score.specs.declared.ending.Ending as score
@@ -65,17 +65,17 @@ canonical_file (Some book) syllables = score_text book syllables
 abbrev pub output_of : Outcome → List ℕ
 output_of outcome = canonical_file outcome.score.book outcome.score.syllables
 
-abbrev pub is_warning : Kind → Bool
+abbrev pub is_warning : Severity → Bool
 is_warning Warning = true
 is_warning kind = false
 
-abbrev pub is_error : Kind → Bool
+abbrev pub is_error : Severity → Bool
 is_error Error = true
 is_error kind = false
 
 -- a finding is written: warnings only where all are wanted
 abbrev pub is_shown : Bool → Finding → Bool
-is_shown all_warnings finding = all_warnings || not (is_warning (kind_of finding.code))
+is_shown all_warnings finding = all_warnings || not (is_warning (severity_of finding.code))
 
 abbrev pub shown_line : List ℕ → Bool → Finding → List ℕ
 shown_line name all_warnings f = if is_shown all_warnings f then line_of name f.place f.code else []
@@ -101,7 +101,7 @@ status_by None false true = Errors
 status_by None false false = Whole
 
 abbrev pub is_error_finding : Finding → Bool
-is_error_finding finding = is_error (kind_of finding.code)
+is_error_finding finding = is_error (severity_of finding.code)
 
 -- a fatal fault hides the source's failure and errors, and a failure hides errors
 abbrev pub status_of : Outcome → Status

@@ -4,10 +4,17 @@ use Rattle.std.specs.Io.KnownBytes.{Consumes, IsAtEnd}
 use Rattle.gregorio.specs.declared.given.Ending.{Ending}
 use Rattle.gregorio.specs.declared.given.Ending.TheVariants.{Whole, Broken}
 
--- The source gave these bytes, at most one more than the limit, and stopped so. `old` and `new` are the bytes that it has
+-- The source gave these bytes, at most one more than the limit, and stopped so: where it ended no read of it failed. `old` and `new` are the bytes that it has
 -- before and after, where they are known, and `failed_old` and `failed_new` the number of its failures.
 pub record Reads (old new : Option (List ℕ)) (failed_old failed_new limit : ℕ) (bytes : List ℕ) (ending : Ending) : Type 0 where
   pub consumed : Consumes old new bytes
   pub within : length bytes ≤ limit + 1
   pub whole : ending ≡ Whole → length bytes ≤ limit → IsAtEnd new
   pub broken : ending ≡ Broken → failed_old < failed_new
+  pub steady : ending ≡ Whole → failed_new ≡ failed_old
+
+-- Of the source these bytes were taken, at most one more than the limit.
+pub record Takes (old new : Option (List ℕ)) (limit : ℕ) : Type 0 where
+  pub bytes : List ℕ
+  pub consumed : Consumes old new bytes
+  pub within : length bytes ≤ limit + 1

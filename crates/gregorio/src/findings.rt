@@ -7,7 +7,7 @@ ghost use Rattle.gregorio.specs.Outcome.{messages_of, status_of as status_of_out
 
 use crate::job::{Input, Job, Status};
 use crate::outcome::Outcome;
-use gabc_places::{Fault, Finding, Kind, Room};
+use gabc_places::{Fault, Finding, Severity, Room};
 use gabc_write::{message_len, message_line};
 
 /// What messages call the input.
@@ -24,7 +24,7 @@ fn input_name(input: &Input) -> &str
 fn is_shown(all_warnings: bool, finding: Finding) -> bool
     ensures { result ≡ shown all_warnings finding }
 {
-    all_warnings || finding.code.kind() != Kind::Warning
+    all_warnings || finding.code.severity() != Severity::Warning
 }
 
 /// The number of bytes of the line of a finding, if it is written.
@@ -116,7 +116,7 @@ pub(crate) fn add_messages(job: &Job, outcome: &Outcome, out: &mut Room<u8>)
 fn has_errors(findings: &[Finding]) -> bool
     ensures { result ≡ list_any is_error_finding findings.now }
 {
-    findings.iter().any(|f| f.code.kind() == Kind::Error)
+    findings.iter().any(|f| f.code.severity() == Severity::Error)
 }
 
 /// How a run with this outcome ends.

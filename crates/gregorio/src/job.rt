@@ -14,14 +14,14 @@ pub enum Format {
 }
 
 /// Where the score comes from.
-#[derive(Drop)]
+#[derive(Debug, Drop)]
 pub enum Input {
     Stdin,
     File(Name),
 }
 
 /// Where the output goes.
-#[derive(Drop)]
+#[derive(Debug, Drop)]
 pub enum Output {
     Stdout,
     File(Name),
@@ -29,7 +29,7 @@ pub enum Output {
 
 /// What a run is to do: the format, the ends, the file for messages (standard error if there is none), and whether
 /// warnings are written too.
-#[derive(Drop)]
+#[derive(Debug, Drop)]
 pub struct Job {
     pub format: Format,
     pub input: Input,
@@ -58,7 +58,7 @@ pub enum Status {
 impl Status {
     ghost use Rattle.gregorio.specs.Status.{code_of};
 
-    /// The exit status of the program.
+    /// Returns the exit status of the program: 0, 1, 2, 4 or 5.
     pub fn code(self) -> u8
         ensures { result ≡ code_of self }
     {

@@ -6,7 +6,7 @@ use std::alloc::{AllocError, Global};
 use std::marker::Model;
 
 /// The name of a file, as it was given. Contracts see its text.
-#[derive(Drop)]
+#[derive(Debug, Drop)]
 pub struct Name {
     text: String,
 }
@@ -20,7 +20,7 @@ impl Model for Name {
 }
 
 impl Name {
-    /// The name with this text.
+    /// Returns the name with this `text`.
     pub fn new(alloc: Global, text: &str) -> Result<Name, AllocError>
         ensures { IfOk result (λ name. name ≡ text.now) }
     {
@@ -29,7 +29,7 @@ impl Name {
         })
     }
 
-    /// The text of the name.
+    /// Returns the text of the name.
     pub fn as_str(&self) -> &str
         ensures { result.now ≡ self.now }
     {

@@ -1,7 +1,7 @@
 //! Reading a source.
 
-ghost use Rattle.std.specs.Prelude.{◌≡◌, ◌≤◌, IfOk};
-ghost use Rattle.gregorio.specs.Reads.{Reads};
+ghost use Rattle.std.specs.Prelude.{◌≡◌, ◌≤◌, IfOk, OnErr};
+ghost use Rattle.gregorio.specs.Reads.{Reads, Takes};
 
 use crate::given::{Ending, Given};
 use gabc_places::Source;
@@ -16,7 +16,8 @@ pub(crate) fn read_all<S: Source>(
     source: &mut S,
     limit: u32,
 ) -> Result<Given, AllocError>
-    ensures { IfOk result (λ g. Reads (S.remaining source.old) (S.remaining source.new) (S.failures source.old) (S.failures source.new) limit g.bytes.items g.ending) }
+    ensures took { OnErr result (Takes (S.remaining source.old) (S.remaining source.new) limit) }
+    ensures read { IfOk result (λ g. Reads (S.remaining source.old) (S.remaining source.new) (S.failures source.old) (S.failures source.new) limit g.bytes.items g.ending) }
 {
     let most = limit as usize + 1;
     let mut bytes = Vec::new(alloc);

@@ -1,6 +1,6 @@
 //! A run from its source to its sinks.
 
-ghost use Rattle.std.specs.Prelude.{◌≡◌, ◌-◌, ◌^◌, ◌<◌, ◌⊎◌, [], IfOk};
+ghost use Rattle.std.specs.Prelude.{◌≡◌, ◌≢◌, ◌-◌, ◌^◌, ◌<◌, ◌⊎◌, [], IfOk};
 ghost use Rattle.gregorio.specs.declared.job.Status.TheVariants.{ReadFault, WriteFault};
 ghost use Rattle.gregorio.specs.Compiles.{Compiles, Use};
 ghost use Rattle.gregorio.specs.Outcome.{outcome_of as outcome_of_bytes, ending_by, is_cut_short as cut_short, canonical_file, messages_of};
@@ -80,8 +80,8 @@ fn messages_room(alloc: Global, job: &Job, outcome: &Outcome) -> Result<Room<u8>
     Ok(room)
 }
 
-/// Reads a score, at most `limits.input` bytes and one more, and writes first its canonical form and then its messages.
-/// It stops at the first write that fails, with `WriteFault`; with `NoMemory` nothing was written.
+/// Reads a score from `source`, at most `limits.input` bytes and one more, writes its canonical form to `out`, and its messages to
+/// `messages`. Returns how it went. At `WriteFault` each sink holds a prefix of its text; at `NoMemory` nothing was written.
 pub fn compile<S: Source, O: Sink, M: Sink>(
     alloc: Global,
     job: &Job,
@@ -96,6 +96,7 @@ pub fn compile<S: Source, O: Sink, M: Sink>(
         (record { old = M.written messages.old; new = M.written messages.new; failed_old = M.failures messages.old; failed_new = M.failures messages.new }) result }
     ensures read_fault { result ≡ ReadFault → S.failures source.old < S.failures source.new }
     ensures write_fault { result ≡ WriteFault → (O.failures out.old < O.failures out.new) ⊎ (M.failures messages.old < M.failures messages.new) }
+    ensures steady { result ≢ WriteFault → (O.failures out.new ≡ O.failures out.old) × (M.failures messages.new ≡ M.failures messages.old) }
 {
     let Ok(given) = read_all(alloc, source, limits.input) else {
         return Status::NoMemory;

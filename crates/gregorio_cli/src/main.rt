@@ -44,16 +44,13 @@ fn words_of(rt: &HostRuntime) -> io::Result<Vec<String>> {
 
 /// Runs a job on the standard streams with the default limits.
 fn run(rt: &HostRuntime, job: &Job) -> Status {
-    let Some(limits) = Limits::new(65_536, 16_384, u32::MAX) else {
-        return Status::NoMemory;
-    };
     let mut source = FromReader::new(rt.stdin());
     let mut out = ToWriter::new(rt.stdout());
     let mut messages = ToWriter::new(rt.stderr());
     compile(
         rt.alloc(),
         job,
-        limits,
+        Limits::DEFAULT,
         &mut source,
         &mut out,
         &mut messages,

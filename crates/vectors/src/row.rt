@@ -36,7 +36,7 @@ fn digit(byte: u8) -> u8 {
 }
 
 /// The bytes of a column: `\n`, `\r`, `\t`, `\\` and `\xNN` are escapes.
-fn unescaped(alloc: Global, column: &str) -> Result<Vec<u8>, AllocError> {
+pub(crate) fn unescaped(alloc: Global, column: &str) -> Result<Vec<u8>, AllocError> {
     let mut bytes = Vec::new(alloc);
     let mut escape = Escape::None;
     for byte in column.bytes() {
@@ -67,7 +67,7 @@ fn unescaped(alloc: Global, column: &str) -> Result<Vec<u8>, AllocError> {
 }
 
 /// The three limits of a column, in bytes.
-fn limits_of(column: &str) -> Option<(u32, u32, u32)> {
+pub(crate) fn limits_of(column: &str) -> Option<(u32, u32, u32)> {
     let mut numbers = column.split(',');
     let header = numbers.next()?.parse::<u32>().ok()?;
     let syllable = numbers.next()?.parse::<u32>().ok()?;

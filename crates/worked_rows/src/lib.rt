@@ -1,15 +1,10 @@
-//! The worked rows of the language as tests of the crates below, apart from them so that each crate is proved once.
+//! Tests of what rows of data cannot tell: the examples that the documents of the crates show; a source that fails in mid-stream,
+//! and sinks that take little and then fail. Rows of calls and of runs are the data of the program `vectors`.
 #![tactic(auto)]
 
 #[cfg(test)]
-mod nabc;
+mod examples;
 #[cfg(test)]
-mod notes;
+mod examples_notes;
 #[cfg(test)]
 mod run;
-#[cfg(test)]
-mod score;
-#[cfg(test)]
-mod text;
-#[cfg(test)]
-mod write;

@@ -44,11 +44,6 @@ fn run(
     })
 }
 
-/// The limits of the program.
-fn usual() -> Result<Limits, Fail> {
-    Ok(Limits::new(65_536, 16_384, u32::MAX).ok_or("limits")?)
-}
-
 /// Whether a run wrote and answered this.
 fn is_ran(ran: &Ran, out: &[u8], messages: &[u8], status: Status) -> bool {
     ran.out.held() == out && ran.messages.held() == messages && ran.status == status
@@ -58,7 +53,14 @@ fn is_ran(ran: &Ran, out: &[u8], messages: &[u8], status: Status) -> bool {
 fn takes_one_byte_a_write(rt: HostRuntime) -> Result<(), Fail> {
     let input = b"name: Kyrie;\n%%\n(c4) Ky(f)ri(gfg)e(e.) (::)";
     let output = b"name: Kyrie;\n%%\n(c4)\nKy(f)ri(gfg)e(e.)\n(::)\n";
-    let ran = run(rt.alloc(), &job(true), usual()?, input, None, (64, 64))?;
+    let ran = run(
+        rt.alloc(),
+        &job(true),
+        Limits::DEFAULT,
+        input,
+        None,
+        (64, 64),
+    )?;
     assert!(rt; is_ran(&ran, output, b"", Status::Whole));
     Ok(())
 }
@@ -72,7 +74,7 @@ fn keeps_warnings_back(rt: HostRuntime) -> Result<(), Fail> {
         input: Input::File(Name::new(rt.alloc(), "x.gabc")?),
         ..job(false)
     };
-    let ran = run(rt.alloc(), &named, usual()?, input, None, (64, 96))?;
+    let ran = run(rt.alloc(), &named, Limits::DEFAULT, input, None, (64, 96))?;
     assert!(rt; is_ran(&ran, output, message.as_bytes(), Status::Errors));
     Ok(())
 }
@@ -82,7 +84,14 @@ fn stops_where_reads_fail(rt: HostRuntime) -> Result<(), Fail> {
     let input = b"%%\nKy(f)ri(";
     let job = job(false);
     for after in 0..=input.len() {
-        let ran = run(rt.alloc(), &job, usual()?, input, Some(after), (64, 96))?;
+        let ran = run(
+            rt.alloc(),
+            &job,
+            Limits::DEFAULT,
+            input,
+            Some(after),
+            (64, 96),
+        )?;
         let output = match after {
             0 | 1 => "",
             2..=7 => "%%\n",
@@ -102,13 +111,13 @@ fn stops_where_writes_fail(rt: HostRuntime) -> Result<(), Fail> {
     let message = "<stdin>:1:1: warning: W1: no name header\n";
     let job = job(true);
     for holds in 0..output.len() {
-        let ran = run(rt.alloc(), &job, usual()?, input, None, (holds, 64))?;
+        let ran = run(rt.alloc(), &job, Limits::DEFAULT, input, None, (holds, 64))?;
         if !is_ran(&ran, &output[..holds], b"", Status::WriteFault) {
             return Err(holds.into());
         }
     }
     for holds in [0, 1, message.len() - 1] {
-        let ran = run(rt.alloc(), &job, usual()?, input, None, (64, holds))?;
+        let ran = run(rt.alloc(), &job, Limits::DEFAULT, input, None, (64, holds))?;
         let told = &message.as_bytes()[..holds];
         if !is_ran(&ran, output, told, Status::WriteFault) {
             return Err(holds.into());

@@ -79,6 +79,44 @@ fn takes_a_write_of_none_for_a_failure(rt: HostRuntime) {
     assert_eq!(rt; send_all(&mut sink, b"x"), Err(Unsent { sent: 0 }));
 }
 
+/// A writer that counts its calls. The second one fails, each other takes one byte.
+#[derive(Drop)]
+struct Counting {
+    calls: u8,
+}
+
+impl Write for Counting {
+    fn write(&mut self, buf: &[u8]) -> std::io::Result<usize> {
+        self.calls = self.calls.saturating_add(1);
+        if self.calls == 2 {
+            return Err(std::io::Error::from(std::io::ErrorKind::BrokenPipe));
+        }
+        Ok(buf.len().min(1))
+    }
+
+    fn flush(&mut self) -> std::io::Result<()> {
+        Ok(())
+    }
+}
+
+#[test]
+fn writes_once_for_each_call(rt: HostRuntime) {
+    let mut sink = ToWriter::new(Counting { calls: 0 });
+    assert_eq!(rt; sink.write(b"ab"), Ok(1));
+    assert_eq!(rt; sink.inner().calls, 1);
+    assert_eq!(rt; sink.write(b"b"), Err(SinkFault));
+    assert_eq!(rt; sink.inner().calls, 2);
+    assert_eq!(rt; sink.write(b"b"), Ok(1));
+    assert_eq!(rt; sink.inner().calls, 3);
+}
+
+#[test]
+fn stops_at_the_first_failure(rt: HostRuntime) {
+    let mut sink = ToWriter::new(Counting { calls: 0 });
+    assert_eq!(rt; send_all(&mut sink, b"abc"), Err(Unsent { sent: 1 }));
+    assert_eq!(rt; sink.inner().calls, 2);
+}
+
 #[test]
 fn tells_how_much_was_sent(rt: HostRuntime) -> Result<(), Fail> {
     let told = format!(in rt.alloc(); "{SinkFault}, {}", Unsent { sent: 7 })?;

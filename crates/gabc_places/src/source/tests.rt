@@ -40,7 +40,10 @@ fn passes_on_a_fault_in_mid_stream(rt: HostRuntime) {
     let mut source = FromReader::new(Stumbling { calls: 0 });
     let mut buf = [0; 3];
     assert_eq!(rt; source.read(&mut buf), Ok(1));
+    assert_eq!(rt; source.inner().calls, 1);
     assert_eq!(rt; source.read(&mut buf), Err(SourceFault));
+    assert_eq!(rt; source.inner().calls, 2);
     assert_eq!(rt; source.read(&mut buf), Ok(1));
+    assert_eq!(rt; source.inner().calls, 3);
     assert_eq!(rt; buf, [3, 0, 0]);
 }

@@ -1,6 +1,7 @@
 use Rattle.std.proofs.Common.{rules}
 use Rattle.std.proofs.lemmas.List.{take_more}
 use Rattle.gabc_places.proofs.StageLaws.{gives_all-step}
+use Rattle.gabc_places.proofs.NothingBehindAnEnd.{stops-pushed}
 use Rattle.gabc_places.proofs.chain.push_all.Goals as goal
 
 pub loop-input-preserved : goal.loop-input-preserved
@@ -9,4 +10,6 @@ loop-input-preserved g c = record {
   gives =
       rw (take_more c.args.inputs.now c.loop-input.input-index c.input-item.result c.loop-input-test.true, ← c.input-item.is, ← c.loop-input.invariant.most)
       (gives_all-step _ _ _ _ _ _ _ _ _ (rw (← c.loop-input.invariant.most) at c.loop-input.invariant.gives) c.push.ensures.gives);
+  end =
+      stops-pushed g.S.Stage.is_end c.loop-input.invariant.gives c.push.ensures.gives c.loop-input.invariant.end c.push.ensures.end;
 }

@@ -13,5 +13,5 @@ loop-sent-preserved g c =
     record {
       within = omega (arith, e.bound, counted);
       front = rw (take-add c.loop-sent.sent c.in-Ok.n c.args.bytes.now) (appends-more _ _ _ _ _ i.front (rw all at e.bytes));
-      counts = omega (arith, e.counts, i.counts);
+      counts = omega (arith, e.steady, i.counts);
     }

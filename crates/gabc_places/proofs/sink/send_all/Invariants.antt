@@ -1,4 +1,4 @@
-use Rattle.std.proofs.Common.{◌-◌, ◌≤◌, length, take}
+use Rattle.std.proofs.Common.{◌-◌, ◌≤◌, ◌≡◌, length, take}
 use Rattle.std.specs.Io.KnownBytes.{Appends}
 use Rattle.gabc_places.proofs.sink.send_all.Given as goal
 
@@ -6,7 +6,7 @@ abbrev pub invariant-loop-sent : goal.invariant-loop-sent
 invariant-loop-sent g l = record {
   within : l.sent ≤ length l.bytes;
   front : Appends (g.S.Sink.written l.initial.sink) (g.S.Sink.written l.sink) (take l.sent l.bytes);
-  counts : g.S.Sink.failures l.initial.sink ≤ g.S.Sink.failures l.sink;
+  counts : g.S.Sink.failures l.initial.sink ≡ g.S.Sink.failures l.sink;
 }
 
 abbrev pub decreases-loop-sent : goal.decreases-loop-sent

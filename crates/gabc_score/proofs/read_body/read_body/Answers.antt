@@ -7,7 +7,8 @@ use Rattle.gabc_score.specs.declared.body_read.BodyRead.{BodyRead}
 use Rattle.gabc_score.specs.Body.{onto, reached, fault_at}
 use Rattle.gabc_score.specs.Reader.{state_of, stopped_at}
 use Rattle.gabc_places.specs.Place.{place_past, placed_from}
-use Rattle.gabc_score.proofs.Places.{within_on, shorter, no_chars}
+use Rattle.gabc_places.proofs.PlacesOfAText.{within_on, shorter}
+use Rattle.gabc_places.proofs.Strings.{chars-none}
 use Rattle.gabc_score.proofs.Bodies.{pushed, held_on, held_back, reads_on, reads_to, stopped_here, ended_broken, ended_fault, ended_all}
 use Rattle.gabc_score.proofs.read_body.read_body.Goals as goal
 
@@ -28,7 +29,7 @@ loop-c-preserved g c =
     let low : c.args.limits.input < 2 ^ 64 - 1 = omega (arith, c.in_ok-code.ensures.fits) in
     let holds = pushed c.args.limits start.head start.findings most (small_limit c.args.limits) low i.before gives.given (state_of c.loop-c.reader) c.push.new.out i.holds gives.out in
     let none = c.in_default.is in
-    let fits = within_on c.loop-c.place (length rest) (length next) (2 ^ 64 - 1) (shorter rest next c.in-Some.c step) (omega (arith, i.line)) (omega (arith, i.column)) c.in-Some.c c.after-place.result c.after-place.ensures.next in
+    let fits = within_on c.loop-c.place (length rest) (length next) (2 ^ 64 - 1) (2 ^ 64 - 1) (shorter rest next c.in-Some.c step) (omega (arith, i.line)) (omega (arith, i.column)) c.in-Some.c c.after-place.result c.after-place.ensures.next in
     record {
       can = tt;
       ends = tt;
@@ -74,7 +75,7 @@ pub returns-in-Whole : goal.returns-in-Whole
 returns-in-Whole g c =
     let i = c.loop-c.invariant in
     let rest = chars_rest c.loop-c.c-iterator in
-    let none = no_chars rest c.in-None.ensures.steps.0.0 in
+    let none = chars-none rest c.in-None.ensures.steps.0.0 in
     let ends = c.finish.ensures.ends in
     let most = g.S.Stage.most_of c.args.stage.now in
     let start = c.args.start in
@@ -92,7 +93,7 @@ pub returns-in-Broken : goal.returns-in-Broken
 returns-in-Broken g c =
     let i = c.loop-c.invariant in
     let rest = chars_rest c.loop-c.c-iterator in
-    let none = no_chars rest c.in-None.ensures.steps.0.0 in
+    let none = chars-none rest c.in-None.ensures.steps.0.0 in
     c.stopped-in-Broken.ensures
     ∙ ended_broken c.args.limits c.args.start.head c.args.start.findings (g.S.Stage.most_of c.args.stage.now) i.before (place_past c.args.start.at (chars c.args.body.now)) c.args.ending
     (g.S.Stage.rest c.loop-c.stage) c.loop-c.place (chars rest) none (reached c.args.limits c.args.start.head [] (placed_from c.args.start.at (chars c.args.body.now)) (g.S.Stage.rest c.args.stage.now (placed_from c.args.start.at (chars c.args.body.now)))) i.reads (state_of c.loop-c.reader) i.holds c.in-Broken.is
@@ -101,7 +102,7 @@ pub returns-in-At : goal.returns-in-At
 returns-in-At g c =
     let i = c.loop-c.invariant in
     let rest = chars_rest c.loop-c.c-iterator in
-    let none = no_chars rest c.in-None.ensures.steps.0.0 in
+    let none = chars-none rest c.in-None.ensures.steps.0.0 in
     c.stopped-in-At.ensures
     ∙ ended_fault c.args.limits c.args.start.head c.args.start.findings (g.S.Stage.most_of c.args.stage.now) i.before (place_past c.args.start.at (chars c.args.body.now)) c.args.ending
     (g.S.Stage.rest c.loop-c.stage) c.loop-c.place (chars rest) none (reached c.args.limits c.args.start.head [] (placed_from c.args.start.at (chars c.args.body.now)) (g.S.Stage.rest c.args.stage.now (placed_from c.args.start.at (chars c.args.body.now)))) i.reads (state_of c.loop-c.reader) c.in-At.fault i.holds c.in-At.is

@@ -2,4 +2,4 @@ use Rattle.gabc_text.proofs.Written.{canonical_is}
 use Rattle.gabc_text.proofs.laws.canonical_is_printed.Goals as goal
 
 pub returns : goal.returns
-returns c t = canonical_is t
+returns c whole t h = canonical_is whole t h

@@ -7,7 +7,7 @@ invariant-loop-buffer g l = record {
   within : vec_len l.bytes ≤ l.most;
   limit : l.most ≡ l.limit + 1;
   consumed : Consumes (g.S.Source.remaining l.initial.source) (g.S.Source.remaining l.source) l.bytes.items;
-  counts : g.S.Source.failures l.initial.source ≤ g.S.Source.failures l.source;
+  counts : g.S.Source.failures l.source ≡ g.S.Source.failures l.initial.source;
 }
 
 abbrev pub decreases-loop-buffer : goal.decreases-loop-buffer

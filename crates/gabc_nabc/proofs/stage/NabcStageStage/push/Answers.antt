@@ -3,6 +3,7 @@ use Rattle.gabc_notes.specs.declared.stage.NoteOut.{NoteOut}
 use Rattle.gabc_nabc.specs.Machine.{outputs, given_at, rest_of, given_in, role_at, seen_at}
 use Rattle.gabc_nabc.specs.declared.stage.Given.{Given}
 use Rattle.gabc_nabc.specs.declared.stage.NabcStage.{NabcStage}
+use Rattle.gabc_nabc.proofs.Stopping.{push_stops}
 use Rattle.gabc_nabc.proofs.stage.NabcStageStage.push.Goals as goal
 
 few_outputs : (b : Bool) (g : Given) → length (cond b [] (outputs g)) ≤ 3
@@ -24,3 +25,6 @@ returns-clause-gives c =
       few = few_outputs st.ended (given_in (role_at st x.c) (seen_at st x.c) st.whole x);
       law = λ xs. ap (λ (n : NabcStage). given_at st x ∷ rest_of n xs) (sym c.take.ensures.stage);
     }
+
+pub returns-clause-end : goal.returns-clause-end
+returns-clause-end c = push_stops c.args.self.now c.take.new.self c.args.x c.args.out.now c.take.new.out c.take.ensures.stage c.take.ensures.out

@@ -1,5 +1,12 @@
 use Rattle.gabc_text.proofs.Ahead.{finish_ends}
+use Rattle.gabc_text.proofs.NothingBehindTheEnd.{finish_stops, finish_is_over}
 use Rattle.gabc_text.proofs.stage.TextStageStage.finish.Goals as goal
 
 pub returns-clause-ends : goal.returns-clause-ends
 returns-clause-ends c = finish_ends c.args.self.now c.args.out.now c.stop.new.out c.stop.ensures.out c.stop.ensures.few
+
+pub returns-clause-end : goal.returns-clause-end
+returns-clause-end c = finish_stops c.args.self.now c.stop.new.self c.args.out.now c.stop.new.out c.stop.ensures.stage c.stop.ensures.out
+
+pub returns-clause-over : goal.returns-clause-over
+returns-clause-over c = finish_is_over c.args.self.now c.stop.new.self c.stop.ensures.stage

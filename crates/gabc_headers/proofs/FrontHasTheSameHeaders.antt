@@ -1,0 +1,182 @@
+-- What stands behind the line `%%` is no matter to the headers.
+use Rattle.std.proofs.Common.{◌≡◌, ℕ, ◌+◌, ◌<◌, ◌≤◌, ◌==◌, ◌||◌, ◌&&◌, nat_lt, List, [], ◌∷◌, ◌++◌, Bool, true, false, cond, refl, sym, ap, ◌∙◌, arith, length, take, append_assoc, Option, Some, None, Ok}
+use Rattle.std.proofs.lemmas.Bool.{eqb-true}
+use Rattle.std.proofs.lemmas.Bool.Decides.{nat_tests}
+use Rattle.std.proofs.Math.Seq.{take-append-add}
+use Rattle.gabc_places.specs.declared.limits.Limits.{Limits}
+use Rattle.gabc_places.specs.declared.code.Code.TheVariants.{F4, F7}
+use Rattle.gabc_places.specs.Findings.{Stop, earliest}
+use Rattle.gabc_places.specs.Place.{place_after}
+use Rattle.gabc_headers.specs.declared.heads.Heads.{Heads}
+use Rattle.gabc_headers.specs.Book.{book_of}
+use Rattle.gabc_headers.specs.Canonical.{header_lines}
+use Rattle.gabc_headers.specs.Lines.{bytes_len, lines, has_score, is_percent, is_score_line}
+use Rattle.gabc_headers.specs.Parts.{Part, outside, parts}
+use Rattle.gabc_headers.specs.Heads.{head_len, head_parts, open_line, stop_at, first_above, is_line_percent, too_long, text_stops, open_stops, score_stops, missing_score, head_stops, heads_by, heads_of}
+use Rattle.gabc_headers.proofs.Heading.{head_text, is_scored, score_lines, head_length, parts_head}
+use Rattle.gabc_headers.proofs.ScorePoint.{above_within}
+use Rattle.gabc_headers.proofs.Sizes.{take_head}
+use Rattle.gabc_headers.proofs.Marked.{score_behind, has_score_line}
+
+and_first : (a b : Bool) → (a && b) ≡ true → a ≡ true
+and_first true b h = refl
+and_first false b h = h
+
+and_second : (a b : Bool) → (a && b) ≡ true → b ≡ true
+and_second true b h = h
+and_second false b h = absurd (cc)
+
+-- ---- the text before the line `%%`
+
+-- behind it stands `%%`
+marked_at : (s : Bool) (r : List ℕ) → is_scored s r ≡ true → (rest : List ℕ) × (r ≡ head_text s r ++ 37 ∷ 37 ∷ rest)
+marked_at s [] h = absurd (cc)
+marked_at s (c ∷ r) h = by (s && is_score_line (c ∷ r)) refl h (λ k. marked_at (c == 10) r k)
+  where
+    percents : (r : List ℕ) → (c == 37) ≡ true → is_percent r ≡ true → (rest : List ℕ) × (c ∷ r ≡ 37 ∷ 37 ∷ rest)
+    percents [] e f = absurd (cc)
+    percents (d ∷ r) e f = (r, ap (λ x. x ∷ d ∷ r) (eqb-true c 37 e) ∙ ap (λ x. 37 ∷ x ∷ r) (eqb-true d 37 f))
+
+    by : (b : Bool) → (s && is_score_line (c ∷ r)) ≡ b → (b || is_scored (c == 10) r) ≡ true → (is_scored (c == 10) r ≡ true → (rest : List ℕ) × (r ≡ head_text (c == 10) r ++ 37 ∷ 37 ∷ rest))
+        → (rest : List ℕ) × (c ∷ r ≡ cond b [] (c ∷ head_text (c == 10) r) ++ 37 ∷ 37 ∷ rest)
+    by true e k on = let l = and_second s (is_score_line (c ∷ r)) e in percents r (and_first (c == 37) (is_percent r) l) (and_second (c == 37) (is_percent r) l)
+    by false e k on = let o = on k in (o.0, ap (λ x. c ∷ x) o.1)
+
+module _ (more : List ℕ) where
+  abbrev front : Bool → List ℕ → List ℕ
+  front s r = head_text s r ++ 37 ∷ 37 ∷ more
+
+  percent_same : (s : Bool) (r : List ℕ) → is_scored s r ≡ true → is_percent (front s r) ≡ is_percent r
+  percent_same s [] h = absurd (cc)
+  percent_same s (c ∷ r) h = by (s && is_score_line (c ∷ r)) refl
+    where
+      by : (b : Bool) → (s && is_score_line (c ∷ r)) ≡ b → is_percent (cond b [] (c ∷ head_text (c == 10) r) ++ 37 ∷ 37 ∷ more) ≡ (c == 37)
+      by true e = sym (and_first (c == 37) (is_percent r) (and_second s (is_score_line (c ∷ r)) e))
+      by false e = refl
+
+  record Same (s : Bool) (r : List ℕ) : Type 0 where
+    scored : is_scored s (front s r) ≡ true
+    text : head_text s (front s r) ≡ head_text s r
+
+  marked : (s : Bool) → s ≡ true → (is_scored s (37 ∷ 37 ∷ more) ≡ true) × (head_text s (37 ∷ 37 ∷ more) ≡ [])
+  marked true e = (refl, refl)
+  marked false e = absurd (cc)
+
+  same_text : (s : Bool) (r : List ℕ) → is_scored s r ≡ true → Same s r
+  same_text s [] h = absurd (cc)
+  same_text s (c ∷ r) h = by (s && is_score_line (c ∷ r)) refl h (λ k. same_text (c == 10) r k)
+    where
+      by : (b : Bool) → (s && is_score_line (c ∷ r)) ≡ b → (b || is_scored (c == 10) r) ≡ true → (is_scored (c == 10) r ≡ true → Same (c == 10) r) → Same s (c ∷ r)
+      by true e k on =
+          let m = marked s (and_first s (is_score_line (c ∷ r)) e) in
+          let f : front s (c ∷ r) ≡ 37 ∷ 37 ∷ more = ap (λ b. cond b [] (c ∷ head_text (c == 10) r) ++ 37 ∷ 37 ∷ more) e in
+          record {
+            scored = ap (is_scored s) f ∙ m.0;
+            text = ap (head_text s) f ∙ m.1 ∙ sym (ap (λ b. cond b [] (c ∷ head_text (c == 10) r)) e);
+          }
+      by false e k on =
+          let o = on k in
+          let later = front (c == 10) r in
+          let f : front s (c ∷ r) ≡ c ∷ later = ap (λ b. cond b [] (c ∷ head_text (c == 10) r) ++ 37 ∷ 37 ∷ more) e in
+          let line : (s && is_score_line (c ∷ later)) ≡ false = ap (λ p. s && ((c == 37) && p)) (percent_same (c == 10) r k) ∙ e in
+          record {
+            scored = ap (is_scored s) f ∙ ap (λ b. b || is_scored (c == 10) later) line ∙ o.scored;
+            text = ap (head_text s) f ∙ ap (λ b. cond b [] (c ∷ head_text (c == 10) later)) line ∙ ap (λ x. c ∷ x) o.text ∙ sym (ap (λ b. cond b [] (c ∷ head_text (c == 10) r)) e);
+          }
+
+-- ---- what stops the headers
+
+nothing_both : {X : Type 0} (xs ys : List X) → xs ++ ys ≡ [] → (xs ≡ []) × (ys ≡ [])
+nothing_both [] ys h = (refl, h)
+nothing_both (x ∷ xs) ys h = absurd (cc)
+
+never_empty : {X : Type 0} (x : X) (b : Bool) (i : ℕ) (n : ℕ) → i < n → (y : X) → cond b (cond (nat_lt i n) (x ∷ []) []) (y ∷ []) ≡ [] → ⊥
+never_empty x true i n h y e = let l : nat_lt i n ≡ true = grind (arith, nat_tests) in let f = ap (λ b. cond b (x ∷ []) []) (sym l) ∙ e in cc
+never_empty x false i n h y e = cc
+
+module _ (limits : Limits) (t more : List ℕ) (heads : Heads) (ok : heads_of limits t ≡ Ok heads) where
+  abbrev again : List ℕ
+  again = take (head_len t + 2) t ++ more
+
+  has_line : is_scored true t ≡ true
+  has_line = sym (score_lines t) ∙ has_score_line limits t heads ok
+
+  again_is : again ≡ front more true t
+  again_is =
+      let m = marked_at true t has_line in
+      ap (λ n. take (n + 2) t ++ more) (head_length t)
+      ∙ ap (λ x. take (length (head_text true t) + 2) x ++ more) m.1
+      ∙ ap (λ x. x ++ more) (take-append-add (head_text true t) (37 ∷ 37 ∷ m.0) 2)
+      ∙ append_assoc (head_text true t) (37 ∷ 37 ∷ []) more
+
+  text_is : head_text true again ≡ head_text true t
+  text_is = ap (head_text true) again_is ∙ (same_text more true t has_line).text
+
+  line_again : has_score (lines again) ≡ true
+  line_again = score_lines again ∙ ap (is_scored true) again_is ∙ (same_text more true t has_line).scored
+
+  pub len_again : head_len again ≡ head_len t
+  len_again = head_length again ∙ ap length text_is ∙ sym (head_length t)
+
+  parts_again : head_parts again ≡ head_parts t
+  parts_again = sym (parts_head again) ∙ ap (λ x. parts outside 1 0 (lines x)) text_is ∙ parts_head t
+
+  none_stops : head_stops limits t ≡ []
+  none_stops = by (head_stops limits t) ok
+    where
+      by : (stops : List Stop) → heads_by t (earliest stops) ≡ Ok heads → stops ≡ []
+      by [] e = refl
+      by (s ∷ stops) e = absurd (cc)
+
+  abbrev behind_line : List ℕ → List Stop
+  behind_line u = open_stops (head_len u + 1) (open_line (head_parts u)) ++ score_stops limits u
+
+  none_apart : (text_stops limits.header t ≡ []) × (behind_line t ≡ [])
+  none_apart =
+      let all = ap (λ b. text_stops limits.header t ++ cond b (behind_line t) (open_stops (length t) (open_line (head_parts t)) ++ missing_score (open_line (head_parts t)) t)) (sym (has_score_line limits t heads ok)) ∙ none_stops in
+      nothing_both (text_stops limits.header t) (behind_line t) all
+
+  not_long : (o : Option ℕ) → first_above limits.header (head_text true t) ≡ o → too_long t o ≡ [] → o ≡ None
+  not_long None e h = refl
+  not_long (Some i) e h =
+      let low : i < length (head_text true t) = above_within limits.header (head_text true t) i e in
+      let len : head_len t ≡ length (head_text true t) = head_length t in
+      let behind : head_len t + 2 ≤ length t = score_behind limits t heads ok in
+      let inside : i + 1 < length t = omega arith in
+      absurd (never_empty (stop_at (i + 1) (place_after (take i t)) F4) (is_line_percent t i) (i + 1) (length t) inside (stop_at i (place_after (take i t)) F4) h)
+
+  text_again : text_stops limits.header again ≡ []
+  text_again =
+      let none = not_long (first_above limits.header (head_text true t)) refl (ap (λ x. too_long t (first_above limits.header x)) (sym (take_head t)) ∙ none_apart.0) in
+      ap (λ x. too_long again (first_above limits.header x)) (take_head again ∙ text_is) ∙ ap (too_long again) none
+
+  -- by the text before the line and its parts
+  abbrev behind_by : ℕ → List ℕ → List Part → List Stop
+  behind_by n before ps =
+      open_stops (n + 1) (open_line ps)
+      ++ (cond (nat_lt limits.header (bytes_len (header_lines (book_of ps)))) (stop_at (n + 1) (place_after before) F4 ∷ []) []
+      ++ cond (nat_lt limits.input (bytes_len (header_lines (book_of ps)) + 3)) (stop_at (n + 1) (place_after before) F7 ∷ []) [])
+
+  behind_again : behind_line again ≡ []
+  behind_again =
+      ap (λ n. behind_by n (take (head_len again) again) (head_parts again)) len_again
+      ∙ ap (λ x. behind_by (head_len t) x (head_parts again)) (take_head again ∙ text_is ∙ sym (take_head t))
+      ∙ ap (behind_by (head_len t) (take (head_len t) t)) parts_again
+      ∙ none_apart.1
+
+  none_again : head_stops limits again ≡ []
+  none_again =
+      ap (λ b. text_stops limits.header again ++ cond b (behind_line again) (open_stops (length again) (open_line (head_parts again)) ++ missing_score (open_line (head_parts again)) again)) line_again
+      ∙ ap (λ xs. xs ++ behind_line again) text_again ∙ behind_again
+
+  -- the headers of the front are read whole, with the same book
+  pub heads_again : (other : Heads) × (heads_of limits again ≡ Ok other) × (other.book ≡ heads.book)
+  heads_again =
+      let book : heads.book ≡ book_of (head_parts t) = by (ap (λ stops. heads_by t (earliest stops)) (sym none_stops) ∙ ok) in (
+        _,
+        ap (λ stops. heads_by again (earliest stops)) none_again,
+        ap book_of parts_again ∙ sym book,
+      )
+    where
+      by : heads_by t (earliest []) ≡ Ok heads → heads.book ≡ book_of (head_parts t)
+      by e = cc

@@ -1,0 +1,25 @@
+//! The characters of a kept text, with their places in the source.
+
+ghost use Rattle.std.specs.Prelude.{◌≡◌, ◌+◌, ◌<◌, ◌^◌, length, map, IfOk};
+ghost use Rattle.std.specs.Str.{chars};
+ghost use Rattle.gabc_nabc.specs.Read.{before_end, from_end, kept_before, kept_chars_in};
+
+use crate::stage::NabcStage;
+use crate::whole::nabc_whole;
+use gabc_notes::kept_chars_by;
+use gabc_places::{Char, Place, Sequence};
+use std::alloc::{AllocError, Global};
+
+/// Returns the characters of the text that `nabc_whole` keeps of the same arguments, each with its place in the source: a byte of
+/// that text belongs to the character whose bytes it is among. It fails only for want of memory.
+pub fn kept_chars(alloc: Global, body: &str, at: Place) -> Result<Sequence<Char>, AllocError>
+    requires line { at.line + length body.now < 2 ^ 64 }
+    requires column { at.column + length body.now < 2 ^ 64 }
+    ensures chars { IfOk result (λ cs. cs ≡ kept_chars_in at (chars body.now)) }
+    ensures text { let t = chars body.now in
+        IfOk result (λ cs. map (λ x. x.c) cs ≡ kept_before (before_end t) (from_end t)) }
+{
+    let read = nabc_whole(alloc, body, at)?;
+    let mut stage = NabcStage::new();
+    kept_chars_by(alloc, &mut stage, body, at, &read.kept)
+}

@@ -1,0 +1,74 @@
+-- The characters that are told as kept, one call after another.
+use Rattle.std.proofs.Common.{◌≡◌, ℕ, ◌+◌, ◌<◌, ◌≤◌, List, [], ◌∷◌, ◌++◌, refl, sym, ap, ◌∙◌, append_assoc, append-nil, length, length-append, take, get_or, arith}
+use Rattle.std.specs.Prelude.{map}
+use native.Mathlib.Decide.{dec_lt}
+use Rattle.std.proofs.lemmas.List.{take_more, take_all, take-append-le, length-take}
+use Rattle.gabc_places.specs.declared.place.Char.{Char}
+use Rattle.gabc_places.specs.Held.{Held, added}
+use Rattle.gabc_places.specs.Law.{joined}
+use Rattle.gabc_notes.specs.Read.{kept_of, kept_chars_of}
+use Rattle.gabc_notes.specs.declared.stage.NoteOut.{NoteOut}
+use Rattle.gabc_notes.specs.declared.stage.NoteOut.TheVariants.{Kept, Found, Ended}
+
+pub kept_chars-append : (a b : List NoteOut) → kept_chars_of (a ++ b) ≡ kept_chars_of a ++ kept_chars_of b
+kept_chars-append [] b = refl
+kept_chars-append (Kept x ∷ a) b = ap (λ (l : List Char). x ∷ l) (kept_chars-append a b)
+kept_chars-append (Found f ∷ a) b = kept_chars-append a b
+kept_chars-append (Ended h n ∷ a) b = kept_chars-append a b
+
+-- without their places
+pub kept_chars-kept : (a : List NoteOut) → map (λ (x : Char). x.c) (kept_chars_of a) ≡ kept_of a
+kept_chars-kept [] = refl
+kept_chars-kept (Kept x ∷ a) = ap (λ (l : List ℕ). x.c ∷ l) (kept_chars-kept a)
+kept_chars-kept (Found f ∷ a) = kept_chars-kept a
+kept_chars-kept (Ended h n ∷ a) = kept_chars-kept a
+
+-- a front of a front with more behind it
+pub take_again : {X : Type 0} (n : ℕ) (a b : List X) → take n (take n a ++ b) ≡ take n (a ++ b)
+take_again {X} n a b = elim (dec_lt (length a) n) [
+  | yes h ↦ ap (λ (l : List X). take n (l ++ b)) (take_all n a (omega (arith, h)))
+  | no h ↦ (let size = length-take n a in let less : n ≤ length a = omega (arith, h) in
+      take-append-le n (take n a) b (omega (arith, size, less)) ∙ (take_all n (take n a) (omega (arith, size)) ∙ sym (take-append-le n a b less)))
+]
+
+-- one output more of a list
+pub kept_more : (first now new : List Char) (count : ℕ) (events : List NoteOut) (i : ℕ) (d : NoteOut) → i < length events
+    → now ≡ take count (first ++ kept_chars_of (take i events)) → new ≡ take count (now ++ kept_chars_of (get_or events i d ∷ []))
+    → new ≡ take count (first ++ kept_chars_of (take (i + 1) events))
+kept_more first now new count events i d h f g =
+    let one : List Char = kept_chars_of (get_or events i d ∷ []) in
+    let before : List Char = first ++ kept_chars_of (take i events) in
+    g ∙ (ap (λ (l : List Char). take count (l ++ one)) f ∙ (take_again count before one
+    ∙ ap (take count) (append_assoc first (kept_chars_of (take i events)) one
+    ∙ ap (λ (l : List Char). first ++ l) (sym (kept_chars-append (take i events) (get_or events i d ∷ [])) ∙ ap kept_chars_of (sym (take_more events i d h))))))
+
+-- so long as it is no longer than the count
+pub no_longer : {X : Type 0} (count : ℕ) (now all : List X) → now ≡ take count all → length now ≤ count
+no_longer {X} count now all e = omega (arith, ap (λ (l : List X). length l) e, length-take count all)
+
+-- a character that is added
+pub pushed : {X : Type 0} (count : ℕ) (now new : List X) (x : X) → length now < count → new ≡ now ++ x ∷ [] → new ≡ take count (now ++ x ∷ [])
+pushed count now new x h e = e ∙ sym (take_all count (now ++ x ∷ []) (omega (arith, length-append now (x ∷ []))))
+
+-- nothing is added where the count is reached, whatever follows
+pub full : {X : Type 0} (count : ℕ) (now more : List X) → length now ≡ count → now ≡ take count (now ++ more)
+full count now more h = sym (take-append-le count now more (omega (arith, h)) ∙ take_all count now (omega (arith, h)))
+
+-- and where there is nothing to add
+pub none_pushed : {X : Type 0} (count : ℕ) (now : List X) → length now ≤ count → now ≡ take count (now ++ [])
+none_pushed {X} count now h = sym (ap (take count) (append-nil now) ∙ take_all count now h)
+
+-- one call of a stage more
+pub driven : {total new : List Char} {events : List NoteOut} (kept : List Char) (count : ℕ) (before later : List (List NoteOut)) → before ≡ events ∷ later
+    → new ≡ take count (kept ++ kept_chars_of events) → total ≡ take count (kept ++ kept_chars_of (joined before))
+    → total ≡ take count (new ++ kept_chars_of (joined later))
+driven {total = total} {new = new} {events = events} kept count before later e f g =
+    let more : List Char = kept_chars_of (joined later) in
+    g ∙ (ap (λ (o : List (List NoteOut)). take count (kept ++ kept_chars_of (joined o))) e
+    ∙ (ap (λ (l : List Char). take count (kept ++ l)) (kept_chars-append events (joined later))
+    ∙ (ap (take count) (sym (append_assoc kept (kept_chars_of events) more))
+    ∙ (sym (take_again count (kept ++ kept_chars_of events) more) ∙ ap (λ (l : List Char). take count (l ++ more)) (sym f)))))
+
+-- what a call added to an empty room
+pub added_alone : {X : Type 0} (old new : Held X) (events : List X) → old.items ≡ [] → new ≡ added old events → new.items ≡ events
+added_alone {X} old new events e f = ap (λ (h : Held X). h.items) f ∙ ap (λ (l : List X). l ++ events) e

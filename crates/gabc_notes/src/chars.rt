@@ -1,0 +1,106 @@
+//! The characters of a kept text, with their places in the source.
+
+ghost use Rattle.std.specs.Prelude.{◌≡◌, ◌+◌, ◌≤◌, ◌<◌, ◌^◌, ◌++◌, [], ◌∷◌, length, map, take, IfOk, OnOk};
+ghost use Rattle.std.specs.Str.{chars};
+ghost use Rattle.gabc_places.specs.Law.{joined};
+ghost use Rattle.gabc_places.specs.Place.{placed_from};
+ghost use Rattle.gabc_notes.specs.Read.{kept_chars_of, kept_chars_in, stop_after, kept_by};
+
+use crate::stage::{NoteOut, NoteStage};
+use crate::whole::snippet_whole;
+use gabc_places::{Char, Place, Room, Sequence, Stage};
+use std::alloc::{AllocError, Global};
+
+/// Adds the character that `event` tells as kept, if it tells one and `kept` has fewer than `count`.
+fn add_kept(kept: &mut Sequence<Char>, event: NoteOut, count: usize) -> Result<(), AllocError>
+    requires { length kept.old ≤ count }
+    ensures { OnOk result (kept.new ≡ take count (kept.old ++ kept_chars_of (event ∷ []))) }
+{
+    match event {
+        NoteOut::Kept(x) => {
+            if kept.len() < count {
+                kept.push(x)?;
+            }
+        }
+        NoteOut::Found(_) => {}
+        NoteOut::Ended { .. } => {}
+    }
+    Ok(())
+}
+
+/// Adds the characters that `events` tells as kept, while `kept` has fewer than `count`.
+fn add_all_kept(
+    kept: &mut Sequence<Char>,
+    events: &[NoteOut],
+    count: usize,
+) -> Result<(), AllocError>
+    requires { length kept.old ≤ count }
+    ensures { OnOk result (kept.new ≡ take count (kept.old ++ kept_chars_of events.now)) }
+{
+    for event in events {
+        add_kept(kept, *event, count)?;
+    }
+    Ok(())
+}
+
+/// Returns how many characters `text` has.
+fn characters(text: &str) -> usize
+    ensures { result ≡ length (chars text.now) }
+{
+    text.chars().count()
+}
+
+/// Returns the first of the characters that `stage` gives as kept, driven over `body` and then ended: as many as `kept` has, or all
+/// if there are fewer. The first character of `body` stands at `at`. It fails only for want of memory.
+pub fn kept_chars_by<S>(
+    alloc: Global,
+    stage: &mut S,
+    body: &str,
+    at: Place,
+    kept: &str,
+) -> Result<Sequence<Char>, AllocError>
+where
+    S: Stage<Input = Char, Output = NoteOut>,
+    requires line { at.line + length body.now < 2 ^ 64 }
+    requires column { at.column + length body.now < 2 ^ 64 }
+    ensures { let events = joined (S.rest stage.old (placed_from at (chars body.now))) in
+        IfOk result (λ cs. cs ≡ take (length (chars kept.now)) (kept_chars_of events)) }
+{
+    let count = characters(kept);
+    let mut room = Room::with_limit(alloc, stage.most())?;
+    let mut found = Sequence::new(alloc);
+    let mut place = at;
+    for c in body.chars() {
+        if found.len() == count {
+            return Ok(found);
+        }
+        stage.push(Char { c, place }, &mut room);
+        add_all_kept(&mut found, room.slice(), count)?;
+        room.clear();
+        place = place.after(c);
+    }
+    stage.finish(&mut room);
+    add_all_kept(&mut found, room.slice(), count)?;
+    Ok(found)
+}
+
+/// Returns the characters of the text that `snippet_whole` keeps of the same arguments, each with its place in the source: a byte
+/// of that text belongs to the character whose bytes it is among. It fails only for want of memory.
+pub fn kept_chars(
+    alloc: Global,
+    body: &str,
+    at: Place,
+    split: bool,
+    macros: u16,
+) -> Result<Sequence<Char>, AllocError>
+    requires line { at.line + length body.now < 2 ^ 64 }
+    requires column { at.column + length body.now < 2 ^ 64 }
+    ensures chars { IfOk result
+        (λ cs. cs ≡ kept_chars_in split macros (placed_from at (chars body.now))) }
+    ensures text { let s = stop_after split [] (placed_from at (chars body.now)) in
+        IfOk result (λ cs. map (λ x. x.c) cs ≡ kept_by s.mark s.back) }
+{
+    let read = snippet_whole(alloc, body, at, split, macros)?;
+    let mut stage = NoteStage::new(split, macros);
+    kept_chars_by(alloc, &mut stage, body, at, &read.kept)
+}

@@ -1,0 +1,114 @@
+-- Behind an output that ends a stage, several calls give nothing, as each of them does.
+use Rattle.std.proofs.Common.{ℕ, List, [], ◌∷◌, ◌++◌, ◌≡◌, ◌||◌, ◌⊎◌, inl, inr, Bool, true, false, refl, ap, sym, ◌∙◌, append_assoc}
+use Rattle.std.proofs.lemmas.List.{append_cancel_left}
+use Rattle.std.specs.List.{list_any}
+use Rattle.gabc_places.specs.Held.{Held, added}
+use Rattle.gabc_places.specs.Law.{joined, Gives, GivesAll, Ends, GivesNothing, StopsAtEnd}
+
+-- an element of a list that is joined of two lies in the first or in the second
+pub record InFirst {T : Type 0} (a c before behind : List T) (x : T) : Type 0 where
+  pub left : List T
+  pub first_is : a ≡ before ++ x ∷ left
+  pub behind_is : behind ≡ left ++ c
+
+pub record InSecond {T : Type 0} (a c before behind : List T) (x : T) : Type 0 where
+  pub left : List T
+  pub second_is : c ≡ left ++ x ∷ behind
+
+pub where_it_lies : {T : Type 0} (a c before behind : List T) (x : T) → a ++ c ≡ before ++ x ∷ behind → InFirst a c before behind x ⊎ InSecond a c before behind x
+where_it_lies [] c before behind x e = inr (record { left = before; second_is = e })
+where_it_lies (y ∷ a) c [] behind x e = inl (record { left = a; first_is = cc; behind_is = cc })
+where_it_lies (y ∷ a) c (z ∷ before) behind x e = by (where_it_lies a c before behind x (cc))
+  where
+    by : InFirst a c before behind x ⊎ InSecond a c before behind x → InFirst (y ∷ a) c (z ∷ before) behind x ⊎ InSecond (y ∷ a) c (z ∷ before) behind x
+    by (inl i) = let e1 = i.first_is in inl (record { left = i.left; first_is = cc; behind_is = i.behind_is })
+    by (inr i) = inr (record { left = i.left; second_is = i.second_is })
+
+empty_front : {T : Type 0} (a b : List T) → a ++ b ≡ [] → a ≡ []
+empty_front [] b e = refl
+empty_front (x ∷ a) b e = absurd (cc)
+
+empty_back : {T : Type 0} (a b : List T) → a ++ b ≡ [] → b ≡ []
+empty_back [] b e = e
+empty_back (x ∷ a) b e = absurd (cc)
+
+items_of : {T : Type 0} (r t : Held T) → r ≡ t → r.items ≡ t.items
+items_of r t e = ap (λ h. h.items) e
+
+-- a call, and then a call that adds nothing and leaves a stage that gives nothing where the first did
+stops-both : {I O : Type 0} (ends : O → Bool) (mid after : List I → List (List O)) (r s t : Held O) (a b : List O)
+    → s ≡ added r a → t ≡ added s b → (GivesNothing mid → (b ≡ []) × GivesNothing after)
+    → StopsAtEnd ends mid r s → StopsAtEnd ends after s t → StopsAtEnd ends after r t
+stops-both {I} {O} ends mid after r s t a b se te over first second before behind x e is_end = by (where_it_lies a b before behind x split)
+  where
+    split : a ++ b ≡ before ++ x ∷ behind
+    split = append_cancel_left r.items (a ++ b) (before ++ x ∷ behind) (sym (append_assoc r.items a b) ∙ sym (items_of _ _ te ∙ ap (λ (h : Held O). h.items ++ b) se) ∙ items_of _ _ e)
+
+    by : InFirst a b before behind x ⊎ InSecond a b before behind x → (behind ≡ []) × GivesNothing after
+    by (inl i) =
+        let k = first before i.left x (se ∙ ap (added r) i.first_is) is_end in
+        let o = over k.1 in
+        (i.behind_is ∙ ap (λ v. v ++ b) k.0 ∙ o.0, o.1)
+    by (inr i) = second i.left behind x (te ∙ ap (added s) i.second_is) is_end
+
+-- a stage that gives nothing adds nothing at a push, and gives nothing after it
+nothing-pushed : {I O : Type 0} (mid after : List I → List (List O)) (x : I) (most : ℕ) (s t : Held O) (g : Gives mid after x most s t)
+    → GivesNothing mid → (g.given ≡ []) × GivesNothing after
+nothing-pushed mid after x most s t g none = (
+  empty_front g.given (joined (after [])) (sym (ap joined (g.law [])) ∙ none (x ∷ [])),
+  λ xs. empty_back g.given (joined (after xs)) (sym (ap joined (g.law xs)) ∙ none (x ∷ xs)),
+)
+
+-- and at its end
+nothing-ended : {I O : Type 0} (mid after : List I → List (List O)) (most : ℕ) (s t : Held O) (g : Ends mid most s t)
+    → GivesNothing after → GivesNothing mid → (g.given ≡ []) × GivesNothing after
+nothing-ended mid after most s t g over none = (empty_front g.given [] (sym (ap joined g.law) ∙ none []), over)
+
+-- pushes of all of some inputs, and then a push
+pub stops-pushed : {I O : Type 0} {before mid after : List I → List (List O)} {xs : List I} {x : I} {most more : ℕ} {r s t : Held O} (ends : O → Bool)
+    → GivesAll before mid xs most r s → Gives mid after x more s t
+    → StopsAtEnd ends mid r s → StopsAtEnd ends after s t → StopsAtEnd ends after r t
+stops-pushed {mid = mid} {after = after} {x = x} {more = more} {r = r} {s = s} {t = t} ends all g first second =
+    stops-both ends mid after r s t (joined all.given) g.given all.out g.out (nothing-pushed mid after x more s t g) first second
+
+-- pushes of all of some inputs, and then the end
+pub stops-ended : {I O : Type 0} {before mid : List I → List (List O)} {xs : List I} {most more : ℕ} {r s t : Held O} (ends : O → Bool) (after : List I → List (List O))
+    → GivesAll before mid xs most r s → Ends mid more s t → GivesNothing after
+    → StopsAtEnd ends mid r s → StopsAtEnd ends after s t → StopsAtEnd ends after r t
+stops-ended {mid = mid} {more = more} {r = r} {s = s} {t = t} ends after all g over first second =
+    stops-both ends mid after r s t (joined all.given) g.given all.out g.out (nothing-ended mid after more s t g over) first second
+
+-- ---- for the proof of a stage: what a call gives has no end, or has it last
+
+or-true : (b : Bool) → (b || true) ≡ true
+or-true true = refl
+or-true false = refl
+
+has_end : {O : Type 0} (ends : O → Bool) (before behind : List O) (x : O) → ends x ≡ true → list_any ends (before ++ x ∷ behind) ≡ true
+has_end ends [] behind x e = ap (λ b. b || list_any ends behind) e
+has_end ends (y ∷ before) behind x e = ap (λ b. ends y || b) (has_end ends before behind x e) ∙ or-true (ends y)
+
+only_one : {O : Type 0} (before behind : List O) (x y : O) → x ∷ [] ≡ before ++ y ∷ behind → behind ≡ []
+only_one [] behind x y e = cc
+only_one (z ∷ []) behind x y e = absurd (cc)
+only_one (z ∷ w ∷ before) behind x y e = absurd (cc)
+
+given_is : {O : Type 0} (old new : Held O) (xs ys : List O) → new ≡ added old xs → new ≡ added old ys → xs ≡ ys
+given_is old new xs ys e h = append_cancel_left old.items xs ys (items_of _ _ (sym e ∙ h))
+
+-- a call that gives no end
+pub stops-endless : {I O : Type 0} (ends : O → Bool) (after : List I → List (List O)) (old new : Held O) (given : List O)
+    → new ≡ added old given → list_any ends given ≡ false → StopsAtEnd ends after old new
+stops-endless ends after old new given e none before behind x h is_end =
+    let k : list_any ends given ≡ true = ap (list_any ends) (given_is old new given (before ++ x ∷ behind) e h) ∙ has_end ends before behind x is_end in
+    absurd (cc)
+
+-- a call that gives an end last, and leaves a stage that gives nothing
+pub stops-last : {I O : Type 0} (ends : O → Bool) (after : List I → List (List O)) (old new : Held O) (xs : List O) (last : O)
+    → new ≡ added old (xs ++ last ∷ []) → list_any ends xs ≡ false → GivesNothing after → StopsAtEnd ends after old new
+stops-last ends after old new xs last e none over before behind x h is_end =
+    by (where_it_lies xs (last ∷ []) before behind x (given_is old new (xs ++ last ∷ []) (before ++ x ∷ behind) e h))
+  where
+    by : InFirst xs (last ∷ []) before behind x ⊎ InSecond xs (last ∷ []) before behind x → (behind ≡ []) × GivesNothing after
+    by (inl i) = let k : list_any ends xs ≡ true = ap (list_any ends) i.first_is ∙ has_end ends before i.left x is_end in absurd (cc)
+    by (inr i) = (only_one i.left behind last x i.second_is, over)

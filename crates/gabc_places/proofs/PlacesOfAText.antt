@@ -1,0 +1,34 @@
+-- The places of a text, by the text before and by the place of its first character.
+use Rattle.std.proofs.Common.{◌≡◌, ℕ, ◌+◌, ◌≤◌, Bool, true, false, cond, List, [], ◌∷◌, ◌++◌, length, refl, sym, ap, ◌∙◌, arith, append_assoc, append-nil, length-append, encode_utf8}
+use Rattle.std.proofs.lemmas.Grind.{common_steps}
+use Rattle.std.proofs.lemmas.Str.{length-encode, len_utf8_bounds}
+use Rattle.gabc_places.specs.declared.place.Place.{Place}
+use Rattle.gabc_places.specs.declared.place.Char.{Char}
+use Rattle.gabc_places.specs.Place.{next_place, is_line_feed, place_after, placed_after, place_past, placed_from}
+
+next_after : (f : List ℕ) (c : ℕ) → next_place (place_after f) c ≡ place_after (f ++ c ∷ [])
+next_after f c = grind (arith, common_steps)
+
+pub placed_behind : (f cs : List ℕ) → placed_from (place_after f) cs ≡ placed_after f cs
+placed_behind f [] = refl
+placed_behind f (c ∷ cs) =
+    ap (λ (l : List Char). record { c = c; place = place_after f } ∷ l) (ap (λ p. placed_from p cs) (next_after f c) ∙ placed_behind (f ++ c ∷ []) cs)
+
+pub behind_after : (f cs : List ℕ) → place_past (place_after f) cs ≡ place_after (f ++ cs)
+behind_after f [] = ap place_after (sym (append-nil f))
+behind_after f (c ∷ cs) =
+    ap (λ p. place_past p cs) (next_after f c) ∙ behind_after (f ++ c ∷ []) cs ∙ ap place_after (append_assoc f (c ∷ []) cs)
+
+-- no count of a place grows by more than the bytes that were read
+module _ (p : Place) (n m lines columns : ℕ) (less : m + 1 ≤ n) (line : p.line + n ≤ lines) (column : p.column + n ≤ columns) where
+  within_by : (b : Bool) → ((cond {A = Place} b (record { line = p.line + 1; column = 1 }) (record { line = p.line; column = p.column + 1 })).line + m ≤ lines)
+      × ((cond {A = Place} b (record { line = p.line + 1; column = 1 }) (record { line = p.line; column = p.column + 1 })).column + m ≤ columns)
+  within_by true = (omega (arith, less, line, column), omega (arith, less, line, column))
+  within_by false = (omega (arith, less, line, column), omega (arith, less, line, column))
+
+  pub within_on : (c : ℕ) (q : Place) → q ≡ next_place p c → (q.line + m ≤ lines) × (q.column + m ≤ columns)
+  within_on c q h = rw h (within_by (is_line_feed c))
+
+-- a character has a byte at least
+pub shorter : (rest next : List ℕ) (c : ℕ) → rest ≡ encode_utf8 c ++ next → length next + 1 ≤ length rest
+shorter rest next c h = rw h (omega (arith, length-append (encode_utf8 c) next, length-encode c, (len_utf8_bounds c).0))

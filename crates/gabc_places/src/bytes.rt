@@ -1,0 +1,23 @@
+//! From a byte of a text to its place.
+
+ghost use Rattle.std.specs.Prelude.{◌≡◌, ◌≤◌, MatchOption};
+ghost use Rattle.gabc_places.specs.Bytes.{bytes_in, IsByteAt};
+
+use crate::place::{Char, Place};
+
+/// Returns the place in the source of the character to which the byte with this index belongs, from 0 on, in the UTF-8 text of
+/// `chars`; `None` if the text has no such byte. With the characters of a kept text, as `kept_chars` of the crates above
+/// returns them, this tells where an item stands whose span begins at `byte`.
+pub fn place_of_byte(chars: &[Char], byte: usize) -> Option<Place>
+    ensures { MatchOption result (bytes_in chars.now ≤ byte) (λ place. IsByteAt chars.now byte place) }
+{
+    let mut left = byte;
+    for x in chars {
+        let len = x.c.len_utf8();
+        if left < len {
+            return Some(x.place);
+        }
+        left -= len;
+    }
+    None
+}

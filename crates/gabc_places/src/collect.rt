@@ -1,0 +1,36 @@
+//! All that a stage gives of a text.
+
+ghost use Rattle.std.specs.Prelude.{◌≡◌, ◌+◌, ◌^◌, ◌<◌, length, IfOk, OnOk};
+ghost use Rattle.std.specs.Str.{chars};
+ghost use Rattle.gabc_places.specs.Law.{joined, GivesNothing};
+ghost use Rattle.gabc_places.specs.Place.{placed_from};
+
+use crate::{Char, Place, Room, Sequence, Stage};
+use std::alloc::{AllocError, Global};
+
+/// Pushes the characters of `text` to `stage`, ends them, and returns all that it gave, in order. The first character stands at
+/// `at`.
+pub fn outputs_of<S: Stage<Input = Char>>(
+    alloc: Global,
+    stage: &mut S,
+    text: &str,
+    at: Place,
+) -> Result<Sequence<S::Output>, AllocError>
+    requires line { at.line + length text.now < 2 ^ 64 }
+    requires column { at.column + length text.now < 2 ^ 64 }
+    ensures all { IfOk result (λ all. all ≡ joined (S.rest stage.old (placed_from at (chars text.now)))) }
+    ensures over { OnOk result (GivesNothing (S.rest stage.new)) }
+{
+    let mut room = Room::with_limit(alloc, stage.most())?;
+    let mut all = Sequence::new(alloc);
+    let mut place = at;
+    for c in text.chars() {
+        stage.push(Char { c, place }, &mut room);
+        all.append(room.slice())?;
+        room.clear();
+        place = place.after(c);
+    }
+    stage.finish(&mut room);
+    all.append(room.slice())?;
+    Ok(all)
+}

@@ -1,0 +1,18 @@
+use Rattle.gabc_score.proofs.UnitsGiveSyllables.{body_is_units}
+use Rattle.gabc_score.proofs.StoppedScores.{stopped_syllables, stop_stands}
+use Rattle.gabc_score.proofs.WholeScores.{whole_syllables}
+use Rattle.gabc_score.proofs.laws.the_syllables_are_those_of_the_units.Goals as goal
+
+pub returns-clause-characters : goal.returns-clause-characters
+returns-clause-characters c = body_is_units
+
+pub returns-clause-whole : goal.returns-clause-whole
+returns-clause-whole c =
+    whole_syllables c.a_text_ends_once.ensures c.outs_tell_all.ensures.told c.spans_stand.ensures.view c.outs_in_order.ensures.joined
+
+pub returns-clause-stopped : goal.returns-clause-stopped
+returns-clause-stopped c limits ending t book cut n short =
+    stopped_syllables c.a_text_ends_once.ensures c.outs_tell_all.ensures.told c.spans_stand.ensures.view c.outs_in_order.ensures.joined limits ending t book cut n short
+
+pub returns-clause-stop : goal.returns-clause-stop
+returns-clause-stop c = stop_stands

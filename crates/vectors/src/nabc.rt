@@ -1,0 +1,100 @@
+//! Rows of NABC snippets.
+
+use crate::show::{show_findings, show_note_event, show_snippet_how};
+use gabc_nabc::{
+    Descriptor, NabcStage, codes_into, descriptors_into, descriptors_whole, is_nabc, nabc_whole,
+    name_of,
+};
+use gabc_places::{Place, Room, Span, Stage, outputs_of};
+use std::alloc::{AllocError, Global};
+
+/// Prints the kept text, the end and the findings of a snippet.
+fn answer_snippet(alloc: Global, input: &str, out: &mut String) -> Result<(), AllocError> {
+    let read = nabc_whole(alloc, input, Place::START)?;
+    write!(out, "{}\t", read.kept)?;
+    show_snippet_how(read.how, out)?;
+    out.push('\t')?;
+    show_findings(read.findings.as_slice(), out)
+}
+
+/// Prints the number of the parts and the parts, which both calls have to give; or that the text is no NABC.
+fn answer_descriptors(alloc: Global, input: &str, out: &mut String) -> Result<(), AllocError> {
+    if !is_nabc(input) {
+        return out.push_str("no NABC");
+    }
+    let parts = descriptors_whole(alloc, input)?;
+    let mut room = Room::with_limit(alloc, input.len())?;
+    descriptors_into(input, &mut room);
+    if room.slice() != parts.as_slice() {
+        return out.push_str("the calls differ");
+    }
+    write!(out, "{}", parts.len())?;
+    for part in parts.as_slice() {
+        let kind = if part.space { "space" } else { "descriptor" };
+        let spelled = input.get(part.span.from..part.span.to).unwrap_or("no text");
+        write!(out, "\t{kind} {spelled}")?;
+    }
+    Ok(())
+}
+
+/// Prints the number of the codes of the descriptor that has this span, and each code with its name.
+fn answer_codes(
+    alloc: Global,
+    span: Span,
+    input: &str,
+    out: &mut String,
+) -> Result<(), AllocError> {
+    if span.from > span.to || span.to > input.len() {
+        return out.push_str("no span");
+    }
+    let mut room = Room::with_limit(alloc, span.to - span.from)?;
+    let space = false;
+    codes_into(input, Descriptor { space, span }, &mut room);
+    write!(out, "{}", room.slice().len())?;
+    for code in room.slice() {
+        let name = code.name().unwrap_or("none");
+        write!(out, "\t{}{} {name}", code.first, code.second)?;
+    }
+    Ok(())
+}
+
+/// Prints how many events a stage gives for a character at most, and those that it gives of the snippet.
+fn answer_events(alloc: Global, input: &str, out: &mut String) -> Result<(), AllocError> {
+    let mut stage = NabcStage::new();
+    write!(out, "{}", stage.most())?;
+    let events = outputs_of(alloc, &mut stage, input, Place::START)?;
+    for event in events.as_slice() {
+        out.push('\t')?;
+        show_note_event(*event, out)?;
+    }
+    Ok(())
+}
+
+/// Returns the span of a column `FROM-TO`.
+fn span_of(column: &str) -> Option<Span> {
+    let (from, to) = column.split_once('-')?;
+    Some(Span {
+        from: from.parse::<usize>().ok()?,
+        to: to.parse::<usize>().ok()?,
+    })
+}
+
+/// Prints the answer of a call on an NABC snippet, and returns whether there is such a call.
+pub(crate) fn answer(
+    alloc: Global,
+    call: &str,
+    first: &str,
+    input: &str,
+    out: &mut String,
+) -> Result<bool, AllocError> {
+    match (call, span_of(first)) {
+        ("nabc", _) => answer_snippet(alloc, input, out)?,
+        ("descriptors", _) => answer_descriptors(alloc, input, out)?,
+        ("is_nabc", _) => out.push_str(if is_nabc(input) { "yes" } else { "no" })?,
+        ("name_of", _) => out.push_str(name_of(input).unwrap_or("none"))?,
+        ("codes", Some(span)) => answer_codes(alloc, span, input, out)?,
+        ("nabc_events", _) => answer_events(alloc, input, out)?,
+        _ => return Ok(false),
+    }
+    Ok(true)
+}

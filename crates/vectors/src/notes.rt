@@ -1,0 +1,104 @@
+//! Rows of snippets of notes.
+
+use crate::show::{show_findings, show_note_event, show_snippet_how, show_span};
+use gabc_notes::{
+    Item, ItemKind, NoteStage, is_snippet, items_into, items_whole, note_of, snippet_whole,
+};
+use gabc_places::{Place, Room, Span, Stage, outputs_of};
+use std::alloc::{AllocError, Global};
+
+/// Returns the spelling of a span of a text.
+fn spelled(text: &str, span: Span) -> &str {
+    text.get(span.from..span.to).unwrap_or("no text")
+}
+
+/// Prints the number of the items and the items, which both calls have to give; or that the text is no snippet.
+fn answer_items(alloc: Global, input: &str, out: &mut String) -> Result<(), AllocError> {
+    if !is_snippet(input) {
+        return out.push_str("no snippet");
+    }
+    let items = items_whole(alloc, input)?;
+    let mut room = Room::with_limit(alloc, input.len())?;
+    items_into(input, &mut room);
+    if room.slice() != items.as_slice() {
+        return out.push_str("the calls differ");
+    }
+    write!(out, "{}", items.len())?;
+    for item in items.as_slice() {
+        write!(out, "\t{:?} {}", item.kind, spelled(input, item.span))?;
+    }
+    Ok(())
+}
+
+/// Prints the note of an item of this kind that is the whole text: its height, shape, whether it is initio debilis, and its span.
+fn answer_note(kind: ItemKind, input: &str, out: &mut String) -> Result<(), AllocError> {
+    let span = Span {
+        from: 0,
+        to: input.len(),
+    };
+    let Some(note) = note_of(input, Item { kind, span }) else {
+        return out.push_str("none");
+    };
+    let debilis = if note.debilis {
+        "initio debilis"
+    } else {
+        "none"
+    };
+    write!(out, "{}\t{:?}\t{debilis}\t", note.height, note.shape)?;
+    show_span(note.span, out)
+}
+
+/// Prints the kept text, the end and the findings of a snippet.
+fn answer_snippet(
+    alloc: Global,
+    split: bool,
+    macros: u16,
+    input: &str,
+    out: &mut String,
+) -> Result<(), AllocError> {
+    let read = snippet_whole(alloc, input, Place::START, split, macros)?;
+    write!(out, "{}\t", read.kept)?;
+    show_snippet_how(read.how, out)?;
+    out.push('\t')?;
+    show_findings(read.findings.as_slice(), out)
+}
+
+/// Prints how many events a stage gives for a character at most, and those that it gives of the snippet.
+fn answer_events(
+    alloc: Global,
+    split: bool,
+    macros: u16,
+    input: &str,
+    out: &mut String,
+) -> Result<(), AllocError> {
+    let mut stage = NoteStage::new(split, macros);
+    write!(out, "{}", stage.most())?;
+    let events = outputs_of(alloc, &mut stage, input, Place::START)?;
+    for event in events.as_slice() {
+        out.push('\t')?;
+        show_note_event(*event, out)?;
+    }
+    Ok(())
+}
+
+/// Prints the answer of a call on a snippet, and returns whether there is such a call.
+pub(crate) fn answer(
+    alloc: Global,
+    call: &str,
+    first: &str,
+    second: &str,
+    input: &str,
+    out: &mut String,
+) -> Result<bool, AllocError> {
+    let split = first == "split";
+    let macros = second.parse::<u16>().unwrap_or(0);
+    match call {
+        "items" => answer_items(alloc, input, out)?,
+        "note_of" if first == "Custos" => answer_note(ItemKind::Custos, input, out)?,
+        "note_of" => answer_note(ItemKind::Note, input, out)?,
+        "snippet" => answer_snippet(alloc, split, macros, input, out)?,
+        "note_events" => answer_events(alloc, split, macros, input, out)?,
+        _ => return Ok(false),
+    }
+    Ok(true)
+}

@@ -1,0 +1,88 @@
+//! Rows of what the writers add.
+
+use crate::show::show_bytes;
+use gabc_headers::headers_whole;
+use gabc_places::{Code, Limits, Place, Room, Text};
+use gabc_score::{Ending, Syllable, score_whole};
+use gabc_write::{canon_header, canon_len, canon_syllable, message_len, message_line};
+use std::alloc::{AllocError, Global};
+
+/// Prints the bytes of the line of a message, and the line.
+pub(crate) fn answer_message(
+    alloc: Global,
+    code: Code,
+    place: Place,
+    name: &str,
+    out: &mut String,
+) -> Result<(), AllocError> {
+    let len = message_len(name, place, code);
+    let mut room = Room::with_limit(alloc, len)?;
+    message_line(name, place, code, &mut room);
+    write!(out, "{len}\t")?;
+    show_bytes(room.slice(), out)
+}
+
+/// Prints the bytes of the canonical headers of a text, and these; or that there are none.
+fn answer_header(
+    alloc: Global,
+    limits: Limits,
+    input: &str,
+    out: &mut String,
+) -> Result<(), AllocError> {
+    let text = Text::from_str(alloc, input)?;
+    let Ok(heads) = headers_whole(alloc, &text, limits)? else {
+        return out.push_str("no headers");
+    };
+    let len = heads.book.canonical_len();
+    if len == usize::MAX {
+        return Err(AllocError);
+    }
+    let mut room = Room::with_limit(alloc, len)?;
+    canon_header(&heads.book, &mut room);
+    write!(out, "{len}\t")?;
+    show_bytes(room.slice(), out)
+}
+
+/// Prints the bytes of the canonical text of a syllable, and this text.
+fn show_syllable(alloc: Global, syllable: &Syllable, out: &mut String) -> Result<(), AllocError> {
+    let len = canon_len(syllable);
+    if len == usize::MAX {
+        return Err(AllocError);
+    }
+    let mut room = Room::with_limit(alloc, len)?;
+    canon_syllable(syllable, &mut room);
+    write!(out, "\t{len} ")?;
+    show_bytes(room.slice(), out)
+}
+
+/// Prints the number of syllables of a score, and their canonical texts.
+fn answer_syllables(
+    alloc: Global,
+    limits: Limits,
+    input: &str,
+    out: &mut String,
+) -> Result<(), AllocError> {
+    let text = Text::from_str(alloc, input)?;
+    let score = score_whole(alloc, &text, Ending::Whole, limits)?;
+    write!(out, "{}", score.syllables.len())?;
+    for syllable in score.syllables.as_slice() {
+        show_syllable(alloc, syllable, out)?;
+    }
+    Ok(())
+}
+
+/// Prints the answer of a call with these limits, and returns whether there is such a call.
+pub(crate) fn answer_within(
+    alloc: Global,
+    call: &str,
+    limits: Limits,
+    input: &str,
+    out: &mut String,
+) -> Result<bool, AllocError> {
+    match call {
+        "header" => answer_header(alloc, limits, input, out)?,
+        "syllables" => answer_syllables(alloc, limits, input, out)?,
+        _ => return Ok(false),
+    }
+    Ok(true)
+}

@@ -1,0 +1,115 @@
+//! The examples that the documents of the crates show.
+
+use gabc_headers::headers_whole;
+use gabc_places::{
+    Code, FromReader, Limits, Place, Room, Text, ToWriter, place_of_byte, text_of,
+};
+use gabc_score::{Ending, score_whole};
+use gabc_text::{kept_chars, text_len, text_whole};
+use gabc_write::{message_len, message_line};
+use gregorio::{Format, Input, Job, Output, Status, compile};
+use std::alloc::Global;
+use std::test::Fail;
+
+#[test]
+fn reads_bytes_as_a_text(rt: HostRuntime) -> Result<(), Fail> {
+    let decoded = text_of(rt.alloc(), b"%%\r\nKy(f)\xFF", true, Limits::DEFAULT)?;
+    assert_eq!(rt; decoded.text.as_str(), "%%\nKy(f)");
+    let fault = decoded.fault.ok_or("a fault")?;
+    let message = format!(in rt.alloc(); "{fault}")?;
+    assert_eq!(rt; message.as_str(), "2:6: fatal: F1: not UTF-8");
+    Ok(())
+}
+
+/// The mode of some headers, and their findings, one a line.
+fn mode_and_findings(alloc: Global, text: &str) -> Result<(String, String), Fail> {
+    let text = Text::from_str(alloc, text)?;
+    let heads = headers_whole(alloc, &text, Limits::DEFAULT)?;
+    let heads = heads.ok().ok_or("a fault")?;
+    let mode = heads.book.get("mode").ok_or("no mode")?;
+    let mut lines = String::new(alloc);
+    for finding in &heads.findings {
+        let line = format!(in alloc; "{finding}\n")?;
+        lines.push_str(line.as_str())?;
+    }
+    Ok((String::from_str(alloc, mode)?, lines))
+}
+
+#[test]
+fn reads_headers(rt: HostRuntime) -> Result<(), Fail> {
+    let text = "name: Kyrie;\nmode: 1;\nmode: 8;\n%%\n";
+    let (mode, lines) = mode_and_findings(rt.alloc(), text)?;
+    assert_eq!(rt; mode.as_str(), "8");
+    assert_eq!(rt; lines.as_str(), "3:1: warning: W2: header given again\n");
+    Ok(())
+}
+
+#[test]
+fn places_the_pieces_of_a_text(rt: HostRuntime) -> Result<(), Fail> {
+    let body = "<i>a) b</i>(f)";
+    let read = text_whole(rt.alloc(), body, Place::START)?;
+    assert_eq!(rt; read.kept.as_str(), "<i>a b</i>");
+    let kept = kept_chars(rt.alloc(), body, Place::START)?;
+    let last = read.view.pieces.as_slice().last().ok_or("no piece")?;
+    let place = place_of_byte(kept.as_slice(), last.span.from);
+    assert_eq!(rt; place, Some(Place { line: 1, column: 7 }));
+    assert_eq!(rt; text_len(&read.view, read.kept.as_str()), 10);
+    Ok(())
+}
+
+/// The notes of the syllables of a text, a `,` behind each, and the findings, one a line.
+fn notes_and_findings(alloc: Global, text: &str) -> Result<(Vec<u8>, String), Fail> {
+    let text = Text::from_str(alloc, text)?;
+    let score = score_whole(alloc, &text, Ending::Whole, Limits::DEFAULT)?;
+    let mut notes = Vec::new(alloc);
+    for syllable in &score.syllables {
+        for snippet in &syllable.snippets {
+            notes.extend_from_slice(syllable.slice(snippet.span))?;
+            notes.push(b',')?;
+        }
+    }
+    let mut lines = String::new(alloc);
+    for finding in &score.findings {
+        let line = format!(in alloc; "{finding}\n")?;
+        lines.push_str(line.as_str())?;
+    }
+    Ok((notes, lines))
+}
+
+#[test]
+fn reads_a_score(rt: HostRuntime) -> Result<(), Fail> {
+    let (notes, lines) = notes_and_findings(rt.alloc(), "name:;\n%%\nKy(f)ri(gfg)e(x.)")?;
+    assert_eq!(rt; notes.as_slice(), b"f,gfg,,".as_slice());
+    assert_eq!(rt;
+        lines.as_str(),
+        "3:15: error: E1: character left out of the notes\n3:16: error: E1: character left out of the notes\n"
+    );
+    Ok(())
+}
+
+#[test]
+fn writes_a_message(rt: HostRuntime) -> Result<(), Fail> {
+    let place = Place { line: 2, column: 6 };
+    let mut line = Room::with_limit(rt.alloc(), message_len("a.gabc", place, Code::F1))?;
+    message_line("a.gabc", place, Code::F1, &mut line);
+    assert_eq!(rt; line.slice(), b"a.gabc:2:6: fatal: F1: not UTF-8\n".as_slice());
+    Ok(())
+}
+
+#[test]
+fn compiles_a_slice(rt: HostRuntime) {
+    let job = Job {
+        format: Format::Gabc,
+        input: Input::Stdin,
+        output: Output::Stdout,
+        messages: None,
+        all_warnings: true,
+    };
+    let alloc = rt.alloc();
+    let mut source = FromReader::new(b"%%\nKy(f)ri(g)".as_slice());
+    let mut out = ToWriter::new(Vec::new(alloc));
+    let mut messages = ToWriter::new(Vec::new(alloc));
+    let status = compile(alloc, &job, Limits::DEFAULT, &mut source, &mut out, &mut messages);
+    assert_eq!(rt; status, Status::Whole);
+    assert_eq!(rt; out.inner().as_slice(), b"%%\nKy(f)ri(g)\n".as_slice());
+}
