@@ -11,12 +11,12 @@ use Rattle.gabc_headers.specs.declared.heads.Heads.{Heads}
 use Rattle.gabc_headers.specs.Book.{book_of}
 use Rattle.gabc_headers.specs.Canonical.{header_lines}
 use Rattle.gabc_headers.specs.Lines.{bytes_len, lines, has_score, is_percent, is_score_line}
-use Rattle.gabc_headers.specs.Parts.{Part, outside, parts}
+use Rattle.gabc_headers.specs.Parts.{HeaderPart, outside, parts}
 use Rattle.gabc_headers.specs.Heads.{head_len, head_parts, open_line, stop_at, first_above, is_line_percent, too_long, text_stops, open_stops, score_stops, missing_score, head_stops, heads_by, heads_of}
-use Rattle.gabc_headers.proofs.Heading.{head_text, is_scored, score_lines, head_length, parts_head}
-use Rattle.gabc_headers.proofs.ScorePoint.{above_within}
-use Rattle.gabc_headers.proofs.Sizes.{take_head}
-use Rattle.gabc_headers.proofs.Marked.{score_behind, has_score_line}
+use Rattle.gabc_headers.proofs.groups.TextBeforeScore.{head_text, is_scored, score_lines, head_length, parts_head}
+use Rattle.gabc_headers.proofs.stops.PointsOfStops.{above_within}
+use Rattle.gabc_headers.proofs.stops.TextTooLong.{take_head}
+use Rattle.gabc_headers.proofs.groups.BookNeedsScoreLine.{score_behind, has_score_line}
 
 and_first : (a b : Bool) → (a && b) ≡ true → a ≡ true
 and_first true b h = refl
@@ -43,10 +43,10 @@ marked_at s (c ∷ r) h = by (s && is_score_line (c ∷ r)) refl h (λ k. marked
     by false e k on = let o = on k in (o.0, ap (λ x. c ∷ x) o.1)
 
 module _ (more : List ℕ) where
-  abbrev front : Bool → List ℕ → List ℕ
-  front s r = head_text s r ++ 37 ∷ 37 ∷ more
+  abbrev prefix : Bool → List ℕ → List ℕ
+  prefix s r = head_text s r ++ 37 ∷ 37 ∷ more
 
-  percent_same : (s : Bool) (r : List ℕ) → is_scored s r ≡ true → is_percent (front s r) ≡ is_percent r
+  percent_same : (s : Bool) (r : List ℕ) → is_scored s r ≡ true → is_percent (prefix s r) ≡ is_percent r
   percent_same s [] h = absurd (cc)
   percent_same s (c ∷ r) h = by (s && is_score_line (c ∷ r)) refl
     where
@@ -55,8 +55,8 @@ module _ (more : List ℕ) where
       by false e = refl
 
   record Same (s : Bool) (r : List ℕ) : Type 0 where
-    scored : is_scored s (front s r) ≡ true
-    text : head_text s (front s r) ≡ head_text s r
+    scored : is_scored s (prefix s r) ≡ true
+    text : head_text s (prefix s r) ≡ head_text s r
 
   marked : (s : Bool) → s ≡ true → (is_scored s (37 ∷ 37 ∷ more) ≡ true) × (head_text s (37 ∷ 37 ∷ more) ≡ [])
   marked true e = (refl, refl)
@@ -69,15 +69,15 @@ module _ (more : List ℕ) where
       by : (b : Bool) → (s && is_score_line (c ∷ r)) ≡ b → (b || is_scored (c == 10) r) ≡ true → (is_scored (c == 10) r ≡ true → Same (c == 10) r) → Same s (c ∷ r)
       by true e k on =
           let m = marked s (and_first s (is_score_line (c ∷ r)) e) in
-          let f : front s (c ∷ r) ≡ 37 ∷ 37 ∷ more = ap (λ b. cond b [] (c ∷ head_text (c == 10) r) ++ 37 ∷ 37 ∷ more) e in
+          let f : prefix s (c ∷ r) ≡ 37 ∷ 37 ∷ more = ap (λ b. cond b [] (c ∷ head_text (c == 10) r) ++ 37 ∷ 37 ∷ more) e in
           record {
             scored = ap (is_scored s) f ∙ m.0;
             text = ap (head_text s) f ∙ m.1 ∙ sym (ap (λ b. cond b [] (c ∷ head_text (c == 10) r)) e);
           }
       by false e k on =
           let o = on k in
-          let later = front (c == 10) r in
-          let f : front s (c ∷ r) ≡ c ∷ later = ap (λ b. cond b [] (c ∷ head_text (c == 10) r) ++ 37 ∷ 37 ∷ more) e in
+          let later = prefix (c == 10) r in
+          let f : prefix s (c ∷ r) ≡ c ∷ later = ap (λ b. cond b [] (c ∷ head_text (c == 10) r) ++ 37 ∷ 37 ∷ more) e in
           let line : (s && is_score_line (c ∷ later)) ≡ false = ap (λ p. s && ((c == 37) && p)) (percent_same (c == 10) r k) ∙ e in
           record {
             scored = ap (is_scored s) f ∙ ap (λ b. b || is_scored (c == 10) later) line ∙ o.scored;
@@ -101,7 +101,7 @@ module _ (limits : Limits) (t more : List ℕ) (heads : Heads) (ok : heads_of li
   has_line : is_scored true t ≡ true
   has_line = sym (score_lines t) ∙ has_score_line limits t heads ok
 
-  again_is : again ≡ front more true t
+  again_is : again ≡ prefix more true t
   again_is =
       let m = marked_at true t has_line in
       ap (λ n. take (n + 2) t ++ more) (head_length t)
@@ -151,7 +151,7 @@ module _ (limits : Limits) (t more : List ℕ) (heads : Heads) (ok : heads_of li
       ap (λ x. too_long again (first_above limits.header x)) (take_head again ∙ text_is) ∙ ap (too_long again) none
 
   -- by the text before the line and its parts
-  abbrev behind_by : ℕ → List ℕ → List Part → List Stop
+  abbrev behind_by : ℕ → List ℕ → List HeaderPart → List Stop
   behind_by n before ps =
       open_stops (n + 1) (open_line ps)
       ++ (cond (nat_lt limits.header (bytes_len (header_lines (book_of ps)))) (stop_at (n + 1) (place_after before) F4 ∷ []) []
@@ -169,7 +169,7 @@ module _ (limits : Limits) (t more : List ℕ) (heads : Heads) (ok : heads_of li
       ap (λ b. text_stops limits.header again ++ cond b (behind_line again) (open_stops (length again) (open_line (head_parts again)) ++ missing_score (open_line (head_parts again)) again)) line_again
       ∙ ap (λ xs. xs ++ behind_line again) text_again ∙ behind_again
 
-  -- the headers of the front are read whole, with the same book
+  -- the headers of the prefix are read whole, with the same book
   pub heads_again : (other : Heads) × (heads_of limits again ≡ Ok other) × (other.book ≡ heads.book)
   heads_again =
       let book : heads.book ≡ book_of (head_parts t) = by (ap (λ stops. heads_by t (earliest stops)) (sym none_stops) ∙ ok) in (

@@ -1,6 +1,6 @@
 -- The book of header parts.
 use Rattle.std.specs.Prelude.{ℕ, ◌+◌, List, [], ◌∷◌, ◌++◌, Bool, true, false, ◌||◌, ◌&&◌, not, cond, bytes_eq, codes, Option, Some, None, is_some}
-use Rattle.gabc_headers.specs.Parts.{Part, left_out, header, unended}
+use Rattle.gabc_headers.specs.Parts.{HeaderPart, left_out, header, unended}
 
 -- the value of `nabc-lines` is a number that is known
 abbrev pub is_kept : List ℕ → List ℕ → Bool
@@ -19,7 +19,7 @@ unless true x xs = xs
 unless false x xs = x ∷ xs
 
 -- the names and values of the headers that count
-abbrev pub entries : List Part → List (List ℕ × List ℕ)
+abbrev pub entries : List HeaderPart → List (List ℕ × List ℕ)
 entries [] = []
 entries (left_out k p ∷ ps) = entries ps
 entries (unended k ∷ ps) = entries ps
@@ -34,12 +34,12 @@ abbrev pub value_of : {X : Type 0} → List ℕ → X → List (List ℕ × X) �
 value_of name v es = cond (bytes_eq name (codes "annotation")) v (last_value name v es)
 
 -- Of each name one entry stands, at the place of its first and with the value of its last; of `annotation` all stand.
-abbrev pub standing : {X : Type 0} → List (List ℕ) → List (List ℕ × X) → List (List ℕ × X)
-standing seen [] = []
-standing seen (e ∷ es) = unless (repeats seen e.0) (e.0, value_of e.0 e.1 es) (standing (e.0 ∷ seen) es)
+abbrev pub standing_entries : {X : Type 0} → List (List ℕ) → List (List ℕ × X) → List (List ℕ × X)
+standing_entries seen [] = []
+standing_entries seen (e ∷ es) = unless (repeats seen e.0) (e.0, value_of e.0 e.1 es) (standing_entries (e.0 ∷ seen) es)
 
-abbrev pub book_of : List Part → List (List ℕ × List ℕ)
-book_of ps = standing [] (entries ps)
+abbrev pub book_of : List HeaderPart → List (List ℕ × List ℕ)
+book_of ps = standing_entries [] (entries ps)
 
 -- the value of the first entry of that name
 abbrev pub value_named : List ℕ → List (List ℕ × List ℕ) → Option (List ℕ)

@@ -1,7 +1,7 @@
 -- The lines of the headers, cut into groups: a relation between the lines and the groups.
 use Rattle.std.specs.Prelude.{◌≡◌, ℕ, ◌+◌, List, [], ◌∷◌, ◌++◌, true, false, length}
 use Rattle.gabc_headers.specs.Lines.{is_bare, has_mark, before_mark, mark_end, has_colon, before_colon, after_colon, lines_len}
-use Rattle.gabc_headers.specs.Parts.{Part, left_out, unended, name_of, bad_name, ended}
+use Rattle.gabc_headers.specs.Parts.{HeaderPart, left_out, unended, name_of, bad_name_parts, ended_parts}
 
 pub data Group : Type 0 where
   -- a line of blanks, or a comment
@@ -53,11 +53,6 @@ AreGroups ls [] = ls ≡ []
 AreGroups ls (unfinished l below ∷ gs) = IsGroup (unfinished l below) × (ls ≡ l ∷ below) × (gs ≡ [])
 AreGroups ls (g ∷ gs) = IsGroup g × ((rest : List (List ℕ)) × (ls ≡ lines_in g ++ rest) × AreGroups rest gs)
 
--- lines joined by LFs
-abbrev pub joined : List ℕ → List (List ℕ) → List ℕ
-joined l [] = l
-joined l (m ∷ ms) = l ++ 10 ∷ joined m ms
-
 -- the value of lines that end at the mark of their last one
 abbrev pub value_below : List (List ℕ) → List ℕ
 value_below [] = []
@@ -79,12 +74,12 @@ mark_point n l [] = n + (length (before_colon l) + (1 + mark_end 1 (after_colon 
 mark_point n l (m ∷ ms) = mark_below (n + (length l + 1)) (m ∷ ms)
 
 -- what a group tells whose first line has the number k and begins at point n
-abbrev pub told_by : ℕ → ℕ → Group → List Part
-told_by k n (skipped l) = []
-told_by k n (colonless l) = left_out k (n + length l) ∷ []
-told_by k n (valued l below) = bad_name k (name_of l) (n + length (before_colon l)) ++ ended k (name_of l) (value_text l below) (mark_point n l below)
-told_by k n (unfinished l below) = bad_name k (name_of l) (n + length (before_colon l)) ++ unended k ∷ []
+abbrev pub parts_of_group : ℕ → ℕ → Group → List HeaderPart
+parts_of_group k n (skipped l) = []
+parts_of_group k n (colonless l) = left_out k (n + length l) ∷ []
+parts_of_group k n (valued l below) = bad_name_parts k (name_of l) (n + length (before_colon l)) ++ ended_parts k (name_of l) (value_text l below) (mark_point n l below)
+parts_of_group k n (unfinished l below) = bad_name_parts k (name_of l) (n + length (before_colon l)) ++ unended k ∷ []
 
-abbrev pub told : ℕ → ℕ → List Group → List Part
-told k n [] = []
-told k n (g ∷ gs) = told_by k n g ++ told (k + length (lines_in g)) (n + lines_len (lines_in g)) gs
+abbrev pub parts_of_groups : ℕ → ℕ → List Group → List HeaderPart
+parts_of_groups k n [] = []
+parts_of_groups k n (g ∷ gs) = parts_of_group k n g ++ parts_of_groups (k + length (lines_in g)) (n + lines_len (lines_in g)) gs

@@ -8,16 +8,16 @@ use Rattle.gabc_places.specs.declared.code.Code.{Code}
 use Rattle.gabc_places.specs.declared.code.Code.TheVariants.{E4, E5, W1, W2, F2, F3, F4, F7}
 use Rattle.gabc_places.specs.declared.code.Finding.{Finding}
 use Rattle.gabc_places.specs.Place.{place_after}
-use Rattle.gabc_places.specs.Findings.{Known, known_before, Stop, earliest}
+use Rattle.gabc_places.specs.Findings.{Known, findings_before, Stop, earliest}
 use Rattle.gabc_headers.specs.declared.heads.Heads.{Heads}
 use Rattle.gabc_headers.specs.declared.heads.HeadFault.{HeadFault}
 use Rattle.gabc_headers.specs.Lines.{bytes_len, lines, head_of, has_score, lines_len}
-use Rattle.gabc_headers.specs.Parts.{Part, left_out, header, unended, outside, parts}
+use Rattle.gabc_headers.specs.Parts.{HeaderPart, left_out, header, unended, outside, parts}
 use Rattle.gabc_headers.specs.Book.{book_of, is_kept, repeats, has_header}
 use Rattle.gabc_headers.specs.Canonical.{header_lines}
 
 -- the parts of the lines before the line `%%`, or of all lines
-abbrev pub head_parts : List ℕ → List Part
+abbrev pub head_parts : List ℕ → List HeaderPart
 head_parts t = parts outside 1 0 (head_of (lines t))
 
 -- the length of the text before the line `%%`, or of all
@@ -28,8 +28,8 @@ head_len t = cond (has_score (lines t)) (lines_len (head_of (lines t))) (length 
 abbrev pub line_place : ℕ → Place
 line_place k = record { line = k; column = 1 }
 
-abbrev pub known : ℕ → Place → Code → Known
-known p place code = record { point = p; finding = record { place = place; code = code } }
+abbrev pub known_at : ℕ → Place → Code → Known
+known_at p place code = record { point = p; finding = record { place = place; code = code } }
 
 abbrev pub stop_at : ℕ → Place → Code → Stop
 stop_at p place code = record { point = p; fault = record { place = place; code = code } }
@@ -37,36 +37,36 @@ stop_at p place code = record { point = p; fault = record { place = place; code 
 -- ---- findings
 
 -- what is found at a part, behind headers with these names that count
-abbrev pub found_at : List (List ℕ) → Part → List Known
-found_at seen (left_out k p) = known p (line_place k) E4 ∷ []
-found_at seen (unended k) = []
-found_at seen (header k name value p) =
+abbrev pub findings_at : List (List ℕ) → HeaderPart → List Known
+findings_at seen (left_out k p) = known_at p (line_place k) E4 ∷ []
+findings_at seen (unended k) = []
+findings_at seen (header k name value p) =
     cond (is_kept name value)
-    (cond (repeats seen name) (known p (line_place k) W2 ∷ []) [])
-    (known p (line_place k) E5 ∷ [])
+    (cond (repeats seen name) (known_at p (line_place k) W2 ∷ []) [])
+    (known_at p (line_place k) E5 ∷ [])
 
-abbrev pub seen_after : List (List ℕ) → Part → List (List ℕ)
-seen_after seen (left_out k p) = seen
-seen_after seen (unended k) = seen
-seen_after seen (header k name value p) = cond (is_kept name value) (name ∷ seen) seen
+abbrev pub names_after : List (List ℕ) → HeaderPart → List (List ℕ)
+names_after seen (left_out k p) = seen
+names_after seen (unended k) = seen
+names_after seen (header k name value p) = cond (is_kept name value) (name ∷ seen) seen
 
-abbrev pub found : List (List ℕ) → List Part → List Known
-found seen [] = []
-found seen (p ∷ ps) = found_at seen p ++ found (seen_after seen p) ps
+abbrev pub findings_behind : List (List ℕ) → List HeaderPart → List Known
+findings_behind seen [] = []
+findings_behind seen (p ∷ ps) = findings_at seen p ++ findings_behind (names_after seen p) ps
 
 -- no header `name`, known at the second `%` of the line `%%`
-abbrev pub nameless : List ℕ → List Known
-nameless t = cond (has_score (lines t) && not (has_header (codes "name") (book_of (head_parts t))))
-    (known (head_len t + 1) (place_after (take (head_len t) t)) W1 ∷ []) []
+abbrev pub name_findings : List ℕ → List Known
+name_findings t = cond (has_score (lines t) && not (has_header (codes "name") (book_of (head_parts t))))
+    (known_at (head_len t + 1) (place_after (take (head_len t) t)) W1 ∷ []) []
 
 -- all that is found in the headers of a text
 abbrev pub head_findings : List ℕ → List Known
-head_findings t = found [] (head_parts t) ++ nameless t
+head_findings t = findings_behind [] (head_parts t) ++ name_findings t
 
 -- ---- what stops them
 
 -- the line of the header whose value is not ended
-abbrev pub open_line : List Part → Option ℕ
+abbrev pub open_line : List HeaderPart → Option ℕ
 open_line [] = None
 open_line (unended k ∷ ps) = Some k
 open_line (left_out k p ∷ ps) = open_line ps
@@ -126,8 +126,8 @@ abbrev pub body_byte : List ℕ → ℕ
 body_byte t = bytes_len (take (head_len t + 2) t)
 
 abbrev pub heads_by : List ℕ → Option Stop → Result Heads HeadFault
-heads_by t None = Ok (record { book = book_of (head_parts t); body = body_byte t; findings = known_before (length t + 1) (head_findings t) })
-heads_by t (Some s) = Err (record { fault = s.fault; findings = known_before s.point (head_findings t); at_end = s.point == length t })
+heads_by t None = Ok (record { book = book_of (head_parts t); body = body_byte t; findings = findings_before (length t + 1) (head_findings t) })
+heads_by t (Some s) = Err (record { fault = s.fault; findings = findings_before s.point (head_findings t); at_end = s.point == length t })
 
 -- The book with all that is found, or the earliest stop with what is found before it.
 abbrev pub heads_of : Limits → List ℕ → Result Heads HeadFault

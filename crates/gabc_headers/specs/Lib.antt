@@ -1,13 +1,10 @@
+pub mod machine
 pub mod Book
+pub mod BookText
 pub mod Canonical
-pub mod Gather
+pub mod EntryMap
 pub mod Groups
 pub mod Heads
 pub mod Lines
 pub mod Parts
-pub mod Pushes
-pub mod Runs
-pub mod Shown
-pub mod Steps
-pub mod Taken
-pub mod Told
+pub mod NextHeader

@@ -7,6 +7,7 @@ ghost use Rattle.gabc_headers.specs.Canonical.{canonical_heads};
 ghost use Rattle.gabc_headers.specs.Lines.{bytes_len};
 
 use crate::canonical::line_len;
+use crate::headers::Headers;
 use gabc_places::Span;
 use std::alloc::{AllocError, Global};
 use std::marker::Model;
@@ -30,9 +31,9 @@ impl Model for HeaderBook {
 
     ghost Value = { List (List ℕ × List ℕ) };
 
-    ghost use Rattle.gabc_headers.specs.Shown.{shown, IsBook};
+    ghost use Rattle.gabc_headers.specs.BookText.{shown_entries, IsBook};
 
-    ghost view = { λ b. shown (string_bytes b.text) b.entries.items };
+    ghost view = { λ b. shown_entries (string_bytes b.text) b.entries.items };
 
     ghost invariant = { λ b. IsBook (string_bytes b.text) b.entries.items };
 }
@@ -76,7 +77,8 @@ impl HeaderBook {
 
     /// Adds a header at the end.
     pub(crate) fn push(&mut self, name: &str, value: &str) -> Result<(), AllocError>
-        requires { bytes_len (canonical_heads (self.old ++ (chars name.now, chars value.now) ∷ [])) < 2 ^ 32 }
+        requires { bytes_len (canonical_heads (self.old ++ (chars name.now, chars value.now) ∷ []))
+            < 2 ^ 32 }
         ensures { OnOk result (self.new ≡ self.old ++ (chars name.now, chars value.now) ∷ []) }
     {
         let from = self.text.len();
@@ -122,9 +124,17 @@ impl HeaderBook {
         &self.text.as_str()[entry.value.from..entry.value.to]
     }
 
+    /// Goes over the names and values of the headers, in order.
+    pub fn iter(&self) -> Headers<'_>
+        ensures { result ≡ self.now }
+    {
+        Headers::new(self)
+    }
+
     /// Returns the value of the first header with this `name`, or `None` if there is none.
     pub fn get(&self, name: &str) -> Option<&str>
-        ensures { MatchOption result (value_named (chars name.now) self.now ≡ None) (λ v. value_named (chars name.now) self.now ≡ Some (chars v.now)) }
+        ensures { MatchOption result (value_named (chars name.now) self.now ≡ None)
+            (λ v. value_named (chars name.now) self.now ≡ Some (chars v.now)) }
     {
         for index in 0..self.len() {
             if name == self.name(index) {
@@ -162,5 +172,17 @@ impl HeaderBook {
             len += line_len(self.name(index), self.value(index));
         }
         len
+    }
+}
+
+impl<'a> IntoIterator for &'a HeaderBook {
+    type Item = (&'a str, &'a str);
+
+    type IntoIter = Headers<'a>;
+
+    ghost into_iter_gives = { λ book r. r ≡ book.now };
+
+    fn into_iter(self) -> Headers<'a> {
+        self.iter()
     }
 }

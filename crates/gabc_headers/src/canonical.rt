@@ -25,7 +25,8 @@ pub fn wants_own_lines(value: &str) -> bool
 
 /// The number of bytes of a header's canonical lines, or the largest number if there are more.
 pub(crate) fn line_len(name: &str, value: &str) -> usize
-    ensures { result ≡ min (bytes_len (header_line (chars name.now, chars value.now))) (2 ^ 64 - 1) }
+    ensures { result ≡ min (bytes_len (header_line (chars name.now, chars value.now)))
+        (2 ^ 64 - 1) }
 {
     let around = if value.is_empty() {
         3

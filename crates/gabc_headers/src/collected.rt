@@ -2,20 +2,20 @@
 
 ghost use Rattle.std.specs.Prelude.{◌≡◌, ◌≤◌, [], ◌∷◌, length, OnOk, IfOk, cond, nat_lt};
 ghost use Rattle.std.specs.Str.{chars};
-ghost use Rattle.gabc_headers.specs.declared.told.Event.TheVariants.{Header};
+ghost use Rattle.gabc_headers.specs.declared.events.HeaderEvent.TheVariants.{Header};
 ghost use Rattle.gabc_headers.specs.Book as book;
-ghost use Rattle.gabc_headers.specs.Taken as spec;
-ghost use Rattle.gabc_headers.specs.Taken.{IsGoodEvent, AreGoodEvents, taken, taken_all};
+ghost use Rattle.gabc_headers.specs.machine.Collected as spec;
+ghost use Rattle.gabc_headers.specs.machine.Collected.{IsGoodEvent, AreGoodEvents, collected_with, collected_with_all};
 
-use crate::gathered::Gathered;
-use crate::told::Event;
+use crate::entry_map::EntryMap;
+use crate::events::HeaderEvent;
 use gabc_places::{Code, Finding, Findings, Place, Span};
 use std::alloc::{AllocError, Global};
 
 /// The headers so far that count, and what was found.
 #[derive(Drop)]
 pub(crate) struct Collected {
-    pub headers: Gathered,
+    pub headers: EntryMap,
     pub findings: Findings,
 }
 
@@ -40,13 +40,13 @@ fn finding_at(line: u64, code: Code) -> Finding
 
 impl Collected {
     /// Takes what an event tells of the text.
-    fn take(&mut self, text: &str, event: Event) -> Result<(), AllocError>
+    fn take(&mut self, text: &str, event: HeaderEvent) -> Result<(), AllocError>
         requires { IsGoodEvent text.now event }
-        ensures { OnOk result (self.new ≡ taken text.now event self.old) }
+        ensures { OnOk result (self.new ≡ collected_with text.now event self.old) }
     {
         match event {
-            Event::LeftOut(line, _) => self.findings.push(finding_at(line, Code::E4)),
-            Event::Header(line, name, value, _) => self.take_header(text, line, name, value),
+            HeaderEvent::LeftOut(line, _) => self.findings.push(finding_at(line, Code::E4)),
+            HeaderEvent::Header(line, name, value, _) => self.take_header(text, line, name, value),
         }
     }
 
@@ -59,7 +59,8 @@ impl Collected {
         value: Span,
     ) -> Result<(), AllocError>
         requires { IsGoodEvent text.now (Header line name value 0) }
-        ensures { OnOk result (self.new ≡ taken text.now (Header line name value 0) self.old) }
+        ensures { OnOk result (self.new
+            ≡ collected_with text.now (Header line name value 0) self.old) }
     {
         let written = &text[name.from..name.to];
         if !is_kept(written, &text[value.from..value.to]) {
@@ -73,12 +74,17 @@ impl Collected {
 }
 
 /// What the events tell of the text.
-pub(crate) fn collect(alloc: Global, text: &str, events: &[Event]) -> Result<Collected, AllocError>
+pub(crate) fn collect(
+    alloc: Global,
+    text: &str,
+    events: &[HeaderEvent],
+) -> Result<Collected, AllocError>
     requires { AreGoodEvents text.now events.now }
-    ensures { IfOk result (λ collected. collected ≡ taken_all text.now events.now (record { headers = []; findings = [] })) }
+    ensures { IfOk result (λ collected. collected
+        ≡ collected_with_all text.now events.now (record { headers = []; findings = [] })) }
 {
     let mut collected = Collected {
-        headers: Gathered::new(alloc),
+        headers: EntryMap::new(alloc),
         findings: Findings::new(alloc),
     };
     for event in events {

@@ -6,9 +6,9 @@ ghost use Rattle.gabc_places.specs.Findings.{AreInOrder, LieBetween};
 ghost use Rattle.gabc_places.specs.Place.{place_after};
 ghost use Rattle.gabc_headers.specs.declared.heads.Heads.{Heads};
 ghost use Rattle.gabc_headers.specs.Heads.{head_len, heads_of, findings_of, line_place};
-ghost use Rattle.gabc_headers.specs.Book.{standing};
-ghost use Rattle.gabc_headers.specs.Gather.{put_all};
-ghost use Rattle.gabc_headers.specs.Groups.{Group, AreGroups, told};
+ghost use Rattle.gabc_headers.specs.Book.{standing_entries};
+ghost use Rattle.gabc_headers.specs.EntryMap.{put_all};
+ghost use Rattle.gabc_headers.specs.Groups.{Group, AreGroups, parts_of_groups};
 ghost use Rattle.gabc_headers.specs.Parts.{outside, parts};
 
 /// The lines of the headers, whatever they are, can be cut into groups.
@@ -18,19 +18,22 @@ pub fn lines_have_groups()
 
 /// Two cuttings of the same lines are one.
 pub fn groups_are_unique()
-    ensures { (lines : List (List ℕ)) (groups others : List Group) → AreGroups lines groups → AreGroups lines others → groups ≡ others }
+    ensures { (lines : List (List ℕ)) (groups others : List Group) → AreGroups lines groups →
+        AreGroups lines others → groups ≡ others }
 {}
 
 /// The parts of lines, the first of which has the number k and begins at point n, are what their groups tell: of each
 /// header its name and its value, and what is left out.
 pub fn groups_tell_parts()
-    ensures { (lines : List (List ℕ)) (groups : List Group) (k n : ℕ) → AreGroups lines groups → parts outside k n lines ≡ told k n groups }
+    ensures { (lines : List (List ℕ)) (groups : List Group) (k n : ℕ) → AreGroups lines groups →
+        parts outside k n lines ≡ parts_of_groups k n groups }
 {}
 
 /// Headers that are put in turn, each of which replaces the value of an earlier one of its name unless it is an
 /// `annotation`, leave what stands: each name at the place of its first header and with the value of its last.
 pub fn last_value_at_first_place()
-    ensures { (entries : List (List ℕ × List ℕ)) → put_all [] entries ≡ standing [] entries }
+    ensures { (entries : List (List ℕ × List ℕ)) →
+        put_all [] entries ≡ standing_entries [] entries }
 {}
 
 /// What is found in headers stands in order: by its places, none twice.
@@ -40,12 +43,14 @@ pub fn findings_in_order()
 
 /// Headers that are read without a fault have a line that begins with `%%`; their body stands behind these two characters.
 pub fn the_body_follows_the_mark()
-    ensures { (limits : Limits) (t : List ℕ) (heads : Heads) → heads_of limits t ≡ Ok heads → head_len t + 2 ≤ length t }
+    ensures { (limits : Limits) (t : List ℕ) (heads : Heads) → heads_of limits t ≡ Ok heads →
+        head_len t + 2 ≤ length t }
 {}
 
 /// Headers that are read whole have their findings at the first place of the text or later, and no later than the line `%%`.
 pub fn findings_lie_before_the_body()
-    ensures { (limits : Limits) (t : List ℕ) (heads : Heads) → heads_of limits t ≡ Ok heads → LieBetween (line_place 1) (place_after (take (head_len t) t)) heads.findings }
+    ensures { (limits : Limits) (t : List ℕ) (heads : Heads) → heads_of limits t ≡ Ok heads →
+        LieBetween (line_place 1) (place_after (take (head_len t) t)) heads.findings }
 {}
 
 /// What stands behind the line `%%` is no matter to the headers: if those of a text are read whole, then with something else

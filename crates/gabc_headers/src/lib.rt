@@ -6,6 +6,7 @@
 //! let text = Text::from_str(alloc, "name: Kyrie;\nmode: 1;\nmode: 8;\n%%\n")?;
 //! if let Ok(heads) = headers_whole(alloc, &text, Limits::DEFAULT)? {
 //!     let mode = heads.book.get("mode"); // Some("8")
+//!     for (name, value) in &heads.book { .. } // "name" and "Kyrie", "mode" and "8"
 //!     for finding in &heads.findings {
 //!         let message = format!(in alloc; "{finding}")?; // "3:1: warning: W2: header given again"
 //!     }
@@ -15,19 +16,21 @@
 
 mod book;
 mod canonical;
+mod characters;
 mod collected;
-mod gathered;
+mod entry_map;
+mod event_list;
+mod events;
+mod header_machine;
+mod headers;
 mod heads;
 pub mod laws;
-mod marks;
-mod part_reader;
-mod read;
-mod reader;
-mod told;
+mod part_machine;
 mod whole;
 
 pub use book::HeaderBook;
 pub use canonical::wants_own_lines;
+pub use headers::Headers;
 pub use heads::{HeadFault, Heads};
 pub use whole::headers_whole;
 

@@ -110,9 +110,9 @@ fn reads_faults(rt: HostRuntime) -> Result<(), Fail> {
     Ok(())
 }
 
-/// A front, so many letters, and `;`, LF and `%%`.
-fn with_letters(rt: &HostRuntime, front: &str, letters: u32) -> Result<String, Fail> {
-    let mut text = String::from_str(rt.alloc(), front)?;
+/// A prefix, so many letters, and `;`, LF and `%%`.
+fn with_letters(rt: &HostRuntime, prefix: &str, letters: u32) -> Result<String, Fail> {
+    let mut text = String::from_str(rt.alloc(), prefix)?;
     for _ in 0..letters {
         text.push('a')?;
     }
@@ -122,13 +122,13 @@ fn with_letters(rt: &HostRuntime, front: &str, letters: u32) -> Result<String, F
 
 #[test]
 fn keeps_to_the_limits(rt: HostRuntime) -> Result<(), Fail> {
-    for (front, letters, header, input, fault) in [
+    for (prefix, letters, header, input, fault) in [
         ("name: ", 56, 64, 1000, None),
         ("name: ", 58, 64, 1000, Some((Code::F4, 1, 65))),
         ("name:", 57, 64, 1000, Some((Code::F4, 2, 1))),
         ("name:", 55, 64, 64, Some((Code::F7, 2, 1))),
     ] {
-        let text = with_letters(&rt, front, letters)?;
+        let text = with_letters(&rt, prefix, letters)?;
         match read(&rt, text.as_str(), header, input)? {
             Ok(heads) => {
                 assert_eq!(rt; None, fault, "{text}");
@@ -162,7 +162,7 @@ fn looks_into_books(rt: HostRuntime) -> Result<(), Fail> {
 }
 
 #[test]
-fn tells_which_values_want_lines(rt: HostRuntime) {
+fn emits_which_values_want_lines(rt: HostRuntime) {
     for (value, wants) in [
         ("", false),
         ("a;b", false),

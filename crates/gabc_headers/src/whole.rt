@@ -2,14 +2,14 @@
 
 ghost use Rattle.std.specs.Prelude.{◌≡◌, IfOk};
 ghost use Rattle.gabc_places.specs.Findings.{AreInOrder};
-ghost use Rattle.gabc_headers.specs.Gather.{AreWithin, spelled};
+ghost use Rattle.gabc_headers.specs.machine.EntryMap.{AreWithin, spelled_entries};
 ghost use Rattle.gabc_headers.specs.Heads.{heads_of, findings_of};
-ghost use Rattle.gabc_headers.specs.Taken.{finished, scored, ended_at, left_open_at};
+ghost use Rattle.gabc_headers.specs.machine.Collected.{heads_at_body, heads_at_score, fault_at_end, fault_in_value};
 
 use crate::collected::{Collected, collect};
+use crate::event_list::events_of_headers;
+use crate::events::HeaderEnding;
 use crate::heads::{HeadFault, Heads};
-use crate::read::read_parts;
-use crate::told::End;
 use gabc_places::{Code, Fault, Finding, Findings, Limits, Place, Text};
 use std::alloc::{AllocError, Global};
 
@@ -24,15 +24,20 @@ pub fn headers_whole(
     ensures exact { IfOk result (λ read. read ≡ heads_of limits text.now) }
     ensures order { IfOk result (λ read. AreInOrder (findings_of read)) }
 {
-    let told = read_parts(alloc, text, limits.header)?;
+    let read = events_of_headers(alloc, text, limits.header)?;
     let written = text.as_str();
-    let collected = collect(alloc, written, &told.events)?;
-    match told.end {
-        End::Score(place, body, line) => {
+    let collected = collect(alloc, written, &read.events)?;
+    match read.end {
+        HeaderEnding::Score(place, body, line) => {
             at_score(alloc, written, limits, place, body, line, collected)
         }
-        End::Limit(place) => Ok(Err(stopped(place, Code::F4, collected.findings, false))),
-        End::Text(place, line) => Ok(Err(at_text(place, line, collected.findings))),
+        HeaderEnding::Limit(place) => Ok(Err(head_fault(
+            place,
+            Code::F4,
+            collected.findings,
+            false,
+        ))),
+        HeaderEnding::Text(place, line) => Ok(Err(at_text(place, line, collected.findings))),
     }
 }
 
@@ -47,7 +52,8 @@ fn at_score(
     collected: Collected,
 ) -> Result<Result<Heads, HeadFault>, AllocError>
     requires { AreWithin text.now collected.headers }
-    ensures { IfOk result (λ read. read ≡ scored limits place body open_line (spelled text.now collected.headers) collected.findings) }
+    ensures { IfOk result (λ read. read
+        ≡ heads_at_score limits place body open_line (spelled_entries text.now collected.headers) collected.findings) }
 {
     match open_line {
         None => finish(alloc, text, limits, place, body, collected),
@@ -57,17 +63,21 @@ fn at_score(
 
 /// The headers at the end of the text, where a value may be open.
 fn at_text(place: Place, open_line: Option<u64>, findings: Findings) -> HeadFault
-    ensures { result ≡ ended_at place open_line findings }
+    ensures { result ≡ fault_at_end place open_line findings }
 {
     match open_line {
-        None => stopped(place, Code::F2, findings, true),
+        None => head_fault(place, Code::F2, findings, true),
         Some(line) => open_value(line, findings, true),
     }
 }
 
 /// The headers are stopped at a place.
-fn stopped(place: Place, code: Code, findings: Findings, at_end: bool) -> HeadFault
-    ensures { result ≡ record { fault = record { place = place; code = code }; findings = findings; at_end = at_end } }
+fn head_fault(place: Place, code: Code, findings: Findings, at_end: bool) -> HeadFault
+    ensures { result ≡ record {
+      fault = record { place = place; code = code };
+      findings = findings;
+      at_end = at_end;
+    } }
 {
     HeadFault {
         fault: Fault { place, code },
@@ -78,10 +88,10 @@ fn stopped(place: Place, code: Code, findings: Findings, at_end: bool) -> HeadFa
 
 /// The headers end in a value, whose header begins on this line.
 fn open_value(line: u64, findings: Findings, at_end: bool) -> HeadFault
-    ensures { result ≡ left_open_at line at_end findings }
+    ensures { result ≡ fault_in_value line at_end findings }
 {
     let place = Place { line, column: 1 };
-    stopped(place, Code::F3, findings, at_end)
+    head_fault(place, Code::F3, findings, at_end)
 }
 
 /// The headers at the line `%%` at this place, behind which the text goes on at the byte `body`.
@@ -94,7 +104,8 @@ fn finish(
     collected: Collected,
 ) -> Result<Result<Heads, HeadFault>, AllocError>
     requires { AreWithin text.now collected.headers }
-    ensures { IfOk result (λ read. read ≡ finished limits place body (spelled text.now collected.headers) collected.findings) }
+    ensures { IfOk result (λ read. read
+        ≡ heads_at_body limits place body (spelled_entries text.now collected.headers) collected.findings) }
 {
     let Collected {
         headers,
@@ -102,10 +113,10 @@ fn finish(
     } = collected;
     let size = headers.canonical_len(text);
     if size > limits.header as usize {
-        return Ok(Err(stopped(place, Code::F4, findings, false)));
+        return Ok(Err(head_fault(place, Code::F4, findings, false)));
     }
     if size + 3 > limits.input as usize {
-        return Ok(Err(stopped(place, Code::F7, findings, false)));
+        return Ok(Err(head_fault(place, Code::F7, findings, false)));
     }
     let book = headers.book(alloc, text)?;
     if book.get("name").is_none() {

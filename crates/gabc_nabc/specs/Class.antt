@@ -1,13 +1,13 @@
 -- The class of a character in NABC.
 use Rattle.std.specs.Prelude.{ℕ, Bool, ◌&&◌, ◌==◌, nat_le, codes, if◌then◌else◌}
 use Rattle.gabc_patterns.specs.Pattern.{is_in}
-use Rattle.gabc_nabc.specs.declared.class.Class.{Class}
-use Rattle.gabc_nabc.specs.declared.class.Class.TheVariants.{LetterH, LetterL, LetterP, LetterS, LetterT, LetterU, Pitch, Letter, Digit, Modifier, Hyphen, Bang, Slash, Tick, Other}
+use Rattle.gabc_nabc.specs.declared.class.NabcClass.{NabcClass}
+use Rattle.gabc_nabc.specs.declared.class.NabcClass.TheVariants.{LetterH, LetterL, LetterP, LetterS, LetterT, LetterU, Pitch, Letter, Digit, Modifier, Hyphen, Bang, Slash, Tick, Other}
 
 abbrev pub is_between : ℕ → ℕ → ℕ → Bool
 is_between a b c = nat_le a c && nat_le c b
 
-abbrev pub class_of_character : ℕ → Class
+abbrev pub class_of_character : ℕ → NabcClass
 class_of_character c =
     if c == 104 then LetterH else
     if c == 108 then LetterL else

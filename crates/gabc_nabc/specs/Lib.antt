@@ -1,9 +1,9 @@
-pub mod Table
+pub mod machine
 pub mod Class
-pub mod Machine
-pub mod Parts
-pub mod Names
-pub mod Told
-pub mod Read
-pub mod Gathered
 pub mod Codes
+pub mod DescriptorMachine
+pub mod Events
+pub mod Names
+pub mod Parts
+pub mod SnippetRead
+pub mod Table

@@ -1,8 +1,8 @@
 -- The parts of a kept text by the bytes where they begin and end.
-use Rattle.std.specs.Prelude.{◌<◌, ◌≤◌, ℕ, List, Bool, map, slice_range, length, take, drop}
-use Rattle.std.specs.Str.{chars, IsUtf8}
-use Rattle.gabc_patterns.specs.Reading.{Reads, IsSnippet, Longest, IsItem, IsItemOf}
-use Rattle.gabc_patterns.specs.Items.{FollowOn, Piece}
+use Rattle.std.specs.Prelude.{ℕ, List, Bool, map, slice_range, length}
+use Rattle.std.specs.Str.{chars}
+use Rattle.gabc_patterns.specs.Reading.{Reads, IsSnippet}
+use Rattle.gabc_patterns.specs.Items.{FollowOn, ItemSpan}
 use Rattle.gabc_nabc.specs.Table.{nabc}
 use Rattle.gabc_nabc.specs.declared.descriptor.Descriptor.{Descriptor}
 
@@ -19,18 +19,10 @@ abbrev pub read_as : List ℕ → Descriptor → Bool × List ℕ
 read_as bytes i = (i.space, chars (bytes_of bytes i))
 
 -- whether a part is a space, and where it begins and ends
-abbrev pub piece_of : Descriptor → Piece Bool
+abbrev pub piece_of : Descriptor → ItemSpan Bool
 piece_of i = (i.space, i.span.from, i.span.to)
 
 -- The parts are the reading of the text, each the longest that begins at its place; each begins where the one before it ends.
 pub record AreDescriptorsOf (bytes : List ℕ) (parts : List Descriptor) : Type 0 where
   pub reads : Reads nabc (map (read_as bytes) parts) (chars bytes)
   pub joined : FollowOn 0 (map piece_of parts) (length bytes)
-
--- The longest part that begins the text is a space or not, as said, and has that many bytes.
-pub record IsFirstPart (bytes : List ℕ) (space : Bool) (len : ℕ) : Type 0 where
-  pub some : 0 < len
-  pub within : len ≤ length bytes
-  pub utf8 : IsUtf8 (drop len bytes)
-  pub item : IsItemOf nabc space (chars (take len bytes))
-  pub longest : Longest (IsItem nabc) (chars (take len bytes)) (chars (drop len bytes))

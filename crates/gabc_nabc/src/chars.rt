@@ -2,7 +2,7 @@
 
 ghost use Rattle.std.specs.Prelude.{◌≡◌, ◌+◌, ◌<◌, ◌^◌, length, map, IfOk};
 ghost use Rattle.std.specs.Str.{chars};
-ghost use Rattle.gabc_nabc.specs.Read.{before_end, from_end, kept_before, kept_chars_in};
+ghost use Rattle.gabc_nabc.specs.SnippetRead.{before_end, from_end, kept_before, kept_chars_in};
 
 use crate::stage::NabcStage;
 use crate::whole::nabc_whole;

@@ -5,7 +5,7 @@ ghost use Rattle.gabc_nabc.specs.Class.{class_of_character};
 
 /// What a character may be in a descriptor or a space.
 #[derive(Clone, Copy)]
-pub(crate) enum Class {
+pub(crate) enum NabcClass {
     /// `h`, which begins a pitch and no code, and is a pitch itself.
     LetterH,
     /// `l` and `p`, which are pitches, and `s`: with the letters that would make no code of them.
@@ -31,24 +31,24 @@ pub(crate) enum Class {
 }
 
 /// Returns the class of a character.
-pub(crate) fn class_of(c: char) -> Class
+pub(crate) fn class_of(c: char) -> NabcClass
     ensures { result ≡ class_of_character c }
 {
     match c {
-        'h' => Class::LetterH,
-        'l' => Class::LetterL,
-        'p' => Class::LetterP,
-        's' => Class::LetterS,
-        't' => Class::LetterT,
-        'u' => Class::LetterU,
-        'a'..='n' => Class::Pitch,
-        'o'..='z' => Class::Letter,
-        '1'..='9' => Class::Digit,
-        'S' | 'G' | 'M' | '>' | '~' => Class::Modifier,
-        '-' => Class::Hyphen,
-        '!' => Class::Bang,
-        '/' => Class::Slash,
-        '`' => Class::Tick,
-        _ => Class::Other,
+        'h' => NabcClass::LetterH,
+        'l' => NabcClass::LetterL,
+        'p' => NabcClass::LetterP,
+        's' => NabcClass::LetterS,
+        't' => NabcClass::LetterT,
+        'u' => NabcClass::LetterU,
+        'a'..='n' => NabcClass::Pitch,
+        'o'..='z' => NabcClass::Letter,
+        '1'..='9' => NabcClass::Digit,
+        'S' | 'G' | 'M' | '>' | '~' => NabcClass::Modifier,
+        '-' => NabcClass::Hyphen,
+        '!' => NabcClass::Bang,
+        '/' => NabcClass::Slash,
+        '`' => NabcClass::Tick,
+        _ => NabcClass::Other,
     }
 }

@@ -1,7 +1,7 @@
 //! The codes of a descriptor's glyphs.
 
 ghost use Rattle.std.specs.Prelude.{◌≡◌, ◌<◌, ◌≤◌, ◌-◌, length, option_to_list};
-ghost use Rattle.gabc_places.specs.Held.{HasRoom, added};
+ghost use Rattle.gabc_places.specs.BoundedList.{Fits, extended_by};
 ghost use Rattle.gabc_nabc.specs.Codes.{code_at, codes_of};
 
 use crate::code::GlyphCode;
@@ -24,14 +24,14 @@ fn code_ending(text: &[u8], at: usize) -> Option<GlyphCode>
     }
 }
 
-/// Adds to `out` the codes of the glyphs of `part`, in order: what stands at its front and behind each `!`. A space has none. The
+/// Adds to `out` the codes of the glyphs of `part`, in order: what stands at its start and behind each `!`. A space has none. The
 /// span of `part` has to lie within `kept`, as that of each part of `descriptors_whole` does, and `out` to take as many codes more
 /// as `part` has bytes.
 pub fn codes_into(kept: &str, part: Descriptor, out: &mut Room<GlyphCode>)
     requires order { part.span.from ≤ part.span.to }
     requires within { part.span.to ≤ length kept.now }
-    requires room { HasRoom out.old (part.span.to - part.span.from) }
-    ensures { out.new ≡ added out.old (codes_of kept.now part) }
+    requires room { Fits out.old (part.span.to - part.span.from) }
+    ensures { out.new ≡ extended_by out.old (codes_of kept.now part) }
 {
     if part.space {
         return;

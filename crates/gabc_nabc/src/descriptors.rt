@@ -1,13 +1,14 @@
 //! The descriptors and spaces of a kept text.
 
 ghost use Rattle.std.specs.Prelude.{◌≡◌, ◌≤◌, ◌<◌, ◌++◌, length, drop, IfOk, IfSome, IfNone, List};
-ghost use Rattle.gabc_places.specs.Held.{HasRoom, added};
-ghost use Rattle.gabc_nabc.specs.Parts.{IsNabc, AreDescriptorsOf, IsFirstPart};
+ghost use Rattle.gabc_places.specs.BoundedList.{Fits, extended_by};
+ghost use Rattle.gabc_nabc.specs.Parts.{IsNabc, AreDescriptorsOf};
+ghost use Rattle.gabc_nabc.specs.machine.Parts.{IsFirstPart};
 ghost use Rattle.gabc_nabc.specs.declared.descriptor.Descriptor.{Descriptor};
 
 use crate::class::class_of;
 use crate::descriptor::{Descriptor, Descriptors};
-use crate::state::{State, ends, goes_on};
+use crate::state::{DescriptorState, ends, goes_on};
 use gabc_places::{Room, Span};
 use std::alloc::{AllocError, Global};
 
@@ -17,7 +18,7 @@ fn first_part(text: &str) -> Option<(bool, usize)>
     ensures none { IfNone result (0 < length text.now → ¬ IsNabc text.now) }
 {
     let mut best = None;
-    let mut state = State::Start;
+    let mut state = DescriptorState::Start;
     let mut read = 0;
     for c in text.chars() {
         match goes_on(state, class_of(c)) {
@@ -58,9 +59,9 @@ pub fn descriptors_whole(alloc: Global, kept: &str) -> Result<Descriptors, Alloc
 /// an NABC snippet, as `is_nabc` tells, and `out` to take as many parts more as `kept` has bytes.
 pub fn descriptors_into(kept: &str, out: &mut Room<Descriptor>)
     requires kept { IsNabc kept.now }
-    requires room { HasRoom out.old (length kept.now) }
+    requires room { Fits out.old (length kept.now) }
     ensures { (parts : List Descriptor) × AreDescriptorsOf kept.now parts ×
-        (out.new ≡ added out.old parts) }
+        (out.new ≡ extended_by out.old parts) }
 {
     let mut at = 0;
     while let Some((space, len)) = first_part(&kept[at..]) {

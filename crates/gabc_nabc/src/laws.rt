@@ -3,28 +3,28 @@
 
 ghost use Rattle.std.specs.Prelude.{◌≡◌, ◌≤◌, ◌+◌, ◌*◌, ℕ, List, [], ◌∷◌, ◌++◌, Bool, length, take, map, true, encode_utf8_all, IsTrue, ◌↔◌};
 ghost use Rattle.gabc_places.specs.Findings.{AreInOrder, LieBetween};
-ghost use Rattle.gabc_places.specs.Held.{HasRoom, added};
-ghost use Rattle.gabc_places.specs.Law.{joined};
+ghost use Rattle.gabc_places.specs.BoundedList.{Fits, extended_by};
+ghost use Rattle.gabc_places.specs.StageLaw.{concat_of};
 ghost use Rattle.gabc_places.specs.declared.place.Place.{Place};
 ghost use Rattle.gabc_places.specs.declared.place.Char.{Char};
 ghost use Rattle.gabc_patterns.specs.Pattern.{Spells};
 ghost use Rattle.gabc_patterns.specs.Reading.{Reads, IsItem, OneKind, IsSnippet, IsViable};
 ghost use Rattle.gabc_nabc.specs.Table.{nabc, code, descriptor};
 ghost use Rattle.gabc_nabc.specs.Codes.{HasCodesOfGlyphs};
-ghost use Rattle.gabc_nabc.specs.Told.{bytes_in, has_end, is_code, kept_of, told, told_at, told_behind, told_cut};
-ghost use Rattle.gabc_notes.specs.Read.{ends_of, findings_of, kept_of as kept_in};
+ghost use Rattle.gabc_nabc.specs.Events.{bytes_in, has_end, is_code, kept_of, nabc_events, events_at, nabc_events_behind, cut_events};
+ghost use Rattle.gabc_notes.specs.SnippetRead.{ends_of, findings_of, kept_of as kept_in};
 ghost use Rattle.gabc_notes.specs.Ends.{EndAtMost, AreCutAtMost};
-ghost use Rattle.gabc_places.specs.Place.{place_past, placed_from};
-ghost use Rattle.gabc_nabc.specs.Read.{before_end, from_end, kept_before, end_before, AreAtMostOne};
+ghost use Rattle.gabc_places.specs.Place.{place_past, placed_characters_from};
+ghost use Rattle.gabc_nabc.specs.SnippetRead.{before_end, from_end, kept_before, end_before, AreAtMostOne};
 
 use crate::stage::NabcStage;
-use gabc_notes::NoteOut;
+use gabc_notes::NoteEvent;
 use gabc_places::{Char, Room, drive};
 
-/// A fresh stage, driven over all characters and then ended, gives what is told of them.
-pub fn a_fresh_stage_gives(inputs: Vec<Char>, out: &mut Room<NoteOut>)
-    requires { HasRoom out.old (3 * (length inputs.items + 1)) }
-    ensures { out.new ≡ added out.old (joined (told inputs.items)) }
+/// A fresh stage, driven over all characters and then ended, gives what is emitted of them.
+pub fn a_fresh_stage_emits(inputs: Vec<Char>, out: &mut Room<NoteEvent>)
+    requires { Fits out.old (3 * (length inputs.items + 1)) }
+    ensures { out.new ≡ extended_by out.old (concat_of (nabc_events inputs.items)) }
 {
     let mut stage = NabcStage::new();
     drive(&mut stage, inputs, out);
@@ -57,37 +57,38 @@ pub fn codes_are_two_letters()
     ensures { (a c : ℕ) → IsTrue (is_code a c) ↔ Spells code (a ∷ c ∷ []) }
 {}
 
-/// What is told of characters does not depend on what follows them, and behind the end nothing is told.
-pub fn what_follows_tells_nothing()
-    ensures front { (xs ys zs : List Char) →
-        take (length xs) (told (xs ++ ys)) ≡ take (length xs) (told (xs ++ zs)) }
-    ensures end { (t : List ℕ) (xs : List Char) → has_end t ≡ true → joined (told_behind t xs) ≡ [] }
+/// What is emitted of characters does not depend on what follows them, and behind the end nothing is emitted.
+pub fn what_follows_emits_nothing()
+    ensures prefix { (xs ys zs : List Char) →
+        take (length xs) (nabc_events (xs ++ ys)) ≡ take (length xs) (nabc_events (xs ++ zs)) }
+    ensures end { (t : List ℕ) (xs : List Char) → has_end t ≡ true →
+        concat_of (nabc_events_behind t xs) ≡ [] }
 {}
 
-/// The characters that are told as kept are what the table keeps of the text before the snippet's end.
-pub fn the_kept_text_is_told()
+/// The characters that are emitted as kept are what the table keeps of the text before the snippet's end.
+pub fn the_kept_text_is_emitted()
     ensures { (xs : List Char) →
-        kept_in (joined (told xs)) ≡ kept_of (before_end (map (λ x. x.c) xs)) }
+        kept_in (concat_of (nabc_events xs)) ≡ kept_of (before_end (map (λ x. x.c) xs)) }
 {}
 
-/// One end is told, with the bytes of the kept text: at most those of the characters that are told as kept.
-pub fn one_end_is_told()
-    ensures end { (xs : List Char) → (let t = map (λ x. x.c) xs in ends_of (joined (told xs))
+/// One end is emitted, with the bytes of the kept text: at most those of the characters that are emitted as kept.
+pub fn one_end_is_emitted()
+    ensures end { (xs : List Char) → (let t = map (λ x. x.c) xs in ends_of (concat_of (nabc_events xs))
         ≡ (end_before (from_end t), bytes_in (kept_before (before_end t) (from_end t))) ∷ []) }
     ensures bytes { (xs : List Char) → (let t = map (λ x. x.c) xs in
         bytes_in (kept_before (before_end t) (from_end t))
-        ≤ length (encode_utf8_all (kept_in (joined (told xs))))) }
+        ≤ length (encode_utf8_all (kept_in (concat_of (nabc_events xs))))) }
 {}
 
-/// What is told of a character has at most one finding, which stands at its place.
+/// What is emitted of a character has at most one finding, which stands at its place.
 pub fn one_finding_a_character()
-    ensures { (t : List ℕ) (x : Char) → AreAtMostOne x.place (findings_of (told_at t x)) }
+    ensures { (t : List ℕ) (x : Char) → AreAtMostOne x.place (findings_of (events_at t x)) }
 {}
 
 /// The findings of a text are in the order of their places, none twice.
 pub fn findings_are_in_order()
     ensures { (at : Place) (t : List ℕ) →
-        AreInOrder (findings_of (joined (told (placed_from at t)))) }
+        AreInOrder (findings_of (concat_of (nabc_events (placed_characters_from at t)))) }
 {}
 
 /// The codes of a descriptor are the first two letters of its glyphs, in order.
@@ -95,17 +96,17 @@ pub fn codes_are_of_glyphs()
     ensures { (t : List ℕ) → Spells descriptor t → HasCodesOfGlyphs t }
 {}
 
-/// What is told of a text through the character behind a front has its findings at the text's place or later, and no later
+/// What is emitted of a text through the character behind a prefix has its findings at the text's place or later, and no later
 /// than that character.
 pub fn findings_lie_within()
-    ensures { (at : Place) (front rest : List ℕ) →
-        let events = joined (take (length front + 1) (told (placed_from at (front ++ rest)))) in
-        LieBetween at (place_past at front) (findings_of events) }
+    ensures { (at : Place) (prefix rest : List ℕ) →
+        let events = concat_of (take (length prefix + 1) (nabc_events (placed_characters_from at (prefix ++ rest)))) in
+        LieBetween at (place_past at prefix) (findings_of events) }
 {}
 
-/// Of a character at most one end is told, behind all else: at a `)` or a `|`. Of the end of the characters nothing is told
+/// Of a character at most one end is emitted, behind all else: at a `)` or a `|`. Of the end of the characters nothing is emitted
 /// but that they were cut.
 pub fn a_snippet_ends_at_its_mark()
-    ensures mark { (t : List ℕ) (x : Char) → EndAtMost true x.c (told_at t x) }
-    ensures last { (t : List ℕ) → AreCutAtMost (told_cut t) }
+    ensures mark { (t : List ℕ) (x : Char) → EndAtMost true x.c (events_at t x) }
+    ensures last { (t : List ℕ) → AreCutAtMost (cut_events t) }
 {}

@@ -19,7 +19,7 @@
 //! let body = "vi pe7)";
 //! let read = nabc_whole(alloc, body, Place::START)?;
 //! assert_eq!(rt; read.kept.as_str(), "vipe"); // the `7` is left out, with E3 at column 6
-//! assert_eq!(rt; read.how, SnippetHow::Close(6));
+//! assert_eq!(rt; read.how, SnippetEnding::Close(6));
 //! if is_nabc(&read.kept) {
 //!     let parts = descriptors_whole(alloc, &read.kept)?;
 //!     assert_eq!(rt; parts.as_slice(), [virga, pes].as_slice()); // `vi` and `pe`, from byte 2 to byte 4

@@ -2,20 +2,20 @@
 
 ghost use Rattle.std.specs.Prelude.{◌≡◌, List};
 ghost use Rattle.gabc_places.specs.declared.place.Char.{Char};
-ghost use Rattle.gabc_places.specs.Held.{HasRoom, added};
+ghost use Rattle.gabc_places.specs.BoundedList.{Fits, extended_by};
 ghost use Rattle.gabc_notes.specs.Ends.{is_ended};
-ghost use Rattle.gabc_nabc.specs.Told.{is_code, is_missing, ended_by, told};
-ghost use Rattle.gabc_nabc.specs.Machine.{first_at, looked, role_in, given_in, outputs, advanced, given_at, stage_after, cut_given, rest_of};
+ghost use Rattle.gabc_nabc.specs.Events.{is_code, is_missing, end_by_mark, nabc_events};
+ghost use Rattle.gabc_nabc.specs.DescriptorMachine.{first_at, facts_by_states, role_in, events_in, event_list, stage_moved_on, stage_events_at, stage_after, events_of_cut, events_left};
 
 use crate::class::class_of;
 use crate::name::is_named;
-use crate::state::{State, is_whole, next_state};
-use gabc_notes::{NoteEnd, NoteOut};
+use crate::state::{DescriptorState, is_whole, next_state};
+use gabc_notes::{NoteEnd, NoteEvent};
 use gabc_places::{Char, Code, Finding, Place, Room, Stage};
 
 /// What is known of a character where it stands.
 #[derive(Clone, Copy)]
-pub(crate) struct Seen {
+pub(crate) struct NabcFacts {
     /// The kept text is an NABC snippet.
     pub(crate) whole: bool,
     /// The kept text with the character is viable, and an NABC snippet.
@@ -27,7 +27,7 @@ pub(crate) struct Seen {
 
 /// What becomes of a character.
 #[derive(Clone, Copy)]
-pub(crate) enum Role {
+pub(crate) enum NabcRole {
     /// It is a blank or part of a comment.
     Silent,
     /// It ends the snippet.
@@ -36,20 +36,23 @@ pub(crate) enum Role {
     LeaveOut,
 }
 
-/// The outputs of one call.
+/// The events of one call.
 #[derive(Clone, Copy)]
-pub(crate) struct Given {
-    pub(crate) first: Option<NoteOut>,
-    pub(crate) second: Option<NoteOut>,
+pub(crate) struct NabcEvents {
+    pub(crate) first: Option<NoteEvent>,
+    pub(crate) second: Option<NoteEvent>,
 }
 
 /// Returns the first letter of a code whose second letter is to come: the last letter, in these states.
-fn first_letter(state: State, letter: char) -> Option<char>
+fn first_letter(state: DescriptorState, letter: char) -> Option<char>
     ensures { result ≡ first_at state letter }
 {
     match state {
-        State::Code | State::CodeL | State::CodeP | State::CodeS => Some(letter),
-        State::TailL | State::TailP | State::TailS => Some(letter),
+        DescriptorState::Code
+        | DescriptorState::CodeL
+        | DescriptorState::CodeP
+        | DescriptorState::CodeS => Some(letter),
+        DescriptorState::TailL | DescriptorState::TailP | DescriptorState::TailS => Some(letter),
         _ => None,
     }
 }
@@ -78,10 +81,10 @@ fn lacks_name(first: Option<char>, c: char) -> bool
 }
 
 /// Returns what is known of a character, by the state before it and the next one, if there is one.
-fn look(state: State, next: Option<State>, letter: char, c: char) -> Seen
-    ensures { result ≡ looked state next letter c }
+fn look(state: DescriptorState, next: Option<DescriptorState>, letter: char, c: char) -> NabcFacts
+    ensures { result ≡ facts_by_states state next letter c }
 {
-    Seen {
+    NabcFacts {
         whole: is_whole(state),
         viable: next.is_some(),
         whole_after: match next {
@@ -93,23 +96,23 @@ fn look(state: State, next: Option<State>, letter: char, c: char) -> Seen
 }
 
 /// Returns what becomes of a character.
-fn role_of(comment: bool, viable: bool, c: char) -> Role
+fn role_of(comment: bool, viable: bool, c: char) -> NabcRole
     ensures { result ≡ role_in comment viable c }
 {
     if comment {
-        return Role::Silent;
+        return NabcRole::Silent;
     }
     match c {
-        ')' | '|' => Role::Ends,
-        '%' | ' ' | '\t' | '\n' => Role::Silent,
-        _ if viable => Role::Keep,
-        _ => Role::LeaveOut,
+        ')' | '|' => NabcRole::Ends,
+        '%' | ' ' | '\t' | '\n' => NabcRole::Silent,
+        _ if viable => NabcRole::Keep,
+        _ => NabcRole::LeaveOut,
     }
 }
 
 /// Returns how a character ends the snippet.
 fn end_of(c: char) -> NoteEnd
-    ensures { result ≡ ended_by c }
+    ensures { result ≡ end_by_mark c }
 {
     if c == '|' {
         NoteEnd::Next
@@ -118,48 +121,48 @@ fn end_of(c: char) -> NoteEnd
     }
 }
 
-/// Returns what a character gives. The longest front of the kept text that is an NABC snippet has `whole` bytes.
-fn given_by(role: Role, seen: Seen, whole: usize, x: Char) -> Given
-    ensures { result ≡ given_in role seen whole x }
+/// Returns what a character gives. The longest prefix of the kept text that is an NABC snippet has `whole` bytes.
+fn events_by(role: NabcRole, facts: NabcFacts, whole: usize, x: Char) -> NabcEvents
+    ensures { result ≡ events_in role facts whole x }
 {
     let found = |code| {
-        Some(NoteOut::Found(Finding {
+        Some(NoteEvent::Found(Finding {
             place: x.place,
             code,
         }))
     };
     match role {
-        Role::Keep => Given {
-            first: Some(NoteOut::Kept(x)),
-            second: if seen.unknown { found(Code::W7) } else { None },
+        NabcRole::Keep => NabcEvents {
+            first: Some(NoteEvent::Kept(x)),
+            second: if facts.unknown { found(Code::W7) } else { None },
         },
-        Role::LeaveOut => Given {
+        NabcRole::LeaveOut => NabcEvents {
             first: found(Code::E3),
             second: None,
         },
-        Role::Ends => Given {
-            first: if seen.whole { None } else { found(Code::E6) },
-            second: Some(NoteOut::Ended {
+        NabcRole::Ends => NabcEvents {
+            first: if facts.whole { None } else { found(Code::E6) },
+            second: Some(NoteEvent::Ended {
                 how: end_of(x.c),
                 kept: whole,
             }),
         },
-        Role::Silent => Given {
+        NabcRole::Silent => NabcEvents {
             first: None,
             second: None,
         },
     }
 }
 
-/// Adds what is given.
-fn send(given: Given, out: &mut Room<NoteOut>)
-    requires { HasRoom out.old 3 }
-    ensures { out.new ≡ added out.old (outputs given) }
+/// Adds what is emitted.
+fn send(events: NabcEvents, out: &mut Room<NoteEvent>)
+    requires { Fits out.old 3 }
+    ensures { out.new ≡ extended_by out.old (event_list events) }
 {
-    if let Some(output) = given.first {
+    if let Some(output) = events.first {
         out.push(output);
     }
-    if let Some(output) = given.second {
+    if let Some(output) = events.second {
         out.push(output);
     }
 }
@@ -168,12 +171,12 @@ fn send(given: Given, out: &mut Room<NoteOut>)
 /// memory.
 #[derive(Drop)]
 pub struct NabcStage {
-    state: State,
+    state: DescriptorState,
     /// The last character kept.
     letter: char,
     /// Whether a comment is open.
     comment: bool,
-    /// The bytes of the kept text, and of its longest front that is an NABC snippet.
+    /// The bytes of the kept text, and of its longest prefix that is an NABC snippet.
     kept: usize,
     whole: usize,
     ended: bool,
@@ -182,10 +185,10 @@ pub struct NabcStage {
 impl NabcStage {
     /// Returns a stage before the first character of a snippet.
     pub fn new() -> NabcStage
-        ensures { (xs : List Char) → rest_of result xs ≡ told xs }
+        ensures { (xs : List Char) → events_left result xs ≡ nabc_events xs }
     {
         NabcStage {
-            state: State::Start,
+            state: DescriptorState::Start,
             letter: '/',
             comment: false,
             kept: 0,
@@ -195,49 +198,49 @@ impl NabcStage {
     }
 
     /// Takes a character with this role.
-    fn advance(&mut self, role: Role, seen: Seen, next: Option<State>, c: char)
-        ensures { self.new ≡ advanced self.old role seen next c }
+    fn advance(&mut self, role: NabcRole, facts: NabcFacts, next: Option<DescriptorState>, c: char)
+        ensures { self.new ≡ stage_moved_on self.old role facts next c }
     {
-        if let Role::Ends = role {
+        if let NabcRole::Ends = role {
             self.ended = true;
             return;
         }
         self.comment = c == '%' || (self.comment && c != '\n');
-        if let (Role::Keep, Some(next)) = (role, next) {
+        if let (NabcRole::Keep, Some(next)) = (role, next) {
             self.state = next;
             self.letter = c;
             self.kept = self.kept.saturating_add(c.len_utf8());
-            if seen.whole_after {
+            if facts.whole_after {
                 self.whole = self.kept;
             }
         }
     }
 
     /// Takes a character, and adds what it gives.
-    pub(crate) fn take(&mut self, x: Char, out: &mut Room<NoteOut>)
-        requires { HasRoom out.old 3 }
+    pub(crate) fn take(&mut self, x: Char, out: &mut Room<NoteEvent>)
+        requires { Fits out.old 3 }
         ensures stage { self.new ≡ stage_after self.old x.c }
-        ensures out { out.new ≡ added out.old (given_at self.old x) }
+        ensures out { out.new ≡ extended_by out.old (stage_events_at self.old x) }
     {
         if self.ended {
             return;
         }
         let next = next_state(self.state, class_of(x.c));
-        let seen = look(self.state, next, self.letter, x.c);
-        let role = role_of(self.comment, seen.viable, x.c);
-        send(given_by(role, seen, self.whole, x), out);
-        self.advance(role, seen, next, x.c);
+        let facts = look(self.state, next, self.letter, x.c);
+        let role = role_of(self.comment, facts.viable, x.c);
+        send(events_by(role, facts, self.whole, x), out);
+        self.advance(role, facts, next, x.c);
     }
 
     /// Ends the characters, and adds what that gives.
-    pub(crate) fn stop(&self, out: &mut Room<NoteOut>)
-        requires { HasRoom out.old 3 }
-        ensures { out.new ≡ added out.old (cut_given self.now) }
+    pub(crate) fn stop(&self, out: &mut Room<NoteEvent>)
+        requires { Fits out.old 3 }
+        ensures { out.new ≡ extended_by out.old (events_of_cut self.now) }
     {
         if self.ended {
             return;
         }
-        out.push(NoteOut::Ended {
+        out.push(NoteEvent::Ended {
             how: NoteEnd::Cut(Place { line: 0, column: 0 }),
             kept: self.kept,
         });
@@ -247,9 +250,9 @@ impl NabcStage {
 impl Stage for NabcStage {
     type Input = Char;
 
-    type Output = NoteOut;
+    type Output = NoteEvent;
 
-    ghost rest = { rest_of };
+    ghost rest = { events_left };
 
     ghost most_of = { λ _. 3 };
 
@@ -259,11 +262,11 @@ impl Stage for NabcStage {
         3
     }
 
-    fn push(&mut self, x: Char, out: &mut Room<NoteOut>) {
+    fn push(&mut self, x: Char, out: &mut Room<NoteEvent>) {
         self.take(x, out);
     }
 
-    fn finish(&mut self, out: &mut Room<NoteOut>) {
+    fn finish(&mut self, out: &mut Room<NoteEvent>) {
         self.stop(out);
         self.ended = true;
     }

@@ -1,13 +1,14 @@
 //! A machine that reads spaces and descriptors a character at a time.
 
 ghost use Rattle.std.specs.Prelude.{◌≡◌};
-ghost use Rattle.gabc_nabc.specs.Machine.{is_a_letter, is_a_pitch, begun, begun_code, in_tail, going_on, falling_back, following, ending, whole_at};
+ghost use Rattle.gabc_nabc.specs.DescriptorMachine.{is_a_letter, is_a_pitch, part_begun, code_begun, in_tail, going_on, falling_back, next_state, whole_at};
+ghost use Rattle.gabc_nabc.specs.machine.DescriptorMachine.{is_space_at_end};
 
-use crate::class::Class;
+use crate::class::NabcClass;
 
 /// Where a part stands after some of its characters.
 #[derive(Clone, Copy)]
-pub(crate) enum State {
+pub(crate) enum DescriptorState {
     /// Between parts.
     Start,
     /// Behind the first letter of a code: `l`, `p`, `s`, or another.
@@ -50,117 +51,141 @@ pub(crate) enum State {
 }
 
 /// Returns whether it is a letter.
-fn is_letter(class: Class) -> bool
+fn is_letter(class: NabcClass) -> bool
     ensures { result ≡ is_a_letter class }
 {
     match class {
-        Class::LetterH | Class::LetterL | Class::LetterP | Class::LetterS => true,
-        Class::LetterT | Class::LetterU | Class::Pitch | Class::Letter => true,
+        NabcClass::LetterH | NabcClass::LetterL | NabcClass::LetterP | NabcClass::LetterS => true,
+        NabcClass::LetterT | NabcClass::LetterU | NabcClass::Pitch | NabcClass::Letter => true,
         _ => false,
     }
 }
 
 /// Returns whether it is a letter that is a pitch.
-fn is_pitch(class: Class) -> bool
+fn is_pitch(class: NabcClass) -> bool
     ensures { result ≡ is_a_pitch class }
 {
     match class {
-        Class::LetterH | Class::LetterL | Class::LetterP | Class::Pitch => true,
+        NabcClass::LetterH | NabcClass::LetterL | NabcClass::LetterP | NabcClass::Pitch => true,
         _ => false,
     }
 }
 
 /// Returns where a part stands behind the first character of a code, if that may begin one.
-fn code_begins(class: Class) -> Option<State>
-    ensures { result ≡ begun_code class }
+fn code_begins(class: NabcClass) -> Option<DescriptorState>
+    ensures { result ≡ code_begun class }
 {
     match class {
-        Class::LetterL => Some(State::CodeL),
-        Class::LetterP => Some(State::CodeP),
-        Class::LetterS => Some(State::CodeS),
-        Class::LetterT | Class::LetterU | Class::Pitch | Class::Letter => Some(State::Code),
+        NabcClass::LetterL => Some(DescriptorState::CodeL),
+        NabcClass::LetterP => Some(DescriptorState::CodeP),
+        NabcClass::LetterS => Some(DescriptorState::CodeS),
+        NabcClass::LetterT | NabcClass::LetterU | NabcClass::Pitch | NabcClass::Letter => Some(
+            DescriptorState::Code,
+        ),
         _ => None,
     }
 }
 
 /// Returns where a part stands behind its first character, if that may begin one.
-fn begins(class: Class) -> Option<State>
-    ensures { result ≡ begun class }
+fn begins(class: NabcClass) -> Option<DescriptorState>
+    ensures { result ≡ part_begun class }
 {
     match class {
-        Class::Slash => Some(State::Slash),
-        Class::Tick => Some(State::Tick),
+        NabcClass::Slash => Some(DescriptorState::Slash),
+        NabcClass::Tick => Some(DescriptorState::Tick),
         _ => code_begins(class),
     }
 }
 
 /// Returns where a part stands behind the first character of points or letters.
-fn tail_begins(class: Class) -> Option<State>
+fn tail_begins(class: NabcClass) -> Option<DescriptorState>
     ensures { result ≡ in_tail class }
 {
     match class {
-        Class::LetterL => Some(State::TailL),
-        Class::LetterP => Some(State::TailP),
-        Class::LetterS => Some(State::TailS),
+        NabcClass::LetterL => Some(DescriptorState::TailL),
+        NabcClass::LetterP => Some(DescriptorState::TailP),
+        NabcClass::LetterS => Some(DescriptorState::TailS),
         _ => None,
     }
 }
 
 /// Returns where the part stands with a character more, if it goes on.
-pub(crate) fn goes_on(state: State, class: Class) -> Option<State>
+pub(crate) fn goes_on(state: DescriptorState, class: NabcClass) -> Option<DescriptorState>
     ensures { result ≡ going_on state class }
 {
     match (state, class) {
-        (State::Start, _) => begins(class),
-        (State::CodeL, Class::LetterS | Class::LetterT) => None,
-        (State::CodeP, Class::LetterP) => None,
-        (State::CodeS, Class::LetterU) => None,
-        (State::CodeL | State::CodeP | State::CodeS | State::Code, _) if is_letter(class) => {
-            Some(State::Glyph)
-        }
-        (State::Modified, Class::Digit) => Some(State::Glyph),
-        (State::Glyph | State::Modified, Class::Modifier | Class::Hyphen) => Some(State::Modified),
-        (State::Glyph | State::Modified, Class::LetterH) => Some(State::GlyphH),
-        (State::GlyphH, _) if is_pitch(class) => Some(State::Pitched),
-        (State::Glyph | State::Modified | State::Pitched, Class::Bang) => Some(State::Joined),
-        (State::Joined, _) => code_begins(class),
-        (State::Glyph | State::Modified | State::Pitched, _) => tail_begins(class),
-        (State::TailL, Class::LetterS | Class::LetterT) => Some(State::Letters),
-        (State::TailP, Class::LetterP) => Some(State::Points),
-        (State::TailS, Class::LetterU) => Some(State::Points),
-        (State::Points, _) if is_letter(class) => Some(State::PointsLetter),
-        (State::Letters | State::LettersMore, _) if is_letter(class) => Some(State::LettersMore),
-        (State::LettersMore, Class::Hyphen) => Some(State::LettersMore),
-        (State::Points | State::PointsLetter | State::LettersMore, Class::Digit) => {
-            Some(State::Counted)
-        }
-        (State::Counted, Class::LetterH) => Some(State::CountedH),
-        (State::CountedH, _) if is_pitch(class) => Some(State::Tail),
-        (State::Counted | State::Tail, _) => tail_begins(class),
-        (State::Slash, Class::Slash) => Some(State::Space),
-        (State::Tick, Class::Tick) => Some(State::Space),
+        (DescriptorState::Start, _) => begins(class),
+        (DescriptorState::CodeL, NabcClass::LetterS | NabcClass::LetterT) => None,
+        (DescriptorState::CodeP, NabcClass::LetterP) => None,
+        (DescriptorState::CodeS, NabcClass::LetterU) => None,
+        (
+            DescriptorState::CodeL
+            | DescriptorState::CodeP
+            | DescriptorState::CodeS
+            | DescriptorState::Code,
+            _,
+        ) if is_letter(class) => { Some(DescriptorState::Glyph) }
+        (DescriptorState::Modified, NabcClass::Digit) => Some(DescriptorState::Glyph),
+        (
+            DescriptorState::Glyph | DescriptorState::Modified,
+            NabcClass::Modifier | NabcClass::Hyphen,
+        ) => Some(DescriptorState::Modified),
+        (DescriptorState::Glyph | DescriptorState::Modified, NabcClass::LetterH) => Some(
+            DescriptorState::GlyphH,
+        ),
+        (DescriptorState::GlyphH, _) if is_pitch(class) => Some(DescriptorState::Pitched),
+        (
+            DescriptorState::Glyph | DescriptorState::Modified | DescriptorState::Pitched,
+            NabcClass::Bang,
+        ) => Some(DescriptorState::Joined),
+        (DescriptorState::Joined, _) => code_begins(class),
+        (DescriptorState::Glyph | DescriptorState::Modified | DescriptorState::Pitched, _) =>
+            tail_begins(class),
+        (DescriptorState::TailL, NabcClass::LetterS | NabcClass::LetterT) => Some(
+            DescriptorState::Letters,
+        ),
+        (DescriptorState::TailP, NabcClass::LetterP) => Some(DescriptorState::Points),
+        (DescriptorState::TailS, NabcClass::LetterU) => Some(DescriptorState::Points),
+        (DescriptorState::Points, _) if is_letter(class) => Some(DescriptorState::PointsLetter),
+        (DescriptorState::Letters | DescriptorState::LettersMore, _) if is_letter(class) => Some(
+            DescriptorState::LettersMore,
+        ),
+        (DescriptorState::LettersMore, NabcClass::Hyphen) => Some(DescriptorState::LettersMore),
+        (
+            DescriptorState::Points | DescriptorState::PointsLetter | DescriptorState::LettersMore,
+            NabcClass::Digit,
+        ) => { Some(DescriptorState::Counted) }
+        (DescriptorState::Counted, NabcClass::LetterH) => Some(DescriptorState::CountedH),
+        (DescriptorState::CountedH, _) if is_pitch(class) => Some(DescriptorState::Tail),
+        (DescriptorState::Counted | DescriptorState::Tail, _) => tail_begins(class),
+        (DescriptorState::Slash, NabcClass::Slash) => Some(DescriptorState::Space),
+        (DescriptorState::Tick, NabcClass::Tick) => Some(DescriptorState::Space),
         _ => None,
     }
 }
 
 /// Returns where the reading stands if the part ended at its longest so far.
-fn falls_back(state: State) -> Option<State>
+fn falls_back(state: DescriptorState) -> Option<DescriptorState>
     ensures { result ≡ falling_back state }
 {
     match state {
-        State::Glyph | State::Modified | State::Pitched => Some(State::Start),
-        State::Counted | State::Tail => Some(State::Start),
-        State::Slash | State::Tick | State::Space => Some(State::Start),
-        State::TailL => Some(State::CodeL),
-        State::TailP => Some(State::CodeP),
-        State::TailS => Some(State::CodeS),
+        DescriptorState::Glyph | DescriptorState::Modified | DescriptorState::Pitched => Some(
+            DescriptorState::Start,
+        ),
+        DescriptorState::Counted | DescriptorState::Tail => Some(DescriptorState::Start),
+        DescriptorState::Slash | DescriptorState::Tick | DescriptorState::Space => Some(
+            DescriptorState::Start,
+        ),
+        DescriptorState::TailL => Some(DescriptorState::CodeL),
+        DescriptorState::TailP => Some(DescriptorState::CodeP),
+        DescriptorState::TailS => Some(DescriptorState::CodeS),
         _ => None,
     }
 }
 
 /// Returns where the reading stands with a character more: the part goes on, or it ended at its longest and another begins there.
-pub(crate) fn next_state(state: State, class: Class) -> Option<State>
-    ensures { result ≡ following state class }
+pub(crate) fn next_state(state: DescriptorState, class: NabcClass) -> Option<DescriptorState>
+    ensures { result ≡ next_state state class }
 {
     match goes_on(state, class) {
         Some(next) => Some(next),
@@ -172,24 +197,33 @@ pub(crate) fn next_state(state: State, class: Class) -> Option<State>
 }
 
 /// Returns whether the part is a space, if it may end here.
-pub(crate) fn ends(state: State) -> Option<bool>
-    ensures { result ≡ ending state }
+pub(crate) fn ends(state: DescriptorState) -> Option<bool>
+    ensures { result ≡ is_space_at_end state }
 {
     match state {
-        State::Glyph | State::Modified | State::Pitched => Some(false),
-        State::Counted | State::Tail => Some(false),
-        State::Slash | State::Tick | State::Space => Some(true),
+        DescriptorState::Glyph | DescriptorState::Modified | DescriptorState::Pitched => Some(
+            false,
+        ),
+        DescriptorState::Counted | DescriptorState::Tail => Some(false),
+        DescriptorState::Slash | DescriptorState::Tick | DescriptorState::Space => Some(true),
         _ => None,
     }
 }
 
 /// Returns whether what was read is an NABC snippet.
-pub(crate) fn is_whole(state: State) -> bool
+pub(crate) fn is_whole(state: DescriptorState) -> bool
     ensures { result ≡ whole_at state }
 {
     match state {
-        State::Start | State::Glyph | State::Modified | State::Pitched => true,
-        State::Counted | State::Tail | State::Slash | State::Tick | State::Space => true,
+        DescriptorState::Start
+        | DescriptorState::Glyph
+        | DescriptorState::Modified
+        | DescriptorState::Pitched => true,
+        DescriptorState::Counted
+        | DescriptorState::Tail
+        | DescriptorState::Slash
+        | DescriptorState::Tick
+        | DescriptorState::Space => true,
         _ => false,
     }
 }

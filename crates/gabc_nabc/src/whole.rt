@@ -2,30 +2,30 @@
 
 ghost use Rattle.std.specs.Prelude.{◌≡◌, ◌+◌, ◌^◌, ◌<◌, ◌≤◌, [], ◌∷◌, length, take, IfOk, OnOk, string_bytes};
 ghost use Rattle.std.specs.Str.{chars, IsCharBoundary};
-ghost use Rattle.gabc_nabc.specs.Machine.{given_at, stage_after, cut_given};
-ghost use Rattle.gabc_nabc.specs.Read.{IsRead};
-ghost use Rattle.gabc_nabc.specs.Gathered.{gathered_in, with_output, with_outputs, nothing_gathered, how_of_end};
+ghost use Rattle.gabc_nabc.specs.DescriptorMachine.{stage_events_at, stage_after, events_of_cut};
+ghost use Rattle.gabc_nabc.specs.SnippetRead.{IsNabcRead};
+ghost use Rattle.gabc_nabc.specs.machine.BuiltNabc.{built_nabc_of, with_event, with_events, no_nabc, ending_of};
 
 use crate::stage::NabcStage;
-use gabc_notes::{NoteEnd, NoteOut, SnippetHow, SnippetRead};
+use gabc_notes::{NoteEnd, NoteEvent, SnippetEnding, SnippetRead};
 use gabc_places::{Char, Findings, Place, Room};
 use std::alloc::{AllocError, Global};
 
 /// What was read so far.
 #[derive(Drop)]
-struct Reading {
+struct NabcBuilder {
     kept: String,
     findings: Findings,
-    /// The end, if it was told, and the bytes of the kept text at it.
+    /// The end, if it was emitted, and the bytes of the kept text at it.
     end: Option<(NoteEnd, usize)>,
 }
 
-impl Reading {
+impl NabcBuilder {
     /// Returns a reading of nothing.
-    fn new(alloc: Global) -> Reading
-        ensures { gathered_in result ≡ nothing_gathered }
+    fn new(alloc: Global) -> NabcBuilder
+        ensures { built_nabc_of result ≡ no_nabc }
     {
-        Reading {
+        NabcBuilder {
             kept: String::new(alloc),
             findings: Findings::new(alloc),
             end: None,
@@ -33,31 +33,32 @@ impl Reading {
     }
 
     /// Adds what the stage gave.
-    fn add(&mut self, output: NoteOut) -> Result<(), AllocError>
-        ensures { OnOk result (gathered_in self.new ≡ with_output (gathered_in self.old) output) }
+    fn add(&mut self, output: NoteEvent) -> Result<(), AllocError>
+        ensures { OnOk result (built_nabc_of self.new
+            ≡ with_event (built_nabc_of self.old) output) }
     {
         match output {
-            NoteOut::Kept(kept) => self.kept.push(kept.c)?,
-            NoteOut::Found(finding) => self.findings.push(finding)?,
-            NoteOut::Ended { how, kept } => self.end = Some((how, kept)),
+            NoteEvent::Kept(kept) => self.kept.push(kept.c)?,
+            NoteEvent::Found(finding) => self.findings.push(finding)?,
+            NoteEvent::Ended { how, kept } => self.end = Some((how, kept)),
         }
         Ok(())
     }
 
     /// Adds all that the stage gave.
-    fn add_all(&mut self, outputs: &[NoteOut]) -> Result<(), AllocError>
-        ensures { OnOk result (gathered_in self.new ≡
-            with_outputs (gathered_in self.old) outputs.now) }
+    fn add_all(&mut self, events: &[NoteEvent]) -> Result<(), AllocError>
+        ensures { OnOk result (built_nabc_of self.new ≡
+            with_events (built_nabc_of self.old) events.now) }
     {
-        for output in outputs {
-            self.add(*output)?;
+        for event in events {
+            self.add(*event)?;
         }
         Ok(())
     }
 
-    /// Returns the end, if it was told.
-    fn told_end(&self) -> Option<(NoteEnd, usize)>
-        ensures { result ≡ (gathered_in self.now).end }
+    /// Returns the end, if it was emitted.
+    fn emitted_end(&self) -> Option<(NoteEnd, usize)>
+        ensures { result ≡ (built_nabc_of self.now).end }
     {
         self.end
     }
@@ -67,12 +68,12 @@ impl Reading {
         &mut self,
         stage: &mut NabcStage,
         x: Char,
-        room: &mut Room<NoteOut>,
+        room: &mut Room<NoteEvent>,
     ) -> Result<(), AllocError>
         requires { room.old ≡ record { items = []; limit = 3 } }
         ensures stage { stage.new ≡ stage_after stage.old x.c }
-        ensures gathered { let now = with_outputs (gathered_in self.old) (given_at stage.old x) in
-            OnOk result (gathered_in self.new ≡ now) }
+        ensures gathered { let now = with_events (built_nabc_of self.old) (stage_events_at stage.old x) in
+            OnOk result (built_nabc_of self.new ≡ now) }
         ensures room { OnOk result (room.new ≡ record { items = []; limit = 3 }) }
     {
         stage.take(x, room);
@@ -82,10 +83,10 @@ impl Reading {
     }
 
     /// Ends the stage, and adds what it gives.
-    fn close(&mut self, stage: &NabcStage, room: &mut Room<NoteOut>) -> Result<(), AllocError>
+    fn close(&mut self, stage: &NabcStage, room: &mut Room<NoteEvent>) -> Result<(), AllocError>
         requires { room.old ≡ record { items = []; limit = 3 } }
-        ensures { let now = with_outputs (gathered_in self.old) (cut_given stage.now) in
-            OnOk result (gathered_in self.new ≡ now) }
+        ensures { let now = with_events (built_nabc_of self.old) (events_of_cut stage.now) in
+            OnOk result (built_nabc_of self.new ≡ now) }
     {
         stage.stop(room);
         self.add_all(room.slice())
@@ -101,12 +102,12 @@ impl Reading {
     }
 
     /// Returns what was read of a snippet that ends as `how` tells.
-    fn ended(self, how: SnippetHow) -> SnippetRead
+    fn into_read(self, how: SnippetEnding) -> SnippetRead
         ensures kept { string_bytes result.kept ≡ string_bytes self.kept }
         ensures findings { result.findings ≡ self.findings }
         ensures how { result.how ≡ how }
     {
-        let Reading {
+        let NabcBuilder {
             kept,
             findings,
             end: _,
@@ -120,13 +121,13 @@ impl Reading {
 }
 
 /// Returns how a snippet ends at the byte `index`, by what the stage told.
-fn how_of(end: NoteEnd, index: usize) -> SnippetHow
-    ensures { result ≡ how_of_end end index }
+fn ending_of(end: NoteEnd, index: usize) -> SnippetEnding
+    ensures { result ≡ ending_of end index }
 {
     match end {
-        NoteEnd::Next => SnippetHow::Next(index),
-        NoteEnd::Close => SnippetHow::Close(index),
-        NoteEnd::Cut(place) => SnippetHow::Cut(place),
+        NoteEnd::Next => SnippetEnding::Next(index),
+        NoteEnd::Close => SnippetEnding::Close(index),
+        NoteEnd::Cut(place) => SnippetEnding::Cut(place),
     }
 }
 
@@ -135,22 +136,22 @@ fn how_of(end: NoteEnd, index: usize) -> SnippetHow
 pub fn nabc_whole(alloc: Global, body: &str, at: Place) -> Result<SnippetRead, AllocError>
     requires line { at.line + length body.now < 2 ^ 64 }
     requires column { at.column + length body.now < 2 ^ 64 }
-    ensures { IfOk result (λ read. IsRead at (chars body.now) read) }
+    ensures { IfOk result (λ read. IsNabcRead at (chars body.now) read) }
 {
     let mut room = Room::with_limit(alloc, 3)?;
-    let mut reading = Reading::new(alloc);
+    let mut builder = NabcBuilder::new(alloc);
     let mut stage = NabcStage::new();
     let mut place = at;
     let mut index = 0;
     for c in body.chars() {
-        reading.feed(&mut stage, Char { c, place }, &mut room)?;
-        if let Some((end, kept)) = reading.told_end() {
-            reading.cut(kept);
-            return Ok(reading.ended(how_of(end, index)));
+        builder.feed(&mut stage, Char { c, place }, &mut room)?;
+        if let Some((end, kept)) = builder.emitted_end() {
+            builder.cut(kept);
+            return Ok(builder.into_read(ending_of(end, index)));
         }
         place = place.after(c);
         index += c.len_utf8();
     }
-    reading.close(&stage, &mut room)?;
-    Ok(reading.ended(SnippetHow::Cut(Place { line: 0, column: 0 })))
+    builder.close(&stage, &mut room)?;
+    Ok(builder.into_read(SnippetEnding::Cut(Place { line: 0, column: 0 })))
 }

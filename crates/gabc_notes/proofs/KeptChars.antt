@@ -1,29 +1,29 @@
--- The characters that are told as kept, one call after another.
+-- The characters that are emitted as kept, one call after another.
 use Rattle.std.proofs.Common.{◌≡◌, ℕ, ◌+◌, ◌<◌, ◌≤◌, List, [], ◌∷◌, ◌++◌, refl, sym, ap, ◌∙◌, append_assoc, append-nil, length, length-append, take, get_or, arith}
 use Rattle.std.specs.Prelude.{map}
 use native.Mathlib.Decide.{dec_lt}
 use Rattle.std.proofs.lemmas.List.{take_more, take_all, take-append-le, length-take}
 use Rattle.gabc_places.specs.declared.place.Char.{Char}
-use Rattle.gabc_places.specs.Held.{Held, added}
-use Rattle.gabc_places.specs.Law.{joined}
-use Rattle.gabc_notes.specs.Read.{kept_of, kept_chars_of}
-use Rattle.gabc_notes.specs.declared.stage.NoteOut.{NoteOut}
-use Rattle.gabc_notes.specs.declared.stage.NoteOut.TheVariants.{Kept, Found, Ended}
+use Rattle.gabc_places.specs.BoundedList.{BoundedList, extended_by}
+use Rattle.gabc_places.specs.StageLaw.{concat_of}
+use Rattle.gabc_notes.specs.SnippetRead.{kept_of, kept_chars_of}
+use Rattle.gabc_notes.specs.declared.stage.NoteEvent.{NoteEvent}
+use Rattle.gabc_notes.specs.declared.stage.NoteEvent.TheVariants.{Kept, Found, Ended}
 
-pub kept_chars-append : (a b : List NoteOut) → kept_chars_of (a ++ b) ≡ kept_chars_of a ++ kept_chars_of b
+pub kept_chars-append : (a b : List NoteEvent) → kept_chars_of (a ++ b) ≡ kept_chars_of a ++ kept_chars_of b
 kept_chars-append [] b = refl
 kept_chars-append (Kept x ∷ a) b = ap (λ (l : List Char). x ∷ l) (kept_chars-append a b)
 kept_chars-append (Found f ∷ a) b = kept_chars-append a b
 kept_chars-append (Ended h n ∷ a) b = kept_chars-append a b
 
 -- without their places
-pub kept_chars-kept : (a : List NoteOut) → map (λ (x : Char). x.c) (kept_chars_of a) ≡ kept_of a
+pub kept_chars-kept : (a : List NoteEvent) → map (λ (x : Char). x.c) (kept_chars_of a) ≡ kept_of a
 kept_chars-kept [] = refl
 kept_chars-kept (Kept x ∷ a) = ap (λ (l : List ℕ). x.c ∷ l) (kept_chars-kept a)
 kept_chars-kept (Found f ∷ a) = kept_chars-kept a
 kept_chars-kept (Ended h n ∷ a) = kept_chars-kept a
 
--- a front of a front with more behind it
+-- a prefix of a prefix with more behind it
 pub take_again : {X : Type 0} (n : ℕ) (a b : List X) → take n (take n a ++ b) ≡ take n (a ++ b)
 take_again {X} n a b = elim (dec_lt (length a) n) [
   | yes h ↦ ap (λ (l : List X). take n (l ++ b)) (take_all n a (omega (arith, h)))
@@ -31,8 +31,8 @@ take_again {X} n a b = elim (dec_lt (length a) n) [
       take-append-le n (take n a) b (omega (arith, size, less)) ∙ (take_all n (take n a) (omega (arith, size)) ∙ sym (take-append-le n a b less)))
 ]
 
--- one output more of a list
-pub kept_more : (first now new : List Char) (count : ℕ) (events : List NoteOut) (i : ℕ) (d : NoteOut) → i < length events
+-- one event more of a list
+pub kept_more : (first now new : List Char) (count : ℕ) (events : List NoteEvent) (i : ℕ) (d : NoteEvent) → i < length events
     → now ≡ take count (first ++ kept_chars_of (take i events)) → new ≡ take count (now ++ kept_chars_of (get_or events i d ∷ []))
     → new ≡ take count (first ++ kept_chars_of (take (i + 1) events))
 kept_more first now new count events i d h f g =
@@ -59,16 +59,16 @@ pub none_pushed : {X : Type 0} (count : ℕ) (now : List X) → length now ≤ c
 none_pushed {X} count now h = sym (ap (take count) (append-nil now) ∙ take_all count now h)
 
 -- one call of a stage more
-pub driven : {total new : List Char} {events : List NoteOut} (kept : List Char) (count : ℕ) (before later : List (List NoteOut)) → before ≡ events ∷ later
-    → new ≡ take count (kept ++ kept_chars_of events) → total ≡ take count (kept ++ kept_chars_of (joined before))
-    → total ≡ take count (new ++ kept_chars_of (joined later))
+pub driven : {total new : List Char} {events : List NoteEvent} (kept : List Char) (count : ℕ) (before later : List (List NoteEvent)) → before ≡ events ∷ later
+    → new ≡ take count (kept ++ kept_chars_of events) → total ≡ take count (kept ++ kept_chars_of (concat_of before))
+    → total ≡ take count (new ++ kept_chars_of (concat_of later))
 driven {total = total} {new = new} {events = events} kept count before later e f g =
-    let more : List Char = kept_chars_of (joined later) in
-    g ∙ (ap (λ (o : List (List NoteOut)). take count (kept ++ kept_chars_of (joined o))) e
-    ∙ (ap (λ (l : List Char). take count (kept ++ l)) (kept_chars-append events (joined later))
+    let more : List Char = kept_chars_of (concat_of later) in
+    g ∙ (ap (λ (o : List (List NoteEvent)). take count (kept ++ kept_chars_of (concat_of o))) e
+    ∙ (ap (λ (l : List Char). take count (kept ++ l)) (kept_chars-append events (concat_of later))
     ∙ (ap (take count) (sym (append_assoc kept (kept_chars_of events) more))
     ∙ (sym (take_again count (kept ++ kept_chars_of events) more) ∙ ap (λ (l : List Char). take count (l ++ more)) (sym f)))))
 
 -- what a call added to an empty room
-pub added_alone : {X : Type 0} (old new : Held X) (events : List X) → old.items ≡ [] → new ≡ added old events → new.items ≡ events
-added_alone {X} old new events e f = ap (λ (h : Held X). h.items) f ∙ ap (λ (l : List X). l ++ events) e
+pub added_alone : {X : Type 0} (old new : BoundedList X) (events : List X) → old.items ≡ [] → new ≡ extended_by old events → new.items ≡ events
+added_alone {X} old new events e f = ap (λ (h : BoundedList X). h.items) f ∙ ap (λ (l : List X). l ++ events) e

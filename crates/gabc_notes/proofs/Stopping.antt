@@ -6,61 +6,62 @@ use Rattle.gabc_places.specs.declared.code.Code.{Code}
 use Rattle.gabc_places.specs.declared.code.Code.TheVariants.{E6, W8, W10}
 use Rattle.gabc_places.specs.declared.place.Char.{Char}
 use Rattle.gabc_places.specs.declared.place.Place.{Place}
-use Rattle.gabc_places.specs.Held.{Held, added}
-use Rattle.gabc_places.specs.Law.{GivesNothing, StopsAtEnd}
-use Rattle.gabc_places.proofs.StageLaws.{joined_silence}
+use Rattle.gabc_places.specs.BoundedList.{BoundedList, extended_by}
+use Rattle.gabc_places.specs.StageLaw.{GivesNothing, StopsAtEnd}
+use Rattle.gabc_places.proofs.PushesAreOne.{joined_silence}
 use Rattle.gabc_notes.specs.Ends.{is_ended}
-use Rattle.gabc_notes.specs.Machine.{advanced, rest_of}
-use Rattle.gabc_notes.specs.Said.{found, ended_by, is_missing}
-use Rattle.gabc_notes.specs.Told.{given_in, outputs}
+use Rattle.gabc_notes.specs.machine.ItemMachine.{stage_after}
+use Rattle.gabc_notes.specs.ItemMachine.{events_left}
+use Rattle.gabc_notes.specs.Events.{finding_event, end_by_mark, is_missing}
+use Rattle.gabc_notes.specs.StageEvents.{events_in, event_list}
 use Rattle.gabc_notes.specs.declared.stage.Before.{Before}
-use Rattle.gabc_notes.specs.declared.stage.Given.{Given}
-use Rattle.gabc_notes.specs.declared.stage.NoteOut.{NoteOut}
-use Rattle.gabc_notes.specs.declared.stage.NoteOut.TheVariants.{Ended}
+use Rattle.gabc_notes.specs.declared.stage.CharEvents.{CharEvents}
+use Rattle.gabc_notes.specs.declared.stage.NoteEvent.{NoteEvent}
+use Rattle.gabc_notes.specs.declared.stage.NoteEvent.TheVariants.{Ended}
 use Rattle.gabc_notes.specs.declared.stage.NoteStage.{NoteStage}
-use Rattle.gabc_notes.specs.declared.stage.Role.{Role}
-use Rattle.gabc_notes.specs.declared.stage.Role.TheVariants.{Silent, Comment, Ends, Keep, LeaveOut}
-use Rattle.gabc_notes.specs.declared.stage.Seen.{Seen}
-use Rattle.gabc_notes.specs.declared.state.State.{State}
+use Rattle.gabc_notes.specs.declared.stage.CharRole.{CharRole}
+use Rattle.gabc_notes.specs.declared.stage.CharRole.TheVariants.{Silent, Comment, Ends, Keep, LeaveOut}
+use Rattle.gabc_notes.specs.declared.stage.CharFacts.{CharFacts}
+use Rattle.gabc_notes.specs.declared.state.ItemState.{ItemState}
 use Rattle.gabc_notes.proofs.EndsLast.{stops-without, stops-behind}
 
 -- a stage that has ended gives nothing
-pub ended-gives_nothing : (st : NoteStage) → st.ended ≡ true → GivesNothing (rest_of st)
-ended-gives_nothing st e = λ xs. rw e (joined_silence xs)
+pub ended-emits_nothing : (st : NoteStage) → st.ended ≡ true → GivesNothing (events_left st)
+ended-emits_nothing st e = λ xs. rw e (joined_silence xs)
 
-found_is : (b : Bool) (place : Place) (code : Code) → list_any is_ended (option_to_list (cond b (Some (found place code)) None)) ≡ false
+found_is : (b : Bool) (place : Place) (code : Code) → list_any is_ended (option_to_list (cond b (Some (finding_event place code)) None)) ≡ false
 found_is true place code = refl
 found_is false place code = refl
 
-none_found : (b : Bool) (place : Place) (code : Code) → list_any is_ended (option_to_list (cond b None (Some (found place code)))) ≡ false
+none_found : (b : Bool) (place : Place) (code : Code) → list_any is_ended (option_to_list (cond b None (Some (finding_event place code)))) ≡ false
 none_found true place code = refl
 none_found false place code = refl
 
 -- a character that is kept comes with no end
-warned : (macros : ℕ) (b : Before) (e : Seen) (x : Char) → list_any is_ended (outputs (given_in Keep macros b e x)) ≡ false
+warned : (macros : ℕ) (b : Before) (e : CharFacts) (x : Char) → list_any is_ended (event_list (events_in Keep macros b e x)) ≡ false
 warned macros b e x = go e.raw (e.attribute && is_missing macros e.digit) (((x.c == 91) && (not e.raw_after && b.fused)) || ((x.c == 93) && not b.fused))
   where
-    go : (r m u : Bool) → list_any is_ended (option_to_list (cond r (cond m (Some (found b.place W8)) None) (cond u (Some (found x.place W10)) None)) ++ []) ≡ false
+    go : (r m u : Bool) → list_any is_ended (option_to_list (cond r (cond m (Some (finding_event b.place W8)) None) (cond u (Some (finding_event x.place W10)) None)) ++ []) ≡ false
     go true true u = refl
     go true false u = refl
     go false m true = refl
     go false m false = refl
 
 -- behind an end that a push gives, the stage is over
-pub push_stops : (st next : NoteStage) (x : Char) (o : Option State) (e : Seen) (r : Role) (g : Given) (old new : Held NoteOut)
-    → g ≡ given_in r st.macros st.before e x → next ≡ advanced st r e o x → new ≡ added old (outputs g)
-    → StopsAtEnd is_ended (rest_of next) old new
+pub push_stops : (st next : NoteStage) (x : Char) (o : Option ItemState) (e : CharFacts) (r : CharRole) (g : CharEvents) (old new : BoundedList NoteEvent)
+    → g ≡ events_in r st.macros st.before e x → next ≡ stage_after st r e o x → new ≡ extended_by old (event_list g)
+    → StopsAtEnd is_ended (events_left next) old new
 push_stops st next x o e Ends g old new m n p =
-    let first : List NoteOut = option_to_list (cond e.whole None (Some (found x.place E6))) in
-    let second : List NoteOut = option_to_list (cond st.before.fused (Some (found x.place W10)) None) in
-    let last : NoteOut = Ended (ended_by x.c) st.before.whole in
+    let first : List NoteEvent = option_to_list (cond e.whole None (Some (finding_event x.place E6))) in
+    let second : List NoteEvent = option_to_list (cond st.before.fused (Some (finding_event x.place W10)) None) in
+    let last : NoteEvent = Ended (end_by_mark x.c) st.before.whole in
     let plain : list_any is_ended (first ++ second) ≡ false =
     list_any-append is_ended first second ∙ (ap (λ (b : Bool). b || list_any is_ended second) (none_found e.whole x.place E6) ∙ found_is st.before.fused x.place W10) in
-    let all : outputs g ≡ (first ++ second) ++ last ∷ [] = ap outputs m ∙ sym (append_assoc first second (last ∷ [])) in
-    stops-behind is_ended (rest_of next) old new (first ++ second) last (p ∙ ap (added old) all) plain (ended-gives_nothing next (ap (λ (s : NoteStage). s.ended) n))
+    let all : event_list g ≡ (first ++ second) ++ last ∷ [] = ap event_list m ∙ sym (append_assoc first second (last ∷ [])) in
+    stops-behind is_ended (events_left next) old new (first ++ second) last (p ∙ ap (extended_by old) all) plain (ended-emits_nothing next (ap (λ (s : NoteStage). s.ended) n))
 push_stops st next x o e Keep g old new m n p =
-    let plain : list_any is_ended (outputs g) ≡ false = ap (λ (y : Given). list_any is_ended (outputs y)) m ∙ warned st.macros st.before e x in
-    stops-without is_ended (rest_of next) old new (outputs g) p plain
-push_stops st next x o e LeaveOut g old new m n p = stops-without is_ended (rest_of next) old new (outputs g) p (ap (λ (y : Given). list_any is_ended (outputs y)) m)
-push_stops st next x o e Silent g old new m n p = stops-without is_ended (rest_of next) old new (outputs g) p (ap (λ (y : Given). list_any is_ended (outputs y)) m)
-push_stops st next x o e Comment g old new m n p = stops-without is_ended (rest_of next) old new (outputs g) p (ap (λ (y : Given). list_any is_ended (outputs y)) m)
+    let plain : list_any is_ended (event_list g) ≡ false = ap (λ (y : CharEvents). list_any is_ended (event_list y)) m ∙ warned st.macros st.before e x in
+    stops-without is_ended (events_left next) old new (event_list g) p plain
+push_stops st next x o e LeaveOut g old new m n p = stops-without is_ended (events_left next) old new (event_list g) p (ap (λ (y : CharEvents). list_any is_ended (event_list y)) m)
+push_stops st next x o e Silent g old new m n p = stops-without is_ended (events_left next) old new (event_list g) p (ap (λ (y : CharEvents). list_any is_ended (event_list y)) m)
+push_stops st next x o e Comment g old new m n p = stops-without is_ended (events_left next) old new (event_list g) p (ap (λ (y : CharEvents). list_any is_ended (event_list y)) m)

@@ -1,8 +1,8 @@
 -- The items of a kept text by the bytes where they begin and end.
-use Rattle.std.specs.Prelude.{◌<◌, ◌≤◌, ℕ, List, map, slice_range, length, take, drop}
-use Rattle.std.specs.Str.{chars, IsUtf8}
-use Rattle.gabc_patterns.specs.Reading.{Reads, IsSnippet, Longest, IsItem, IsItemOf}
-use Rattle.gabc_patterns.specs.Items.{FollowOn, Piece}
+use Rattle.std.specs.Prelude.{ℕ, List, map, slice_range, length}
+use Rattle.std.specs.Str.{chars}
+use Rattle.gabc_patterns.specs.Reading.{Reads, IsSnippet}
+use Rattle.gabc_patterns.specs.Items.{FollowOn, ItemSpan}
 use Rattle.gabc_notes.specs.Table.{gabc}
 use Rattle.gabc_notes.specs.declared.item.Item.{Item}
 use Rattle.gabc_notes.specs.declared.item.ItemKind.{ItemKind}
@@ -20,18 +20,10 @@ abbrev pub read_as : List ℕ → Item → ItemKind × List ℕ
 read_as bytes i = (i.kind, chars (bytes_of bytes i))
 
 -- an item's kind, and where it begins and ends
-abbrev pub piece_of : Item → Piece ItemKind
+abbrev pub piece_of : Item → ItemSpan ItemKind
 piece_of i = (i.kind, i.span.from, i.span.to)
 
 -- The items are the reading of the text, each the longest that begins at its place; each begins where the one before it ends.
 pub record AreItemsOf (bytes : List ℕ) (items : List Item) : Type 0 where
   pub reads : Reads gabc (map (read_as bytes) items) (chars bytes)
   pub joined : FollowOn 0 (map piece_of items) (length bytes)
-
--- The longest item that begins the text is of that kind and has that many bytes.
-pub record IsFirstItem (bytes : List ℕ) (kind : ItemKind) (len : ℕ) : Type 0 where
-  pub some : 0 < len
-  pub within : len ≤ length bytes
-  pub utf8 : IsUtf8 (drop len bytes)
-  pub item : IsItemOf gabc kind (chars (take len bytes))
-  pub longest : Longest (IsItem gabc) (chars (take len bytes)) (chars (drop len bytes))

@@ -88,7 +88,3 @@ note_by _ span t = None
 
 abbrev pub note_in : List ℕ → Item → Option Note
 note_in bytes i = note_by i.kind i.span (bytes_of bytes i)
-
--- how often in a row this letter stands, of at most three, with one before these
-abbrev pub run_of : ℕ → List ℕ → ℕ
-run_of c t = if begins_with (c ∷ c ∷ []) t then 3 else if begins_with (c ∷ []) t then 2 else 1

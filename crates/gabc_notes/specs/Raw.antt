@@ -5,7 +5,7 @@ use Rattle.gabc_places.specs.declared.place.Char.{Char}
 use Rattle.gabc_patterns.specs.Pattern.{is_in}
 use Rattle.gabc_patterns.specs.Reading.{Reads, IsSnippet}
 use Rattle.gabc_notes.specs.Table.{gabc}
-use Rattle.gabc_notes.specs.Said.{in_raw, kept, opener, Piece}
+use Rattle.gabc_notes.specs.Events.{in_raw, kept, opener, ItemText}
 use Rattle.gabc_notes.specs.declared.item.ItemKind.TheVariants.{Fusion}
 
 -- The text is a snippet whose last item is no `@`, a `[`, and no `]` from there on.
@@ -14,7 +14,7 @@ pub record IsOpen (t : List ℕ) : Type 0 where
   pub behind : List ℕ
   pub cut : t ≡ before ++ 91 ∷ behind
   pub snippet : IsSnippet gabc before
-  pub not_at : (items : List Piece) → ¬ Reads gabc (items ++ (Fusion, codes "@") ∷ []) before
+  pub not_at : (items : List ItemText) → ¬ Reads gabc (items ++ (Fusion, codes "@") ∷ []) before
   pub unclosed : is_in 93 behind ≡ false
 
 -- The characters, the nearest first, end with a `%` outside raw and what follows it, and there is no LF from there on.

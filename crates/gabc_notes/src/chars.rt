@@ -2,28 +2,28 @@
 
 ghost use Rattle.std.specs.Prelude.{◌≡◌, ◌+◌, ◌≤◌, ◌<◌, ◌^◌, ◌++◌, [], ◌∷◌, length, map, take, IfOk, OnOk};
 ghost use Rattle.std.specs.Str.{chars};
-ghost use Rattle.gabc_places.specs.Law.{joined};
-ghost use Rattle.gabc_places.specs.Place.{placed_from};
-ghost use Rattle.gabc_notes.specs.Read.{kept_chars_of, kept_chars_in, stop_after, kept_by};
+ghost use Rattle.gabc_places.specs.StageLaw.{concat_of};
+ghost use Rattle.gabc_places.specs.Place.{placed_characters_from};
+ghost use Rattle.gabc_notes.specs.SnippetRead.{kept_chars_of, kept_chars_in, stop_after, kept_by};
 
-use crate::stage::{NoteOut, NoteStage};
+use crate::stage::{NoteEvent, NoteStage};
 use crate::whole::snippet_whole;
 use gabc_places::{Char, Place, Room, Sequence, Stage};
 use std::alloc::{AllocError, Global};
 
 /// Adds the character that `event` tells as kept, if it tells one and `kept` has fewer than `count`.
-fn add_kept(kept: &mut Sequence<Char>, event: NoteOut, count: usize) -> Result<(), AllocError>
+fn add_kept(kept: &mut Sequence<Char>, event: NoteEvent, count: usize) -> Result<(), AllocError>
     requires { length kept.old ≤ count }
     ensures { OnOk result (kept.new ≡ take count (kept.old ++ kept_chars_of (event ∷ []))) }
 {
     match event {
-        NoteOut::Kept(x) => {
+        NoteEvent::Kept(x) => {
             if kept.len() < count {
                 kept.push(x)?;
             }
         }
-        NoteOut::Found(_) => {}
-        NoteOut::Ended { .. } => {}
+        NoteEvent::Found(_) => {}
+        NoteEvent::Ended { .. } => {}
     }
     Ok(())
 }
@@ -31,7 +31,7 @@ fn add_kept(kept: &mut Sequence<Char>, event: NoteOut, count: usize) -> Result<(
 /// Adds the characters that `events` tells as kept, while `kept` has fewer than `count`.
 fn add_all_kept(
     kept: &mut Sequence<Char>,
-    events: &[NoteOut],
+    events: &[NoteEvent],
     count: usize,
 ) -> Result<(), AllocError>
     requires { length kept.old ≤ count }
@@ -60,10 +60,10 @@ pub fn kept_chars_by<S>(
     kept: &str,
 ) -> Result<Sequence<Char>, AllocError>
 where
-    S: Stage<Input = Char, Output = NoteOut>,
+    S: Stage<Input = Char, Output = NoteEvent>,
     requires line { at.line + length body.now < 2 ^ 64 }
     requires column { at.column + length body.now < 2 ^ 64 }
-    ensures { let events = joined (S.rest stage.old (placed_from at (chars body.now))) in
+    ensures { let events = concat_of (S.rest stage.old (placed_characters_from at (chars body.now))) in
         IfOk result (λ cs. cs ≡ take (length (chars kept.now)) (kept_chars_of events)) }
 {
     let count = characters(kept);
@@ -96,8 +96,8 @@ pub fn kept_chars(
     requires line { at.line + length body.now < 2 ^ 64 }
     requires column { at.column + length body.now < 2 ^ 64 }
     ensures chars { IfOk result
-        (λ cs. cs ≡ kept_chars_in split macros (placed_from at (chars body.now))) }
-    ensures text { let s = stop_after split [] (placed_from at (chars body.now)) in
+        (λ cs. cs ≡ kept_chars_in split macros (placed_characters_from at (chars body.now))) }
+    ensures text { let s = stop_after split [] (placed_characters_from at (chars body.now)) in
         IfOk result (λ cs. map (λ x. x.c) cs ≡ kept_by s.mark s.back) }
 {
     let read = snippet_whole(alloc, body, at, split, macros)?;

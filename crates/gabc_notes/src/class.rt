@@ -1,11 +1,11 @@
 //! Characters, by what they may do in notes.
 
 ghost use Rattle.std.specs.Prelude.{◌≡◌};
-ghost use Rattle.gabc_notes.specs.Class.{class_of_character};
+ghost use Rattle.gabc_notes.specs.machine.Class.{class_of_character};
 
 /// What a character may be in an item.
 #[derive(Clone, Copy)]
-pub(crate) enum Class {
+pub(crate) enum CharClass {
     Hyphen,
     /// The pitch `b`, which a clef may have too.
     FlatB,
@@ -38,35 +38,35 @@ pub(crate) enum Class {
 }
 
 /// Returns the class of a character.
-pub(crate) fn class_of(c: char) -> Class
+pub(crate) fn class_of(c: char) -> CharClass
     ensures { result ≡ class_of_character c }
 {
     match c {
-        '-' => Class::Hyphen,
-        'b' => Class::FlatB,
-        'c' | 'f' => Class::ClefLetter,
-        'a'..='n' | 'p' => Class::Pitch,
-        'A'..='N' | 'P' => Class::Capital,
-        '1'..='5' => Class::ClefDigit,
-        '0' => Class::Zero,
-        '6'..='9' => Class::Digit,
-        '\'' | '_' => Class::Sign,
+        '-' => CharClass::Hyphen,
+        'b' => CharClass::FlatB,
+        'c' | 'f' => CharClass::ClefLetter,
+        'a'..='n' | 'p' => CharClass::Pitch,
+        'A'..='N' | 'P' => CharClass::Capital,
+        '1'..='5' => CharClass::ClefDigit,
+        '0' => CharClass::Zero,
+        '6'..='9' => CharClass::Digit,
+        '\'' | '_' => CharClass::Sign,
         'v' | 'V' | 's' | 'o' | 'O' | 'w' | 'W' | 'q' | 'r' | 'R' | '=' | '~' | '<' | '>' | '.' =>
-            Class::Suffix,
-        'x' | 'X' | 'y' | 'Y' => Class::Alter,
-        '#' => Class::Hash,
-        '+' => Class::Plus,
-        '?' => Class::Question,
-        '`' | '^' | ',' | ';' => Class::BarMark,
-        ':' => Class::Colon,
-        '/' => Class::Slash,
-        '!' => Class::Bang,
-        ' ' | '\t' | '\n' => Class::Blank,
-        'z' => Class::SmallZ,
-        'Z' => Class::CapitalZ,
-        '[' => Class::Open,
-        ']' => Class::Close,
-        '@' => Class::At,
-        _ => Class::Other,
+            CharClass::Suffix,
+        'x' | 'X' | 'y' | 'Y' => CharClass::Alter,
+        '#' => CharClass::Hash,
+        '+' => CharClass::Plus,
+        '?' => CharClass::Question,
+        '`' | '^' | ',' | ';' => CharClass::BarMark,
+        ':' => CharClass::Colon,
+        '/' => CharClass::Slash,
+        '!' => CharClass::Bang,
+        ' ' | '\t' | '\n' => CharClass::Blank,
+        'z' => CharClass::SmallZ,
+        'Z' => CharClass::CapitalZ,
+        '[' => CharClass::Open,
+        ']' => CharClass::Close,
+        '@' => CharClass::At,
+        _ => CharClass::Other,
     }
 }

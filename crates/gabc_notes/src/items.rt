@@ -1,13 +1,14 @@
 //! The items of a kept text.
 
 ghost use Rattle.std.specs.Prelude.{◌≡◌, ◌≤◌, ◌<◌, ◌++◌, length, drop, IfOk, IfSome, IfNone, List};
-ghost use Rattle.gabc_places.specs.Held.{HasRoom, added};
-ghost use Rattle.gabc_notes.specs.Items.{IsKept, AreItemsOf, IsFirstItem};
+ghost use Rattle.gabc_places.specs.BoundedList.{Fits, extended_by};
+ghost use Rattle.gabc_notes.specs.Items.{IsKept, AreItemsOf};
+ghost use Rattle.gabc_notes.specs.machine.Items.{IsFirstItem};
 ghost use Rattle.gabc_notes.specs.declared.item.Item.{Item};
 
 use crate::class::class_of;
 use crate::item::{Item, ItemKind, Items};
-use crate::state::{State, ends, goes_on};
+use crate::state::{ItemState, ends, goes_on};
 use gabc_places::{Room, Span};
 use std::alloc::{AllocError, Global};
 
@@ -17,7 +18,7 @@ fn first_item(text: &str) -> Option<(ItemKind, usize)>
     ensures none { IfNone result (0 < length text.now → ¬ IsKept text.now) }
 {
     let mut best = None;
-    let mut state = State::Start;
+    let mut state = ItemState::Start;
     let mut read = 0;
     for c in text.chars() {
         match goes_on(state, class_of(c)) {
@@ -58,8 +59,9 @@ pub fn items_whole(alloc: Global, kept: &str) -> Result<Items, AllocError>
 /// `is_snippet` tells, and `out` to take as many items more as `kept` has bytes.
 pub fn items_into(kept: &str, out: &mut Room<Item>)
     requires kept { IsKept kept.now }
-    requires room { HasRoom out.old (length kept.now) }
-    ensures { (items : List Item) × AreItemsOf kept.now items × (out.new ≡ added out.old items) }
+    requires room { Fits out.old (length kept.now) }
+    ensures { (items : List Item) × AreItemsOf kept.now items ×
+        (out.new ≡ extended_by out.old items) }
 {
     let mut at = 0;
     while let Some((kind, len)) = first_item(&kept[at..]) {

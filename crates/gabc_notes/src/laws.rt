@@ -6,24 +6,24 @@ ghost use Rattle.std.specs.Char.{len_utf8};
 ghost use Rattle.gabc_places.specs.declared.place.Char.{Char};
 ghost use Rattle.gabc_places.specs.declared.place.Place.{Place};
 ghost use Rattle.gabc_places.specs.Findings.{AreInOrder, LieBetween};
-ghost use Rattle.gabc_places.specs.Held.{HasRoom, added};
-ghost use Rattle.gabc_places.specs.Law.{joined};
+ghost use Rattle.gabc_places.specs.BoundedList.{Fits, extended_by};
+ghost use Rattle.gabc_places.specs.StageLaw.{concat_of};
 ghost use Rattle.gabc_patterns.specs.Reading.{Reads, IsItem, OneKind, IsSnippet, IsViable};
 ghost use Rattle.gabc_notes.specs.Table.{gabc};
-ghost use Rattle.gabc_notes.specs.Said.{in_raw, Point, is_comment, is_over, kept, bytes_of, said, cut, says};
-ghost use Rattle.gabc_notes.specs.Read.{kept_of, findings_of, ends_of, stop_after, kept_by, end_by};
-ghost use Rattle.gabc_places.specs.Place.{place_past, placed_from};
+ghost use Rattle.gabc_notes.specs.Events.{in_raw, Point, is_comment, is_over, kept, bytes_of, events_at, cut_events, note_events};
+ghost use Rattle.gabc_notes.specs.SnippetRead.{kept_of, findings_of, ends_of, stop_after, kept_by, end_by};
+ghost use Rattle.gabc_places.specs.Place.{place_past, placed_characters_from};
 ghost use Rattle.gabc_notes.specs.Ends.{EndAtMost, AreCutAtMost};
 ghost use Rattle.gabc_notes.specs.Raw.{IsOpen, InComment, IsOpenedAt};
 ghost use Rattle.gabc_notes.specs.declared.item.ItemKind.{ItemKind};
 
-use crate::stage::{NoteOut, NoteStage};
+use crate::stage::{NoteEvent, NoteStage};
 use gabc_places::{Char, Room, drive};
 
 /// A fresh stage, driven over all characters and then ended, gives what is said of them.
-pub fn a_fresh_stage_gives(split: bool, macros: u16, inputs: Vec<Char>, out: &mut Room<NoteOut>)
-    requires { HasRoom out.old (3 * (length inputs.items + 1)) }
-    ensures { out.new ≡ added out.old (joined (says split macros inputs.items)) }
+pub fn a_fresh_stage_emits(split: bool, macros: u16, inputs: Vec<Char>, out: &mut Room<NoteEvent>)
+    requires { Fits out.old (3 * (length inputs.items + 1)) }
+    ensures { out.new ≡ extended_by out.old (concat_of (note_events split macros inputs.items)) }
 {
     let mut stage = NoteStage::new(split, macros);
     drive(&mut stage, inputs, out);
@@ -73,49 +73,49 @@ pub fn a_comment_begins_with_a_percent()
         Decides (is_comment (record { back = back; here = x })) (InComment (x ∷ back)) }
 {}
 
-/// The characters that are told as kept are the kept text of the characters before the end of the snippet.
-pub fn the_kept_text_is_told()
+/// The characters that are emitted as kept are the kept text of the characters before the end of the snippet.
+pub fn the_kept_text_is_emitted()
     ensures { (split : Bool) (macros : ℕ) (xs : List Char) →
-        kept_of (joined (says split macros xs)) ≡ kept (stop_after split [] xs).back }
+        kept_of (concat_of (note_events split macros xs)) ≡ kept (stop_after split [] xs).back }
 {}
 
-/// One end is told, with the bytes of the kept text: at most those of the characters that are told as kept.
-pub fn one_end_is_told()
+/// One end is emitted, with the bytes of the kept text: at most those of the characters that are emitted as kept.
+pub fn one_end_is_emitted()
     ensures end { (split : Bool) (macros : ℕ) (xs : List Char) → (let s = stop_after split [] xs in
-        ends_of (joined (says split macros xs))
+        ends_of (concat_of (note_events split macros xs))
         ≡ (end_by s.mark s.back, bytes_of (kept_by s.mark s.back)) ∷ []) }
     ensures bytes { (split : Bool) (macros : ℕ) (xs : List Char) → (let s = stop_after split [] xs in
         bytes_of (kept_by s.mark s.back)
-        ≤ sum_by len_utf8 (kept_of (joined (says split macros xs)))) }
+        ≤ sum_by len_utf8 (kept_of (concat_of (note_events split macros xs)))) }
 {}
 
-/// What is told of characters does not depend on those that follow them, and behind the end nothing is told.
-pub fn what_follows_tells_nothing()
+/// What is emitted of characters does not depend on those that follow them, and behind the end nothing is emitted.
+pub fn what_follows_emits_nothing()
     ensures end { (split : Bool) (macros : ℕ) (p : Point) → is_over split p.back ≡ true →
-        said split macros p ≡ [] }
-    ensures front { (split : Bool) (macros : ℕ) (xs ys zs : List Char) →
-        take (length xs) (says split macros (xs ++ ys))
-        ≡ take (length xs) (says split macros (xs ++ zs)) }
+        events_at split macros p ≡ [] }
+    ensures prefix { (split : Bool) (macros : ℕ) (xs ys zs : List Char) →
+        take (length xs) (note_events split macros (xs ++ ys))
+        ≡ take (length xs) (note_events split macros (xs ++ zs)) }
 {}
 
 /// Of a text, each finding stands strictly before the next.
 pub fn findings_are_in_order()
     ensures { (at : Place) (split : Bool) (macros : ℕ) (t : List ℕ) →
-        AreInOrder (findings_of (joined (says split macros (placed_from at t)))) }
+        AreInOrder (findings_of (concat_of (note_events split macros (placed_characters_from at t)))) }
 {}
 
-/// What is told of a text through the character behind a front has its findings at the text's place or later, and no later
+/// What is emitted of a text through the character behind a prefix has its findings at the text's place or later, and no later
 /// than that character.
 pub fn findings_lie_within()
-    ensures { (at : Place) (split : Bool) (macros : ℕ) (front rest : List ℕ) →
-        let events = joined (take (length front + 1) (says split macros (placed_from at (front ++ rest)))) in
-        LieBetween at (place_past at front) (findings_of events) }
+    ensures { (at : Place) (split : Bool) (macros : ℕ) (prefix rest : List ℕ) →
+        let events = concat_of (take (length prefix + 1) (note_events split macros (placed_characters_from at (prefix ++ rest)))) in
+        LieBetween at (place_past at prefix) (findings_of events) }
 {}
 
-/// Of a character at most one end is told, behind all else: at a `)`, or where notes are split at a `|`. Of the end of the
-/// characters nothing is told but that they were cut.
+/// Of a character at most one end is emitted, behind all else: at a `)`, or where notes are split at a `|`. Of the end of the
+/// characters nothing is emitted but that they were cut.
 pub fn a_snippet_ends_at_its_mark()
     ensures mark { (split : Bool) (macros : ℕ) (p : Point) →
-        EndAtMost split p.here.c (said split macros p) }
-    ensures last { (split : Bool) (back : List Char) → AreCutAtMost (cut split back) }
+        EndAtMost split p.here.c (events_at split macros p) }
+    ensures last { (split : Bool) (back : List Char) → AreCutAtMost (cut_events split back) }
 {}

@@ -8,9 +8,9 @@
 //!   characters of that kept text with their places in the source.
 //! - `is_snippet` tells whether a text is a snippet. `items_whole`, `items_into` and `note_of` read a kept text that is one. Spans
 //!   count its bytes.
-//! - `NoteStage` reads the characters of a snippet one at a time: it tells those that are kept, the findings, and the end.
-//!   What is told is `says` of `specs/Said.antt`, which knows of no states: what is told of a character depends on it and on
-//!   the characters before it.
+//! - `NoteStage` reads the characters of a snippet one at a time: it emits those that are kept, the findings, and the end. What it
+//!   emits is `note_events` of `specs/Events.antt`, a definition without states: what is emitted of a character depends on it and
+//!   on the characters before it.
 //! - `laws` has what follows of the definitions.
 //!
 //! Texts and places come from `gabc_places`: lines and columns from 1, a column a character. A snippet of a score begins behind
@@ -20,7 +20,7 @@
 //! let body = "g1hv)";
 //! let read = snippet_whole(alloc, body, Place::START, false, 0)?;
 //! assert_eq!(rt; read.kept.as_str(), "ghv"); // the `1` is left out, with E1 at column 2
-//! assert_eq!(rt; read.how, SnippetHow::Close(4));
+//! assert_eq!(rt; read.how, SnippetEnding::Close(4));
 //! if is_snippet(&read.kept) {
 //!     let items = items_whole(alloc, &read.kept)?;
 //!     assert_eq!(rt; items.as_slice(), [first, second].as_slice()); // `g` and `hv`, from byte 1 to byte 3
@@ -35,9 +35,9 @@
 //!
 //! The rules are those of GregorioRef, chapter Notation, section Note Syntax.
 //!
-//! The machine of `state.rt` is proved to read the table (`proofs/Machine.antt`): each state stands for a text that ends in
+//! The machine of `state.rt` is proved to read the table (`proofs/machine/MachineReadsTable.antt`): each state stands for a text that ends in
 //! it, and what may follow that text in the table is compared with the machine's next state, for each character below 128.
-//! What the stage holds is proved to be what the definition says of the characters so far (`proofs/Says.antt`).
+//! What the stage holds is proved to be what the definition says of the characters so far (`proofs/machine/StageEmitsItsEvents.antt`).
 #![tactic(auto)]
 
 mod chars;
@@ -47,7 +47,7 @@ mod items;
 mod kept;
 pub mod laws;
 mod note;
-mod read;
+mod snippet_read;
 mod stage;
 mod state;
 mod whole;
@@ -57,6 +57,6 @@ pub use item::{Item, ItemKind, Items};
 pub use items::{items_into, items_whole};
 pub use kept::is_snippet;
 pub use note::{Note, Shape, note_of};
-pub use read::{SnippetHow, SnippetRead};
-pub use stage::{NoteEnd, NoteOut, NoteStage};
+pub use snippet_read::{SnippetEnding, SnippetRead};
+pub use stage::{NoteEnd, NoteEvent, NoteStage};
 pub use whole::snippet_whole;

@@ -1,7 +1,8 @@
 //! What a note is.
 
 ghost use Rattle.std.specs.Prelude.{◌≡◌, ◌≤◌, length, [], ◌∷◌, MatchOption, codes};
-ghost use Rattle.gabc_notes.specs.Notes.{is_digit, letters, shape_by, is_sign, digits_of, height_of, height_at, shape_at, is_debilis, from_pitch, run_of, note_in};
+ghost use Rattle.gabc_notes.specs.Notes.{is_digit, letters, shape_by, is_sign, digits_of, height_of, height_at, shape_at, is_debilis, from_pitch, note_in};
+ghost use Rattle.gabc_notes.specs.machine.Notes.{run_of};
 ghost use Rattle.gabc_patterns.specs.Pattern.{is_in};
 
 use crate::item::{Item, ItemKind};
@@ -83,7 +84,7 @@ fn next_letter(text: &[u8]) -> Option<(u8, &[u8])>
 }
 
 /// Returns how many letters in a row are `letter`, of at most three: those of `text`, and one before it.
-fn repeated(letter: u8, text: &[u8]) -> u8
+fn count_in_a_row(letter: u8, text: &[u8]) -> u8
     ensures { result ≡ run_of letter (letters text.now) }
 {
     match next_letter(text) {
@@ -103,12 +104,12 @@ fn shape_behind(text: &[u8]) -> Shape
         return Shape::Punctum;
     };
     match letter {
-        b'v' => match repeated(letter, rest) {
+        b'v' => match count_in_a_row(letter, rest) {
             3 => Shape::Trivirga,
             2 => Shape::Bivirga,
             _ => Shape::Virga,
         },
-        b's' => match repeated(letter, rest) {
+        b's' => match count_in_a_row(letter, rest) {
             3 => Shape::Tristropha,
             2 => Shape::Distropha,
             _ => Shape::Stropha,

@@ -2,14 +2,15 @@
 
 ghost use Rattle.std.specs.Prelude.{◌≡◌, List, []};
 ghost use Rattle.gabc_places.specs.declared.place.Char.{Char};
-ghost use Rattle.gabc_places.specs.Held.{HasRoom, added};
-ghost use Rattle.gabc_notes.specs.Machine.{raw_state, attribute_state, digit_named, looked, name_on, named_after, advanced, rest_of};
+ghost use Rattle.gabc_places.specs.BoundedList.{Fits, extended_by};
+ghost use Rattle.gabc_notes.specs.machine.ItemMachine.{raw_state, attribute_state, digit_of_prefix, facts_by_states, prefix_with, prefix_after, stage_after};
+ghost use Rattle.gabc_notes.specs.ItemMachine.{events_left};
 ghost use Rattle.gabc_notes.specs.Ends.{is_ended};
-ghost use Rattle.gabc_notes.specs.Told.{role_in, warning_in, before_in, given_in, outputs};
-ghost use Rattle.gabc_notes.specs.Said.{is_defined, ended_by, says};
+ghost use Rattle.gabc_notes.specs.StageEvents.{role_in, warning_in, before_in, events_in, event_list};
+ghost use Rattle.gabc_notes.specs.Events.{is_defined, end_by_mark, note_events};
 
 use crate::class::class_of;
-use crate::state::{Full, State, is_whole, next_state};
+use crate::state::{FullItem, ItemState, is_whole, next_state};
 use gabc_places::{Char, Code, Finding, Place, Room, Stage};
 
 /// How a snippet ends. A place is that of the bracket that is open; line 0 and column 0 where none is.
@@ -25,7 +26,7 @@ pub enum NoteEnd {
 
 /// What a stage tells of a snippet: an event.
 #[derive(Clone, Copy, Debug, PartialEq, Eq)]
-pub enum NoteOut {
+pub enum NoteEvent {
     /// A character that is kept.
     Kept(Char),
     /// What was found, with its place.
@@ -37,7 +38,7 @@ pub enum NoteOut {
 
 /// What is known of a character where it stands.
 #[derive(Clone, Copy)]
-pub(crate) struct Seen {
+pub(crate) struct CharFacts {
     /// The kept text lies inside raw.
     pub(crate) raw: bool,
     /// The kept text is a snippet.
@@ -60,14 +61,14 @@ pub(crate) struct Before {
     pub(crate) fused: bool,
     /// Whether a comment is open.
     pub(crate) comment: bool,
-    /// The bytes of the kept text, and of its longest front that is a snippet.
+    /// The bytes of the kept text, and of its longest prefix that is a snippet.
     pub(crate) kept: usize,
     pub(crate) whole: usize,
 }
 
 /// What becomes of a character.
 #[derive(Clone, Copy)]
-pub(crate) enum Role {
+pub(crate) enum CharRole {
     /// It is part of a comment.
     Silent,
     /// It begins a comment.
@@ -80,7 +81,7 @@ pub(crate) enum Role {
 
 /// What an open bracket holds so far, as far as a macro's name is concerned.
 #[derive(Clone, Copy)]
-pub(crate) enum Name {
+pub(crate) enum MacroPrefix {
     /// No bracket is open.
     Closed,
     Opened,
@@ -93,77 +94,77 @@ pub(crate) enum Name {
     Other,
 }
 
-/// The outputs of one call.
+/// The events of one call.
 #[derive(Clone, Copy)]
-pub(crate) struct Given {
-    pub(crate) first: Option<NoteOut>,
-    pub(crate) second: Option<NoteOut>,
-    pub(crate) third: Option<NoteOut>,
+pub(crate) struct CharEvents {
+    pub(crate) first: Option<NoteEvent>,
+    pub(crate) second: Option<NoteEvent>,
+    pub(crate) third: Option<NoteEvent>,
 }
 
 /// Returns whether the kept text lies inside raw.
-fn is_raw(state: State) -> bool
+fn is_raw(state: ItemState) -> bool
     ensures { result ≡ raw_state state }
 {
     match state {
-        State::Raw | State::SlashRaw => true,
+        ItemState::Raw | ItemState::SlashRaw => true,
         _ => false,
     }
 }
 
 /// Returns whether the kept text ends with an attribute.
-fn is_attribute(state: State) -> bool
+fn is_attribute(state: ItemState) -> bool
     ensures { result ≡ attribute_state state }
 {
     match state {
-        State::Done(Full::Attribute) => true,
+        ItemState::Done(FullItem::Attribute) => true,
         _ => false,
     }
 }
 
 /// Returns the digit of the macro that the open bracket names, if it names one.
-fn name_digit(name: Name) -> Option<u8>
-    ensures { result ≡ digit_named name }
+fn digit_of_prefix(name: MacroPrefix) -> Option<u8>
+    ensures { result ≡ digit_of_prefix name }
 {
     match name {
-        Name::Last(c) if '0' <= c && c <= '9' => Some(c as u8 - b'0'),
+        MacroPrefix::Last(c) if '0' <= c && c <= '9' => Some(c as u8 - b'0'),
         _ => None,
     }
 }
 
 /// Returns what is known of a character, by the state before it and the next one, if there is one.
-fn look(state: State, next: Option<State>, name: Name) -> Seen
-    ensures { result ≡ looked state next name }
+fn look(state: ItemState, next: Option<ItemState>, name: MacroPrefix) -> CharFacts
+    ensures { result ≡ facts_by_states state next name }
 {
     let (viable, raw_after, whole_after, attribute) = match next {
         Some(next) => (true, is_raw(next), is_whole(next), is_attribute(next)),
         None => (false, false, false, false),
     };
-    Seen {
+    CharFacts {
         raw: is_raw(state),
         whole: is_whole(state),
         viable,
         raw_after,
         whole_after,
         attribute,
-        digit: name_digit(name),
+        digit: digit_of_prefix(name),
     }
 }
 
 /// Returns what becomes of a character.
-fn role_of(split: bool, comment: bool, seen: Seen, c: char) -> Role
-    ensures { result ≡ role_in split comment seen c }
+fn role_of(split: bool, comment: bool, facts: CharFacts, c: char) -> CharRole
+    ensures { result ≡ role_in split comment facts c }
 {
     if comment && c != '\n' {
-        Role::Silent
-    } else if !seen.raw && (c == ')' || (split && c == '|')) {
-        Role::Ends
-    } else if !seen.raw && c == '%' {
-        Role::Comment
-    } else if seen.viable {
-        Role::Keep
+        CharRole::Silent
+    } else if !facts.raw && (c == ')' || (split && c == '|')) {
+        CharRole::Ends
+    } else if !facts.raw && c == '%' {
+        CharRole::Comment
+    } else if facts.viable {
+        CharRole::Keep
     } else {
-        Role::LeaveOut
+        CharRole::LeaveOut
     }
 }
 
@@ -175,21 +176,21 @@ fn defines(macros: u16, digit: u8) -> bool
 }
 
 /// Returns the warning of a character that is kept.
-fn warning(macros: u16, before: Before, seen: Seen, x: Char) -> Option<NoteOut>
-    ensures { result ≡ warning_in macros before seen x }
+fn warning(macros: u16, before: Before, facts: CharFacts, x: Char) -> Option<NoteEvent>
+    ensures { result ≡ warning_in macros before facts x }
 {
-    if seen.raw {
-        match seen.digit {
-            Some(digit) if seen.attribute && !defines(macros, digit) => {
-                Some(NoteOut::Found(Finding {
+    if facts.raw {
+        match facts.digit {
+            Some(digit) if facts.attribute && !defines(macros, digit) => {
+                Some(NoteEvent::Found(Finding {
                     place: before.place,
                     code: Code::W8,
                 }))
             }
             _ => None,
         }
-    } else if (x.c == '[' && !seen.raw_after && before.fused) || (x.c == ']' && !before.fused) {
-        Some(NoteOut::Found(Finding {
+    } else if (x.c == '[' && !facts.raw_after && before.fused) || (x.c == ']' && !before.fused) {
+        Some(NoteEvent::Found(Finding {
             place: x.place,
             code: Code::W10,
         }))
@@ -199,30 +200,34 @@ fn warning(macros: u16, before: Before, seen: Seen, x: Char) -> Option<NoteOut>
 }
 
 /// Returns what stands before the next character.
-fn after(role: Role, before: Before, seen: Seen, x: Char) -> Before
-    ensures { result ≡ before_in role before seen x }
+fn before_after(role: CharRole, before: Before, facts: CharFacts, x: Char) -> Before
+    ensures { result ≡ before_in role before facts x }
 {
     match role {
-        Role::Comment => Before {
+        CharRole::Comment => Before {
             comment: true,
             ..before
         },
-        Role::LeaveOut => Before {
+        CharRole::LeaveOut => Before {
             comment: false,
             ..before
         },
-        Role::Keep => {
+        CharRole::Keep => {
             let kept = before.kept.saturating_add(x.c.len_utf8());
             Before {
-                place: if seen.raw { before.place } else { x.place },
-                fused: if seen.raw || seen.raw_after {
+                place: if facts.raw { before.place } else { x.place },
+                fused: if facts.raw || facts.raw_after {
                     before.fused
                 } else {
                     x.c == '[' || (before.fused && x.c != ']')
                 },
                 comment: false,
                 kept,
-                whole: if seen.whole_after { kept } else { before.whole },
+                whole: if facts.whole_after {
+                    kept
+                } else {
+                    before.whole
+                },
             }
         }
         _ => before,
@@ -231,7 +236,7 @@ fn after(role: Role, before: Before, seen: Seen, x: Char) -> Before
 
 /// Returns how a character ends the snippet.
 fn end_of(c: char) -> NoteEnd
-    ensures { result ≡ ended_by c }
+    ensures { result ≡ end_by_mark c }
 {
     if c == '|' {
         NoteEnd::Next
@@ -241,35 +246,35 @@ fn end_of(c: char) -> NoteEnd
 }
 
 /// Returns what a character gives.
-fn given_by(role: Role, macros: u16, before: Before, seen: Seen, x: Char) -> Given
-    ensures { result ≡ given_in role macros before seen x }
+fn events_by(role: CharRole, macros: u16, before: Before, facts: CharFacts, x: Char) -> CharEvents
+    ensures { result ≡ events_in role macros before facts x }
 {
     let found = |code| {
-        Some(NoteOut::Found(Finding {
+        Some(NoteEvent::Found(Finding {
             place: x.place,
             code,
         }))
     };
     match role {
-        Role::Keep => Given {
-            first: Some(NoteOut::Kept(x)),
-            second: warning(macros, before, seen, x),
+        CharRole::Keep => CharEvents {
+            first: Some(NoteEvent::Kept(x)),
+            second: warning(macros, before, facts, x),
             third: None,
         },
-        Role::LeaveOut => Given {
+        CharRole::LeaveOut => CharEvents {
             first: found(Code::E1),
             second: None,
             third: None,
         },
-        Role::Ends => Given {
-            first: if seen.whole { None } else { found(Code::E6) },
+        CharRole::Ends => CharEvents {
+            first: if facts.whole { None } else { found(Code::E6) },
             second: if before.fused { found(Code::W10) } else { None },
-            third: Some(NoteOut::Ended {
+            third: Some(NoteEvent::Ended {
                 how: end_of(x.c),
                 kept: before.whole,
             }),
         },
-        _ => Given {
+        _ => CharEvents {
             first: None,
             second: None,
             third: None,
@@ -277,43 +282,43 @@ fn given_by(role: Role, macros: u16, before: Before, seen: Seen, x: Char) -> Giv
     }
 }
 
-/// Adds what is given.
-fn send(given: Given, out: &mut Room<NoteOut>)
-    requires { HasRoom out.old 3 }
-    ensures { out.new ≡ added out.old (outputs given) }
+/// Adds what is emitted.
+fn send(events: CharEvents, out: &mut Room<NoteEvent>)
+    requires { Fits out.old 3 }
+    ensures { out.new ≡ extended_by out.old (event_list events) }
 {
-    if let Some(output) = given.first {
+    if let Some(output) = events.first {
         out.push(output);
     }
-    if let Some(output) = given.second {
+    if let Some(output) = events.second {
         out.push(output);
     }
-    if let Some(output) = given.third {
+    if let Some(output) = events.third {
         out.push(output);
     }
 }
 
 /// Returns what the bracket holds with a character more.
-fn name_with(name: Name, c: char) -> Name
-    ensures { result ≡ name_on name c }
+fn prefix_with(name: MacroPrefix, c: char) -> MacroPrefix
+    ensures { result ≡ prefix_with name c }
 {
     match name {
-        Name::Closed if c == '[' => Name::Opened,
-        Name::Opened if c == 'n' || c == 'g' || c == 'e' => Name::Letter,
-        Name::Letter if c == 'm' => Name::Named,
-        Name::Named => Name::Last(c),
-        _ => Name::Other,
+        MacroPrefix::Closed if c == '[' => MacroPrefix::Opened,
+        MacroPrefix::Opened if c == 'n' || c == 'g' || c == 'e' => MacroPrefix::Letter,
+        MacroPrefix::Letter if c == 'm' => MacroPrefix::Named,
+        MacroPrefix::Named => MacroPrefix::Last(c),
+        _ => MacroPrefix::Other,
     }
 }
 
 /// Returns what the open bracket holds behind a character that is kept, if one is open there.
-fn name_after(seen: Seen, name: Name, c: char) -> Name
-    ensures { result ≡ named_after seen name c }
+fn prefix_after(facts: CharFacts, name: MacroPrefix, c: char) -> MacroPrefix
+    ensures { result ≡ prefix_after facts name c }
 {
-    if seen.raw_after {
-        name_with(name, c)
+    if facts.raw_after {
+        prefix_with(name, c)
     } else {
-        Name::Closed
+        MacroPrefix::Closed
     }
 }
 
@@ -322,8 +327,8 @@ fn name_after(seen: Seen, name: Name, c: char) -> Name
 pub struct NoteStage {
     split: bool,
     macros: u16,
-    state: State,
-    name: Name,
+    state: ItemState,
+    name: MacroPrefix,
     before: Before,
     ended: bool,
 }
@@ -332,13 +337,13 @@ impl NoteStage {
     /// Returns a stage before the first character of a snippet. With `split` a `|` ends the snippet too. The bit `d` of `macros`,
     /// from 0 to 9, tells that the macro of the digit `d` is defined.
     pub fn new(split: bool, macros: u16) -> NoteStage
-        ensures { (xs : List Char) → rest_of result xs ≡ says split macros xs }
+        ensures { (xs : List Char) → events_left result xs ≡ note_events split macros xs }
     {
         NoteStage {
             split,
             macros,
-            state: State::Start,
-            name: Name::Closed,
+            state: ItemState::Start,
+            name: MacroPrefix::Closed,
             before: Before {
                 place: Place { line: 0, column: 0 },
                 fused: false,
@@ -351,16 +356,16 @@ impl NoteStage {
     }
 
     /// Takes a character with this role.
-    fn advance(&mut self, role: Role, seen: Seen, next: Option<State>, x: Char)
-        ensures { self.new ≡ advanced self.old role seen next x }
+    fn advance(&mut self, role: CharRole, facts: CharFacts, next: Option<ItemState>, x: Char)
+        ensures { self.new ≡ stage_after self.old role facts next x }
     {
-        if let Role::Ends = role {
+        if let CharRole::Ends = role {
             self.ended = true;
             return;
         }
-        self.before = after(role, self.before, seen, x);
-        if let (Role::Keep, Some(next)) = (role, next) {
-            self.name = name_after(seen, self.name, x.c);
+        self.before = before_after(role, self.before, facts, x);
+        if let (CharRole::Keep, Some(next)) = (role, next) {
+            self.name = prefix_after(facts, self.name, x.c);
             self.state = next;
         }
     }
@@ -369,9 +374,9 @@ impl NoteStage {
 impl Stage for NoteStage {
     type Input = Char;
 
-    type Output = NoteOut;
+    type Output = NoteEvent;
 
-    ghost rest = { rest_of };
+    ghost rest = { events_left };
 
     ghost most_of = { λ _. 3 };
 
@@ -381,18 +386,18 @@ impl Stage for NoteStage {
         3
     }
 
-    fn push(&mut self, x: Char, out: &mut Room<NoteOut>) {
+    fn push(&mut self, x: Char, out: &mut Room<NoteEvent>) {
         if self.ended {
             return;
         }
         let next = next_state(self.state, class_of(x.c));
-        let seen = look(self.state, next, self.name);
-        let role = role_of(self.split, self.before.comment, seen, x.c);
-        send(given_by(role, self.macros, self.before, seen, x), out);
-        self.advance(role, seen, next, x);
+        let facts = look(self.state, next, self.name);
+        let role = role_of(self.split, self.before.comment, facts, x.c);
+        send(events_by(role, self.macros, self.before, facts, x), out);
+        self.advance(role, facts, next, x);
     }
 
-    fn finish(&mut self, out: &mut Room<NoteOut>) {
+    fn finish(&mut self, out: &mut Room<NoteEvent>) {
         if self.ended {
             return;
         }
@@ -401,7 +406,7 @@ impl Stage for NoteStage {
         } else {
             Place { line: 0, column: 0 }
         };
-        out.push(NoteOut::Ended {
+        out.push(NoteEvent::Ended {
             how: NoteEnd::Cut(place),
             kept: self.before.kept,
         });

@@ -1,14 +1,14 @@
 //! A machine that reads items a character at a time.
 
 ghost use Rattle.std.specs.Prelude.{◌≡◌};
-ghost use Rattle.gabc_notes.specs.Machine.{begun, in_pitch, in_bar, in_break, going_on, falling_back, again, following, ending, kind_of_full, whole_at};
+ghost use Rattle.gabc_notes.specs.machine.ItemMachine.{begun_item, in_pitch, in_bar, in_break, going_on, falling_back, next_or_begun, next_state, kind_at_end, kind_of_full, whole_at};
 
-use crate::class::Class;
+use crate::class::CharClass;
 use crate::item::ItemKind;
 
 /// An item that nothing can follow.
 #[derive(Clone, Copy)]
-pub(crate) enum Full {
+pub(crate) enum FullItem {
     Alteration,
     Clef,
     Spacing,
@@ -20,7 +20,7 @@ pub(crate) enum Full {
 
 /// Where an item stands after some of its characters.
 #[derive(Clone, Copy)]
-pub(crate) enum State {
+pub(crate) enum ItemState {
     /// Between items.
     Start,
     /// Behind the `-` of a note.
@@ -62,121 +62,133 @@ pub(crate) enum State {
     /// In a spacing `/[..]`.
     SlashRaw,
     At,
-    Done(Full),
+    Done(FullItem),
 }
 
 /// Returns where an item stands behind its first character, if that may begin one.
-fn begins(class: Class) -> Option<State>
-    ensures { result ≡ begun class }
+fn begins(class: CharClass) -> Option<ItemState>
+    ensures { result ≡ begun_item class }
 {
     match class {
-        Class::Hyphen => Some(State::Dash),
-        Class::ClefLetter => Some(State::ClefPitch),
-        Class::FlatB | Class::Pitch => Some(State::Pitch),
-        Class::Capital => Some(State::Body),
-        Class::BarMark => Some(State::Bar),
-        Class::Colon => Some(State::Colon),
-        Class::Slash => Some(State::Slash),
-        Class::Bang => Some(State::Done(Full::Spacing)),
-        Class::Blank => Some(State::Blanks),
-        Class::SmallZ => Some(State::SmallZ),
-        Class::CapitalZ => Some(State::CapitalZ),
-        Class::Open => Some(State::Raw),
-        Class::At => Some(State::At),
-        Class::Close => Some(State::Done(Full::Fusion)),
+        CharClass::Hyphen => Some(ItemState::Dash),
+        CharClass::ClefLetter => Some(ItemState::ClefPitch),
+        CharClass::FlatB | CharClass::Pitch => Some(ItemState::Pitch),
+        CharClass::Capital => Some(ItemState::Body),
+        CharClass::BarMark => Some(ItemState::Bar),
+        CharClass::Colon => Some(ItemState::Colon),
+        CharClass::Slash => Some(ItemState::Slash),
+        CharClass::Bang => Some(ItemState::Done(FullItem::Spacing)),
+        CharClass::Blank => Some(ItemState::Blanks),
+        CharClass::SmallZ => Some(ItemState::SmallZ),
+        CharClass::CapitalZ => Some(ItemState::CapitalZ),
+        CharClass::Open => Some(ItemState::Raw),
+        CharClass::At => Some(ItemState::At),
+        CharClass::Close => Some(ItemState::Done(FullItem::Fusion)),
         _ => None,
     }
 }
 
 /// Returns where an item stands that goes on behind a small pitch.
-fn on_pitch(class: Class) -> Option<State>
+fn on_pitch(class: CharClass) -> Option<ItemState>
     ensures { result ≡ in_pitch class }
 {
     match class {
-        Class::Sign | Class::Suffix => Some(State::Body),
-        Class::Alter => Some(State::Altered),
-        Class::Hash => Some(State::Sharp),
-        Class::Plus => Some(State::Done(Full::Custos)),
+        CharClass::Sign | CharClass::Suffix => Some(ItemState::Body),
+        CharClass::Alter => Some(ItemState::Altered),
+        CharClass::Hash => Some(ItemState::Sharp),
+        CharClass::Plus => Some(ItemState::Done(FullItem::Custos)),
         _ => None,
     }
 }
 
 /// Returns where a bar stands with a character more, if it goes on.
-fn on_bar(class: Class) -> Option<State>
+fn on_bar(class: CharClass) -> Option<ItemState>
     ensures { result ≡ in_bar class }
 {
     match class {
-        Class::Zero | Class::ClefDigit | Class::Digit => Some(State::Bar),
-        Class::Question => Some(State::BarAsked),
-        Class::Sign => Some(State::BarSigned),
+        CharClass::Zero | CharClass::ClefDigit | CharClass::Digit => Some(ItemState::Bar),
+        CharClass::Question => Some(ItemState::BarAsked),
+        CharClass::Sign => Some(ItemState::BarSigned),
         _ => None,
     }
 }
 
 /// Returns where a break stands with a character more, if it goes on.
-fn on_break(class: Class) -> Option<State>
+fn on_break(class: CharClass) -> Option<ItemState>
     ensures { result ≡ in_break class }
 {
     match class {
-        Class::Plus | Class::Hyphen => Some(State::Done(Full::Break)),
+        CharClass::Plus | CharClass::Hyphen => Some(ItemState::Done(FullItem::Break)),
         _ => None,
     }
 }
 
 /// Returns where the item stands with a character more, if it goes on.
-pub(crate) fn goes_on(state: State, class: Class) -> Option<State>
+pub(crate) fn goes_on(state: ItemState, class: CharClass) -> Option<ItemState>
     ensures { result ≡ going_on state class }
 {
     match (state, class) {
-        (State::Start, _) => begins(class),
-        (State::Dash, Class::FlatB | Class::ClefLetter | Class::Pitch) => Some(State::DashPitch),
-        (State::Dash, Class::Capital) => Some(State::Body),
-        (State::DashPitch | State::Body, Class::Sign | Class::Suffix) => Some(State::Body),
-        (State::Body, Class::Zero | Class::ClefDigit | Class::Digit) => Some(State::Body),
-        (State::ClefPitch, Class::FlatB) => Some(State::ClefFlat),
-        (State::ClefPitch | State::ClefFlat, Class::ClefDigit) => Some(State::Clef),
-        (State::Pitch | State::ClefPitch, _) => on_pitch(class),
-        (State::Clef, Class::At) => Some(State::Join),
-        (State::Join, Class::ClefLetter) => Some(State::JoinPitch),
-        (State::JoinPitch, Class::FlatB) => Some(State::JoinFlat),
-        (State::JoinPitch | State::JoinFlat, Class::ClefDigit) => Some(State::Done(Full::Clef)),
-        (State::Altered | State::Sharp, Class::Question) => Some(State::Done(Full::Alteration)),
-        (State::Sharp, Class::Hash) => Some(State::Altered),
-        (State::Colon, Class::Colon) => Some(State::Bar),
-        (State::Bar | State::Colon, _) => on_bar(class),
-        (State::BarAsked | State::BarSigned, Class::Sign) => Some(State::BarSigned),
-        (State::BarSigned, Class::Zero | Class::ClefDigit | Class::Digit) => Some(State::BarSigned),
-        (State::Slash, Class::Slash | Class::Zero | Class::Bang) => Some(State::Done(
-            Full::Spacing,
+        (ItemState::Start, _) => begins(class),
+        (ItemState::Dash, CharClass::FlatB | CharClass::ClefLetter | CharClass::Pitch) => Some(
+            ItemState::DashPitch,
+        ),
+        (ItemState::Dash, CharClass::Capital) => Some(ItemState::Body),
+        (ItemState::DashPitch | ItemState::Body, CharClass::Sign | CharClass::Suffix) => Some(
+            ItemState::Body,
+        ),
+        (ItemState::Body, CharClass::Zero | CharClass::ClefDigit | CharClass::Digit) => Some(
+            ItemState::Body,
+        ),
+        (ItemState::ClefPitch, CharClass::FlatB) => Some(ItemState::ClefFlat),
+        (ItemState::ClefPitch | ItemState::ClefFlat, CharClass::ClefDigit) => Some(ItemState::Clef),
+        (ItemState::Pitch | ItemState::ClefPitch, _) => on_pitch(class),
+        (ItemState::Clef, CharClass::At) => Some(ItemState::Join),
+        (ItemState::Join, CharClass::ClefLetter) => Some(ItemState::JoinPitch),
+        (ItemState::JoinPitch, CharClass::FlatB) => Some(ItemState::JoinFlat),
+        (ItemState::JoinPitch | ItemState::JoinFlat, CharClass::ClefDigit) => Some(ItemState::Done(
+            FullItem::Clef,
         )),
-        (State::Slash, Class::Open) => Some(State::SlashRaw),
-        (State::Blanks, Class::Blank) => Some(State::Blanks),
-        (State::SmallZ, Class::Zero) => Some(State::Done(Full::Custos)),
-        (State::SmallZ | State::CapitalZ, _) => on_break(class),
-        (State::Raw, Class::Close) => Some(State::Done(Full::Attribute)),
-        (State::Raw, _) => Some(State::Raw),
-        (State::SlashRaw, Class::Close) => Some(State::Done(Full::Spacing)),
-        (State::SlashRaw, _) => Some(State::SlashRaw),
-        (State::At, Class::Open) => Some(State::Done(Full::Fusion)),
+        (ItemState::Altered | ItemState::Sharp, CharClass::Question) => Some(ItemState::Done(
+            FullItem::Alteration,
+        )),
+        (ItemState::Sharp, CharClass::Hash) => Some(ItemState::Altered),
+        (ItemState::Colon, CharClass::Colon) => Some(ItemState::Bar),
+        (ItemState::Bar | ItemState::Colon, _) => on_bar(class),
+        (ItemState::BarAsked | ItemState::BarSigned, CharClass::Sign) => Some(ItemState::BarSigned),
+        (ItemState::BarSigned, CharClass::Zero | CharClass::ClefDigit | CharClass::Digit) => Some(
+            ItemState::BarSigned,
+        ),
+        (ItemState::Slash, CharClass::Slash | CharClass::Zero | CharClass::Bang) => Some(
+            ItemState::Done(FullItem::Spacing),
+        ),
+        (ItemState::Slash, CharClass::Open) => Some(ItemState::SlashRaw),
+        (ItemState::Blanks, CharClass::Blank) => Some(ItemState::Blanks),
+        (ItemState::SmallZ, CharClass::Zero) => Some(ItemState::Done(FullItem::Custos)),
+        (ItemState::SmallZ | ItemState::CapitalZ, _) => on_break(class),
+        (ItemState::Raw, CharClass::Close) => Some(ItemState::Done(FullItem::Attribute)),
+        (ItemState::Raw, _) => Some(ItemState::Raw),
+        (ItemState::SlashRaw, CharClass::Close) => Some(ItemState::Done(FullItem::Spacing)),
+        (ItemState::SlashRaw, _) => Some(ItemState::SlashRaw),
+        (ItemState::At, CharClass::Open) => Some(ItemState::Done(FullItem::Fusion)),
         _ => None,
     }
 }
 
 /// Returns where the reading stands if the item ended at its longest so far.
-fn falls_back(state: State) -> Option<State>
+fn falls_back(state: ItemState) -> Option<ItemState>
     ensures { result ≡ falling_back state }
 {
     match state {
-        State::Start | State::Dash | State::Raw | State::SlashRaw => None,
-        State::ClefFlat | State::JoinPitch | State::JoinFlat => Some(State::Pitch),
-        State::Join => Some(State::At),
-        _ => Some(State::Start),
+        ItemState::Start | ItemState::Dash | ItemState::Raw | ItemState::SlashRaw => None,
+        ItemState::ClefFlat | ItemState::JoinPitch | ItemState::JoinFlat => Some(ItemState::Pitch),
+        ItemState::Join => Some(ItemState::At),
+        _ => Some(ItemState::Start),
     }
 }
 
 /// Returns where the reading stands with a character more: the item goes on, or a new one begins.
-fn goes_on_again(state: State, class: Class) -> Option<State>
-    ensures { result ≡ again state class }
+fn goes_on_again(state: ItemState, class: CharClass) -> Option<ItemState>
+    ensures { result ≡ next_or_begun state class }
 {
     match goes_on(state, class) {
         Some(next) => Some(next),
@@ -186,8 +198,8 @@ fn goes_on_again(state: State, class: Class) -> Option<State>
 
 /// Returns where the reading stands with a character more: the item goes on, or it ended at its longest and the reading goes on
 /// from there.
-pub(crate) fn next_state(state: State, class: Class) -> Option<State>
-    ensures { result ≡ following state class }
+pub(crate) fn next_state(state: ItemState, class: CharClass) -> Option<ItemState>
+    ensures { result ≡ next_state state class }
 {
     match goes_on(state, class) {
         Some(next) => Some(next),
@@ -199,43 +211,47 @@ pub(crate) fn next_state(state: State, class: Class) -> Option<State>
 }
 
 /// Returns the kind of an item that nothing can follow.
-fn full_kind(full: Full) -> ItemKind
+fn full_kind(full: FullItem) -> ItemKind
     ensures { result ≡ kind_of_full full }
 {
     match full {
-        Full::Alteration => ItemKind::Alteration,
-        Full::Clef => ItemKind::Clef,
-        Full::Spacing => ItemKind::Spacing,
-        Full::Custos => ItemKind::Custos,
-        Full::Break => ItemKind::Break,
-        Full::Attribute => ItemKind::Attribute,
-        Full::Fusion => ItemKind::Fusion,
+        FullItem::Alteration => ItemKind::Alteration,
+        FullItem::Clef => ItemKind::Clef,
+        FullItem::Spacing => ItemKind::Spacing,
+        FullItem::Custos => ItemKind::Custos,
+        FullItem::Break => ItemKind::Break,
+        FullItem::Attribute => ItemKind::Attribute,
+        FullItem::Fusion => ItemKind::Fusion,
     }
 }
 
 /// Returns the kind of the item, if it may end here.
-pub(crate) fn ends(state: State) -> Option<ItemKind>
-    ensures { result ≡ ending state }
+pub(crate) fn ends(state: ItemState) -> Option<ItemKind>
+    ensures { result ≡ kind_at_end state }
 {
     match state {
-        State::Done(full) => Some(full_kind(full)),
-        State::DashPitch | State::Body | State::Pitch | State::ClefPitch => Some(ItemKind::Note),
-        State::Clef => Some(ItemKind::Clef),
-        State::Altered | State::Sharp => Some(ItemKind::Alteration),
-        State::Bar | State::Colon | State::BarAsked | State::BarSigned => Some(ItemKind::Bar),
-        State::Slash | State::Blanks => Some(ItemKind::Spacing),
-        State::SmallZ | State::CapitalZ => Some(ItemKind::Break),
-        State::At => Some(ItemKind::Fusion),
+        ItemState::Done(full) => Some(full_kind(full)),
+        ItemState::DashPitch | ItemState::Body | ItemState::Pitch | ItemState::ClefPitch => Some(
+            ItemKind::Note,
+        ),
+        ItemState::Clef => Some(ItemKind::Clef),
+        ItemState::Altered | ItemState::Sharp => Some(ItemKind::Alteration),
+        ItemState::Bar | ItemState::Colon | ItemState::BarAsked | ItemState::BarSigned => Some(
+            ItemKind::Bar,
+        ),
+        ItemState::Slash | ItemState::Blanks => Some(ItemKind::Spacing),
+        ItemState::SmallZ | ItemState::CapitalZ => Some(ItemKind::Break),
+        ItemState::At => Some(ItemKind::Fusion),
         _ => None,
     }
 }
 
 /// Returns whether what was read is a snippet.
-pub(crate) fn is_whole(state: State) -> bool
+pub(crate) fn is_whole(state: ItemState) -> bool
     ensures { result ≡ whole_at state }
 {
     match state {
-        State::Dash | State::Raw | State::SlashRaw => false,
+        ItemState::Dash | ItemState::Raw | ItemState::SlashRaw => false,
         _ => true,
     }
 }

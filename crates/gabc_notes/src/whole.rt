@@ -3,29 +3,29 @@
 ghost use Rattle.std.specs.Prelude.{◌≡◌, ◌+◌, ◌^◌, ◌<◌, [], length, take, IfOk, OnOk, string_bytes};
 ghost use Rattle.std.specs.Str.{chars};
 ghost use Rattle.std.specs.String.Boundary.{IsSplitPoint};
-ghost use Rattle.gabc_notes.specs.Heard.{heard_of, with_out, heard_after, nothing_heard, how_of_end, Fed, Closed};
-ghost use Rattle.gabc_notes.specs.Read.{IsRead};
+ghost use Rattle.gabc_notes.specs.machine.BuiltSnippet.{built_snippet_of, with_event, with_events, no_snippet, ending_of, PushIsAdded, EndIsAdded};
+ghost use Rattle.gabc_notes.specs.SnippetRead.{IsSnippetRead};
 
-use crate::read::{SnippetHow, SnippetRead};
-use crate::stage::{NoteEnd, NoteOut, NoteStage};
+use crate::snippet_read::{SnippetEnding, SnippetRead};
+use crate::stage::{NoteEnd, NoteEvent, NoteStage};
 use gabc_places::{Char, Findings, Place, Room, Stage};
 use std::alloc::{AllocError, Global};
 
 /// What was read so far.
 #[derive(Drop)]
-struct Reading {
+struct SnippetBuilder {
     kept: String,
     findings: Findings,
     /// How the snippet ended, and the bytes of the kept text.
     end: Option<(NoteEnd, usize)>,
 }
 
-impl Reading {
+impl SnippetBuilder {
     /// Returns a reading of nothing.
-    fn new(alloc: Global) -> Reading
-        ensures { heard_of result ≡ nothing_heard }
+    fn new(alloc: Global) -> SnippetBuilder
+        ensures { built_snippet_of result ≡ no_snippet }
     {
-        Reading {
+        SnippetBuilder {
             kept: String::new(alloc),
             findings: Findings::new(alloc),
             end: None,
@@ -33,23 +33,25 @@ impl Reading {
     }
 
     /// Adds what the machine gave.
-    fn add(&mut self, out: NoteOut) -> Result<(), AllocError>
-        ensures { OnOk result (heard_of self.new ≡ with_out (heard_of self.old) out) }
+    fn add(&mut self, event: NoteEvent) -> Result<(), AllocError>
+        ensures { OnOk result (built_snippet_of self.new
+            ≡ with_event (built_snippet_of self.old) event) }
     {
-        match out {
-            NoteOut::Kept(x) => self.kept.push(x.c)?,
-            NoteOut::Found(finding) => self.findings.push(finding)?,
-            NoteOut::Ended { how, kept } => self.end = Some((how, kept)),
+        match event {
+            NoteEvent::Kept(x) => self.kept.push(x.c)?,
+            NoteEvent::Found(finding) => self.findings.push(finding)?,
+            NoteEvent::Ended { how, kept } => self.end = Some((how, kept)),
         }
         Ok(())
     }
 
     /// Adds all that the machine gave.
-    fn add_all(&mut self, outs: &[NoteOut]) -> Result<(), AllocError>
-        ensures { OnOk result (heard_of self.new ≡ heard_after (heard_of self.old) outs.now) }
+    fn add_all(&mut self, events: &[NoteEvent]) -> Result<(), AllocError>
+        ensures { OnOk result (built_snippet_of self.new
+            ≡ with_events (built_snippet_of self.old) events.now) }
     {
-        for out in outs {
-            self.add(*out)?;
+        for event in events {
+            self.add(*event)?;
         }
         Ok(())
     }
@@ -59,11 +61,11 @@ impl Reading {
         &mut self,
         stage: &mut NoteStage,
         x: Char,
-        room: &mut Room<NoteOut>,
+        room: &mut Room<NoteEvent>,
     ) -> Result<(), AllocError>
         requires { room.old ≡ record { items = []; limit = 3 } }
-        ensures fed { OnOk result (Fed stage.old stage.new x
-            (heard_of self.old) (heard_of self.new)) }
+        ensures fed { OnOk result (PushIsAdded stage.old stage.new x
+            (built_snippet_of self.old) (built_snippet_of self.new)) }
         ensures room { OnOk result (room.new ≡ record { items = []; limit = 3 }) }
     {
         stage.push(x, room);
@@ -73,22 +75,23 @@ impl Reading {
     }
 
     /// Ends the machine, and adds what it gives.
-    fn close(&mut self, stage: &mut NoteStage, room: &mut Room<NoteOut>) -> Result<(), AllocError>
+    fn close(&mut self, stage: &mut NoteStage, room: &mut Room<NoteEvent>) -> Result<(), AllocError>
         requires { room.old ≡ record { items = []; limit = 3 } }
-        ensures { OnOk result (Closed stage.old (heard_of self.old) (heard_of self.new)) }
+        ensures { OnOk result (EndIsAdded stage.old (built_snippet_of self.old)
+            (built_snippet_of self.new)) }
     {
         stage.finish(room);
         self.add_all(room.slice())
     }
 
     /// Returns what was read of a snippet that ends as `how` tells, with `bytes` bytes of the kept text.
-    fn ended(self, how: SnippetHow, bytes: usize) -> SnippetRead
+    fn into_read(self, how: SnippetEnding, bytes: usize) -> SnippetRead
         requires { IsSplitPoint (string_bytes self.kept) bytes }
         ensures kept { string_bytes result.kept ≡ take bytes (string_bytes self.kept) }
         ensures findings { result.findings ≡ self.findings }
         ensures how { result.how ≡ how }
     {
-        let Reading {
+        let SnippetBuilder {
             mut kept,
             findings,
             end: _,
@@ -103,13 +106,13 @@ impl Reading {
 }
 
 /// Returns how a snippet ends at the byte `index`, by what the machine told.
-fn how_of(end: NoteEnd, index: usize) -> SnippetHow
-    ensures { result ≡ how_of_end end index }
+fn ending_of(end: NoteEnd, index: usize) -> SnippetEnding
+    ensures { result ≡ ending_of end index }
 {
     match end {
-        NoteEnd::Next => SnippetHow::Next(index),
-        NoteEnd::Close => SnippetHow::Close(index),
-        NoteEnd::Cut(place) => SnippetHow::Cut(place),
+        NoteEnd::Next => SnippetEnding::Next(index),
+        NoteEnd::Close => SnippetEnding::Close(index),
+        NoteEnd::Cut(place) => SnippetEnding::Cut(place),
     }
 }
 
@@ -125,23 +128,23 @@ pub fn snippet_whole(
 ) -> Result<SnippetRead, AllocError>
     requires line { at.line + length body.now < 2 ^ 64 }
     requires column { at.column + length body.now < 2 ^ 64 }
-    ensures { IfOk result (λ read. IsRead at split macros (chars body.now) read) }
+    ensures { IfOk result (λ read. IsSnippetRead at split macros (chars body.now) read) }
 {
     let mut room = Room::with_limit(alloc, 3)?;
-    let mut reading = Reading::new(alloc);
+    let mut builder = SnippetBuilder::new(alloc);
     let mut stage = NoteStage::new(split, macros);
     let mut place = at;
     let mut index = 0;
     for c in body.chars() {
-        reading.feed(&mut stage, Char { c, place }, &mut room)?;
-        if let Some((end, bytes)) = reading.end {
-            return Ok(reading.ended(how_of(end, index), bytes));
+        builder.feed(&mut stage, Char { c, place }, &mut room)?;
+        if let Some((end, bytes)) = builder.end {
+            return Ok(builder.into_read(ending_of(end, index), bytes));
         }
         place = place.after(c);
         index += c.len_utf8();
     }
-    reading.close(&mut stage, &mut room)?;
+    builder.close(&mut stage, &mut room)?;
     // At the latest this call told an end, so the default is never taken.
-    let (end, bytes) = reading.end.unwrap_or((NoteEnd::Close, 0));
-    Ok(reading.ended(how_of(end, index), bytes))
+    let (end, bytes) = builder.end.unwrap_or((NoteEnd::Close, 0));
+    Ok(builder.into_read(ending_of(end, index), bytes))
 }

@@ -4,8 +4,8 @@ use Rattle.gabc_patterns.specs.Pattern.{Pattern, one_of, ◌·◌, ◌or◌, man
 use Rattle.gabc_patterns.specs.Reading.{Table, Reads}
 use Rattle.gabc_patterns.specs.Derivative.{is_snippet, is_viable}
 use Rattle.gabc_patterns.specs.Function.{items, keep, trim, kept_text}
-use Rattle.gabc_patterns.proofs.Munch.{snippet_from}
-use Rattle.gabc_patterns.proofs.Items.{items_are}
+use Rattle.gabc_patterns.proofs.LongestMunchByCharacter.{snippet_from}
+use Rattle.gabc_patterns.proofs.ItemsFunctionReads.{items_are}
 
 -- the kinds of the example
 pub data Kind : Type 0 where

@@ -2,14 +2,15 @@
 use Rattle.std.proofs.Common.{◌≡◌, ℕ, List, [], ◌∷◌, ◌++◌, refl, sym, ap, ◌∙◌, subst, append_assoc, append-nil, drop, length, map, slice_range, ◌≤◌, ◌<◌, ◌+◌, ◌-◌, arith, length-drop, take-append-drop, drop-drop}
 use Rattle.std.proofs.lemmas.List.{drop_all, map-append}
 use Rattle.gabc_patterns.specs.Reading.{ReadsBy}
-use Rattle.gabc_patterns.specs.Items.{IsTakenAt, Piece, ArePieces, FollowOn, seen_in}
+use Rattle.gabc_patterns.specs.Items.{IsTakenAt, ItemSpan, FollowOn}
+use Rattle.gabc_patterns.specs.machine.Items.{AreItemSpans, item_in}
 use Rattle.gabc_patterns.proofs.OneReading.{after_first}
 
 -- The items before at are those; what comes from there on has a reading.
-pub record ItemsSoFar {K X : Type 0} (Has : K → List X → Type 0) (t : List X) (items : List (Piece K)) (at : ℕ) : Type 0 where
+pub record ItemsSoFar {K X : Type 0} (Has : K → List X → Type 0) (t : List X) (items : List (ItemSpan K)) (at : ℕ) : Type 0 where
   pub fits : at ≤ length t
   pub rest : (later : List (K × List X)) × ReadsBy Has later (drop at t)
-  pub reads : (later : List (K × List X)) → ReadsBy Has later (drop at t) → ReadsBy Has (map (seen_in t) items ++ later) t
+  pub reads : (later : List (K × List X)) → ReadsBy Has later (drop at t) → ReadsBy Has (map (item_in t) items ++ later) t
   pub joined : FollowOn 0 items at
 
 module _ {K X : Type 0} (Has : K → List X → Type 0) where
@@ -17,7 +18,7 @@ module _ {K X : Type 0} (Has : K → List X → Type 0) where
   pub items_start : (t : List X) → (later : List (K × List X)) × ReadsBy Has later t → ItemsSoFar Has t [] 0
   items_start t s = record { fits = omega arith; rest = s; reads = λ later h. h; joined = refl }
 
-  follow_push : (from at : ℕ) (items : List (Piece K)) (i : Piece K) → FollowOn from items at → i.1 ≡ at → FollowOn from (items ++ i ∷ []) i.2
+  follow_push : (from at : ℕ) (items : List (ItemSpan K)) (i : ItemSpan K) → FollowOn from items at → i.1 ≡ at → FollowOn from (items ++ i ∷ []) i.2
   follow_push from at [] i h e = (e ∙ sym h, refl)
   follow_push from at (j ∷ items) i h e = (h.0, follow_push j.2 at items i h.1 e)
 
@@ -34,7 +35,7 @@ module _ {K X : Type 0} (Has : K → List X → Type 0) where
       sym (take-append-drop (to - at) (drop at t)) ∙ ap (λ (u : List X). slice_range t at to ++ u) (drop-drop (to - at) at t ∙ ap (λ (m : ℕ). drop m t) n)
 
   -- an item more
-  pub items_push : ((k : K) → ¬ Has k []) → (t : List X) (items : List (Piece K)) (at : ℕ) (k : K) (to : ℕ) → at < length t → IsTakenAt Has t at k to
+  pub items_push : ((k : K) → ¬ Has k []) → (t : List X) (items : List (ItemSpan K)) (at : ℕ) (k : K) (to : ℕ) → at < length t → IsTakenAt Has t at k to
       → ItemsSoFar Has t items at → ItemsSoFar Has t (items ++ (k, at, to) ∷ []) to
   items_push none t items at k to l h s =
       let c = rest_cons t at l in
@@ -44,17 +45,17 @@ module _ {K X : Type 0} (Has : K → List X → Type 0) where
         fits = h.within;
         rest = after_first Has none c.0 c.1 (slice_range t at to) (drop to t) rest.0 (subst (ReadsBy Has rest.0) c.2 rest.1) (sym c.2 ∙ cut) h.longest;
         reads = λ later r.
-            subst (λ u. ReadsBy Has u t) (sym (append_assoc (map (seen_in t) items) (seen_in t (k, at, to) ∷ []) later) ∙ ap (λ (u : List (K × List X)). u ++ later) (sym (map-append (seen_in t) items ((k, at, to) ∷ []))))
-            (s.reads (seen_in t (k, at, to) ∷ later) (drop to t, cut, h.item, h.longest, r));
+            subst (λ u. ReadsBy Has u t) (sym (append_assoc (map (item_in t) items) (item_in t (k, at, to) ∷ []) later) ∙ ap (λ (u : List (K × List X)). u ++ later) (sym (map-append (item_in t) items ((k, at, to) ∷ []))))
+            (s.reads (item_in t (k, at, to) ∷ later) (drop to t, cut, h.item, h.longest, r));
         joined = follow_push 0 at items (k, at, to) s.joined refl;
       }
 
   -- after the last item
-  pub items_end : (t : List X) (items : List (Piece K)) (at : ℕ) → length t ≤ at → ItemsSoFar Has t items at → ArePieces Has t items
+  pub items_end : (t : List X) (items : List (ItemSpan K)) (at : ℕ) → length t ≤ at → ItemsSoFar Has t items at → AreItemSpans Has t items
   items_end t items at l s =
       let fits = s.fits in
       let same : at ≡ length t = omega arith in
       record {
-        reads = subst (λ u. ReadsBy Has u t) (append-nil (map (seen_in t) items)) (s.reads [] (drop_all at t l));
+        reads = subst (λ u. ReadsBy Has u t) (append-nil (map (item_in t) items)) (s.reads [] (drop_all at t l));
         joined = subst (λ u. FollowOn 0 items u) same s.joined;
       }

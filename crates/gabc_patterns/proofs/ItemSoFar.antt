@@ -4,16 +4,16 @@ use Rattle.std.proofs.lemmas.List.{take_more, take-append-le}
 use native.Mathlib.Decide.{dec_lt}
 use Rattle.gabc_patterns.specs.Reading.{Table, Longest, IsItemOf, IsItem, OneKind, IsSnippet}
 use Rattle.gabc_patterns.specs.Derivative.{rows_after, rows_run, rows_end, end_kind}
-use Rattle.gabc_patterns.proofs.Munch.{first_item}
+use Rattle.gabc_patterns.proofs.LongestMunchByCharacter.{first_item}
 use Rattle.gabc_patterns.proofs.RowsRun.{rows_run-append, ends_once, one_end, item_at_end, no_item_at_end, no_item_past}
-use Rattle.gabc_patterns.proofs.Rows.{rows_to}
-use Rattle.gabc_patterns.proofs.Automaton.{Automaton, rows_of, rows_at, ReadsItems}
+use Rattle.gabc_patterns.proofs.RowsAfterACharacter.{rows_to}
+use Rattle.gabc_patterns.proofs.AutomatonsByTests.{Automaton, rows_of, rows_at, ReadsItems}
 
--- no front of more than e and at most n characters is an item
+-- no prefix of more than e and at most n characters is an item
 abbrev pub NoneUpTo : {K : Type 0} → Table K → List ℕ → ℕ → ℕ → Type 0
 NoneUpTo table text e n = (m : ℕ) → e < m → m ≤ n → ¬ IsItem table (take m text)
 
--- the longest item among the fronts of at most n characters: its kind and how many it has, or none
+-- the longest item among the prefixes of at most n characters: its kind and how many it has, or none
 abbrev pub IsBest : {K : Type 0} → Table K → List ℕ → ℕ → Option (K × ℕ) → Type 0
 IsBest table text n None = NoneUpTo table text 0 n
 IsBest table text n (Some i) = (0 < i.1) × (i.1 ≤ n) × IsItemOf table i.0 (take i.1 text) × NoneUpTo table text i.1 n
@@ -36,11 +36,11 @@ module _ {K : Type 0} (table : Table K) where
   stop_none : (text : List ℕ) (e n : ℕ) → n < length text → rows_run table (take (n + 1) text) ≡ [] → NoneUpTo table text e n → NoneUpTo table text e (length text)
   stop_none text e n l r h m x y = elim (dec_lt n m) [
     | no z ↦ h m x (omega arith)
-    | yes z ↦ (λ i. no_item_past table (take (n + 1) text) (drop (n + 1) (take m text)) r (subst (IsItem table) (sym (front m z)) i))
+    | yes z ↦ (λ i. no_item_past table (take (n + 1) text) (drop (n + 1) (take m text)) r (subst (IsItem table) (sym (prefix m z)) i))
   ]
     where
-      front : (m : ℕ) → n < m → take (n + 1) text ++ drop (n + 1) (take m text) ≡ take m text
-      front m z = ap (λ (u : List ℕ). u ++ drop (n + 1) (take m text)) (sym (take-take (n + 1) m text (omega arith))) ∙ take-append-drop (n + 1) (take m text)
+      prefix : (m : ℕ) → n < m → take (n + 1) text ++ drop (n + 1) (take m text) ≡ take m text
+      prefix m z = ap (λ (u : List ℕ). u ++ drop (n + 1) (take m text)) (sym (take-take (n + 1) m text (omega arith))) ∙ take-append-drop (n + 1) (take m text)
 
   best_stop : (text : List ℕ) (n : ℕ) (best : Option (K × ℕ)) → n < length text → rows_run table (take (n + 1) text) ≡ [] → IsBest table text n best → IsBest table text (length text) best
   best_stop text n None l r h = stop_none text 0 n l r h
@@ -49,7 +49,7 @@ module _ {K : Type 0} (table : Table K) where
   item_before : (text later : List ℕ) (n : ℕ) → n ≤ length text → (m : ℕ) → m ≤ n → IsItem table (take m (text ++ later)) → IsItem table (take m text)
   item_before text later n l m y i = let b : m ≤ length text = omega arith in subst (IsItem table) (take-append-le m text later b) i
 
-  -- the longest item of some fronts stays it when more text comes
+  -- the longest item of some prefixes stays it when more text comes
   pub best_later : (text later : List ℕ) (n : ℕ) (best : Option (K × ℕ)) → n ≤ length text → IsBest table text n best → IsBest table (text ++ later) n best
   best_later text later n None l h = λ m x y i. h m x y (item_before text later n l m y i)
   best_later text later n (Some j) l h =
@@ -57,7 +57,7 @@ module _ {K : Type 0} (table : Table K) where
       let b : j.1 ≤ length text = omega arith in
       (h.0, h.1, subst (IsItemOf table j.0) (sym (take-append-le j.1 text later b)) h.2, λ m x y i. h.3 m x y (item_before text later n l m y i))
 
-  -- the longest item among all fronts is the longest item
+  -- the longest item among all prefixes is the longest item
   pub best_longest : (text : List ℕ) (k : K) (e : ℕ) → IsBest table text (length text) (Some (k, e)) → Longest (IsItem table) (take e text) (drop e text)
   best_longest text k e h = record { has = (k, h.2); longest = go }
     where
@@ -73,7 +73,7 @@ module _ {K : Type 0} (table : Table K) where
           let short : m ≤ length text = omega (arith, length-append (take e text ++ x ∷ more) after) in
           absurd (h.3 m long short (subst (IsItem table) (sym same) i))
 
-  -- a text none of whose fronts is an item is no snippet, unless it is empty
+  -- a text none of whose prefixes is an item is no snippet, unless it is empty
   pub none_begins : rows_end table ≡ false → (t : List ℕ) → IsBest table t (length t) None → 0 < length t → ¬ IsSnippet table t
   none_begins none_empty [] h l s = omega arith
   none_begins none_empty (c ∷ t) h l s =

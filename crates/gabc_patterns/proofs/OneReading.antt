@@ -2,8 +2,8 @@
 use Rattle.std.proofs.Common.{◌≡◌, List, [], ◌∷◌, ◌++◌, false, true≢false, map, refl, sym, ◌∙◌, subst}
 use Rattle.gabc_patterns.specs.Reading.{Table, Longest, IsItemOf, HasSome, ReadsBy, OneKindBy}
 use Rattle.gabc_patterns.specs.Derivative.{rows_end}
-use Rattle.gabc_patterns.proofs.Rows.{rows_end_to}
-use Rattle.gabc_patterns.proofs.Longest.{one_longest}
+use Rattle.gabc_patterns.proofs.RowsAfterACharacter.{rows_end_to}
+use Rattle.gabc_patterns.proofs.LongestPrefixIsOne.{one_longest}
 
 -- an item of a table without empty items has a character
 pub no_empty : {K : Type 0} (table : Table K) → rows_end table ≡ false → (k : K) → ¬ IsItemOf table k []

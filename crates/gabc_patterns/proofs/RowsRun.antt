@@ -3,20 +3,20 @@ use Rattle.std.proofs.Common.{◌≡◌, ℕ, List, [], ◌∷◌, ◌++◌, Boo
 use Rattle.gabc_patterns.specs.Pattern.{Pattern}
 use Rattle.gabc_patterns.specs.Reading.{Table, IsItemOf, IsItem}
 use Rattle.gabc_patterns.specs.Derivative.{may_end, rows_after, rows_run, rows_end, end_kind}
-use Rattle.gabc_patterns.proofs.After.{end_from, end_to}
-use Rattle.gabc_patterns.proofs.Rows.{rows_to, rows_from, rows_end_to}
+use Rattle.gabc_patterns.proofs.DerivativesSpellWhatFollows.{end_from, end_to}
+use Rattle.gabc_patterns.proofs.RowsAfterACharacter.{rows_to, rows_from, rows_end_to}
 
 -- the rows after two texts
 pub rows_run-append : {K : Type 0} (rows : Table K) (t u : List ℕ) → rows_run rows (t ++ u) ≡ rows_run (rows_run rows t) u
 rows_run-append rows [] u = refl
 rows_run-append rows (c ∷ t) u = rows_run-append (rows_after c rows) t u
 
--- what is left of an item after its front
+-- what is left of an item after its prefix
 pub run_rows_to : {K : Type 0} (rows : Table K) (k : K) (t u : List ℕ) → IsItemOf rows k (t ++ u) → IsItemOf (rows_run rows t) k u
 run_rows_to rows k [] u h = h
 run_rows_to rows k (c ∷ t) u h = run_rows_to (rows_after c rows) k t u (rows_to rows k c (t ++ u) h)
 
--- an item by a front of it and what is left
+-- an item by a prefix of it and what is left
 pub run_rows_from : {K : Type 0} (rows : Table K) (k : K) (t u : List ℕ) → IsItemOf (rows_run rows t) k u → IsItemOf rows k (t ++ u)
 run_rows_from rows k [] u h = h
 run_rows_from rows k (c ∷ t) u h = rows_from rows k c (t ++ u) (run_rows_from (rows_after c rows) k t u h)

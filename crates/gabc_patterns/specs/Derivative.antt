@@ -10,15 +10,15 @@ same_texts (c ∷ t) (d ∷ u) = (c == d) && same_texts t u
 same_texts _ _ = false
 
 -- patterns that are written alike
-abbrev pub same : Pattern → Pattern → Bool
-same never never = true
-same nothing nothing = true
-same (one_of cs) (one_of ds) = same_texts cs ds
-same (any_but c) (any_but d) = c == d
-same (p · q) (r · s) = same p r && same q s
-same (p or q) (r or s) = same p r && same q s
-same (many p) (many q) = same p q
-same _ _ = false
+abbrev pub same_pattern : Pattern → Pattern → Bool
+same_pattern never never = true
+same_pattern nothing nothing = true
+same_pattern (one_of cs) (one_of ds) = same_texts cs ds
+same_pattern (any_but c) (any_but d) = c == d
+same_pattern (p · q) (r · s) = same_pattern p r && same_pattern q s
+same_pattern (p or q) (r or s) = same_pattern p r && same_pattern q s
+same_pattern (many p) (many q) = same_pattern p q
+same_pattern _ _ = false
 
 -- p · q, simpler where p is never or nothing
 abbrev pub join : Pattern → Pattern → Pattern
@@ -29,7 +29,7 @@ join p q = p · q
 -- p is a choice of q
 abbrev pub is_choice : Pattern → Pattern → Bool
 is_choice p (q or r) = is_choice p q || is_choice p r
-is_choice p q = same p q
+is_choice p q = same_pattern p q
 
 -- p or q, as a list of choices without never and without one twice
 abbrev pub either : Pattern → Pattern → Pattern
@@ -49,14 +49,14 @@ may_end (p or q) = may_end p || may_end q
 may_end (many p) = true
 
 -- what may follow the character c
-abbrev pub after : ℕ → Pattern → Pattern
-after c never = never
-after c nothing = never
-after c (one_of cs) = cond (is_in c cs) nothing never
-after c (any_but x) = cond (x == c) never nothing
-after c (p · q) = cond (may_end p) (either (join (after c p) q) (after c q)) (join (after c p) q)
-after c (p or q) = either (after c p) (after c q)
-after c (many p) = join (after c p) (many p)
+abbrev pub derivative : ℕ → Pattern → Pattern
+derivative c never = never
+derivative c nothing = never
+derivative c (one_of cs) = cond (is_in c cs) nothing never
+derivative c (any_but x) = cond (x == c) never nothing
+derivative c (p · q) = cond (may_end p) (either (join (derivative c p) q) (derivative c q)) (join (derivative c p) q)
+derivative c (p or q) = either (derivative c p) (derivative c q)
+derivative c (many p) = join (derivative c p) (many p)
 
 -- there are none
 abbrev pub is_empty : List ℕ → Bool
@@ -76,7 +76,7 @@ possible (many p) = true
 -- what may follow the character c in the rows
 abbrev pub rows_after : {K : Type 0} → ℕ → Table K → Table K
 rows_after c [] = []
-rows_after c (row ∷ rows) = cond (possible (after c row.1)) ((row.0, after c row.1) ∷ rows_after c rows) (rows_after c rows)
+rows_after c (row ∷ rows) = cond (possible (derivative c row.1)) ((row.0, derivative c row.1) ∷ rows_after c rows) (rows_after c rows)
 
 -- what may follow the text in the rows
 abbrev pub rows_run : {K : Type 0} → Table K → List ℕ → Table K

@@ -46,13 +46,13 @@ more_kept rows kept (c ∷ t) = elim (is_viable rows (kept ++ c ∷ [])) as (λ 
   | false ↦ more_kept rows kept t
 ]
 
--- the longest front of before ++ t that is a snippet, where best is that of before
+-- the longest prefix of before ++ t that is a snippet, where best is that of before
 abbrev pub trim_from : {K : Type 0} → Table K → List ℕ → List ℕ → List ℕ → List ℕ
 trim_from rows best before [] = best
 trim_from rows best before (c ∷ t) =
     trim_from rows (cond (is_snippet rows (before ++ c ∷ [])) (before ++ c ∷ []) best) (before ++ c ∷ []) t
 
--- the longest front that is a snippet
+-- the longest prefix that is a snippet
 abbrev pub trim : {K : Type 0} → Table K → List ℕ → List ℕ
 trim rows t = trim_from rows [] [] t
 

@@ -9,13 +9,13 @@ Keeps rows kept (c ∷ t) all =
     (IsViable rows (kept ++ c ∷ []) × Keeps rows (kept ++ c ∷ []) t all)
     ⊎ (¬ IsViable rows (kept ++ c ∷ []) × Keeps rows kept t all)
 
--- front is the longest front of the text that is a snippet
-pub record Trims {K : Type 0} (rows : Table K) (t front : List ℕ) : Type 0 where
+-- prefix is the longest prefix of the text that is a snippet
+pub record Trims {K : Type 0} (rows : Table K) (t prefix : List ℕ) : Type 0 where
   pub rest : List ℕ
-  pub cut : t ≡ front ++ rest
-  pub longest : Longest (IsSnippet rows) front rest
+  pub cut : t ≡ prefix ++ rest
+  pub longest : Longest (IsSnippet rows) prefix rest
 
--- what is kept of the characters of the text, and of that the longest front that is a snippet
+-- what is kept of the characters of the text, and of that the longest prefix that is a snippet
 pub record IsKeptText {K : Type 0} (rows : Table K) (t kept : List ℕ) : Type 0 where
   pub all : List ℕ
   pub keeps : Keeps rows [] t all

@@ -1,7 +1,7 @@
-pub mod Pattern
-pub mod Reading
-pub mod Kept
+pub mod machine
 pub mod Derivative
 pub mod Function
 pub mod Items
-pub mod Fallback
+pub mod Kept
+pub mod Pattern
+pub mod Reading

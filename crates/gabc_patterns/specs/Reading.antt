@@ -6,10 +6,10 @@ use Rattle.gabc_patterns.specs.Pattern.{Pattern, Spells}
 abbrev pub Table : Type 0 → Type 0
 Table K = List (K × Pattern)
 
--- front has P, and front with a first part of the rest, unless that is empty, has not
-pub record Longest {X : Type 0} (P : List X → Type 0) (front rest : List X) : Type 0 where
-  pub has : P front
-  pub longest : (more after : List X) → rest ≡ more ++ after → P (front ++ more) → more ≡ []
+-- prefix has P, and prefix with a first part of the rest, unless that is empty, has not
+pub record Longest {X : Type 0} (P : List X → Type 0) (prefix rest : List X) : Type 0 where
+  pub has : P prefix
+  pub longest : (more after : List X) → rest ≡ more ++ after → P (prefix ++ more) → more ≡ []
 
 -- a row of that kind spells the text
 abbrev pub IsItemOf : {K : Type 0} → Table K → K → List ℕ → Type 0

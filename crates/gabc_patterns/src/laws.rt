@@ -6,54 +6,67 @@ ghost use Rattle.std.specs.Prelude.{◌≡◌, ℕ, List, [], ◌∷◌, ◌++�
 ghost use Rattle.gabc_patterns.specs.Pattern.{Pattern, Spells};
 ghost use Rattle.gabc_patterns.specs.Reading.{Table, Longest, IsItem, Reads, OneKind, IsSnippet, IsViable};
 ghost use Rattle.gabc_patterns.specs.Kept.{Keeps, Trims, IsKeptText};
-ghost use Rattle.gabc_patterns.specs.Derivative.{may_end, after, is_snippet, is_viable};
+ghost use Rattle.gabc_patterns.specs.Derivative.{may_end, derivative, is_snippet, is_viable};
 ghost use Rattle.gabc_patterns.specs.Function.{items, keep, more_kept, trim, kept_text};
 
 /// The derivative of a pattern spells what may follow a character, and a test tells whether it spells the empty text.
 pub fn derivative_spells_what_follows()
-    ensures to { (p : Pattern) (c : ℕ) (t : List ℕ) → Spells p (c ∷ t) → Spells (after c p) t }
-    ensures from { (p : Pattern) (c : ℕ) (t : List ℕ) → Spells (after c p) t → Spells p (c ∷ t) }
+    ensures to { (p : Pattern) (c : ℕ) (t : List ℕ) → Spells p (c ∷ t) → Spells (derivative c p) t }
+    ensures from { (p : Pattern) (c : ℕ) (t : List ℕ) → Spells (derivative c p) t →
+        Spells p (c ∷ t) }
     ensures end { (p : Pattern) → Decides (may_end p) (Spells p []) }
 {}
 
 /// Two longest items that begin at one place are one.
 pub fn longest_is_one<K>()
-    ensures { (rows : Table K) (a b x y : List ℕ) → a ++ x ≡ b ++ y → Longest (IsItem rows) a x → Longest (IsItem rows) b y → (a ≡ b) × (x ≡ y) }
+    ensures { (rows : Table K) (a b x y : List ℕ) → a ++ x ≡ b ++ y → Longest (IsItem rows) a x →
+        Longest (IsItem rows) b y → (a ≡ b) × (x ≡ y) }
 {}
 
 /// Two readings of a text cut it alike, and are one if no text is spelt by rows of two kinds.
 pub fn reading_is_one<K>()
-    ensures texts { (rows : Table K) → ¬ IsItem rows [] → (is js : List (K × List ℕ)) (t : List ℕ) → Reads rows is t → Reads rows js t → map (λ i. i.1) is ≡ map (λ i. i.1) js }
-    ensures kinds { (rows : Table K) → ¬ IsItem rows [] → OneKind rows → (is js : List (K × List ℕ)) (t : List ℕ) → Reads rows is t → Reads rows js t → is ≡ js }
+    ensures texts { (rows : Table K) → ¬ IsItem rows [] → (is js : List (K × List ℕ)) (t : List ℕ) →
+        Reads rows is t → Reads rows js t → map (λ i. i.1) is ≡ map (λ i. i.1) js }
+    ensures kinds { (rows : Table K) → ¬ IsItem rows [] → OneKind rows →
+        (is js : List (K × List ℕ)) (t : List ℕ) → Reads rows is t → Reads rows js t → is ≡ js }
 {}
 
 /// Reading by derivatives, with the fallback run in parallel, decides which texts are snippets and which are viable.
 pub fn derivatives_decide<K>()
-    ensures snippet { (rows : Table K) → ¬ IsItem rows [] → (t : List ℕ) → Decides (is_snippet rows t) (IsSnippet rows t) }
-    ensures viable { (rows : Table K) → ¬ IsItem rows [] → (t : List ℕ) → Decides (is_viable rows t) (IsViable rows t) }
+    ensures snippet { (rows : Table K) → ¬ IsItem rows [] → (t : List ℕ) →
+        Decides (is_snippet rows t) (IsSnippet rows t) }
+    ensures viable { (rows : Table K) → ¬ IsItem rows [] → (t : List ℕ) →
+        Decides (is_viable rows t) (IsViable rows t) }
 {}
 
 /// The function `items` reads each snippet.
 pub fn items_read<K>()
-    ensures { (rows : Table K) → ¬ IsItem rows [] → (t : List ℕ) → IsSnippet rows t → Reads rows (items rows t) t }
+    ensures { (rows : Table K) → ¬ IsItem rows [] → (t : List ℕ) → IsSnippet rows t →
+        Reads rows (items rows t) t }
 {}
 
 /// The functions `keep`, `trim` and `kept_text` give what the relations say, and nothing else is so related.
 pub fn kept_is_computed<K>()
-    ensures keeps { (rows : Table K) → ¬ IsItem rows [] → (t all : List ℕ) → Keeps rows [] t all → all ≡ keep rows t }
-    ensures keep { (rows : Table K) → ¬ IsItem rows [] → (t : List ℕ) → Keeps rows [] t (keep rows t) }
-    ensures trims { (rows : Table K) → ¬ IsItem rows [] → (t front : List ℕ) → Trims rows t front → front ≡ trim rows t }
+    ensures keeps { (rows : Table K) → ¬ IsItem rows [] → (t all : List ℕ) → Keeps rows [] t all →
+        all ≡ keep rows t }
+    ensures keep { (rows : Table K) → ¬ IsItem rows [] → (t : List ℕ) →
+        Keeps rows [] t (keep rows t) }
+    ensures trims { (rows : Table K) → ¬ IsItem rows [] → (t prefix : List ℕ) →
+        Trims rows t prefix → prefix ≡ trim rows t }
     ensures trim { (rows : Table K) → ¬ IsItem rows [] → (t : List ℕ) → Trims rows t (trim rows t) }
-    ensures is_kept_text { (rows : Table K) → ¬ IsItem rows [] → (t kept : List ℕ) → IsKeptText rows t kept → kept ≡ kept_text rows t }
-    ensures kept_text { (rows : Table K) → ¬ IsItem rows [] → (t : List ℕ) → IsKeptText rows t (kept_text rows t) }
+    ensures is_kept_text { (rows : Table K) → ¬ IsItem rows [] → (t kept : List ℕ) →
+        IsKeptText rows t kept → kept ≡ kept_text rows t }
+    ensures kept_text { (rows : Table K) → ¬ IsItem rows [] → (t : List ℕ) →
+        IsKeptText rows t (kept_text rows t) }
 {}
 
-/// What is kept of a front of a text stays kept, whatever follows; what is kept after it depends on what was kept of it.
-pub fn kept_front_stays<K>()
-    ensures { (rows : Table K) (s t : List ℕ) → keep rows (s ++ t) ≡ keep rows s ++ more_kept rows (keep rows s) t }
+/// What is kept of a prefix of a text stays kept, whatever follows; what is kept after it depends on what was kept of it.
+pub fn kept_prefix_stays<K>()
+    ensures { (rows : Table K) (s t : List ℕ) →
+        keep rows (s ++ t) ≡ keep rows s ++ more_kept rows (keep rows s) t }
 {}
 
-/// A viable text is kept whole; a snippet is its own longest front and its own kept text.
+/// A viable text is kept whole; a snippet is its own longest prefix and its own kept text.
 pub fn viable_text_is_kept<K>()
     ensures keeps { (rows : Table K) (t : List ℕ) → IsViable rows t → Keeps rows [] t t }
     ensures trims { (rows : Table K) (t : List ℕ) → IsSnippet rows t → Trims rows t t }
@@ -62,12 +75,16 @@ pub fn viable_text_is_kept<K>()
 
 /// What is kept is kept again, whole; so is a kept text, and it is a snippet.
 pub fn kept_text_is_kept_again<K>()
-    ensures keeps { (rows : Table K) (t all : List ℕ) → Keeps rows [] t all → Keeps rows [] all all }
-    ensures is_kept_text { (rows : Table K) (t kept : List ℕ) → IsKeptText rows t kept → IsKeptText rows kept kept }
-    ensures snippet { (rows : Table K) (t kept : List ℕ) → IsKeptText rows t kept → IsSnippet rows kept }
+    ensures keeps { (rows : Table K) (t all : List ℕ) → Keeps rows [] t all →
+        Keeps rows [] all all }
+    ensures is_kept_text { (rows : Table K) (t kept : List ℕ) → IsKeptText rows t kept →
+        IsKeptText rows kept kept }
+    ensures snippet { (rows : Table K) (t kept : List ℕ) → IsKeptText rows t kept →
+        IsSnippet rows kept }
 {}
 
-/// Each front of what is kept is viable.
-pub fn fronts_of_kept_are_viable<K>()
-    ensures { (rows : Table K) (t all front rest : List ℕ) → Keeps rows [] t all → all ≡ front ++ rest → IsViable rows front }
+/// Each prefix of what is kept is viable.
+pub fn prefixes_of_kept_are_viable<K>()
+    ensures { (rows : Table K) (t all prefix rest : List ℕ) → Keeps rows [] t all →
+        all ≡ prefix ++ rest → IsViable rows prefix }
 {}

@@ -3,7 +3,7 @@
 //! The notes of GABC, the descriptors of NABC and the rows of neumes are each a *table*: a list of rows, each a kind and
 //! a pattern, that reads like the grammar. A text is read by taking at each place the longest item that begins there. A
 //! text with a reading is a *snippet*, and a text with a completion to a snippet is *viable*. Of other texts those
-//! characters are *kept* that go on a viable text, and of what is kept the longest front that is a snippet.
+//! characters are *kept* that go on a viable text, and of what is kept the longest prefix that is a snippet.
 //!
 //! This crate is the theory of that, for any table and any type of kinds. It runs nothing. It has
 //!
@@ -35,9 +35,9 @@ mod tests {
         laws::derivatives_decide::<u8>();
         laws::items_read::<u8>();
         laws::kept_is_computed::<u8>();
-        laws::kept_front_stays::<u8>();
+        laws::kept_prefix_stays::<u8>();
         laws::viable_text_is_kept::<u8>();
         laws::kept_text_is_kept_again::<u8>();
-        laws::fronts_of_kept_are_viable::<u8>();
+        laws::prefixes_of_kept_are_viable::<u8>();
     }
 }

@@ -1,12 +1,8 @@
-pub mod Characters
-pub mod Earliest
-pub mod Front
+pub mod texts
+pub mod AppendsAreJoined
+pub mod ChainKeepsEvents
+pub mod EarliestIsLeast
 pub mod GatheredOfAText
-pub mod KnownBytes
-pub mod Lines
 pub mod NothingBehindAnEnd
-pub mod Placed
 pub mod PlacesOfAText
-pub mod Regrouped
-pub mod StageLaws
-pub mod Strings
+pub mod PushesAreOne

@@ -2,8 +2,9 @@
 use Rattle.std.proofs.Common.{ℕ, List, [], ◌∷◌, ◌++◌, ◌≡◌, ◌||◌, ◌⊎◌, inl, inr, Bool, true, false, refl, ap, sym, ◌∙◌, append_assoc}
 use Rattle.std.proofs.lemmas.List.{append_cancel_left}
 use Rattle.std.specs.List.{list_any}
-use Rattle.gabc_places.specs.Held.{Held, added}
-use Rattle.gabc_places.specs.Law.{joined, Gives, GivesAll, Ends, GivesNothing, StopsAtEnd}
+use Rattle.gabc_places.specs.BoundedList.{BoundedList, extended_by}
+use Rattle.gabc_places.specs.StageLaw.{concat_of, Pushes, Finishes, GivesNothing, StopsAtEnd}
+use Rattle.gabc_places.specs.machine.StageLaw.{PushesAll}
 
 -- an element of a list that is joined of two lies in the first or in the second
 pub record InFirst {T : Type 0} (a c before behind : List T) (x : T) : Type 0 where
@@ -24,59 +25,59 @@ where_it_lies (y ∷ a) c (z ∷ before) behind x e = by (where_it_lies a c befo
     by (inl i) = let e1 = i.first_is in inl (record { left = i.left; first_is = cc; behind_is = i.behind_is })
     by (inr i) = inr (record { left = i.left; second_is = i.second_is })
 
-empty_front : {T : Type 0} (a b : List T) → a ++ b ≡ [] → a ≡ []
-empty_front [] b e = refl
-empty_front (x ∷ a) b e = absurd (cc)
+empty_prefix : {T : Type 0} (a b : List T) → a ++ b ≡ [] → a ≡ []
+empty_prefix [] b e = refl
+empty_prefix (x ∷ a) b e = absurd (cc)
 
 empty_back : {T : Type 0} (a b : List T) → a ++ b ≡ [] → b ≡ []
 empty_back [] b e = e
 empty_back (x ∷ a) b e = absurd (cc)
 
-items_of : {T : Type 0} (r t : Held T) → r ≡ t → r.items ≡ t.items
+items_of : {T : Type 0} (r t : BoundedList T) → r ≡ t → r.items ≡ t.items
 items_of r t e = ap (λ h. h.items) e
 
 -- a call, and then a call that adds nothing and leaves a stage that gives nothing where the first did
-stops-both : {I O : Type 0} (ends : O → Bool) (mid after : List I → List (List O)) (r s t : Held O) (a b : List O)
-    → s ≡ added r a → t ≡ added s b → (GivesNothing mid → (b ≡ []) × GivesNothing after)
+stops-both : {I O : Type 0} (ends : O → Bool) (mid after : List I → List (List O)) (r s t : BoundedList O) (a b : List O)
+    → s ≡ extended_by r a → t ≡ extended_by s b → (GivesNothing mid → (b ≡ []) × GivesNothing after)
     → StopsAtEnd ends mid r s → StopsAtEnd ends after s t → StopsAtEnd ends after r t
 stops-both {I} {O} ends mid after r s t a b se te over first second before behind x e is_end = by (where_it_lies a b before behind x split)
   where
     split : a ++ b ≡ before ++ x ∷ behind
-    split = append_cancel_left r.items (a ++ b) (before ++ x ∷ behind) (sym (append_assoc r.items a b) ∙ sym (items_of _ _ te ∙ ap (λ (h : Held O). h.items ++ b) se) ∙ items_of _ _ e)
+    split = append_cancel_left r.items (a ++ b) (before ++ x ∷ behind) (sym (append_assoc r.items a b) ∙ sym (items_of _ _ te ∙ ap (λ (h : BoundedList O). h.items ++ b) se) ∙ items_of _ _ e)
 
     by : InFirst a b before behind x ⊎ InSecond a b before behind x → (behind ≡ []) × GivesNothing after
     by (inl i) =
-        let k = first before i.left x (se ∙ ap (added r) i.first_is) is_end in
+        let k = first before i.left x (se ∙ ap (extended_by r) i.first_is) is_end in
         let o = over k.1 in
         (i.behind_is ∙ ap (λ v. v ++ b) k.0 ∙ o.0, o.1)
-    by (inr i) = second i.left behind x (te ∙ ap (added s) i.second_is) is_end
+    by (inr i) = second i.left behind x (te ∙ ap (extended_by s) i.second_is) is_end
 
 -- a stage that gives nothing adds nothing at a push, and gives nothing after it
-nothing-pushed : {I O : Type 0} (mid after : List I → List (List O)) (x : I) (most : ℕ) (s t : Held O) (g : Gives mid after x most s t)
-    → GivesNothing mid → (g.given ≡ []) × GivesNothing after
+nothing-pushed : {I O : Type 0} (mid after : List I → List (List O)) (x : I) (most : ℕ) (s t : BoundedList O) (g : Pushes mid after x most s t)
+    → GivesNothing mid → (g.events ≡ []) × GivesNothing after
 nothing-pushed mid after x most s t g none = (
-  empty_front g.given (joined (after [])) (sym (ap joined (g.law [])) ∙ none (x ∷ [])),
-  λ xs. empty_back g.given (joined (after xs)) (sym (ap joined (g.law xs)) ∙ none (x ∷ xs)),
+  empty_prefix g.events (concat_of (after [])) (sym (ap concat_of (g.law [])) ∙ none (x ∷ [])),
+  λ xs. empty_back g.events (concat_of (after xs)) (sym (ap concat_of (g.law xs)) ∙ none (x ∷ xs)),
 )
 
 -- and at its end
-nothing-ended : {I O : Type 0} (mid after : List I → List (List O)) (most : ℕ) (s t : Held O) (g : Ends mid most s t)
-    → GivesNothing after → GivesNothing mid → (g.given ≡ []) × GivesNothing after
-nothing-ended mid after most s t g over none = (empty_front g.given [] (sym (ap joined g.law) ∙ none []), over)
+nothing-ended : {I O : Type 0} (mid after : List I → List (List O)) (most : ℕ) (s t : BoundedList O) (g : Finishes mid most s t)
+    → GivesNothing after → GivesNothing mid → (g.events ≡ []) × GivesNothing after
+nothing-ended mid after most s t g over none = (empty_prefix g.events [] (sym (ap concat_of g.law) ∙ none []), over)
 
 -- pushes of all of some inputs, and then a push
-pub stops-pushed : {I O : Type 0} {before mid after : List I → List (List O)} {xs : List I} {x : I} {most more : ℕ} {r s t : Held O} (ends : O → Bool)
-    → GivesAll before mid xs most r s → Gives mid after x more s t
+pub stops-pushed : {I O : Type 0} {before mid after : List I → List (List O)} {xs : List I} {x : I} {most more : ℕ} {r s t : BoundedList O} (ends : O → Bool)
+    → PushesAll before mid xs most r s → Pushes mid after x more s t
     → StopsAtEnd ends mid r s → StopsAtEnd ends after s t → StopsAtEnd ends after r t
 stops-pushed {mid = mid} {after = after} {x = x} {more = more} {r = r} {s = s} {t = t} ends all g first second =
-    stops-both ends mid after r s t (joined all.given) g.given all.out g.out (nothing-pushed mid after x more s t g) first second
+    stops-both ends mid after r s t (concat_of all.events) g.events all.out g.out (nothing-pushed mid after x more s t g) first second
 
 -- pushes of all of some inputs, and then the end
-pub stops-ended : {I O : Type 0} {before mid : List I → List (List O)} {xs : List I} {most more : ℕ} {r s t : Held O} (ends : O → Bool) (after : List I → List (List O))
-    → GivesAll before mid xs most r s → Ends mid more s t → GivesNothing after
+pub stops-ended : {I O : Type 0} {before mid : List I → List (List O)} {xs : List I} {most more : ℕ} {r s t : BoundedList O} (ends : O → Bool) (after : List I → List (List O))
+    → PushesAll before mid xs most r s → Finishes mid more s t → GivesNothing after
     → StopsAtEnd ends mid r s → StopsAtEnd ends after s t → StopsAtEnd ends after r t
 stops-ended {mid = mid} {more = more} {r = r} {s = s} {t = t} ends after all g over first second =
-    stops-both ends mid after r s t (joined all.given) g.given all.out g.out (nothing-ended mid after more s t g over) first second
+    stops-both ends mid after r s t (concat_of all.events) g.events all.out g.out (nothing-ended mid after more s t g over) first second
 
 -- ---- for the proof of a stage: what a call gives has no end, or has it last
 
@@ -93,21 +94,21 @@ only_one [] behind x y e = cc
 only_one (z ∷ []) behind x y e = absurd (cc)
 only_one (z ∷ w ∷ before) behind x y e = absurd (cc)
 
-given_is : {O : Type 0} (old new : Held O) (xs ys : List O) → new ≡ added old xs → new ≡ added old ys → xs ≡ ys
-given_is old new xs ys e h = append_cancel_left old.items xs ys (items_of _ _ (sym e ∙ h))
+events_is : {O : Type 0} (old new : BoundedList O) (xs ys : List O) → new ≡ extended_by old xs → new ≡ extended_by old ys → xs ≡ ys
+events_is old new xs ys e h = append_cancel_left old.items xs ys (items_of _ _ (sym e ∙ h))
 
 -- a call that gives no end
-pub stops-endless : {I O : Type 0} (ends : O → Bool) (after : List I → List (List O)) (old new : Held O) (given : List O)
-    → new ≡ added old given → list_any ends given ≡ false → StopsAtEnd ends after old new
-stops-endless ends after old new given e none before behind x h is_end =
-    let k : list_any ends given ≡ true = ap (list_any ends) (given_is old new given (before ++ x ∷ behind) e h) ∙ has_end ends before behind x is_end in
+pub stops-endless : {I O : Type 0} (ends : O → Bool) (after : List I → List (List O)) (old new : BoundedList O) (events : List O)
+    → new ≡ extended_by old events → list_any ends events ≡ false → StopsAtEnd ends after old new
+stops-endless ends after old new events e none before behind x h is_end =
+    let k : list_any ends events ≡ true = ap (list_any ends) (events_is old new events (before ++ x ∷ behind) e h) ∙ has_end ends before behind x is_end in
     absurd (cc)
 
 -- a call that gives an end last, and leaves a stage that gives nothing
-pub stops-last : {I O : Type 0} (ends : O → Bool) (after : List I → List (List O)) (old new : Held O) (xs : List O) (last : O)
-    → new ≡ added old (xs ++ last ∷ []) → list_any ends xs ≡ false → GivesNothing after → StopsAtEnd ends after old new
+pub stops-last : {I O : Type 0} (ends : O → Bool) (after : List I → List (List O)) (old new : BoundedList O) (xs : List O) (last : O)
+    → new ≡ extended_by old (xs ++ last ∷ []) → list_any ends xs ≡ false → GivesNothing after → StopsAtEnd ends after old new
 stops-last ends after old new xs last e none over before behind x h is_end =
-    by (where_it_lies xs (last ∷ []) before behind x (given_is old new (xs ++ last ∷ []) (before ++ x ∷ behind) e h))
+    by (where_it_lies xs (last ∷ []) before behind x (events_is old new (xs ++ last ∷ []) (before ++ x ∷ behind) e h))
   where
     by : InFirst xs (last ∷ []) before behind x ⊎ InSecond xs (last ∷ []) before behind x → (behind ≡ []) × GivesNothing after
     by (inl i) = let k : list_any ends xs ≡ true = ap (list_any ends) i.first_is ∙ has_end ends before i.left x is_end in absurd (cc)

@@ -11,8 +11,8 @@ pub record Known : Type 0 where
   pub finding : Finding
 
 -- the findings that become known before a point
-abbrev pub known_before : ℕ → List Known → List Finding
-known_before stop knowns = map (λ (k : Known). k.finding) (filter (λ (k : Known). nat_lt k.point stop) knowns)
+abbrev pub findings_before : ℕ → List Known → List Finding
+findings_before stop knowns = map (λ (k : Known). k.finding) (filter (λ (k : Known). nat_lt k.point stop) knowns)
 
 -- f stands before g: at an earlier place, or at the same place with a lower code
 abbrev pub StandsBefore : Finding → Finding → Type 0

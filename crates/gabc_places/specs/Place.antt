@@ -15,14 +15,14 @@ place_after text = record { line = 1 + count_by is_line_feed text; column = 1 + 
 abbrev pub next_place : Place → ℕ → Place
 next_place p c = if is_line_feed c then record { line = p.line + 1; column = 1 } else record { line = p.line; column = p.column + 1 }
 
--- the characters that follow this front, each with its place
-abbrev pub placed_after : List ℕ → List ℕ → List Char
-placed_after front [] = []
-placed_after front (c ∷ cs) = record { c = c; place = place_after front } ∷ placed_after (front ++ c ∷ []) cs
+-- the characters that follow this prefix, each with its place
+abbrev pub placed_characters_behind : List ℕ → List ℕ → List Char
+placed_characters_behind prefix [] = []
+placed_characters_behind prefix (c ∷ cs) = record { c = c; place = place_after prefix } ∷ placed_characters_behind (prefix ++ c ∷ []) cs
 
 -- the characters of a text with their places
-abbrev pub placed : List ℕ → List Char
-placed text = placed_after [] text
+abbrev pub placed_characters : List ℕ → List Char
+placed_characters text = placed_characters_behind [] text
 
 -- the place behind a text that begins at p
 abbrev pub place_past : Place → List ℕ → Place
@@ -30,6 +30,6 @@ place_past p [] = p
 place_past p (c ∷ cs) = place_past (next_place p c) cs
 
 -- the characters of a text that begins at p, each with its place
-abbrev pub placed_from : Place → List ℕ → List Char
-placed_from p [] = []
-placed_from p (c ∷ cs) = record { c = c; place = p } ∷ placed_from (next_place p c) cs
+abbrev pub placed_characters_from : Place → List ℕ → List Char
+placed_characters_from p [] = []
+placed_characters_from p (c ∷ cs) = record { c = c; place = p } ∷ placed_characters_from (next_place p c) cs

@@ -12,9 +12,9 @@ use Rattle.gabc_places.specs.declared.decoded.Tail.{Tail}
 use Rattle.gabc_places.specs.declared.decoded.Tail.TheVariants.{Nothing, Part, Wrong}
 use Rattle.gabc_places.specs.Place.{place_after}
 
--- the characters of the longest front that is UTF-8
-unfoldable pub front_of : List ℕ → List ℕ
-front_of bytes = chars (take (utf8_valid_len bytes) bytes)
+-- the characters of the longest prefix that is UTF-8
+unfoldable pub utf8_prefix_of : List ℕ → List ℕ
+utf8_prefix_of bytes = chars (take (utf8_valid_len bytes) bytes)
 
 -- by the length of the bytes that are wrong: none is told where more bytes could make a character
 abbrev pub tail_by : Option ℕ → Tail
@@ -25,7 +25,7 @@ abbrev pub tail_at : List ℕ → Tail
 tail_at [] = Nothing
 tail_at (b ∷ bs) = tail_by (utf8_error_len (b ∷ bs))
 
--- what follows the longest front that is UTF-8
+-- what follows the longest prefix that is UTF-8
 unfoldable pub tail_of : List ℕ → Tail
 tail_of bytes = tail_at (drop (utf8_valid_len bytes) bytes)
 
@@ -51,16 +51,16 @@ text_of_characters cs = map (λ (p : ℕ × ℕ). read_as p.1) (filter (λ (p : 
 
 -- the text of an input: of the bytes within the limit
 abbrev pub text_of_bytes : ℕ → List ℕ → List ℕ
-text_of_bytes limit bytes = text_of_characters (front_of (take limit bytes))
+text_of_bytes limit bytes = text_of_characters (utf8_prefix_of (take limit bytes))
 
 -- What stops it: bytes that begin no character; else more bytes than the limit; else an unfinished character, where the source ended.
-abbrev pub stopped_by : Bool → Bool → Tail → Option Code
-stopped_by over ended Wrong = Some F1
-stopped_by over ended Nothing = if over then Some F7 else None
-stopped_by over ended Part = if over then Some F7 else (if ended then Some F1 else None)
+abbrev pub stop_code_of : Bool → Bool → Tail → Option Code
+stop_code_of over ended Wrong = Some F1
+stop_code_of over ended Nothing = if over then Some F7 else None
+stop_code_of over ended Part = if over then Some F7 else (if ended then Some F1 else None)
 
 -- the text of an input and its fault; `ended` tells that the source ended and did not fail
 abbrev pub decoded_of : Limits → Bool → List ℕ → Decoded
 decoded_of limits ended bytes =
     let text = text_of_bytes limits.input bytes in
-    record { text = text; fault = option_map (λ code. record { place = place_after text; code = code }) (stopped_by (nat_lt limits.input (length bytes)) ended (tail_of (take limits.input bytes))) }
+    record { text = text; fault = option_map (λ code. record { place = place_after text; code = code }) (stop_code_of (nat_lt limits.input (length bytes)) ended (tail_of (take limits.input bytes))) }

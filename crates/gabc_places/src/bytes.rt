@@ -9,7 +9,8 @@ use crate::place::{Char, Place};
 /// `chars`; `None` if the text has no such byte. With the characters of a kept text, as `kept_chars` of the crates above
 /// returns them, this tells where an item stands whose span begins at `byte`.
 pub fn place_of_byte(chars: &[Char], byte: usize) -> Option<Place>
-    ensures { MatchOption result (bytes_in chars.now ≤ byte) (λ place. IsByteAt chars.now byte place) }
+    ensures { MatchOption result (bytes_in chars.now ≤ byte)
+        (λ place. IsByteAt chars.now byte place) }
 {
     let mut left = byte;
     for x in chars {

@@ -3,9 +3,10 @@
 //! What the first stage gives for one input waits in a room between the two. The caller gives that room, so that no call of a chain asks for memory.
 
 ghost use Rattle.std.specs.Prelude.{◌≡◌, ℕ, ◌+◌, ◌*◌, ◌^◌, ◌<◌, ◌≤◌, length};
-ghost use Rattle.gabc_places.specs.Held.{HasRoom};
-ghost use Rattle.gabc_places.specs.Law.{GivesAll, StopsAtEnd};
-ghost use Rattle.gabc_places.specs.Chained.{in_a_row};
+ghost use Rattle.gabc_places.specs.BoundedList.{Fits};
+ghost use Rattle.gabc_places.specs.machine.StageLaw.{PushesAll};
+ghost use Rattle.gabc_places.specs.StageLaw.{StopsAtEnd};
+ghost use Rattle.gabc_places.specs.Chain.{chain_events};
 
 use crate::{Room, Stage};
 use std::marker::Model;
@@ -20,9 +21,9 @@ pub struct Chain<A: Stage, B: Stage<Input = A::Output>> {
 
 impl<A: Stage, B: Stage<Input = A::Output>> Model for Chain<A, B> {
     ghost use Rattle.std.specs.Prelude.{◌+◌, ◌*◌, ◌^◌, ◌<◌, ◌≤◌};
-    ghost use Rattle.gabc_places.specs.Chained.{Chained};
+    ghost use Rattle.gabc_places.specs.Chain.{StagePair};
 
-    ghost Value = { Chained A B };
+    ghost Value = { StagePair A B };
 
     ghost view = { λ c. record { first = c.first; second = c.second } };
 
@@ -63,7 +64,7 @@ impl<A: Stage, B: Stage<Input = A::Output>> Stage for Chain<A, B> {
 
     type Output = B::Output;
 
-    ghost rest = { λ c xs. in_a_row (A.rest c.first) (B.rest c.second) xs };
+    ghost rest = { λ c xs. chain_events (A.rest c.first) (B.rest c.second) xs };
 
     ghost most_of = { λ c. (A.most_of c.first + 1) * B.most_of c.second };
 
@@ -96,9 +97,10 @@ impl<A: Stage, B: Stage<Input = A::Output>> Stage for Chain<A, B> {
 fn push_all<S: Stage>(stage: &mut S, inputs: &[S::Input], out: &mut Room<S::Output>)
 where
     S::Input: Copy,
-    requires { HasRoom out.old (S.most_of stage.old * length inputs.now) }
+    requires { Fits out.old (S.most_of stage.old * length inputs.now) }
     ensures most { S.most_of stage.new ≡ S.most_of stage.old }
-    ensures gives { GivesAll (S.rest stage.old) (S.rest stage.new) inputs.now (S.most_of stage.old) out.old out.new }
+    ensures events { PushesAll (S.rest stage.old)
+        (S.rest stage.new) inputs.now (S.most_of stage.old) out.old out.new }
     ensures end { StopsAtEnd S.is_end (S.rest stage.new) out.old out.new }
 {
     for input in inputs {

@@ -2,8 +2,8 @@
 
 ghost use Rattle.std.specs.Prelude.{◌≡◌, ◌+◌, ◌^◌, ◌<◌, length, IfOk, OnOk};
 ghost use Rattle.std.specs.Str.{chars};
-ghost use Rattle.gabc_places.specs.Law.{joined, GivesNothing};
-ghost use Rattle.gabc_places.specs.Place.{placed_from};
+ghost use Rattle.gabc_places.specs.StageLaw.{concat_of, GivesNothing};
+ghost use Rattle.gabc_places.specs.Place.{placed_characters_from};
 
 use crate::{Char, Place, Room, Sequence, Stage};
 use std::alloc::{AllocError, Global};
@@ -18,7 +18,8 @@ pub fn outputs_of<S: Stage<Input = Char>>(
 ) -> Result<Sequence<S::Output>, AllocError>
     requires line { at.line + length text.now < 2 ^ 64 }
     requires column { at.column + length text.now < 2 ^ 64 }
-    ensures all { IfOk result (λ all. all ≡ joined (S.rest stage.old (placed_from at (chars text.now)))) }
+    ensures all { IfOk result (λ all. all
+        ≡ concat_of (S.rest stage.old (placed_characters_from at (chars text.now)))) }
     ensures over { OnOk result (GivesNothing (S.rest stage.new)) }
 {
     let mut room = Room::with_limit(alloc, stage.most())?;

@@ -2,7 +2,7 @@
 
 ghost use Rattle.std.specs.Prelude.{◌≡◌, ◌≤◌, ◌==◌, length, drop, slice_index, IfOk, if◌then◌else◌};
 ghost use Rattle.std.specs.Str.{chars};
-ghost use Rattle.gabc_places.specs.Text.{decoded_of, front_of as front, tail_of, stopped_by as stopped, text_of_characters};
+ghost use Rattle.gabc_places.specs.Text.{decoded_of, utf8_prefix_of as utf8_prefix, tail_of, stop_code_of, text_of_characters};
 
 use crate::code::{Code, Fault};
 use crate::decoded::{Decoded, Tail};
@@ -13,7 +13,7 @@ use std::alloc::{AllocError, Global};
 
 /// Returns the text of an input's `bytes`, and its fault. `ended` tells that the source ended and did not fail.
 ///
-/// The text is the longest front of the bytes that is UTF-8, without U+FEFF, with CR LF and CR as LF. Bytes past
+/// The text is the longest prefix of the bytes that is UTF-8, without U+FEFF, with CR LF and CR as LF. Bytes past
 /// `limits.input` are not read. The fault is F1 at bytes that begin no character, else F7 where there are more bytes than
 /// the limit, else F1 at an unfinished character if the source ended. Its place is behind the text.
 pub fn text_of(
@@ -27,25 +27,25 @@ pub fn text_of(
     let limit = limits.input as usize;
     let over = limit < bytes.len();
     let within = if over { &bytes[..limit] } else { bytes };
-    let (front, tail) = front_of(within);
-    let text = text_of_front(alloc, front)?;
-    let fault = stopped_by(over, ended, tail).map(|code| Fault {
+    let (prefix, tail) = prefix_and_tail(within);
+    let text = text_of_prefix(alloc, prefix)?;
+    let fault = stop_code(over, ended, tail).map(|code| Fault {
         place: text.end(),
         code,
     });
     Ok(Decoded { text, fault })
 }
 
-/// The longest front that is UTF-8, and what follows it.
-fn front_of(bytes: &[u8]) -> (&str, Tail)
-    ensures text { chars result.0.now ≡ front bytes.now }
+/// The longest prefix that is UTF-8, and what follows it.
+fn prefix_and_tail(bytes: &[u8]) -> (&str, Tail)
+    ensures text { chars result.0.now ≡ utf8_prefix bytes.now }
     ensures tail { result.1 ≡ tail_of bytes.now }
 {
     match simdutf8::compat::from_utf8(bytes) {
         Ok(text) => (text, Tail::Nothing),
         Err(error) => {
-            let front = &bytes[..error.valid_up_to()];
-            let Ok(text) = simdutf8::compat::from_utf8(front) else {
+            let prefix = &bytes[..error.valid_up_to()];
+            let Ok(text) = simdutf8::compat::from_utf8(prefix) else {
                 unreachable!()
             };
             match error.error_len() {
@@ -57,8 +57,8 @@ fn front_of(bytes: &[u8]) -> (&str, Tail)
 }
 
 /// What stops an input with this tail.
-fn stopped_by(over: bool, ended: bool, tail: Tail) -> Option<Code>
-    ensures { result ≡ stopped over ended tail }
+fn stop_code(over: bool, ended: bool, tail: Tail) -> Option<Code>
+    ensures { result ≡ stop_code_of over ended tail }
 {
     match tail {
         Tail::Wrong => Some(Code::F1),
@@ -69,11 +69,11 @@ fn stopped_by(over: bool, ended: bool, tail: Tail) -> Option<Code>
 }
 
 /// The text of these characters: each CR LF and each other CR read as LF, without U+FEFF.
-fn text_of_front(alloc: Global, front: &str) -> Result<Text, AllocError>
-    ensures { IfOk result (λ text. text ≡ text_of_characters (chars front.now)) }
+fn text_of_prefix(alloc: Global, prefix: &str) -> Result<Text, AllocError>
+    ensures { IfOk result (λ text. text ≡ text_of_characters (chars prefix.now)) }
 {
     let mut text = Text::new(alloc);
-    let mut rest = front;
+    let mut rest = prefix;
     while let Some(at) = memchr(b'\r', rest.as_bytes()) {
         text.push_shown(&rest[..at])?;
         text.push('\n')?;
@@ -83,9 +83,11 @@ fn text_of_front(alloc: Global, front: &str) -> Result<Text, AllocError>
     Ok(text)
 }
 
-/// What follows an LF at the front, or all where no LF stands there.
+/// What follows an LF at the start, or all where no LF stands there.
 fn without_line_feed(text: &str) -> &str
-    ensures text { chars result.now ≡ (if slice_index (chars text.now) 0 == 10 then drop 1 (chars text.now) else chars text.now) }
+    ensures text { chars result.now
+        ≡ (if slice_index (chars text.now) 0 == 10 then drop 1 (chars text.now)
+        else chars text.now) }
     ensures no_longer { length result.now ≤ length text.now }
 {
     match text.strip_prefix('\n') {

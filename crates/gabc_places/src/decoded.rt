@@ -3,7 +3,7 @@
 use crate::code::Fault;
 use crate::text::Text;
 
-/// What follows the longest front of some bytes that is UTF-8: nothing, a part of a character, or bytes that begin none.
+/// What follows the longest prefix of some bytes that is UTF-8: nothing, a part of a character, or bytes that begin none.
 #[derive(Clone, Copy)]
 pub(crate) enum Tail {
     Nothing,

@@ -21,7 +21,8 @@ impl Place {
         requires line { self.line + 1 < 2 ^ 64 }
         requires column { self.column + 1 < 2 ^ 64 }
         ensures next { result ≡ next_place self c }
-        ensures follows { (text : List ℕ) → self ≡ place_after text → result ≡ place_after (text ++ c ∷ []) }
+        ensures follows { (text : List ℕ) → self ≡ place_after text →
+            result ≡ place_after (text ++ c ∷ []) }
     {
         if c == '\n' {
             Place {

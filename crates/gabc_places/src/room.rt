@@ -1,7 +1,7 @@
 //! A list of bounded length, whose memory is reserved when it is made.
 
 ghost use Rattle.std.specs.Prelude.{◌≡◌, ℕ, ◌+◌, ◌-◌, ◌<◌, ◌≤◌, ◌==◌, List, [], ◌∷◌, ◌++◌, length, IfOk, IsTrue, ◌↔◌};
-ghost use Rattle.gabc_places.specs.Held.{HasRoom, added, room_left};
+ghost use Rattle.gabc_places.specs.BoundedList.{Fits, extended_by, room_left};
 
 use std::alloc::{AllocError, Global};
 use std::marker::Model;
@@ -15,9 +15,9 @@ pub struct Room<T: Copy> {
 
 impl<T: Copy> Model for Room<T> {
     ghost use Rattle.std.specs.Prelude.{◌≤◌, vec_len, vec_capacity};
-    ghost use Rattle.gabc_places.specs.Held.{Held};
+    ghost use Rattle.gabc_places.specs.BoundedList.{BoundedList};
 
-    ghost Value = { Held T };
+    ghost Value = { BoundedList T };
 
     ghost view = { λ r. record { items = r.items.items; limit = r.limit } };
 
@@ -58,8 +58,8 @@ impl<T: Copy> Room<T> {
 
     /// Adds `item` at the end.
     pub fn push(&mut self, item: T)
-        requires { HasRoom self.old 1 }
-        ensures { self.new ≡ added self.old (item ∷ []) }
+        requires { Fits self.old 1 }
+        ensures { self.new ≡ extended_by self.old (item ∷ []) }
     {
         let Ok(()) = self.items.push(item) else {
             unreachable!()
@@ -68,8 +68,8 @@ impl<T: Copy> Room<T> {
 
     /// Adds `items` at the end.
     pub fn append(&mut self, items: &[T])
-        requires { HasRoom self.old (length items.now) }
-        ensures { self.new ≡ added self.old items.now }
+        requires { Fits self.old (length items.now) }
+        ensures { self.new ≡ extended_by self.old items.now }
     {
         let Ok(()) = self.items.extend_from_slice(items) else {
             unreachable!()

@@ -1,11 +1,11 @@
 //! Where bytes go.
 
 ghost use Rattle.std.specs.Prelude.{◌≡◌, ℕ, ◌<◌, ◌≤◌, length, take, List, IfOk, OnOk, OnErr, IfErr, Option};
-ghost use Rattle.gabc_places.specs.Counted.{CountsFailure};
+ghost use Rattle.gabc_places.specs.Failures.{CountsFailure};
 ghost use Rattle.std.specs.Io.KnownBytes.{Appends, WriteAppends};
 ghost use Rattle.std.specs.Io.{WritesAtMost};
 
-use crate::Count;
+use crate::GhostCount;
 use std::io::Write;
 use std::marker::Model;
 use thiserror::Error;
@@ -23,7 +23,7 @@ pub trait Sink {
     // how many writes failed
     ghost failures: { Self → ℕ };
 
-    /// Takes bytes of the front of `bytes`, and returns how many: at least one, if there is one. Where it fails it took none.
+    /// Takes bytes of the prefix of `bytes`, and returns how many: at least one, if there is one. Where it fails it took none.
     fn write(&mut self, bytes: &[u8]) -> Result<usize, SinkFault>
         ensures bound { WritesAtMost result bytes.now }
         ensures bytes { WriteAppends (written self.old) (written self.new) result bytes.now }
@@ -44,7 +44,8 @@ pub struct Unsent {
 /// Writes all `bytes` to `sink`. Where the sink fails, it took the first `sent` of them, and nothing more is tried.
 pub fn send_all<S: Sink>(sink: &mut S, bytes: &[u8]) -> Result<(), Unsent>
     ensures all { OnOk result (Appends (S.written sink.old) (S.written sink.new) bytes.now) }
-    ensures front { IfErr result (λ u. Appends (S.written sink.old) (S.written sink.new) (take u.sent bytes.now)) }
+    ensures prefix { IfErr result (λ u. Appends (S.written sink.old) (S.written sink.new)
+        (take u.sent bytes.now)) }
     ensures less { IfErr result (λ u. u.sent < length bytes.now) }
     ensures fails { OnErr result (S.failures sink.old < S.failures sink.new) }
     ensures steady { OnOk result (S.failures sink.new ≡ S.failures sink.old) }
@@ -64,13 +65,13 @@ pub fn send_all<S: Sink>(sink: &mut S, bytes: &[u8]) -> Result<(), Unsent>
 #[derive(Drop)]
 pub struct ToWriter<W: Write + Drop> {
     inner: W,
-    failures: Count,
+    failures: GhostCount,
 }
 
 impl<W: Write + Drop> Model for ToWriter<W> {
-    ghost use Rattle.gabc_places.specs.Counted.{Counted};
+    ghost use Rattle.gabc_places.specs.Failures.{WithFailures};
 
-    ghost Value = { Counted W };
+    ghost Value = { WithFailures W };
 
     ghost view = { λ s. record { inner = s.inner; failures = s.failures } };
 }
@@ -82,7 +83,7 @@ impl<W: Write + Drop> ToWriter<W> {
     {
         ToWriter {
             inner,
-            failures: Count::zero(),
+            failures: GhostCount::zero(),
         }
     }
 
@@ -101,7 +102,8 @@ impl<W: Write + Drop> Sink for ToWriter<W> {
 
     fn write(&mut self, bytes: &[u8]) -> Result<usize, SinkFault>
         ensures bound { WritesAtMost result bytes.now }
-        ensures bytes { WriteAppends (W.contents self.old.inner) (W.contents self.new.inner) result bytes.now }
+        ensures bytes { WriteAppends (W.contents self.old.inner)
+            (W.contents self.new.inner) result bytes.now }
         ensures takes { IfOk result (λ n. 0 < length bytes.now → 0 < n) }
         ensures counted { CountsFailure result self.old.failures self.new.failures }
     {

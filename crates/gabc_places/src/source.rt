@@ -1,11 +1,11 @@
 //! Where bytes come from.
 
 ghost use Rattle.std.specs.Prelude.{◌≡◌, ℕ, ◌<◌, ◌≤◌, List, OnErr, OnOk, Option};
-ghost use Rattle.gabc_places.specs.Counted.{CountsFailure};
+ghost use Rattle.gabc_places.specs.Failures.{CountsFailure};
 ghost use Rattle.std.specs.Io.KnownBytes.{ReadConsumes};
 ghost use Rattle.std.specs.Io.{ReadsAtMost};
 
-use crate::Count;
+use crate::GhostCount;
 use std::io::Read;
 use std::marker::Model;
 use thiserror::Error;
@@ -23,7 +23,7 @@ pub trait Source {
     // how many reads failed
     ghost failures: { Self → ℕ };
 
-    /// Reads at most as many bytes as `buf` has, into its front, and returns how many. A read of 0 bytes into a `buf` that has some
+    /// Reads at most as many bytes as `buf` has, into its start, and returns how many. A read of 0 bytes into a `buf` that has some
     /// is the end.
     fn read(&mut self, buf: &mut [u8]) -> Result<usize, SourceFault>
         ensures bound { ReadsAtMost result buf.new }
@@ -37,13 +37,13 @@ pub trait Source {
 #[derive(Drop)]
 pub struct FromReader<R: Read + Drop> {
     inner: R,
-    failures: Count,
+    failures: GhostCount,
 }
 
 impl<R: Read + Drop> Model for FromReader<R> {
-    ghost use Rattle.gabc_places.specs.Counted.{Counted};
+    ghost use Rattle.gabc_places.specs.Failures.{WithFailures};
 
-    ghost Value = { Counted R };
+    ghost Value = { WithFailures R };
 
     ghost view = { λ s. record { inner = s.inner; failures = s.failures } };
 }
@@ -55,7 +55,7 @@ impl<R: Read + Drop> FromReader<R> {
     {
         FromReader {
             inner,
-            failures: Count::zero(),
+            failures: GhostCount::zero(),
         }
     }
 
@@ -74,7 +74,8 @@ impl<R: Read + Drop> Source for FromReader<R> {
 
     fn read(&mut self, buf: &mut [u8]) -> Result<usize, SourceFault>
         ensures bound { ReadsAtMost result buf.new }
-        ensures bytes { ReadConsumes (R.remaining self.old.inner) (R.remaining self.new.inner) result buf.new }
+        ensures bytes { ReadConsumes (R.remaining self.old.inner)
+            (R.remaining self.new.inner) result buf.new }
         ensures counted { CountsFailure result self.old.failures self.new.failures }
     {
         match self.inner.read(buf) {

@@ -1,8 +1,8 @@
 //! Machines that take one input at a time.
 
 ghost use Rattle.std.specs.Prelude.{◌≡◌, ℕ, ◌+◌, ◌*◌, ◌≤◌, List, length, Bool};
-ghost use Rattle.gabc_places.specs.Held.{HasRoom, added};
-ghost use Rattle.gabc_places.specs.Law.{joined, Gives, Ends, GivesNothing, StopsAtEnd};
+ghost use Rattle.gabc_places.specs.BoundedList.{Fits, extended_by};
+ghost use Rattle.gabc_places.specs.StageLaw.{concat_of, Pushes, Finishes, GivesNothing, StopsAtEnd};
 
 use crate::Room;
 
@@ -27,16 +27,17 @@ pub trait Stage {
 
     /// Takes `input`, and adds to `out` what is known to follow from it.
     fn push(&mut self, input: Self::Input, out: &mut Room<Self::Output>)
-        requires { HasRoom out.old (most_of self.old) }
+        requires { Fits out.old (most_of self.old) }
         ensures most { most_of self.new ≡ most_of self.old }
-        ensures gives { Gives (rest self.old) (rest self.new) input (most_of self.old) out.old out.new }
+        ensures events { Pushes (rest self.old)
+            (rest self.new) input (most_of self.old) out.old out.new }
         ensures end { StopsAtEnd is_end (rest self.new) out.old out.new };
 
     /// Ends the inputs, and adds to `out` what was still to come. From then on it gives nothing.
     fn finish(&mut self, out: &mut Room<Self::Output>)
-        requires { HasRoom out.old (most_of self.old) }
+        requires { Fits out.old (most_of self.old) }
         ensures most { most_of self.new ≡ most_of self.old }
-        ensures ends { Ends (rest self.old) (most_of self.old) out.old out.new }
+        ensures ends { Finishes (rest self.old) (most_of self.old) out.old out.new }
         ensures end { StopsAtEnd is_end (rest self.new) out.old out.new }
         ensures over { GivesNothing (rest self.new) };
 }
@@ -45,9 +46,9 @@ pub trait Stage {
 pub fn drive<S: Stage>(stage: &mut S, inputs: Vec<S::Input>, out: &mut Room<S::Output>)
 where
     S::Input: Drop,
-    requires { HasRoom out.old (S.most_of stage.old * (length inputs.items + 1)) }
+    requires { Fits out.old (S.most_of stage.old * (length inputs.items + 1)) }
     ensures most { S.most_of stage.new ≡ S.most_of stage.old }
-    ensures gives { out.new ≡ added out.old (joined (S.rest stage.old inputs.items)) }
+    ensures events { out.new ≡ extended_by out.old (concat_of (S.rest stage.old inputs.items)) }
     ensures over { GivesNothing (S.rest stage.new) }
 {
     for input in inputs {

@@ -142,10 +142,10 @@ fn keeps_texts_and_findings(rt: HostRuntime) -> Result<(), Fail> {
 
 #[test]
 fn laws_are_called() {
-    laws::plain_text();
+    laws::texts_are_plain();
     laws::first_place();
-    laws::placed_at();
-    laws::placed_joined();
+    laws::characters_stand_behind_the_text_before();
+    laws::places_need_nothing_behind();
     laws::earliest_is_least();
 }
 

@@ -3,12 +3,12 @@
 ghost use Rattle.std.specs.Prelude.{◌≡◌, ◌<◌, ◌≤◌, ◌↔◌, [], ◌++◌, length, IfOk, IsErr, OnErr, OnOk, None, Some};
 ghost use Rattle.std.specs.Io.{ReadsAtMost, WritesAtMost};
 ghost use Rattle.std.specs.Io.KnownBytes.{ReadConsumes, WriteAppends};
-ghost use Rattle.gabc_places.specs.Counted.{CountsFailure};
-ghost use Rattle.gabc_places.specs.Trial.{given_count, taken_count};
+ghost use Rattle.gabc_places.specs.Failures.{CountsFailure};
+ghost use Rattle.gabc_places.specs.Trial.{read_count, write_count};
 ghost use Rattle.std.specs.Prelude.{◌-◌};
 ghost use Rattle.std.specs.Option.{option_map};
 
-use crate::count::Count;
+use crate::ghost_count::GhostCount;
 use crate::room::Room;
 use crate::sink::{Sink, SinkFault};
 use crate::source::{Source, SourceFault};
@@ -21,14 +21,14 @@ pub struct TrialSource<'a> {
     rest: &'a [u8],
     most: usize,
     fails_after: Option<usize>,
-    failures: Count,
+    failures: GhostCount,
 }
 
 impl<'a> Model for TrialSource<'a> {
     ghost use Rattle.std.specs.Prelude.{◌<◌};
-    ghost use Rattle.gabc_places.specs.Trial.{Giving};
+    ghost use Rattle.gabc_places.specs.Trial.{SourceState};
 
-    ghost Value = { Giving };
+    ghost Value = { SourceState };
 
     ghost view = { λ s. record { rest = s.rest.now; most = s.most; fails_after = s.fails_after; failures = s.failures } };
 
@@ -39,13 +39,18 @@ impl<'a> TrialSource<'a> {
     /// Returns a source of `bytes`, at most `most` a read, whose reads fail once it gave `fails_after` bytes.
     pub fn new(bytes: &'a [u8], most: usize, fails_after: Option<usize>) -> TrialSource<'a>
         requires { 0 < most }
-        ensures { result ≡ record { rest = bytes.now; most = most; fails_after = fails_after; failures = 0 } }
+        ensures { result ≡ record {
+          rest = bytes.now;
+          most = most;
+          fails_after = fails_after;
+          failures = 0;
+        } }
     {
         TrialSource {
             rest: bytes,
             most,
             fails_after,
-            failures: Count::zero(),
+            failures: GhostCount::zero(),
         }
     }
 }
@@ -63,9 +68,10 @@ impl Source for TrialSource<'_> {
         ensures counted { CountsFailure result self.old.failures self.new.failures }
         ensures steady { OnOk result (self.new.failures ≡ self.old.failures) }
         ensures fails { IsErr result ↔ (self.old.fails_after ≡ Some 0) }
-        ensures count { IfOk result (λ n. n ≡ given_count self.old (length buf.old)) }
+        ensures count { IfOk result (λ n. n ≡ read_count self.old (length buf.old)) }
         ensures most { self.new.most ≡ self.old.most }
-        ensures later { IfOk result (λ n. self.new.fails_after ≡ option_map (λ left. left - n) self.old.fails_after) }
+        ensures later { IfOk result (λ n. self.new.fails_after
+            ≡ option_map (λ left. left - n) self.old.fails_after) }
         ensures stays { OnErr result (self.new.fails_after ≡ self.old.fails_after) }
     {
         if self.fails_after == Some(0) {
@@ -89,14 +95,14 @@ impl Source for TrialSource<'_> {
 pub struct TrialSink {
     taken: Room<u8>,
     most: usize,
-    failures: Count,
+    failures: GhostCount,
 }
 
 impl Model for TrialSink {
     ghost use Rattle.std.specs.Prelude.{◌<◌};
-    ghost use Rattle.gabc_places.specs.Trial.{Taking};
+    ghost use Rattle.gabc_places.specs.Trial.{SinkState};
 
-    ghost Value = { Taking };
+    ghost Value = { SinkState };
 
     ghost view = { λ s. record { held = s.taken.items; most = s.most; fails_at = s.taken.limit; failures = s.failures } };
 
@@ -107,12 +113,17 @@ impl TrialSink {
     /// Returns a sink that takes at most `most` bytes a write, and fails where it holds `fails_at` bytes and is given more.
     pub fn new(alloc: Global, most: usize, fails_at: usize) -> Result<TrialSink, AllocError>
         requires { 0 < most }
-        ensures { IfOk result (λ s. s ≡ record { held = []; most = most; fails_at = fails_at; failures = 0 }) }
+        ensures { IfOk result (λ s. s ≡ record {
+          held = [];
+          most = most;
+          fails_at = fails_at;
+          failures = 0;
+        }) }
     {
         Ok(TrialSink {
             taken: Room::with_limit(alloc, fails_at)?,
             most,
-            failures: Count::zero(),
+            failures: GhostCount::zero(),
         })
     }
 
@@ -137,8 +148,9 @@ impl Sink for TrialSink {
         ensures counts { self.old.failures ≤ self.new.failures }
         ensures counted { CountsFailure result self.old.failures self.new.failures }
         ensures steady { OnOk result (self.new.failures ≡ self.old.failures) }
-        ensures fails { IsErr result ↔ ((length self.old.held ≡ self.old.fails_at) × (0 < length bytes.now)) }
-        ensures count { IfOk result (λ n. n ≡ taken_count self.old (length bytes.now)) }
+        ensures fails { IsErr result ↔ ((length self.old.held ≡ self.old.fails_at) ×
+            (0 < length bytes.now)) }
+        ensures count { IfOk result (λ n. n ≡ write_count self.old (length bytes.now)) }
         ensures most { self.new.most ≡ self.old.most }
         ensures fails_at { self.new.fails_at ≡ self.old.fails_at }
     {

@@ -5,86 +5,86 @@ use Rattle.std.proofs.lemmas.Bool.{ltb-true, ltb-false}
 use Rattle.std.proofs.lemmas.List.{take-append-le}
 use Rattle.std.proofs.lemmas.List.Sums.{sum_by-append, sum_by-cons}
 use Rattle.std.proofs.Math.Seq.{take-append-add}
-use Rattle.gabc_places.specs.Law.{joined}
+use Rattle.gabc_places.specs.StageLaw.{concat_of}
 use Rattle.gabc_places.specs.declared.place.Place.{Place}
 use Rattle.gabc_places.specs.declared.place.Char.{Char}
-use Rattle.gabc_text.specs.declared.stage.TextOut.{TextOut}
-use Rattle.gabc_text.specs.Outs.{codes_of}
-use Rattle.gabc_notes.specs.Read.{ends_of}
+use Rattle.gabc_text.specs.declared.stage.TextEvent.{TextEvent}
+use Rattle.gabc_text.specs.Events.{codes_of}
+use Rattle.gabc_notes.specs.SnippetRead.{ends_of}
 use Rattle.gabc_notes.specs.declared.stage.NoteEnd.TheVariants as note_end
-use Rattle.gabc_notes.specs.declared.stage.NoteOut.{NoteOut}
-use Rattle.gabc_notes.specs.declared.stage.NoteOut.TheVariants as note
-use Rattle.gabc_score.specs.declared.told.Told.{Told}
-use Rattle.gabc_score.specs.declared.told.Told.TheVariants.{Text, Notes}
-use Rattle.gabc_score.specs.Syllable.{closes, since_close, all_made, made_by, is_eu, is_nlba}
-use Rattle.gabc_score.specs.Body.{onto}
-use Rattle.gabc_score.specs.Parts.{Part, InComment, InText, InNotes, is_next, is_close, notes_told, first_list, told_in, texts_said, snippet_from, next_line}
-use Rattle.gabc_score.specs.Units.{Mark, Opens, Next, Closes, Piece, Ended, BodyUnit, LastUnit, JustText, OpenNotes, piece, whole, onward, told_through, mark_in, Endless, EndsBehind, snippets_with, last_pieces, units_pieces, follows, Cuts, cut_told}
+use Rattle.gabc_notes.specs.declared.stage.NoteEvent.{NoteEvent}
+use Rattle.gabc_notes.specs.declared.stage.NoteEvent.TheVariants as note
+use Rattle.gabc_score.specs.declared.events.BodyEvent.{BodyEvent}
+use Rattle.gabc_score.specs.declared.events.BodyEvent.TheVariants.{Text, Notes}
+use Rattle.gabc_score.specs.Syllable.{closes, since_close, all_syllables, syllable_by, is_eu, is_nlba}
+use Rattle.gabc_score.specs.Body.{events_onto}
+use Rattle.gabc_score.specs.Events.{PartAhead, InComment, InText, InNotes, is_next, is_close, note_event, first_list, events_in, texts_by_definition, snippet_from, next_line}
+use Rattle.gabc_score.specs.Units.{Mark, Opens, Next, Closes, CutPart, EndedPart, BodyUnit, LastUnit, JustText, OpenNotes, cut_part, whole, part_onward, events_through, mark_in, Endless, EndsBehind, snippets_with, last_pieces, units_pieces, part_following, Cuts, events_of_cutting}
 use Rattle.gabc_score.specs.SyllablesOfUnits.{with_ends, characters_in, count_within}
-use Rattle.gabc_score.proofs.Seams.{size}
-use Rattle.gabc_score.proofs.PartsSorted.{joined_append}
-use Rattle.gabc_score.proofs.SnippetEnds.{Marks}
-use Rattle.gabc_score.proofs.LineEnds.{LineTold, line_told}
-use Rattle.gabc_score.proofs.Units.{text_mark}
-use Rattle.gabc_score.proofs.FrontsAreReadAlike.{through_length}
-use Rattle.gabc_score.proofs.HeldPieces.{fits_front, fits_back}
+use Rattle.gabc_score.proofs.texts_of_body.SeamsOfCharacters.{size}
+use Rattle.gabc_score.proofs.order.FindingsOfParts.{joined_append}
+use Rattle.gabc_score.proofs.snippets_of_body.SnippetsEndAlike.{Marks}
+use Rattle.gabc_score.proofs.snippets_of_body.SnippetEmitsThroughEnd.{LineEmitted, line_emitted}
+use Rattle.gabc_score.proofs.units.BodyHasOneCutting.{text_mark}
+use Rattle.gabc_score.proofs.PrefixesAreReadAlike.{through_length}
+use Rattle.gabc_score.proofs.holding.SyllablesHoldParts.{fits_prefix, fits_back}
 
 -- ---- how many syllables are ended
 
-abbrev close_of : Told → ℕ
+abbrev close_of : BodyEvent → ℕ
 close_of t = cond (closes t) 1 0
 
-abbrev pub close_count : List Told → ℕ
+abbrev pub close_count : List BodyEvent → ℕ
 close_count ts = sum_by close_of ts
 
-count_append : (ts us : List Told) → close_count (ts ++ us) ≡ close_count ts + close_count us
+count_append : (ts us : List BodyEvent) → close_count (ts ++ us) ≡ close_count ts + close_count us
 count_append ts us = sum_by-append close_of ts us
 
-count_one : (t : Told) (ts : List Told) → close_count (t ∷ ts) ≡ close_of t + close_count ts
+count_one : (t : BodyEvent) (ts : List BodyEvent) → close_count (t ∷ ts) ≡ close_of t + close_count ts
 count_one t ts = sum_by-cons close_of t ts
 
 -- what ends no syllable, before others
-none_more : (t : Told) (ts : List Told) → closes t ≡ false → close_count ts ≡ 0 → close_count (t ∷ ts) ≡ 0
+none_more : (t : BodyEvent) (ts : List BodyEvent) → closes t ≡ false → close_count ts ≡ 0 → close_count (t ∷ ts) ≡ 0
 none_more t ts h k =
     let here : close_of t ≡ 0 = ap (λ b. cond b 1 0) h in
     let all : close_count (t ∷ ts) ≡ close_of t + close_count ts = count_one t ts in
     omega arith
 
-made_one : (t : Told) (before : List Told) → length (all_made (t ∷ before)) ≡ length (all_made before) + close_of t
+made_one : (t : BodyEvent) (before : List BodyEvent) → length (all_syllables (t ∷ before)) ≡ length (all_syllables before) + close_of t
 made_one t before = by (closes t)
   where
-    by : (b : Bool) → length (cond b (all_made before ++ made_by (t ∷ since_close before) (is_eu before) (is_nlba before) ∷ []) (all_made before)) ≡ length (all_made before) + cond b 1 0
-    by true = length-append (all_made before) (made_by (t ∷ since_close before) (is_eu before) (is_nlba before) ∷ [])
+    by : (b : Bool) → length (cond b (all_syllables before ++ syllable_by (t ∷ since_close before) (is_eu before) (is_nlba before) ∷ []) (all_syllables before)) ≡ length (all_syllables before) + cond b 1 0
+    by true = length-append (all_syllables before) (syllable_by (t ∷ since_close before) (is_eu before) (is_nlba before) ∷ [])
     by false = omega arith
 
 -- each `)` makes one more
-pub made_count : (ts before : List Told) → length (all_made (onto ts before)) ≡ length (all_made before) + close_count ts
+pub made_count : (ts before : List BodyEvent) → length (all_syllables (events_onto ts before)) ≡ length (all_syllables before) + close_count ts
 made_count [] before = omega arith
 made_count (t ∷ ts) before =
-    let on : length (all_made (onto ts (t ∷ before))) ≡ length (all_made (t ∷ before)) + close_count ts = made_count ts (t ∷ before) in
-    let one : length (all_made (t ∷ before)) ≡ length (all_made before) + close_of t = made_one t before in
+    let on : length (all_syllables (events_onto ts (t ∷ before))) ≡ length (all_syllables (t ∷ before)) + close_count ts = made_count ts (t ∷ before) in
+    let one : length (all_syllables (t ∷ before)) ≡ length (all_syllables before) + close_of t = made_one t before in
     let all : close_count (t ∷ ts) ≡ close_of t + close_count ts = count_one t ts in
     omega arith
 
 -- ---- of a part
 
-text_count : (outs : List TextOut) → close_count (map (λ (o : TextOut). Text o) outs) ≡ 0
+text_count : (emitted : List TextEvent) → close_count (map (λ (o : TextEvent). Text o) emitted) ≡ 0
 text_count [] = refl
-text_count (o ∷ outs) = none_more (Text o) (map (λ (p : TextOut). Text p) outs) refl (text_count outs)
+text_count (o ∷ emitted) = none_more (Text o) (map (λ (p : TextEvent). Text p) emitted) refl (text_count emitted)
 
-notes_count : (line : ℕ) (opened : Place) (outs : List NoteOut) → list_any is_close outs ≡ false → close_count (map (notes_told line opened) outs) ≡ 0
+notes_count : (line : ℕ) (opened : Place) (emitted : List NoteEvent) → list_any is_close emitted ≡ false → close_count (map (note_event line opened) emitted) ≡ 0
 notes_count line opened [] h = refl
-notes_count line opened (note.Kept x ∷ outs) h = none_more (Notes line (note.Kept x)) (map (notes_told line opened) outs) refl (notes_count line opened outs h)
-notes_count line opened (note.Found f ∷ outs) h = none_more (Notes line (note.Found f)) (map (notes_told line opened) outs) refl (notes_count line opened outs h)
-notes_count line opened (note.Ended note_end.Next n ∷ outs) h = none_more (Notes line (note.Ended note_end.Next n)) (map (notes_told line opened) outs) refl (notes_count line opened outs h)
-notes_count line opened (note.Ended note_end.Close n ∷ outs) h = absurd (cc)
-notes_count line opened (note.Ended (note_end.Cut place) n ∷ outs) h = none_more (notes_told line opened (note.Ended (note_end.Cut place) n)) (map (notes_told line opened) outs) refl (notes_count line opened outs h)
+notes_count line opened (note.Kept x ∷ emitted) h = none_more (Notes line (note.Kept x)) (map (note_event line opened) emitted) refl (notes_count line opened emitted h)
+notes_count line opened (note.Found f ∷ emitted) h = none_more (Notes line (note.Found f)) (map (note_event line opened) emitted) refl (notes_count line opened emitted h)
+notes_count line opened (note.Ended note_end.Next n ∷ emitted) h = none_more (Notes line (note.Ended note_end.Next n)) (map (note_event line opened) emitted) refl (notes_count line opened emitted h)
+notes_count line opened (note.Ended note_end.Close n ∷ emitted) h = absurd (cc)
+notes_count line opened (note.Ended (note_end.Cut place) n ∷ emitted) h = none_more (note_event line opened (note.Ended (note_end.Cut place) n)) (map (note_event line opened) emitted) refl (notes_count line opened emitted h)
 
-silent_count : (line : ℕ) (opened : Place) (outs : List NoteOut) → ends_of outs ≡ [] → close_count (map (notes_told line opened) outs) ≡ 0
+silent_count : (line : ℕ) (opened : Place) (emitted : List NoteEvent) → ends_of emitted ≡ [] → close_count (map (note_event line opened) emitted) ≡ 0
 silent_count line opened [] h = refl
-silent_count line opened (note.Kept x ∷ outs) h = none_more (Notes line (note.Kept x)) (map (notes_told line opened) outs) refl (silent_count line opened outs h)
-silent_count line opened (note.Found f ∷ outs) h = none_more (Notes line (note.Found f)) (map (notes_told line opened) outs) refl (silent_count line opened outs h)
-silent_count line opened (note.Ended how n ∷ outs) h = absurd (cc)
+silent_count line opened (note.Kept x ∷ emitted) h = none_more (Notes line (note.Kept x)) (map (note_event line opened) emitted) refl (silent_count line opened emitted h)
+silent_count line opened (note.Found f ∷ emitted) h = none_more (Notes line (note.Found f)) (map (note_event line opened) emitted) refl (silent_count line opened emitted h)
+silent_count line opened (note.Ended how n ∷ emitted) h = absurd (cc)
 
 none_closes : (a b : Bool) (l : ℕ) (o : Place) → (if a then Some (Next l o) else if b then Some Closes else None) ≡ None → b ≡ false
 none_closes true b l o e = absurd (cc)
@@ -97,53 +97,53 @@ mark_count _ = 0
 
 module _ (lines : ℕ) where
   -- a point that does not end its part ends no syllable
-  point_count : (part : Part) → mark_in lines part ≡ None → close_count (told_in part) ≡ 0
+  point_count : (part : PartAhead) → mark_in lines part ≡ None → close_count (events_in part) ≡ 0
   point_count InComment h = refl
   point_count (InText lists) h = text_count (first_list lists)
   point_count (InNotes line opened lists) h =
       notes_count line opened (first_list lists) (none_closes (list_any is_next (first_list lists)) (list_any is_close (first_list lists)) (next_line lines line) opened h)
 
-  more_count : (part : Part) (n : ℕ) (lists : List (List Told)) → mark_in lines part ≡ None → close_count (joined (take n lists)) ≡ 0 → close_count (joined (take (suc n) (told_in part ∷ lists))) ≡ 0
+  more_count : (part : PartAhead) (n : ℕ) (lists : List (List BodyEvent)) → mark_in lines part ≡ None → close_count (concat_of (take n lists)) ≡ 0 → close_count (concat_of (take (suc n) (events_in part ∷ lists))) ≡ 0
   more_count part n lists h k =
-      let all : close_count (joined (take (suc n) (told_in part ∷ lists))) ≡ close_count (told_in part) + close_count (joined (take n lists)) = count_append (told_in part) (joined (take n lists)) in
-      let here : close_count (told_in part) ≡ 0 = point_count part h in
+      let all : close_count (concat_of (take (suc n) (events_in part ∷ lists))) ≡ close_count (events_in part) + close_count (concat_of (take n lists)) = count_append (events_in part) (concat_of (take n lists)) in
+      let here : close_count (events_in part) ≡ 0 = point_count part h in
       omega arith
 
   -- before its end no syllable ends
-  before_end : (part : Part) (front : List Char) (mark : Mark) → EndsBehind lines part front mark → (n : ℕ) → n ≤ length front → close_count (joined (take n (told_through part front))) ≡ 0
-  before_end part front mark h zero k = refl
+  before_end : (part : PartAhead) (prefix : List Char) (mark : Mark) → EndsBehind lines part prefix mark → (n : ℕ) → n ≤ length prefix → close_count (concat_of (take n (events_through part prefix))) ≡ 0
+  before_end part prefix mark h zero k = refl
   before_end part [] mark h (suc n) k = absurd (omega (arith, k))
-  before_end part (x ∷ front) mark h (suc n) k = more_count part n (told_through (onward part) front) h.0 (before_end (onward part) front mark h.1 n (omega (arith, k)))
+  before_end part (x ∷ prefix) mark h (suc n) k = more_count part n (events_through (part_onward part) prefix) h.0 (before_end (part_onward part) prefix mark h.1 n (omega (arith, k)))
 
-  never_ends : (part : Part) (last : List Char) → Endless lines part last → (n : ℕ) → n ≤ length last → close_count (joined (take n (told_through part last))) ≡ 0
+  never_ends : (part : PartAhead) (last : List Char) → Endless lines part last → (n : ℕ) → n ≤ length last → close_count (concat_of (take n (events_through part last))) ≡ 0
   never_ends part last h zero k = refl
   never_ends part [] h (suc n) k = absurd (omega (arith, k))
-  never_ends part (x ∷ last) h (suc n) k = more_count part n (told_through (onward part) last) h.0 (never_ends (onward part) last h.1 n (omega (arith, k)))
+  never_ends part (x ∷ last) h (suc n) k = more_count part n (events_through (part_onward part) last) h.0 (never_ends (part_onward part) last h.1 n (omega (arith, k)))
 
-  text_through : (lists : List (List TextOut)) (front : List Char) → close_count (joined (told_through (InText lists) front)) ≡ 0
+  text_through : (lists : List (List TextEvent)) (prefix : List Char) → close_count (concat_of (events_through (InText lists) prefix)) ≡ 0
   text_through lists [] =
-      let all : close_count (joined (told_through (InText lists) [])) ≡ close_count (map (λ (o : TextOut). Text o) (first_list lists)) + 0 = count_append (map (λ (o : TextOut). Text o) (first_list lists)) [] in
-      let here : close_count (map (λ (o : TextOut). Text o) (first_list lists)) ≡ 0 = text_count (first_list lists) in
+      let all : close_count (concat_of (events_through (InText lists) [])) ≡ close_count (map (λ (o : TextEvent). Text o) (first_list lists)) + 0 = count_append (map (λ (o : TextEvent). Text o) (first_list lists)) [] in
+      let here : close_count (map (λ (o : TextEvent). Text o) (first_list lists)) ≡ 0 = text_count (first_list lists) in
       omega arith
-  text_through lists (x ∷ front) =
-      let later = told_through (onward (InText lists)) front in
-      let all : close_count (joined (told_through (InText lists) (x ∷ front))) ≡ close_count (map (λ (o : TextOut). Text o) (first_list lists)) + close_count (joined later) = count_append (map (λ (o : TextOut). Text o) (first_list lists)) (joined later) in
-      let here : close_count (map (λ (o : TextOut). Text o) (first_list lists)) ≡ 0 = text_count (first_list lists) in
-      let on : close_count (joined later) ≡ 0 = text_through _ front in
+  text_through lists (x ∷ prefix) =
+      let later = events_through (part_onward (InText lists)) prefix in
+      let all : close_count (concat_of (events_through (InText lists) (x ∷ prefix))) ≡ close_count (map (λ (o : TextEvent). Text o) (first_list lists)) + close_count (concat_of later) = count_append (map (λ (o : TextEvent). Text o) (first_list lists)) (concat_of later) in
+      let here : close_count (map (λ (o : TextEvent). Text o) (first_list lists)) ≡ 0 = text_count (first_list lists) in
+      let on : close_count (concat_of later) ≡ 0 = text_through _ prefix in
       omega arith
 
 -- ---- of parts
 
 -- how many of these parts end a unit within so many characters
-abbrev pub pieces_within : ℕ → List Piece → ℕ
+abbrev pub pieces_within : ℕ → List CutPart → ℕ
 pieces_within n [] = 0
 pieces_within n (p ∷ pieces) =
     if nat_lt (length p.characters) n then mark_count p.mark + pieces_within (n - suc (length p.characters)) pieces else 0
 
 -- what a snippet tells through its end closes a unit as its mark does
-line_count : (lines line : ℕ) (opened : Place) (front : List Char) (end : Char) (mark : Mark) (events : List Told) → LineTold lines line opened front end mark events → close_count events ≡ mark_count mark
-line_count lines line opened front end mark events l =
-    let mids = map (notes_told line opened) l.mids in
+line_count : (lines line : ℕ) (opened : Place) (prefix : List Char) (end : Char) (mark : Mark) (events : List BodyEvent) → LineEmitted lines line opened prefix end mark events → close_count events ≡ mark_count mark
+line_count lines line opened prefix end mark events l =
+    let mids = map (note_event line opened) l.mids in
     let last = Notes line (note.Ended l.how (size l.kept)) in
     let all : close_count events ≡ close_count mids + close_count (last ∷ []) = ap close_count l.told_are ∙ count_append mids (last ∷ []) in
     let silent : close_count mids ≡ 0 = silent_count line opened l.mids l.silent in
@@ -158,65 +158,65 @@ line_count lines line opened front end mark events l =
 
 module _ (lines macros : ℕ) where
   -- the part begins with these characters
-  abbrev pub IsBegun : Part → List Char → Type 0
+  abbrev pub IsBegun : PartAhead → List Char → Type 0
   IsBegun InComment xs = ⊥
   IsBegun (InText lists) xs = Unit {0}
   IsBegun (InNotes line opened lists) xs = InNotes line opened lists ≡ snippet_from lines macros line opened xs
 
-  follows_begun : (mark : Mark) (x : Char) (xs : List Char) → IsBegun (follows texts_said lines macros mark x xs) xs
+  follows_begun : (mark : Mark) (x : Char) (xs : List Char) → IsBegun (part_following texts_by_definition lines macros mark x xs) xs
   follows_begun Opens x xs = refl
   follows_begun (Next line opened) x xs = refl
   follows_begun Closes x xs = tt
 
-  part_count : (part : Part) (front : List Char) (end : Char) (rest : List Char) (mark : Mark) → IsBegun part (front ++ end ∷ rest) → size (codes_of front) < 2 ^ 63
-      → EndsBehind lines part front mark → close_count (joined (told_through part front)) ≡ mark_count mark
-  part_count InComment front end rest mark b fits h = absurd b
-  part_count (InText lists) front end rest Opens b fits h = text_through lines lists front
-  part_count (InText lists) front end rest (Next k o) b fits h = absurd (text_mark texts_said lines macros lists front (Next k o) h)
-  part_count (InText lists) front end rest Closes b fits h = absurd (text_mark texts_said lines macros lists front Closes h)
-  part_count (InNotes line opened lists) front end rest mark b fits h =
-      ap (λ part. close_count (joined (told_through part front))) b
-      ∙ line_count lines line opened front end mark _ (line_told lines macros opened line front end rest mark fits (subst (λ part. EndsBehind lines part front mark) b h))
+  part_count : (part : PartAhead) (prefix : List Char) (end : Char) (rest : List Char) (mark : Mark) → IsBegun part (prefix ++ end ∷ rest) → size (codes_of prefix) < 2 ^ 63
+      → EndsBehind lines part prefix mark → close_count (concat_of (events_through part prefix)) ≡ mark_count mark
+  part_count InComment prefix end rest mark b fits h = absurd b
+  part_count (InText lists) prefix end rest Opens b fits h = text_through lines lists prefix
+  part_count (InText lists) prefix end rest (Next k o) b fits h = absurd (text_mark texts_by_definition lines macros lists prefix (Next k o) h)
+  part_count (InText lists) prefix end rest Closes b fits h = absurd (text_mark texts_by_definition lines macros lists prefix Closes h)
+  part_count (InNotes line opened lists) prefix end rest mark b fits h =
+      ap (λ part. close_count (concat_of (events_through part prefix))) b
+      ∙ line_count lines line opened prefix end mark _ (line_emitted lines macros opened line prefix end rest mark fits (subst (λ part. EndsBehind lines part prefix mark) b h))
 
-  abbrev lists_of : Part → List Piece → List Char → List (List Told)
-  lists_of part pieces last = cut_told texts_said lines macros part pieces last
+  abbrev lists_of : PartAhead → List CutPart → List Char → List (List BodyEvent)
+  lists_of part pieces last = events_of_cutting texts_by_definition lines macros part pieces last
 
   -- parts that end within so many characters
-  pub pieces_count : (part : Part) (pieces : List Piece) (last : List Char) → IsBegun part (whole pieces last) → size (codes_of (whole pieces last)) < 2 ^ 63 → Cuts texts_said lines macros part pieces last
-      → (n : ℕ) → n ≤ length (whole pieces last) → close_count (joined (take n (lists_of part pieces last))) ≡ pieces_within n pieces
+  pub pieces_count : (part : PartAhead) (pieces : List CutPart) (last : List Char) → IsBegun part (whole pieces last) → size (codes_of (whole pieces last)) < 2 ^ 63 → Cuts texts_by_definition lines macros part pieces last
+      → (n : ℕ) → n ≤ length (whole pieces last) → close_count (concat_of (take n (lists_of part pieces last))) ≡ pieces_within n pieces
   pieces_count part [] last b fits h n k = never_ends lines part last h n k
   pieces_count part (p ∷ pieces) last b fits h n k =
       let rest = whole pieces last in
-      let next = follows texts_said lines macros p.mark p.end rest in
-      let first = told_through part p.characters in
+      let next = part_following texts_by_definition lines macros p.mark p.end rest in
+      let first = events_through part p.characters in
       let a = length p.characters in
       let size_is : length first ≡ suc a = through_length part p.characters in
       let all : length (p.characters ++ p.end ∷ rest) ≡ a + suc (length rest) = length-append p.characters (p.end ∷ rest) in
-      let one = part_count part p.characters p.end rest p.mark b (fits_front p.characters (p.end ∷ rest) fits) h.0 in
+      let one = part_count part p.characters p.end rest p.mark b (fits_prefix p.characters (p.end ∷ rest) fits) h.0 in
       let on = λ (m : ℕ) (few : m ≤ length rest). pieces_count next pieces last (follows_begun p.mark p.end rest) (fits_back (p.end ∷ []) rest (fits_back p.characters (p.end ∷ rest) fits)) h.1 m few in
       by (nat_lt a n) refl size_is all one on
     where
-      by : (b : Bool) → nat_lt (length p.characters) n ≡ b → length (told_through part p.characters) ≡ suc (length p.characters)
+      by : (b : Bool) → nat_lt (length p.characters) n ≡ b → length (events_through part p.characters) ≡ suc (length p.characters)
           → length (p.characters ++ p.end ∷ whole pieces last) ≡ length p.characters + suc (length (whole pieces last))
-          → close_count (joined (told_through part p.characters)) ≡ mark_count p.mark
-          → ((m : ℕ) → m ≤ length (whole pieces last) → close_count (joined (take m (lists_of (follows texts_said lines macros p.mark p.end (whole pieces last)) pieces last))) ≡ pieces_within m pieces)
-          → close_count (joined (take n (lists_of part (p ∷ pieces) last))) ≡ (if b then mark_count p.mark + pieces_within (n - suc (length p.characters)) pieces else 0)
+          → close_count (concat_of (events_through part p.characters)) ≡ mark_count p.mark
+          → ((m : ℕ) → m ≤ length (whole pieces last) → close_count (concat_of (take m (lists_of (part_following texts_by_definition lines macros p.mark p.end (whole pieces last)) pieces last))) ≡ pieces_within m pieces)
+          → close_count (concat_of (take n (lists_of part (p ∷ pieces) last))) ≡ (if b then mark_count p.mark + pieces_within (n - suc (length p.characters)) pieces else 0)
       by true e s all one on =
-          let first = told_through part p.characters in
-          let more = lists_of (follows texts_said lines macros p.mark p.end (whole pieces last)) pieces last in
+          let first = events_through part p.characters in
+          let more = lists_of (part_following texts_by_definition lines macros p.mark p.end (whole pieces last)) pieces last in
           let less : length p.characters < n = ltb-true (length p.characters) n e in
           let m = n - suc (length p.characters) in
           let split : n ≡ length first + m = omega arith in
           let few : m ≤ length (whole pieces last) = omega arith in
-          let lists : joined (take n (first ++ more)) ≡ joined first ++ joined (take m more) =
-          ap (λ i. joined (take i (first ++ more))) split ∙ ap joined (take-append-add first more m) ∙ joined_append first (take m more) in
-          ap close_count lists ∙ count_append (joined first) (joined (take m more)) ∙ ap (λ i. i + close_count (joined (take m more))) one ∙ ap (λ i. mark_count p.mark + i) (on m few)
+          let lists : concat_of (take n (first ++ more)) ≡ concat_of first ++ concat_of (take m more) =
+          ap (λ i. concat_of (take i (first ++ more))) split ∙ ap concat_of (take-append-add first more m) ∙ joined_append first (take m more) in
+          ap close_count lists ∙ count_append (concat_of first) (concat_of (take m more)) ∙ ap (λ i. i + close_count (concat_of (take m more))) one ∙ ap (λ i. mark_count p.mark + i) (on m few)
       by false e s all one on =
-          let first = told_through part p.characters in
-          let more = lists_of (follows texts_said lines macros p.mark p.end (whole pieces last)) pieces last in
+          let first = events_through part p.characters in
+          let more = lists_of (part_following texts_by_definition lines macros p.mark p.end (whole pieces last)) pieces last in
           let few : n ≤ length p.characters = omega (arith, ltb-false (length p.characters) n e) in
           let within : n ≤ length first = omega arith in
-          ap (λ ls. close_count (joined ls)) (take-append-le n first more within) ∙ before_end lines part p.characters p.mark h.0 n few
+          ap (λ ls. close_count (concat_of ls)) (take-append-le n first more within) ∙ before_end lines part p.characters p.mark h.0 n few
 
 -- ---- of units
 
@@ -248,9 +248,9 @@ one_more : (m : ℕ) → 1 + m ≡ suc m
 one_more m = omega arith
 
 module _ (lines : ℕ) where
-  snippets_within : (line : ℕ) (opened : Place) (nexts : List Ended) (final : Ended) (more : List Piece) (n : ℕ)
+  snippets_within : (line : ℕ) (opened : Place) (nexts : List EndedPart) (final : EndedPart) (more : List CutPart) (n : ℕ)
       → (let size = length (with_ends (nexts ++ final ∷ [])) in
-      pieces_within n (snippets_with lines line opened nexts (piece final Closes ∷ more)) ≡ (if nat_lt n size then 0 else suc (pieces_within (n - size) more)))
+      pieces_within n (snippets_with lines line opened nexts (cut_part final Closes ∷ more)) ≡ (if nat_lt n size then 0 else suc (pieces_within (n - size) more)))
   snippets_within line opened [] final more n =
       let a = length final.characters in
       let size : length (final.characters ++ final.end ∷ []) ≡ a + 1 = length-append final.characters (final.end ∷ []) in
@@ -260,7 +260,7 @@ module _ (lines : ℕ) where
   snippets_within line opened (e ∷ nexts) final more n =
       let a = length e.characters in
       let w = length (with_ends (nexts ++ final ∷ [])) in
-      let rest = snippets_with lines (next_line lines line) opened nexts (piece final Closes ∷ more) in
+      let rest = snippets_with lines (next_line lines line) opened nexts (cut_part final Closes ∷ more) in
       let size : length (e.characters ++ e.end ∷ with_ends (nexts ++ final ∷ [])) ≡ a + suc w = length-append e.characters (e.end ∷ with_ends (nexts ++ final ∷ [])) in
       ap (λ m. if nat_lt a n then m else 0) (no_more (pieces_within (n - suc a) rest) ∙ snippets_within (next_line lines line) opened nexts final more (n - suc a))
       ∙ step a w n (λ m. suc (pieces_within m more))
@@ -270,7 +270,7 @@ module _ (lines : ℕ) where
   if_none true = refl
   if_none false = refl
 
-  open_within : (line : ℕ) (opened : Place) (nexts : List Ended) (n : ℕ) → pieces_within n (snippets_with lines line opened nexts []) ≡ 0
+  open_within : (line : ℕ) (opened : Place) (nexts : List EndedPart) (n : ℕ) → pieces_within n (snippets_with lines line opened nexts []) ≡ 0
   open_within line opened [] n = refl
   open_within line opened (e ∷ nexts) n =
       let a = length e.characters in
@@ -290,7 +290,7 @@ module _ (lines : ℕ) where
       let a = length u.text.characters in
       let w = length (with_ends (u.nexts ++ u.final ∷ [])) in
       let more = units_pieces lines units last in
-      let rest = snippets_with lines 0 u.text.end.place u.nexts (piece u.final Closes ∷ more) in
+      let rest = snippets_with lines 0 u.text.end.place u.nexts (cut_part u.final Closes ∷ more) in
       let size : length (characters_in u) ≡ a + suc w = length-append u.text.characters (u.text.end ∷ with_ends (u.nexts ++ u.final ∷ [])) in
       ap (λ m. if nat_lt a n then m else 0) (no_more (pieces_within (n - suc a) rest) ∙ snippets_within 0 u.text.end.place u.nexts u.final more (n - suc a))
       ∙ step a w n (λ m. suc (pieces_within m more))

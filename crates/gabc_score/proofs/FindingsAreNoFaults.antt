@@ -12,37 +12,37 @@ use Rattle.gabc_places.specs.declared.code.Finding.{Finding}
 use Rattle.gabc_places.specs.declared.code.Fault.{Fault}
 use Rattle.gabc_places.specs.declared.limits.Limits.{Limits}
 use Rattle.gabc_places.specs.Code.{severity_of, rank_of}
-use Rattle.gabc_places.specs.Findings.{Known, known_before, Stop, earliest}
-use Rattle.gabc_places.specs.Law.{joined}
-use Rattle.gabc_places.specs.Place.{place_after, placed_after}
+use Rattle.gabc_places.specs.Findings.{Known, findings_before, Stop, earliest}
+use Rattle.gabc_places.specs.StageLaw.{concat_of}
+use Rattle.gabc_places.specs.Place.{place_after, placed_characters_behind}
 use Rattle.gabc_headers.specs.declared.heads.Heads.{Heads}
 use Rattle.gabc_headers.specs.declared.heads.HeadFault.{HeadFault}
 use Rattle.gabc_headers.specs.Book.{nabc_lines_of, is_kept, repeats, has_header, book_of}
 use Rattle.gabc_headers.specs.Lines.{lines, has_score}
-use Rattle.gabc_headers.specs.Parts.{Part as HeadPart, left_out, header, unended}
-use Rattle.gabc_headers.specs.Heads.{found as heads_found, found_at, seen_after, nameless, head_findings, head_stops, heads_by, heads_of, findings_of as found_in_heads, head_parts}
-use Rattle.gabc_text.specs.declared.stage.TextOut.{TextOut}
-use Rattle.gabc_text.specs.declared.stage.TextOut.TheVariants as text
-use Rattle.gabc_text.specs.Outs.{codes_of, outs_by_point}
-use Rattle.gabc_text.specs.Told.{found_in}
+use Rattle.gabc_headers.specs.Parts.{HeaderPart as HeadPart, left_out, header, unended}
+use Rattle.gabc_headers.specs.Heads.{findings_behind as heads_found, findings_at, names_after, name_findings, head_findings, head_stops, heads_by, heads_of, findings_of as found_in_heads, head_parts}
+use Rattle.gabc_text.specs.declared.stage.TextEvent.{TextEvent}
+use Rattle.gabc_text.specs.declared.stage.TextEvent.TheVariants as text
+use Rattle.gabc_text.specs.Events.{codes_of, events_by_point}
+use Rattle.gabc_text.specs.BuiltText.{found_in}
 use Rattle.gabc_text.specs.View.{findings}
-use Rattle.gabc_notes.specs.declared.stage.NoteOut.{NoteOut}
-use Rattle.gabc_notes.specs.declared.stage.NoteOut.TheVariants as note
-use Rattle.gabc_notes.specs.Said as notes
-use Rattle.gabc_nabc.specs.Told as nabc
+use Rattle.gabc_notes.specs.declared.stage.NoteEvent.{NoteEvent}
+use Rattle.gabc_notes.specs.declared.stage.NoteEvent.TheVariants as note
+use Rattle.gabc_notes.specs.Events as notes
+use Rattle.gabc_nabc.specs.Events as nabc
 use Rattle.gabc_nabc.specs.Table.{nabc as nabc_grammar}
 use Rattle.gabc_notes.specs.Table.{gabc}
 use Rattle.gabc_patterns.specs.Derivative.{is_snippet, is_viable}
-use Rattle.gabc_score.specs.declared.told.Told.{Told}
-use Rattle.gabc_score.specs.declared.told.Told.TheVariants as told
-use Rattle.gabc_score.specs.declared.ending.Ending.{Ending}
-use Rattle.gabc_score.specs.declared.ending.Ending.TheVariants.{Whole, Broken, At}
+use Rattle.gabc_score.specs.declared.events.BodyEvent.{BodyEvent}
+use Rattle.gabc_score.specs.declared.events.BodyEvent.TheVariants as event
+use Rattle.gabc_score.specs.declared.ending.InputEnding.{InputEnding}
+use Rattle.gabc_score.specs.declared.ending.InputEnding.TheVariants.{Whole, Broken, At}
 use Rattle.gabc_score.specs.Syllable.{is_eu, is_nlba}
-use Rattle.gabc_score.specs.Body.{onto, findings_of, Reached, read_by, ended_at, ended_by, ended_whole, stopped, found_at_end, has_last, fault_of_end, cut_of}
-use Rattle.gabc_score.specs.Parts.{Part, InComment, InText, InNotes, is_text_end, is_next, is_close, notes_told, first_list, other_lists, told_in, told_at_end, texts_said, text_from, snippet_from, next_line, behind_mark, standing, behind, told_from, body_told}
-use Rattle.gabc_score.specs.Score.{macros_of, front_of, behind_heads, score_of, score_by}
-use Rattle.gabc_score.proofs.PartsSorted.{found, found_append, found_onto, text_found_append}
-use Rattle.gabc_score.proofs.ScoreSorted.{IsFront, reached_front}
+use Rattle.gabc_score.specs.Body.{events_onto, findings_of, EventsToStop, result_by, result_at_end, result_by_fault, result_whole, result_stopped, found_at_end, has_last, fault_of_end, cut_of}
+use Rattle.gabc_score.specs.Events.{PartAhead, InComment, InText, InNotes, is_text_end, is_next, is_close, note_event, first_list, other_lists, events_in, events_at_end, texts_by_definition, text_from, snippet_from, next_line, behind_mark, part_at, part_behind, events_from, body_events}
+use Rattle.gabc_score.specs.Score.{macros_of, heads_text, behind_heads, score_of, score_by}
+use Rattle.gabc_score.proofs.order.FindingsOfParts.{found, found_append, found_onto, text_found_append}
+use Rattle.gabc_score.proofs.order.FindingsOfScore.{IsFront, reached_prefix}
 
 abbrev pub IsNoFault : Finding → Type 0
 IsNoFault f = severity_of f.code ≢ Fatal
@@ -114,15 +114,15 @@ known_cond : (b : Bool) (ks ls : List Known) → NoneKnown ks → NoneKnown ls �
 known_cond true ks ls h k = h
 known_cond false ks ls h k = k
 
-before_point : (stop : ℕ) (ks : List Known) → NoneKnown ks → NoFaults (known_before stop ks)
+before_point : (stop : ℕ) (ks : List Known) → NoneKnown ks → NoFaults (findings_before stop ks)
 before_point stop [] h = tt
 before_point stop (k ∷ ks) h = by (nat_lt k.point stop) (before_point stop ks h.1)
   where
-    by : (b : Bool) → NoFaults (known_before stop ks) → NoFaults (map (λ (l : Known). l.finding) (if b then k ∷ filter (λ (l : Known). nat_lt l.point stop) ks else filter (λ (l : Known). nat_lt l.point stop) ks))
+    by : (b : Bool) → NoFaults (findings_before stop ks) → NoFaults (map (λ (l : Known). l.finding) (if b then k ∷ filter (λ (l : Known). nat_lt l.point stop) ks else filter (λ (l : Known). nat_lt l.point stop) ks))
     by true on = (h.0, on)
     by false on = on
 
-part_found : (seen : List (List ℕ)) (p : HeadPart) → NoneKnown (found_at seen p)
+part_found : (seen : List (List ℕ)) (p : HeadPart) → NoneKnown (findings_at seen p)
 part_found seen (left_out k p) = (λ e. cc, tt)
 part_found seen (unended k) = tt
 part_found seen (header k name value p) =
@@ -130,11 +130,11 @@ part_found seen (header k name value p) =
 
 parts_found : (seen : List (List ℕ)) (ps : List HeadPart) → NoneKnown (heads_found seen ps)
 parts_found seen [] = tt
-parts_found seen (p ∷ ps) = known_both (found_at seen p) _ (part_found seen p) (parts_found (seen_after seen p) ps)
+parts_found seen (p ∷ ps) = known_both (findings_at seen p) _ (part_found seen p) (parts_found (names_after seen p) ps)
 
 heads_known : (t : List ℕ) → NoneKnown (head_findings t)
 heads_known t =
-    known_both (heads_found [] (head_parts t)) (nameless t) (parts_found [] (head_parts t))
+    known_both (heads_found [] (head_parts t)) (name_findings t) (parts_found [] (head_parts t))
     (known_cond (has_score (lines t) && not (has_header (codes "name") (book_of (head_parts t)))) _ _ (λ e. cc, tt) tt)
 
 heads_found_by : (t : List ℕ) (s : Option Stop) → NoFaults (found_in_heads (heads_by t s))
@@ -143,25 +143,25 @@ heads_found_by t (Some s) = before_point s.point (head_findings t) (heads_known 
 
 -- ---- of snippets
 
-abbrev NoneNoted : List NoteOut → Type 0
+abbrev NoneNoted : List NoteEvent → Type 0
 NoneNoted [] = Unit {0}
-NoneNoted (note.Kept x ∷ outs) = NoneNoted outs
-NoneNoted (note.Found f ∷ outs) = IsNoFault f × NoneNoted outs
-NoneNoted (note.Ended how n ∷ outs) = NoneNoted outs
+NoneNoted (note.Kept x ∷ emitted) = NoneNoted emitted
+NoneNoted (note.Found f ∷ emitted) = IsNoFault f × NoneNoted emitted
+NoneNoted (note.Ended how n ∷ emitted) = NoneNoted emitted
 
-noted_both : (xs ys : List NoteOut) → NoneNoted xs → NoneNoted ys → NoneNoted (xs ++ ys)
+noted_both : (xs ys : List NoteEvent) → NoneNoted xs → NoneNoted ys → NoneNoted (xs ++ ys)
 noted_both [] ys h k = k
 noted_both (note.Kept x ∷ xs) ys h k = noted_both xs ys h k
 noted_both (note.Found f ∷ xs) ys h k = (h.0, noted_both xs ys h.1 k)
 noted_both (note.Ended how n ∷ xs) ys h k = noted_both xs ys h k
 
-noted_if : (b : Bool) (xs ys : List NoteOut) → NoneNoted xs → NoneNoted ys → NoneNoted (if b then xs else ys)
+noted_if : (b : Bool) (xs ys : List NoteEvent) → NoneNoted xs → NoneNoted ys → NoneNoted (if b then xs else ys)
 noted_if true xs ys h k = h
 noted_if false xs ys h k = k
 
-abbrev NoneNotedEach : List (List NoteOut) → Type 0
+abbrev NoneNotedEach : List (List NoteEvent) → Type 0
 NoneNotedEach [] = Unit {0}
-NoneNotedEach (outs ∷ lists) = NoneNoted outs × NoneNotedEach lists
+NoneNotedEach (emitted ∷ lists) = NoneNoted emitted × NoneNotedEach lists
 
 one_found : (place : Place) (code : Code) → severity_of code ≢ Fatal → NoneNoted (note.Found (record { place = place; code = code }) ∷ [])
 one_found place code h = (h, tt)
@@ -176,121 +176,121 @@ none_if false place code h = (h, tt)
 
 gabc_end : (p : notes.Point) → NoneNoted (notes.at_end p)
 gabc_end p =
-    noted_both (if is_snippet gabc (notes.kept p.back) then [] else notes.found p.here.place E6 ∷ []) _ (none_if (is_snippet gabc (notes.kept p.back)) p.here.place E6 (λ e. cc))
-    (noted_both (if notes.is_fused p.back then notes.found p.here.place W10 ∷ [] else []) _ (one_if (notes.is_fused p.back) p.here.place W10 (λ e. cc)) tt)
+    noted_both (if is_snippet gabc (notes.kept p.back) then [] else notes.finding_event p.here.place E6 ∷ []) _ (none_if (is_snippet gabc (notes.kept p.back)) p.here.place E6 (λ e. cc))
+    (noted_both (if notes.is_fused p.back then notes.finding_event p.here.place W10 ∷ [] else []) _ (one_if (notes.is_fused p.back) p.here.place W10 (λ e. cc)) tt)
 
 gabc_warnings : (macros : ℕ) (p : notes.Point) → NoneNoted (notes.warnings macros p)
 gabc_warnings macros p =
     let missing = notes.is_missing macros (notes.macro_of (notes.item_at p)) in
-    noted_both (if notes.is_unpaired p then notes.found p.here.place W10 ∷ [] else []) _ (one_if (notes.is_unpaired p) p.here.place W10 (λ e. cc))
+    noted_both (if notes.is_unpaired p then notes.finding_event p.here.place W10 ∷ [] else []) _ (one_if (notes.is_unpaired p) p.here.place W10 (λ e. cc))
     (one_if missing (notes.opener p.back) W8 (λ e. cc))
 
-gabc_point : (split : Bool) (macros : ℕ) (p : notes.Point) → NoneNoted (notes.said split macros p)
+gabc_point : (split : Bool) (macros : ℕ) (p : notes.Point) → NoneNoted (notes.events_at split macros p)
 gabc_point split macros p =
     let error = one_found p.here.place E1 (λ e. cc) in
-    let kept = noted_if (notes.is_kept p) (note.Kept p.here ∷ notes.warnings macros p) (notes.found p.here.place E1 ∷ []) (gabc_warnings macros p) error in
-    let read = noted_if (notes.is_comment p) [] (if notes.is_kept p then note.Kept p.here ∷ notes.warnings macros p else notes.found p.here.place E1 ∷ []) tt kept in
+    let kept = noted_if (notes.is_kept p) (note.Kept p.here ∷ notes.warnings macros p) (notes.finding_event p.here.place E1 ∷ []) (gabc_warnings macros p) error in
+    let read = noted_if (notes.is_comment p) [] (if notes.is_kept p then note.Kept p.here ∷ notes.warnings macros p else notes.finding_event p.here.place E1 ∷ []) tt kept in
     noted_if (notes.is_over split p.back) [] _ tt (noted_if (notes.is_end split p) (notes.at_end p) _ (gabc_end p) read)
 
-gabc_points : (split : Bool) (macros : ℕ) (back xs : List Char) → NoneNotedEach (notes.says_after split macros back xs)
+gabc_points : (split : Bool) (macros : ℕ) (back xs : List Char) → NoneNotedEach (notes.note_events_behind split macros back xs)
 gabc_points split macros back [] = (noted_if (notes.is_over split back) _ _ tt tt, tt)
 gabc_points split macros back (x ∷ xs) = (gabc_point split macros (record { back = back; here = x }), gabc_points split macros (x ∷ back) xs)
 
-nabc_end : (kept : List ℕ) (x : Char) → NoneNoted (nabc.told_end kept x)
+nabc_end : (kept : List ℕ) (x : Char) → NoneNoted (nabc.end_events kept x)
 nabc_end kept x =
-    noted_both (if is_snippet nabc_grammar kept then [] else nabc.found x.place E6 ∷ []) _ (none_if (is_snippet nabc_grammar kept) x.place E6 (λ e. cc)) tt
+    noted_both (if is_snippet nabc_grammar kept then [] else nabc.finding_event x.place E6 ∷ []) _ (none_if (is_snippet nabc_grammar kept) x.place E6 (λ e. cc)) tt
 
-nabc_character : (kept : List ℕ) (x : Char) → NoneNoted (nabc.told_character kept x)
+nabc_character : (kept : List ℕ) (x : Char) → NoneNoted (nabc.character_events kept x)
 nabc_character kept x =
     let missing = nabc.is_missing (nabc.first_of kept) x.c in
-    noted_if (is_viable nabc_grammar (kept ++ x.c ∷ [])) (note.Kept x ∷ (if missing then nabc.found x.place W7 ∷ [] else [])) (nabc.found x.place E3 ∷ [])
+    noted_if (is_viable nabc_grammar (kept ++ x.c ∷ [])) (note.Kept x ∷ (if missing then nabc.finding_event x.place W7 ∷ [] else [])) (nabc.finding_event x.place E3 ∷ [])
     (one_if missing x.place W7 (λ e. cc)) (one_found x.place E3 (λ e. cc))
 
-nabc_point : (t : List ℕ) (x : Char) → NoneNoted (nabc.told_at t x)
+nabc_point : (t : List ℕ) (x : Char) → NoneNoted (nabc.events_at t x)
 nabc_point t x =
     noted_if (nabc.has_end t) [] _ tt
-    (noted_if (nabc.is_end t x.c) (nabc.told_end (nabc.kept_of t) x) _ (nabc_end (nabc.kept_of t) x)
-    (noted_if (nabc.is_character t x.c) (nabc.told_character (nabc.kept_of t) x) [] (nabc_character (nabc.kept_of t) x) tt))
+    (noted_if (nabc.is_end t x.c) (nabc.end_events (nabc.kept_of t) x) _ (nabc_end (nabc.kept_of t) x)
+    (noted_if (nabc.is_character t x.c) (nabc.character_events (nabc.kept_of t) x) [] (nabc_character (nabc.kept_of t) x) tt))
 
-nabc_points : (t : List ℕ) (xs : List Char) → NoneNotedEach (nabc.told_behind t xs)
+nabc_points : (t : List ℕ) (xs : List Char) → NoneNotedEach (nabc.nabc_events_behind t xs)
 nabc_points t [] = (noted_if (nabc.has_end t) _ _ tt tt, tt)
 nabc_points t (x ∷ xs) = (nabc_point t x, nabc_points (t ++ x.c ∷ []) xs)
 
 -- ---- of the parts of a body
 
-abbrev NoneTextEach : List (List TextOut) → Type 0
+abbrev NoneTextEach : List (List TextEvent) → Type 0
 NoneTextEach [] = Unit {0}
-NoneTextEach (outs ∷ lists) = NoFaults (found_in outs) × NoneTextEach lists
+NoneTextEach (emitted ∷ lists) = NoFaults (found_in emitted) × NoneTextEach lists
 
 last_of : (fs gs : List Finding) → NoFaults (fs ++ gs) → NoFaults gs
 last_of [] gs h = h
 last_of (f ∷ fs) gs h = last_of fs gs h.1
 
-each_text : (lists : List (List TextOut)) → NoFaults (found_in (joined lists)) → NoneTextEach lists
+each_text : (lists : List (List TextEvent)) → NoFaults (found_in (concat_of lists)) → NoneTextEach lists
 each_text [] h = tt
-each_text (outs ∷ lists) h =
-    let k = subst NoFaults (text_found_append outs (joined lists)) h in
-    (first (found_in outs) (found_in (joined lists)) k, each_text lists (last_of (found_in outs) (found_in (joined lists)) k))
+each_text (emitted ∷ lists) h =
+    let k = subst NoFaults (text_found_append emitted (concat_of lists)) h in
+    (first (found_in emitted) (found_in (concat_of lists)) k, each_text lists (last_of (found_in emitted) (found_in (concat_of lists)) k))
 
-abbrev PartFinds : Part → Type 0
+abbrev PartFinds : PartAhead → Type 0
 PartFinds InComment = Unit {0}
 PartFinds (InText lists) = NoneTextEach lists
 PartFinds (InNotes line opened lists) = NoneNotedEach lists
 
-text_tells : (outs : List TextOut) → NoFaults (found_in outs) → NoFaults (found (map (λ (o : TextOut). told.Text o) outs))
+text_tells : (emitted : List TextEvent) → NoFaults (found_in emitted) → NoFaults (found (map (λ (o : TextEvent). event.Text o) emitted))
 text_tells [] h = tt
-text_tells (text.Kept x ∷ outs) h = text_tells outs h
-text_tells (text.Part p ∷ outs) h = text_tells outs h
-text_tells (text.Found f ∷ outs) h = (h.0, text_tells outs h.1)
-text_tells (text.Ended e ∷ outs) h = text_tells outs h
+text_tells (text.Kept x ∷ emitted) h = text_tells emitted h
+text_tells (text.Part p ∷ emitted) h = text_tells emitted h
+text_tells (text.Found f ∷ emitted) h = (h.0, text_tells emitted h.1)
+text_tells (text.Ended e ∷ emitted) h = text_tells emitted h
 
-notes_tell : (line : ℕ) (opened : Place) (outs : List NoteOut) → NoneNoted outs → NoFaults (found (map (notes_told line opened) outs))
+notes_tell : (line : ℕ) (opened : Place) (emitted : List NoteEvent) → NoneNoted emitted → NoFaults (found (map (note_event line opened) emitted))
 notes_tell line opened [] h = tt
-notes_tell line opened (note.Kept x ∷ outs) h = notes_tell line opened outs h
-notes_tell line opened (note.Found f ∷ outs) h = (h.0, notes_tell line opened outs h.1)
-notes_tell line opened (note.Ended how n ∷ outs) h = notes_tell line opened outs h
+notes_tell line opened (note.Kept x ∷ emitted) h = notes_tell line opened emitted h
+notes_tell line opened (note.Found f ∷ emitted) h = (h.0, notes_tell line opened emitted h.1)
+notes_tell line opened (note.Ended how n ∷ emitted) h = notes_tell line opened emitted h
 
-text_first : (lists : List (List TextOut)) → NoneTextEach lists → NoFaults (found_in (first_list lists)) × NoneTextEach (other_lists lists)
+text_first : (lists : List (List TextEvent)) → NoneTextEach lists → NoFaults (found_in (first_list lists)) × NoneTextEach (other_lists lists)
 text_first [] h = (tt, tt)
-text_first (outs ∷ lists) h = (h.0, h.1)
+text_first (emitted ∷ lists) h = (h.0, h.1)
 
-notes_first : (lists : List (List NoteOut)) → NoneNotedEach lists → NoneNoted (first_list lists) × NoneNotedEach (other_lists lists)
+notes_first : (lists : List (List NoteEvent)) → NoneNotedEach lists → NoneNoted (first_list lists) × NoneNotedEach (other_lists lists)
 notes_first [] h = (tt, tt)
-notes_first (outs ∷ lists) h = (h.0, h.1)
+notes_first (emitted ∷ lists) h = (h.0, h.1)
 
-part_tells : (part : Part) → PartFinds part → NoFaults (found (told_in part))
-part_tells InComment h = tt
-part_tells (InText lists) h = text_tells (first_list lists) (text_first lists h).0
-part_tells (InNotes line opened lists) h = notes_tell line opened (first_list lists) (notes_first lists h).0
+part_emits : (part : PartAhead) → PartFinds part → NoFaults (found (events_in part))
+part_emits InComment h = tt
+part_emits (InText lists) h = text_tells (first_list lists) (text_first lists h).0
+part_emits (InNotes line opened lists) h = notes_tell line opened (first_list lists) (notes_first lists h).0
 
-end_tells : (part : Part) → PartFinds part → NoFaults (found (told_at_end part))
-end_tells InComment h = tt
-end_tells (InText lists) h = part_tells (InText lists) h
-end_tells (InNotes line opened lists) h = part_tells (InNotes line opened lists) h
+end_emits : (part : PartAhead) → PartFinds part → NoFaults (found (events_at_end part))
+end_emits InComment h = tt
+end_emits (InText lists) h = part_emits (InText lists) h
+end_emits (InNotes line opened lists) h = part_emits (InNotes line opened lists) h
 
 module _ (low : (at : Place) (t : List ℕ) → All (λ (f : Finding). rank_of f.code < rank_of W9) (findings at t))
-    (all : (at : Place) (t : List ℕ) → found_in (joined (outs_by_point at t)) ≡ findings at t) (lines macros : ℕ) where
-  text_finds : (at : Place) (xs : List Char) → PartFinds (text_from texts_said at xs)
-  text_finds at xs = each_text (outs_by_point at (codes_of xs)) (subst NoFaults (sym (all at (codes_of xs))) (low_codes (findings at (codes_of xs)) (low at (codes_of xs))))
+    (all : (at : Place) (t : List ℕ) → found_in (concat_of (events_by_point at t)) ≡ findings at t) (lines macros : ℕ) where
+  text_finds : (at : Place) (xs : List Char) → PartFinds (text_from texts_by_definition at xs)
+  text_finds at xs = each_text (events_by_point at (codes_of xs)) (subst NoFaults (sym (all at (codes_of xs))) (low_codes (findings at (codes_of xs)) (low at (codes_of xs))))
 
   snippet_finds : (line : ℕ) (opened : Place) (xs : List Char) → PartFinds (snippet_from lines macros line opened xs)
-  unfolding notes.says
+  unfolding notes.note_events
   snippet_finds line opened xs = by (line == 0)
     where
-      by : (b : Bool) → NoneNotedEach (if b then notes.says (nat_lt 0 lines) macros xs else nabc.told xs)
+      by : (b : Bool) → NoneNotedEach (if b then notes.note_events (nat_lt 0 lines) macros xs else nabc.nabc_events xs)
       by true = gabc_points (nat_lt 0 lines) macros [] xs
       by false = nabc_points [] xs
 
-  standing_finds : (part : Part) (x : Char) (xs : List Char) → PartFinds part → PartFinds (standing texts_said part x xs)
+  standing_finds : (part : PartAhead) (x : Char) (xs : List Char) → PartFinds part → PartFinds (part_at texts_by_definition part x xs)
   standing_finds InComment x xs h = by (x.c == 10)
     where
-      by : (b : Bool) → PartFinds (if b then text_from texts_said x.place (x ∷ xs) else InComment)
+      by : (b : Bool) → PartFinds (if b then text_from texts_by_definition x.place (x ∷ xs) else InComment)
       by true = text_finds x.place (x ∷ xs)
       by false = tt
   standing_finds (InText lists) x xs h = h
   standing_finds (InNotes line opened lists) x xs h = h
 
-  behind_finds : (part : Part) (x : Char) (xs : List Char) → PartFinds part → PartFinds (behind texts_said lines macros part x xs)
+  behind_finds : (part : PartAhead) (x : Char) (xs : List Char) → PartFinds part → PartFinds (part_behind texts_by_definition lines macros part x xs)
   behind_finds InComment x xs h = tt
   behind_finds (InText lists) x xs h = by (list_any is_text_end (first_list lists))
     where
@@ -299,61 +299,61 @@ module _ (low : (at : Place) (t : List ℕ) → All (λ (f : Finding). rank_of f
       by false = (text_first lists h).1
   behind_finds (InNotes line opened lists) x xs h = by (list_any is_next (first_list lists)) (list_any is_close (first_list lists))
     where
-      by : (b d : Bool) → PartFinds (if b then snippet_from lines macros (next_line lines line) opened xs else if d then text_from texts_said (behind_mark x.place) xs else InNotes line opened (other_lists lists))
+      by : (b d : Bool) → PartFinds (if b then snippet_from lines macros (next_line lines line) opened xs else if d then text_from texts_by_definition (behind_mark x.place) xs else InNotes line opened (other_lists lists))
       by true d = snippet_finds (next_line lines line) opened xs
       by false true = text_finds (behind_mark x.place) xs
       by false false = (notes_first lists h).1
 
-  told_finds : (part : Part) (xs : List Char) → PartFinds part → NoFaults (found (joined (told_from texts_said lines macros part xs)))
-  told_finds part [] h = subst NoFaults (sym (found_append (told_at_end part) [])) (both (found (told_at_end part)) [] (end_tells part h) tt)
-  told_finds part (x ∷ xs) h =
-      let now = standing texts_said part x xs in
+  events_finds : (part : PartAhead) (xs : List Char) → PartFinds part → NoFaults (found (concat_of (events_from texts_by_definition lines macros part xs)))
+  events_finds part [] h = subst NoFaults (sym (found_append (events_at_end part) [])) (both (found (events_at_end part)) [] (end_emits part h) tt)
+  events_finds part (x ∷ xs) h =
+      let now = part_at texts_by_definition part x xs in
       let s = standing_finds part x xs h in
-      subst NoFaults (sym (found_append (told_in now) (joined (told_from texts_said lines macros (behind texts_said lines macros now x xs) xs))))
-      (both (found (told_in now)) _ (part_tells now s) (told_finds (behind texts_said lines macros now x xs) xs (behind_finds now x xs s)))
+      subst NoFaults (sym (found_append (events_in now) (concat_of (events_from texts_by_definition lines macros (part_behind texts_by_definition lines macros now x xs) xs))))
+      (both (found (events_in now)) _ (part_emits now s) (events_finds (part_behind texts_by_definition lines macros now x xs) xs (behind_finds now x xs s)))
 
 -- ---- of a body
 
-module _ (limits : Limits) (head : ℕ) (fs : List Finding) (at : Place) (ts : List Told) (heads : NoFaults fs) (body : NoFaults (found ts)) where
-  stopped_finds : (front more before : List Told) (fault : Option Fault) → ts ≡ front ++ more → before ≡ onto front [] → NoFaults (stopped fs before fault).findings
-  stopped_finds front more before fault e f =
+module _ (limits : Limits) (head : ℕ) (fs : List Finding) (at : Place) (ts : List BodyEvent) (heads : NoFaults fs) (body : NoFaults (found ts)) where
+  stopped_finds : (prefix more before : List BodyEvent) (fault : Option Fault) → ts ≡ prefix ++ more → before ≡ events_onto prefix [] → NoFaults (result_stopped fs before fault).findings
+  stopped_finds prefix more before fault e f =
       both fs (findings_of before) heads
-      (subst NoFaults (sym (ap findings_of f ∙ found_onto front [])) (first (found front) (found more) (subst NoFaults (ap found e ∙ found_append front more) body)))
+      (subst NoFaults (sym (ap findings_of f ∙ found_onto prefix [])) (first (found prefix) (found more) (subst NoFaults (ap found e ∙ found_append prefix more) body)))
 
-  whole_finds : (all : List Told) → all ≡ onto ts [] → NoFaults (ended_whole fs at all).findings
+  whole_finds : (all : List BodyEvent) → all ≡ events_onto ts [] → NoFaults (result_whole fs at all).findings
   whole_finds all e =
       both fs (findings_of all ++ found_at_end at all) heads
       (both (findings_of all) (found_at_end at all) (subst NoFaults (sym (ap findings_of e ∙ found_onto ts [])) body)
       (both _ _ (by_cond (has_last all) _ _ (λ f. cc, tt) tt) (by_cond (is_eu all || is_nlba all) _ _ (λ f. cc, tt) tt)))
 
-  read_finds : (ending : Ending) (r : Reached) → IsFront [] ts r → NoFaults (read_by limits head fs at ending r.before r.last r.fault).findings
+  read_finds : (ending : InputEnding) (r : EventsToStop) → IsFront [] ts r → NoFaults (result_by limits head fs at ending r.before r.last r.fault).findings
   read_finds ending r i = by r.fault i.last
     where
-      ended : (o : Option Fault) → onto r.last r.before ≡ onto ts [] → NoFaults (ended_by fs at r.before (onto r.last r.before) o).findings
-      ended (Some fault) e = stopped_finds i.front i.more r.before (Some fault) i.all i.told
-      ended None e = whole_finds (onto r.last r.before) e
+      ended : (o : Option Fault) → events_onto r.last r.before ≡ events_onto ts [] → NoFaults (result_by_fault fs at r.before (events_onto r.last r.before) o).findings
+      ended (Some fault) e = stopped_finds i.prefix i.more r.before (Some fault) i.all i.told
+      ended None e = whole_finds (events_onto r.last r.before) e
 
-      at_end : (how : Ending) → onto r.last r.before ≡ onto ts [] → NoFaults (ended_at limits head fs at how r.before (onto r.last r.before)).findings
-      at_end Whole e = ended (fault_of_end limits head at (onto r.last r.before) (cut_of (onto r.last r.before))) e
-      at_end Broken e = stopped_finds i.front i.more r.before None i.all i.told
-      at_end (At fault) e = stopped_finds i.front i.more r.before (Some fault) i.all i.told
+      at_end : (how : InputEnding) → events_onto r.last r.before ≡ events_onto ts [] → NoFaults (result_at_end limits head fs at how r.before (events_onto r.last r.before)).findings
+      at_end Whole e = ended (fault_of_end limits head at (events_onto r.last r.before) (cut_of (events_onto r.last r.before))) e
+      at_end Broken e = stopped_finds i.prefix i.more r.before None i.all i.told
+      at_end (At fault) e = stopped_finds i.prefix i.more r.before (Some fault) i.all i.told
 
-      by : (o : Option Fault) → (o ≡ None → onto r.last r.before ≡ onto ts []) → NoFaults (read_by limits head fs at ending r.before r.last o).findings
-      by (Some fault) e = stopped_finds i.front i.more r.before (Some fault) i.all i.told
+      by : (o : Option Fault) → (o ≡ None → events_onto r.last r.before ≡ events_onto ts []) → NoFaults (result_by limits head fs at ending r.before r.last o).findings
+      by (Some fault) e = stopped_finds i.prefix i.more r.before (Some fault) i.all i.told
       by None e = at_end ending (e refl)
 
 -- ---- of a score
 
 module _ (low : (at : Place) (t : List ℕ) → All (λ (f : Finding). rank_of f.code < rank_of W9) (findings at t))
-    (all : (at : Place) (t : List ℕ) → found_in (joined (outs_by_point at t)) ≡ findings at t) where
-  score_finds : (limits : Limits) (ending : Ending) (t : List ℕ) (r : Result Heads HeadFault) → NoFaults (found_in_heads r) → NoFaults (score_by limits ending t r).findings
+    (all : (at : Place) (t : List ℕ) → found_in (concat_of (events_by_point at t)) ≡ findings at t) where
+  score_finds : (limits : Limits) (ending : InputEnding) (t : List ℕ) (r : Result Heads HeadFault) → NoFaults (found_in_heads r) → NoFaults (score_by limits ending t r).findings
   score_finds limits ending t (Err stop) h = h
   score_finds limits ending t (Ok heads) h =
-      let xs = placed_after (front_of t) (behind_heads t) in
-      let lists = body_told (nabc_lines_of heads.book) (macros_of heads.book) xs in
-      read_finds limits _ heads.findings (place_after t) (joined lists) h (told_finds low all (nabc_lines_of heads.book) (macros_of heads.book) InComment xs tt)
-      ending _ (reached_front limits _ [] xs lists)
+      let xs = placed_characters_behind (heads_text t) (behind_heads t) in
+      let lists = body_events (nabc_lines_of heads.book) (macros_of heads.book) xs in
+      read_finds limits _ heads.findings (place_after t) (concat_of lists) h (events_finds low all (nabc_lines_of heads.book) (macros_of heads.book) InComment xs tt)
+      ending _ (reached_prefix limits _ [] xs lists)
 
   -- no finding of a score is a fault
-  pub none_is_a_fault : (limits : Limits) (ending : Ending) (t : List ℕ) → All (λ (f : Finding). severity_of f.code ≢ Fatal) (score_of limits ending t).findings
+  pub none_is_a_fault : (limits : Limits) (ending : InputEnding) (t : List ℕ) → All (λ (f : Finding). severity_of f.code ≢ Fatal) (score_of limits ending t).findings
   none_is_a_fault limits ending t = to_all _ (score_finds limits ending t (heads_of limits t) (heads_found_by t (earliest (head_stops limits t))))

@@ -13,44 +13,44 @@ use Rattle.gabc_places.specs.declared.place.Span.{Span}
 use Rattle.gabc_places.specs.declared.place.Char.{Char}
 use Rattle.gabc_places.specs.declared.code.Code.{Code}
 use Rattle.gabc_places.specs.declared.code.Finding.{Finding}
-use Rattle.gabc_places.specs.Place.{next_place, placed_from}
-use Rattle.gabc_text.specs.declared.token.Kind.{Kind}
-use Rattle.gabc_text.specs.declared.token.Kind.TheVariants.{Letter, Blank, Comment, Stray, Begin, End, Tag, Raw, Translation, OpenTag, OpenTranslation}
-use Rattle.gabc_text.specs.declared.token.Sort.{Sort}
+use Rattle.gabc_places.specs.Place.{next_place, placed_characters_from}
+use Rattle.gabc_text.specs.declared.token.TokenKind.{TokenKind}
+use Rattle.gabc_text.specs.declared.token.TokenKind.TheVariants.{Letter, Blank, Comment, Stray, Begin, End, Tag, Raw, Translation, OpenTag, OpenTranslation}
+use Rattle.gabc_text.specs.declared.token.TagEffect.{TagEffect}
 use Rattle.gabc_text.specs.declared.view.PieceKind.{PieceKind}
 use Rattle.gabc_text.specs.declared.view.PieceKind.TheVariants as piece
 use Rattle.gabc_text.specs.declared.view.Piece.{Piece}
 use Rattle.gabc_text.specs.declared.stage.TextPart.{TextPart}
 use Rattle.gabc_text.specs.declared.stage.TextPart.TheVariants as part
-use Rattle.gabc_text.specs.declared.stage.TextOut.{TextOut}
-use Rattle.gabc_text.specs.declared.stage.TextOut.TheVariants as text
+use Rattle.gabc_text.specs.declared.stage.TextEvent.{TextEvent}
+use Rattle.gabc_text.specs.declared.stage.TextEvent.TheVariants as text
 use Rattle.gabc_text.specs.Token.{Token, spelling, tokens}
-use Rattle.gabc_text.specs.View.{Said, along, sort, piece_kind, kind_of, piece_of, pieces_at, open_styles, is_blank_piece, is_space, is_left_out, follows_space, follows_blank, has_word, starts_word, has_translation, kept_at, place_of, early_codes, late_codes, findings_at_end}
-use Rattle.gabc_text.specs.Said.{but_blank}
-use Rattle.gabc_text.specs.Outs.{kept_of as kept_before, piece_at, waiting_by, waiting, is_blank_at, listed, is_whole_translation, translation_at, parts_by, parts_at, chars_at, found_outs, early_outs, outs_at, outs_end, centre_of, end_after, after_tokens, outs, codes_of}
-use Rattle.gabc_score.specs.declared.told.Told.{Told}
-use Rattle.gabc_score.specs.declared.told.Told.TheVariants as told
-use Rattle.gabc_score.specs.Syllable.{since_close, kept_of, ended_of, part_of, slice, is_mark, is_open_after, is_open}
-use Rattle.gabc_score.specs.Body.{onto}
+use Rattle.gabc_text.specs.View.{PieceFacts, along, effect, piece_kind, kind_of, piece_of, pieces_at, open_styles, is_blank_piece, is_space, is_left_out, follows_space, follows_blank, has_word, starts_word, has_translation, kept_at, place_of, early_codes, late_codes, findings_at_end}
+use Rattle.gabc_text.specs.ViewFacts.{but_blank}
+use Rattle.gabc_text.specs.Events.{kept_of as kept_before, piece_at, waiting_by, waiting_blank, is_blank_at, option_list_of, is_whole_translation, translation_at, parts_by, parts_at, chars_at, finding_events, early_events, events_at, end_events, centre_of, end_after, after_tokens, events_of, codes_of}
+use Rattle.gabc_score.specs.declared.events.BodyEvent.{BodyEvent}
+use Rattle.gabc_score.specs.declared.events.BodyEvent.TheVariants as event
+use Rattle.gabc_score.specs.Syllable.{since_close, kept_of, ended_parts_of, part_of, slice, is_mark, is_open_after, is_open}
+use Rattle.gabc_score.specs.Body.{events_onto}
 use Rattle.gabc_score.specs.SyllablesOfUnits.{span_tags, IsLeftOpen}
-use Rattle.gabc_score.proofs.Events.{onto_append, text_told}
-use Rattle.gabc_score.proofs.HeldNotes.{bytes_stand}
+use Rattle.gabc_score.proofs.building.EventsOfSyllableParts.{onto_append, text_emitted}
+use Rattle.gabc_score.proofs.holding.SnippetsAreHeld.{bytes_stand}
 
 -- ---- tags
 
-abbrev tags_of : List Said → List (List ℕ)
-tags_of ps = map (λ (p : Said). p.text) (filter (λ (p : Said). is_mark p.kind) ps)
+abbrev tags_of : List PieceFacts → List (List ℕ)
+tags_of ps = map (λ (p : PieceFacts). p.text) (filter (λ (p : PieceFacts). is_mark p.kind) ps)
 
-tags_append : (ps qs : List Said) → tags_of (ps ++ qs) ≡ tags_of ps ++ tags_of qs
+tags_append : (ps qs : List PieceFacts) → tags_of (ps ++ qs) ≡ tags_of ps ++ tags_of qs
 tags_append ps qs =
-    ap (map (λ (p : Said). p.text)) (filter-append (λ (p : Said). is_mark p.kind) ps qs)
-    ∙ map-append (λ (p : Said). p.text) (filter (λ (p : Said). is_mark p.kind) ps) (filter (λ (p : Said). is_mark p.kind) qs)
+    ap (map (λ (p : PieceFacts). p.text)) (filter-append (λ (p : PieceFacts). is_mark p.kind) ps qs)
+    ∙ map-append (λ (p : PieceFacts). p.text) (filter (λ (p : PieceFacts). is_mark p.kind) ps) (filter (λ (p : PieceFacts). is_mark p.kind) qs)
 
 -- a piece before others
-tags_one : (p : Said) (ps : List Said) → tags_of (p ∷ ps) ≡ tags_of (p ∷ []) ++ tags_of ps
+tags_one : (p : PieceFacts) (ps : List PieceFacts) → tags_of (p ∷ ps) ≡ tags_of (p ∷ []) ++ tags_of ps
 tags_one p ps = tags_append (p ∷ []) ps
 
-blank_has_none : (p : Said) → is_blank_piece p.kind ≡ true → tags_of (p ∷ []) ≡ []
+blank_has_none : (p : PieceFacts) → is_blank_piece p.kind ≡ true → tags_of (p ∷ []) ≡ []
 blank_has_none p h = by p.kind h
   where
     by : (kind : PieceKind) → is_blank_piece kind ≡ true → tags_of (record p { kind = kind } ∷ []) ≡ []
@@ -60,7 +60,7 @@ blank_has_none p h = by p.kind h
     by piece.Tag e = refl
     by piece.Mark e = absurd (cc)
 
-tags_but_blank : (ps : List Said) → tags_of (but_blank ps) ≡ tags_of ps
+tags_but_blank : (ps : List PieceFacts) → tags_of (but_blank ps) ≡ tags_of ps
 tags_but_blank [] = refl
 tags_but_blank (p ∷ []) = by (is_blank_piece p.kind) refl
   where
@@ -83,45 +83,45 @@ module _ (opening closing : List ℕ) where
   behind_append was [] ys = refl
   behind_append was (x ∷ xs) ys = behind_append (behind_tag was x) xs ys
 
-  abbrev open_at : List Told → Bool
+  abbrev open_at : List BodyEvent → Bool
   open_at ts = is_open opening closing ts
 
-  abbrev kept_at_point : List Told → List ℕ
+  abbrev kept_at_point : List BodyEvent → List ℕ
   kept_at_point ts = kept_of (since_close ts)
 
   -- ---- events that change neither
 
-  record Still (before after : List Told) : Type 0 where
+  record Still (before after : List BodyEvent) : Type 0 where
     kept : kept_at_point after ≡ kept_at_point before
     span : open_at after ≡ open_at before
 
-  still_both : (a b c : List Told) → Still a b → Still b c → Still a c
+  still_both : (a b c : List BodyEvent) → Still a b → Still b c → Still a c
   still_both a b c h k = record { kept = k.kept ∙ h.kept; span = k.span ∙ h.span }
 
-  found_still : (at : Place) (bs : List Token) (cs : List Code) (ts : List Told) → Still ts (onto (text_told (found_outs at bs cs)) ts)
+  found_still : (at : Place) (bs : List Token) (cs : List Code) (ts : List BodyEvent) → Still ts (events_onto (text_emitted (finding_events at bs cs)) ts)
   found_still at bs [] ts = record { kept = refl; span = refl }
-  found_still at bs (c ∷ cs) ts = let on = found_still at bs cs (told.Text (text.Found (record { place = place_of at bs; code = c })) ∷ ts) in record { kept = on.kept; span = on.span }
+  found_still at bs (c ∷ cs) ts = let on = found_still at bs cs (event.Text (text.Found (record { place = place_of at bs; code = c })) ∷ ts) in record { kept = on.kept; span = on.span }
 
   -- ---- characters
 
-  record Keeps (more : List ℕ) (before after : List Told) : Type 0 where
+  record Keeps (more : List ℕ) (before after : List BodyEvent) : Type 0 where
     kept : kept_at_point after ≡ kept_at_point before ++ encodes more
     span : open_at after ≡ open_at before
 
-  chars_keep : (cs : List Char) (ts : List Told) → Keeps (codes_of cs) ts (onto (text_told (map (λ (c : Char). text.Kept c) cs)) ts)
+  chars_keep : (cs : List Char) (ts : List BodyEvent) → Keeps (codes_of cs) ts (events_onto (text_emitted (map (λ (c : Char). text.Kept c) cs)) ts)
   chars_keep [] ts = record { kept = sym (append-nil (kept_at_point ts)); span = refl }
   chars_keep (c ∷ cs) ts =
-      let on = chars_keep cs (told.Text (text.Kept c) ∷ ts) in
+      let on = chars_keep cs (event.Text (text.Kept c) ∷ ts) in
       record {
         kept = on.kept
-            ∙ ap (λ ks. ks ++ encodes (codes_of cs)) (sym (append_assoc (ended_of (since_close ts)) (part_of (since_close ts)) (encode c.c)))
+            ∙ ap (λ ks. ks ++ encodes (codes_of cs)) (sym (append_assoc (ended_parts_of (since_close ts)) (part_of (since_close ts)) (encode c.c)))
             ∙ append_assoc (kept_at_point ts) (encode c.c) (encodes (codes_of cs));
         span = on.span;
       }
 
   -- ---- parts
 
-  mark_kept : (kind : Kind) (s : Sort) (bs : List Token) (spelled : List ℕ) → piece_kind kind s ≡ Some piece.Mark
+  mark_kept : (kind : TokenKind) (s : TagEffect) (bs : List Token) (spelled : List ℕ) → piece_kind kind s ≡ Some piece.Mark
       → cond (is_left_out bs kind) [] (cond (is_space kind) (cond (follows_space bs) [] (32 ∷ [])) spelled) ≡ spelled
   mark_kept Tag s bs spelled h = refl
   mark_kept Letter s bs spelled h = absurd (cc)
@@ -148,63 +148,63 @@ module _ (opening closing : List ℕ) where
       by true = refl
       by false = h
 
-  waiting_is_none : (bs : List Token) → IsNoMark (waiting bs)
+  waiting_is_none : (bs : List Token) → IsNoMark (waiting_blank bs)
   waiting_is_none [] = tt
-  waiting_is_none (k ∷ bs) = waiting_by_is_none bs k (kind_of k) (waiting bs) (waiting_is_none bs)
+  waiting_is_none (k ∷ bs) = waiting_by_is_none bs k (kind_of k) (waiting_blank bs) (waiting_is_none bs)
 
   no_mark : (was : Bool) (kind : PieceKind) (spelled : List ℕ) → is_mark kind ≡ false → is_open_after opening closing was kind spelled ≡ was
   no_mark was kind spelled h = ap (λ b. cond b (cond (bytes_eq spelled opening) true (cond (bytes_eq spelled closing) false was)) was) h
 
-  abbrev parts_outs : List TextPart → List TextOut
-  parts_outs ps = map (λ (p : TextPart). text.Part p) ps
+  abbrev parts_events : List TextPart → List TextEvent
+  parts_events ps = map (λ (p : TextPart). text.Part p) ps
 
-  told_append : (xs ys : List TextOut) (ts : List Told) → onto (text_told (xs ++ ys)) ts ≡ onto (text_told ys) (onto (text_told xs) ts)
-  told_append xs ys ts = ap (λ us. onto us ts) (map-append (λ (o : TextOut). told.Text o) xs ys) ∙ onto_append (text_told xs) (text_told ys) ts
+  events_append : (xs ys : List TextEvent) (ts : List BodyEvent) → events_onto (text_emitted (xs ++ ys)) ts ≡ events_onto (text_emitted ys) (events_onto (text_emitted xs) ts)
+  events_append xs ys ts = ap (λ us. events_onto us ts) (map-append (λ (o : TextEvent). event.Text o) xs ys) ∙ onto_append (text_emitted xs) (text_emitted ys) ts
 
-  waiting_still : (o : Option Piece) (ts : List Told) → IsNoMark o → Still ts (onto (text_told (parts_outs (map (λ (p : Piece). part.Piece p) (listed o)))) ts)
+  waiting_still : (o : Option Piece) (ts : List BodyEvent) → IsNoMark o → Still ts (events_onto (text_emitted (parts_events (map (λ (p : Piece). part.Piece p) (option_list_of o)))) ts)
   waiting_still None ts h = record { kept = refl; span = refl }
   waiting_still (Some p) ts h = record { kept = refl; span = no_mark (open_at ts) p.kind (slice p.span (kept_at_point ts)) h }
 
   -- the bytes of a tag's span are its spelling
-  tag_spelled : (bs : List Token) (k : Token) (ts : List Told) → kind_of k ≡ Some piece.Mark → kept_at_point ts ≡ encodes (kept_before (k ∷ bs))
+  tag_spelled : (bs : List Token) (k : Token) (ts : List BodyEvent) → kind_of k ≡ Some piece.Mark → kept_at_point ts ≡ encodes (kept_before (k ∷ bs))
       → slice (piece_at bs k piece.Mark).span (kept_at_point ts) ≡ encodes (spelling k)
   tag_spelled bs k ts e h =
       ap (slice (piece_at bs k piece.Mark).span) h
       ∙ bytes_stand (kept_before bs ++ kept_at bs k) (piece_at bs k piece.Mark).span (kept_at bs k) (record {
-        front = kept_before bs;
+        prefix = kept_before bs;
         back = [];
         parts = ap (λ t. kept_before bs ++ t) (sym (append-nil (kept_at bs k)));
         from_is = refl;
         to_is = refl;
       })
-      ∙ ap encodes (mark_kept k.kind (sort k) bs (spelling k) e)
+      ∙ ap encodes (mark_kept k.kind (effect k) bs (spelling k) e)
 
-  piece_told : (bs : List Token) (k : Token) (ts : List Told) → kept_at_point ts ≡ encodes (kept_before (k ∷ bs)) → (kind : PieceKind) → kind_of k ≡ Some kind
-      → open_at (told.Text (text.Part (part.Piece (piece_at bs k kind))) ∷ ts) ≡ behind_tags (open_at ts) (tags_of (piece_of bs k (Some kind)))
-  piece_told bs k ts h piece.Char e = refl
-  piece_told bs k ts h piece.Blank e = refl
-  piece_told bs k ts h piece.Raw e = refl
-  piece_told bs k ts h piece.Tag e = refl
-  piece_told bs k ts h piece.Mark e =
+  piece_emitted : (bs : List Token) (k : Token) (ts : List BodyEvent) → kept_at_point ts ≡ encodes (kept_before (k ∷ bs)) → (kind : PieceKind) → kind_of k ≡ Some kind
+      → open_at (event.Text (text.Part (part.Piece (piece_at bs k kind))) ∷ ts) ≡ behind_tags (open_at ts) (tags_of (piece_of bs k (Some kind)))
+  piece_emitted bs k ts h piece.Char e = refl
+  piece_emitted bs k ts h piece.Blank e = refl
+  piece_emitted bs k ts h piece.Raw e = refl
+  piece_emitted bs k ts h piece.Tag e = refl
+  piece_emitted bs k ts h piece.Mark e =
       ap (λ spelled. cond (bytes_eq spelled opening) true (cond (bytes_eq spelled closing) false (open_at ts))) (tag_spelled bs k ts e h)
 
-  record PartsStep (bs : List Token) (k : Token) (before after : List Told) : Type 0 where
+  record PartsStep (bs : List Token) (k : Token) (before after : List BodyEvent) : Type 0 where
     kept : kept_at_point after ≡ kept_at_point before
     span : open_at after ≡ behind_tags (open_at before) (tags_of (pieces_at bs k))
 
-  abbrev AfterParts : List Token → Token → List Told → Option PieceKind → Type 0
+  abbrev AfterParts : List Token → Token → List BodyEvent → Option PieceKind → Type 0
   AfterParts bs k ts o =
-      let after = onto (text_told (parts_outs (parts_by bs k o))) ts in
+      let after = events_onto (text_emitted (parts_events (parts_by bs k o))) ts in
       (kept_at_point after ≡ kept_at_point ts) × (open_at after ≡ behind_tags (open_at ts) (tags_of (piece_of bs k o)))
 
-  parts_tell : (bs : List Token) (k : Token) (ts : List Told) → kept_at_point ts ≡ encodes (kept_before (k ∷ bs)) → PartsStep bs k ts (onto (text_told (parts_outs (parts_at bs k))) ts)
+  parts_tell : (bs : List Token) (k : Token) (ts : List BodyEvent) → kept_at_point ts ≡ encodes (kept_before (k ∷ bs)) → PartsStep bs k ts (events_onto (text_emitted (parts_events (parts_at bs k))) ts)
   parts_tell bs k ts h = by (kind_of k) refl
     where
       blank : (b : Bool) → tags_of (cond b (record { kind = piece.Blank; styles = open_styles bs; text = [] } ∷ []) []) ≡ []
       blank true = refl
       blank false = refl
 
-      others : (a b : Bool) → Still ts (onto (text_told (parts_outs (cond a (part.WordStart ∷ []) (cond b (part.Translation (translation_at bs k) ∷ []) [])))) ts)
+      others : (a b : Bool) → Still ts (events_onto (text_emitted (parts_events (cond a (part.WordStart ∷ []) (cond b (part.Translation (translation_at bs k) ∷ []) [])))) ts)
       others true b = record { kept = refl; span = refl }
       others false true = record { kept = refl; span = refl }
       others false false = record { kept = refl; span = refl }
@@ -216,99 +216,99 @@ module _ (opening closing : List ℕ) where
 
       some : (kind : PieceKind) → kind_of k ≡ Some kind → AfterParts bs k ts (Some kind)
       some kind e =
-          let first = parts_outs (map (λ (p : Piece). part.Piece p) (listed (waiting bs))) in
-          let w = waiting_still (waiting bs) ts (waiting_is_none bs) in
-          let middle = onto (text_told first) ts in
-          let all : onto (text_told (parts_outs (parts_by bs k (Some kind)))) ts ≡ told.Text (text.Part (part.Piece (piece_at bs k kind))) ∷ middle =
-          ap (λ os. onto (text_told os) ts) (map-append (λ (p : TextPart). text.Part p) (map (λ (p : Piece). part.Piece p) (listed (waiting bs))) (part.Piece (piece_at bs k kind) ∷ []))
-          ∙ told_append first (text.Part (part.Piece (piece_at bs k kind)) ∷ []) ts in (
+          let first = parts_events (map (λ (p : Piece). part.Piece p) (option_list_of (waiting_blank bs))) in
+          let w = waiting_still (waiting_blank bs) ts (waiting_is_none bs) in
+          let middle = events_onto (text_emitted first) ts in
+          let all : events_onto (text_emitted (parts_events (parts_by bs k (Some kind)))) ts ≡ event.Text (text.Part (part.Piece (piece_at bs k kind))) ∷ middle =
+          ap (λ os. events_onto (text_emitted os) ts) (map-append (λ (p : TextPart). text.Part p) (map (λ (p : Piece). part.Piece p) (option_list_of (waiting_blank bs))) (part.Piece (piece_at bs k kind) ∷ []))
+          ∙ events_append first (text.Part (part.Piece (piece_at bs k kind)) ∷ []) ts in (
             ap kept_at_point all ∙ w.kept,
-            ap open_at all ∙ piece_told bs k middle (w.kept ∙ h) kind e ∙ ap (λ was. behind_tags was (tags_of (piece_of bs k (Some kind)))) w.span,
+            ap open_at all ∙ piece_emitted bs k middle (w.kept ∙ h) kind e ∙ ap (λ was. behind_tags was (tags_of (piece_of bs k (Some kind)))) w.span,
           )
 
-      by : (o : Option PieceKind) → kind_of k ≡ o → PartsStep bs k ts (onto (text_told (parts_outs (parts_at bs k))) ts)
+      by : (o : Option PieceKind) → kind_of k ≡ o → PartsStep bs k ts (events_onto (text_emitted (parts_events (parts_at bs k))) ts)
       by None e = let a = subst (AfterParts bs k ts) (sym e) none in record { kept = a.0; span = a.1 }
       by (Some kind) e = let a = subst (AfterParts bs k ts) (sym e) (some kind e) in record { kept = a.0; span = a.1 }
 
   -- ---- tokens
 
-  codes_placed : (p : Place) (t : List ℕ) → codes_of (placed_from p t) ≡ t
+  codes_placed : (p : Place) (t : List ℕ) → codes_of (placed_characters_from p t) ≡ t
   codes_placed p [] = refl
   codes_placed p (c ∷ t) = ap (λ cs. c ∷ cs) (codes_placed (next_place p c) t)
 
   chars_kept : (at : Place) (bs : List Token) (k : Token) → codes_of (chars_at at bs k) ≡ kept_at bs k
   chars_kept at bs k = by (is_left_out bs k.kind) (is_space k.kind) (follows_space bs)
     where
-      by : (a b c : Bool) → codes_of (cond a [] (cond b (cond c [] (record { c = 32; place = place_of at bs } ∷ [])) (placed_from (place_of at bs) (spelling k))))
+      by : (a b c : Bool) → codes_of (cond a [] (cond b (cond c [] (record { c = 32; place = place_of at bs } ∷ [])) (placed_characters_from (place_of at bs) (spelling k))))
           ≡ cond a [] (cond b (cond c [] (32 ∷ [])) (spelling k))
       by true b c = refl
       by false true true = refl
       by false true false = refl
       by false false c = codes_placed (place_of at bs) (spelling k)
 
-  record TokenStep (bs : List Token) (k : Token) (before after : List Told) : Type 0 where
+  record TokenStep (bs : List Token) (k : Token) (before after : List BodyEvent) : Type 0 where
     kept : kept_at_point after ≡ encodes (kept_before (k ∷ bs))
     span : open_at after ≡ behind_tags (open_at before) (tags_of (pieces_at bs k))
 
-  token_told : (at : Place) (bs : List Token) (k : Token) (ts : List Told) → kept_at_point ts ≡ encodes (kept_before bs) → TokenStep bs k ts (onto (text_told (outs_at at bs k)) ts)
+  token_told : (at : Place) (bs : List Token) (k : Token) (ts : List BodyEvent) → kept_at_point ts ≡ encodes (kept_before bs) → TokenStep bs k ts (events_onto (text_emitted (events_at at bs k)) ts)
   token_told at bs k ts h =
-      let early = early_outs at bs k.kind in
+      let early = early_events at bs k.kind in
       let chars = map (λ (c : Char). text.Kept c) (chars_at at bs k) in
-      let parts = parts_outs (parts_at bs k) in
-      let late = found_outs at bs (late_codes bs k.kind (sort k)) in
-      let a = onto (text_told early) ts in
-      let b = onto (text_told chars) a in
-      let c = onto (text_told parts) b in
-      let d = onto (text_told late) c in
-      let all : onto (text_told (outs_at at bs k)) ts ≡ d =
-      told_append early (chars ++ (parts ++ late)) ts ∙ told_append chars (parts ++ late) a ∙ told_append parts late b in
+      let parts = parts_events (parts_at bs k) in
+      let late = finding_events at bs (late_codes bs k.kind (effect k)) in
+      let a = events_onto (text_emitted early) ts in
+      let b = events_onto (text_emitted chars) a in
+      let c = events_onto (text_emitted parts) b in
+      let d = events_onto (text_emitted late) c in
+      let all : events_onto (text_emitted (events_at at bs k)) ts ≡ d =
+      events_append early (chars ++ (parts ++ late)) ts ∙ events_append chars (parts ++ late) a ∙ events_append parts late b in
       let f = found_still at bs (early_codes bs k.kind) ts in
       let g = chars_keep (chars_at at bs k) a in
       let here : kept_at_point b ≡ encodes (kept_before (k ∷ bs)) =
       g.kept ∙ ap (λ ks. ks ++ encodes (codes_of (chars_at at bs k))) (f.kept ∙ h) ∙ ap (λ ks. encodes (kept_before bs) ++ encodes ks) (chars_kept at bs k) ∙ sym (encodes-append (kept_before bs) (kept_at bs k)) in
       let p = parts_tell bs k b here in
-      let l = found_still at bs (late_codes bs k.kind (sort k)) c in
+      let l = found_still at bs (late_codes bs k.kind (effect k)) c in
       record {
         kept = ap kept_at_point all ∙ l.kept ∙ p.kept ∙ here;
         span = ap open_at all ∙ l.span ∙ p.span ∙ ap (λ was. behind_tags was (tags_of (pieces_at bs k))) (g.span ∙ f.span);
       }
 
-  tokens_told : (at : Place) (bs ks : List Token) (ts : List Told) → kept_at_point ts ≡ encodes (kept_before bs)
-      → open_at (onto (text_told (along (outs_at at) bs ks)) ts) ≡ behind_tags (open_at ts) (tags_of (along pieces_at bs ks))
-  tokens_told at bs [] ts h = refl
-  tokens_told at bs (k ∷ ks) ts h =
+  tokens_emitted : (at : Place) (bs ks : List Token) (ts : List BodyEvent) → kept_at_point ts ≡ encodes (kept_before bs)
+      → open_at (events_onto (text_emitted (along (events_at at) bs ks)) ts) ≡ behind_tags (open_at ts) (tags_of (along pieces_at bs ks))
+  tokens_emitted at bs [] ts h = refl
+  tokens_emitted at bs (k ∷ ks) ts h =
       let r = token_told at bs k ts h in
-      ap open_at (told_append (outs_at at bs k) (along (outs_at at) (k ∷ bs) ks) ts)
-      ∙ tokens_told at (k ∷ bs) ks (onto (text_told (outs_at at bs k)) ts) r.kept
+      ap open_at (events_append (events_at at bs k) (along (events_at at) (k ∷ bs) ks) ts)
+      ∙ tokens_emitted at (k ∷ bs) ks (events_onto (text_emitted (events_at at bs k)) ts) r.kept
       ∙ ap (λ was. behind_tags was (tags_of (along pieces_at (k ∷ bs) ks))) r.span
       ∙ sym (behind_append (open_at ts) (tags_of (pieces_at bs k)) (tags_of (along pieces_at (k ∷ bs) ks)))
       ∙ ap (behind_tags (open_at ts)) (sym (tags_append (pieces_at bs k) (along pieces_at (k ∷ bs) ks)))
 
   -- ---- a text
 
-  end_found : (fs : List Finding) (ts : List Told) → open_at (onto (text_told (map text.Found fs)) ts) ≡ open_at ts
+  end_found : (fs : List Finding) (ts : List BodyEvent) → open_at (events_onto (text_emitted (map text.Found fs)) ts) ≡ open_at ts
   end_found [] ts = refl
-  end_found (f ∷ fs) ts = end_found fs (told.Text (text.Found f) ∷ ts)
+  end_found (f ∷ fs) ts = end_found fs (event.Text (text.Found f) ∷ ts)
 
-  end_centre : (o : Option Span) (ts : List Told) → open_at (onto (text_told (map (λ (s : Span). text.Part (part.Centre s)) (listed o))) ts) ≡ open_at ts
+  end_centre : (o : Option Span) (ts : List BodyEvent) → open_at (events_onto (text_emitted (map (λ (s : Span). text.Part (part.Centre s)) (option_list_of o))) ts) ≡ open_at ts
   end_centre None ts = refl
   end_centre (Some s) ts = refl
 
-  end_still : (at : Place) (bs : List Token) (rest : List ℕ) (ts : List Told) → open_at (onto (text_told (outs_end at bs rest)) ts) ≡ open_at ts
+  end_still : (at : Place) (bs : List Token) (rest : List ℕ) (ts : List BodyEvent) → open_at (events_onto (text_emitted (end_events at bs rest)) ts) ≡ open_at ts
   end_still at bs rest ts =
       let found = map text.Found (findings_at_end at bs) in
-      let centre = map (λ (s : Span). text.Part (part.Centre s)) (listed (centre_of bs)) in
+      let centre = map (λ (s : Span). text.Part (part.Centre s)) (option_list_of (centre_of bs)) in
       let last = text.Ended (end_after at bs rest) ∷ [] in
-      ap open_at (told_append found (centre ++ last) ts ∙ told_append centre last (onto (text_told found) ts))
-      ∙ end_centre (centre_of bs) (onto (text_told found) ts) ∙ end_found (findings_at_end at bs) ts
+      ap open_at (events_append found (centre ++ last) ts ∙ events_append centre last (events_onto (text_emitted found) ts))
+      ∙ end_centre (centre_of bs) (events_onto (text_emitted found) ts) ∙ end_found (findings_at_end at bs) ts
 
   -- behind a text a span is open by the tags of the text, and by what was before
-  pub text_opens_span : (at : Place) (t : List ℕ) (ts : List Told) → since_close ts ≡ [] → open_at (onto (text_told (outs at t)) ts) ≡ behind_tags (open_at ts) (span_tags t)
+  pub text_opens_span : (at : Place) (t : List ℕ) (ts : List BodyEvent) → since_close ts ≡ [] → open_at (events_onto (text_emitted (events_of at t)) ts) ≡ behind_tags (open_at ts) (span_tags t)
   text_opens_span at t ts h =
-      let tokens_outs = along (outs_at at) [] (tokens t) in
-      ap open_at (told_append tokens_outs (outs_end at (reverse (tokens t)) (after_tokens t)) ts)
-      ∙ end_still at (reverse (tokens t)) (after_tokens t) (onto (text_told tokens_outs) ts)
-      ∙ tokens_told at [] (tokens t) ts (ap kept_of h)
+      let tokens_events = along (events_at at) [] (tokens t) in
+      ap open_at (events_append tokens_events (end_events at (reverse (tokens t)) (after_tokens t)) ts)
+      ∙ end_still at (reverse (tokens t)) (after_tokens t) (events_onto (text_emitted tokens_events) ts)
+      ∙ tokens_emitted at [] (tokens t) ts (ap kept_of h)
       ∙ ap (behind_tags (open_at ts)) (sym (tags_but_blank (along pieces_at [] (tokens t))))
 
   -- ---- the last tag

@@ -7,87 +7,87 @@ use Rattle.gabc_places.specs.declared.place.Char.{Char}
 use Rattle.gabc_places.specs.declared.code.Code.{Code}
 use Rattle.gabc_places.specs.declared.code.Finding.{Finding}
 use Rattle.gabc_places.specs.declared.limits.Limits.{Limits}
-use Rattle.gabc_places.specs.Law.{joined}
+use Rattle.gabc_places.specs.StageLaw.{concat_of}
 use Rattle.gabc_text.specs.declared.stage.TextEnd.TheVariants as text_end
-use Rattle.gabc_text.specs.declared.stage.TextOut.{TextOut}
-use Rattle.gabc_text.specs.declared.stage.TextOut.TheVariants as text
+use Rattle.gabc_text.specs.declared.stage.TextEvent.{TextEvent}
+use Rattle.gabc_text.specs.declared.stage.TextEvent.TheVariants as text
 use Rattle.gabc_text.specs.declared.stage.TextPart.{TextPart}
 use Rattle.gabc_text.specs.declared.stage.TextPart.TheVariants as part
 use Rattle.gabc_text.specs.Ends.{EndsOnce}
 use Rattle.gabc_text.specs.Token.{Token, tokens}
-use Rattle.gabc_text.specs.View.{along, sort, late_codes, findings_at_end, is_open_kind, place_of}
-use Rattle.gabc_text.specs.Outs.{codes_of, outs_by_point, lists_at, owed, is_lone, whole_outs, outs_end, end_after, after_tokens, nothing_each, parts_at, found_outs, listed, centre_of}
+use Rattle.gabc_text.specs.View.{along, effect, late_codes, findings_at_end, is_open_kind, place_of}
+use Rattle.gabc_text.specs.Events.{codes_of, events_by_point, lists_at, owed_events, is_lone, token_events, end_events, end_after, after_tokens, no_events_each, parts_at, finding_events, option_list_of, centre_of}
 use Rattle.gabc_notes.specs.declared.stage.NoteEnd.TheVariants as note_end
-use Rattle.gabc_notes.specs.declared.stage.NoteOut.{NoteOut}
-use Rattle.gabc_notes.specs.declared.stage.NoteOut.TheVariants as note
-use Rattle.gabc_notes.specs.Said as notes
-use Rattle.gabc_nabc.specs.Told as nabc
-use Rattle.gabc_score.specs.declared.told.Told.{Told}
-use Rattle.gabc_score.specs.declared.told.Told.TheVariants as told
-use Rattle.gabc_score.specs.Syllable.{since_close, kept_of, all_made}
-use Rattle.gabc_score.specs.Body.{onto, reached, code_by, code_at}
-use Rattle.gabc_score.specs.Parts.{Part, InComment, InText, InNotes, is_text_end, is_next, is_close, notes_told, first_list, other_lists, told_at_end, texts_said, text_from, snippet_from, next_line, behind_mark, standing, behind, told_from, body_told}
-use Rattle.gabc_score.specs.Stops.{told_in_points, StopsAt, NeverStops}
-use Rattle.gabc_score.proofs.Stopping.{stop_is_first}
-use Rattle.gabc_score.proofs.Telling.{told_each}
-use Rattle.gabc_score.proofs.TextEnds.{length_of_codes}
+use Rattle.gabc_notes.specs.declared.stage.NoteEvent.{NoteEvent}
+use Rattle.gabc_notes.specs.declared.stage.NoteEvent.TheVariants as note
+use Rattle.gabc_notes.specs.Events as notes
+use Rattle.gabc_nabc.specs.Events as nabc
+use Rattle.gabc_score.specs.declared.events.BodyEvent.{BodyEvent}
+use Rattle.gabc_score.specs.declared.events.BodyEvent.TheVariants as event
+use Rattle.gabc_score.specs.Syllable.{since_close, kept_of, all_syllables}
+use Rattle.gabc_score.specs.Body.{events_onto, events_to_stop, code_by, code_at}
+use Rattle.gabc_score.specs.Events.{PartAhead, InComment, InText, InNotes, is_text_end, is_next, is_close, note_event, first_list, other_lists, events_at_end, texts_by_definition, text_from, snippet_from, next_line, behind_mark, part_at, part_behind, events_from, body_events}
+use Rattle.gabc_score.specs.Stops.{events_in_points, StopsAt, NeverStops}
+use Rattle.gabc_score.proofs.building.StopIsFirst.{stop_is_first}
+use Rattle.gabc_score.proofs.building.OneListEachCharacter.{events_each}
+use Rattle.gabc_score.proofs.texts_of_body.TextEmitsThroughEnd.{length_of_codes}
 
 -- ---- events that keep nothing
 
 -- the event keeps nothing, and ends no part but with the end of the input
-abbrev IsQuiet : Told → Type 0
-IsQuiet (told.Text (text.Kept x)) = ⊥
-IsQuiet (told.Text (text.Ended text_end.Notes)) = ⊥
-IsQuiet (told.Text _) = Unit {0}
-IsQuiet (told.Notes line (note.Found f)) = Unit {0}
-IsQuiet (told.Notes line (note.Ended (note_end.Cut place) n)) = Unit {0}
-IsQuiet (told.Notes line _) = ⊥
+abbrev IsQuiet : BodyEvent → Type 0
+IsQuiet (event.Text (text.Kept x)) = ⊥
+IsQuiet (event.Text (text.Ended text_end.Notes)) = ⊥
+IsQuiet (event.Text _) = Unit {0}
+IsQuiet (event.Notes line (note.Found f)) = Unit {0}
+IsQuiet (event.Notes line (note.Ended (note_end.Cut place) n)) = Unit {0}
+IsQuiet (event.Notes line _) = ⊥
 
-abbrev AreQuiet : List Told → Type 0
+abbrev AreQuiet : List BodyEvent → Type 0
 AreQuiet [] = Unit {0}
 AreQuiet (t ∷ ts) = IsQuiet t × AreQuiet ts
 
 -- what a limit looks at
-record Same (before after : List Told) : Type 0 where
+record Same (before after : List BodyEvent) : Type 0 where
   kept : kept_of (since_close after) ≡ kept_of (since_close before)
-  made : all_made after ≡ all_made before
+  made : all_syllables after ≡ all_syllables before
 
-one_quiet : (t : Told) (before : List Told) → IsQuiet t → Same before (t ∷ before)
-one_quiet (told.Text (text.Kept x)) before h = absurd h
-one_quiet (told.Text (text.Part p)) before h = record { kept = refl; made = refl }
-one_quiet (told.Text (text.Found f)) before h = record { kept = refl; made = refl }
-one_quiet (told.Text (text.Ended text_end.Notes)) before h = absurd h
-one_quiet (told.Text (text.Ended text_end.Finished)) before h = record { kept = refl; made = refl }
-one_quiet (told.Text (text.Ended (text_end.Cut place))) before h = record { kept = refl; made = refl }
-one_quiet (told.Notes line (note.Kept x)) before h = absurd h
-one_quiet (told.Notes line (note.Found f)) before h = record { kept = refl; made = refl }
-one_quiet (told.Notes line (note.Ended note_end.Next n)) before h = absurd h
-one_quiet (told.Notes line (note.Ended note_end.Close n)) before h = absurd h
-one_quiet (told.Notes line (note.Ended (note_end.Cut place) n)) before h = record { kept = refl; made = refl }
+one_quiet : (t : BodyEvent) (before : List BodyEvent) → IsQuiet t → Same before (t ∷ before)
+one_quiet (event.Text (text.Kept x)) before h = absurd h
+one_quiet (event.Text (text.Part p)) before h = record { kept = refl; made = refl }
+one_quiet (event.Text (text.Found f)) before h = record { kept = refl; made = refl }
+one_quiet (event.Text (text.Ended text_end.Notes)) before h = absurd h
+one_quiet (event.Text (text.Ended text_end.Finished)) before h = record { kept = refl; made = refl }
+one_quiet (event.Text (text.Ended (text_end.Cut place))) before h = record { kept = refl; made = refl }
+one_quiet (event.Notes line (note.Kept x)) before h = absurd h
+one_quiet (event.Notes line (note.Found f)) before h = record { kept = refl; made = refl }
+one_quiet (event.Notes line (note.Ended note_end.Next n)) before h = absurd h
+one_quiet (event.Notes line (note.Ended note_end.Close n)) before h = absurd h
+one_quiet (event.Notes line (note.Ended (note_end.Cut place) n)) before h = record { kept = refl; made = refl }
 
-all_quiet : (now before : List Told) → AreQuiet now → Same before (onto now before)
+all_quiet : (now before : List BodyEvent) → AreQuiet now → Same before (events_onto now before)
 all_quiet [] before h = record { kept = refl; made = refl }
 all_quiet (t ∷ now) before h =
     let one = one_quiet t before h.0 in
     let on = all_quiet now (t ∷ before) h.1 in
     record { kept = on.kept ∙ one.kept; made = on.made ∙ one.made }
 
-quiet_both : (ts us : List Told) → AreQuiet ts → AreQuiet us → AreQuiet (ts ++ us)
+quiet_both : (ts us : List BodyEvent) → AreQuiet ts → AreQuiet us → AreQuiet (ts ++ us)
 quiet_both [] us h k = k
 quiet_both (t ∷ ts) us h k = (h.0, quiet_both ts us h.1 k)
 
 -- ---- the end of a text
 
-abbrev QuietText : List TextOut → Type 0
+abbrev QuietText : List TextEvent → Type 0
 QuietText [] = Unit {0}
-QuietText (o ∷ outs) = IsQuiet (told.Text o) × QuietText outs
+QuietText (o ∷ emitted) = IsQuiet (event.Text o) × QuietText emitted
 
 -- the list of the end is quiet, which stands behind those of the characters
-abbrev TextEndsQuietly : List (List TextOut) → List Char → Type 0
+abbrev TextEndsQuietly : List (List TextEvent) → List Char → Type 0
 TextEndsQuietly lists [] = QuietText (first_list lists)
 TextEndsQuietly lists (x ∷ xs) = TextEndsQuietly (other_lists lists) xs
 
-text_both : (xs ys : List TextOut) → QuietText xs → QuietText ys → QuietText (xs ++ ys)
+text_both : (xs ys : List TextEvent) → QuietText xs → QuietText ys → QuietText (xs ++ ys)
 text_both [] ys h k = k
 text_both (x ∷ xs) ys h k = (h.0, text_both xs ys h.1 k)
 
@@ -95,7 +95,7 @@ parts_quiet : (ps : List TextPart) → QuietText (map (λ (p : TextPart). text.P
 parts_quiet [] = tt
 parts_quiet (p ∷ ps) = (tt, parts_quiet ps)
 
-centres_quiet : (o : Option Span) → QuietText (map (λ (s : Span). text.Part (part.Centre s)) (listed o))
+centres_quiet : (o : Option Span) → QuietText (map (λ (s : Span). text.Part (part.Centre s)) (option_list_of o))
 centres_quiet None = tt
 centres_quiet (Some s) = (tt, tt)
 
@@ -103,144 +103,144 @@ found_quiet : (fs : List Finding) → QuietText (map text.Found fs)
 found_quiet [] = tt
 found_quiet (f ∷ fs) = (tt, found_quiet fs)
 
-codes_quiet : (at : Place) (before : List Token) (cs : List Code) → QuietText (found_outs at before cs)
+codes_quiet : (at : Place) (before : List Token) (cs : List Code) → QuietText (finding_events at before cs)
 codes_quiet at before [] = tt
 codes_quiet at before (c ∷ cs) = (tt, codes_quiet at before cs)
 
-owed_quiet : (at : Place) (before : List Token) → QuietText (owed at before)
+owed_quiet : (at : Place) (before : List Token) → QuietText (owed_events at before)
 owed_quiet at [] = tt
 owed_quiet at (k ∷ before) = by (is_lone k)
   where
-    by : (b : Bool) → QuietText (cond b (whole_outs at before k) [])
-    by true = text_both (map (λ (p : TextPart). text.Part p) (parts_at before k)) _ (parts_quiet (parts_at before k)) (codes_quiet at before (late_codes before k.kind (sort k)))
+    by : (b : Bool) → QuietText (cond b (token_events at before k) [])
+    by true = text_both (map (λ (p : TextPart). text.Part p) (parts_at before k)) _ (parts_quiet (parts_at before k)) (codes_quiet at before (late_codes before k.kind (effect k)))
     by false = tt
 
-end_quiet : (at : Place) (before : List Token) → IsQuiet (told.Text (text.Ended (end_after at before [])))
+end_quiet : (at : Place) (before : List Token) → IsQuiet (event.Text (text.Ended (end_after at before [])))
 end_quiet at [] = tt
 end_quiet at (k ∷ before) = by (is_open_kind k.kind)
   where
-    by : (b : Bool) → IsQuiet (told.Text (text.Ended (cond b (text_end.Cut (place_of at before)) text_end.Finished)))
+    by : (b : Bool) → IsQuiet (event.Text (text.Ended (cond b (text_end.Cut (place_of at before)) text_end.Finished)))
     by true = tt
     by false = tt
 
-outs_end_quiet : (at : Place) (before : List Token) → QuietText (outs_end at before [])
-outs_end_quiet at before =
+events_end_quiet : (at : Place) (before : List Token) → QuietText (end_events at before [])
+events_end_quiet at before =
     text_both (map text.Found (findings_at_end at before)) _ (found_quiet (findings_at_end at before))
-    (text_both (map (λ (s : Span). text.Part (part.Centre s)) (listed (centre_of before))) _ (centres_quiet (centre_of before)) (end_quiet at before, tt))
+    (text_both (map (λ (s : Span). text.Part (part.Centre s)) (option_list_of (centre_of before))) _ (centres_quiet (centre_of before)) (end_quiet at before, tt))
 
-nothing_quiet : (rest : List ℕ) (xs : List Char) → TextEndsQuietly (nothing_each rest) xs
+nothing_quiet : (rest : List ℕ) (xs : List Char) → TextEndsQuietly (no_events_each rest) xs
 nothing_quiet [] [] = tt
 nothing_quiet (c ∷ rest) [] = tt
 nothing_quiet [] (x ∷ xs) = nothing_quiet [] xs
 nothing_quiet (c ∷ rest) (x ∷ xs) = nothing_quiet rest xs
 
-lists_quiet : (lists : List (List TextOut)) (last : List TextOut) (rest : List ℕ) (xs : List Char) → length lists + length rest ≡ length xs → (rest ≡ [] → QuietText last)
-    → TextEndsQuietly (lists ++ last ∷ nothing_each rest) xs
+lists_quiet : (lists : List (List TextEvent)) (last : List TextEvent) (rest : List ℕ) (xs : List Char) → length lists + length rest ≡ length xs → (rest ≡ [] → QuietText last)
+    → TextEndsQuietly (lists ++ last ∷ no_events_each rest) xs
 lists_quiet [] last [] [] e h = h refl
 lists_quiet [] last (c ∷ rest) [] e h = absurd (omega (arith, e))
 lists_quiet (l ∷ lists) last rest [] e h = absurd (omega (arith, e))
 lists_quiet [] last rest (x ∷ xs) e h = nothing_quiet rest xs
 lists_quiet (l ∷ lists) last rest (x ∷ xs) e h = lists_quiet lists last rest xs (omega (arith, e)) h
 
-nothing_count : (rest : List ℕ) → length (nothing_each rest) ≡ length rest
+nothing_count : (rest : List ℕ) → length (no_events_each rest) ≡ length rest
 nothing_count [] = refl
 nothing_count (c ∷ rest) = ap (λ n. suc n) (nothing_count rest)
 
 -- a text has a list for each character, and one for the end
-lists_count : (at : Place) (t : List ℕ) → EndsOnce at t → length (outs_by_point at t) ≡ length t + 1
+lists_count : (at : Place) (t : List ℕ) → EndsOnce at t → length (events_by_point at t) ≡ length t + 1
 lists_count at t e =
-    let all : length (outs_by_point at t) ≡ length (e.before ++ (e.last ++ text.Ended e.how ∷ []) ∷ nothing_each e.rest) = ap length e.outs_are in
-    let parts : length (e.before ++ (e.last ++ text.Ended e.how ∷ []) ∷ nothing_each e.rest) ≡ length e.before + suc (length (nothing_each e.rest)) = length-append e.before _ in
-    let nothing : length (nothing_each e.rest) ≡ length e.rest = nothing_count e.rest in
-    let text : length t ≡ length e.front + length e.rest = ap length e.text_is ∙ length-append e.front e.rest in
-    let one : length e.before ≡ length e.front = e.one_each in
+    let all : length (events_by_point at t) ≡ length (e.before ++ (e.last ++ text.Ended e.how ∷ []) ∷ no_events_each e.rest) = ap length e.events_are in
+    let parts : length (e.before ++ (e.last ++ text.Ended e.how ∷ []) ∷ no_events_each e.rest) ≡ length e.before + suc (length (no_events_each e.rest)) = length-append e.before _ in
+    let nothing : length (no_events_each e.rest) ≡ length e.rest = nothing_count e.rest in
+    let text : length t ≡ length e.prefix + length e.rest = ap length e.text_is ∙ length-append e.prefix e.rest in
+    let one : length e.before ≡ length e.prefix = e.one_each in
     omega arith
 
-text_ends_quietly : (at : Place) (xs : List Char) → EndsOnce at (codes_of xs) → TextEndsQuietly (outs_by_point at (codes_of xs)) xs
+text_ends_quietly : (at : Place) (xs : List Char) → EndsOnce at (codes_of xs) → TextEndsQuietly (events_by_point at (codes_of xs)) xs
 text_ends_quietly at xs e =
     let t = codes_of xs in
     let lists = along (lists_at at) [] (tokens t) in
     let before = reverse (tokens t) in
     let rest = after_tokens t in
-    let last = owed at before ++ outs_end at before rest in
-    let all : length (outs_by_point at t) ≡ length t + 1 = lists_count at t e in
-    let parts : length (outs_by_point at t) ≡ length lists + suc (length (nothing_each rest)) = length-append lists (last ∷ nothing_each rest) in
-    let nothing : length (nothing_each rest) ≡ length rest = nothing_count rest in
+    let last = owed_events at before ++ end_events at before rest in
+    let all : length (events_by_point at t) ≡ length t + 1 = lists_count at t e in
+    let parts : length (events_by_point at t) ≡ length lists + suc (length (no_events_each rest)) = length-append lists (last ∷ no_events_each rest) in
+    let nothing : length (no_events_each rest) ≡ length rest = nothing_count rest in
     let codes : length t ≡ length xs = length_of_codes xs in
     let count : length lists + length rest ≡ length xs = omega arith in
-    lists_quiet lists last rest xs count (λ n. text_both (owed at before) (outs_end at before rest) (owed_quiet at before) (subst (λ r. QuietText (outs_end at before r)) (sym n) (outs_end_quiet at before)))
+    lists_quiet lists last rest xs count (λ n. text_both (owed_events at before) (end_events at before rest) (owed_quiet at before) (subst (λ r. QuietText (end_events at before r)) (sym n) (events_end_quiet at before)))
 
 -- ---- the end of a snippet
 
-abbrev QuietNotes : List NoteOut → Type 0
+abbrev QuietNotes : List NoteEvent → Type 0
 QuietNotes [] = Unit {0}
-QuietNotes (note.Kept x ∷ outs) = ⊥
-QuietNotes (note.Found f ∷ outs) = QuietNotes outs
-QuietNotes (note.Ended (note_end.Cut place) n ∷ outs) = QuietNotes outs
-QuietNotes (note.Ended _ n ∷ outs) = ⊥
+QuietNotes (note.Kept x ∷ emitted) = ⊥
+QuietNotes (note.Found f ∷ emitted) = QuietNotes emitted
+QuietNotes (note.Ended (note_end.Cut place) n ∷ emitted) = QuietNotes emitted
+QuietNotes (note.Ended _ n ∷ emitted) = ⊥
 
-abbrev NotesEndQuietly : List (List NoteOut) → List Char → Type 0
+abbrev NotesEndQuietly : List (List NoteEvent) → List Char → Type 0
 NotesEndQuietly lists [] = QuietNotes (first_list lists)
 NotesEndQuietly lists (x ∷ xs) = NotesEndQuietly (other_lists lists) xs
 
-notes_if : (b : Bool) (xs ys : List NoteOut) → QuietNotes xs → QuietNotes ys → QuietNotes (if b then xs else ys)
+notes_if : (b : Bool) (xs ys : List NoteEvent) → QuietNotes xs → QuietNotes ys → QuietNotes (if b then xs else ys)
 notes_if true xs ys h k = h
 notes_if false xs ys h k = k
 
-gabc_ends : (split : Bool) (macros : ℕ) (back xs : List Char) → NotesEndQuietly (notes.says_after split macros back xs) xs
+gabc_ends : (split : Bool) (macros : ℕ) (back xs : List Char) → NotesEndQuietly (notes.note_events_behind split macros back xs) xs
 gabc_ends split macros back [] = notes_if (notes.is_over split back) [] _ tt tt
 gabc_ends split macros back (x ∷ xs) = gabc_ends split macros (x ∷ back) xs
 
-nabc_ends : (t : List ℕ) (xs : List Char) → NotesEndQuietly (nabc.told_behind t xs) xs
+nabc_ends : (t : List ℕ) (xs : List Char) → NotesEndQuietly (nabc.nabc_events_behind t xs) xs
 nabc_ends t [] = notes_if (nabc.has_end t) [] _ tt tt
 nabc_ends t (x ∷ xs) = nabc_ends (t ++ x.c ∷ []) xs
 
 -- ---- the end of a body
 
-abbrev EndsQuietly : Part → List Char → Type 0
+abbrev EndsQuietly : PartAhead → List Char → Type 0
 EndsQuietly InComment xs = Unit {0}
 EndsQuietly (InText lists) xs = TextEndsQuietly lists xs
 EndsQuietly (InNotes line opened lists) xs = NotesEndQuietly lists xs
 
-text_told_quiet : (outs : List TextOut) → QuietText outs → AreQuiet (map (λ (o : TextOut). told.Text o) outs)
-text_told_quiet [] h = tt
-text_told_quiet (o ∷ outs) h = (h.0, text_told_quiet outs h.1)
+text_emitted_quiet : (emitted : List TextEvent) → QuietText emitted → AreQuiet (map (λ (o : TextEvent). event.Text o) emitted)
+text_emitted_quiet [] h = tt
+text_emitted_quiet (o ∷ emitted) h = (h.0, text_emitted_quiet emitted h.1)
 
-notes_told_quiet : (line : ℕ) (opened : Place) (outs : List NoteOut) → QuietNotes outs → AreQuiet (map (notes_told line opened) outs)
-notes_told_quiet line opened [] h = tt
-notes_told_quiet line opened (note.Kept x ∷ outs) h = absurd h
-notes_told_quiet line opened (note.Found f ∷ outs) h = (tt, notes_told_quiet line opened outs h)
-notes_told_quiet line opened (note.Ended note_end.Next n ∷ outs) h = absurd h
-notes_told_quiet line opened (note.Ended note_end.Close n ∷ outs) h = absurd h
-notes_told_quiet line opened (note.Ended (note_end.Cut place) n ∷ outs) h = (tt, notes_told_quiet line opened outs h)
+notes_emitted_quiet : (line : ℕ) (opened : Place) (emitted : List NoteEvent) → QuietNotes emitted → AreQuiet (map (note_event line opened) emitted)
+notes_emitted_quiet line opened [] h = tt
+notes_emitted_quiet line opened (note.Kept x ∷ emitted) h = absurd h
+notes_emitted_quiet line opened (note.Found f ∷ emitted) h = (tt, notes_emitted_quiet line opened emitted h)
+notes_emitted_quiet line opened (note.Ended note_end.Next n ∷ emitted) h = absurd h
+notes_emitted_quiet line opened (note.Ended note_end.Close n ∷ emitted) h = absurd h
+notes_emitted_quiet line opened (note.Ended (note_end.Cut place) n ∷ emitted) h = (tt, notes_emitted_quiet line opened emitted h)
 
-end_told_quiet : (part : Part) → EndsQuietly part [] → AreQuiet (told_at_end part)
-end_told_quiet InComment h = (tt, tt)
-end_told_quiet (InText lists) h = text_told_quiet (first_list lists) h
-end_told_quiet (InNotes line opened lists) h = notes_told_quiet line opened (first_list lists) h
+end_emitted_quiet : (part : PartAhead) → EndsQuietly part [] → AreQuiet (events_at_end part)
+end_emitted_quiet InComment h = (tt, tt)
+end_emitted_quiet (InText lists) h = text_emitted_quiet (first_list lists) h
+end_emitted_quiet (InNotes line opened lists) h = notes_emitted_quiet line opened (first_list lists) h
 
 module _ (ends : (at : Place) (t : List ℕ) → EndsOnce at t) (lines macros : ℕ) where
-  text_here : (at : Place) (xs : List Char) → EndsQuietly (text_from texts_said at xs) xs
+  text_here : (at : Place) (xs : List Char) → EndsQuietly (text_from texts_by_definition at xs) xs
   text_here at xs = text_ends_quietly at xs (ends at (codes_of xs))
 
   snippet_here : (line : ℕ) (opened : Place) (xs : List Char) → EndsQuietly (snippet_from lines macros line opened xs) xs
-  unfolding notes.says
+  unfolding notes.note_events
   snippet_here line opened xs = by (line == 0)
     where
-      by : (b : Bool) → NotesEndQuietly (if b then notes.says (nat_lt 0 lines) macros xs else nabc.told xs) xs
+      by : (b : Bool) → NotesEndQuietly (if b then notes.note_events (nat_lt 0 lines) macros xs else nabc.nabc_events xs) xs
       by true = gabc_ends (nat_lt 0 lines) macros [] xs
       by false = nabc_ends [] xs
 
-  standing_ends : (part : Part) (x : Char) (xs : List Char) → EndsQuietly part (x ∷ xs) → EndsQuietly (standing texts_said part x xs) (x ∷ xs)
+  standing_ends : (part : PartAhead) (x : Char) (xs : List Char) → EndsQuietly part (x ∷ xs) → EndsQuietly (part_at texts_by_definition part x xs) (x ∷ xs)
   standing_ends InComment x xs h = by (x.c == 10)
     where
-      by : (b : Bool) → EndsQuietly (if b then text_from texts_said x.place (x ∷ xs) else InComment) (x ∷ xs)
+      by : (b : Bool) → EndsQuietly (if b then text_from texts_by_definition x.place (x ∷ xs) else InComment) (x ∷ xs)
       by true = text_here x.place (x ∷ xs)
       by false = tt
   standing_ends (InText lists) x xs h = h
   standing_ends (InNotes line opened lists) x xs h = h
 
-  behind_ends : (part : Part) (x : Char) (xs : List Char) → EndsQuietly part (x ∷ xs) → EndsQuietly (behind texts_said lines macros part x xs) xs
+  behind_ends : (part : PartAhead) (x : Char) (xs : List Char) → EndsQuietly part (x ∷ xs) → EndsQuietly (part_behind texts_by_definition lines macros part x xs) xs
   behind_ends InComment x xs h = tt
   behind_ends (InText lists) x xs h = by (list_any is_text_end (first_list lists))
     where
@@ -249,17 +249,17 @@ module _ (ends : (at : Place) (t : List ℕ) → EndsOnce at t) (lines macros : 
       by false = h
   behind_ends (InNotes line opened lists) x xs h = by (list_any is_next (first_list lists)) (list_any is_close (first_list lists))
     where
-      by : (b d : Bool) → EndsQuietly (if b then snippet_from lines macros (next_line lines line) opened xs else if d then text_from texts_said (behind_mark x.place) xs else InNotes line opened (other_lists lists)) xs
+      by : (b d : Bool) → EndsQuietly (if b then snippet_from lines macros (next_line lines line) opened xs else if d then text_from texts_by_definition (behind_mark x.place) xs else InNotes line opened (other_lists lists)) xs
       by true d = snippet_here (next_line lines line) opened xs
       by false true = text_here (behind_mark x.place) xs
       by false false = h
 
   -- the list of the end
-  told_ends : (part : Part) (xs : List Char) → EndsQuietly part xs → AreQuiet (joined (drop (length xs) (told_from texts_said lines macros part xs)))
-  told_ends part [] h = quiet_both (told_at_end part) [] (end_told_quiet part h) tt
-  told_ends part (x ∷ xs) h =
-      let now = standing texts_said part x xs in
-      told_ends (behind texts_said lines macros now x xs) xs (behind_ends now x xs (standing_ends part x xs h))
+  events_ends : (part : PartAhead) (xs : List Char) → EndsQuietly part xs → AreQuiet (concat_of (drop (length xs) (events_from texts_by_definition lines macros part xs)))
+  events_ends part [] h = quiet_both (events_at_end part) [] (end_emitted_quiet part h) tt
+  events_ends part (x ∷ xs) h =
+      let now = part_at texts_by_definition part x xs in
+      events_ends (part_behind texts_by_definition lines macros now x xs) xs (behind_ends now x xs (standing_ends part x xs h))
 
   module _ (limits : Limits) (head : ℕ) where
     pub none_at_first : code_at limits head [] ≡ None
@@ -269,23 +269,23 @@ module _ (ends : (at : Place) (t : List ℕ) → EndsOnce at t) (lines macros : 
         by true h = absurd (grind arith)
         by false h = rw h refl
 
-    none_before : (xs : List Char) (lists : List (List Told)) → ((n : ℕ) → n < length xs → code_at limits head (told_in_points [] lists (suc n)) ≡ None) → code_at limits head (told_in_points [] lists (length xs)) ≡ None
+    none_before : (xs : List Char) (lists : List (List BodyEvent)) → ((n : ℕ) → n < length xs → code_at limits head (events_in_points [] lists (suc n)) ≡ None) → code_at limits head (events_in_points [] lists (length xs)) ≡ None
     none_before [] lists h = none_at_first
     none_before (x ∷ xs) lists h = h (length xs) (omega arith)
 
-    -- no limit is passed by what is told with the end
-    pub none_at_end : (xs : List Char) → (let r = reached limits head [] xs (body_told lines macros xs) in r.fault ≡ None → code_at limits head (onto r.last r.before) ≡ None)
+    -- no limit is passed by what is emitted with the end
+    pub none_at_end : (xs : List Char) → (let r = events_to_stop limits head [] xs (body_events lines macros xs) in r.fault ≡ None → code_at limits head (events_onto r.last r.before) ≡ None)
     none_at_end xs e =
-        by (stop_is_first limits head [] xs (body_told lines macros xs) (told_each texts_said lines macros InComment xs))
+        by (stop_is_first limits head [] xs (body_events lines macros xs) (events_each texts_by_definition lines macros InComment xs))
       where
-        by : (let lists = body_told lines macros xs in let r = reached limits head [] xs lists in
-            NeverStops limits head [] xs lists r ⊎ StopsAt limits head [] xs lists r → code_at limits head (onto r.last r.before) ≡ None)
+        by : (let lists = body_events lines macros xs in let r = events_to_stop limits head [] xs lists in
+            NeverStops limits head [] xs lists r ⊎ StopsAt limits head [] xs lists r → code_at limits head (events_onto r.last r.before) ≡ None)
         by (inr s) = absurd (let k = s.fault in cc)
         by (inl s) =
-            let lists = body_told lines macros xs in
-            let r = reached limits head [] xs (body_told lines macros xs) in
-            let same = all_quiet r.last r.before (subst AreQuiet (sym s.last) (told_ends InComment xs tt)) in
-            ap (λ ms. code_by limits head ms (kept_of (since_close (onto r.last r.before)))) same.made
-            ∙ ap (code_by limits head (all_made r.before)) same.kept
+            let lists = body_events lines macros xs in
+            let r = events_to_stop limits head [] xs (body_events lines macros xs) in
+            let same = all_quiet r.last r.before (subst AreQuiet (sym s.last) (events_ends InComment xs tt)) in
+            ap (λ ms. code_by limits head ms (kept_of (since_close (events_onto r.last r.before)))) same.made
+            ∙ ap (code_by limits head (all_syllables r.before)) same.kept
             ∙ ap (code_at limits head) s.before
             ∙ none_before xs lists s.none

@@ -4,11 +4,11 @@ use Rattle.std.specs.Prelude.{◌≢◌}
 use Rattle.std.proofs.lemmas.List.Elements.{All-nil}
 use Rattle.gabc_places.specs.declared.place.Char.{Char}
 use Rattle.gabc_places.specs.declared.place.Place.{Place}
-use Rattle.gabc_places.specs.Place.{placed_from}
-use Rattle.gabc_text.specs.Outs.{codes_of}
+use Rattle.gabc_places.specs.Place.{placed_characters_from}
+use Rattle.gabc_text.specs.Events.{codes_of}
 use Rattle.gabc_score.specs.declared.syllable.Position.TheVariants.{One}
 use Rattle.gabc_score.specs.Canonical.{position_by}
-use Rattle.gabc_score.specs.Units.{Ended, BodyUnit, JustText, Units}
+use Rattle.gabc_score.specs.Units.{EndedPart, BodyUnit, JustText, Units}
 use Rattle.gabc_score.specs.SyllablesOfUnits.{ScoreUnit, score_units, unit_characters, span_tags, IsLeftOpen, begins_word, next_begins_word, count_within}
 
 abbrev at : Place
@@ -16,9 +16,9 @@ at = record { line = 3; column = 1 }
 
 -- the characters of a text; where they stand does not matter here
 abbrev chars : List ℕ → List Char
-chars t = placed_from at t
+chars t = placed_characters_from at t
 
-abbrev ended : List ℕ → ℕ → Ended
+abbrev ended : List ℕ → ℕ → EndedPart
 ended t c = record { characters = chars t; end = record { c = c; place = at } }
 
 abbrev first : BodyUnit

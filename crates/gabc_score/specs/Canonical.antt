@@ -6,13 +6,13 @@ use Rattle.gabc_text.specs.Canonical.{canonical_text}
 use Rattle.gabc_score.specs.declared.snippets.Snippet.{Snippet}
 use Rattle.gabc_score.specs.declared.syllable.Position.{Position}
 use Rattle.gabc_score.specs.declared.syllable.Position.TheVariants.{One, Beginning, Middle, End}
-use Rattle.gabc_score.specs.Syllable.{Made, Said, slice}
+use Rattle.gabc_score.specs.Syllable.{UnplacedSyllable, PlacedSyllable, slice}
 
 -- ---- the canonical text
 
-abbrev pub translated : List ℕ → Option Span → List ℕ
-translated kept None = []
-translated kept (Some span) = codes "[" ++ (slice span kept ++ codes "]")
+abbrev pub translation_text : List ℕ → Option Span → List ℕ
+translation_text kept None = []
+translation_text kept (Some span) = codes "[" ++ (slice span kept ++ codes "]")
 
 -- the snippets, with `|` between them
 abbrev pub with_bars : List ℕ → List Snippet → List ℕ
@@ -21,20 +21,20 @@ with_bars kept (s ∷ []) = slice s.span kept
 with_bars kept (s ∷ t ∷ rest) = slice s.span kept ++ (codes "|" ++ with_bars kept (t ∷ rest))
 
 -- the canonical text of a syllable that begins a word or not, in bytes
-abbrev pub canonical : Bool → Made → List ℕ
+abbrev pub canonical : Bool → UnplacedSyllable → List ℕ
 canonical starts m =
     cond starts (10 ∷ []) []
     ++ (canonical_text m.text m.kept
-    ++ (translated m.kept m.text.translation
+    ++ (translation_text m.kept m.text.translation
     ++ (codes "(" ++ (with_bars m.kept m.snippets ++ codes ")"))))
 
 -- The canonical texts of syllables. The first syllable of a score begins a word; `first` tells that these begin with it.
-abbrev pub canonicals : Bool → List Made → List (List ℕ)
+abbrev pub canonicals : Bool → List UnplacedSyllable → List (List ℕ)
 canonicals first [] = []
 canonicals first (m ∷ ms) = canonical (first || m.text.word_start) m ∷ canonicals false ms
 
 -- the bytes of all of them
-abbrev pub canonical_bytes : List Made → ℕ
+abbrev pub canonical_bytes : List UnplacedSyllable → ℕ
 canonical_bytes ms = sum_by (λ (text : List ℕ). length text) (canonicals true ms)
 
 -- ---- the position
@@ -54,14 +54,14 @@ starts_word Middle = false
 starts_word End = false
 
 -- the end of the list counts as a word's beginning
-abbrev pub next_starts : List Made → Bool
+abbrev pub next_starts : List UnplacedSyllable → Bool
 next_starts [] = true
 next_starts (m ∷ ms) = m.text.word_start
 
-abbrev pub placed_by : Bool → List Made → List Said
-placed_by first [] = []
-placed_by first (m ∷ ms) = record { made = m; position = position_by (first || m.text.word_start) (next_starts ms) } ∷ placed_by false ms
+abbrev pub placed_syllables_by : Bool → List UnplacedSyllable → List PlacedSyllable
+placed_syllables_by first [] = []
+placed_syllables_by first (m ∷ ms) = record { made = m; position = position_by (first || m.text.word_start) (next_starts ms) } ∷ placed_syllables_by false ms
 
 -- the syllables of a score with their positions
-abbrev pub with_positions : List Made → List Said
-with_positions ms = placed_by true ms
+abbrev pub with_positions : List UnplacedSyllable → List PlacedSyllable
+with_positions ms = placed_syllables_by true ms

@@ -6,16 +6,16 @@ use Rattle.gabc_patterns.specs.Reading.{IsSnippet}
 use Rattle.gabc_patterns.specs.Function.{trim}
 use Rattle.gabc_headers.specs.Book.{nabc_lines_of}
 use Rattle.gabc_text.specs.View.{kept}
-use Rattle.gabc_text.specs.Read.{view_in}
-use Rattle.gabc_text.specs.Said.{StandsFor, Stands}
-use Rattle.gabc_text.specs.Outs.{codes_of}
+use Rattle.gabc_text.specs.TextRead.{view_in}
+use Rattle.gabc_text.specs.ViewFacts.{StandsFor, StandsForView}
+use Rattle.gabc_text.specs.Events.{codes_of}
 use Rattle.gabc_notes.specs.Table.{gabc}
-use Rattle.gabc_notes.specs.Said as notes
+use Rattle.gabc_notes.specs.Events as notes
 use Rattle.gabc_nabc.specs.Table.{nabc}
-use Rattle.gabc_nabc.specs.Told as nabc
+use Rattle.gabc_nabc.specs.Events as nabc
 use Rattle.gabc_score.specs.declared.score.Score.{Score}
 use Rattle.gabc_score.specs.declared.snippets.Snippet.{Snippet}
-use Rattle.gabc_score.specs.Syllable.{Made}
+use Rattle.gabc_score.specs.Syllable.{UnplacedSyllable}
 use Rattle.gabc_score.specs.Body.{empty_snippet}
 
 -- ---- the notes
@@ -37,12 +37,12 @@ kept_on_line zero xs = trim gabc (notes.kept (reverse xs))
 kept_on_line (suc line) xs = trim nabc (nabc.kept_of (codes_of xs))
 
 -- a `(`, and a part of each of these snippets with a `|` behind it
-abbrev pub opened : (ReadSnippet → List ℕ) → List ReadSnippet → List ℕ
-opened part before = codes "(" ++ flat_map (λ s. part s ++ codes "|") before
+abbrev pub bracket_with : (ReadSnippet → List ℕ) → List ReadSnippet → List ℕ
+bracket_with part before = codes "(" ++ flat_map (λ s. part s ++ codes "|") before
 
 -- a part of each of these snippets and of the last, with `|` between them, from the `(` to the `)`
 abbrev pub in_brackets : (ReadSnippet → List ℕ) → List ReadSnippet → ReadSnippet → List ℕ
-in_brackets part earlier last = opened part earlier ++ (part last ++ codes ")")
+in_brackets part earlier last = bracket_with part earlier ++ (part last ++ codes ")")
 
 -- Behind this text and these snippets, a snippet stands for its kept text, which its characters keep and which is a snippet of its
 -- line. That is the line whose turn it is, of GABC and so many NABC lines.
@@ -51,7 +51,7 @@ pub record IsHeld (lines : ℕ) (whole text : List ℕ) (before : List ReadSnipp
   pub kept_is : s.kept ≡ kept_on_line s.snippet.line s.characters
   pub is_snippet : IsSnippetOf s.snippet.line s.kept
   pub stands : StandsFor whole s.snippet.span s.kept
-  pub behind : stands.front ≡ text ++ opened (λ b. b.kept) before
+  pub behind : stands.prefix ≡ text ++ bracket_with (λ b. b.kept) before
 
 -- Notes that were read from these characters: behind the text the whole has the kept texts of their snippets, each held in its place.
 pub record HoldsNotes (lines : ℕ) (characters whole text : List ℕ) (snippets : List Snippet) : Type 0 where
@@ -73,7 +73,7 @@ pub record HoldsNoNotes (characters whole text : List ℕ) (snippets : List Snip
 -- A syllable holds its parts. Somewhere in the input stand the characters of its text, and behind them those of its notes. Its view
 -- is the view of the text that begins there, and the spans of the view stand for what it says in the whole that the syllable keeps:
 -- the kept text of its text, and its notes.
-pub record Holds (Notes : List ℕ → List ℕ → List ℕ → List Snippet → Type 0) (input : List ℕ) (m : Made) : Type 0 where
+pub record Holds (Notes : List ℕ → List ℕ → List ℕ → List Snippet → Type 0) (input : List ℕ) (m : UnplacedSyllable) : Type 0 where
   pub before : List ℕ
   pub text : List ℕ
   pub input_is : input ≡ before ++ text
@@ -84,15 +84,15 @@ pub record Holds (Notes : List ℕ → List ℕ → List ℕ → List Snippet �
   pub whole : List ℕ
   pub kept_is : m.kept ≡ encode_utf8_all whole
   pub view_is : m.text ≡ view_in text
-  pub stands : Stands whole m.text text
+  pub stands : StandsForView whole m.text text
   pub notes : Notes of_notes whole (kept text) m.snippets
 
 -- a syllable with its notes
-abbrev pub HoldsWithNotes : List ℕ → ℕ → Made → Type 0
+abbrev pub HoldsWithNotes : List ℕ → ℕ → UnplacedSyllable → Type 0
 HoldsWithNotes input lines m = Holds (HoldsNotes lines) input m
 
 -- a syllable, with its notes or without
-abbrev pub HoldsParts : List ℕ → ℕ → Made → Type 0
+abbrev pub HoldsParts : List ℕ → ℕ → UnplacedSyllable → Type 0
 HoldsParts input lines m = HoldsWithNotes input lines m ⊎ Holds HoldsNoNotes input m
 
 -- the NABC lines of a score

@@ -1,9 +1,9 @@
 -- The marks at which the units of a body end.
 use Rattle.std.specs.Prelude.{◌≡◌, ℕ, List, [], ◌∷◌, Option, Some, None}
-use Rattle.gabc_score.specs.Units.{Ended, BodyUnit, LastUnit, JustText, OpenNotes, Units}
+use Rattle.gabc_score.specs.Units.{EndedPart, BodyUnit, LastUnit, JustText, OpenNotes, Units}
 
 -- each of these ends at this character
-abbrev pub EndAt : ℕ → List Ended → Type 0
+abbrev pub EndAt : ℕ → List EndedPart → Type 0
 EndAt c [] = Unit {0}
 EndAt c (e ∷ es) = (e.end.c ≡ c) × EndAt c es
 

@@ -2,23 +2,23 @@
 use Rattle.std.specs.Prelude.{ℕ, zero, suc, ◌+◌, ◌^◌, List, [], Bool, true, false, cond, take, drop, Option, Some, None, Result, Ok, Err}
 use Rattle.gabc_places.specs.declared.code.Fault.{Fault}
 use Rattle.gabc_places.specs.declared.limits.Limits.{Limits}
-use Rattle.gabc_places.specs.Place.{place_after, placed_after}
+use Rattle.gabc_places.specs.Place.{place_after, placed_characters_behind}
 use Rattle.gabc_headers.specs.declared.heads.Heads.{Heads}
 use Rattle.gabc_headers.specs.declared.heads.HeadFault.{HeadFault}
 use Rattle.gabc_headers.specs.Book.{nabc_lines_of, has_header, macro_name}
 use Rattle.gabc_headers.specs.Canonical.{canonical_heads}
 use Rattle.gabc_headers.specs.Lines.{bytes_len}
 use Rattle.gabc_headers.specs.Heads.{head_len, heads_of}
-use Rattle.gabc_score.specs.declared.ending.Ending.{Ending}
-use Rattle.gabc_score.specs.declared.ending.Ending.TheVariants.{Whole, Broken, At}
-use Rattle.gabc_score.specs.declared.body_read.BodyRead.{BodyRead}
+use Rattle.gabc_score.specs.declared.ending.InputEnding.{InputEnding}
+use Rattle.gabc_score.specs.declared.ending.InputEnding.TheVariants.{Whole, Broken, At}
+use Rattle.gabc_score.specs.declared.body_result.BodyResult.{BodyResult}
 use Rattle.gabc_score.specs.declared.score.Score.{Score}
 use Rattle.gabc_score.specs.Body.{body_of}
-use Rattle.gabc_score.specs.Parts.{body_told}
+use Rattle.gabc_score.specs.Events.{body_events}
 
 -- the text through the `%%` that ends the headers, and the body behind it
-abbrev pub front_of : List ℕ → List ℕ
-front_of t = take (head_len t + 2) t
+abbrev pub heads_text : List ℕ → List ℕ
+heads_text t = take (head_len t + 2) t
 
 abbrev pub behind_heads : List ℕ → List ℕ
 behind_heads t = drop (head_len t + 2) t
@@ -35,25 +35,25 @@ abbrev pub macros_of : List (List ℕ × List ℕ) → ℕ
 macros_of book = macros_below book 10
 
 -- the body of a text with these headers, which ended so
-abbrev pub body_in : Limits → Ending → List ℕ → Heads → BodyRead
+abbrev pub body_in : Limits → InputEnding → List ℕ → Heads → BodyResult
 body_in limits ending t heads =
-    let xs = placed_after (front_of t) (behind_heads t) in
-    body_of limits (bytes_len (canonical_heads heads.book)) heads.findings (place_after t) ending xs (body_told (nabc_lines_of heads.book) (macros_of heads.book) xs)
+    let xs = placed_characters_behind (heads_text t) (behind_heads t) in
+    body_of limits (bytes_len (canonical_heads heads.book)) heads.findings (place_after t) ending xs (body_events (nabc_lines_of heads.book) (macros_of heads.book) xs)
 
-abbrev pub with_body : Heads → BodyRead → Score
+abbrev pub with_body : Heads → BodyResult → Score
 with_body heads body = record { book = Some heads.book; syllables = body.syllables; findings = body.findings; fault = body.fault }
 
 -- A fault of the headers that has the end as its point gives way to what ended the text.
-abbrev pub head_fault_by : Ending → Bool → Fault → Option Fault
+abbrev pub head_fault_by : InputEnding → Bool → Fault → Option Fault
 head_fault_by ending false fault = Some fault
 head_fault_by Whole true fault = Some fault
 head_fault_by Broken true fault = None
 head_fault_by (At other) true fault = Some other
 
-abbrev pub score_by : Limits → Ending → List ℕ → Result Heads HeadFault → Score
+abbrev pub score_by : Limits → InputEnding → List ℕ → Result Heads HeadFault → Score
 score_by limits ending t (Ok heads) = with_body heads (body_in limits ending t heads)
 score_by limits ending t (Err stop) = record { book = None; syllables = []; findings = stop.findings; fault = head_fault_by ending stop.at_end stop.fault }
 
 -- The score of a text: its headers, and the body behind them.
-abbrev pub score_of : Limits → Ending → List ℕ → Score
+abbrev pub score_of : Limits → InputEnding → List ℕ → Score
 score_of limits ending t = score_by limits ending t (heads_of limits t)

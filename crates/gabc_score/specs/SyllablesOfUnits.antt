@@ -2,35 +2,35 @@
 use Rattle.std.specs.Prelude.{◌⊎◌, zero, suc, ◌-◌, nat_lt, take, ◌≡◌, ◌≢◌, ℕ, List, [], ◌∷◌, ◌++◌, map, filter, length, Bool, true, if◌then◌else◌, IsTrue, ◌↔◌, codes, encode_utf8_all, Option, Some, None}
 use Rattle.std.specs.List.{All, flat_map}
 use Rattle.gabc_places.specs.declared.place.Char.{Char}
-use Rattle.gabc_text.specs.View.{Said as SaidPiece, kept}
-use Rattle.gabc_text.specs.Read.{view_in}
-use Rattle.gabc_text.specs.Said.{Stands, said_in}
-use Rattle.gabc_text.specs.Outs.{codes_of}
+use Rattle.gabc_text.specs.View.{PieceFacts as SaidPiece, kept}
+use Rattle.gabc_text.specs.TextRead.{view_in}
+use Rattle.gabc_text.specs.ViewFacts.{StandsForView, piece_facts_in}
+use Rattle.gabc_text.specs.Events.{codes_of}
 use Rattle.gabc_score.specs.declared.snippets.Snippet.{Snippet}
-use Rattle.gabc_score.specs.Body.{has_text, reached}
+use Rattle.gabc_score.specs.Body.{has_text, events_to_stop}
 use Rattle.gabc_score.specs.Canonical.{position_by}
 use Rattle.gabc_score.specs.Holding.{HoldsNotes, HoldsNoNotes}
-use Rattle.gabc_score.specs.Syllable.{Made, Said, is_mark}
-use Rattle.gabc_places.specs.Place.{placed_after}
+use Rattle.gabc_score.specs.Syllable.{UnplacedSyllable, PlacedSyllable, is_mark}
+use Rattle.gabc_places.specs.Place.{placed_characters_behind}
 use Rattle.gabc_headers.specs.Book.{nabc_lines_of}
-use Rattle.gabc_score.specs.Parts.{texts_said, body_told}
+use Rattle.gabc_score.specs.Events.{texts_by_definition, body_events}
 use Rattle.gabc_headers.specs.Canonical.{canonical_heads}
 use Rattle.gabc_headers.specs.Lines.{bytes_len}
 use Rattle.gabc_places.specs.declared.limits.Limits.{Limits}
-use Rattle.gabc_score.specs.declared.told.Told.{Told}
+use Rattle.gabc_score.specs.declared.events.BodyEvent.{BodyEvent}
 use Rattle.gabc_score.specs.Stops.{StopsAt, NeverStops}
-use Rattle.gabc_score.specs.Score.{front_of, behind_heads, macros_of}
-use Rattle.gabc_score.specs.Units.{Ended, BodyUnit, LastUnit, JustText, OpenNotes, Units, BodyCutting, IsCut}
+use Rattle.gabc_score.specs.Score.{heads_text, behind_heads, macros_of}
+use Rattle.gabc_score.specs.Units.{EndedPart, BodyUnit, LastUnit, JustText, OpenNotes, Units, BodyCutting, IsCut}
 
 -- ---- the units of a score
 
 -- the characters of parts, each with the one that ends it
-abbrev pub with_ends : List Ended → List Char
+abbrev pub with_ends : List EndedPart → List Char
 with_ends [] = []
 with_ends (e ∷ es) = e.characters ++ e.end ∷ with_ends es
 
 -- the snippets of a unit, the last of which ends at its `)`
-abbrev pub snippets_in : BodyUnit → List Ended
+abbrev pub snippets_in : BodyUnit → List EndedPart
 snippets_in u = u.nexts ++ u.final ∷ []
 
 -- the characters of a unit, from its text through its `)`
@@ -63,7 +63,7 @@ abbrev pub score_unit : BodyUnit → List Char → ScoreUnit
 score_unit u behind = record {
   text = codes_of (characters_in u ++ behind);
   notes = codes_of (u.text.end ∷ with_ends (snippets_in u));
-  snippets = map (λ (e : Ended). e.characters) (snippets_in u);
+  snippets = map (λ (e : EndedPart). e.characters) (snippets_in u);
 }
 
 -- the units that end at their `)`
@@ -85,7 +85,7 @@ score_units (Some u) = closed_units u.closed u.last ++ last_units u.last
 
 -- the tags of spans in a text, in order
 abbrev pub span_tags : List ℕ → List (List ℕ)
-span_tags t = map (λ (p : SaidPiece). p.text) (filter (λ (p : SaidPiece). is_mark p.kind) (said_in t))
+span_tags t = map (λ (p : SaidPiece). p.text) (filter (λ (p : SaidPiece). is_mark p.kind) (piece_facts_in t))
 
 -- those in the texts of units
 abbrev pub tags_in : List ScoreUnit → List (List ℕ)
@@ -124,36 +124,36 @@ NotesAre lines u (xs ∷ xss) whole snippets = HasNotes lines u whole snippets
 
 -- A syllable holds a unit: it has the view of the unit's text, and keeps this text and the unit's notes as the whole for which its
 -- spans stand.
-pub record HoldsUnit (lines : ℕ) (u : ScoreUnit) (m : Made) : Type 0 where
+pub record HoldsUnit (lines : ℕ) (u : ScoreUnit) (m : UnplacedSyllable) : Type 0 where
   pub whole : List ℕ
   pub kept_is : m.kept ≡ encode_utf8_all whole
   pub view_is : m.text ≡ view_in u.text
-  pub stands : Stands whole m.text u.text
+  pub stands : StandsForView whole m.text u.text
   pub notes : NotesAre lines u u.snippets whole m.snippets
 
 -- A syllable is that of a unit which stands between these: it holds the unit, it lies in the spans that the texts through its own
 -- leave open, and it stands in its word where its unit does.
-pub record IsSyllableOf (lines : ℕ) (before : List ScoreUnit) (u : ScoreUnit) (after : List ScoreUnit) (s : Said) : Type 0 where
+pub record IsSyllableOf (lines : ℕ) (before : List ScoreUnit) (u : ScoreUnit) (after : List ScoreUnit) (s : PlacedSyllable) : Type 0 where
   pub holds : HoldsUnit lines u s.made
   pub eu_is : IsTrue s.made.eu ↔ IsLeftOpen (codes "<eu>") (codes "</eu>") (tags_in (before ++ u ∷ []))
   pub nlba_is : IsTrue s.made.nlba ↔ IsLeftOpen (codes "<nlba>") (codes "</nlba>") (tags_in (before ++ u ∷ []))
   pub position_is : s.position ≡ position_by (begins_word before u) (next_begins_word after)
 
 -- The syllables are those of the units: as many, and each is that of the unit at its place.
-pub record AreSyllablesOf (lines : ℕ) (units : List ScoreUnit) (syllables : List Said) : Type 0 where
+pub record AreSyllablesOf (lines : ℕ) (units : List ScoreUnit) (syllables : List PlacedSyllable) : Type 0 where
   pub count : length syllables ≡ length units
-  pub each : (before after : List ScoreUnit) (u : ScoreUnit) (earlier later : List Said) (s : Said)
+  pub each : (before after : List ScoreUnit) (u : ScoreUnit) (earlier later : List PlacedSyllable) (s : PlacedSyllable)
       → units ≡ before ++ u ∷ after → syllables ≡ earlier ++ s ∷ later → length earlier ≡ length before → IsSyllableOf lines before u after s
 
 -- ---- the body of a text
 
 -- the characters of the body behind the headers
 abbrev pub body_characters : List ℕ → List Char
-body_characters t = placed_after (front_of t) (behind_heads t)
+body_characters t = placed_characters_behind (heads_text t) (behind_heads t)
 
 -- the body of a text with this book is cut so
 abbrev pub IsBodyCut : List (List ℕ × List ℕ) → List ℕ → BodyCutting → Type 0
-IsBodyCut book t cut = IsCut texts_said (nabc_lines_of book) (macros_of book) (body_characters t) cut
+IsBodyCut book t cut = IsCut texts_by_definition (nabc_lines_of book) (macros_of book) (body_characters t) cut
 
 -- ---- a stopped score
 
@@ -170,18 +170,18 @@ units_within n (Some u) = take (count_within n u.closed) (closed_units u.closed 
 
 -- So many characters of a body stand before its stop, the first point at which a limit is passed. Where none is passed at a
 -- character, all do.
-abbrev pub StandBeforeStop : Limits → ℕ → List Char → List (List Told) → ℕ → Type 0
+abbrev pub StandBeforeStop : Limits → ℕ → List Char → List (List BodyEvent) → ℕ → Type 0
 StandBeforeStop limits head xs lists n =
-    let r = reached limits head [] xs lists in
-    (NeverStops limits head [] xs lists r × (n ≡ length xs)) ⊎ ((s : StopsAt limits head [] xs lists r) × (n ≡ length s.front))
+    let r = events_to_stop limits head [] xs lists in
+    (NeverStops limits head [] xs lists r × (n ≡ length xs)) ⊎ ((s : StopsAt limits head [] xs lists r) × (n ≡ length s.prefix))
 
 -- so many characters of the body of a text with this book do
 abbrev pub StandBeforeBodyStop : Limits → List (List ℕ × List ℕ) → List ℕ → ℕ → Type 0
 StandBeforeBodyStop limits book t n =
     let xs = body_characters t in
-    StandBeforeStop limits (bytes_len (canonical_heads book)) xs (body_told (nabc_lines_of book) (macros_of book) xs) n
+    StandBeforeStop limits (bytes_len (canonical_heads book)) xs (body_events (nabc_lines_of book) (macros_of book) xs) n
 
--- ---- the front of a stopped score
+-- ---- the prefix of a stopped score
 
 -- how many units end within so many characters behind the comment, and within so many of the body
 abbrev pub count_in : ℕ → Option Units → ℕ
@@ -202,5 +202,5 @@ through_unit zero cut = []
 through_unit (suc k) cut = cut.comment ++ first_characters (suc k) cut.units
 
 -- A text through the `)` of the last unit that ends within so many characters of its body, or through its `%%`, if none does.
-abbrev pub whole_front : List ℕ → BodyCutting → ℕ → List ℕ
-whole_front t cut n = front_of t ++ codes_of (through_unit (whole_count n cut) cut)
+abbrev pub whole_prefix : List ℕ → BodyCutting → ℕ → List ℕ
+whole_prefix t cut n = heads_text t ++ codes_of (through_unit (whole_count n cut) cut)

@@ -8,8 +8,8 @@ use Rattle.std.specs.List.{list_any}
 use Rattle.std.specs.Option.{option_map}
 use Rattle.gabc_places.specs.declared.place.Place.{Place}
 use Rattle.gabc_places.specs.declared.place.Char.{Char}
-use Rattle.gabc_score.specs.declared.told.Told.{Told}
-use Rattle.gabc_score.specs.Parts.{Part, InComment, InText, InNotes, is_text_end, is_next, is_close, first_list, other_lists, told_in, told_at_end, Texts, text_from, snippet_from, next_line, behind_mark}
+use Rattle.gabc_score.specs.declared.events.BodyEvent.{BodyEvent}
+use Rattle.gabc_score.specs.Events.{PartAhead, InComment, InText, InNotes, is_text_end, is_next, is_close, first_list, other_lists, events_in, events_at_end, Texts, text_from, snippet_from, next_line, behind_mark}
 
 -- ---- parts
 
@@ -21,35 +21,35 @@ pub data Mark : Type 0 where
   Closes : Mark
 
 -- the characters of a part, and the one that ends it
-pub record Piece : Type 0 where
+pub record CutPart : Type 0 where
   pub characters : List Char
   pub end : Char
   pub mark : Mark
 
 -- parts with their ends, and the characters of the last part, which has none
 pub record Cutting : Type 0 where
-  pub pieces : List Piece
+  pub pieces : List CutPart
   pub last : List Char
 
 -- the characters that are cut so
-abbrev pub whole : List Piece → List Char → List Char
+abbrev pub whole : List CutPart → List Char → List Char
 whole [] last = last
 whole (p ∷ pieces) last = p.characters ++ p.end ∷ whole pieces last
 
 -- a part from its next character on
-abbrev pub onward : Part → Part
-onward InComment = InComment
-onward (InText lists) = InText (other_lists lists)
-onward (InNotes line opened lists) = InNotes line opened (other_lists lists)
+abbrev pub part_onward : PartAhead → PartAhead
+part_onward InComment = InComment
+part_onward (InText lists) = InText (other_lists lists)
+part_onward (InNotes line opened lists) = InNotes line opened (other_lists lists)
 
--- what is told of the characters of a part and of the point behind them: the character that ends the part, or the end
-abbrev pub told_through : Part → List Char → List (List Told)
-told_through part [] = told_in part ∷ []
-told_through part (x ∷ xs) = told_in part ∷ told_through (onward part) xs
+-- what is emitted of the characters of a part and of the point behind them: the character that ends the part, or the end
+abbrev pub events_through : PartAhead → List Char → List (List BodyEvent)
+events_through part [] = events_in part ∷ []
+events_through part (x ∷ xs) = events_in part ∷ events_through (part_onward part) xs
 
 module _ (lines : ℕ) where
   -- the end of a part that its first list has
-  abbrev pub mark_in : Part → Option Mark
+  abbrev pub mark_in : PartAhead → Option Mark
   mark_in InComment = None
   mark_in (InText lists) = if list_any is_text_end (first_list lists) then Some Opens else None
   mark_in (InNotes line opened lists) =
@@ -58,56 +58,56 @@ module _ (lines : ℕ) where
       None
 
   -- none of these characters ends the part
-  abbrev pub Endless : Part → List Char → Type 0
+  abbrev pub Endless : PartAhead → List Char → Type 0
   Endless part [] = Unit
-  Endless part (x ∷ xs) = (mark_in part ≡ None) × Endless (onward part) xs
+  Endless part (x ∷ xs) = (mark_in part ≡ None) × Endless (part_onward part) xs
 
   -- the character behind these is the first that ends the part
-  abbrev pub EndsBehind : Part → List Char → Mark → Type 0
+  abbrev pub EndsBehind : PartAhead → List Char → Mark → Type 0
   EndsBehind part [] mark = mark_in part ≡ Some mark
-  EndsBehind part (x ∷ xs) mark = (mark_in part ≡ None) × EndsBehind (onward part) xs mark
+  EndsBehind part (x ∷ xs) mark = (mark_in part ≡ None) × EndsBehind (part_onward part) xs mark
 
 module _ (texts : Texts) (lines macros : ℕ) where
   -- the part that begins with the characters xs, behind a part that ended so at x
-  abbrev pub follows : Mark → Char → List Char → Part
-  follows Opens x xs = snippet_from lines macros 0 x.place xs
-  follows (Next line opened) x xs = snippet_from lines macros line opened xs
-  follows Closes x xs = text_from texts (behind_mark x.place) xs
+  abbrev pub part_following : Mark → Char → List Char → PartAhead
+  part_following Opens x xs = snippet_from lines macros 0 x.place xs
+  part_following (Next line opened) x xs = snippet_from lines macros line opened xs
+  part_following Closes x xs = text_from texts (behind_mark x.place) xs
 
   -- the parts are cut where they end, the first of them this one
-  abbrev pub Cuts : Part → List Piece → List Char → Type 0
+  abbrev pub Cuts : PartAhead → List CutPart → List Char → Type 0
   Cuts part [] last = Endless lines part last
-  Cuts part (p ∷ pieces) last = EndsBehind lines part p.characters p.mark × Cuts (follows p.mark p.end (whole pieces last)) pieces last
+  Cuts part (p ∷ pieces) last = EndsBehind lines part p.characters p.mark × Cuts (part_following p.mark p.end (whole pieces last)) pieces last
 
   -- what parts tell that are cut so, one after the other
-  abbrev pub cut_told : Part → List Piece → List Char → List (List Told)
-  cut_told part [] last = told_through part last
-  cut_told part (p ∷ pieces) last = told_through part p.characters ++ cut_told (follows p.mark p.end (whole pieces last)) pieces last
+  abbrev pub events_of_cutting : PartAhead → List CutPart → List Char → List (List BodyEvent)
+  events_of_cutting part [] last = events_through part last
+  events_of_cutting part (p ∷ pieces) last = events_through part p.characters ++ events_of_cutting (part_following p.mark p.end (whole pieces last)) pieces last
 
 -- ---- units
 
 -- a text or a snippet, with the character that ends it
-pub record Ended : Type 0 where
+pub record EndedPart : Type 0 where
   pub characters : List Char
   pub end : Char
 
 -- a text with its `(`, the snippets that end at a `|`, and the one that ends at the `)`
 pub record BodyUnit : Type 0 where
-  pub text : Ended
-  pub nexts : List Ended
-  pub final : Ended
+  pub text : EndedPart
+  pub nexts : List EndedPart
+  pub final : EndedPart
 
 -- behind the last `)`: a text, or a text with its `(` and notes that never end, the snippets with their `|` and the rest
 pub data LastUnit : Type 0 where
   JustText : List Char → LastUnit
-  OpenNotes : Ended → List Ended → List Char → LastUnit
+  OpenNotes : EndedPart → List EndedPart → List Char → LastUnit
 
 pub record Units : Type 0 where
   pub closed : List BodyUnit
   pub last : LastUnit
 
-abbrev pub piece : Ended → Mark → Piece
-piece e mark = record { characters = e.characters; end = e.end; mark = mark }
+abbrev pub cut_part : EndedPart → Mark → CutPart
+cut_part e mark = record { characters = e.characters; end = e.end; mark = mark }
 
 abbrev pub last_characters : LastUnit → List Char
 last_characters (JustText xs) = xs
@@ -115,19 +115,19 @@ last_characters (OpenNotes text nexts xs) = xs
 
 module _ (lines : ℕ) where
   -- snippets that end at a `|`, from that line on in the notes whose `(` is there, and the parts behind them
-  abbrev pub snippets_with : ℕ → Place → List Ended → List Piece → List Piece
+  abbrev pub snippets_with : ℕ → Place → List EndedPart → List CutPart → List CutPart
   snippets_with line opened [] more = more
   snippets_with line opened (e ∷ nexts) more =
-      piece e (Next (next_line lines line) opened) ∷ snippets_with (next_line lines line) opened nexts more
+      cut_part e (Next (next_line lines line) opened) ∷ snippets_with (next_line lines line) opened nexts more
 
-  abbrev pub last_pieces : LastUnit → List Piece
+  abbrev pub last_pieces : LastUnit → List CutPart
   last_pieces (JustText xs) = []
-  last_pieces (OpenNotes text nexts xs) = piece text Opens ∷ snippets_with 0 text.end.place nexts []
+  last_pieces (OpenNotes text nexts xs) = cut_part text Opens ∷ snippets_with 0 text.end.place nexts []
 
   -- the parts of units, one after the other
-  abbrev pub units_pieces : List BodyUnit → LastUnit → List Piece
+  abbrev pub units_pieces : List BodyUnit → LastUnit → List CutPart
   units_pieces [] last = last_pieces last
-  units_pieces (u ∷ units) last = piece u.text Opens ∷ snippets_with 0 u.text.end.place u.nexts (piece u.final Closes ∷ units_pieces units last)
+  units_pieces (u ∷ units) last = cut_part u.text Opens ∷ snippets_with 0 u.text.end.place u.nexts (cut_part u.final Closes ∷ units_pieces units last)
 
   abbrev pub cutting_of : Units → Cutting
   cutting_of u = record { pieces = units_pieces u.closed u.last; last = last_characters u.last }
@@ -149,7 +149,7 @@ BeginsWithLf [] = ⊥
 BeginsWithLf (x ∷ xs) = (x.c == 10) ≡ true
 
 -- the text that begins with the LF behind the comment
-abbrev pub first_text : Texts → List Char → Part
+abbrev pub first_text : Texts → List Char → PartAhead
 first_text texts [] = InComment
 first_text texts (x ∷ xs) = text_from texts x.place (x ∷ xs)
 
@@ -165,10 +165,10 @@ module _ (texts : Texts) (lines macros : ℕ) where
   abbrev pub IsCut : List Char → BodyCutting → Type 0
   IsCut xs cut = IsCutFrom xs cut.comment (option_map (cutting_of lines) cut.units)
 
-  abbrev pub parts_told : Option Cutting → List (List Told)
-  parts_told None = told_at_end InComment ∷ []
-  parts_told (Some cut) = cut_told texts lines macros (first_text texts (whole cut.pieces cut.last)) cut.pieces cut.last
+  abbrev pub events_of_parts : Option Cutting → List (List BodyEvent)
+  events_of_parts None = events_at_end InComment ∷ []
+  events_of_parts (Some cut) = events_of_cutting texts lines macros (first_text texts (whole cut.pieces cut.last)) cut.pieces cut.last
 
   -- what a body tells that is cut so: nothing of the comment, then what each part tells through its end, and what the last part tells
-  abbrev pub cutting_told : BodyCutting → List (List Told)
-  cutting_told cut = map (λ (x : Char). []) cut.comment ++ parts_told (option_map (cutting_of lines) cut.units)
+  abbrev pub events_of_body_cutting : BodyCutting → List (List BodyEvent)
+  events_of_body_cutting cut = map (λ (x : Char). []) cut.comment ++ events_of_parts (option_map (cutting_of lines) cut.units)

@@ -1,9 +1,9 @@
 //! The length of a syllable's canonical text.
 
 ghost use Rattle.std.specs.Prelude.{◌≡◌, ◌+◌, ◌-◌, ◌^◌, cond, min, length};
-ghost use Rattle.gabc_score.specs.Syllable.{made_of};
+ghost use Rattle.gabc_score.specs.Syllable.{unplaced_of};
 ghost use Rattle.gabc_score.specs.Canonical.{canonical};
-ghost use Rattle.gabc_score.specs.Lengths.{span_length, translation_length, sliced_length};
+ghost use Rattle.gabc_score.specs.machine.Lengths.{span_length, translation_length, sliced_length};
 
 use crate::snippets::Snippet;
 use crate::syllable::Syllable;
@@ -48,7 +48,7 @@ fn edges_len(starts: bool) -> usize
 
 /// The number of bytes of a syllable's canonical text, where it begins a word or not; or the last value, if that is less.
 pub(crate) fn canonical_len(syllable: &Syllable, starts: bool) -> usize
-    ensures { result ≡ min (length (canonical starts (made_of syllable.now))) (2 ^ 64 - 1) }
+    ensures { result ≡ min (length (canonical starts (unplaced_of syllable.now))) (2 ^ 64 - 1) }
 {
     let kept = syllable.kept.as_str();
     let snippets = syllable.snippets.as_slice();

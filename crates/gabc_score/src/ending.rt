@@ -4,7 +4,7 @@ use gabc_places::Fault;
 
 /// How the text of a score ended.
 #[derive(Clone, Copy, Debug, PartialEq, Eq)]
-pub enum Ending {
+pub enum InputEnding {
     /// At the end of the input.
     Whole,
     /// Where the source failed.

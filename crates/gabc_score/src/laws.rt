@@ -10,40 +10,47 @@ ghost use Rattle.gabc_places.specs.declared.severity.Severity.TheVariants.{Fatal
 ghost use Rattle.gabc_places.specs.declared.place.Char.{Char};
 ghost use Rattle.gabc_places.specs.declared.limits.Limits.{Limits};
 ghost use Rattle.gabc_places.specs.declared.place.Span.{Span};
-ghost use Rattle.gabc_text.specs.Said.{StandsFor};
-ghost use Rattle.gabc_score.specs.declared.ending.Ending.{Ending};
-ghost use Rattle.gabc_score.specs.Syllable.{Said, slice};
+ghost use Rattle.gabc_text.specs.ViewFacts.{StandsFor};
+ghost use Rattle.gabc_score.specs.declared.ending.InputEnding.{InputEnding};
+ghost use Rattle.gabc_score.specs.Syllable.{PlacedSyllable, slice};
 ghost use Rattle.gabc_score.specs.Holding.{HoldsParts, HoldsWithNotes, lines_of};
 ghost use Rattle.gabc_headers.specs.Book.{nabc_lines_of};
-ghost use Rattle.gabc_score.specs.declared.ending.Ending.TheVariants.{Whole};
+ghost use Rattle.gabc_score.specs.declared.ending.InputEnding.TheVariants.{Whole};
 ghost use Rattle.gabc_score.specs.Score.{score_of};
-ghost use Rattle.gabc_score.specs.SyllablesOfUnits.{unit_characters, score_units, units_within, whole_front, AreSyllablesOf, IsBodyCut, StandBeforeBodyStop};
-ghost use Rattle.gabc_score.specs.Body.{reached, onto, code_at};
+ghost use Rattle.gabc_score.specs.SyllablesOfUnits.{unit_characters, score_units, units_within, whole_prefix, AreSyllablesOf, IsBodyCut, StandBeforeBodyStop};
+ghost use Rattle.gabc_score.specs.Body.{events_to_stop, events_onto, code_at};
 ghost use Rattle.gabc_score.specs.Stops.{StopsAt, NeverStops};
-ghost use Rattle.gabc_score.specs.declared.told.Told.{Told};
-ghost use Rattle.gabc_score.specs.Parts.{Texts, texts_said, body_told};
+ghost use Rattle.gabc_score.specs.declared.events.BodyEvent.{BodyEvent};
+ghost use Rattle.gabc_score.specs.Events.{Texts, texts_by_definition, body_events};
 ghost use Rattle.gabc_score.specs.Marks.{AllEndAtTheirMarks};
-ghost use Rattle.gabc_score.specs.Units.{BodyCutting, IsCut, cutting_told};
+ghost use Rattle.gabc_score.specs.Units.{BodyCutting, IsCut, events_of_body_cutting};
 
 /// Each body has one cutting into a comment, units and what stands behind the last `)`, however its texts are read.
 pub fn a_body_has_one_cutting()
-    ensures one { (texts : Texts) (lines macros : ℕ) (xs : List Char) → (cut : BodyCutting) × IsCut texts lines macros xs cut }
-    ensures no_other { (texts : Texts) (lines macros : ℕ) (xs : List Char) (cut other : BodyCutting) → IsCut texts lines macros xs cut → IsCut texts lines macros xs other → cut ≡ other }
+    ensures one { (texts : Texts) (lines macros : ℕ) (xs : List Char) → (cut : BodyCutting) ×
+        IsCut texts lines macros xs cut }
+    ensures no_other { (texts : Texts) (lines macros : ℕ) (xs : List Char)
+        (cut other : BodyCutting) → IsCut texts lines macros xs cut →
+        IsCut texts lines macros xs other → cut ≡ other }
 {}
 
 /// A body tells a list for each character, and one for its end.
-pub fn a_body_tells_each_character()
-    ensures { (lines macros : ℕ) (xs : List Char) → length (body_told lines macros xs) ≡ length xs + 1 }
+pub fn a_body_has_events_for_each_character()
+    ensures { (lines macros : ℕ) (xs : List Char) →
+        length (body_events lines macros xs) ≡ length xs + 1 }
 {}
 
 /// What a body tells is what the parts of its units tell, one after the other: each through the character that ends it.
-pub fn a_body_tells_its_units()
-    ensures { (lines macros : ℕ) (xs : List Char) (cut : BodyCutting) → IsCut texts_said lines macros xs cut → body_told lines macros xs ≡ cutting_told texts_said lines macros cut }
+pub fn a_body_emits_the_events_of_its_units()
+    ensures { (lines macros : ℕ) (xs : List Char) (cut : BodyCutting) →
+        IsCut texts_by_definition lines macros xs cut →
+        body_events lines macros xs ≡ events_of_body_cutting texts_by_definition lines macros cut }
 {}
 
 /// Each text of a body ends at a `(`, the last snippet of its notes at a `)`, and each other snippet at a `|`.
 pub fn units_end_at_their_marks()
-    ensures { (lines macros : ℕ) (xs : List Char) (cut : BodyCutting) → IsCut texts_said lines macros xs cut → AllEndAtTheirMarks cut.units }
+    ensures { (lines macros : ℕ) (xs : List Char) (cut : BodyCutting) →
+        IsCut texts_by_definition lines macros xs cut → AllEndAtTheirMarks cut.units }
 {
     gabc_text::laws::a_text_ends_once();
     gabc_notes::laws::a_snippet_ends_at_its_mark();
@@ -52,7 +59,8 @@ pub fn units_end_at_their_marks()
 
 /// The findings of a score are sorted: by their places, those of one place by their codes, and none stands twice.
 pub fn findings_in_order()
-    ensures { (limits : Limits) (ending : Ending) (t : List ℕ) → length t < 2 ^ 63 → AreInOrder (score_of limits ending t).findings }
+    ensures { (limits : Limits) (ending : InputEnding) (t : List ℕ) → length t < 2 ^ 63 →
+        AreInOrder (score_of limits ending t).findings }
 {
     gabc_headers::laws::findings_in_order();
     gabc_headers::laws::findings_lie_before_the_body();
@@ -71,38 +79,49 @@ pub fn findings_in_order()
 /// The reading of a body stops at the first character at which a limit is passed, if there is one: at no earlier one a limit
 /// is passed.
 pub fn the_stop_is_the_first_point()
-    ensures { (limits : Limits) (head : ℕ) (xs : List Char) (lists : List (List Told)) → length lists ≡ length xs + 1 → (let r = reached limits head [] xs lists in NeverStops limits head [] xs lists r ⊎ StopsAt limits head [] xs lists r) }
+    ensures { (limits : Limits) (head : ℕ) (xs : List Char) (lists : List (List BodyEvent)) →
+        length lists ≡ length xs + 1 →
+        (let r = events_to_stop limits head [] xs lists in
+        NeverStops limits head [] xs lists r ⊎ StopsAt limits head [] xs lists r) }
 {}
 
 /// Each syllable of a score holds its parts: its view is that of a text, its kept text is that of this text and of its notes, and
 /// the spans of its view and its snippets stand for parts of it. Only the last may have no notes. A span that stands for a part of
 /// a text has that part's bytes.
 pub fn a_syllable_holds_its_parts()
-    ensures held { (limits : Limits) (ending : Ending) (t : List ℕ) → length (encode_utf8_all t) < 2 ^ 63 → (let score = score_of limits ending t in All (λ (s : Said). HoldsParts t (lines_of score) s.made) score.syllables) }
-    ensures noted { (limits : Limits) (ending : Ending) (t : List ℕ) → length (encode_utf8_all t) < 2 ^ 63 → (let score = score_of limits ending t in (before after : List Said) (s next : Said) → score.syllables ≡ before ++ s ∷ next ∷ after → HoldsWithNotes t (lines_of score) s.made) }
-    ensures bytes { (text : List ℕ) (span : Span) (part : List ℕ) → StandsFor text span part → slice span (encode_utf8_all text) ≡ encode_utf8_all part }
+    ensures held { (limits : Limits) (ending : InputEnding) (t : List ℕ) →
+        length (encode_utf8_all t) < 2 ^ 63 →
+        (let score = score_of limits ending t in
+        All (λ (s : PlacedSyllable). HoldsParts t (lines_of score) s.made) score.syllables) }
+    ensures noted { (limits : Limits) (ending : InputEnding) (t : List ℕ) →
+        length (encode_utf8_all t) < 2 ^ 63 →
+        (let score = score_of limits ending t in
+        (before after : List PlacedSyllable) (s next : PlacedSyllable) →
+        score.syllables ≡ before ++ s ∷ next ∷ after → HoldsWithNotes t (lines_of score) s.made) }
+    ensures bytes { (text : List ℕ) (span : Span) (part : List ℕ) → StandsFor text span part →
+        slice span (encode_utf8_all text) ≡ encode_utf8_all part }
 {
     // Texts are read by their own definition, and end once.
     gabc_text::laws::a_text_ends_once();
-    gabc_text::laws::outs_tell_all();
-    gabc_text::laws::spans_stand();
+    gabc_text::laws::events_build_the_text();
+    gabc_text::laws::spans_stand_for_the_view();
 }
 
 /// What a score finds is an error or a warning: no finding is a fault.
 pub fn findings_are_no_faults()
-    ensures { (limits : Limits) (ending : Ending) (t : List ℕ)
+    ensures { (limits : Limits) (ending : InputEnding) (t : List ℕ)
         → All (λ (f : Finding). severity_of f.code ≢ Fatal) (score_of limits ending t).findings }
 {
     gabc_text::laws::findings_lie_within();
 }
 
-/// Where the reading of a body gets to the end, no limit is passed by what is told there: at its end a body keeps nothing
+/// Where the reading of a body gets to the end, no limit is passed by what is emitted there: at its end a body keeps nothing
 /// and ends no syllable. So where the input ends inside notes, a tag, a raw part or a translation, F6 hides no F5 or F7 of
 /// the same point.
 pub fn no_limit_is_passed_at_an_open_end()
     ensures { (limits : Limits) (head lines macros : ℕ) (xs : List Char)
-        → (let r = reached limits head [] xs (body_told lines macros xs) in
-        r.fault ≡ None → code_at limits head (onto r.last r.before) ≡ None) }
+        → (let r = events_to_stop limits head [] xs (body_events lines macros xs) in
+        r.fault ≡ None → code_at limits head (events_onto r.last r.before) ≡ None) }
 {
     gabc_text::laws::a_text_ends_once();
 }
@@ -118,7 +137,7 @@ pub fn the_syllables_are_those_of_the_units()
         → (let score = score_of limits Whole t in
         score.book ≡ Some book → IsBodyCut book t cut → score.fault ≡ None
         → AreSyllablesOf (nabc_lines_of book) (score_units cut.units) score.syllables) }
-    ensures stopped { (limits : Limits) (ending : Ending) (t : List ℕ)
+    ensures stopped { (limits : Limits) (ending : InputEnding) (t : List ℕ)
         (book : List (List ℕ × List ℕ)) (cut : BodyCutting) (n : ℕ)
         → length (encode_utf8_all t) < 2 ^ 63
         → (let score = score_of limits ending t in
@@ -130,20 +149,20 @@ pub fn the_syllables_are_those_of_the_units()
         → (n : ℕ) × StandBeforeBodyStop limits book t n }
 {
     gabc_text::laws::a_text_ends_once();
-    gabc_text::laws::outs_tell_all();
-    gabc_text::laws::outs_in_order();
-    gabc_text::laws::spans_stand();
+    gabc_text::laws::events_build_the_text();
+    gabc_text::laws::events_by_point_are_the_events();
+    gabc_text::laws::spans_stand_for_the_view();
 }
 
 /// A score that is stopped behind the headers, by a fault or by a source that failed, has the book and the syllables of its
-/// front read as a whole: of the text through the `)` of the last unit that ends before the stop, or through the `%%`, if
-/// none does. This front is read without a fault.
-pub fn a_stopped_score_is_that_of_its_front()
-    ensures { (limits : Limits) (ending : Ending) (t : List ℕ)
+/// prefix read as a whole: of the text through the `)` of the last unit that ends before the stop, or through the `%%`, if
+/// none does. This prefix is read without a fault.
+pub fn a_stopped_score_is_that_of_its_prefix()
+    ensures { (limits : Limits) (ending : InputEnding) (t : List ℕ)
         (book : List (List ℕ × List ℕ)) (cut : BodyCutting) (n : ℕ)
         → length (encode_utf8_all t) < 2 ^ 63
         → (let score = score_of limits ending t in
-        let again = score_of limits Whole (whole_front t cut n) in
+        let again = score_of limits Whole (whole_prefix t cut n) in
         score.book ≡ Some book → IsBodyCut book t cut → StandBeforeBodyStop limits book t n
         → ¬ ((ending ≡ Whole) × (score.fault ≡ None))
         → (again.book ≡ score.book)
@@ -152,11 +171,11 @@ pub fn a_stopped_score_is_that_of_its_front()
     gabc_headers::laws::the_body_follows_the_mark();
     gabc_headers::laws::the_headers_end_at_their_mark();
     gabc_text::laws::a_text_ends_once();
-    gabc_text::laws::outs_tell_all();
-    gabc_text::laws::outs_in_order();
-    gabc_text::laws::spans_stand();
-    gabc_text::laws::fresh_gives();
-    gabc_text::laws::given_so_far();
-    gabc_notes::laws::what_follows_tells_nothing();
-    gabc_nabc::laws::what_follows_tells_nothing();
+    gabc_text::laws::events_build_the_text();
+    gabc_text::laws::events_by_point_are_the_events();
+    gabc_text::laws::spans_stand_for_the_view();
+    gabc_text::laws::a_fresh_stage_emits_the_events_by_point();
+    gabc_text::laws::events_need_nothing_behind();
+    gabc_notes::laws::what_follows_emits_nothing();
+    gabc_nabc::laws::what_follows_emits_nothing();
 }

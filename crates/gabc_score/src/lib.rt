@@ -14,29 +14,29 @@
 //! ```
 #![tactic(auto)]
 
-mod body;
-mod body_read;
+mod body_builder;
+mod body_result;
+mod body_stage;
+mod build_body;
 mod canonical;
+mod context;
 mod ending;
-mod gather;
+mod events;
+mod gatherer;
 pub mod laws;
-mod read_body;
-mod reader;
-mod reading;
 mod score;
 mod slice;
 mod snippets;
-mod start;
 mod syllable;
+mod syllable_builder;
 mod syllables;
-mod told;
 mod whole;
 
-pub use body::BodyStage;
-pub use ending::Ending;
+pub use body_stage::BodyStage;
+pub use ending::InputEnding;
+pub use events::BodyEvent;
 pub use score::Score;
 pub use snippets::{Snippet, Snippets};
 pub use syllable::{Position, Syllable};
 pub use syllables::Syllables;
-pub use told::Told;
 pub use whole::score_whole;

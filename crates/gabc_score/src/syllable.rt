@@ -47,7 +47,7 @@ pub struct Syllable {
 
 impl Syllable {
     ghost use Rattle.std.specs.Prelude.{◌≡◌, ◌-◌, ◌^◌, min, length, string_bytes};
-    ghost use Rattle.gabc_score.specs.Syllable.{made_of, slice};
+    ghost use Rattle.gabc_score.specs.Syllable.{unplaced_of, slice};
     ghost use Rattle.gabc_score.specs.Canonical.{canonical, starts_word};
 
     /// Returns the bytes of `span` in its kept text. What lies past the text has none.
@@ -66,7 +66,8 @@ impl Syllable {
 
     /// Returns the number of bytes of its canonical text; it saturates at the last value of a `usize`.
     pub fn canonical_len(&self) -> usize
-        ensures { result ≡ min (length (canonical (starts_word self.now.position) (made_of self.now))) (2 ^ 64 - 1) }
+        ensures { result ≡ min (length (canonical (starts_word self.now.position)
+            (unplaced_of self.now))) (2 ^ 64 - 1) }
     {
         canonical_len(self, self.starts_word())
     }

@@ -2,7 +2,7 @@
 
 ghost use Rattle.std.specs.Prelude.{◌≡◌, ◌↔◌, [], length, map, IsTrue};
 ghost use Rattle.std.specs.Slice.Iter.{iter_rest};
-ghost use Rattle.gabc_score.specs.Syllable.{said};
+ghost use Rattle.gabc_score.specs.Syllable.{placed_of};
 ghost use Rattle.gabc_score.specs.Canonical.{position_by};
 
 use crate::syllable::{Position, Syllable};
@@ -18,11 +18,11 @@ pub struct Syllables {
 
 impl Model for Syllables {
     ghost use Rattle.std.specs.Prelude.{List, map};
-    ghost use Rattle.gabc_score.specs.Syllable.{Said, said};
+    ghost use Rattle.gabc_score.specs.Syllable.{PlacedSyllable, placed_of};
 
-    ghost Value = { List Said };
+    ghost Value = { List PlacedSyllable };
 
-    ghost view = { λ s. map said s.items.items };
+    ghost view = { λ s. map placed_of s.items.items };
 }
 
 /// The position of a syllable that begins a word or not, before a word's beginning or not.
@@ -39,7 +39,7 @@ fn position_by(starts: bool, next_starts: bool) -> Position
 
 impl Syllables {
     ghost use Rattle.std.specs.Prelude.{[], map};
-    ghost use Rattle.gabc_score.specs.Syllable.{made_of, said};
+    ghost use Rattle.gabc_score.specs.Syllable.{unplaced_of, placed_of};
     ghost use Rattle.gabc_score.specs.Canonical.{with_positions};
 
     /// No syllables.
@@ -53,8 +53,8 @@ impl Syllables {
 
     /// The syllables of a score, in order. Each gets its position: the first begins a word, and the end of the list counts as a
     /// word's beginning.
-    pub(crate) fn placed(mut items: Vec<Syllable>) -> Syllables
-        ensures { result ≡ with_positions (map made_of items.items) }
+    pub(crate) fn with_positions(mut items: Vec<Syllable>) -> Syllables
+        ensures { result ≡ with_positions (map unplaced_of items.items) }
     {
         let mut next_starts = true;
         for index in (0..items.len()).rev() {
@@ -82,14 +82,14 @@ impl Syllables {
 
     /// Returns the syllables in order.
     pub fn as_slice(&self) -> &[Syllable]
-        ensures { map said result.now ≡ self.now }
+        ensures { map placed_of result.now ≡ self.now }
     {
         self.items.as_slice()
     }
 
     /// Goes over the syllables in order.
     pub fn iter(&self) -> Iter<'_, Syllable>
-        ensures { map said (iter_rest result) ≡ self.now }
+        ensures { map placed_of (iter_rest result) ≡ self.now }
     {
         self.items.iter()
     }
@@ -100,7 +100,7 @@ impl<'a> IntoIterator for &'a Syllables {
 
     type IntoIter = Iter<'a, Syllable>;
 
-    ghost into_iter_gives = { λ syllables r. map said (iter_rest r) ≡ syllables.now };
+    ghost into_iter_gives = { λ syllables r. map placed_of (iter_rest r) ≡ syllables.now };
 
     fn into_iter(self) -> Iter<'a, Syllable> {
         self.items.iter()

@@ -6,12 +6,12 @@ ghost use Rattle.gabc_headers.specs.Heads.{body_byte};
 ghost use Rattle.gabc_places.specs.Place.{place_past};
 ghost use Rattle.gabc_score.specs.Score.{macros_of, body_in, with_body, head_fault_by, score_of};
 
-use crate::body::BodyStage;
-use crate::body_read::BodyRead;
-use crate::ending::Ending;
-use crate::read_body::read_body;
+use crate::body_result::BodyResult;
+use crate::body_stage::BodyStage;
+use crate::build_body::build_body;
+use crate::context::BodyContext;
+use crate::ending::InputEnding;
 use crate::score::Score;
-use crate::start::Start;
 use crate::syllables::Syllables;
 use gabc_headers::{HeadFault, HeaderBook, Heads, headers_whole};
 use gabc_places::{Fault, Limits, Place, Text};
@@ -22,7 +22,7 @@ use std::alloc::{AllocError, Global};
 pub fn score_whole(
     alloc: Global,
     text: &Text,
-    ending: Ending,
+    ending: InputEnding,
     limits: Limits,
 ) -> Result<Score, AllocError>
     ensures { IfOk result (λ score. score ≡ score_of limits ending text.now) }
@@ -34,8 +34,13 @@ pub fn score_whole(
 }
 
 /// The score of a text whose headers have a fault.
-fn stopped_in_heads(alloc: Global, ending: Ending, stop: HeadFault) -> Score
-    ensures { result ≡ record { book = None; syllables = []; findings = stop.findings; fault = head_fault_by ending stop.at_end stop.fault } }
+fn stopped_in_heads(alloc: Global, ending: InputEnding, stop: HeadFault) -> Score
+    ensures { result ≡ record {
+      book = None;
+      syllables = [];
+      findings = stop.findings;
+      fault = head_fault_by ending stop.at_end stop.fault;
+    } }
 {
     let HeadFault {
         fault,
@@ -51,16 +56,16 @@ fn stopped_in_heads(alloc: Global, ending: Ending, stop: HeadFault) -> Score
 }
 
 /// The fault of headers: one that has the end as its point gives way to what ended the text.
-fn head_fault(ending: Ending, at_end: bool, fault: Fault) -> Option<Fault>
+fn head_fault(ending: InputEnding, at_end: bool, fault: Fault) -> Option<Fault>
     ensures { result ≡ head_fault_by ending at_end fault }
 {
     if !at_end {
         return Some(fault);
     }
     match ending {
-        Ending::Whole => Some(fault),
-        Ending::Broken => None,
-        Ending::At(other) => Some(other),
+        InputEnding::Whole => Some(fault),
+        InputEnding::Broken => None,
+        InputEnding::At(other) => Some(other),
     }
 }
 
@@ -68,30 +73,31 @@ fn head_fault(ending: Ending, at_end: bool, fault: Fault) -> Option<Fault>
 fn score_behind(
     alloc: Global,
     text: &Text,
-    ending: Ending,
+    ending: InputEnding,
     limits: Limits,
     heads: Heads,
 ) -> Result<Score, AllocError>
     requires { heads.body ≡ body_byte text.now }
-    ensures { IfOk result (λ score. score ≡ with_body heads (body_in limits ending text.now heads)) }
+    ensures { IfOk result (λ score. score
+        ≡ with_body heads (body_in limits ending text.now heads)) }
 {
     let Heads {
         book,
         body,
         findings,
     } = heads;
-    let (front, behind) = text.as_str().split_at(body);
+    let (prefix, behind) = text.as_str().split_at(body);
     let mut stage = BodyStage::new(alloc, book.nabc_lines(), macros_in(&book))?;
-    let start = Start {
-        at: place_past(front),
+    let start = BodyContext {
+        at: place_past(prefix),
         head: book.canonical_len(),
         findings,
     };
-    let BodyRead {
+    let BodyResult {
         syllables,
         findings,
         fault,
-    } = read_body(alloc, &mut stage, behind, start, limits, ending)?;
+    } = build_body(alloc, &mut stage, behind, start, limits, ending)?;
     Ok(Score {
         book: Some(book),
         syllables,
@@ -116,14 +122,14 @@ fn macros_in(book: &HeaderBook) -> u16
 }
 
 /// The place behind a text.
-fn place_past(front: &str) -> Place
-    requires { length front.now < 2 ^ 63 }
-    ensures place { result ≡ place_past Place.START (chars front.now) }
-    ensures line { result.line ≤ 1 + length front.now }
-    ensures column { result.column ≤ 1 + length front.now }
+fn place_past(prefix: &str) -> Place
+    requires { length prefix.now < 2 ^ 63 }
+    ensures place { result ≡ place_past Place.START (chars prefix.now) }
+    ensures line { result.line ≤ 1 + length prefix.now }
+    ensures column { result.column ≤ 1 + length prefix.now }
 {
     let mut place = Place::START;
-    for c in front.chars() {
+    for c in prefix.chars() {
         place = place.after(c);
     }
     place

@@ -9,7 +9,7 @@ use Rattle.gabc_text.specs.declared.view.PieceKind.{PieceKind}
 use Rattle.gabc_text.specs.declared.view.PieceKind.TheVariants as piece
 use Rattle.gabc_text.specs.declared.view.Piece.{Piece}
 use Rattle.gabc_text.specs.declared.view.TextView.{TextView}
-use Rattle.gabc_text.specs.Machine.{has_lem}
+use Rattle.gabc_text.specs.TextFacts.{has_style}
 use Rattle.gabc_text.specs.Token.{is_special}
 use Rattle.gabc_text.specs.View.{all_styles, is_same}
 
@@ -17,7 +17,7 @@ use Rattle.gabc_text.specs.View.{all_styles, is_same}
 
 -- the styles of a set, in the order in which they are printed
 unfoldable pub listed_styles : Styles → List Style
-listed_styles s = filter (λ r. has_lem s r) all_styles
+listed_styles s = filter (λ r. has_style s r) all_styles
 
 -- what is left of two lists of styles after their longest common prefix
 abbrev pub after_common : List Style → List Style → List Style × List Style
@@ -25,23 +25,23 @@ after_common [] new = ([], new)
 after_common (s ∷ old) [] = (s ∷ old, [])
 after_common (s ∷ old) (r ∷ new) = cond (is_same s r) (after_common old new) (s ∷ old, r ∷ new)
 
-abbrev pub opening : Style → List ℕ
-opening B = codes "<b>"
-opening C = codes "<c>"
-opening E = codes "<e>"
-opening I = codes "<i>"
-opening Sc = codes "<sc>"
-opening Tt = codes "<tt>"
-opening Ul = codes "<ul>"
+abbrev pub style_opening : Style → List ℕ
+style_opening B = codes "<b>"
+style_opening C = codes "<c>"
+style_opening E = codes "<e>"
+style_opening I = codes "<i>"
+style_opening Sc = codes "<sc>"
+style_opening Tt = codes "<tt>"
+style_opening Ul = codes "<ul>"
 
-abbrev pub closing : Style → List ℕ
-closing B = codes "</b>"
-closing C = codes "</c>"
-closing E = codes "</e>"
-closing I = codes "</i>"
-closing Sc = codes "</sc>"
-closing Tt = codes "</tt>"
-closing Ul = codes "</ul>"
+abbrev pub style_closing : Style → List ℕ
+style_closing B = codes "</b>"
+style_closing C = codes "</c>"
+style_closing E = codes "</e>"
+style_closing I = codes "</i>"
+style_closing Sc = codes "</sc>"
+style_closing Tt = codes "</tt>"
+style_closing Ul = codes "</ul>"
 
 -- the braces before the piece with this index
 abbrev pub braces : Option Span → ℕ → List ℕ
@@ -53,13 +53,13 @@ braces (Some c) i =
 -- Between two neighbours with these styles: the first one's styles that do not stay open are closed from the last on, then
 -- come the braces, then the second one's other styles are opened.
 abbrev pub boundary : List Style → List Style → List ℕ → List ℕ
-boundary old new middle = flat_map closing (reverse (after_common old new).0) ++ (middle ++ flat_map opening (after_common old new).1)
+boundary old new middle = flat_map style_closing (reverse (after_common old new).0) ++ (middle ++ flat_map style_opening (after_common old new).1)
 
 -- ---- the pieces
 
 -- the bytes of the kept text for which a span stands: none, where it does not lie in them
-abbrev pub spanned : List ℕ → Span → List ℕ
-spanned kept s = cond (not (nat_lt s.to s.from) && not (nat_lt (length kept) s.to)) (slice_range kept s.from s.to) []
+abbrev pub span_bytes : List ℕ → Span → List ℕ
+span_bytes kept s = cond (not (nat_lt s.to s.from) && not (nat_lt (length kept) s.to)) (slice_range kept s.from s.to) []
 
 -- one of the characters that a `$` makes letters
 abbrev pub needs_dollar : List ℕ → Bool
@@ -67,16 +67,16 @@ needs_dollar [] = false
 needs_dollar (c ∷ []) = is_special c
 needs_dollar (c ∷ d ∷ t) = false
 
-abbrev pub escaped : List ℕ → List ℕ
-escaped t = cond (needs_dollar t) (codes "$") [] ++ t
+abbrev pub with_dollar : List ℕ → List ℕ
+with_dollar t = cond (needs_dollar t) (codes "$") [] ++ t
 
 abbrev pub piece_text_by : PieceKind → List ℕ → List ℕ
-piece_text_by piece.Char t = escaped t
+piece_text_by piece.Char t = with_dollar t
 piece_text_by piece.Blank t = codes " "
 piece_text_by _ t = t
 
 abbrev pub piece_text : List ℕ → Piece → List ℕ
-piece_text kept p = piece_text_by p.kind (spanned kept p.span)
+piece_text kept p = piece_text_by p.kind (span_bytes kept p.span)
 
 -- ---- the text
 

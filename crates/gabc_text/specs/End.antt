@@ -1,8 +1,8 @@
 -- The event that ends a text.
 use Rattle.std.specs.Prelude.{Bool, true, false}
-use Rattle.gabc_text.specs.declared.stage.TextOut.{TextOut}
-use Rattle.gabc_text.specs.declared.stage.TextOut.TheVariants.{Ended}
+use Rattle.gabc_text.specs.declared.stage.TextEvent.{TextEvent}
+use Rattle.gabc_text.specs.declared.stage.TextEvent.TheVariants.{Ended}
 
-abbrev pub is_end : TextOut → Bool
+abbrev pub is_end : TextEvent → Bool
 is_end (Ended how) = true
 is_end _ = false

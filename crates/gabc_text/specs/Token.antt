@@ -1,17 +1,17 @@
 -- The tokens of a syllable's text: the parts of its spelling that the rules speak of.
 use Rattle.std.specs.Prelude.{ℕ, suc, zero, List, [], ◌∷◌, ◌++◌, Bool, true, false, cond, ◌&&◌, ◌==◌, length, drop, Option, Some, None, option_map, codes}
 use Rattle.std.specs.List.{list_any}
-use Rattle.gabc_text.specs.declared.token.Kind.{Kind}
-use Rattle.gabc_text.specs.declared.token.Kind.TheVariants.{Letter, Blank, Comment, Stray, Begin, End, Tag, Raw, Translation, OpenTag, OpenTranslation}
-use Rattle.gabc_text.specs.declared.token.Sort.{Sort}
-use Rattle.gabc_text.specs.declared.token.Sort.TheVariants.{Opens, Closes, Mark, Begins, Other}
+use Rattle.gabc_text.specs.declared.token.TokenKind.{TokenKind}
+use Rattle.gabc_text.specs.declared.token.TokenKind.TheVariants.{Letter, Blank, Comment, Stray, Begin, End, Tag, Raw, Translation, OpenTag, OpenTranslation}
+use Rattle.gabc_text.specs.declared.token.TagEffect.{TagEffect}
+use Rattle.gabc_text.specs.declared.token.TagEffect.TheVariants.{Opens, Closes, Mark, Begins, Other}
 use Rattle.gabc_text.specs.declared.token.RawKind.{RawKind}
 use Rattle.gabc_text.specs.declared.token.RawKind.TheVariants.{V, Sp, Alt}
 use Rattle.gabc_text.specs.declared.styles.Style.TheVariants.{B, C, E, I, Sc, Tt, Ul}
 
 -- a token by its kind, its first character, and the others
 pub record Token : Type 0 where
-  pub kind : Kind
+  pub kind : TokenKind
   pub first : ℕ
   pub more : List ℕ
 
@@ -34,12 +34,12 @@ begins_with [] t = true
 begins_with (d ∷ s) [] = false
 begins_with (d ∷ s) (c ∷ t) = (d == c) && begins_with s t
 
--- the front of the text before the first x; all of it, if there is none
+-- the prefix of the text before the first x; all of it, if there is none
 abbrev pub before_first : ℕ → List ℕ → List ℕ
 before_first x [] = []
 before_first x (c ∷ t) = cond (x == c) [] (c ∷ before_first x t)
 
--- the front of the text through the first place where it goes on with the ending
+-- the prefix of the text through the first place where it goes on with the ending
 abbrev pub through : List ℕ → List ℕ → Option (List ℕ)
 through ending [] = None
 through ending (c ∷ t) = cond (begins_with ending (c ∷ t)) (Some ending) (option_map (λ s. c ∷ s) (through ending t))
@@ -58,7 +58,7 @@ is_text (c ∷ s) (d ∷ t) = (d == c) && is_text s t
 is_text _ _ = false
 
 -- the tags that are known
-abbrev pub tags : List (List ℕ × Sort)
+abbrev pub tags : List (List ℕ × TagEffect)
 tags =
     (codes "<b>", Opens B) ∷ (codes "</b>", Closes B)
     ∷ (codes "<c>", Opens C) ∷ (codes "</c>", Closes C)
@@ -71,28 +71,28 @@ tags =
     ∷ (codes "<v>", Begins V) ∷ (codes "<sp>", Begins Sp) ∷ (codes "<alt>", Begins Alt)
     ∷ []
 
-abbrev pub sort_in : List (List ℕ × Sort) → List ℕ → Sort
-sort_in [] t = Other
-sort_in (row ∷ rows) t = cond (is_text row.0 t) row.1 (sort_in rows t)
+abbrev pub effect_in : List (List ℕ × TagEffect) → List ℕ → TagEffect
+effect_in [] t = Other
+effect_in (row ∷ rows) t = cond (is_text row.0 t) row.1 (effect_in rows t)
 
-abbrev pub sort_of : List ℕ → Sort
-sort_of t = sort_in tags t
+abbrev pub effect_of : List ℕ → TagEffect
+effect_of t = effect_in tags t
 
 -- ---- the cutting
 
 -- a token that goes on through the ending: more is what follows through it, if it stands there
-abbrev pub ended : Kind → Kind → ℕ → List ℕ → List ℕ → Option (List ℕ) → Token
-ended kind unended first before t (Some more) = record { kind = kind; first = first; more = before ++ more }
-ended kind unended first before t None = record { kind = unended; first = first; more = before ++ t }
+abbrev pub ended_token : TokenKind → TokenKind → ℕ → List ℕ → List ℕ → Option (List ℕ) → Token
+ended_token kind unended first before t (Some more) = record { kind = kind; first = first; more = before ++ more }
+ended_token kind unended first before t None = record { kind = unended; first = first; more = before ++ t }
 
 -- the token that begins with the tag whose characters after the `<` are name, before the text t
-abbrev pub tagged : List ℕ → List ℕ → Sort → Token
-tagged name t (Begins raw) = ended Raw OpenTag 60 name t (through (ending_of raw) t)
-tagged name t _ = record { kind = Tag; first = 60; more = name }
+abbrev pub token_of_tag : List ℕ → List ℕ → TagEffect → Token
+token_of_tag name t (Begins raw) = ended_token Raw OpenTag 60 name t (through (ending_of raw) t)
+token_of_tag name t _ = record { kind = Tag; first = 60; more = name }
 
 abbrev pub tag_at : List ℕ → Option (List ℕ) → Token
 tag_at t None = record { kind = OpenTag; first = 60; more = t }
-tag_at t (Some name) = tagged name (drop (length name) t) (sort_of (60 ∷ name))
+tag_at t (Some name) = token_of_tag name (drop (length name) t) (effect_of (60 ∷ name))
 
 -- a `$` with what follows
 abbrev pub dollar_at : List ℕ → Token
@@ -100,7 +100,7 @@ dollar_at [] = record { kind = Letter; first = 36; more = [] }
 dollar_at (c ∷ t) = record { kind = Letter; first = 36; more = cond (is_special c) (c ∷ []) [] }
 
 -- a token of one character
-abbrev pub single : ℕ → Kind
+abbrev pub single : ℕ → TokenKind
 single c =
     cond (is_blank c) Blank
     (cond (is_one_of (codes ")]>") c) Stray
@@ -114,7 +114,7 @@ token_at c t =
     cond (c == 36) (dollar_at t)
     (cond (c == 37) (record { kind = Comment; first = 37; more = before_first 10 t })
     (cond (c == 60) (tag_at t (through (codes ">") t))
-    (cond (c == 91) (ended Translation OpenTranslation 91 [] t (through (codes "]") t))
+    (cond (c == 91) (ended_token Translation OpenTranslation 91 [] t (through (codes "]") t))
     (record { kind = single c; first = c; more = [] }))))
 
 -- the tokens of the text after its first n characters; a text ends where a token would begin with `(`

@@ -12,21 +12,21 @@ use Rattle.std.specs.Char.{len_utf8}
 use Rattle.gabc_places.specs.Place.{place_past}
 use Rattle.gabc_places.specs.declared.place.Place.{Place}
 use Rattle.gabc_places.specs.declared.place.Span.{Span}
-use Rattle.gabc_text.specs.declared.view.How.{How}
-use Rattle.gabc_text.specs.declared.view.How.TheVariants.{Notes, Finished, Cut}
-use Rattle.gabc_text.specs.declared.token.Kind.{Kind}
-use Rattle.gabc_text.specs.declared.token.Kind.TheVariants.{Letter, Blank, Comment, Stray, Begin, End, Tag, Raw, Translation, OpenTag, OpenTranslation}
-use Rattle.gabc_text.specs.declared.token.Sort.{Sort}
-use Rattle.gabc_text.specs.declared.token.Sort.TheVariants.{Opens, Closes, Mark, Other}
-use Rattle.gabc_text.specs.Token.{Token, spelling, tokens, sort_of}
+use Rattle.gabc_text.specs.declared.view.TextEnding.{TextEnding}
+use Rattle.gabc_text.specs.declared.view.TextEnding.TheVariants.{Notes, Finished, Cut}
+use Rattle.gabc_text.specs.declared.token.TokenKind.{TokenKind}
+use Rattle.gabc_text.specs.declared.token.TokenKind.TheVariants.{Letter, Blank, Comment, Stray, Begin, End, Tag, Raw, Translation, OpenTag, OpenTranslation}
+use Rattle.gabc_text.specs.declared.token.TagEffect.{TagEffect}
+use Rattle.gabc_text.specs.declared.token.TagEffect.TheVariants.{Opens, Closes, Mark, Other}
+use Rattle.gabc_text.specs.Token.{Token, spelling, tokens, effect_of}
 
 -- what a token does to the styles and spans
-abbrev pub sort_as : Kind → List ℕ → Sort
-sort_as Tag s = sort_of s
-sort_as _ s = Other
+abbrev pub effect_as : TokenKind → List ℕ → TagEffect
+effect_as Tag s = effect_of s
+effect_as _ s = Other
 
-abbrev pub sort : Token → Sort
-sort k = sort_as k.kind (spelling k)
+abbrev pub effect : Token → TagEffect
+effect k = effect_as k.kind (spelling k)
 
 -- What the tokens ks give, each after those before it: the first of ks stands after `before`.
 abbrev pub along : {X : Type 0} → (List Token → Token → List X) → List Token → List Token → List X
@@ -66,7 +66,7 @@ abbrev pub all_styles : List Style
 all_styles = B ∷ C ∷ E ∷ I ∷ Sc ∷ Tt ∷ Ul ∷ []
 
 -- the style is open after a tag of this sort, if it was open or not before it
-abbrev pub is_open_after : Style → Sort → Bool → Bool
+abbrev pub is_open_after : Style → TagEffect → Bool → Bool
 is_open_after s (Opens r) was = cond (is_same r s) true was
 is_open_after s (Closes r) was = cond (is_same r s) false was
 is_open_after s _ was = was
@@ -74,7 +74,7 @@ is_open_after s _ was = was
 -- the nearest tag of the style opens it
 abbrev pub is_open : Style → List Token → Bool
 is_open s [] = false
-is_open s (k ∷ before) = is_open_after s (sort k) (is_open s before)
+is_open s (k ∷ before) = is_open_after s (effect k) (is_open s before)
 
 abbrev pub open_styles : List Token → List Style
 open_styles before = filter (λ s. is_open s before) all_styles
@@ -86,27 +86,27 @@ last_of c [] = c ∷ []
 last_of c (d ∷ s) = last_of d s
 
 -- what a piece says
-pub record Said : Type 0 where
+pub record PieceFacts : Type 0 where
   pub kind : PieceKind
   pub styles : List Style
   pub text : List ℕ
 
 -- the kind of piece that a token is, blanks aside
-abbrev pub tag_piece : Sort → Option PieceKind
+abbrev pub tag_piece : TagEffect → Option PieceKind
 tag_piece Mark = Some piece.Mark
 tag_piece Other = Some piece.Tag
 tag_piece _ = None
 
-abbrev pub piece_kind : Kind → Sort → Option PieceKind
+abbrev pub piece_kind : TokenKind → TagEffect → Option PieceKind
 piece_kind Letter s = Some piece.Char
 piece_kind Raw s = Some piece.Raw
 piece_kind Tag s = tag_piece s
 piece_kind _ s = None
 
 abbrev pub kind_of : Token → Option PieceKind
-kind_of k = piece_kind k.kind (sort k)
+kind_of k = piece_kind k.kind (effect k)
 
-abbrev pub is_space : Kind → Bool
+abbrev pub is_space : TokenKind → Bool
 is_space Blank = true
 is_space _ = false
 
@@ -125,17 +125,17 @@ follows_blank [] = false
 follows_blank (k ∷ before) = is_space k.kind || (not (is_some (kind_of k)) && follows_blank before)
 
 -- what a piece says: of a letter the character, without its `$`
-abbrev pub saying : PieceKind → Token → List ℕ
-saying piece.Char k = last_of k.first k.more
-saying _ k = spelling k
+abbrev pub text_of_piece : PieceKind → Token → List ℕ
+text_of_piece piece.Char k = last_of k.first k.more
+text_of_piece _ k = spelling k
 
-abbrev pub piece_of : List Token → Token → Option PieceKind → List Said
-piece_of before k (Some kind) = record { kind = kind; styles = open_styles before; text = saying kind k } ∷ []
+abbrev pub piece_of : List Token → Token → Option PieceKind → List PieceFacts
+piece_of before k (Some kind) = record { kind = kind; styles = open_styles before; text = text_of_piece kind k } ∷ []
 piece_of before k None =
     cond (is_space k.kind && has_word before && not (follows_blank before)) (record { kind = piece.Blank; styles = open_styles before; text = [] } ∷ []) []
 
 -- the pieces that a token after `before` is: one or none
-abbrev pub pieces_at : List Token → Token → List Said
+abbrev pub pieces_at : List Token → Token → List PieceFacts
 pieces_at before k = piece_of before k (kind_of k)
 
 abbrev pub is_blank_piece : PieceKind → Bool
@@ -149,11 +149,11 @@ starts_word (k ∷ before) = (is_space k.kind && not (has_word before)) || start
 
 -- ---- the centre
 
-abbrev pub is_begin : Kind → Bool
+abbrev pub is_begin : TokenKind → Bool
 is_begin Begin = true
 is_begin _ = false
 
-abbrev pub is_end : Kind → Bool
+abbrev pub is_end : TokenKind → Bool
 is_end End = true
 is_end _ = false
 
@@ -186,7 +186,7 @@ centre_by count None _ = None
 
 -- ---- the translation
 
-abbrev pub is_translation : Kind → Bool
+abbrev pub is_translation : TokenKind → Bool
 is_translation Translation = true
 is_translation OpenTranslation = true
 is_translation _ = false
@@ -197,7 +197,7 @@ has_translation before = list_any (λ k. is_translation k.kind) before
 -- ---- the kept text
 
 -- a comment, a stray character, or a brace that is not the first `{` or the first `}` after it
-abbrev pub is_left_out : List Token → Kind → Bool
+abbrev pub is_left_out : List Token → TokenKind → Bool
 is_left_out before Comment = true
 is_left_out before Stray = true
 is_left_out before Begin = has_begin before
@@ -218,7 +218,7 @@ kept_at before k =
 
 -- ---- how a text ends
 
-abbrev pub is_open_kind : Kind → Bool
+abbrev pub is_open_kind : TokenKind → Bool
 is_open_kind OpenTag = true
 is_open_kind OpenTranslation = true
 is_open_kind _ = false
@@ -228,31 +228,31 @@ abbrev pub is_cut : List Token → Bool
 is_cut [] = false
 is_cut (k ∷ before) = is_open_kind k.kind
 
--- what follows the tokens is empty, or begins with the `(`, behind this front
-abbrev pub how_by : List ℕ → List ℕ → How
-how_by front [] = Finished
-how_by front (c ∷ rest) = Notes (bytes_of front)
+-- what follows the tokens is empty, or begins with the `(`, behind this prefix
+abbrev pub ending_by : List ℕ → List ℕ → TextEnding
+ending_by prefix [] = Finished
+ending_by prefix (c ∷ rest) = Notes (bytes_of prefix)
 
--- how a text ends whose tokens are these, the nearest first, where they spell the front and rest follows
-abbrev pub how_after : Place → List Token → List ℕ → List ℕ → How
-how_after at [] front rest = how_by front rest
-how_after at (k ∷ before) front rest = cond (is_open_kind k.kind) (Cut (place_of at before)) (how_by front rest)
+-- how a text ends whose tokens are these, the nearest first, where they spell the prefix and rest follows
+abbrev pub ending_after : Place → List Token → List ℕ → List ℕ → TextEnding
+ending_after at [] prefix rest = ending_by prefix rest
+ending_after at (k ∷ before) prefix rest = cond (is_open_kind k.kind) (Cut (place_of at before)) (ending_by prefix rest)
 
 -- ---- the findings, each with the index of its character
 
-abbrev pub tag_codes : List Token → Sort → List Code
+abbrev pub tag_codes : List Token → TagEffect → List Code
 tag_codes before (Opens s) = cond (is_open s before) (W3 ∷ []) []
 tag_codes before (Closes s) = cond (is_open s before) [] (W3 ∷ [])
 tag_codes before Other = W6 ∷ []
 tag_codes before _ = []
 
 -- a second translation is found where it begins, all else where the token ends
-abbrev pub early_codes : List Token → Kind → List Code
+abbrev pub early_codes : List Token → TokenKind → List Code
 early_codes before Translation = cond (has_translation before) (W5 ∷ []) []
 early_codes before OpenTranslation = cond (has_translation before) (W5 ∷ []) []
 early_codes before _ = []
 
-abbrev pub late_codes : List Token → Kind → Sort → List Code
+abbrev pub late_codes : List Token → TokenKind → TagEffect → List Code
 late_codes before Stray s = E2 ∷ []
 late_codes before Begin s = cond (has_begin before) (W4 ∷ []) []
 late_codes before End s = cond (has_begin before && not (has_end before)) [] (W4 ∷ [])
@@ -263,7 +263,7 @@ abbrev pub found_at : Place → Code → Finding
 found_at place c = record { place = place; code = c }
 
 abbrev pub findings_at : Place → List Token → Token → List Finding
-findings_at at before k = map (found_at (place_of at before)) (early_codes before k.kind ++ late_codes before k.kind (sort k))
+findings_at at before k = map (found_at (place_of at before)) (early_codes before k.kind ++ late_codes before k.kind (effect k))
 
 -- those of a text's end: styles that are still open, and a centre that is
 abbrev pub codes_at_end : List Token → List Code
@@ -286,5 +286,5 @@ findings at t = along (findings_at at) [] (tokens t) ++ findings_at_end at (reve
 abbrev pub length_of : List ℕ → ℕ
 length_of t = length (text_of (reverse (tokens t)))
 
-abbrev pub how : Place → List ℕ → How
-how at t = how_after at (reverse (tokens t)) (take (length_of t) t) (drop (length_of t) t)
+abbrev pub ending_in : Place → List ℕ → TextEnding
+ending_in at t = ending_after at (reverse (tokens t)) (take (length_of t) t) (drop (length_of t) t)

@@ -2,9 +2,9 @@
 
 ghost use Rattle.std.specs.Prelude.{◌≡◌, ◌-◌, ◌^◌, ◌≤◌, length, min, cond, [], ◌++◌, reverse};
 ghost use Rattle.std.specs.List.{flat_map};
-ghost use Rattle.gabc_places.specs.Held.{HasRoom, added};
-ghost use Rattle.gabc_text.specs.Changes.{both_lem, differs_lem, changed_lem};
-ghost use Rattle.gabc_text.specs.Canonical.{after_common, opening, closing, listed_styles, braces, boundary, spanned, needs_dollar, piece_text, canonical_text};
+ghost use Rattle.gabc_places.specs.BoundedList.{Fits, extended_by};
+ghost use Rattle.gabc_text.specs.machine.ChangedStyles.{common_styles, differs, changed_styles};
+ghost use Rattle.gabc_text.specs.Canonical.{after_common, style_opening, style_closing, listed_styles, braces, boundary, span_bytes, needs_dollar, piece_text, canonical_text};
 
 use crate::styles::Styles;
 use crate::token::is_special;
@@ -12,8 +12,8 @@ use crate::view::{Piece, PieceKind, TextView};
 use gabc_places::{Room, Span};
 
 /// The styles in both sets.
-fn both(a: Styles, b: Styles) -> Styles
-    ensures { result ≡ both_lem a b }
+fn common_styles(a: Styles, b: Styles) -> Styles
+    ensures { result ≡ common_styles a b }
 {
     Styles {
         b: a.b && b.b,
@@ -28,14 +28,14 @@ fn both(a: Styles, b: Styles) -> Styles
 
 /// Whether neighbours differ in a style, or did before.
 fn differs(before: bool, old: bool, new: bool) -> bool
-    ensures { result ≡ differs_lem before old new }
+    ensures { result ≡ differs before old new }
 {
     before || old != new
 }
 
 /// The first style in which two neighbours differ, and those listed after it: these do not stay open between them.
-fn changed(old: Styles, new: Styles) -> Styles
-    ensures { result ≡ changed_lem old new }
+fn changed_styles(old: Styles, new: Styles) -> Styles
+    ensures { result ≡ changed_styles old new }
 {
     let b = differs(false, old.b, new.b);
     let c = differs(b, old.c, new.c);
@@ -56,8 +56,8 @@ fn changed(old: Styles, new: Styles) -> Styles
 
 /// Adds a text, if it is wanted.
 fn put(wanted: bool, text: &str, out: &mut Room<u8>)
-    requires { HasRoom out.old (length (cond wanted text.now [])) }
-    ensures { out.new ≡ added out.old (cond wanted text.now []) }
+    requires { Fits out.old (length (cond wanted text.now [])) }
+    ensures { out.new ≡ extended_by out.old (cond wanted text.now []) }
 {
     if wanted {
         out.append(text.as_bytes());
@@ -66,8 +66,8 @@ fn put(wanted: bool, text: &str, out: &mut Room<u8>)
 
 /// Opens the styles in order.
 fn write_opening(styles: Styles, out: &mut Room<u8>)
-    requires { HasRoom out.old (length (flat_map opening (listed_styles styles))) }
-    ensures { out.new ≡ added out.old (flat_map opening (listed_styles styles)) }
+    requires { Fits out.old (length (flat_map style_opening (listed_styles styles))) }
+    ensures { out.new ≡ extended_by out.old (flat_map style_opening (listed_styles styles)) }
 {
     put(styles.b, "<b>", out);
     put(styles.c, "<c>", out);
@@ -80,8 +80,9 @@ fn write_opening(styles: Styles, out: &mut Room<u8>)
 
 /// Closes the styles from the last on.
 fn write_closing(styles: Styles, out: &mut Room<u8>)
-    requires { HasRoom out.old (length (flat_map closing (reverse (listed_styles styles)))) }
-    ensures { out.new ≡ added out.old (flat_map closing (reverse (listed_styles styles))) }
+    requires { Fits out.old (length (flat_map style_closing (reverse (listed_styles styles)))) }
+    ensures { out.new
+        ≡ extended_by out.old (flat_map style_closing (reverse (listed_styles styles))) }
 {
     put(styles.ul, "</ul>", out);
     put(styles.tt, "</tt>", out);
@@ -111,8 +112,8 @@ fn braces(centre: Option<Span>, index: usize) -> &'static str
 }
 
 /// The bytes of the kept text for which a span stands, if it lies in them.
-fn spanned(kept: &str, span: Span) -> &[u8]
-    ensures { result.now ≡ spanned kept.now span }
+fn slice_of(kept: &str, span: Span) -> &[u8]
+    ensures { result.now ≡ span_bytes kept.now span }
 {
     let bytes = kept.as_bytes();
     if span.from <= span.to && span.to <= bytes.len() {
@@ -134,21 +135,22 @@ fn needs_dollar(text: &[u8]) -> bool
 
 /// The tags and braces between two neighbours with these styles.
 fn write_boundary(old: Styles, new: Styles, braces: &str, out: &mut Room<u8>)
-    requires { HasRoom out.old (length (boundary (listed_styles old) (listed_styles new) braces.now)) }
-    ensures { out.new ≡ added out.old (boundary (listed_styles old) (listed_styles new) braces.now) }
+    requires { Fits out.old (length (boundary (listed_styles old) (listed_styles new) braces.now)) }
+    ensures { out.new ≡ extended_by out.old (boundary (listed_styles old)
+        (listed_styles new) braces.now) }
 {
-    let changed = changed(old, new);
-    write_closing(both(old, changed), out);
+    let changed = changed_styles(old, new);
+    write_closing(common_styles(old, changed), out);
     put(true, braces, out);
-    write_opening(both(new, changed), out);
+    write_opening(common_styles(new, changed), out);
 }
 
 /// A piece, with a `$` where it needs one.
 fn write_piece(piece: Piece, kept: &str, out: &mut Room<u8>)
-    requires { HasRoom out.old (length (piece_text kept.now piece)) }
-    ensures { out.new ≡ added out.old (piece_text kept.now piece) }
+    requires { Fits out.old (length (piece_text kept.now piece)) }
+    ensures { out.new ≡ extended_by out.old (piece_text kept.now piece) }
 {
-    let text = spanned(kept, piece.span);
+    let text = slice_of(kept, piece.span);
     match piece.kind {
         PieceKind::Blank => put(true, " ", out),
         PieceKind::Char => {
@@ -163,8 +165,8 @@ fn write_piece(piece: Piece, kept: &str, out: &mut Room<u8>)
 /// of their styles, one inside another (GregorioRef, "Syllable Text Syntax"). A span that does not lie in the kept text stands
 /// for nothing. It asks for no memory.
 pub fn write_text(view: &TextView, kept: &str, out: &mut Room<u8>)
-    requires { HasRoom out.old (length (canonical_text view.now kept.now)) }
-    ensures { out.new ≡ added out.old (canonical_text view.now kept.now) }
+    requires { Fits out.old (length (canonical_text view.now kept.now)) }
+    ensures { out.new ≡ extended_by out.old (canonical_text view.now kept.now) }
 {
     let pieces = view.pieces.as_slice();
     let mut old = Styles::NONE;
@@ -187,7 +189,7 @@ fn len_if(wanted: bool, text: &str) -> usize
 
 /// The length of the tags that open the styles.
 fn opening_len(styles: Styles) -> usize
-    ensures length { result ≡ length (flat_map opening (listed_styles styles)) }
+    ensures length { result ≡ length (flat_map style_opening (listed_styles styles)) }
     ensures within { result ≤ 64 }
 {
     len_if(styles.b, "<b>")
@@ -201,7 +203,7 @@ fn opening_len(styles: Styles) -> usize
 
 /// The length of the tags that close the styles.
 fn closing_len(styles: Styles) -> usize
-    ensures length { result ≡ length (flat_map closing (reverse (listed_styles styles))) }
+    ensures length { result ≡ length (flat_map style_closing (reverse (listed_styles styles))) }
     ensures within { result ≤ 64 }
 {
     len_if(styles.b, "</b>")
@@ -217,15 +219,17 @@ fn closing_len(styles: Styles) -> usize
 fn boundary_len(old: Styles, new: Styles, braces: &str) -> usize
     ensures { result ≡ length (boundary (listed_styles old) (listed_styles new) braces.now) }
 {
-    let changed = changed(old, new);
-    closing_len(both(old, changed)) + braces.len() + opening_len(both(new, changed))
+    let changed = changed_styles(old, new);
+    closing_len(common_styles(old, changed))
+        + braces.len()
+        + opening_len(common_styles(new, changed))
 }
 
 /// The length of a piece with its `$`.
 fn piece_len(piece: Piece, kept: &str) -> usize
     ensures { result ≡ length (piece_text kept.now piece) }
 {
-    let text = spanned(kept, piece.span);
+    let text = slice_of(kept, piece.span);
     match piece.kind {
         PieceKind::Blank => 1,
         PieceKind::Char => len_if(needs_dollar(text), "$") + text.len(),

@@ -2,21 +2,21 @@
 
 ghost use Rattle.std.specs.Prelude.{◌≡◌, ◌+◌, ◌^◌, ◌<◌, [], ◌∷◌, ◌++◌, length, IfOk, OnOk};
 ghost use Rattle.std.specs.Str.{chars};
-ghost use Rattle.gabc_places.specs.Law.{joined};
-ghost use Rattle.gabc_text.specs.Outs.{codes_of, outs_by_point};
-ghost use Rattle.gabc_text.specs.Told.{kept_chars_in};
+ghost use Rattle.gabc_places.specs.StageLaw.{concat_of};
+ghost use Rattle.gabc_text.specs.Events.{codes_of, events_by_point};
+ghost use Rattle.gabc_text.specs.BuiltText.{kept_chars_in};
 ghost use Rattle.gabc_text.specs.View.{kept};
 
-use crate::stage::{TextOut, TextStage};
+use crate::stage::{TextEvent, TextStage};
 use gabc_places::{Char, Place, Sequence, outputs_of};
 use std::alloc::{AllocError, Global};
 
 /// Adds the character that an event keeps, if it keeps one.
-fn add_kept(kept: &mut Sequence<Char>, event: TextOut) -> Result<(), AllocError>
+fn add_kept(kept: &mut Sequence<Char>, event: TextEvent) -> Result<(), AllocError>
     ensures { OnOk result (kept.new ≡ kept.old ++ kept_chars_in (event ∷ [])) }
 {
     match event {
-        TextOut::Kept(x) => kept.push(x),
+        TextEvent::Kept(x) => kept.push(x),
         _ => Ok(()),
     }
 }
@@ -27,7 +27,8 @@ fn add_kept(kept: &mut Sequence<Char>, event: TextOut) -> Result<(), AllocError>
 pub fn kept_chars(alloc: Global, body: &str, at: Place) -> Result<Sequence<Char>, AllocError>
     requires line { at.line + length body.now < 2 ^ 64 }
     requires column { at.column + length body.now < 2 ^ 64 }
-    ensures events { IfOk result (λ kept. kept ≡ kept_chars_in (joined (outs_by_point at (chars body.now)))) }
+    ensures events { IfOk result (λ kept. kept
+        ≡ kept_chars_in (concat_of (events_by_point at (chars body.now)))) }
     ensures kept { IfOk result (λ all. codes_of all ≡ kept (chars body.now)) }
 {
     let mut stage = TextStage::new(at);

@@ -16,18 +16,18 @@
 mod canonical;
 mod kept;
 pub mod laws;
-mod mode;
-mod name;
-mod seen;
 mod stage;
 mod styles;
+mod tag_name;
+mod text_facts;
 mod token;
+mod token_state;
 mod view;
 mod whole;
 
 pub use canonical::{text_len, write_text};
 pub use kept::kept_chars;
-pub use stage::{TextEnd, TextOut, TextPart, TextStage};
+pub use stage::{TextEnd, TextEvent, TextPart, TextStage};
 pub use styles::{Style, Styles};
-pub use view::{How, Piece, PieceKind, Pieces, TextView};
+pub use view::{Piece, PieceKind, Pieces, TextEnding, TextView};
 pub use whole::{TextRead, text_whole};

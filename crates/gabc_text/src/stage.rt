@@ -2,16 +2,19 @@
 
 ghost use Rattle.std.specs.Prelude.{◌≡◌, ◌==◌, ℕ, ◌+◌, ◌≤◌, List, length, true};
 ghost use Rattle.std.specs.Str.{chars, NonePass};
-ghost use Rattle.gabc_places.specs.Held.{HasRoom, added};
-ghost use Rattle.gabc_text.specs.Step.{up, later, option_list, part_lem, span_lem, pending_lem, spot_lem, token_stage, token_outs, settle_stage, settle_outs, read_stage, read_outs, keep_spot, end_outs, end_stage, push_stage, push_outs, finish_stage, finish_outs, fresh, is_piece_lem, char_out, found_out, centre_lem, part_out_lem, piece_out_lem, centre_out_lem, is_cut_lem, style_code_lem, centre_code_lem, end_by};
-ghost use Rattle.gabc_text.specs.Rest.{rest_of};
-ghost use Rattle.gabc_text.specs.Raw.{pushed, is_in_raw};
-ghost use Rattle.gabc_text.specs.Outs.{Fits, codes_of, outs_by_point};
+ghost use Rattle.gabc_places.specs.BoundedList.{Fits, extended_by};
+ghost use Rattle.gabc_text.specs.TextStage.{count_plus, place_after_char, fresh_stage};
+ghost use Rattle.gabc_text.specs.machine.TextStage.{option_list, part_of, span_of, waiting_piece, progress_after, token_stage, events_of_token, settle_stage, events_of_settling, read_stage, events_of_reading, progress_past, events_of_end, end_stage, push_stage, events_of_push, finish_stage, events_of_finish, is_piece, char_event, finding_event, final_centre, part_event, piece_event, centre_event, is_cut_end, style_code, centre_code, end_by};
+ghost use Rattle.gabc_text.specs.EventsLeft.{events_left};
+ghost use Rattle.gabc_text.specs.machine.RawPart.{stage_past, is_in_raw};
+ghost use Rattle.gabc_text.specs.Events.{CountsFit, codes_of, events_by_point};
 ghost use Rattle.gabc_text.specs.End.{is_end};
 
-use crate::mode::{Mode, Went, at_end, go, is_plain, is_unmatched, settled};
-use crate::seen::{Seen, after, code_at, early_at, keep, nothing_seen, piece_at};
-use crate::token::{Kind, Sort};
+use crate::text_facts::{TextFacts, code_at, early_at, facts_after, keep, no_facts, piece_at};
+use crate::token::{TagEffect, TokenKind};
+use crate::token_state::{
+    Step, TokenState, is_plain, is_unmatched, kind_at_end, next_step, settled_kind,
+};
 use crate::view::{Piece, PieceKind};
 use gabc_places::{Char, Code, Finding, Place, Room, Span, Stage};
 
@@ -40,7 +43,7 @@ pub enum TextEnd {
 
 /// What a text gives as it is read.
 #[derive(Clone, Copy, Debug, PartialEq, Eq)]
-pub enum TextOut {
+pub enum TextEvent {
     /// A character of the kept text.
     Kept(Char),
     /// A part of the view.
@@ -51,7 +54,7 @@ pub enum TextOut {
 
 /// Where in the text and in what was kept of it the machine stands. A count that has reached its last value stays there.
 #[derive(Clone, Copy)]
-pub(crate) struct Spot {
+pub(crate) struct Progress {
     /// Where the token that is read begins: its place, and the bytes kept before it.
     place: Place,
     start: usize,
@@ -71,22 +74,22 @@ pub(crate) struct Spot {
 /// makes known is given with it; after the `(` nothing is given. It asks for no memory.
 #[derive(Clone, Copy)]
 pub struct TextStage {
-    mode: Mode,
-    seen: Seen,
-    spot: Spot,
+    mode: TokenState,
+    facts: TextFacts,
+    progress: Progress,
     done: bool,
 }
 
 /// The sum, or the last value where it is larger.
 fn plus(n: usize, more: usize) -> usize
-    ensures { result ≡ up n more }
+    ensures { result ≡ count_plus n more }
 {
     n.saturating_add(more)
 }
 
 /// The place behind a character that stands here.
 fn after_place(place: Place, c: char) -> Place
-    ensures { result ≡ later place c }
+    ensures { result ≡ place_after_char place c }
 {
     if c == '\n' {
         Place {
@@ -102,9 +105,9 @@ fn after_place(place: Place, c: char) -> Place
 }
 
 /// Adds what there is.
-fn give(out: &mut Room<TextOut>, item: Option<TextOut>)
-    requires { HasRoom out.old 1 }
-    ensures gives { out.new ≡ added out.old (option_list item) }
+fn emit(out: &mut Room<TextEvent>, item: Option<TextEvent>)
+    requires { Fits out.old 1 }
+    ensures events { out.new ≡ extended_by out.old (option_list item) }
     ensures few { length out.new.items ≤ length out.old.items + 1 }
 {
     if let Some(item) = item {
@@ -113,48 +116,54 @@ fn give(out: &mut Room<TextOut>, item: Option<TextOut>)
 }
 
 /// The span of a token that is a piece: of a character without its `$`.
-fn span_of(spot: Spot, kind: PieceKind, last: usize) -> Span
-    ensures { result ≡ span_lem spot kind last }
+fn span_of(progress: Progress, kind: PieceKind, last: usize) -> Span
+    ensures { result ≡ span_of progress kind last }
 {
     match kind {
         PieceKind::Char => Span {
             from: last,
-            to: spot.kept,
+            to: progress.kept,
         },
         _ => Span {
-            from: spot.start,
-            to: spot.kept,
+            from: progress.start,
+            to: progress.kept,
         },
     }
 }
 
 /// The part that a token is, if any, but for a blank. Before its last character, `last` bytes were kept.
-fn part_at(seen: Seen, spot: Spot, kind: Kind, sort: Sort, last: usize) -> Option<TextPart>
-    ensures { result ≡ part_lem seen spot kind sort last }
+fn part_at(
+    facts: TextFacts,
+    progress: Progress,
+    kind: TokenKind,
+    sort: TagEffect,
+    last: usize,
+) -> Option<TextPart>
+    ensures { result ≡ part_of facts progress kind sort last }
 {
     match kind {
-        Kind::Blank => {
-            if seen.word || seen.starts {
+        TokenKind::Blank => {
+            if facts.word || facts.starts {
                 None
             } else {
                 Some(TextPart::WordStart)
             }
         }
-        Kind::Translation => {
-            if seen.translated {
+        TokenKind::Translation => {
+            if facts.translated {
                 None
             } else {
                 Some(TextPart::Translation(Span {
-                    from: plus(spot.start, 1),
+                    from: plus(progress.start, 1),
                     to: last,
                 }))
             }
         }
-        _ => match piece_at(seen, kind, sort) {
+        _ => match piece_at(facts, kind, sort) {
             Some(piece) => Some(TextPart::Piece(Piece {
                 kind: piece,
-                styles: seen.styles,
-                span: span_of(spot, piece, last),
+                styles: facts.styles,
+                span: span_of(progress, piece, last),
             })),
             None => None,
         },
@@ -162,7 +171,7 @@ fn part_at(seen: Seen, spot: Spot, kind: Kind, sort: Sort, last: usize) -> Optio
 }
 
 fn is_piece(part: Option<TextPart>) -> bool
-    ensures { result ≡ is_piece_lem part }
+    ensures { result ≡ is_piece part }
 {
     match part {
         Some(TextPart::Piece(_)) => true,
@@ -171,61 +180,72 @@ fn is_piece(part: Option<TextPart>) -> bool
 }
 
 /// The blank that waits after a token.
-fn pending(seen: Seen, spot: Spot, kind: Kind, sort: Sort) -> Option<Piece>
-    ensures { result ≡ pending_lem seen spot kind sort }
+fn waiting_piece(
+    facts: TextFacts,
+    progress: Progress,
+    kind: TokenKind,
+    sort: TagEffect,
+) -> Option<Piece>
+    ensures { result ≡ waiting_piece facts progress kind sort }
 {
-    match piece_at(seen, kind, sort) {
+    match piece_at(facts, kind, sort) {
         Some(PieceKind::Blank) => Some(Piece {
             kind: PieceKind::Blank,
-            styles: seen.styles,
+            styles: facts.styles,
             span: Span {
-                from: spot.start,
-                to: spot.kept,
+                from: progress.start,
+                to: progress.kept,
             },
         }),
         Some(_) => None,
-        None => spot.blank,
+        None => progress.blank,
     }
 }
 
 /// Where the machine stands after a token, which ends before this place.
-fn spot_after(seen: Seen, spot: Spot, kind: Kind, sort: Sort, place: Place) -> Spot
-    ensures { result ≡ spot_lem seen spot kind sort place }
+fn progress_after(
+    facts: TextFacts,
+    progress: Progress,
+    kind: TokenKind,
+    sort: TagEffect,
+    place: Place,
+) -> Progress
+    ensures { result ≡ progress_after facts progress kind sort place }
 {
-    let pieces = match piece_at(seen, kind, sort) {
-        Some(_) => plus(spot.pieces, 1),
-        None => spot.pieces,
+    let pieces = match piece_at(facts, kind, sort) {
+        Some(_) => plus(progress.pieces, 1),
+        None => progress.pieces,
     };
     let begin = match kind {
-        Kind::Begin if !seen.begun => Some(spot.pieces),
-        _ => spot.begin,
+        TokenKind::Begin if !facts.begun => Some(progress.pieces),
+        _ => progress.begin,
     };
     let end = match kind {
-        Kind::End if seen.begun && !seen.ended => Some(spot.pieces),
-        _ => spot.end,
+        TokenKind::End if facts.begun && !facts.ended => Some(progress.pieces),
+        _ => progress.end,
     };
-    Spot {
+    Progress {
         place,
-        start: spot.kept,
-        next: spot.next,
-        kept: spot.kept,
+        start: progress.kept,
+        next: progress.next,
+        kept: progress.kept,
         pieces,
-        blank: pending(seen, spot, kind, sort),
+        blank: waiting_piece(facts, progress, kind, sort),
         begin,
         end,
     }
 }
 
 /// The centre of a text that ends here. No position is past the last piece that is given.
-fn centre(spot: Spot) -> Option<Span>
-    ensures { result ≡ centre_lem spot }
+fn centre(progress: Progress) -> Option<Span>
+    ensures { result ≡ final_centre progress }
 {
-    let count = match spot.blank {
-        Some(_) => spot.pieces.saturating_sub(1),
-        None => spot.pieces,
+    let count = match progress.blank {
+        Some(_) => progress.pieces.saturating_sub(1),
+        None => progress.pieces,
     };
-    match spot.begin {
-        Some(begin) => match spot.end {
+    match progress.begin {
+        Some(begin) => match progress.end {
             Some(end) => Some(Span {
                 from: begin.min(count),
                 to: end.min(count),
@@ -239,68 +259,68 @@ fn centre(spot: Spot) -> Option<Span>
     }
 }
 
-fn part_out(part: Option<TextPart>) -> Option<TextOut>
-    ensures { result ≡ part_out_lem part }
+fn part_event(part: Option<TextPart>) -> Option<TextEvent>
+    ensures { result ≡ part_event part }
 {
     match part {
-        Some(part) => Some(TextOut::Part(part)),
+        Some(part) => Some(TextEvent::Part(part)),
         None => None,
     }
 }
 
-fn piece_out(piece: Option<Piece>) -> Option<TextOut>
-    ensures { result ≡ piece_out_lem piece }
+fn piece_event(piece: Option<Piece>) -> Option<TextEvent>
+    ensures { result ≡ piece_event piece }
 {
     match piece {
-        Some(piece) => Some(TextOut::Part(TextPart::Piece(piece))),
+        Some(piece) => Some(TextEvent::Part(TextPart::Piece(piece))),
         None => None,
     }
 }
 
-fn centre_out(centre: Option<Span>) -> Option<TextOut>
-    ensures { result ≡ centre_out_lem centre }
+fn centre_event(centre: Option<Span>) -> Option<TextEvent>
+    ensures { result ≡ centre_event centre }
 {
     match centre {
-        Some(span) => Some(TextOut::Part(TextPart::Centre(span))),
+        Some(span) => Some(TextEvent::Part(TextPart::Centre(span))),
         None => None,
     }
 }
 
-fn found_at(place: Place, code: Option<Code>) -> Option<TextOut>
-    ensures { result ≡ found_out place code }
+fn finding_event(place: Place, code: Option<Code>) -> Option<TextEvent>
+    ensures { result ≡ finding_event place code }
 {
     match code {
-        Some(code) => Some(TextOut::Found(Finding { place, code })),
+        Some(code) => Some(TextEvent::Found(Finding { place, code })),
         None => None,
     }
 }
 
-fn kept_at(place: Place, kept: Option<char>) -> Option<TextOut>
-    ensures { result ≡ char_out place kept }
+fn char_event(place: Place, kept: Option<char>) -> Option<TextEvent>
+    ensures { result ≡ char_event place kept }
 {
     match kept {
-        Some(c) => Some(TextOut::Kept(Char { c, place })),
+        Some(c) => Some(TextEvent::Kept(Char { c, place })),
         None => None,
     }
 }
 
 /// Where the machine stands after a character, of which this was kept.
-fn spot_past(spot: Spot, c: char, kept: Option<char>) -> Spot
-    ensures { result ≡ keep_spot spot c kept }
+fn progress_past(progress: Progress, c: char, kept: Option<char>) -> Progress
+    ensures { result ≡ progress_past progress c kept }
 {
     let bytes = match kept {
-        Some(kept) => plus(spot.kept, kept.len_utf8()),
-        None => spot.kept,
+        Some(kept) => plus(progress.kept, kept.len_utf8()),
+        None => progress.kept,
     };
-    Spot {
-        next: after_place(spot.next, c),
+    Progress {
+        next: after_place(progress.next, c),
         kept: bytes,
-        ..spot
+        ..progress
     }
 }
 
 fn is_cut(how: TextEnd) -> bool
-    ensures { result ≡ is_cut_lem how }
+    ensures { result ≡ is_cut_end how }
 {
     match how {
         TextEnd::Cut(_) => true,
@@ -309,10 +329,10 @@ fn is_cut(how: TextEnd) -> bool
 }
 
 /// The finding of styles that are open where a text ends.
-fn style_code(seen: Seen, how: TextEnd) -> Option<Code>
-    ensures { result ≡ style_code_lem seen how }
+fn style_code(facts: TextFacts, how: TextEnd) -> Option<Code>
+    ensures { result ≡ style_code facts how }
 {
-    if is_cut(how) || seen.styles.is_empty() {
+    if is_cut(how) || facts.styles.is_empty() {
         None
     } else {
         Some(Code::W3)
@@ -320,10 +340,10 @@ fn style_code(seen: Seen, how: TextEnd) -> Option<Code>
 }
 
 /// The finding of a centre that is open where a text ends.
-fn centre_code(seen: Seen, how: TextEnd) -> Option<Code>
-    ensures { result ≡ centre_code_lem seen how }
+fn centre_code(facts: TextFacts, how: TextEnd) -> Option<Code>
+    ensures { result ≡ centre_code facts how }
 {
-    if !is_cut(how) && seen.begun && !seen.ended {
+    if !is_cut(how) && facts.begun && !facts.ended {
         Some(Code::W4)
     } else {
         None
@@ -334,13 +354,14 @@ impl TextStage {
     /// Returns a machine that has read nothing. The first character stands at `at`. Spans that it tells count bytes of the kept
     /// text, a centre counts pieces. Each count saturates.
     pub fn new(at: Place) -> TextStage
-        ensures fresh { result ≡ fresh at }
-        ensures gives { (t : List ℕ) → Fits at t → rest_of result t ≡ outs_by_point at t }
+        ensures fresh { result ≡ fresh_stage at }
+        ensures events { (t : List ℕ) → CountsFit at t →
+            events_left result t ≡ events_by_point at t }
     {
         TextStage {
-            mode: Mode::Plain,
-            seen: nothing_seen(),
-            spot: Spot {
+            mode: TokenState::Plain,
+            facts: no_facts(),
+            progress: Progress {
                 place: at,
                 start: 0,
                 next: at,
@@ -355,82 +376,97 @@ impl TextStage {
     }
 
     /// A token, which ends before this place. Before its last character, `last` bytes were kept.
-    fn token(&mut self, kind: Kind, sort: Sort, place: Place, last: usize, out: &mut Room<TextOut>)
-        requires { HasRoom out.old 3 }
+    fn token(
+        &mut self,
+        kind: TokenKind,
+        sort: TagEffect,
+        place: Place,
+        last: usize,
+        out: &mut Room<TextEvent>,
+    )
+        requires { Fits out.old 3 }
         ensures stage { self.new ≡ token_stage self.old kind sort place }
-        ensures out { out.new ≡ added out.old (token_outs self.old.seen self.old.spot kind sort last) }
+        ensures out { out.new
+            ≡ extended_by out.old (events_of_token self.old.facts self.old.progress kind sort last) }
         ensures few { length out.new.items ≤ length out.old.items + 3 }
     {
-        let part = part_at(self.seen, self.spot, kind, sort, last);
+        let part = part_at(self.facts, self.progress, kind, sort, last);
         let blank = if is_piece(part) {
-            self.spot.blank
+            self.progress.blank
         } else {
             None
         };
-        give(out, piece_out(blank));
-        give(out, part_out(part));
-        give(
+        emit(out, piece_event(blank));
+        emit(out, part_event(part));
+        emit(
             out,
-            found_at(self.spot.place, code_at(self.seen, kind, sort)),
+            finding_event(self.progress.place, code_at(self.facts, kind, sort)),
         );
-        self.mode = Mode::Plain;
-        self.spot = spot_after(self.seen, self.spot, kind, sort, place);
-        self.seen = after(self.seen, kind, sort);
+        self.mode = TokenState::Plain;
+        self.progress = progress_after(self.facts, self.progress, kind, sort, place);
+        self.facts = facts_after(self.facts, kind, sort);
     }
 
     /// The token, if any, that ends before the character.
-    fn settle(&mut self, c: char, out: &mut Room<TextOut>)
-        requires { HasRoom out.old 3 }
+    fn settle(&mut self, c: char, out: &mut Room<TextEvent>)
+        requires { Fits out.old 3 }
         ensures stage { self.new ≡ settle_stage self.old c }
-        ensures out { out.new ≡ added out.old (settle_outs self.old c) }
+        ensures out { out.new ≡ extended_by out.old (events_of_settling self.old c) }
         ensures few { length out.new.items ≤ length out.old.items + 3 }
     {
-        if let Some(kind) = settled(self.mode, c) {
-            self.token(kind, Sort::Other, self.spot.next, self.spot.start, out);
+        if let Some(kind) = settled_kind(self.mode, c) {
+            self.token(
+                kind,
+                TagEffect::Other,
+                self.progress.next,
+                self.progress.start,
+                out,
+            );
         }
     }
 
     /// The character, which goes on with a token or begins one.
-    fn read(&mut self, c: char, out: &mut Room<TextOut>)
-        requires { HasRoom out.old 5 }
+    fn read(&mut self, c: char, out: &mut Room<TextEvent>)
+        requires { Fits out.old 5 }
         ensures stage { self.new ≡ read_stage self.old c }
-        ensures out { out.new ≡ added out.old (read_outs self.old c) }
+        ensures out { out.new ≡ extended_by out.old (events_of_reading self.old c) }
         ensures few { length out.new.items ≤ length out.old.items + 5 }
     {
-        let kept = keep(self.seen, self.mode, c);
-        let last = self.spot.kept;
-        give(
+        let kept = keep(self.facts, self.mode, c);
+        let last = self.progress.kept;
+        emit(
             out,
-            found_at(self.spot.place, early_at(self.seen, self.mode, c)),
+            finding_event(self.progress.place, early_at(self.facts, self.mode, c)),
         );
-        give(out, kept_at(self.spot.next, kept));
-        self.spot = spot_past(self.spot, c, kept);
-        match go(self.mode, c) {
-            Went::Stays(mode) => self.mode = mode,
-            Went::Ends(kind, sort) => self.token(kind, sort, self.spot.next, last, out),
+        emit(out, char_event(self.progress.next, kept));
+        self.progress = progress_past(self.progress, c, kept);
+        match next_step(self.mode, c) {
+            Step::Stays(mode) => self.mode = mode,
+            Step::Ends(kind, sort) => self.token(kind, sort, self.progress.next, last, out),
         }
     }
 
     /// The text ends.
-    fn end(&mut self, how: TextEnd, out: &mut Room<TextOut>)
-        requires { HasRoom out.old 4 }
+    fn end(&mut self, how: TextEnd, out: &mut Room<TextEvent>)
+        requires { Fits out.old 4 }
         ensures stage { self.new ≡ end_stage self.old }
-        ensures out { out.new ≡ added out.old (end_outs self.old.seen self.old.spot how) }
+        ensures out { out.new
+            ≡ extended_by out.old (events_of_end self.old.facts self.old.progress how) }
         ensures few { length out.new.items ≤ length out.old.items + 4 }
     {
-        let place = self.spot.next;
-        give(out, found_at(place, style_code(self.seen, how)));
-        give(out, found_at(place, centre_code(self.seen, how)));
-        give(out, centre_out(centre(self.spot)));
-        give(out, Some(TextOut::Ended(how)));
+        let place = self.progress.next;
+        emit(out, finding_event(place, style_code(self.facts, how)));
+        emit(out, finding_event(place, centre_code(self.facts, how)));
+        emit(out, centre_event(centre(self.progress)));
+        emit(out, Some(TextEvent::Ended(how)));
         self.done = true;
     }
 
     /// Takes a character.
-    pub(crate) fn take(&mut self, c: char, out: &mut Room<TextOut>)
-        requires { HasRoom out.old 8 }
+    pub(crate) fn take(&mut self, c: char, out: &mut Room<TextEvent>)
+        requires { Fits out.old 8 }
         ensures stage { self.new ≡ push_stage self.old c }
-        ensures out { out.new ≡ added out.old (push_outs self.old c) }
+        ensures out { out.new ≡ extended_by out.old (events_of_push self.old c) }
         ensures few { length out.new.items ≤ length out.old.items + 8 }
     {
         if !self.done {
@@ -454,10 +490,10 @@ impl TextStage {
     pub(crate) fn pass(&mut self, text: &str)
         requires raw { is_in_raw self.old ≡ true }
         requires no_ending { NonePass (λ c. c == 60) (chars text.now) }
-        ensures { self.new ≡ pushed self.old (chars text.now) }
+        ensures { self.new ≡ stage_past self.old (chars text.now) }
     {
         for c in text.chars() {
-            self.spot = spot_past(self.spot, c, Some(c));
+            self.progress = progress_past(self.progress, c, Some(c));
         }
     }
 
@@ -469,17 +505,23 @@ impl TextStage {
     }
 
     /// Ends the input.
-    pub(crate) fn stop(&mut self, out: &mut Room<TextOut>)
-        requires { HasRoom out.old 8 }
+    pub(crate) fn stop(&mut self, out: &mut Room<TextEvent>)
+        requires { Fits out.old 8 }
         ensures stage { self.new ≡ finish_stage self.old }
-        ensures out { out.new ≡ added out.old (finish_outs self.old) }
+        ensures out { out.new ≡ extended_by out.old (events_of_finish self.old) }
         ensures few { length out.new.items ≤ length out.old.items + 8 }
     {
         if !self.done {
-            let from = self.spot.place;
-            match at_end(self.mode) {
+            let from = self.progress.place;
+            match kind_at_end(self.mode) {
                 Some(kind) => {
-                    self.token(kind, Sort::Other, self.spot.next, self.spot.start, out);
+                    self.token(
+                        kind,
+                        TagEffect::Other,
+                        self.progress.next,
+                        self.progress.start,
+                        out,
+                    );
                     self.end(end_after(kind, from), out);
                 }
                 None => self.end(TextEnd::Finished, out),
@@ -489,11 +531,11 @@ impl TextStage {
 }
 
 /// How a text ends whose last token, which begins here, the end of the input ended.
-fn end_after(kind: Kind, from: Place) -> TextEnd
+fn end_after(kind: TokenKind, from: Place) -> TextEnd
     ensures { result ≡ end_by kind from }
 {
     match kind {
-        Kind::OpenTag | Kind::OpenTranslation => TextEnd::Cut(from),
+        TokenKind::OpenTag | TokenKind::OpenTranslation => TextEnd::Cut(from),
         _ => TextEnd::Finished,
     }
 }
@@ -501,9 +543,9 @@ fn end_after(kind: Kind, from: Place) -> TextEnd
 impl Stage for TextStage {
     type Input = Char;
 
-    type Output = TextOut;
+    type Output = TextEvent;
 
-    ghost rest = { λ s cs. rest_of s (codes_of cs) };
+    ghost rest = { λ s cs. events_left s (codes_of cs) };
 
     ghost most_of = { λ _. 8 };
 
@@ -513,11 +555,11 @@ impl Stage for TextStage {
         8
     }
 
-    fn push(&mut self, input: Char, out: &mut Room<TextOut>) {
+    fn push(&mut self, input: Char, out: &mut Room<TextEvent>) {
         self.take(input.c, out);
     }
 
-    fn finish(&mut self, out: &mut Room<TextOut>) {
+    fn finish(&mut self, out: &mut Room<TextEvent>) {
         self.stop(out);
     }
 }

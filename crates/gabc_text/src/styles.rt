@@ -1,7 +1,8 @@
 //! The styles of a text.
 
 ghost use Rattle.std.specs.Prelude.{◌≡◌};
-ghost use Rattle.gabc_text.specs.Machine.{has_lem, with_lem, is_empty_lem};
+ghost use Rattle.gabc_text.specs.TextFacts.{has_style, is_empty};
+ghost use Rattle.gabc_text.specs.machine.TextFacts.{with_style};
 
 /// The styles of a text, in the order in which they are printed (GregorioRef, "Syllable Text Syntax").
 #[derive(Clone, Copy, Debug, PartialEq, Eq)]
@@ -41,7 +42,7 @@ impl Styles {
 
     /// Returns whether `style` is open.
     pub fn has(self, style: Style) -> bool
-        ensures { result ≡ has_lem self style }
+        ensures { result ≡ has_style self style }
     {
         match style {
             Style::B => self.b,
@@ -56,7 +57,7 @@ impl Styles {
 
     /// The set with this style in it, or not.
     pub(crate) fn with(self, style: Style, is_open: bool) -> Styles
-        ensures { result ≡ with_lem self style is_open }
+        ensures { result ≡ with_style self style is_open }
     {
         match style {
             Style::B => Styles { b: is_open, ..self },
@@ -80,7 +81,7 @@ impl Styles {
 
     /// Returns whether no style is open.
     pub fn is_empty(self) -> bool
-        ensures { result ≡ is_empty_lem self }
+        ensures { result ≡ is_empty self }
     {
         !(self.b || self.c || self.e || self.i || self.sc || self.tt || self.ul)
     }

@@ -1,13 +1,13 @@
 //! The tokens of a text: the parts of its spelling that the rules speak of.
 
 ghost use Rattle.std.specs.Prelude.{◌≡◌};
-ghost use Rattle.gabc_text.specs.Mode.{is_special_lem, single_lem, is_blank_kind};
+ghost use Rattle.gabc_text.specs.machine.TokenState.{is_special_char, single_kind, is_blank_kind};
 
 use crate::styles::Style;
 
 /// What a token of the text is.
 #[derive(Clone, Copy)]
-pub enum Kind {
+pub enum TokenKind {
     /// A character that stands for itself, with its `$` if it has one.
     Letter,
     Blank,
@@ -35,7 +35,7 @@ pub enum RawKind {
 
 /// What a tag does.
 #[derive(Clone, Copy)]
-pub enum Sort {
+pub enum TagEffect {
     Opens(Style),
     Closes(Style),
     Mark,
@@ -44,7 +44,7 @@ pub enum Sort {
 }
 
 pub(crate) fn is_special(c: char) -> bool
-    ensures { result ≡ is_special_lem c }
+    ensures { result ≡ is_special_char c }
 {
     match c {
         '(' | ')' | '[' | ']' | '{' | '}' | '<' | '>' | '%' | '$' => true,
@@ -52,23 +52,23 @@ pub(crate) fn is_special(c: char) -> bool
     }
 }
 
-pub(crate) fn single(c: char) -> Kind
-    ensures { result ≡ single_lem c }
+pub(crate) fn single(c: char) -> TokenKind
+    ensures { result ≡ single_kind c }
 {
     match c {
-        ' ' | '\t' | '\n' => Kind::Blank,
-        ')' | ']' | '>' => Kind::Stray,
-        '{' => Kind::Begin,
-        '}' => Kind::End,
-        _ => Kind::Letter,
+        ' ' | '\t' | '\n' => TokenKind::Blank,
+        ')' | ']' | '>' => TokenKind::Stray,
+        '{' => TokenKind::Begin,
+        '}' => TokenKind::End,
+        _ => TokenKind::Letter,
     }
 }
 
-pub(crate) fn is_blank_kind(kind: Kind) -> bool
+pub(crate) fn is_blank_kind(kind: TokenKind) -> bool
     ensures { result ≡ is_blank_kind kind }
 {
     match kind {
-        Kind::Blank => true,
+        TokenKind::Blank => true,
         _ => false,
     }
 }

@@ -2,7 +2,7 @@
 
 ghost use Rattle.std.specs.Prelude.{◌≡◌, ◌↔◌, [], ◌∷◌, ◌++◌, length, IsTrue, OnOk, OnErr};
 ghost use Rattle.std.specs.Slice.Iter.{iter_rest};
-ghost use Rattle.gabc_text.specs.Told.{nothing_in_view, with_part};
+ghost use Rattle.gabc_text.specs.BuiltText.{empty_view, with_part};
 
 use crate::stage::TextPart;
 use crate::styles::Styles;
@@ -53,7 +53,7 @@ impl Default for Piece {
 
 /// How a text ends.
 #[derive(Clone, Copy, Debug, PartialEq, Eq)]
-pub enum How {
+pub enum TextEnding {
     /// At the `(` at this index, in bytes of the text.
     Notes(usize),
     /// At the end of the input.
@@ -152,7 +152,7 @@ pub struct TextView {
 impl TextView {
     /// Returns a view that says nothing.
     pub fn new(alloc: Global) -> TextView
-        ensures { result ≡ nothing_in_view }
+        ensures { result ≡ empty_view }
     {
         TextView {
             word_start: false,

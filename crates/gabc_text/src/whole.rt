@@ -3,13 +3,14 @@
 ghost use Rattle.std.specs.Prelude.{◌≡◌, ◌==◌, ◌+◌, ◌^◌, ◌<◌, [], length, take, true, IfOk, OnOk, string_bytes};
 ghost use Rattle.std.specs.Str.{chars, NonePass};
 ghost use Rattle.gabc_text.specs.Token.{before_first};
-ghost use Rattle.gabc_text.specs.Raw.{pushed, given, is_in_raw};
-ghost use Rattle.gabc_text.specs.Told.{told_of, with_out, told_after, nothing_told, how_of_end};
-ghost use Rattle.gabc_text.specs.Read.{IsRead};
-ghost use Rattle.gabc_text.specs.Step.{push_stage, push_outs, finish_outs};
+ghost use Rattle.gabc_text.specs.machine.RawPart.{stage_past, events_of_pushes, is_in_raw};
+ghost use Rattle.gabc_text.specs.machine.BuiltText.{built_text_of, ending_of};
+ghost use Rattle.gabc_text.specs.BuiltText.{with_event, with_events, empty_text};
+ghost use Rattle.gabc_text.specs.TextRead.{IsTextRead};
+ghost use Rattle.gabc_text.specs.machine.TextStage.{push_stage, events_of_push, events_of_finish};
 
-use crate::stage::{TextEnd, TextOut, TextStage};
-use crate::view::{How, TextView};
+use crate::stage::{TextEnd, TextEvent, TextStage};
+use crate::view::{TextEnding, TextView};
 use gabc_places::{Findings, Place, Room};
 use memchr::memchr;
 use std::alloc::{AllocError, Global};
@@ -21,23 +22,23 @@ pub struct TextRead {
     /// The text without comments and what was left out, each run of blanks as one U+0020. Spans count its bytes.
     pub kept: String,
     pub findings: Findings,
-    pub how: How,
+    pub how: TextEnding,
 }
 
 /// What was read so far.
 #[derive(Drop)]
-struct Reading {
+struct TextBuilder {
     kept: String,
     view: TextView,
     findings: Findings,
     end: TextEnd,
 }
 
-impl Reading {
-    fn new(alloc: Global) -> Reading
-        ensures { told_of result ≡ nothing_told }
+impl TextBuilder {
+    fn new(alloc: Global) -> TextBuilder
+        ensures { built_text_of result ≡ empty_text }
     {
-        Reading {
+        TextBuilder {
             kept: String::new(alloc),
             view: TextView::new(alloc),
             findings: Findings::new(alloc),
@@ -46,24 +47,25 @@ impl Reading {
     }
 
     /// Adds what the machine gave.
-    fn add(&mut self, out: TextOut) -> Result<(), AllocError>
-        ensures { OnOk result (told_of self.new ≡ with_out (told_of self.old) out) }
+    fn add(&mut self, event: TextEvent) -> Result<(), AllocError>
+        ensures { OnOk result (built_text_of self.new ≡ with_event (built_text_of self.old) event) }
     {
-        match out {
-            TextOut::Kept(kept) => self.kept.push(kept.c)?,
-            TextOut::Part(part) => self.view.add(part)?,
-            TextOut::Found(finding) => self.findings.push(finding)?,
-            TextOut::Ended(end) => self.end = end,
+        match event {
+            TextEvent::Kept(kept) => self.kept.push(kept.c)?,
+            TextEvent::Part(part) => self.view.add(part)?,
+            TextEvent::Found(finding) => self.findings.push(finding)?,
+            TextEvent::Ended(end) => self.end = end,
         }
         Ok(())
     }
 
     /// Adds all that the machine gave.
-    fn add_all(&mut self, outs: &[TextOut]) -> Result<(), AllocError>
-        ensures { OnOk result (told_of self.new ≡ told_after (told_of self.old) outs.now) }
+    fn add_all(&mut self, events: &[TextEvent]) -> Result<(), AllocError>
+        ensures { OnOk result (built_text_of self.new
+            ≡ with_events (built_text_of self.old) events.now) }
     {
-        for out in outs {
-            self.add(*out)?;
+        for event in events {
+            self.add(*event)?;
         }
         Ok(())
     }
@@ -73,11 +75,12 @@ impl Reading {
         &mut self,
         stage: &mut TextStage,
         c: char,
-        room: &mut Room<TextOut>,
+        room: &mut Room<TextEvent>,
     ) -> Result<(), AllocError>
         requires { room.old ≡ record { items = []; limit = 8 } }
         ensures stage { stage.new ≡ push_stage stage.old c }
-        ensures told { OnOk result (told_of self.new ≡ told_after (told_of self.old) (push_outs stage.old c)) }
+        ensures events { OnOk result (built_text_of self.new
+            ≡ with_events (built_text_of self.old) (events_of_push stage.old c)) }
         ensures room { OnOk result (room.new ≡ record { items = []; limit = 8 }) }
     {
         stage.take(c, room);
@@ -91,30 +94,32 @@ impl Reading {
     fn pass(&mut self, stage: &mut TextStage, text: &str) -> Result<(), AllocError>
         requires raw { is_in_raw stage.old ≡ true }
         requires no_ending { NonePass (λ c. c == 60) (chars text.now) }
-        ensures stage { stage.new ≡ pushed stage.old (chars text.now) }
-        ensures told { OnOk result (told_of self.new ≡ told_after (told_of self.old) (given stage.old (chars text.now))) }
+        ensures stage { stage.new ≡ stage_past stage.old (chars text.now) }
+        ensures events { OnOk result (built_text_of self.new
+            ≡ with_events (built_text_of self.old) (events_of_pushes stage.old (chars text.now))) }
     {
         stage.pass(text);
         self.kept.push_str(text)
     }
 
     /// Ends the machine, and adds what it gives.
-    fn close(&mut self, stage: &mut TextStage, room: &mut Room<TextOut>) -> Result<(), AllocError>
+    fn close(&mut self, stage: &mut TextStage, room: &mut Room<TextEvent>) -> Result<(), AllocError>
         requires { room.old ≡ record { items = []; limit = 8 } }
-        ensures { OnOk result (told_of self.new ≡ told_after (told_of self.old) (finish_outs stage.old)) }
+        ensures { OnOk result (built_text_of self.new
+            ≡ with_events (built_text_of self.old) (events_of_finish stage.old)) }
     {
         stage.stop(room);
         self.add_all(room.slice())
     }
 
     /// What was read, of a text that ends like this.
-    fn ended(self, how: How) -> TextRead
+    fn into_read(self, how: TextEnding) -> TextRead
         ensures kept { string_bytes result.kept ≡ string_bytes self.kept }
         ensures view { result.view ≡ self.view }
         ensures findings { result.findings ≡ self.findings }
         ensures how { result.how ≡ how }
     {
-        let Reading {
+        let TextBuilder {
             kept,
             view,
             findings,
@@ -130,19 +135,19 @@ impl Reading {
 }
 
 /// How a text ends behind so many bytes.
-fn how_of(end: TextEnd, index: usize) -> How
-    ensures { result ≡ how_of_end end index }
+fn ending_of(end: TextEnd, index: usize) -> TextEnding
+    ensures { result ≡ ending_of end index }
 {
     match end {
-        TextEnd::Notes => How::Notes(index),
-        TextEnd::Finished => How::Finished,
-        TextEnd::Cut(place) => How::Cut(place),
+        TextEnd::Notes => TextEnding::Notes(index),
+        TextEnd::Finished => TextEnding::Finished,
+        TextEnd::Cut(place) => TextEnding::Cut(place),
     }
 }
 
 /// The text before its first `<`, or all of it.
 fn before_tag(text: &str) -> &str
-    ensures front { chars result.now ≡ before_first 60 (chars text.now) }
+    ensures prefix { chars result.now ≡ before_first 60 (chars text.now) }
     ensures begins { result.now ≡ take (length result.now) text.now }
 {
     match memchr(b'<', text.as_bytes()) {
@@ -156,28 +161,28 @@ fn before_tag(text: &str) -> &str
 pub fn text_whole(alloc: Global, body: &str, at: Place) -> Result<TextRead, AllocError>
     requires line { at.line + length body.now < 2 ^ 64 }
     requires column { at.column + length body.now < 2 ^ 64 }
-    ensures { IfOk result (λ read. IsRead at (chars body.now) read) }
+    ensures { IfOk result (λ read. IsTextRead at (chars body.now) read) }
 {
     let mut room = Room::with_limit(alloc, 8)?;
-    let mut reading = Reading::new(alloc);
+    let mut builder = TextBuilder::new(alloc);
     let mut stage = TextStage::new(at);
     let mut rest = body;
     while let Some(c) = rest.chars().next() {
         if c != '<' && stage.is_in_raw() {
             // None of these characters begins the ending of the raw part.
             let raw = before_tag(rest);
-            reading.pass(&mut stage, raw)?;
+            builder.pass(&mut stage, raw)?;
             rest = &rest[raw.len()..];
         } else {
-            reading.feed(&mut stage, c, &mut room)?;
+            builder.feed(&mut stage, c, &mut room)?;
             if stage.is_done() {
-                let how = how_of(reading.end, body.len() - rest.len());
-                return Ok(reading.ended(how));
+                let how = ending_of(builder.end, body.len() - rest.len());
+                return Ok(builder.into_read(how));
             }
             rest = &rest[c.len_utf8()..];
         }
     }
-    reading.close(&mut stage, &mut room)?;
-    let how = how_of(reading.end, body.len());
-    Ok(reading.ended(how))
+    builder.close(&mut stage, &mut room)?;
+    let how = ending_of(builder.end, body.len());
+    Ok(builder.into_read(how))
 }

@@ -8,7 +8,7 @@ use Rattle.std.proofs.lemmas.List.{take_all}
 use lib.Utf8.{encode, encodes}
 use Rattle.gabc_headers.specs.Lines.{lines}
 use Rattle.gabc_headers.specs.Canonical.{header_line, header_lines, canonical_heads, printed_value, wants_lines}
-use Rattle.gabc_write.specs.Frame.{before_value, after_value, header_text}
+use Rattle.gabc_write.specs.machine.HeaderText.{before_value, after_value, header_text}
 
 pieces : (name a b w d : List ℕ) → encodes ((name ++ a) ++ ((b ++ w) ++ d)) ≡ encodes name ++ ((encodes a ++ encodes b) ++ (encodes w ++ encodes d))
 pieces name a b w d = simp (encodes-append, append_assoc)

@@ -1,3 +1,3 @@
 pub mod HeaderBytes
-pub mod Rooms
-pub mod Snippets
+pub mod RoomsFilledInParts
+pub mod SnippetsWithBars

@@ -1,3 +1,2 @@
-pub mod Frame
+pub mod machine
 pub mod Message
-pub mod Notes

@@ -3,7 +3,7 @@
 ghost use Rattle.std.specs.Prelude.{◌≡◌, ◌++◌, ◌+◌, ◌≤◌, length, codes};
 ghost use Rattle.std.specs.Fmt.{decimal};
 ghost use Rattle.gabc_places.specs.Code.{name_of, text_of};
-ghost use Rattle.gabc_places.specs.Held.{HasRoom, added};
+ghost use Rattle.gabc_places.specs.BoundedList.{Fits, extended_by};
 ghost use Rattle.gabc_places.specs.Message.{place_text, code_text};
 ghost use Rattle.gabc_write.specs.Message.{line_of};
 
@@ -21,8 +21,8 @@ fn digits_len(number: u64) -> usize
 
 /// Appends `number` in decimal digits, and `behind`.
 fn add_number(number: u64, behind: &str, out: &mut Room<u8>)
-    requires { HasRoom out.old (length (decimal number ++ behind.now)) }
-    ensures { out.new ≡ added out.old (decimal number ++ behind.now) }
+    requires { Fits out.old (length (decimal number ++ behind.now)) }
+    ensures { out.new ≡ extended_by out.old (decimal number ++ behind.now) }
 {
     out.append(Buffer::new().format(number).as_bytes());
     out.append(behind.as_bytes());
@@ -57,8 +57,8 @@ pub fn message_len(name: &str, place: Place, code: Code) -> usize
 
 /// Appends `LINE:COLUMN: `.
 fn add_place(place: Place, out: &mut Room<u8>)
-    requires { HasRoom out.old (length (place_text place ++ codes ": ")) }
-    ensures { out.new ≡ added out.old (place_text place ++ codes ": ") }
+    requires { Fits out.old (length (place_text place ++ codes ": ")) }
+    ensures { out.new ≡ extended_by out.old (place_text place ++ codes ": ") }
 {
     add_number(place.line, ":", out);
     add_number(place.column, ": ", out);
@@ -66,8 +66,8 @@ fn add_place(place: Place, out: &mut Room<u8>)
 
 /// Appends `KIND: CODE: TEXT` and LF.
 fn add_words(code: Code, out: &mut Room<u8>)
-    requires { HasRoom out.old (length (code_text code ++ codes "\n")) }
-    ensures { out.new ≡ added out.old (code_text code ++ codes "\n") }
+    requires { Fits out.old (length (code_text code ++ codes "\n")) }
+    ensures { out.new ≡ extended_by out.old (code_text code ++ codes "\n") }
 {
     add_both(code.severity().as_str(), ": ", out);
     add_both(code.name(), ": ", out);
@@ -76,8 +76,8 @@ fn add_words(code: Code, out: &mut Room<u8>)
 
 /// Appends the line that tells `code` at `place` of the input `name`: `NAME:LINE:COLUMN: KIND: CODE: TEXT` and LF.
 pub fn message_line(name: &str, place: Place, code: Code, out: &mut Room<u8>)
-    requires { HasRoom out.old (length (line_of name.now place code)) }
-    ensures { out.new ≡ added out.old (line_of name.now place code) }
+    requires { Fits out.old (length (line_of name.now place code)) }
+    ensures { out.new ≡ extended_by out.old (line_of name.now place code) }
 {
     add_both(name, ":", out);
     add_place(place, out);

@@ -1,4 +1,4 @@
-pub mod Compiles
 pub mod Outcome
-pub mod Reads
+pub mod Run
+pub mod SourceBytes
 pub mod Status

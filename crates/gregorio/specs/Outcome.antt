@@ -9,13 +9,13 @@ use Rattle.gabc_places.specs.declared.code.Fault.{Fault}
 use Rattle.gabc_places.specs.Code.{severity_of}
 use Rattle.gabc_places.specs.Text.{decoded_of}
 use Rattle.gabc_headers.specs.Canonical.{canonical_heads}
-use Rattle.gabc_score.specs.declared.ending.Ending as score
-use Rattle.gabc_score.specs.declared.ending.Ending.TheVariants as score_ending
-use Rattle.gabc_score.specs.Syllable.{Said}
+use Rattle.gabc_score.specs.declared.ending.InputEnding as score
+use Rattle.gabc_score.specs.declared.ending.InputEnding.TheVariants as score_ending
+use Rattle.gabc_score.specs.Syllable.{PlacedSyllable}
 use Rattle.gabc_score.specs.Canonical.{canonical, starts_word}
 use Rattle.gabc_score.specs.Score.{score_of}
-use Rattle.gregorio.specs.declared.given.Ending.{Ending}
-use Rattle.gregorio.specs.declared.given.Ending.TheVariants.{Whole as Ended, Broken}
+use Rattle.gregorio.specs.declared.source_bytes.SourceEnding.{SourceEnding}
+use Rattle.gregorio.specs.declared.source_bytes.SourceEnding.TheVariants.{Whole as Ended, Broken}
 use Rattle.gregorio.specs.declared.job.Input.{Input}
 use Rattle.gregorio.specs.declared.job.Input.TheVariants.{Stdin, File}
 use Rattle.gregorio.specs.declared.job.Job.{Job}
@@ -26,22 +26,22 @@ use Rattle.gabc_write.specs.Message.{line_of}
 
 -- ---- the outcome
 
-abbrev pub is_whole : Ending → Bool
+abbrev pub is_whole : SourceEnding → Bool
 is_whole Ended = true
 is_whole Broken = false
 
 -- how the text ended: at the fault that stopped it, or else as the source did
-abbrev pub ending_by : Ending → Option Fault → score.Ending
+abbrev pub ending_by : SourceEnding → Option Fault → score.InputEnding
 ending_by ending (Some fault) = score_ending.At fault
 ending_by Broken None = score_ending.Broken
 ending_by Ended None = score_ending.Whole
 
 -- the source failed, and no fault stops the run
-abbrev pub is_cut_short : Ending → Option Fault → Bool
+abbrev pub is_cut_short : SourceEnding → Option Fault → Bool
 is_cut_short Broken None = true
 is_cut_short ending fault = false
 
-abbrev pub outcome_of : Limits → Ending → List ℕ → Outcome
+abbrev pub outcome_of : Limits → SourceEnding → List ℕ → Outcome
 outcome_of limits ending bytes =
     let decoded = decoded_of limits (is_whole ending) bytes in
     let score = score_of limits (ending_by ending decoded.fault) decoded.text in
@@ -50,15 +50,15 @@ outcome_of limits ending bytes =
 -- ---- what is written
 
 -- the canonical texts of the syllables
-abbrev pub canonical_text_of : List Said → List ℕ
-canonical_text_of syllables = flat_map (λ (s : Said). canonical (starts_word s.position) s.made) syllables
+abbrev pub canonical_text_of : List PlacedSyllable → List ℕ
+canonical_text_of syllables = flat_map (λ (s : PlacedSyllable). canonical (starts_word s.position) s.made) syllables
 
 -- the header lines, `%%`, the syllables and LF
-abbrev pub score_text : List (List ℕ × List ℕ) → List Said → List ℕ
+abbrev pub score_text : List (List ℕ × List ℕ) → List PlacedSyllable → List ℕ
 score_text book syllables = encode_utf8_all (canonical_heads book) ++ (canonical_text_of syllables ++ codes "\n")
 
 -- the canonical file; nothing, where the headers are not whole
-abbrev pub canonical_file : Option (List (List ℕ × List ℕ)) → List Said → List ℕ
+abbrev pub canonical_file : Option (List (List ℕ × List ℕ)) → List PlacedSyllable → List ℕ
 canonical_file None syllables = []
 canonical_file (Some book) syllables = score_text book syllables
 

@@ -2,12 +2,12 @@
 
 ghost use Rattle.std.specs.Prelude.{◌≡◌, ◌-◌, ◌^◌, min, length};
 ghost use Rattle.std.specs.List.{flat_map, list_any};
-ghost use Rattle.gabc_places.specs.Held.{HasRoom, added};
+ghost use Rattle.gabc_places.specs.BoundedList.{Fits, extended_by};
 ghost use Rattle.gregorio.specs.Outcome.{messages_of, status_of as status_of_outcome, input_name as name_of_input, is_shown as shown, shown_line, fault_line, is_error_finding};
 
 use crate::job::{Input, Job, Status};
 use crate::outcome::Outcome;
-use gabc_places::{Fault, Finding, Severity, Room};
+use gabc_places::{Fault, Finding, Room, Severity};
 use gabc_write::{message_len, message_line};
 
 /// What messages call the input.
@@ -40,7 +40,8 @@ fn finding_len(name: &str, all_warnings: bool, finding: Finding) -> usize
 
 /// The number of bytes of the lines of the findings that are written; or the last value, if that is less.
 fn findings_len(name: &str, all_warnings: bool, findings: &[Finding]) -> usize
-    ensures { result ≡ min (length (flat_map (shown_line name.now all_warnings) findings.now)) (2 ^ 64 - 1) }
+    ensures { result ≡ min (length (flat_map (shown_line name.now all_warnings) findings.now))
+        (2 ^ 64 - 1) }
 {
     let mut len: usize = 0;
     for finding in findings {
@@ -73,8 +74,8 @@ pub(crate) fn messages_len(job: &Job, outcome: &Outcome) -> usize
 
 /// Adds the line of a finding, if it is written.
 fn add_finding(name: &str, all_warnings: bool, finding: Finding, out: &mut Room<u8>)
-    requires { HasRoom out.old (length (shown_line name.now all_warnings finding)) }
-    ensures { out.new ≡ added out.old (shown_line name.now all_warnings finding) }
+    requires { Fits out.old (length (shown_line name.now all_warnings finding)) }
+    ensures { out.new ≡ extended_by out.old (shown_line name.now all_warnings finding) }
 {
     if is_shown(all_warnings, finding) {
         message_line(name, finding.place, finding.code, out);
@@ -83,8 +84,9 @@ fn add_finding(name: &str, all_warnings: bool, finding: Finding, out: &mut Room<
 
 /// Adds the lines of the findings that are written.
 fn add_findings(name: &str, all_warnings: bool, findings: &[Finding], out: &mut Room<u8>)
-    requires { HasRoom out.old (length (flat_map (shown_line name.now all_warnings) findings.now)) }
-    ensures { out.new ≡ added out.old (flat_map (shown_line name.now all_warnings) findings.now) }
+    requires { Fits out.old (length (flat_map (shown_line name.now all_warnings) findings.now)) }
+    ensures { out.new
+        ≡ extended_by out.old (flat_map (shown_line name.now all_warnings) findings.now) }
 {
     for finding in findings {
         add_finding(name, all_warnings, *finding, out);
@@ -93,8 +95,8 @@ fn add_findings(name: &str, all_warnings: bool, findings: &[Finding], out: &mut 
 
 /// Adds the line of the fatal fault, if there is one.
 fn add_fault(name: &str, fault: Option<Fault>, out: &mut Room<u8>)
-    requires { HasRoom out.old (length (fault_line name.now fault)) }
-    ensures { out.new ≡ added out.old (fault_line name.now fault) }
+    requires { Fits out.old (length (fault_line name.now fault)) }
+    ensures { out.new ≡ extended_by out.old (fault_line name.now fault) }
 {
     if let Some(fault) = fault {
         message_line(name, fault.place, fault.code, out);
@@ -103,8 +105,8 @@ fn add_fault(name: &str, fault: Option<Fault>, out: &mut Room<u8>)
 
 /// Adds the lines of the findings, and last that of the fatal fault.
 pub(crate) fn add_messages(job: &Job, outcome: &Outcome, out: &mut Room<u8>)
-    requires { HasRoom out.old (length (messages_of job.now outcome.now)) }
-    ensures { out.new ≡ added out.old (messages_of job.now outcome.now) }
+    requires { Fits out.old (length (messages_of job.now outcome.now)) }
+    ensures { out.new ≡ extended_by out.old (messages_of job.now outcome.now) }
 {
     let name = input_name(&job.input);
     let findings = outcome.score.findings.as_slice();
@@ -116,7 +118,9 @@ pub(crate) fn add_messages(job: &Job, outcome: &Outcome, out: &mut Room<u8>)
 fn has_errors(findings: &[Finding]) -> bool
     ensures { result ≡ list_any is_error_finding findings.now }
 {
-    findings.iter().any(|f| f.code.severity() == Severity::Error)
+    findings
+        .iter()
+        .any(|f| f.code.severity() == Severity::Error)
 }
 
 /// How a run with this outcome ends.

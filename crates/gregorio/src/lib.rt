@@ -14,14 +14,14 @@
 
 mod canonical;
 mod findings;
-mod given;
 mod job;
 mod name;
 mod outcome;
 mod read_all;
 mod run;
+mod source_bytes;
 
-pub use given::Ending;
 pub use job::{Format, Input, Job, Output, Status};
 pub use name::Name;
 pub use run::compile;
+pub use source_bytes::SourceEnding;

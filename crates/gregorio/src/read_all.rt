@@ -1,9 +1,9 @@
 //! Reading a source.
 
 ghost use Rattle.std.specs.Prelude.{◌≡◌, ◌≤◌, IfOk, OnErr};
-ghost use Rattle.gregorio.specs.Reads.{Reads, Takes};
+ghost use Rattle.gregorio.specs.SourceBytes.{ReadsSource, TakesSource};
 
-use crate::given::{Ending, Given};
+use crate::source_bytes::{SourceBytes, SourceEnding};
 use gabc_places::Source;
 use std::alloc::{AllocError, Global};
 
@@ -15,9 +15,11 @@ pub(crate) fn read_all<S: Source>(
     alloc: Global,
     source: &mut S,
     limit: u32,
-) -> Result<Given, AllocError>
-    ensures took { OnErr result (Takes (S.remaining source.old) (S.remaining source.new) limit) }
-    ensures read { IfOk result (λ g. Reads (S.remaining source.old) (S.remaining source.new) (S.failures source.old) (S.failures source.new) limit g.bytes.items g.ending) }
+) -> Result<SourceBytes, AllocError>
+    ensures took { OnErr result (TakesSource (S.remaining source.old)
+        (S.remaining source.new) limit) }
+    ensures read { IfOk result (λ g. ReadsSource (S.remaining source.old) (S.remaining source.new)
+        (S.failures source.old) (S.failures source.new) limit g.bytes.items g.ending) }
 {
     let most = limit as usize + 1;
     let mut bytes = Vec::new(alloc);
@@ -29,15 +31,15 @@ pub(crate) fn read_all<S: Source>(
             Ok(0) => break,
             Ok(n) => bytes.extend_from_slice(&piece[..n])?,
             Err(_) => {
-                return Ok(Given {
+                return Ok(SourceBytes {
                     bytes,
-                    ending: Ending::Broken,
+                    ending: SourceEnding::Broken,
                 });
             }
         }
     }
-    Ok(Given {
+    Ok(SourceBytes {
         bytes,
-        ending: Ending::Whole,
+        ending: SourceEnding::Whole,
     })
 }

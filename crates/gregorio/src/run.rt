@@ -2,55 +2,57 @@
 
 ghost use Rattle.std.specs.Prelude.{◌≡◌, ◌≢◌, ◌-◌, ◌^◌, ◌<◌, ◌⊎◌, [], IfOk};
 ghost use Rattle.gregorio.specs.declared.job.Status.TheVariants.{ReadFault, WriteFault};
-ghost use Rattle.gregorio.specs.Compiles.{Compiles, Use};
+ghost use Rattle.gregorio.specs.Run.{Compiles, Use};
 ghost use Rattle.gregorio.specs.Outcome.{outcome_of as outcome_of_bytes, ending_by, is_cut_short as cut_short, canonical_file, messages_of};
 
 use crate::canonical::{add_file, file_len};
 use crate::findings::{add_messages, messages_len, status_of};
-use crate::given::{Ending, Given};
 use crate::job::{Job, Status};
 use crate::outcome::Outcome;
 use crate::read_all::read_all;
+use crate::source_bytes::{SourceBytes, SourceEnding};
 use gabc_places::{Fault, Limits, Room, Sink, Source, send_all, text_of};
 use gabc_score::{Score, score_whole};
 use std::alloc::{AllocError, Global};
 
 /// How a text ended: at the fault that stopped it, or else as the source did.
-fn ending_of(ending: Ending, fault: Option<Fault>) -> gabc_score::Ending
+fn ending_of(ending: SourceEnding, fault: Option<Fault>) -> gabc_score::InputEnding
     ensures { result ≡ ending_by ending fault }
 {
     match (fault, ending) {
-        (Some(fault), _) => gabc_score::Ending::At(fault),
-        (None, Ending::Broken) => gabc_score::Ending::Broken,
-        (None, Ending::Whole) => gabc_score::Ending::Whole,
+        (Some(fault), _) => gabc_score::InputEnding::At(fault),
+        (None, SourceEnding::Broken) => gabc_score::InputEnding::Broken,
+        (None, SourceEnding::Whole) => gabc_score::InputEnding::Whole,
     }
 }
 
 /// Whether the source failed, and no fault stops the run.
-fn is_cut_short(ending: Ending, fault: Option<Fault>) -> bool
+fn is_cut_short(ending: SourceEnding, fault: Option<Fault>) -> bool
     ensures { result ≡ cut_short ending fault }
 {
     match (fault, ending) {
-        (None, Ending::Broken) => true,
+        (None, SourceEnding::Broken) => true,
         _ => false,
     }
 }
 
 /// What is made of an input.
-fn outcome_of(alloc: Global, given: &Given, limits: Limits) -> Result<Outcome, AllocError>
-    ensures { IfOk result (λ outcome. outcome ≡ outcome_of_bytes limits given.now.ending given.now.bytes.items) }
+fn outcome_of(alloc: Global, source: &SourceBytes, limits: Limits) -> Result<Outcome, AllocError>
+    ensures { IfOk result (λ outcome. outcome
+        ≡ outcome_of_bytes limits source.now.ending source.now.bytes.items) }
 {
-    let ended = given.ending == Ending::Whole;
-    let decoded = text_of(alloc, given.bytes.as_slice(), ended, limits)?;
-    let ending = ending_of(given.ending, decoded.fault);
+    let ended = source.ending == SourceEnding::Whole;
+    let decoded = text_of(alloc, source.bytes.as_slice(), ended, limits)?;
+    let ending = ending_of(source.ending, decoded.fault);
     let score = score_whole(alloc, &decoded.text, ending, limits)?;
-    let broken = is_cut_short(given.ending, score.fault);
+    let broken = is_cut_short(source.ending, score.fault);
     Ok(Outcome { score, broken })
 }
 
 /// Room for so many bytes. No memory has as many as the largest number tells.
 fn room_for(alloc: Global, len: usize) -> Result<Room<u8>, AllocError>
-    ensures { IfOk result (λ room. (room ≡ record { items = []; limit = len }) × (len < 2 ^ 64 - 1)) }
+    ensures { IfOk result (λ room. (room ≡ record { items = []; limit = len }) ×
+        (len < 2 ^ 64 - 1)) }
 {
     if len == usize::MAX {
         return Err(AllocError);
@@ -95,25 +97,28 @@ pub fn compile<S: Source, O: Sink, M: Sink>(
         (record { old = O.written out.old; new = O.written out.new; failed_old = O.failures out.old; failed_new = O.failures out.new })
         (record { old = M.written messages.old; new = M.written messages.new; failed_old = M.failures messages.old; failed_new = M.failures messages.new }) result }
     ensures read_fault { result ≡ ReadFault → S.failures source.old < S.failures source.new }
-    ensures write_fault { result ≡ WriteFault → (O.failures out.old < O.failures out.new) ⊎ (M.failures messages.old < M.failures messages.new) }
-    ensures steady { result ≢ WriteFault → (O.failures out.new ≡ O.failures out.old) × (M.failures messages.new ≡ M.failures messages.old) }
+    ensures write_fault { result ≡ WriteFault →
+        (O.failures out.old < O.failures out.new)
+        ⊎ (M.failures messages.old < M.failures messages.new) }
+    ensures steady { result ≢ WriteFault → (O.failures out.new ≡ O.failures out.old) ×
+        (M.failures messages.new ≡ M.failures messages.old) }
 {
-    let Ok(given) = read_all(alloc, source, limits.input) else {
+    let Ok(bytes) = read_all(alloc, source, limits.input) else {
         return Status::NoMemory;
     };
-    let Ok(outcome) = outcome_of(alloc, &given, limits) else {
+    let Ok(outcome) = outcome_of(alloc, &bytes, limits) else {
         return Status::NoMemory;
     };
     let Ok(output) = output_room(alloc, &outcome.score) else {
         return Status::NoMemory;
     };
-    let Ok(told) = messages_room(alloc, job, &outcome) else {
+    let Ok(lines) = messages_room(alloc, job, &outcome) else {
         return Status::NoMemory;
     };
     if let Err(_) = send_all(out, output.slice()) {
         return Status::WriteFault;
     }
-    if let Err(_) = send_all(messages, told.slice()) {
+    if let Err(_) = send_all(messages, lines.slice()) {
         return Status::WriteFault;
     }
     status_of(&outcome)

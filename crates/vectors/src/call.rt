@@ -3,7 +3,7 @@
 use crate::row::{limits_of, unescaped};
 use crate::{nabc, notes, scores, texts, writes};
 use gabc_places::{Code, Fault, Limits, Place};
-use gabc_score::Ending;
+use gabc_score::InputEnding;
 use std::alloc::{AllocError, Global};
 
 /// The codes that rows name.
@@ -29,14 +29,14 @@ fn place_of(column: &str) -> Option<Place> {
 }
 
 /// Returns the ending of a column: `whole`, `broken`, or a fault as `CODE@LINE:COLUMN`.
-fn ending_of(column: &str) -> Option<Ending> {
+fn ending_of(column: &str) -> Option<InputEnding> {
     match column {
-        "whole" => return Some(Ending::Whole),
-        "broken" => return Some(Ending::Broken),
+        "whole" => return Some(InputEnding::Whole),
+        "broken" => return Some(InputEnding::Broken),
         _ => {}
     }
     let (code, place) = column.split_once('@')?;
-    Some(Ending::At(Fault {
+    Some(InputEnding::At(Fault {
         place: place_of(place)?,
         code: code_of(code)?,
     }))

@@ -1,6 +1,6 @@
 //! Rows of NABC snippets.
 
-use crate::show::{show_findings, show_note_event, show_snippet_how};
+use crate::show::{show, show_findings, show_note_event, show_snippet_how, show_spelled};
 use gabc_nabc::{
     Descriptor, NabcStage, codes_into, descriptors_into, descriptors_whole, is_nabc, nabc_whole,
     name_of,
@@ -11,7 +11,8 @@ use std::alloc::{AllocError, Global};
 /// Prints the kept text, the end and the findings of a snippet.
 fn answer_snippet(alloc: Global, input: &str, out: &mut String) -> Result<(), AllocError> {
     let read = nabc_whole(alloc, input, Place::START)?;
-    write!(out, "{}\t", read.kept)?;
+    out.push_str(read.kept.as_str())?;
+    out.push('\t')?;
     show_snippet_how(read.how, out)?;
     out.push('\t')?;
     show_findings(read.findings.as_slice(), out)
@@ -28,11 +29,14 @@ fn answer_descriptors(alloc: Global, input: &str, out: &mut String) -> Result<()
     if room.slice() != parts.as_slice() {
         return out.push_str("the calls differ");
     }
-    write!(out, "{}", parts.len())?;
+    show(&parts.len(), out)?;
     for part in parts.as_slice() {
-        let kind = if part.space { "space" } else { "descriptor" };
-        let spelled = input.get(part.span.from..part.span.to).unwrap_or("no text");
-        write!(out, "\t{kind} {spelled}")?;
+        out.push_str(if part.space {
+            "\tspace "
+        } else {
+            "\tdescriptor "
+        })?;
+        show_spelled(input, part.span, out)?;
     }
     Ok(())
 }
@@ -50,10 +54,13 @@ fn answer_codes(
     let mut room = Room::with_limit(alloc, span.to - span.from)?;
     let space = false;
     codes_into(input, Descriptor { space, span }, &mut room);
-    write!(out, "{}", room.slice().len())?;
+    show(&room.slice().len(), out)?;
     for code in room.slice() {
-        let name = code.name().unwrap_or("none");
-        write!(out, "\t{}{} {name}", code.first, code.second)?;
+        out.push('\t')?;
+        out.push(code.first)?;
+        out.push(code.second)?;
+        out.push(' ')?;
+        out.push_str(code.name().unwrap_or("none"))?;
     }
     Ok(())
 }
@@ -61,7 +68,7 @@ fn answer_codes(
 /// Prints how many events a stage gives for a character at most, and those that it gives of the snippet.
 fn answer_events(alloc: Global, input: &str, out: &mut String) -> Result<(), AllocError> {
     let mut stage = NabcStage::new();
-    write!(out, "{}", stage.most())?;
+    show(&stage.most(), out)?;
     let events = outputs_of(alloc, &mut stage, input, Place::START)?;
     for event in events.as_slice() {
         out.push('\t')?;

@@ -1,16 +1,13 @@
 //! Rows of snippets of notes.
 
-use crate::show::{show_findings, show_note_event, show_snippet_how, show_span};
+use crate::show::{
+    show, show_debug, show_findings, show_note_event, show_snippet_how, show_span, show_spelled,
+};
 use gabc_notes::{
     Item, ItemKind, NoteStage, is_snippet, items_into, items_whole, note_of, snippet_whole,
 };
 use gabc_places::{Place, Room, Span, Stage, outputs_of};
 use std::alloc::{AllocError, Global};
-
-/// Returns the spelling of a span of a text.
-fn spelled(text: &str, span: Span) -> &str {
-    text.get(span.from..span.to).unwrap_or("no text")
-}
 
 /// Prints the number of the items and the items, which both calls have to give; or that the text is no snippet.
 fn answer_items(alloc: Global, input: &str, out: &mut String) -> Result<(), AllocError> {
@@ -23,9 +20,12 @@ fn answer_items(alloc: Global, input: &str, out: &mut String) -> Result<(), Allo
     if room.slice() != items.as_slice() {
         return out.push_str("the calls differ");
     }
-    write!(out, "{}", items.len())?;
+    show(&items.len(), out)?;
     for item in items.as_slice() {
-        write!(out, "\t{:?} {}", item.kind, spelled(input, item.span))?;
+        out.push('\t')?;
+        show_debug(&item.kind, out)?;
+        out.push(' ')?;
+        show_spelled(input, item.span, out)?;
     }
     Ok(())
 }
@@ -44,7 +44,12 @@ fn answer_note(kind: ItemKind, input: &str, out: &mut String) -> Result<(), Allo
     } else {
         "none"
     };
-    write!(out, "{}\t{:?}\t{debilis}\t", note.height, note.shape)?;
+    show(&note.height, out)?;
+    out.push('\t')?;
+    show_debug(&note.shape, out)?;
+    out.push('\t')?;
+    out.push_str(debilis)?;
+    out.push('\t')?;
     show_span(note.span, out)
 }
 
@@ -57,7 +62,8 @@ fn answer_snippet(
     out: &mut String,
 ) -> Result<(), AllocError> {
     let read = snippet_whole(alloc, input, Place::START, split, macros)?;
-    write!(out, "{}\t", read.kept)?;
+    out.push_str(read.kept.as_str())?;
+    out.push('\t')?;
     show_snippet_how(read.how, out)?;
     out.push('\t')?;
     show_findings(read.findings.as_slice(), out)
@@ -72,7 +78,7 @@ fn answer_events(
     out: &mut String,
 ) -> Result<(), AllocError> {
     let mut stage = NoteStage::new(split, macros);
-    write!(out, "{}", stage.most())?;
+    show(&stage.most(), out)?;
     let events = outputs_of(alloc, &mut stage, input, Place::START)?;
     for event in events.as_slice() {
         out.push('\t')?;

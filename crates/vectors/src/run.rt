@@ -6,7 +6,7 @@ use std::alloc::Global;
 
 /// What a run wrote, and its exit status.
 #[derive(Drop)]
-pub(crate) struct Ran {
+pub(crate) struct RunResult {
     pub output: ToWriter<Vec<u8>>,
     pub messages: ToWriter<Vec<u8>>,
     pub status: u8,
@@ -19,7 +19,7 @@ pub(crate) fn run(
     broken: bool,
     limits: Limits,
     all_warnings: bool,
-) -> Ran {
+) -> RunResult {
     let job = Job {
         format: Format::Gabc,
         input: Input::Stdin,
@@ -32,7 +32,7 @@ pub(crate) fn run(
     let mut output = ToWriter::new(Vec::new(alloc));
     let mut messages = ToWriter::new(Vec::new(alloc));
     let status = compile(alloc, &job, limits, &mut source, &mut output, &mut messages);
-    Ran {
+    RunResult {
         output,
         messages,
         status: status.code(),

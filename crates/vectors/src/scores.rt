@@ -1,8 +1,10 @@
 //! Rows of scores.
 
-use crate::show::{show_bytes, show_fault, show_findings, show_note_event, show_text_event};
+use crate::show::{
+    show, show_bytes, show_debug, show_fault, show_findings, show_note_event, show_text_event,
+};
 use gabc_places::{Limits, Place, Stage, Text, outputs_of};
-use gabc_score::{BodyStage, Ending, Position, Score, Syllable, Told, score_whole};
+use gabc_score::{BodyEvent, BodyStage, InputEnding, Position, Score, Syllable, score_whole};
 use std::alloc::{AllocError, Global};
 
 /// Prints the fault, the findings, the number of syllables, and of each the bytes of its canonical text, position and kept text.
@@ -10,10 +12,15 @@ fn show_score(score: &Score, out: &mut String) -> Result<(), AllocError> {
     show_fault(score.fault, out)?;
     out.push('\t')?;
     show_findings(score.findings.as_slice(), out)?;
-    write!(out, "\t{}", score.syllables.len())?;
+    out.push('\t')?;
+    show(&score.syllables.len(), out)?;
     for syllable in score.syllables.as_slice() {
-        let (len, position) = (syllable.canonical_len(), syllable.position);
-        write!(out, "\t{len} {position:?} {}", syllable.kept)?;
+        out.push('\t')?;
+        show(&syllable.canonical_len(), out)?;
+        out.push(' ')?;
+        show_debug(&syllable.position, out)?;
+        out.push(' ')?;
+        out.push_str(syllable.kept.as_str())?;
     }
     Ok(())
 }
@@ -21,13 +28,17 @@ fn show_score(score: &Score, out: &mut String) -> Result<(), AllocError> {
 /// Prints the fault and the number of syllables.
 fn show_stop(score: &Score, out: &mut String) -> Result<(), AllocError> {
     show_fault(score.fault, out)?;
-    write!(out, "\t{}", score.syllables.len())
+    out.push('\t')?;
+    show(&score.syllables.len(), out)
 }
 
 /// Prints the fault, the number of findings and the number of syllables.
 fn show_counts(score: &Score, out: &mut String) -> Result<(), AllocError> {
     show_fault(score.fault, out)?;
-    write!(out, "\t{}\t{}", score.findings.len(), score.syllables.len())
+    out.push('\t')?;
+    show(&score.findings.len(), out)?;
+    out.push('\t')?;
+    show(&score.syllables.len(), out)
 }
 
 /// Prints whether a syllable starts a word, and its snippets: `LINE TEXT`.
@@ -35,7 +46,9 @@ fn show_snippets(syllable: &Syllable, out: &mut String) -> Result<(), AllocError
     let starts = syllable.starts_word();
     out.push_str(if starts { "starts a word" } else { "goes on" })?;
     for snippet in syllable.snippets.as_slice() {
-        write!(out, "\t{} ", snippet.line)?;
+        out.push('\t')?;
+        show(&snippet.line, out)?;
+        out.push(' ')?;
         show_bytes(syllable.slice(snippet.span), out)?;
     }
     Ok(())
@@ -52,7 +65,7 @@ fn show_all_snippets(score: &Score, out: &mut String) -> Result<(), AllocError> 
 
 /// Prints the number of syllables, and of each the spans that are open.
 fn show_spans(score: &Score, out: &mut String) -> Result<(), AllocError> {
-    write!(out, "{}", score.syllables.len())?;
+    show(&score.syllables.len(), out)?;
     for syllable in score.syllables.as_slice() {
         out.push_str(match (syllable.eu, syllable.nlba) {
             (true, true) => "\teu nlba",
@@ -65,7 +78,7 @@ fn show_spans(score: &Score, out: &mut String) -> Result<(), AllocError> {
 }
 
 /// Prints what a call asks of a score, and returns whether there is such a call.
-fn show(call: &str, score: &Score, out: &mut String) -> Result<bool, AllocError> {
+fn show_by(call: &str, score: &Score, out: &mut String) -> Result<bool, AllocError> {
     match call {
         "score" => show_score(score, out)?,
         "stop" => show_stop(score, out)?,
@@ -89,11 +102,12 @@ fn answer_position(input: &str, out: &mut String) -> Result<(), AllocError> {
 }
 
 /// Prints an event of a body.
-fn show_body_event(event: Told, out: &mut String) -> Result<(), AllocError> {
+fn show_body_event(event: BodyEvent, out: &mut String) -> Result<(), AllocError> {
     match event {
-        Told::Text(inner) => show_text_event(inner, out),
-        Told::Notes { line, out: inner } => {
-            write!(out, "{line} ")?;
+        BodyEvent::Text(inner) => show_text_event(inner, out),
+        BodyEvent::Notes { line, out: inner } => {
+            show(&line, out)?;
+            out.push(' ')?;
             show_note_event(inner, out)
         }
     }
@@ -102,7 +116,7 @@ fn show_body_event(event: Told, out: &mut String) -> Result<(), AllocError> {
 /// Prints how many events a stage gives for a character at most, and those that it gives of the body.
 fn answer_body(alloc: Global, input: &str, out: &mut String) -> Result<(), AllocError> {
     let mut stage = BodyStage::new(alloc, 0, 0)?;
-    write!(out, "{}", stage.most())?;
+    show(&stage.most(), out)?;
     let events = outputs_of(alloc, &mut stage, input, Place::START)?;
     for event in events.as_slice() {
         out.push('\t')?;
@@ -131,11 +145,11 @@ pub(crate) fn answer_within(
     alloc: Global,
     call: &str,
     limits: Limits,
-    ending: Ending,
+    ending: InputEnding,
     input: &str,
     out: &mut String,
 ) -> Result<bool, AllocError> {
     let text = Text::from_str(alloc, input)?;
     let score = score_whole(alloc, &text, ending, limits)?;
-    show(call, &score, out)
+    show_by(call, &score, out)
 }

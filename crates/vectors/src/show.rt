@@ -1,9 +1,10 @@
 //! How findings, faults, spans and events are printed in the answers of rows.
 
-use gabc_notes::{NoteEnd, NoteOut, SnippetHow};
-use gabc_places::{Fault, Finding, Span};
-use gabc_text::{How, Piece, Style, Styles, TextEnd, TextOut, TextPart};
+use gabc_notes::{NoteEnd, NoteEvent, SnippetEnding};
+use gabc_places::{Char, Code, Fault, Finding, Place, Span};
+use gabc_text::{Piece, Style, Styles, TextEnd, TextEnding, TextEvent, TextPart};
 use std::alloc::AllocError;
+use std::fmt::{Debug, Display};
 use std::str::from_utf8;
 
 /// The styles with their names.
@@ -17,14 +18,38 @@ const STYLES: [(Style, &str); 7] = [
     (Style::Ul, "ul"),
 ];
 
+/// Prints a value as `{}` does.
+pub(crate) fn show<T: Display>(value: &T, out: &mut String) -> Result<(), AllocError> {
+    write!(out, "{value}")
+}
+
+/// Prints a value as `{:?}` does.
+pub(crate) fn show_debug<T: Debug>(value: &T, out: &mut String) -> Result<(), AllocError> {
+    write!(out, "{value:?}")
+}
+
+/// Prints a word, a blank and a value.
+fn show_named<T: Display>(name: &str, value: &T, out: &mut String) -> Result<(), AllocError> {
+    out.push_str(name)?;
+    out.push(' ')?;
+    show(value, out)
+}
+
+/// Prints `LINE:COLUMN: CODE`.
+fn show_code(place: Place, code: Code, out: &mut String) -> Result<(), AllocError> {
+    show(&place, out)?;
+    out.push_str(": ")?;
+    out.push_str(code.name())
+}
+
 /// Prints `LINE:COLUMN: CODE` of each finding, split by `, `; or `none`.
 pub(crate) fn show_findings(findings: &[Finding], out: &mut String) -> Result<(), AllocError> {
     if findings.is_empty() {
         return out.push_str("none");
     }
     for (index, finding) in findings.iter().enumerate() {
-        let before = if index == 0 { "" } else { ", " };
-        write!(out, "{before}{}: {}", finding.place, finding.code)?;
+        out.push_str(if index == 0 { "" } else { ", " })?;
+        show_code(finding.place, finding.code, out)?;
     }
     Ok(())
 }
@@ -32,14 +57,16 @@ pub(crate) fn show_findings(findings: &[Finding], out: &mut String) -> Result<()
 /// Prints `LINE:COLUMN: CODE` of the fault, or `none`.
 pub(crate) fn show_fault(fault: Option<Fault>, out: &mut String) -> Result<(), AllocError> {
     match fault {
-        Some(fault) => write!(out, "{}: {}", fault.place, fault.code),
+        Some(fault) => show_code(fault.place, fault.code, out),
         None => out.push_str("none"),
     }
 }
 
 /// Prints `FROM-TO`.
 pub(crate) fn show_span(span: Span, out: &mut String) -> Result<(), AllocError> {
-    write!(out, "{}-{}", span.from, span.to)
+    show(&span.from, out)?;
+    out.push('-')?;
+    show(&span.to, out)
 }
 
 /// Prints `+` and the name of each style that is open; or `none`.
@@ -49,7 +76,8 @@ fn show_styles(styles: Styles, out: &mut String) -> Result<(), AllocError> {
     }
     for (style, name) in STYLES {
         if styles.has(style) {
-            write!(out, "+{name}")?;
+            out.push('+')?;
+            out.push_str(name)?;
         }
     }
     Ok(())
@@ -57,28 +85,48 @@ fn show_styles(styles: Styles, out: &mut String) -> Result<(), AllocError> {
 
 /// Prints a piece: `KIND STYLES FROM-TO`.
 pub(crate) fn show_piece(piece: Piece, out: &mut String) -> Result<(), AllocError> {
-    write!(out, "{:?} ", piece.kind)?;
+    show_debug(&piece.kind, out)?;
+    out.push(' ')?;
     show_styles(piece.styles, out)?;
     out.push(' ')?;
     show_span(piece.span, out)
 }
 
 /// Prints how a text ends.
-pub(crate) fn show_how(how: How, out: &mut String) -> Result<(), AllocError> {
+pub(crate) fn show_how(how: TextEnding, out: &mut String) -> Result<(), AllocError> {
     match how {
-        How::Notes(index) => write!(out, "notes {index}"),
-        How::Finished => out.push_str("finished"),
-        How::Cut(place) => write!(out, "cut {place}"),
+        TextEnding::Notes(index) => show_named("notes", &index, out),
+        TextEnding::Finished => out.push_str("finished"),
+        TextEnding::Cut(place) => show_named("cut", &place, out),
     }
 }
 
 /// Prints how a snippet ends.
-pub(crate) fn show_snippet_how(how: SnippetHow, out: &mut String) -> Result<(), AllocError> {
+pub(crate) fn show_snippet_how(how: SnippetEnding, out: &mut String) -> Result<(), AllocError> {
     match how {
-        SnippetHow::Next(index) => write!(out, "next {index}"),
-        SnippetHow::Close(index) => write!(out, "close {index}"),
-        SnippetHow::Cut(place) => write!(out, "cut {place}"),
+        SnippetEnding::Next(index) => show_named("next", &index, out),
+        SnippetEnding::Close(index) => show_named("close", &index, out),
+        SnippetEnding::Cut(place) => show_named("cut", &place, out),
     }
+}
+
+/// Prints a character that is kept.
+fn show_kept(x: Char, out: &mut String) -> Result<(), AllocError> {
+    out.push_str("kept ")?;
+    show_char(x, out)
+}
+
+/// Prints a character and its place.
+pub(crate) fn show_char(x: Char, out: &mut String) -> Result<(), AllocError> {
+    show_debug(&x.c, out)?;
+    out.push(' ')?;
+    show(&x.place, out)
+}
+
+/// Prints a finding.
+fn show_finding(finding: Finding, out: &mut String) -> Result<(), AllocError> {
+    out.push_str("found ")?;
+    show_code(finding.place, finding.code, out)
 }
 
 /// Prints a part of a text's view.
@@ -101,27 +149,39 @@ fn show_part(part: TextPart, out: &mut String) -> Result<(), AllocError> {
 }
 
 /// Prints an event of a text.
-pub(crate) fn show_text_event(event: TextOut, out: &mut String) -> Result<(), AllocError> {
+pub(crate) fn show_text_event(event: TextEvent, out: &mut String) -> Result<(), AllocError> {
     match event {
-        TextOut::Kept(x) => write!(out, "kept {:?} {}", x.c, x.place),
-        TextOut::Part(part) => show_part(part, out),
-        TextOut::Found(finding) => write!(out, "found {}: {}", finding.place, finding.code),
-        TextOut::Ended(TextEnd::Notes) => out.push_str("ended notes"),
-        TextOut::Ended(TextEnd::Finished) => out.push_str("ended finished"),
-        TextOut::Ended(TextEnd::Cut(place)) => write!(out, "ended cut {place}"),
+        TextEvent::Kept(x) => show_kept(x, out),
+        TextEvent::Part(part) => show_part(part, out),
+        TextEvent::Found(finding) => show_finding(finding, out),
+        TextEvent::Ended(TextEnd::Notes) => out.push_str("ended notes"),
+        TextEvent::Ended(TextEnd::Finished) => out.push_str("ended finished"),
+        TextEvent::Ended(TextEnd::Cut(place)) => show_named("ended cut", &place, out),
     }
 }
 
 /// Prints an event of a snippet.
-pub(crate) fn show_note_event(event: NoteOut, out: &mut String) -> Result<(), AllocError> {
+pub(crate) fn show_note_event(event: NoteEvent, out: &mut String) -> Result<(), AllocError> {
     match event {
-        NoteOut::Kept(x) => write!(out, "kept {:?} {}", x.c, x.place),
-        NoteOut::Found(finding) => write!(out, "found {}: {}", finding.place, finding.code),
-        NoteOut::Ended { how, kept } => match how {
-            NoteEnd::Next => write!(out, "ended next {kept}"),
-            NoteEnd::Close => write!(out, "ended close {kept}"),
-            NoteEnd::Cut(place) => write!(out, "ended cut {place} {kept}"),
-        },
+        NoteEvent::Kept(x) => show_kept(x, out),
+        NoteEvent::Found(finding) => show_finding(finding, out),
+        NoteEvent::Ended { how, kept } => {
+            match how {
+                NoteEnd::Next => out.push_str("ended next")?,
+                NoteEnd::Close => out.push_str("ended close")?,
+                NoteEnd::Cut(place) => show_named("ended cut", &place, out)?,
+            }
+            out.push(' ')?;
+            show(&kept, out)
+        }
+    }
+}
+
+/// Prints the spelling of a span of a text.
+pub(crate) fn show_spelled(text: &str, span: Span, out: &mut String) -> Result<(), AllocError> {
+    match text.as_bytes().get(span.from..span.to) {
+        Some(bytes) => show_bytes(bytes, out),
+        None => out.push_str("no text"),
     }
 }
 

@@ -1,6 +1,8 @@
 //! Rows of texts of syllables.
 
-use crate::show::{show_bytes, show_findings, show_how, show_piece, show_span, show_text_event};
+use crate::show::{
+    show, show_bytes, show_char, show_findings, show_how, show_piece, show_span, show_text_event,
+};
 use gabc_places::{Place, Room, Span, Stage, outputs_of};
 use gabc_text::{TextStage, kept_chars, text_len, text_whole, write_text};
 use std::alloc::{AllocError, Global};
@@ -15,7 +17,8 @@ fn answer_text(alloc: Global, input: &str, out: &mut String) -> Result<(), Alloc
     }
     let mut room = Room::with_limit(alloc, len)?;
     write_text(&read.view, kept, &mut room);
-    write!(out, "{kept}\t")?;
+    out.push_str(kept)?;
+    out.push('\t')?;
     show_bytes(room.slice(), out)
 }
 
@@ -28,13 +31,17 @@ fn answer_end(alloc: Global, input: &str, out: &mut String) -> Result<(), AllocE
 }
 
 /// Prints a span by its name, or that there is none.
-fn show_named(name: &str, span: Option<Span>, out: &mut String) -> Result<(), AllocError> {
+fn show_part(name: &str, span: Option<Span>, out: &mut String) -> Result<(), AllocError> {
     match span {
         Some(span) => {
-            write!(out, "{name} ")?;
+            out.push_str(name)?;
+            out.push(' ')?;
             show_span(span, out)
         }
-        None => write!(out, "no {name}"),
+        None => {
+            out.push_str("no ")?;
+            out.push_str(name)
+        }
     }
 }
 
@@ -46,9 +53,9 @@ fn answer_pieces(alloc: Global, input: &str, out: &mut String) -> Result<(), All
     } else {
         "no word\t"
     })?;
-    show_named("centre", view.centre, out)?;
+    show_part("centre", view.centre, out)?;
     out.push('\t')?;
-    show_named("translation", view.translation, out)?;
+    show_part("translation", view.translation, out)?;
     for piece in view.pieces.as_slice() {
         out.push('\t')?;
         show_piece(*piece, out)?;
@@ -59,7 +66,7 @@ fn answer_pieces(alloc: Global, input: &str, out: &mut String) -> Result<(), All
 /// Prints how many events a stage gives for a character at most, and those that it gives of the text.
 fn answer_events(alloc: Global, input: &str, out: &mut String) -> Result<(), AllocError> {
     let mut stage = TextStage::new(Place::START);
-    write!(out, "{}", stage.most())?;
+    show(&stage.most(), out)?;
     let events = outputs_of(alloc, &mut stage, input, Place::START)?;
     for event in events.as_slice() {
         out.push('\t')?;
@@ -72,8 +79,8 @@ fn answer_events(alloc: Global, input: &str, out: &mut String) -> Result<(), All
 fn answer_kept_chars(alloc: Global, input: &str, out: &mut String) -> Result<(), AllocError> {
     let kept = kept_chars(alloc, input, Place::START)?;
     for (index, x) in kept.as_slice().iter().enumerate() {
-        let before = if index == 0 { "" } else { "\t" };
-        write!(out, "{before}{:?} {}", x.c, x.place)?;
+        out.push_str(if index == 0 { "" } else { "\t" })?;
+        show_char(*x, out)?;
     }
     Ok(())
 }

@@ -1,9 +1,9 @@
 //! Rows of what the writers add.
 
-use crate::show::show_bytes;
+use crate::show::{show, show_bytes};
 use gabc_headers::headers_whole;
 use gabc_places::{Code, Limits, Place, Room, Text};
-use gabc_score::{Ending, Syllable, score_whole};
+use gabc_score::{InputEnding, Syllable, score_whole};
 use gabc_write::{canon_header, canon_len, canon_syllable, message_len, message_line};
 use std::alloc::{AllocError, Global};
 
@@ -18,7 +18,8 @@ pub(crate) fn answer_message(
     let len = message_len(name, place, code);
     let mut room = Room::with_limit(alloc, len)?;
     message_line(name, place, code, &mut room);
-    write!(out, "{len}\t")?;
+    show(&len, out)?;
+    out.push('\t')?;
     show_bytes(room.slice(), out)
 }
 
@@ -39,7 +40,8 @@ fn answer_header(
     }
     let mut room = Room::with_limit(alloc, len)?;
     canon_header(&heads.book, &mut room);
-    write!(out, "{len}\t")?;
+    show(&len, out)?;
+    out.push('\t')?;
     show_bytes(room.slice(), out)
 }
 
@@ -51,7 +53,9 @@ fn show_syllable(alloc: Global, syllable: &Syllable, out: &mut String) -> Result
     }
     let mut room = Room::with_limit(alloc, len)?;
     canon_syllable(syllable, &mut room);
-    write!(out, "\t{len} ")?;
+    out.push('\t')?;
+    show(&len, out)?;
+    out.push(' ')?;
     show_bytes(room.slice(), out)
 }
 
@@ -63,8 +67,8 @@ fn answer_syllables(
     out: &mut String,
 ) -> Result<(), AllocError> {
     let text = Text::from_str(alloc, input)?;
-    let score = score_whole(alloc, &text, Ending::Whole, limits)?;
-    write!(out, "{}", score.syllables.len())?;
+    let score = score_whole(alloc, &text, InputEnding::Whole, limits)?;
+    show(&score.syllables.len(), out)?;
     for syllable in score.syllables.as_slice() {
         show_syllable(alloc, syllable, out)?;
     }

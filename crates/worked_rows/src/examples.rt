@@ -1,10 +1,8 @@
 //! The examples that the documents of the crates show.
 
 use gabc_headers::headers_whole;
-use gabc_places::{
-    Code, FromReader, Limits, Place, Room, Text, ToWriter, place_of_byte, text_of,
-};
-use gabc_score::{Ending, score_whole};
+use gabc_places::{Code, FromReader, Limits, Place, Room, Text, ToWriter, place_of_byte, text_of};
+use gabc_score::{InputEnding, score_whole};
 use gabc_text::{kept_chars, text_len, text_whole};
 use gabc_write::{message_len, message_line};
 use gregorio::{Format, Input, Job, Output, Status, compile};
@@ -21,13 +19,17 @@ fn reads_bytes_as_a_text(rt: HostRuntime) -> Result<(), Fail> {
     Ok(())
 }
 
-/// The mode of some headers, and their findings, one a line.
+/// The mode of some headers, and the headers and their findings, one a line.
 fn mode_and_findings(alloc: Global, text: &str) -> Result<(String, String), Fail> {
     let text = Text::from_str(alloc, text)?;
     let heads = headers_whole(alloc, &text, Limits::DEFAULT)?;
     let heads = heads.ok().ok_or("a fault")?;
     let mode = heads.book.get("mode").ok_or("no mode")?;
     let mut lines = String::new(alloc);
+    for (name, value) in &heads.book {
+        let line = format!(in alloc; "{name}={value}\n")?;
+        lines.push_str(line.as_str())?;
+    }
     for finding in &heads.findings {
         let line = format!(in alloc; "{finding}\n")?;
         lines.push_str(line.as_str())?;
@@ -40,7 +42,10 @@ fn reads_headers(rt: HostRuntime) -> Result<(), Fail> {
     let text = "name: Kyrie;\nmode: 1;\nmode: 8;\n%%\n";
     let (mode, lines) = mode_and_findings(rt.alloc(), text)?;
     assert_eq!(rt; mode.as_str(), "8");
-    assert_eq!(rt; lines.as_str(), "3:1: warning: W2: header given again\n");
+    assert_eq!(rt;
+        lines.as_str(),
+        "name=Kyrie\nmode=8\n3:1: warning: W2: header given again\n"
+    );
     Ok(())
 }
 
@@ -60,7 +65,7 @@ fn places_the_pieces_of_a_text(rt: HostRuntime) -> Result<(), Fail> {
 /// The notes of the syllables of a text, a `,` behind each, and the findings, one a line.
 fn notes_and_findings(alloc: Global, text: &str) -> Result<(Vec<u8>, String), Fail> {
     let text = Text::from_str(alloc, text)?;
-    let score = score_whole(alloc, &text, Ending::Whole, Limits::DEFAULT)?;
+    let score = score_whole(alloc, &text, InputEnding::Whole, Limits::DEFAULT)?;
     let mut notes = Vec::new(alloc);
     for syllable in &score.syllables {
         for snippet in &syllable.snippets {
@@ -92,7 +97,10 @@ fn writes_a_message(rt: HostRuntime) -> Result<(), Fail> {
     let place = Place { line: 2, column: 6 };
     let mut line = Room::with_limit(rt.alloc(), message_len("a.gabc", place, Code::F1))?;
     message_line("a.gabc", place, Code::F1, &mut line);
-    assert_eq!(rt; line.slice(), b"a.gabc:2:6: fatal: F1: not UTF-8\n".as_slice());
+    assert_eq!(rt;
+        line.slice(),
+        b"a.gabc:2:6: fatal: F1: not UTF-8\n".as_slice()
+    );
     Ok(())
 }
 
@@ -109,7 +117,14 @@ fn compiles_a_slice(rt: HostRuntime) {
     let mut source = FromReader::new(b"%%\nKy(f)ri(g)".as_slice());
     let mut out = ToWriter::new(Vec::new(alloc));
     let mut messages = ToWriter::new(Vec::new(alloc));
-    let status = compile(alloc, &job, Limits::DEFAULT, &mut source, &mut out, &mut messages);
+    let status = compile(
+        alloc,
+        &job,
+        Limits::DEFAULT,
+        &mut source,
+        &mut out,
+        &mut messages,
+    );
     assert_eq!(rt; status, Status::Whole);
     assert_eq!(rt; out.inner().as_slice(), b"%%\nKy(f)ri(g)\n".as_slice());
 }

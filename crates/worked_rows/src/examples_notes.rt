@@ -2,7 +2,8 @@
 
 use gabc_nabc::{Descriptor, codes_into, descriptors_whole, is_nabc, nabc_whole};
 use gabc_notes::{
-    Item, ItemKind, Shape, SnippetHow, is_snippet, items_whole, kept_chars, note_of, snippet_whole,
+    Item, ItemKind, Shape, SnippetEnding, is_snippet, items_whole, kept_chars, note_of,
+    snippet_whole,
 };
 use gabc_places::{Place, Room, Span};
 use std::test::Fail;
@@ -21,7 +22,7 @@ fn example_of_notes(rt: HostRuntime) -> Result<(), Fail> {
     let body = "g1hv)";
     let read = snippet_whole(alloc, body, Place::START, false, 0)?;
     assert_eq!(rt; read.kept.as_str(), "ghv"); // the `1` is left out, with E1 at column 2
-    assert_eq!(rt; read.how, SnippetHow::Close(4));
+    assert_eq!(rt; read.how, SnippetEnding::Close(4));
     if is_snippet(&read.kept) {
         let items = items_whole(alloc, &read.kept)?;
         assert_eq!(rt; items.as_slice(), [first, second].as_slice()); // `g` and `hv`, from byte 1 to byte 3
@@ -50,7 +51,7 @@ fn example_of_nabc(rt: HostRuntime) -> Result<(), Fail> {
     let body = "vi pe7)";
     let read = nabc_whole(alloc, body, Place::START)?;
     assert_eq!(rt; read.kept.as_str(), "vipe"); // the `7` is left out, with E3 at column 6
-    assert_eq!(rt; read.how, SnippetHow::Close(6));
+    assert_eq!(rt; read.how, SnippetEnding::Close(6));
     if is_nabc(&read.kept) {
         let parts = descriptors_whole(alloc, &read.kept)?;
         assert_eq!(rt; parts.as_slice(), [virga, pes].as_slice()); // `vi` and `pe`, from byte 2 to byte 4
@@ -73,9 +74,9 @@ fn laws_of_stages_and_tables_are_called(rt: HostRuntime) -> Result<(), Fail> {
     gabc_nabc::laws::a_part_has_one_kind();
     let alloc = rt.alloc();
     let mut out = Room::with_limit(alloc, 3)?;
-    gabc_notes::laws::a_fresh_stage_gives(false, 0, Vec::new(alloc), &mut out);
+    gabc_notes::laws::a_fresh_stage_emits(false, 0, Vec::new(alloc), &mut out);
     out.clear();
-    gabc_nabc::laws::a_fresh_stage_gives(Vec::new(alloc), &mut out);
+    gabc_nabc::laws::a_fresh_stage_emits(Vec::new(alloc), &mut out);
     assert_eq!(rt; out.slice().len(), 1);
     Ok(())
 }

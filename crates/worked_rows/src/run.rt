@@ -7,7 +7,7 @@ use std::test::Fail;
 
 /// What a run wrote and answered.
 #[derive(Drop)]
-struct Ran {
+struct RunResult {
     out: TrialSink,
     messages: TrialSink,
     status: Status,
@@ -32,12 +32,12 @@ fn run(
     bytes: &[u8],
     fails_after: Option<usize>,
     holds: (usize, usize),
-) -> Result<Ran, AllocError> {
+) -> Result<RunResult, AllocError> {
     let mut source = TrialSource::new(bytes, 3, fails_after);
     let mut out = TrialSink::new(alloc, 1, holds.0)?;
     let mut messages = TrialSink::new(alloc, 1, holds.1)?;
     let status = compile(alloc, job, limits, &mut source, &mut out, &mut messages);
-    Ok(Ran {
+    Ok(RunResult {
         out,
         messages,
         status,
@@ -45,7 +45,7 @@ fn run(
 }
 
 /// Whether a run wrote and answered this.
-fn is_ran(ran: &Ran, out: &[u8], messages: &[u8], status: Status) -> bool {
+fn is_ran(ran: &RunResult, out: &[u8], messages: &[u8], status: Status) -> bool {
     ran.out.held() == out && ran.messages.held() == messages && ran.status == status
 }
 
@@ -118,8 +118,8 @@ fn stops_where_writes_fail(rt: HostRuntime) -> Result<(), Fail> {
     }
     for holds in [0, 1, message.len() - 1] {
         let ran = run(rt.alloc(), &job, Limits::DEFAULT, input, None, (64, holds))?;
-        let told = &message.as_bytes()[..holds];
-        if !is_ran(&ran, output, told, Status::WriteFault) {
+        let lines = &message.as_bytes()[..holds];
+        if !is_ran(&ran, output, lines, Status::WriteFault) {
             return Err(holds.into());
         }
     }

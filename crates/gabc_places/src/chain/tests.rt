@@ -2,8 +2,8 @@
 
 ghost use Rattle.std.specs.Prelude.{◌≡◌, ℕ, ◌+◌, ◌*◌, ◌^◌, ◌<◌, ◌≤◌, ◌++◌, ◌∷◌, [], length, ltb, map, false, if◌then◌else◌};
 ghost use Rattle.std.specs.List.{filter};
-ghost use Rattle.gabc_places.specs.Held.{HasRoom};
-ghost use Rattle.gabc_places.specs.Law.{silence};
+ghost use Rattle.gabc_places.specs.BoundedList.{Fits};
+ghost use Rattle.gabc_places.specs.StageLaw.{silence};
 
 use super::*;
 use crate::drive;
@@ -36,7 +36,7 @@ impl Stage for Twice {
         }
     }
 
-    #[tactic(auto, using(crate::proofs::StageLaws::joined_silence))]
+    #[tactic(auto, using(crate::proofs::PushesAreOne::joined_silence))]
     fn finish(&mut self, out: &mut Room<u8>) {
         if !self.over {
             out.push(255);
@@ -73,7 +73,7 @@ impl Stage for Above {
         }
     }
 
-    #[tactic(auto, using(crate::proofs::StageLaws::joined_silence))]
+    #[tactic(auto, using(crate::proofs::PushesAreOne::joined_silence))]
     fn finish(&mut self, _out: &mut Room<u8>) {
         self.over = true;
     }
@@ -108,7 +108,7 @@ fn drives_one_stage(rt: HostRuntime) -> Result<(), Fail> {
 /// Drives the chain of the two.
 fn drive_both(first: Twice, second: Above, between: Room<u8>, inputs: Vec<u8>, out: &mut Room<u8>)
     requires between { 2 ≤ between.limit }
-    requires out { HasRoom out.old (3 * (length inputs.items + 1)) }
+    requires out { Fits out.old (3 * (length inputs.items + 1)) }
 {
     drive(&mut Chain::new(first, second, between), inputs, out);
 }

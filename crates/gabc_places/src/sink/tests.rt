@@ -10,7 +10,7 @@ use std::test::Fail;
 struct OneByOne {
     taken: Vec<u8>,
     limit: usize,
-    failures: Count,
+    failures: GhostCount,
 }
 
 impl Sink for OneByOne {
@@ -41,7 +41,7 @@ fn sends_byte_by_byte(rt: HostRuntime) {
         let mut sink = OneByOne {
             taken: Vec::new(rt.alloc()),
             limit,
-            failures: Count::zero(),
+            failures: GhostCount::zero(),
         };
         assert_eq!(rt; send_all(&mut sink, b"Alleluia"), want, "at {limit}");
         assert_eq!(rt; sink.taken.as_slice(), taken.as_bytes(), "at {limit}");
@@ -118,7 +118,7 @@ fn stops_at_the_first_failure(rt: HostRuntime) {
 }
 
 #[test]
-fn tells_how_much_was_sent(rt: HostRuntime) -> Result<(), Fail> {
+fn emits_how_much_was_sent(rt: HostRuntime) -> Result<(), Fail> {
     let told = format!(in rt.alloc(); "{SinkFault}, {}", Unsent { sent: 7 })?;
     assert_eq!(rt;
         told.as_str(),

@@ -3,7 +3,7 @@ use crate::sink::{Unsent, send_all};
 use std::test::Fail;
 
 #[test]
-fn source_gives_and_fails(rt: HostRuntime) {
+fn source_emits_and_fails(rt: HostRuntime) {
     let mut source = TrialSource::new(b"abcdef", 2, Some(3));
     let mut buf = [0; 4];
     assert_eq!(rt; source.read(&mut buf), Ok(2));

@@ -1,5 +1,5 @@
 use Rattle.std.proofs.Common.{refl}
-use Rattle.gabc_headers.proofs.Texts.{one-chars}
+use Rattle.gabc_headers.proofs.entries.TextsAsBytes.{one-chars}
 use Rattle.gabc_headers.proofs.book.lines_in.Goals as goal
 
 pub returns-then-eq : goal.returns-then-eq

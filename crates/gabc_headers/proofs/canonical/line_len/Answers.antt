@@ -3,8 +3,8 @@ use Rattle.std.specs.Str.{chars}
 use Rattle.std.proofs.lemmas.Bool.Decides.{nat_tests}
 use Rattle.gabc_headers.specs.Lines.{bytes_len, lines}
 use Rattle.gabc_headers.specs.Canonical.{header_line, wants_lines}
-use Rattle.gabc_headers.proofs.Texts.{bytes_len-chars}
-use Rattle.gabc_headers.proofs.HeaderLens.{header_len, around, around_empty, around_other}
+use Rattle.gabc_headers.proofs.entries.TextsAsBytes.{bytes_len-chars}
+use Rattle.gabc_headers.proofs.canonical_form.LengthOfHeaderLines.{header_len, around, around_empty, around_other}
 use Rattle.gabc_headers.proofs.canonical.line_len.Goals as goal
 use Rattle.gabc_headers.proofs.canonical.line_len.Goals.{then-is_empty, else-is_empty+then-wants_own_lines, else-is_empty+else-wants_own_lines}
 

@@ -2,7 +2,7 @@ use Rattle.std.proofs.Common.{sym, ap, ◌∙◌, map-id, Bool, ◌||◌}
 use Rattle.std.specs.Str.{chars}
 use Rattle.std.proofs.lemmas.Iterator.{YieldsList-from_chars}
 use Rattle.std.proofs.lemmas.Iterator.Consumers.{YieldsList-end}
-use Rattle.gabc_headers.proofs.Wants.{wants_start, after_semicolon, after_percent, at_end, wants_from}
+use Rattle.gabc_headers.proofs.canonical_form.WantsLinesLeftToRight.{wants_start, after_semicolon, after_percent, at_end, wants_from}
 use Rattle.gabc_headers.proofs.canonical.wants_own_lines.Goals as goal
 
 pub loop-c-init : goal.loop-c-init

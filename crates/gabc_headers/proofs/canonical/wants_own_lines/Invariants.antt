@@ -1,7 +1,7 @@
 use Rattle.std.proofs.Common.{◌≡◌, ℕ, List, ◌++◌, ◌||◌}
 use Rattle.gabc_headers.specs.Canonical.{wants_lines}
 use Rattle.gabc_headers.specs.Lines.{lines}
-use Rattle.gabc_headers.proofs.Wants.{wants_from}
+use Rattle.gabc_headers.proofs.canonical_form.WantsLinesLeftToRight.{wants_from}
 use Rattle.gabc_headers.proofs.canonical.wants_own_lines.Given as goal
 
 -- what is known, and else what follows, decides as the whole does

@@ -1,5 +1,5 @@
 use Rattle.std.proofs.Common.{refl}
-use Rattle.gabc_headers.proofs.Texts.{nabc_lines-chars, zero-chars, one-chars}
+use Rattle.gabc_headers.proofs.entries.TextsAsBytes.{nabc_lines-chars, zero-chars, one-chars}
 use Rattle.gabc_headers.proofs.collected.is_kept.Goals as goal
 
 pub returns-then-eq-2 : goal.returns-then-eq-2

@@ -1,4 +1,4 @@
-use Rattle.gabc_headers.proofs.Cutting.{one_cutting}
+use Rattle.gabc_headers.proofs.groups.GroupsAreUnique.{one_cutting}
 use Rattle.gabc_headers.proofs.laws.groups_are_unique.Goals as goal
 
 pub returns : goal.returns

@@ -1,4 +1,4 @@
-use Rattle.gabc_headers.proofs.GroupParts.{groups_tell}
+use Rattle.gabc_headers.proofs.groups.GroupsTellParts.{groups_tell}
 use Rattle.gabc_headers.proofs.laws.groups_tell_parts.Goals as goal
 
 pub returns : goal.returns

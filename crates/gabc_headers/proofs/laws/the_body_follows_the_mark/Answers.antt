@@ -1,4 +1,4 @@
-use Rattle.gabc_headers.proofs.Marked.{score_behind}
+use Rattle.gabc_headers.proofs.groups.BookNeedsScoreLine.{score_behind}
 use Rattle.gabc_headers.proofs.laws.the_body_follows_the_mark.Goals as goal
 
 pub returns : goal.returns

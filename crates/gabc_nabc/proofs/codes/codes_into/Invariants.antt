@@ -1,6 +1,6 @@
 use Rattle.std.proofs.Common.{◌≤◌, ◌-◌, length}
 use Rattle.gabc_nabc.specs.Codes.{code_at}
-use Rattle.gabc_nabc.proofs.CodeList.{Found}
+use Rattle.gabc_nabc.proofs.glyphs.CodesByPlace.{Found}
 use Rattle.gabc_nabc.proofs.codes.codes_into.Given as goal
 
 abbrev pub invariant-loop-at : goal.invariant-loop-at

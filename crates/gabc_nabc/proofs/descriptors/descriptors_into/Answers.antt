@@ -1,8 +1,8 @@
 use Rattle.std.proofs.Common.{List, ◌+◌, ◌++◌, ◌∷◌, [], refl, ap, sym, ◌∙◌, append-nil}
 use Rattle.std.proofs.lemmas.Str.{IsCharBoundary-from_drop}
-use Rattle.gabc_places.specs.Held.{Held, added}
+use Rattle.gabc_places.specs.BoundedList.{BoundedList, extended_by}
 use Rattle.gabc_nabc.specs.declared.descriptor.Descriptor.{Descriptor}
-use Rattle.gabc_nabc.proofs.PartList.{listed_first, listed_push, listed_end, first_of_rest, none_left_of, room_for, more_added}
+use Rattle.gabc_nabc.proofs.parts_of_text.PartsByBytes.{listed_first, listed_push, listed_end, first_of_rest, none_left_of, room_for, more_added}
 use Rattle.gabc_nabc.proofs.descriptors.descriptors_into.Goals as goal
 
 pub range_from-requires : goal.range_from-requires
@@ -22,7 +22,7 @@ loop-space-preserved c =
     let item : Descriptor = record { space = c.in-Some.space; span = record { from = c.loop-space.at; to = c.loop-space.at + c.in-Some.len } } in (
       i.0 ++ item ∷ [],
       listed_push c.args.kept.now i.0 c.loop-space.at c.in-Some.len item refl refl (first_of_rest _ _ _ _ c.range_from.ensures.value c.in-Some.ensures.found) i.1,
-      c.push.ensures ∙ ap (λ (x : Held Descriptor). added x (item ∷ [])) i.2 ∙ more_added c.args.out.now i.0 item,
+      c.push.ensures ∙ ap (λ (x : BoundedList Descriptor). extended_by x (item ∷ [])) i.2 ∙ more_added c.args.out.now i.0 item,
     )
 
 pub returns : goal.returns

@@ -1,6 +1,6 @@
 use Rattle.std.proofs.Common.{refl}
 use Rattle.std.proofs.lemmas.Str.{IsCharBoundary-from_drop}
-use Rattle.gabc_nabc.proofs.PartList.{listed_first, listed_push, listed_end, first_of_rest, none_left_of}
+use Rattle.gabc_nabc.proofs.parts_of_text.PartsByBytes.{listed_first, listed_push, listed_end, first_of_rest, none_left_of}
 use Rattle.gabc_nabc.proofs.descriptors.descriptors_whole.Goals as goal
 
 pub range_from-requires : goal.range_from-requires

@@ -1,5 +1,5 @@
 use Rattle.std.proofs.Common.{length, ◌-◌}
-use Rattle.gabc_nabc.proofs.PartList.{Listed}
+use Rattle.gabc_nabc.proofs.parts_of_text.PartsByBytes.{Listed}
 use Rattle.gabc_nabc.proofs.descriptors.descriptors_whole.Given as goal
 
 abbrev pub invariant-loop-space : goal.invariant-loop-space

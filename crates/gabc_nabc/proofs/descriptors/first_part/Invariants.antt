@@ -1,4 +1,4 @@
-use Rattle.gabc_nabc.proofs.FirstPart.{Reading}
+use Rattle.gabc_nabc.proofs.parts_of_text.FirstPartByBytes.{Reading}
 use Rattle.std.specs.Str.Iter.{chars_rest}
 use Rattle.gabc_nabc.proofs.descriptors.first_part.Given as goal
 

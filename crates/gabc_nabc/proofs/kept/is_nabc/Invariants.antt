@@ -2,8 +2,8 @@ use Rattle.std.proofs.Common.{◌≡◌, ◌++◌, IsUtf8}
 use Rattle.std.specs.Str.{chars}
 use Rattle.std.specs.Str.Iter.{chars_rest}
 use Rattle.gabc_nabc.specs.Table.{nabc}
-use Rattle.gabc_nabc.proofs.Machine.{machine}
-use Rattle.gabc_patterns.proofs.Standing.{Stands}
+use Rattle.gabc_nabc.proofs.machine.MachineReadsTable.{machine}
+use Rattle.gabc_patterns.proofs.StatesAfterTexts.{Stands}
 use Rattle.gabc_nabc.proofs.kept.is_nabc.Given as goal
 
 abbrev pub invariant-loop-c : goal.invariant-loop-c

@@ -1,7 +1,7 @@
 use Rattle.gabc_nabc.specs.Table.{nabc}
 use Rattle.gabc_patterns.specs.Reading.{IsItemOf}
 use Rattle.gabc_patterns.proofs.OneReading.{one_reading}
-use Rattle.gabc_nabc.proofs.Definitions.{kinds_are_one, none_empty}
+use Rattle.gabc_nabc.proofs.grammar.LawsOfEvents.{kinds_are_one, none_empty}
 use Rattle.gabc_nabc.proofs.laws.descriptors_are_one.Goals as goal
 
 pub returns : goal.returns

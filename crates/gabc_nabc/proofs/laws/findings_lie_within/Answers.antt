@@ -1,4 +1,4 @@
-use Rattle.gabc_nabc.proofs.Within.{all_within}
+use Rattle.gabc_nabc.proofs.order.FindingsLieWithin.{all_within}
 use Rattle.gabc_nabc.proofs.laws.findings_lie_within.Goals as goal
 
 pub returns : goal.returns

@@ -1,4 +1,4 @@
-use Rattle.gabc_nabc.proofs.Definitions.{none_empty}
+use Rattle.gabc_nabc.proofs.grammar.LawsOfEvents.{none_empty}
 use Rattle.gabc_nabc.proofs.laws.no_part_is_empty.Goals as goal
 
 pub returns : goal.returns

@@ -1,6 +1,6 @@
 use Rattle.std.proofs.Common.{refl, ◌≡◌, false, ◌==◌, ◌&&◌, slice_index_or, ◌∙◌, arith, []}
 use Rattle.std.proofs.lemmas.Bool.Decides.{nat_tests}
-use Rattle.gabc_nabc.proofs.NameRows.{Row, has_code, other_code, no_code}
+use Rattle.gabc_nabc.proofs.glyphs.NameOfFirstRow.{Row, has_code, other_code, no_code}
 use Rattle.gabc_nabc.proofs.name.find_name.Goals as goal
 use Rattle.gabc_nabc.proofs.name.find_name.Goals.{else-a-first-via-then-a-first+else-b-second, else-a-first-via-else-a-first}
 

@@ -1,5 +1,5 @@
 use Rattle.std.proofs.Common.{◌∙◌, sym}
-use Rattle.gabc_nabc.proofs.NameRows.{none_of, no_letters, one_letter, two_letters, three_letters}
+use Rattle.gabc_nabc.proofs.glyphs.NameOfFirstRow.{none_of, no_letters, one_letter, two_letters, three_letters}
 use Rattle.gabc_nabc.proofs.name.name_of.Goals as goal
 use Rattle.gabc_nabc.proofs.name.name_of.Goals.{in_default-via-in-Some+in-Some+in_default, in_default-via-in-Some+in_default, in_default-via-in_default}
 

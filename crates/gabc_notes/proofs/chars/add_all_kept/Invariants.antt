@@ -1,5 +1,5 @@
 use Rattle.std.proofs.Common.{◌≡◌, ◌++◌, take}
-use Rattle.gabc_notes.specs.Read.{kept_chars_of}
+use Rattle.gabc_notes.specs.SnippetRead.{kept_chars_of}
 use Rattle.gabc_notes.proofs.chars.add_all_kept.Given as goal
 
 abbrev pub invariant-loop-event : goal.invariant-loop-event

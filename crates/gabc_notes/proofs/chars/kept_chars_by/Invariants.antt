@@ -1,9 +1,9 @@
 use Rattle.std.proofs.Common.{◌≡◌, ◌+◌, ◌<◌, ◌≤◌, ◌^◌, ◌++◌, [], take, length, IsUtf8}
 use Rattle.std.specs.Str.{chars}
 use Rattle.std.specs.Str.Iter.{chars_rest}
-use Rattle.gabc_places.specs.Law.{joined}
-use Rattle.gabc_places.specs.Place.{placed_from}
-use Rattle.gabc_notes.specs.Read.{kept_chars_of}
+use Rattle.gabc_places.specs.StageLaw.{concat_of}
+use Rattle.gabc_places.specs.Place.{placed_characters_from}
+use Rattle.gabc_notes.specs.SnippetRead.{kept_chars_of}
 use Rattle.gabc_notes.proofs.chars.kept_chars_by.Given as goal
 
 abbrev pub invariant-loop-c : goal.invariant-loop-c
@@ -12,8 +12,8 @@ invariant-loop-c g l = record {
   ends : (goal.iterator-loop-c g).is_finite l.c-iterator;
   utf8 : IsUtf8 (chars_rest l.c-iterator);
   few : length l.found ≤ l.count;
-  law : take l.count (kept_chars_of (joined (g.S.Stage.rest l.initial.stage (placed_from l.fn.at (chars l.fn.body)))))
-      ≡ take l.count (l.found ++ kept_chars_of (joined (g.S.Stage.rest l.stage (placed_from l.place (chars (chars_rest l.c-iterator))))));
+  law : take l.count (kept_chars_of (concat_of (g.S.Stage.rest l.initial.stage (placed_characters_from l.fn.at (chars l.fn.body)))))
+      ≡ take l.count (l.found ++ kept_chars_of (concat_of (g.S.Stage.rest l.stage (placed_characters_from l.place (chars (chars_rest l.c-iterator))))));
   line : l.place.line + length (chars_rest l.c-iterator) < 2 ^ 64;
   column : l.place.column + length (chars_rest l.c-iterator) < 2 ^ 64;
   most : g.S.Stage.most_of l.stage ≡ g.S.Stage.most_of l.initial.stage;

@@ -1,4 +1,4 @@
-use Rattle.gabc_notes.proofs.FirstItem.{Reading}
+use Rattle.gabc_notes.proofs.items_of_text.FirstItemByBytes.{Reading}
 use Rattle.std.specs.Str.Iter.{chars_rest}
 use Rattle.gabc_notes.proofs.items.first_item.Given as goal
 

@@ -1,8 +1,8 @@
 use Rattle.std.proofs.Common.{List, ◌+◌, ◌++◌, ◌∷◌, [], refl, ap, sym, ◌∙◌, append-nil}
 use Rattle.std.proofs.lemmas.Str.{IsCharBoundary-from_drop}
-use Rattle.gabc_places.specs.Held.{Held, added}
+use Rattle.gabc_places.specs.BoundedList.{BoundedList, extended_by}
 use Rattle.gabc_notes.specs.declared.item.Item.{Item}
-use Rattle.gabc_notes.proofs.ItemList.{listed_first, listed_push, listed_end, first_of_rest, none_left_of, room_for, more_added}
+use Rattle.gabc_notes.proofs.items_of_text.ItemsByBytes.{listed_first, listed_push, listed_end, first_of_rest, none_left_of, room_for, more_added}
 use Rattle.gabc_notes.proofs.items.items_into.Goals as goal
 
 pub range_from-requires : goal.range_from-requires
@@ -22,7 +22,7 @@ loop-kind-preserved c =
     let item : Item = record { kind = c.in-Some.kind; span = record { from = c.loop-kind.at; to = c.loop-kind.at + c.in-Some.len } } in (
       i.0 ++ item ∷ [],
       listed_push c.args.kept.now i.0 c.loop-kind.at c.in-Some.len item refl refl (first_of_rest _ _ _ _ c.range_from.ensures.value c.in-Some.ensures.found) i.1,
-      c.push.ensures ∙ ap (λ (x : Held Item). added x (item ∷ [])) i.2 ∙ more_added c.args.out.now i.0 item,
+      c.push.ensures ∙ ap (λ (x : BoundedList Item). extended_by x (item ∷ [])) i.2 ∙ more_added c.args.out.now i.0 item,
     )
 
 pub returns : goal.returns

@@ -1,5 +1,5 @@
 use Rattle.std.proofs.Common.{length, ◌-◌}
-use Rattle.gabc_notes.proofs.ItemList.{Listed}
+use Rattle.gabc_notes.proofs.items_of_text.ItemsByBytes.{Listed}
 use Rattle.gabc_notes.proofs.items.items_whole.Given as goal
 
 abbrev pub invariant-loop-kind : goal.invariant-loop-kind

@@ -2,8 +2,8 @@ use Rattle.std.proofs.Common.{◌≡◌, ◌++◌, IsUtf8}
 use Rattle.std.specs.Str.{chars}
 use Rattle.std.specs.Str.Iter.{chars_rest}
 use Rattle.gabc_notes.specs.Table.{gabc}
-use Rattle.gabc_notes.proofs.Machine.{machine}
-use Rattle.gabc_patterns.proofs.Standing.{Stands}
+use Rattle.gabc_notes.proofs.machine.MachineReadsTable.{machine}
+use Rattle.gabc_patterns.proofs.StatesAfterTexts.{Stands}
 use Rattle.gabc_notes.proofs.kept.is_snippet.Given as goal
 
 abbrev pub invariant-loop-c : goal.invariant-loop-c

@@ -1,4 +1,4 @@
-use Rattle.gabc_notes.proofs.Within.{ends_at_mark, cut_at_most}
+use Rattle.gabc_notes.proofs.order.FindingsLieWithin.{ends_at_mark, cut_at_most}
 use Rattle.gabc_notes.proofs.laws.a_snippet_ends_at_its_mark.Goals as goal
 
 pub returns : goal.returns

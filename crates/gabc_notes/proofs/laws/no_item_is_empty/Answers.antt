@@ -1,4 +1,4 @@
-use Rattle.gabc_notes.proofs.Keeping.{none_empty}
+use Rattle.gabc_notes.proofs.grammar.LawsOfKeptTexts.{none_empty}
 use Rattle.gabc_notes.proofs.laws.no_item_is_empty.Goals as goal
 
 pub returns : goal.returns

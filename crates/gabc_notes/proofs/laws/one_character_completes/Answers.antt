@@ -1,4 +1,4 @@
-use Rattle.gabc_notes.proofs.Keeping.{one_completes}
+use Rattle.gabc_notes.proofs.grammar.LawsOfKeptTexts.{one_completes}
 use Rattle.gabc_notes.proofs.laws.one_character_completes.Goals as goal
 
 pub returns : goal.returns

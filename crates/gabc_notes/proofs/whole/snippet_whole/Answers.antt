@@ -7,13 +7,13 @@ use Rattle.std.proofs.lemmas.Str.{chars_past_char, IsUtf8-past_char, scalars-cha
 use lib.Utf8.{encode, scalars}
 use Rattle.gabc_places.specs.declared.place.Char.{Char}
 use Rattle.gabc_places.specs.declared.place.Place.{Place}
-use Rattle.gabc_places.specs.Place.{next_place, placed_from}
-use Rattle.gabc_notes.specs.Heard.{Heard, heard_of, Fed, Closed}
+use Rattle.gabc_places.specs.Place.{next_place, placed_characters_from}
+use Rattle.gabc_notes.specs.machine.BuiltSnippet.{BuiltSnippet, built_snippet_of, PushIsAdded, EndIsAdded}
 use Rattle.gabc_notes.specs.declared.stage.NoteEnd.{NoteEnd}
 use Rattle.gabc_notes.specs.declared.stage.NoteEnd.TheVariants.{Close}
 use Rattle.gabc_notes.specs.declared.stage.NoteStage.{NoteStage}
-use Rattle.gabc_notes.proofs.Characters.{chars-none}
-use Rattle.gabc_notes.proofs.Reaching.{Reaches, Stops, reaches_first, reaches_next, stops_at, stops_cut, place_fits, first_scalar}
+use Rattle.gabc_notes.proofs.machine.TextIsReadByCharacter.{chars-none}
+use Rattle.gabc_notes.proofs.machine.LoopOverBody.{Reaches, Stops, reaches_first, reaches_next, stops_at, stops_cut, place_fits, first_scalar}
 use Rattle.gabc_notes.proofs.whole.snippet_whole.Goals as goal
 
 pub loop-c-init : goal.loop-c-init
@@ -23,7 +23,7 @@ loop-c-init c =
       can = tt;
       ends = tt;
       utf8 = c.utf8.body;
-      reaches = ([], reaches_first c.args.split c.args.macros (placed_from c.args.at (chars c.args.body.now)) c.new-stage.result (heard_of c.new-reading.result) c.new-stage.ensures c.new-reading.ensures);
+      reaches = ([], reaches_first c.args.split c.args.macros (placed_characters_from c.args.at (chars c.args.body.now)) c.new-stage.result (built_snippet_of c.new-builder.result) c.new-stage.ensures c.new-builder.ensures);
       line = c.requires.line;
       column = c.requires.column;
       index = omega arith;
@@ -45,9 +45,9 @@ loop-c-preserved c =
       utf8 = IsUtf8-past_char (chars_rest c.loop-c.c-iterator) (chars_rest c.next.new.self) c.in-Some.c i.utf8 step;
       reaches = (
         record { c = c.in-Some.c; place = c.loop-c.place } ∷ i.reaches.0,
-        rw c.after-place.ensures.next (reaches_next c.args.split c.args.macros (placed_from c.args.at (chars c.args.body.now)) i.reaches.0
-            (placed_from (next_place c.loop-c.place c.in-Some.c) (chars (chars_rest c.next.new.self))) (record { c = c.in-Some.c; place = c.loop-c.place })
-            c.loop-c.stage c.feed.new.stage (heard_of c.loop-c.reading) (heard_of c.feed.new.self) c.loop-c.index _
+        rw c.after-place.ensures.next (reaches_next c.args.split c.args.macros (placed_characters_from c.args.at (chars c.args.body.now)) i.reaches.0
+            (placed_characters_from (next_place c.loop-c.place c.in-Some.c) (chars (chars_rest c.next.new.self))) (record { c = c.in-Some.c; place = c.loop-c.place })
+            c.loop-c.stage c.feed.new.stage (built_snippet_of c.loop-c.builder) (built_snippet_of c.feed.new.self) c.loop-c.index _
             (rw past at i.reaches.1) c.in_ok-feed.ensures.fed c.in_default.is
             (first_scalar c.in-Some.c (chars (chars_rest c.next.new.self)) (ap scalars (sym past) ∙ scalars-chars (chars_rest c.loop-c.c-iterator) i.utf8))
             (ap (λ (n : ℕ). c.loop-c.index + n) size)),
@@ -59,26 +59,26 @@ loop-c-preserved c =
     }
 
 -- at the mark that ends the snippet
-at_mark : {split : Bool} {macros : ℕ} {all : List Char} {place : Place} {c : ℕ} {cs rest : List ℕ} {stage next : NoteStage} {h after : Heard} {index : ℕ}
-    → (reached : (back : List Char) × Reaches split macros all back (placed_from place rest) stage h index) → rest ≡ c ∷ cs
-    → Fed stage next (record { c = c; place = place }) h after → (how : NoteEnd) (bytes : ℕ) → after.end ≡ Some (how, bytes) → index < 2 ^ 64
+at_mark : {split : Bool} {macros : ℕ} {all : List Char} {place : Place} {c : ℕ} {cs rest : List ℕ} {stage next : NoteStage} {h after : BuiltSnippet} {index : ℕ}
+    → (reached : (back : List Char) × Reaches split macros all back (placed_characters_from place rest) stage h index) → rest ≡ c ∷ cs
+    → PushIsAdded stage next (record { c = c; place = place }) h after → (how : NoteEnd) (bytes : ℕ) → after.end ≡ Some (how, bytes) → index < 2 ^ 64
     → Stops split macros all after how bytes index
 at_mark {split} {macros} {all} {place} {c} {cs} {rest} {stage} {next} {h} {after} {index} r e f how bytes g l =
-    stops_at split macros all r.0 (placed_from (next_place place c) cs) (record { c = c; place = place }) stage next h after index bytes how
-    (subst (λ (t : List ℕ). Reaches split macros all r.0 (placed_from place t) stage h index) e r.1) f g l
+    stops_at split macros all r.0 (placed_characters_from (next_place place c) cs) (record { c = c; place = place }) stage next h after index bytes how
+    (subst (λ (t : List ℕ). Reaches split macros all r.0 (placed_characters_from place t) stage h index) e r.1) f g l
 
 -- at the end of the body
-at_end : (place : Place) (rest : List ℕ) {split : Bool} {macros : ℕ} {all : List Char} {stage : NoteStage} {h after : Heard} {index : ℕ}
-    → (reached : (back : List Char) × Reaches split macros all back (placed_from place rest) stage h index) → rest ≡ []
-    → Closed stage h after → index < 2 ^ 64 → (end : NoteEnd × ℕ) → end ≡ unwrap_or after.end (Close, 0)
+at_end : (place : Place) (rest : List ℕ) {split : Bool} {macros : ℕ} {all : List Char} {stage : NoteStage} {h after : BuiltSnippet} {index : ℕ}
+    → (reached : (back : List Char) × Reaches split macros all back (placed_characters_from place rest) stage h index) → rest ≡ []
+    → EndIsAdded stage h after → index < 2 ^ 64 → (end : NoteEnd × ℕ) → end ≡ unwrap_or after.end (Close, 0)
     → Stops split macros all after end.0 end.1 index
 at_end place rest {split} {macros} {all} {stage} {h} {after} {index} r e f l end g =
-    let y = stops_cut split macros all r.0 stage h after index (subst (λ (t : List ℕ). Reaches split macros all r.0 (placed_from place t) stage h index) e r.1) f l in
+    let y = stops_cut split macros all r.0 stage h after index (subst (λ (t : List ℕ). Reaches split macros all r.0 (placed_characters_from place t) stage h index) e r.1) f l in
     let same : end ≡ (y.0, y.1) = g ∙ ap (λ (o : Option (NoteEnd × ℕ)). unwrap_or o (Close, 0)) y.2 in
     subst (λ (p : NoteEnd × ℕ). Stops split macros all after p.0 p.1 index) (sym same) y.3
 
-pub ended-requires : goal.ended-requires
-ended-requires c =
+pub into_read-requires : goal.into_read-requires
+into_read-requires c =
     let i = c.loop-c.invariant in
     let past = chars_past_char (chars_rest c.loop-c.c-iterator) (chars_rest c.next.new.self) c.in-Some.c i.utf8 c.in-Some.ensures.steps.0 in
     (at_mark i.reaches past c.in_ok-feed.ensures.fed c.in-Some-end.end c.in-Some-end.bytes c.in-Some-end.is (omega (arith, i.index, c.requires.line))).splits
@@ -89,13 +89,13 @@ returns-in-Some-end c =
     let past = chars_past_char (chars_rest c.loop-c.c-iterator) (chars_rest c.next.new.self) c.in-Some.c i.utf8 c.in-Some.ensures.steps.0 in
     let s = at_mark i.reaches past c.in_ok-feed.ensures.fed c.in-Some-end.end c.in-Some-end.bytes c.in-Some-end.is (omega (arith, i.index, c.requires.line)) in
     record {
-      kept_is = c.ended.ensures.kept ∙ s.kept_is;
-      findings_are = c.ended.ensures.findings ∙ s.findings_are;
-      how_is = c.ended.ensures.how ∙ (c.how_of.ensures ∙ s.how_is);
+      kept_is = c.into_read.ensures.kept ∙ s.kept_is;
+      findings_are = c.into_read.ensures.findings ∙ s.findings_are;
+      how_is = c.into_read.ensures.how ∙ (c.ending_of.ensures ∙ s.how_is);
     }
 
-pub ended-requires-2 : goal.ended-requires-2
-ended-requires-2 c =
+pub into_read-requires-2 : goal.into_read-requires-2
+into_read-requires-2 c =
     let i = c.loop-c.invariant in
     let none = chars-none (chars_rest c.loop-c.c-iterator) c.in-None.ensures.steps.0.0 in
     (at_end c.loop-c.place (chars (chars_rest c.loop-c.c-iterator)) i.reaches none c.in_ok-close.ensures (omega (arith, i.index, c.requires.line)) c.unwrap_or-end.result c.unwrap_or-end.ensures).splits
@@ -106,7 +106,7 @@ returns c =
     let none = chars-none (chars_rest c.loop-c.c-iterator) c.in-None.ensures.steps.0.0 in
     let s = at_end c.loop-c.place (chars (chars_rest c.loop-c.c-iterator)) i.reaches none c.in_ok-close.ensures (omega (arith, i.index, c.requires.line)) c.unwrap_or-end.result c.unwrap_or-end.ensures in
     record {
-      kept_is = c.ended-2.ensures.kept ∙ s.kept_is;
-      findings_are = c.ended-2.ensures.findings ∙ s.findings_are;
-      how_is = c.ended-2.ensures.how ∙ (c.how_of-2.ensures ∙ s.how_is);
+      kept_is = c.into_read-2.ensures.kept ∙ s.kept_is;
+      findings_are = c.into_read-2.ensures.findings ∙ s.findings_are;
+      how_is = c.into_read-2.ensures.how ∙ (c.ending_of-2.ensures ∙ s.how_is);
     }

@@ -1,4 +1,4 @@
-use Rattle.gabc_patterns.proofs.After.{after_to, after_from, end_from, end_to}
+use Rattle.gabc_patterns.proofs.DerivativesSpellWhatFollows.{after_to, after_from, end_from, end_to}
 use Rattle.gabc_patterns.proofs.laws.derivative_spells_what_follows.Goals as goal
 
 pub returns : goal.returns

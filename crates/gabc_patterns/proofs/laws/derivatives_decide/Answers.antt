@@ -1,5 +1,5 @@
-use Rattle.gabc_patterns.proofs.Rows.{none_ends}
-use Rattle.gabc_patterns.proofs.Functions.{snippet_decides, viable_decides}
+use Rattle.gabc_patterns.proofs.RowsAfterACharacter.{none_ends}
+use Rattle.gabc_patterns.proofs.FunctionsMeetRelations.{snippet_decides, viable_decides}
 use Rattle.gabc_patterns.proofs.laws.derivatives_decide.Goals as goal
 
 pub returns : goal.returns

@@ -1,5 +1,5 @@
-use Rattle.gabc_patterns.proofs.Rows.{none_ends}
-use Rattle.gabc_patterns.proofs.Items.{items_are}
+use Rattle.gabc_patterns.proofs.RowsAfterACharacter.{none_ends}
+use Rattle.gabc_patterns.proofs.ItemsFunctionReads.{items_are}
 use Rattle.gabc_patterns.proofs.laws.items_read.Goals as goal
 
 pub returns : goal.returns

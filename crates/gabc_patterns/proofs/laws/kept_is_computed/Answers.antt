@@ -1,6 +1,6 @@
 use Rattle.std.proofs.Common.{[]}
-use Rattle.gabc_patterns.proofs.Rows.{none_ends}
-use Rattle.gabc_patterns.proofs.Functions.{keep_keeps, keeps_is, trim_trims, trims_is, kept_text_is, is_kept_text_is}
+use Rattle.gabc_patterns.proofs.RowsAfterACharacter.{none_ends}
+use Rattle.gabc_patterns.proofs.FunctionsMeetRelations.{keep_keeps, keeps_is, trim_trims, trims_is, kept_text_is, is_kept_text_is}
 use Rattle.gabc_patterns.proofs.laws.kept_is_computed.Goals as goal
 
 pub returns : goal.returns

@@ -1,4 +1,4 @@
-use Rattle.gabc_patterns.proofs.Kept.{keeps_again, kept_again, kept_snippet}
+use Rattle.gabc_patterns.proofs.KeptTextIsKeptAgain.{keeps_again, kept_again, kept_snippet}
 use Rattle.gabc_patterns.proofs.laws.kept_text_is_kept_again.Goals as goal
 
 pub returns : goal.returns

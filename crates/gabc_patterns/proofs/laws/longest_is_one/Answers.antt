@@ -1,5 +1,5 @@
 use Rattle.gabc_patterns.specs.Reading.{IsItem}
-use Rattle.gabc_patterns.proofs.Longest.{one_longest}
+use Rattle.gabc_patterns.proofs.LongestPrefixIsOne.{one_longest}
 use Rattle.gabc_patterns.proofs.laws.longest_is_one.Goals as goal
 
 pub returns : goal.returns

@@ -1,5 +1,5 @@
 use Rattle.std.proofs.Common.{[]}
-use Rattle.gabc_patterns.proofs.Kept.{keeps_all, trims_all, snippet_kept}
+use Rattle.gabc_patterns.proofs.KeptTextIsKeptAgain.{keeps_all, trims_all, snippet_kept}
 use Rattle.gabc_patterns.proofs.laws.viable_text_is_kept.Goals as goal
 
 pub returns : goal.returns

@@ -2,12 +2,12 @@ use Rattle.std.proofs.Common.{◌+◌, ◌++◌, length, ap, ◌∙◌}
 use Rattle.std.specs.Str.{chars}
 use Rattle.std.specs.Str.Iter.{chars_rest}
 use Rattle.std.proofs.lemmas.Str.{chars_past_char, IsUtf8-past_char}
-use Rattle.gabc_places.specs.Law.{joined}
-use Rattle.gabc_places.specs.Held.{Held}
-use Rattle.gabc_places.specs.Place.{placed_from}
+use Rattle.gabc_places.specs.StageLaw.{concat_of}
+use Rattle.gabc_places.specs.BoundedList.{BoundedList}
+use Rattle.gabc_places.specs.Place.{placed_characters_from}
 use Rattle.gabc_places.proofs.PlacesOfAText.{within_on, shorter}
 use Rattle.gabc_places.proofs.GatheredOfAText.{gathered-character, gathered-end, emptied}
-use Rattle.gabc_places.proofs.Strings.{chars-none}
+use Rattle.gabc_places.proofs.texts.CharactersOfStrings.{chars-none}
 use Rattle.gabc_places.proofs.collect.outputs_of.Goals as goal
 
 pub loop-c-preserved : goal.loop-c-preserved
@@ -20,11 +20,11 @@ loop-c-preserved g c =
     let within = within_on c.loop-c.place (length rest) (length next) (c.args.at.line + length c.args.text.now) (c.args.at.column + length c.args.text.now) (shorter rest next c.in-Some.c step) i.line i.column c.in-Some.c c.after-place.result c.after-place.ensures.next in
     record {
       utf8 = IsUtf8-past_char rest next c.in-Some.c i.utf8 step;
-      most = emptied c.loop-c.room c.push.new.out c.clear.new.self c.push.ensures.gives.given _ _ c.push.ensures.gives.out c.clear.ensures i.most c.push.ensures.most;
-      empty = ap (λ (r : Held _). r.items) c.clear.ensures;
+      most = emptied c.loop-c.room c.push.new.out c.clear.new.self c.push.ensures.events.events _ _ c.push.ensures.events.out c.clear.ensures i.most c.push.ensures.most;
+      empty = ap (λ (r : BoundedList _). r.items) c.clear.ensures;
       all =
-          gathered-character c.loop-c.all c.append.new.self (joined (g.S.Stage.rest c.args.stage.now (placed_from c.args.at (chars c.args.text.now)))) c.after-place.result (chars rest) (chars next)
-          c.push.ensures.gives i.empty (c.in_ok-append.ensures.added ∙ ap (λ v. c.loop-c.all ++ v) c.slice.ensures) c.after-place.ensures.next past i.all;
+          gathered-character c.loop-c.all c.append.new.self (concat_of (g.S.Stage.rest c.args.stage.now (placed_characters_from c.args.at (chars c.args.text.now)))) c.after-place.result (chars rest) (chars next)
+          c.push.ensures.events i.empty (c.in_ok-append.ensures.added ∙ ap (λ v. c.loop-c.all ++ v) c.slice.ensures) c.after-place.ensures.next past i.all;
       line = within.0;
       column = within.1;
     }
@@ -32,5 +32,5 @@ loop-c-preserved g c =
 pub returns-clause-all : goal.returns-clause-all
 returns-clause-all g c =
     let i = c.loop-c.invariant in
-    gathered-end c.loop-c.all c.append-2.new.self (joined (g.S.Stage.rest c.args.stage.now (placed_from c.args.at (chars c.args.text.now)))) c.loop-c.place (chars (chars_rest c.loop-c.c-iterator))
+    gathered-end c.loop-c.all c.append-2.new.self (concat_of (g.S.Stage.rest c.args.stage.now (placed_characters_from c.args.at (chars c.args.text.now)))) c.loop-c.place (chars (chars_rest c.loop-c.c-iterator))
     c.finish.ensures.ends i.empty (c.in_ok-append-2.ensures.added ∙ ap (λ v. c.loop-c.all ++ v) c.slice-2.ensures) (chars-none (chars_rest c.loop-c.c-iterator) c.in-None.ensures.steps.0.0) i.all

@@ -1,4 +1,4 @@
-use Rattle.gabc_places.proofs.Strings.{chars-feed, chars-no_feed}
+use Rattle.gabc_places.proofs.texts.CharactersOfStrings.{chars-feed, chars-no_feed}
 use Rattle.gabc_places.proofs.decode.without_line_feed.Goals as goal
 
 pub returns-in-Some-clause-text : goal.returns-in-Some-clause-text

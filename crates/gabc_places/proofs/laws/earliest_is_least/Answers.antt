@@ -1,4 +1,4 @@
-use Rattle.gabc_places.proofs.Earliest.{least-found}
+use Rattle.gabc_places.proofs.EarliestIsLeast.{least-found}
 use Rattle.gabc_places.proofs.laws.earliest_is_least.Goals as goal
 
 pub returns-clause-found : goal.returns-clause-found

@@ -1,5 +1,5 @@
 use Rattle.std.proofs.Common.{◌≡◌, ℕ, List, length, take, drop, take-add, take_all, ◌-◌, length-drop, arith}
-use Rattle.gabc_places.proofs.KnownBytes.{appends-more}
+use Rattle.gabc_places.proofs.AppendsAreJoined.{appends-more}
 use Rattle.gabc_places.proofs.sink.send_all.Goals as goal
 
 pub loop-sent-preserved : goal.loop-sent-preserved
@@ -12,6 +12,6 @@ loop-sent-preserved g c =
     let all : take rest unsent ≡ unsent = take_all rest unsent (omega (arith, counted)) in
     record {
       within = omega (arith, e.bound, counted);
-      front = rw (take-add c.loop-sent.sent c.in-Ok.n c.args.bytes.now) (appends-more _ _ _ _ _ i.front (rw all at e.bytes));
+      prefix = rw (take-add c.loop-sent.sent c.in-Ok.n c.args.bytes.now) (appends-more _ _ _ _ _ i.prefix (rw all at e.bytes));
       counts = omega (arith, e.steady, i.counts);
     }

@@ -5,7 +5,7 @@ use Rattle.gabc_places.proofs.sink.send_all.Given as goal
 abbrev pub invariant-loop-sent : goal.invariant-loop-sent
 invariant-loop-sent g l = record {
   within : l.sent ≤ length l.bytes;
-  front : Appends (g.S.Sink.written l.initial.sink) (g.S.Sink.written l.sink) (take l.sent l.bytes);
+  prefix : Appends (g.S.Sink.written l.initial.sink) (g.S.Sink.written l.sink) (take l.sent l.bytes);
   counts : g.S.Sink.failures l.initial.sink ≡ g.S.Sink.failures l.sink;
 }
 

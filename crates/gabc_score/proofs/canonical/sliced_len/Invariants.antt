@@ -1,5 +1,5 @@
 use Rattle.std.proofs.Common.{◌≡◌, ◌-◌, ◌^◌, min, take}
-use Rattle.gabc_score.specs.Lengths.{sliced_length}
+use Rattle.gabc_score.specs.machine.Lengths.{sliced_length}
 use Rattle.gabc_score.proofs.canonical.sliced_len.Given as goal
 
 abbrev pub invariant-loop-snippet : goal.invariant-loop-snippet

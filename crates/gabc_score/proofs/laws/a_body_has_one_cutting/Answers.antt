@@ -1,4 +1,4 @@
-use Rattle.gabc_score.proofs.Units.{one, no_other}
+use Rattle.gabc_score.proofs.units.BodyHasOneCutting.{one, no_other}
 use Rattle.gabc_score.proofs.laws.a_body_has_one_cutting.Goals as goal
 
 pub returns-clause-one : goal.returns-clause-one

@@ -8,11 +8,11 @@ returns-clause-characters c = body_is_units
 
 pub returns-clause-whole : goal.returns-clause-whole
 returns-clause-whole c =
-    whole_syllables c.a_text_ends_once.ensures c.outs_tell_all.ensures.told c.spans_stand.ensures.view c.outs_in_order.ensures.joined
+    whole_syllables c.a_text_ends_once.ensures c.events_build_the_text.ensures.events c.spans_stand_for_the_view.ensures.view c.events_by_point_are_the_events.ensures.joined
 
 pub returns-clause-stopped : goal.returns-clause-stopped
 returns-clause-stopped c limits ending t book cut n short =
-    stopped_syllables c.a_text_ends_once.ensures c.outs_tell_all.ensures.told c.spans_stand.ensures.view c.outs_in_order.ensures.joined limits ending t book cut n short
+    stopped_syllables c.a_text_ends_once.ensures c.events_build_the_text.ensures.events c.spans_stand_for_the_view.ensures.view c.events_by_point_are_the_events.ensures.joined limits ending t book cut n short
 
 pub returns-clause-stop : goal.returns-clause-stop
 returns-clause-stop c = stop_stands

@@ -1,4 +1,4 @@
-use Rattle.gabc_score.proofs.Marks.{units_end}
+use Rattle.gabc_score.proofs.units.UnitsEndAtMarks.{units_end}
 use Rattle.gabc_score.proofs.laws.units_end_at_their_marks.Goals as goal
 
 pub returns : goal.returns

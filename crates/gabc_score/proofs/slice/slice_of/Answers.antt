@@ -1,6 +1,6 @@
 use Rattle.std.proofs.Common.{ap, ◌∙◌}
 use Rattle.gabc_score.specs.Syllable.{slice}
-use Rattle.gabc_score.proofs.Slices.{slice_within}
+use Rattle.gabc_score.proofs.texts_of_body.SlicesOfTexts.{slice_within}
 use Rattle.gabc_score.proofs.slice.slice_of.Goals as goal
 
 pub returns : goal.returns

@@ -4,7 +4,7 @@ use Rattle.std.specs.Str.Iter.{chars_rest}
 use Rattle.std.proofs.lemmas.Str.{chars_past_char, IsUtf8-past_char}
 use Rattle.gabc_places.specs.Place.{place_past}
 use Rattle.gabc_places.proofs.PlacesOfAText.{within_on, shorter}
-use Rattle.gabc_places.proofs.Strings.{chars-none}
+use Rattle.gabc_places.proofs.texts.CharactersOfStrings.{chars-none}
 use Rattle.gabc_score.proofs.whole.place_past.Goals as goal
 
 pub loop-c-preserved : goal.loop-c-preserved
@@ -14,7 +14,7 @@ loop-c-preserved c =
     let rest = chars_rest c.loop-c.c-iterator in
     let next = chars_rest c.next.new.self in
     let past = chars_past_char rest next c.in-Some.c i.utf8 step in
-    let within = within_on c.loop-c.place (length rest) (length next) (1 + length c.args.front.now) (1 + length c.args.front.now) (shorter rest next c.in-Some.c step) i.line i.column c.in-Some.c c.after-place.result c.after-place.ensures.next in
+    let within = within_on c.loop-c.place (length rest) (length next) (1 + length c.args.prefix.now) (1 + length c.args.prefix.now) (shorter rest next c.in-Some.c step) i.line i.column c.in-Some.c c.after-place.result c.after-place.ensures.next in
     record {
       utf8 = IsUtf8-past_char rest next c.in-Some.c i.utf8 step;
       behind = ap (λ p. place_past p (chars next)) c.after-place.ensures.next ∙ (rw past at i.behind);

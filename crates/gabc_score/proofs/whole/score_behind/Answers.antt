@@ -1,10 +1,10 @@
 use Rattle.std.proofs.Common.{◌+◌, ap, sym, subst, ◌∙◌, arith, IsUtf8}
 use Rattle.std.specs.Str.{chars}
 use Rattle.gabc_headers.specs.Heads.{head_len}
-use Rattle.gabc_score.specs.Read.{events_left}
+use Rattle.gabc_score.specs.BodyStage.{events_left}
 use Rattle.gabc_score.specs.Score.{with_body}
-use Rattle.gabc_score.proofs.Fronts.{boundary_here, chars_front, chars_behind, utf8_here, body_is}
-use Rattle.gabc_score.proofs.Fitting.{fits_behind_front}
+use Rattle.gabc_score.proofs.texts_of_body.BodyBehindHeads.{boundary_here, chars_prefix, chars_behind, utf8_here, body_is}
+use Rattle.gabc_score.proofs.texts_of_body.StageAndDefinitionAgree.{fits_behind_prefix}
 use Rattle.gabc_score.proofs.whole.score_behind.Goals as goal
 
 pub split_at-requires : goal.split_at-requires
@@ -14,9 +14,9 @@ pub returns : goal.returns
 returns c =
     let t = c.args.text.now in
     let n = head_len t + 2 in
-    let front = ap chars c.split_at.ensures.front ∙ chars_front t c.as_str.result.now c.as_str.ensures.bytes c.as_str.utf8 n c.args.heads.body c.requires in
+    let prefix = ap chars c.split_at.ensures.front ∙ chars_prefix t c.as_str.result.now c.as_str.ensures.bytes c.as_str.utf8 n c.args.heads.body c.requires in
     let behind = ap chars c.split_at.ensures.back ∙ chars_behind t c.as_str.result.now c.as_str.ensures.bytes c.as_str.utf8 n c.args.heads.body c.requires in
     let utf8 = subst IsUtf8 (sym c.split_at.ensures.back) (utf8_here t c.as_str.result.now c.as_str.ensures.bytes c.as_str.utf8 n c.args.heads.body c.requires) in
-    let fits = fits_behind_front c.place_past.result c.split_at.result.0.now c.split_at.result.1.now utf8 c.place_past.ensures.line c.place_past.ensures.column (omega (arith, c.split_at.ensures.front_len, c.split_at.ensures.back_len, c.as_str.ensures.short)) in
+    let fits = fits_behind_prefix c.place_past.result c.split_at.result.0.now c.split_at.result.1.now utf8 c.place_past.ensures.line c.place_past.ensures.column (omega (arith, c.split_at.ensures.front_len, c.split_at.ensures.back_len, c.as_str.ensures.short)) in
     ap (with_body c.args.heads) (c.in_ok-syllables.ensures ∙ body_is c.args.limits c.args.ending t c.args.heads (events_left c.in_ok-stage.stage) c.nabc_lines.result c.macros_in.result c.canonical_len.result c.place_past.result
-    (chars c.split_at.result.0.now) (chars c.split_at.result.1.now) (c.in_ok-stage.ensures.said c.place_past.result (chars c.split_at.result.1.now) fits) c.nabc_lines.ensures c.macros_in.ensures c.canonical_len.ensures.len c.place_past.ensures.place front behind)
+    (chars c.split_at.result.0.now) (chars c.split_at.result.1.now) (c.in_ok-stage.ensures.facts c.place_past.result (chars c.split_at.result.1.now) fits) c.nabc_lines.ensures c.macros_in.ensures c.canonical_len.ensures.len c.place_past.ensures.place prefix behind)

@@ -1,5 +1,5 @@
 use Rattle.std.proofs.Common.{arith, length-append}
-use Rattle.gabc_text.proofs.Tags.{opened_is}
+use Rattle.gabc_text.proofs.printing.TagsOfStyleSets.{opened_is}
 use Rattle.gabc_text.proofs.canonical.opening_len.Goals as goal
 
 pub returns-clause-length : goal.returns-clause-length

@@ -1,7 +1,7 @@
 use Rattle.std.proofs.Common.{◌-◌, ◌^◌, min, ℕ, ap, arith}
 use Rattle.gabc_text.specs.Canonical.{listed_styles}
-use Rattle.gabc_text.proofs.Tags.{none_listed}
-use Rattle.gabc_text.proofs.Last.{last_text}
+use Rattle.gabc_text.proofs.printing.TagsOfStyleSets.{none_listed}
+use Rattle.gabc_text.proofs.printing.BehindTheLastPiece.{last_text}
 use Rattle.gabc_text.proofs.canonical.text_len.Goals as goal
 
 pub loop-index-init : goal.loop-index-init

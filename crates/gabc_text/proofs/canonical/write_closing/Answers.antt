@@ -1,5 +1,5 @@
 use Rattle.std.proofs.Common.{ℕ, List, ap, arith, length-append, append_assoc}
-use Rattle.gabc_text.proofs.Tags.{closed_is}
+use Rattle.gabc_text.proofs.printing.TagsOfStyleSets.{closed_is}
 use Rattle.gabc_text.proofs.canonical.write_closing.Goals as goal
 
 pub put-requires : goal.put-requires

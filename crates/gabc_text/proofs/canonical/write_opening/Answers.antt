@@ -1,5 +1,5 @@
 use Rattle.std.proofs.Common.{ℕ, List, ap, arith, length-append, append_assoc, append-nil}
-use Rattle.gabc_text.proofs.Tags.{opened_is}
+use Rattle.gabc_text.proofs.printing.TagsOfStyleSets.{opened_is}
 use Rattle.gabc_text.proofs.canonical.write_opening.Goals as goal
 
 pub put-requires : goal.put-requires

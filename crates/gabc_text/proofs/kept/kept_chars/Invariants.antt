@@ -1,5 +1,5 @@
 use Rattle.std.proofs.Common.{◌≡◌, take}
-use Rattle.gabc_text.specs.Told.{kept_chars_in}
+use Rattle.gabc_text.specs.BuiltText.{kept_chars_in}
 use Rattle.gabc_text.proofs.kept.kept_chars.Given as goal
 
 abbrev pub invariant-loop-event : goal.invariant-loop-event

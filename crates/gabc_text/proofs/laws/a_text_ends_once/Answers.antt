@@ -1,4 +1,4 @@
-use Rattle.gabc_text.proofs.Ending.{ends_once}
+use Rattle.gabc_text.proofs.events.TextEndsOnce.{ends_once}
 use Rattle.gabc_text.proofs.laws.a_text_ends_once.Goals as goal
 
 pub returns : goal.returns

@@ -1,4 +1,4 @@
-use Rattle.gabc_text.proofs.Written.{canonical_is}
+use Rattle.gabc_text.proofs.printing.CanonicalTextIsPrinted.{canonical_is}
 use Rattle.gabc_text.proofs.laws.canonical_is_printed.Goals as goal
 
 pub returns : goal.returns

@@ -1,4 +1,4 @@
-use Rattle.gabc_text.proofs.Ordered.{findings_ordered}
+use Rattle.gabc_text.proofs.order.FindingsAreInOrder.{findings_ordered}
 use Rattle.gabc_text.proofs.laws.findings_in_order.Goals as goal
 
 pub returns : goal.returns

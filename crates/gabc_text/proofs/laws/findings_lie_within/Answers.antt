@@ -1,9 +1,9 @@
-use Rattle.gabc_text.proofs.Lying.{found_within}
-use Rattle.gabc_text.proofs.Findings.{found_all, findings_low}
+use Rattle.gabc_text.proofs.order.FindingsLieWithin.{found_within}
+use Rattle.gabc_text.proofs.order.FindingsOfEvents.{found_all, findings_low}
 use Rattle.gabc_text.proofs.laws.findings_lie_within.Goals as goal
 
 pub returns-clause-within : goal.returns-clause-within
-returns-clause-within c at front rest = found_within at front rest
+returns-clause-within c at prefix rest = found_within at prefix rest
 
 pub returns-clause-all : goal.returns-clause-all
 returns-clause-all c at t = found_all at t

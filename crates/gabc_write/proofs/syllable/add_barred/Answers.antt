@@ -1,5 +1,5 @@
 use Rattle.std.proofs.Common.{string_bytes, rules}
-use Rattle.gabc_write.proofs.Snippets.{bar_fits}
+use Rattle.gabc_write.proofs.SnippetsWithBars.{bar_fits}
 use Rattle.gabc_write.proofs.syllable.add_barred.Goals as goal
 
 pub append-requires : goal.append-requires

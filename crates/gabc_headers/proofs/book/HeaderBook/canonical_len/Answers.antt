@@ -3,10 +3,10 @@ use Rattle.std.specs.Str.{chars}
 use Rattle.std.specs.String.{string_bytes}
 use Rattle.gabc_headers.specs.Lines.{bytes_len}
 use Rattle.gabc_headers.specs.Canonical.{header_line, header_lines, canonical_heads}
-use Rattle.gabc_headers.specs.Shown.{shown}
-use Rattle.gabc_headers.proofs.BookEntries.{length-shown}
-use Rattle.gabc_headers.proofs.Texts.{length-encodes}
-use Rattle.gabc_headers.proofs.BookReads.{lines_here, lines_none, heads_len}
+use Rattle.gabc_headers.specs.BookText.{shown_entries}
+use Rattle.gabc_headers.proofs.entries.EntriesLieInTheText.{length-shown}
+use Rattle.gabc_headers.proofs.entries.TextsAsBytes.{length-encodes}
+use Rattle.gabc_headers.proofs.entries.BookIsReadByEntry.{lines_here, lines_none, heads_len}
 use Rattle.gabc_headers.proofs.book.HeaderBook.canonical_len.Goals as goal
 
 -- one line more fits
@@ -20,11 +20,11 @@ index_end : (i e n m : ℕ) → i < e → e ≡ n → n ≡ m → i < m
 index_end i e n m l a b = omega arith
 
 pub name-requires : goal.name-requires
-name-requires c = rw (← c.self.view_is) (index_end c.loop-index.index c.len-index-end.result (length c.self.inside.entries.items) (length (shown (string_bytes c.self.inside.text) c.self.inside.entries.items))
+name-requires c = rw (← c.self.view_is) (index_end c.loop-index.index c.len-index-end.result (length c.self.inside.entries.items) (length (shown_entries (string_bytes c.self.inside.text) c.self.inside.entries.items))
     c.loop-index-test.true (c.len-index-end.ensures ∙ c.self.inside.entries.ok.0) (sym (length-shown (string_bytes c.self.inside.text) c.self.inside.entries.items)))
 
 pub value-requires : goal.value-requires
-value-requires c = rw (← c.self.view_is) (index_end c.loop-index.index c.len-index-end.result (length c.self.inside.entries.items) (length (shown (string_bytes c.self.inside.text) c.self.inside.entries.items))
+value-requires c = rw (← c.self.view_is) (index_end c.loop-index.index c.len-index-end.result (length c.self.inside.entries.items) (length (shown_entries (string_bytes c.self.inside.text) c.self.inside.entries.items))
     c.loop-index-test.true (c.len-index-end.ensures ∙ c.self.inside.entries.ok.0) (sym (length-shown (string_bytes c.self.inside.text) c.self.inside.entries.items)))
 
 pub overflow_add-len : goal.overflow_add-len
@@ -50,7 +50,7 @@ at_end i e n m l a b = omega arith
 
 pub returns-clause-len : goal.returns-clause-len
 returns-clause-len c =
-    let l : length c.args.self.now ≤ c.loop-index.index = rw (← c.self.view_is) (at_end c.loop-index.index c.len-index-end.result (length c.self.inside.entries.items) (length (shown (string_bytes c.self.inside.text) c.self.inside.entries.items))
+    let l : length c.args.self.now ≤ c.loop-index.index = rw (← c.self.view_is) (at_end c.loop-index.index c.len-index-end.result (length c.self.inside.entries.items) (length (shown_entries (string_bytes c.self.inside.text) c.self.inside.entries.items))
     c.loop-index-test.false (c.len-index-end.ensures ∙ c.self.inside.entries.ok.0) (sym (length-shown (string_bytes c.self.inside.text) c.self.inside.entries.items))) in
     sym (sym c.loop-index.invariant ∙ (ap (λ (n : ℕ). c.loop-index.len + n) (lines_none c.args.self.now c.loop-index.index l) ∙ add-zero c.loop-index.len))
 

@@ -1,5 +1,5 @@
 use Rattle.std.proofs.Common.{◌∙◌, sym, add-one}
-use Rattle.gabc_headers.proofs.BookReads.{named_here, named_later}
+use Rattle.gabc_headers.proofs.entries.BookIsReadByEntry.{named_here, named_later}
 use Rattle.gabc_headers.proofs.book.HeaderBook.get.Goals as goal
 
 pub returns-then-eq : goal.returns-then-eq

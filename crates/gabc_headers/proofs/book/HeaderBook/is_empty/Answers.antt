@@ -1,5 +1,5 @@
 use Rattle.std.specs.String.{string_bytes}
-use Rattle.gabc_headers.proofs.BookEntries.{length-shown}
+use Rattle.gabc_headers.proofs.entries.EntriesLieInTheText.{length-shown}
 use Rattle.gabc_headers.proofs.book.HeaderBook.is_empty.Goals as goal
 
 pub returns : goal.returns

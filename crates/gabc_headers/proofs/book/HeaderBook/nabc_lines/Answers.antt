@@ -1,6 +1,6 @@
 use Rattle.std.proofs.Common.{sym, ap, ◌∙◌, List, ℕ, Option}
 use Rattle.gabc_headers.specs.Book.{lines_by, value_named}
-use Rattle.gabc_headers.proofs.Texts.{chars-nabc_lines}
+use Rattle.gabc_headers.proofs.entries.TextsAsBytes.{chars-nabc_lines}
 use Rattle.gabc_headers.proofs.book.HeaderBook.nabc_lines.Goals as goal
 
 pub returns-in-Some : goal.returns-in-Some

@@ -1,8 +1,8 @@
 use Rattle.std.proofs.Common.{◌<◌, length, subst, sym, refl}
 use Rattle.std.specs.String.{string_bytes}
 use Rattle.gabc_headers.specs.declared.book.Entry.{Entry}
-use Rattle.gabc_headers.specs.Shown.{IsWithin}
-use Rattle.gabc_headers.proofs.BookEntries.{entry_within, length-shown, shown_get}
+use Rattle.gabc_headers.specs.BookText.{IsWithin}
+use Rattle.gabc_headers.proofs.entries.EntriesLieInTheText.{entry_within, length-shown, shown_get}
 use Rattle.gabc_headers.proofs.book.HeaderBook.name.Goals as goal
 
 pub index-entry-requires : goal.index-entry-requires

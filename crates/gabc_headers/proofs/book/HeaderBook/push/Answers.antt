@@ -2,8 +2,8 @@ use Rattle.std.proofs.Common.{List, ℕ, ◌++◌, IsUtf8}
 use Rattle.std.specs.String.{string_bytes}
 use Rattle.std.proofs.lemmas.Str.{IsUtf8-string_bytes, IsUtf8-append}
 use Rattle.gabc_headers.specs.declared.book.Entry.{Entry}
-use Rattle.gabc_headers.specs.Shown.{IsBook}
-use Rattle.gabc_headers.proofs.BookPush.{pushed_within, pushed_shown, shown-append, entries-append}
+use Rattle.gabc_headers.specs.BookText.{IsBook}
+use Rattle.gabc_headers.proofs.entries.PushedEntryIsShown.{pushed_within, pushed_shown, shown-append, entries-append}
 use Rattle.gabc_headers.proofs.book.HeaderBook.push.Goals as goal
 
 -- the entries that were there, over the longer text

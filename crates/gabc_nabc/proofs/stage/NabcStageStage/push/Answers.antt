@@ -1,29 +1,29 @@
 use Rattle.std.proofs.Common.{◌≤◌, ◌∷◌, ap, sym, Bool, true, false, cond, length, arith, Option, Some, None, []}
-use Rattle.gabc_notes.specs.declared.stage.NoteOut.{NoteOut}
-use Rattle.gabc_nabc.specs.Machine.{outputs, given_at, rest_of, given_in, role_at, seen_at}
-use Rattle.gabc_nabc.specs.declared.stage.Given.{Given}
+use Rattle.gabc_notes.specs.declared.stage.NoteEvent.{NoteEvent}
+use Rattle.gabc_nabc.specs.DescriptorMachine.{event_list, stage_events_at, events_left, events_in, role_at, facts_at}
+use Rattle.gabc_nabc.specs.declared.stage.NabcEvents.{NabcEvents}
 use Rattle.gabc_nabc.specs.declared.stage.NabcStage.{NabcStage}
 use Rattle.gabc_nabc.proofs.Stopping.{push_stops}
 use Rattle.gabc_nabc.proofs.stage.NabcStageStage.push.Goals as goal
 
-few_outputs : (b : Bool) (g : Given) → length (cond b [] (outputs g)) ≤ 3
+few_outputs : (b : Bool) (g : NabcEvents) → length (cond b [] (event_list g)) ≤ 3
 few_outputs true g = omega arith
 few_outputs false g = go g.first g.second
   where
-    go : (o p : Option NoteOut) → length (outputs (record { first = o; second = p })) ≤ 3
+    go : (o p : Option NoteEvent) → length (event_list (record { first = o; second = p })) ≤ 3
     go None None = omega arith
     go None (Some p) = omega arith
     go (Some o) None = omega arith
     go (Some o) (Some p) = omega arith
 
-pub returns-clause-gives : goal.returns-clause-gives
-returns-clause-gives c =
+pub returns-clause-events : goal.returns-clause-events
+returns-clause-events c =
     let st = c.args.self.now in
     let x = c.args.x in record {
-      given = given_at st x;
+      events = stage_events_at st x;
       out = c.take.ensures.out;
-      few = few_outputs st.ended (given_in (role_at st x.c) (seen_at st x.c) st.whole x);
-      law = λ xs. ap (λ (n : NabcStage). given_at st x ∷ rest_of n xs) (sym c.take.ensures.stage);
+      few = few_outputs st.ended (events_in (role_at st x.c) (facts_at st x.c) st.whole x);
+      law = λ xs. ap (λ (n : NabcStage). stage_events_at st x ∷ events_left n xs) (sym c.take.ensures.stage);
     }
 
 pub returns-clause-end : goal.returns-clause-end

@@ -1,4 +1,4 @@
-use Rattle.gabc_notes.proofs.Says.{fresh_says}
+use Rattle.gabc_notes.proofs.machine.FreshStageEmitsEventsByPoint.{fresh_says}
 use Rattle.gabc_notes.proofs.stage.NoteStage.new.Goals as goal
 
 pub returns : goal.returns

@@ -1,5 +1,5 @@
 use Rattle.std.proofs.Common.{◌∙◌}
-use Rattle.gabc_places.proofs.Regrouped.{joined-regrouped}
+use Rattle.gabc_places.proofs.ChainKeepsEvents.{joined-regrouped}
 use Rattle.gabc_places.proofs.chain.ChainStage.push.Goals as goal
 
 pub returns-clause-end : goal.returns-clause-end

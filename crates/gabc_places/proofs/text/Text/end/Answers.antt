@@ -3,7 +3,7 @@ use Rattle.std.specs.Str.{chars}
 use Rattle.std.specs.Str.Iter.{chars_rest}
 use Rattle.std.proofs.lemmas.Str.{chars_past_char, IsUtf8-past_char}
 use Rattle.gabc_places.specs.Place.{place_after}
-use Rattle.gabc_places.proofs.Strings.{chars-none}
+use Rattle.gabc_places.proofs.texts.CharactersOfStrings.{chars-none}
 use Rattle.gabc_places.proofs.text.Text.end.Goals as goal
 
 pub loop-c-init : goal.loop-c-init

@@ -1,5 +1,5 @@
 use Rattle.std.proofs.lemmas.Str.{IsUtf8-string_bytes}
-use Rattle.gabc_places.proofs.Strings.{chars-pushed}
+use Rattle.gabc_places.proofs.texts.CharactersOfStrings.{chars-pushed}
 use Rattle.gabc_places.proofs.text.Text.push.Goals as goal
 
 pub returns-clause-added : goal.returns-clause-added

@@ -2,7 +2,7 @@ use Rattle.std.proofs.Common.{List, ℕ, OnOk, subst, ◌≡◌, ◌++◌, filte
 use Rattle.std.specs.Str.{chars}
 use Rattle.std.proofs.lemmas.Str.{len_utf8_bounds}
 use Rattle.gabc_places.specs.Text.{is_shown}
-use Rattle.gabc_places.proofs.Strings.{shown-cut, all-shown}
+use Rattle.gabc_places.proofs.texts.CharactersOfStrings.{shown-cut, all-shown}
 use Rattle.gabc_places.proofs.text.Text.push_shown.Goals as goal
 
 pub loop-shown-smaller : goal.loop-shown-smaller

@@ -1,5 +1,5 @@
 use Rattle.std.proofs.lemmas.Str.{IsUtf8-string_bytes}
-use Rattle.gabc_places.proofs.Strings.{chars-added}
+use Rattle.gabc_places.proofs.texts.CharactersOfStrings.{chars-added}
 use Rattle.gabc_places.proofs.text.Text.push_str.Goals as goal
 
 pub returns : goal.returns

@@ -1,10 +1,10 @@
 use Rattle.std.proofs.Common.{◌∙◌, ap}
-use Rattle.gabc_text.specs.declared.seen.Seen.{Seen}
-use Rattle.gabc_text.specs.Step.{fresh}
-use Rattle.gabc_text.specs.Rest.{rest_of}
-use Rattle.gabc_text.proofs.Fresh.{fresh_gives}
+use Rattle.gabc_text.specs.declared.text_facts.TextFacts.{TextFacts}
+use Rattle.gabc_text.specs.TextStage.{fresh_stage}
+use Rattle.gabc_text.specs.EventsLeft.{events_left}
+use Rattle.gabc_text.proofs.machine.FreshStageEmitsEventsByPoint.{fresh_emits}
 use Rattle.gabc_text.proofs.stage.TextStage.new.Goals as goal
 
-pub returns-clause-gives : goal.returns-clause-gives
-returns-clause-gives c t fits =
-    ap (λ (x : Seen). rest_of (record (fresh c.args.at) { seen = x }) t) c.nothing_seen.ensures ∙ (fresh_gives c.args.at t fits).0
+pub returns-clause-events : goal.returns-clause-events
+returns-clause-events c t fits =
+    ap (λ (x : TextFacts). events_left (record (fresh_stage c.args.at) { facts = x }) t) c.no_facts.ensures ∙ (fresh_emits c.args.at t fits).0

@@ -2,9 +2,9 @@ use Rattle.std.proofs.Common.{◌≡◌, ◌==◌, [], ◌∷◌, refl, sym, ap,
 use Rattle.std.specs.Str.{chars, NonePass}
 use Rattle.std.specs.Str.Iter.{chars_rest}
 use Rattle.std.proofs.lemmas.Str.{chars_past_char, IsUtf8-past_char}
-use Rattle.gabc_text.specs.Raw.{pushed}
-use Rattle.gabc_text.proofs.Reaching.{chars_none}
-use Rattle.gabc_text.proofs.RawParts.{pass_goes}
+use Rattle.gabc_text.specs.machine.RawPart.{stage_past}
+use Rattle.gabc_text.proofs.machine.LoopOverText.{chars_none}
+use Rattle.gabc_text.proofs.machine.RawPartIsPassed.{pass_goes}
 use Rattle.gabc_text.proofs.stage.TextStage.pass.Goals as goal
 
 pub loop-c-init : goal.loop-c-init
@@ -24,11 +24,11 @@ loop-c-preserved c =
       utf8 = IsUtf8-past_char (chars_rest c.loop-c.c-iterator) (chars_rest c.next.new.self) c.in-Some.c i.utf8 step;
       raw = i.raw;
       no_ending = none.1;
-      passed = pass_goes c.loop-c.self _ c.spot_past-self.result c.in-Some.c (chars (chars_rest c.next.new.self)) i.raw none c.spot_past-self.ensures (rw past at i.passed);
+      passed = pass_goes c.loop-c.self _ c.progress_past-self.result c.in-Some.c (chars (chars_rest c.next.new.self)) i.raw none c.progress_past-self.ensures (rw past at i.passed);
     }
 
 pub returns : goal.returns
 returns c =
     let i = c.loop-c.invariant in
     let none : chars (chars_rest c.loop-c.c-iterator) ≡ [] = chars_none (chars_rest c.loop-c.c-iterator) c.in-None.ensures.steps.0.0 in
-    sym (ap (pushed c.loop-c.self) none) ∙ i.passed
+    sym (ap (stage_past c.loop-c.self) none) ∙ i.passed

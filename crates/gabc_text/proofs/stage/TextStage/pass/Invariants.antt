@@ -1,7 +1,7 @@
 use Rattle.std.proofs.Common.{◌≡◌, ◌==◌, true, IsUtf8}
 use Rattle.std.specs.Str.{chars, NonePass}
 use Rattle.std.specs.Str.Iter.{chars_rest}
-use Rattle.gabc_text.specs.Raw.{pushed, is_in_raw}
+use Rattle.gabc_text.specs.machine.RawPart.{stage_past, is_in_raw}
 use Rattle.gabc_text.proofs.stage.TextStage.pass.Given as goal
 
 abbrev pub invariant-loop-c : goal.invariant-loop-c
@@ -11,5 +11,5 @@ invariant-loop-c l = record {
   utf8 : IsUtf8 (chars_rest l.c-iterator);
   raw : is_in_raw l.self ≡ true;
   no_ending : NonePass (λ c. c == 60) (chars (chars_rest l.c-iterator));
-  passed : pushed l.self (chars (chars_rest l.c-iterator)) ≡ pushed l.initial.self (chars l.fn.text);
+  passed : stage_past l.self (chars (chars_rest l.c-iterator)) ≡ stage_past l.initial.self (chars l.fn.text);
 }

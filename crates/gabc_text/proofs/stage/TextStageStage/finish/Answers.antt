@@ -1,4 +1,4 @@
-use Rattle.gabc_text.proofs.Ahead.{finish_ends}
+use Rattle.gabc_text.proofs.machine.EventsLeftAreThoseAhead.{finish_ends}
 use Rattle.gabc_text.proofs.NothingBehindTheEnd.{finish_stops, finish_is_over}
 use Rattle.gabc_text.proofs.stage.TextStageStage.finish.Goals as goal
 

@@ -1,9 +1,9 @@
-use Rattle.gabc_text.proofs.Ahead.{push_gives}
+use Rattle.gabc_text.proofs.machine.EventsLeftAreThoseAhead.{push_emits}
 use Rattle.gabc_text.proofs.NothingBehindTheEnd.{push_stops}
 use Rattle.gabc_text.proofs.stage.TextStageStage.push.Goals as goal
 
-pub returns-clause-gives : goal.returns-clause-gives
-returns-clause-gives c = push_gives c.args.self.now c.take.new.self c.args.input c.args.out.now c.take.new.out c.take.ensures.stage c.take.ensures.out c.take.ensures.few
+pub returns-clause-events : goal.returns-clause-events
+returns-clause-events c = push_emits c.args.self.now c.take.new.self c.args.input c.args.out.now c.take.new.out c.take.ensures.stage c.take.ensures.out c.take.ensures.few
 
 pub returns-clause-end : goal.returns-clause-end
 returns-clause-end c = push_stops c.args.self.now c.args.input.c c.take.new.self c.args.out.now c.take.new.out c.take.ensures.stage c.take.ensures.out

@@ -1,0 +1,2 @@
+pub mod LengthOfHeaderLines
+pub mod WantsLinesLeftToRight

@@ -1,0 +1,4 @@
+pub mod EventsAddEntries
+pub mod EventsAddFindings
+pub mod HeadsFollowFromEvents
+pub mod HeadsWithinLimits

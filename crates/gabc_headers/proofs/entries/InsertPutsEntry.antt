@@ -1,0 +1,132 @@
+-- What `insert` does to the names and values.
+use Rattle.std.proofs.Common.{◌≡◌, ℕ, ◌<◌, ◌≤◌, suc, List, [], ◌∷◌, ◌++◌, length, Bool, true, false, cond, nat_eq, refl, sym, ap, ◌∙◌, subst, arith, le_refl, bytes_eq, length-append, IsUtf8, ◌||◌, is_some, Option, Some}
+use Rattle.std.proofs.lemmas.Bool.Decides.{nat_tests}
+use Rattle.std.specs.Str.{chars}
+use Rattle.std.specs.Map.{lookup}
+use Rattle.arrayvec.specs.ArrayString.{ArrayString}
+use Rattle.indexmap.specs.IndexMap.{insert_entry}
+use Rattle.gabc_headers.specs.declared.entry_map.Key.{Key}
+use Rattle.gabc_headers.specs.declared.entry_map.Key.TheVariants.{Name, Annotation}
+use Rattle.gabc_headers.specs.EntryMap.{is_annotation, with_value, put_entry}
+use Rattle.gabc_headers.specs.machine.EntryMap.{names, comes_again, key_name, named_entries, IsKeyBelow, AreKeysBelow}
+use Rattle.gabc_headers.specs.Book.{is_one_of}
+
+pub more_below : {X : Type 0} (n m : ℕ) (es : List (Key × X)) → n ≤ m → AreKeysBelow n es → AreKeysBelow m es
+more_below n m [] h b = tt
+more_below n m ((Name s, v) ∷ es) h b = (b.0, more_below n m es h b.1)
+more_below n m ((Annotation i, v) ∷ es) h b = ((let l : i < n = b.0 in omega arith), more_below n m es h b.1)
+
+pub below_push : {X : Type 0} (n : ℕ) (es : List (Key × X)) (k : Key) (v : X) → AreKeysBelow n es → IsKeyBelow n k → AreKeysBelow n (es ++ (k, v) ∷ [])
+below_push n [] k v b h = (h, tt)
+below_push n (e ∷ es) k v b h = (b.0, below_push n es k v b.1 h)
+
+pub named_push : {X : Type 0} (es : List (Key × X)) (k : Key) (v : X) → named_entries (es ++ (k, v) ∷ []) ≡ named_entries es ++ (key_name k, v) ∷ []
+named_push [] k v = refl
+named_push {X} (e ∷ es) k v = ap (λ (l : List (List ℕ × X)). (key_name e.0, e.1) ∷ l) (named_push es k v)
+
+-- over the comparison of keys that the map uses
+module _ {X : Type 0} (eq : Key → Key → Bool)
+    (same : (s t : ArrayString) → IsUtf8 s.bytes → IsUtf8 t.bytes → eq (Name s) (Name t) ≡ bytes_eq (chars s.bytes) (chars t.bytes))
+    (numbers : (i j : ℕ) → eq (Annotation i) (Annotation j) ≡ nat_eq i j)
+    (name_number : (s : ArrayString) (i : ℕ) → eq (Name s) (Annotation i) ≡ false)
+    (number_name : (s : ArrayString) (i : ℕ) → eq (Annotation i) (Name s) ≡ false) where
+  step : (b : Bool) (k : Key) (e : Key × X) (v : X) (es : List (Key × X)) → eq k e.0 ≡ b
+      → insert_entry eq (e ∷ es) k v ≡ cond b ((e.0, v) ∷ es) (e ∷ insert_entry eq es k v)
+  step true k e v es h = rw h refl
+  step false k e v es h = rw h refl
+
+  -- the number of the entries is a key that isn't there yet
+  pub insert_number : (n : ℕ) (v : X) (es : List (Key × X)) → AreKeysBelow n es → insert_entry eq es (Annotation n) v ≡ es ++ (Annotation n, v) ∷ []
+  insert_number n v [] b = refl
+  insert_number n v ((Name s, w) ∷ es) b = step false (Annotation n) (Name s, w) v es (number_name s n) ∙ ap (λ (l : List (Key × X)). (Name s, w) ∷ l) (insert_number n v es b.1)
+  insert_number n v ((Annotation i, w) ∷ es) b =
+      let l : i < n = b.0 in
+      let f : nat_eq n i ≡ false = grind (arith, nat_tests) in
+      step false (Annotation n) (Annotation i, w) v es (numbers n i ∙ f) ∙ ap (λ (l : List (Key × X)). (Annotation i, w) ∷ l) (insert_number n v es b.1)
+
+  pub put_number : (n : ℕ) (name : List ℕ) (v : X) (es : List (Key × X)) → AreKeysBelow n es → is_annotation name ≡ true → name ≡ key_name (Annotation n)
+      → named_entries (insert_entry eq es (Annotation n) v) ≡ put_entry (named_entries es) name v
+  put_number n name v es b a e = rw (insert_number n v es b, named_push es (Annotation n) v, a, e) refl
+
+  branch : (b : Bool) (a : List ℕ) (k : Key) (v w : X) (es r : List (Key × X)) (s : List (List ℕ × X)) → a ≡ key_name k → named_entries r ≡ s
+      → named_entries (cond b ((k, v) ∷ es) ((k, w) ∷ r)) ≡ cond b ((a, v) ∷ named_entries es) ((a, w) ∷ s)
+  branch true a k v w es r s e h = rw e refl
+  branch false a k v w es r s e h = rw (e, h) refl
+
+  pub insert_name : (n : ℕ) (s : ArrayString) (v : X) (es : List (Key × X)) → is_annotation (chars s.bytes) ≡ false → IsUtf8 s.bytes → AreKeysBelow n es
+      → named_entries (insert_entry eq es (Name s) v) ≡ with_value (named_entries es) (chars s.bytes) v
+  insert_name n s v [] a u b = refl
+  insert_name n s v ((Name t, w) ∷ es) a u b =
+      let e = chars t.bytes in
+      ap named_entries (step (bytes_eq (chars s.bytes) e) (Name s) (Name t, w) v es (same s t u b.0.1))
+      ∙ branch (bytes_eq (chars s.bytes) e) e (Name t) v w es (insert_entry eq es (Name s) v) (with_value (named_entries es) (chars s.bytes) v) refl (insert_name n s v es a u b.1)
+  insert_name n s v ((Annotation i, w) ∷ es) a u b =
+      ap named_entries (step false (Name s) (Annotation i, w) v es (name_number s i))
+      ∙ rw (a) (ap (λ (l : List (List ℕ × X)). (key_name (Annotation i), w) ∷ l) (insert_name n s v es a u b.1))
+
+  pub put_name : (n : ℕ) (s : ArrayString) (name : List ℕ) (v : X) (es : List (Key × X)) → s.bytes ≡ name → is_annotation (chars name) ≡ false → IsUtf8 name → AreKeysBelow n es
+      → named_entries (insert_entry eq es (Name s) v) ≡ put_entry (named_entries es) (chars name) v
+  put_name n s name v es e a u b = rw (a)
+      (subst (λ (x : List ℕ). named_entries (insert_entry eq es (Name s) v) ≡ with_value (named_entries es) (chars x) v) e
+      (insert_name n s v es (ap (λ (x : List ℕ). is_annotation (chars x)) e ∙ a) (subst IsUtf8 (sym e) u) b))
+
+  -- the number of the entries finds none
+  pub number_new : (n : ℕ) (es : List (Key × X)) → AreKeysBelow n es → is_some (lookup (eq (Annotation n)) es) ≡ false
+  number_new n [] b = refl
+  number_new n ((Name s, w) ∷ es) b = rw (number_name s n) (number_new n es b.1)
+  number_new n ((Annotation i, w) ∷ es) b =
+      let l : i < n = b.0 in
+      let f : nat_eq n i ≡ false = grind (arith, nat_tests) in
+      rw (numbers n i ∙ f) (number_new n es b.1)
+
+  some_branch : (b : Bool) (w : X) (o : Option X) (c : Bool) → is_some o ≡ c → is_some (cond b (Some w) o) ≡ (b || c)
+  some_branch true w o c h = refl
+  some_branch false w o c h = h
+
+  found_name : (n : ℕ) (s : ArrayString) (es : List (Key × X)) → is_annotation (chars s.bytes) ≡ false → IsUtf8 s.bytes → AreKeysBelow n es
+      → is_some (lookup (eq (Name s)) es) ≡ is_one_of (chars s.bytes) (names (named_entries es))
+  found_name n s [] a u b = refl
+  found_name n s ((Name t, w) ∷ es) a u b = rw (same s t u b.0.1)
+      (some_branch (bytes_eq (chars s.bytes) (chars t.bytes)) w (lookup (eq (Name s)) es) (is_one_of (chars s.bytes) (names (named_entries es))) (found_name n s es a u b.1))
+  found_name n s ((Annotation i, w) ∷ es) a u b = rw (name_number s i, a) (found_name n s es a u b.1)
+
+  -- a name is found exactly if it comes again
+  pub name_again : (n : ℕ) (s : ArrayString) (name : List ℕ) (es : List (Key × X)) → s.bytes ≡ name → is_annotation (chars name) ≡ false → IsUtf8 name → AreKeysBelow n es
+      → is_some (lookup (eq (Name s)) es) ≡ comes_again (named_entries es) (chars name)
+  name_again n s name es e a u b = rw (a)
+      (subst (λ (x : List ℕ). is_some (lookup (eq (Name s)) es) ≡ is_one_of (chars x) (names (named_entries es))) e
+      (found_name n s es (ap (λ (x : List ℕ). is_annotation (chars x)) e ∙ a) (subst IsUtf8 (sym e) u) b))
+
+  below_branch : (b : Bool) (n : ℕ) (k : Key) (v w : X) (es r : List (Key × X)) → IsKeyBelow n k → AreKeysBelow n es → AreKeysBelow n r
+      → AreKeysBelow n (cond b ((k, v) ∷ es) ((k, w) ∷ r))
+  below_branch true n k v w es r h b c = (h, b)
+  below_branch false n k v w es r h b c = (h, c)
+
+  below_name : (n : ℕ) (s : ArrayString) (v : X) (es : List (Key × X)) → is_annotation (chars s.bytes) ≡ false → IsUtf8 s.bytes → AreKeysBelow n es → AreKeysBelow n (insert_entry eq es (Name s) v)
+  below_name n s v [] a u b = ((a, u), tt)
+  below_name n s v (e ∷ es) a u b =
+      subst (AreKeysBelow n) (sym (step (eq (Name s) e.0) (Name s) e v es refl))
+      (below_branch (eq (Name s) e.0) n e.0 v e.1 es (insert_entry eq es (Name s) v) b.0 b.1 (below_name n s v es a u b.1))
+
+  longer : (b : Bool) (e f : Key × X) (es r : List (Key × X)) → length es ≤ length r → length (e ∷ es) ≤ length (cond b (f ∷ es) (e ∷ r))
+  longer true e f es r h = le_refl (suc (length es))
+  longer false e f es r h = omega (arith)
+
+  length_insert : (k : Key) (v : X) (es : List (Key × X)) → length es ≤ length (insert_entry eq es k v)
+  length_insert k v [] = omega arith
+  length_insert k v (e ∷ es) = subst (λ (l : List (Key × X)). length (e ∷ es) ≤ length l) (sym (step (eq k e.0) k e v es refl))
+      (longer (eq k e.0) e (e.0, v) es (insert_entry eq es k v) (length_insert k v es))
+
+  pub name_below : (s : ArrayString) (name : List ℕ) (v : X) (es : List (Key × X)) → s.bytes ≡ name → is_annotation (chars name) ≡ false → IsUtf8 name → AreKeysBelow (length es) es
+      → AreKeysBelow (length (insert_entry eq es (Name s) v)) (insert_entry eq es (Name s) v)
+  name_below s name v es e a u b = more_below (length es) (length (insert_entry eq es (Name s) v)) (insert_entry eq es (Name s) v)
+      (length_insert (Name s) v es) (below_name (length es) s v es (ap (λ (x : List ℕ). is_annotation (chars x)) e ∙ a) (subst IsUtf8 (sym e) u) b)
+
+  pub number_below : (v : X) (es : List (Key × X)) → AreKeysBelow (length es) es
+      → AreKeysBelow (length (insert_entry eq es (Annotation (length es)) v)) (insert_entry eq es (Annotation (length es)) v)
+  number_below v es b =
+      let m : length es ≤ length (es ++ (Annotation (length es), v) ∷ []) = omega (arith, length-append es ((Annotation (length es), v) ∷ [])) in
+      let l : length es < length (es ++ (Annotation (length es), v) ∷ []) = omega (arith, length-append es ((Annotation (length es), v) ∷ [])) in
+      subst (λ (x : List (Key × X)). AreKeysBelow (length x) x) (sym (insert_number (length es) v es b))
+      (below_push (length (es ++ (Annotation (length es), v) ∷ [])) es (Annotation (length es)) v
+      (more_below (length es) (length (es ++ (Annotation (length es), v) ∷ [])) es m b) l)

@@ -1,0 +1,66 @@
+-- Reading what is gathered entry by entry.
+use Rattle.std.proofs.Common.{◌≡◌, ℕ, ◌<◌, ◌≤◌, ◌+◌, ◌^◌, ◌-◌, suc, zero, min, List, [], ◌∷◌, ◌++◌, length, drop, arith, refl, sym, ap, ◌∙◌, codes, Option, Some, None, slice_get, slice_range, IsSomeAnd, append_assoc, subst}
+use Rattle.std.specs.Str.{chars}
+use Rattle.gabc_places.specs.declared.place.Span.{Span}
+use Rattle.gabc_headers.specs.declared.entry_map.Key.{Key}
+use Rattle.gabc_headers.specs.Lines.{bytes_len}
+use Rattle.gabc_headers.specs.Canonical.{header_line, header_lines, canonical_heads}
+use Rattle.gabc_headers.specs.machine.EntryMap.{key_name, named_entries, spelled_entries, AreWithin}
+use Rattle.gabc_headers.specs.BookText.{IsWithin}
+use Rattle.gabc_headers.proofs.entries.TextsAsBytes.{bytes_len-append}
+
+pub length-named : {X : Type 0} (es : List (Key × X)) → length (named_entries es) ≡ length es
+length-named [] = refl
+length-named (e ∷ es) = ap suc (length-named es)
+
+-- the entry of an index, with the name of its key
+pub named_get : {X : Type 0} (es : List (Key × X)) (i : ℕ) (e : Key × X) → Some e ≡ slice_get es i → slice_get (named_entries es) i ≡ Some (key_name e.0, e.1)
+named_get [] i e h = absurd (cc)
+named_get {X} (d ∷ es) zero e h = sym (ap (λ (o : Option (Key × X)). elim o [ Some p ↦ Some (key_name p.0, p.1) | None ↦ None ]) h)
+named_get (d ∷ es) (suc i) e h = named_get es i e h
+
+-- the span at an index lies in the text
+pub within_get : (text : List ℕ) (es : List (List ℕ × Span)) (i : ℕ) (s : Span) → AreWithin text es → IsSomeAnd (slice_get es i) (λ e. e.1 ≡ s) → IsWithin text s
+within_get text [] i s w h = absurd h
+within_get text (d ∷ es) zero s w h = subst (IsWithin text) h w.0
+within_get text (d ∷ es) (suc i) s w h = within_get text es i s w.1 h
+
+-- the lines from this entry on
+pub spelled_here : (text : List ℕ) (es : List (List ℕ × Span)) (i : ℕ) (n : List ℕ) (s : Span)
+    → IsSomeAnd (slice_get es i) (λ e. chars n ≡ e.0) → IsSomeAnd (slice_get es i) (λ e. e.1 ≡ s)
+    → spelled_entries text (drop i es) ≡ (chars n, chars (slice_range text s.from s.to)) ∷ spelled_entries text (drop (suc i) es)
+spelled_here text [] i n s h k = absurd h
+spelled_here text (d ∷ es) zero n s h k = rw (h, ← k) refl
+spelled_here text (d ∷ es) (suc i) n s h k = spelled_here text es i n s h k
+
+pub spelled_none : (text : List ℕ) (es : List (List ℕ × Span)) (i : ℕ) → length es ≤ i → spelled_entries text (drop i es) ≡ []
+spelled_none text [] zero l = refl
+spelled_none text [] (suc i) l = refl
+spelled_none text (d ∷ es) zero l = absurd (omega arith)
+spelled_none text (d ∷ es) (suc i) l = spelled_none text es i (omega arith)
+
+pub lines_cons : (e : List ℕ × List ℕ) (es : List (List ℕ × List ℕ)) → bytes_len (header_lines (e ∷ es)) ≡ bytes_len (header_line e) + bytes_len (header_lines es)
+lines_cons e es = bytes_len-append (header_line e) (header_lines es)
+
+-- a sum that stops at the largest number
+pub sum_next : (n l r t b m : ℕ) → min (n + (l + r)) (2 ^ 64 - 1) ≡ t → b ≡ min l (2 ^ 64 - 1) → m ≡ min (n + b) (2 ^ 64 - 1) → min (m + r) (2 ^ 64 - 1) ≡ t
+sum_next n l r t b m e f g = omega arith
+
+lines_append : (es fs : List (List ℕ × List ℕ)) → header_lines (es ++ fs) ≡ header_lines es ++ header_lines fs
+lines_append [] fs = refl
+lines_append (e ∷ es) fs = ap (λ (x : List ℕ). header_line e ++ x) (lines_append es fs) ∙ sym (append_assoc (header_line e) (header_lines es) (header_lines fs))
+
+-- the first entries have no more bytes than all
+pub first_entries : (es fs : List (List ℕ × List ℕ)) → bytes_len (canonical_heads es) ≤ bytes_len (canonical_heads (es ++ fs))
+first_entries es fs =
+    let a = bytes_len-append (header_lines es) (codes "%%") in
+    let b = bytes_len-append (header_lines (es ++ fs)) (codes "%%") in
+    let c = bytes_len-append (header_lines es) (header_lines fs) in
+    let d = ap (λ (x : List ℕ). bytes_len x) (lines_append es fs) in
+    omega (arith, a, b, c, d)
+
+-- below the length there is an entry
+pub get_none : {X : Type 0} (es : List X) (i : ℕ) → None ≡ slice_get es i → i < length es → ⊥
+get_none [] i h l = omega arith
+get_none (e ∷ es) zero h l = absurd (cc)
+get_none (e ∷ es) (suc i) h l = get_none es i h (omega arith)

@@ -1,5 +1,0 @@
-use Rattle.gabc_headers.proofs.GatherReads.{length-named}
-use Rattle.gabc_headers.proofs.gathered.Gathered.len.Goals as goal
-
-pub returns : goal.returns
-returns c = rw (← c.self.view_is, length-named c.self.inside.map.entries) c.len.ensures.len

@@ -1,0 +1,5 @@
+pub mod BookNeedsScoreLine
+pub mod GroupsAreUnique
+pub mod GroupsTellParts
+pub mod NamesAreShort
+pub mod TextBeforeScore

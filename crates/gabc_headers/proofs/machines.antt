@@ -1,0 +1,11 @@
+pub mod EventSpansLieInText
+pub mod EventsAreEarlyParts
+pub mod EventsAreParts
+pub mod MachineOverText
+pub mod OnePush
+pub mod OneStepByCharacter
+pub mod PartMachineOfBytes
+pub mod PartsBehindState
+pub mod SpansOfBytes
+pub mod TrimAsLoop
+pub mod TrimByCharacter

@@ -1,0 +1,2 @@
+pub mod PrefixOfMark
+pub mod RunByCharacter

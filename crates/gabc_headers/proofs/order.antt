@@ -1,0 +1,3 @@
+pub mod FindingsLieBeforeBody
+pub mod FindingsStandInOrder
+pub mod FoundBeforeAPoint

@@ -1,8 +1,0 @@
-use Rattle.std.specs.Str.{chars, IsUtf8}
-use Rattle.std.specs.Str.Iter.{chars_rest}
-use Rattle.gabc_headers.specs.Pushes.{IsBounded}
-use Rattle.gabc_headers.proofs.Pushing.{Following}
-use Rattle.gabc_headers.proofs.read.read_parts.Given as goal
-
-abbrev pub invariant-loop-c : goal.invariant-loop-c
-invariant-loop-c l = IsUtf8 (chars_rest l.c-iterator) × IsBounded l.reader × Following l.text l.limit (chars (chars_rest l.c-iterator)) l.reader l.events.items

@@ -1,0 +1,4 @@
+pub mod HeadsByEnding
+pub mod MachineEndsAtStop
+pub mod PointsOfStops
+pub mod TextTooLong

@@ -1,0 +1,142 @@
+-- Where the text is too long, and the place behind a text.
+use Rattle.std.proofs.Common.{◌≡◌, ℕ, ◌+◌, ◌-◌, ◌<◌, ◌≤◌, suc, List, [], ◌∷◌, ◌++◌, length, take, get_or, Bool, true, false, cond, ◌&&◌, ◌||◌, ◌==◌, not, nat_lt, Some, None, refl, ap, ◌∙◌, arith, length-append, length-drop, append_assoc}
+use Rattle.std.specs.Option.{option_map}
+use Rattle.std.specs.Char.{len_utf8}
+use Rattle.std.specs.List.{suffix_len, prefix_len, after_last, count_by}
+use Rattle.std.proofs.Math.Seq.{take-append_seam, get_or-append_seam}
+use Rattle.std.proofs.lemmas.List.{reverse-append}
+use Rattle.std.proofs.lemmas.Bool.Decides.{nat_tests}
+use Rattle.std.proofs.lemmas.List.Sums.{sum_by-cons, sum_by-append, suffix_len-le-length}
+use Rattle.gabc_places.specs.declared.place.Place.{Place}
+use Rattle.gabc_places.specs.declared.code.Code.TheVariants.{F4}
+use Rattle.gabc_places.specs.Findings.{Stop}
+use Rattle.gabc_places.specs.Place.{is_line_feed, place_after, next_place}
+use Rattle.gabc_headers.specs.Lines.{bytes_len}
+use Rattle.gabc_headers.specs.Heads.{head_len, first_above, too_long, text_stops, stop_at, is_line_percent}
+use Rattle.gabc_headers.proofs.groups.TextBeforeScore.{head_text, head_length, head_prefix}
+
+-- ---- the first character above the limit
+
+-- no character is above the limit in a text within it
+above_none : (limit : ℕ) (t : List ℕ) → bytes_len t ≤ limit → first_above limit t ≡ None
+above_none limit [] h = refl
+above_none limit (c ∷ t) h =
+    let q : bytes_len (c ∷ t) ≡ len_utf8 c + bytes_len t = sum_by-cons len_utf8 c t in
+    let e : nat_lt limit (len_utf8 c) ≡ false = grind (arith, nat_tests) in
+    ap (λ (b : Bool). cond b (Some 0) (option_map (λ (n : ℕ). n + 1) (first_above (limit - len_utf8 c) t))) e
+    ∙ ap (option_map (λ (n : ℕ). n + 1)) (above_none (limit - len_utf8 c) t (omega arith))
+
+-- the first character above the limit
+above_at : (limit : ℕ) (done r : List ℕ) (c : ℕ) → bytes_len done ≤ limit → limit < bytes_len done + len_utf8 c → first_above limit (done ++ c ∷ r) ≡ Some (length done)
+above_at limit [] r c h l =
+    let e : nat_lt limit (len_utf8 c) ≡ true = grind (arith, nat_tests) in
+    ap (λ (b : Bool). cond b (Some 0) (option_map (λ (n : ℕ). n + 1) (first_above (limit - len_utf8 c) r))) e
+above_at limit (d ∷ done) r c h l =
+    let q : bytes_len (d ∷ done) ≡ len_utf8 d + bytes_len done = sum_by-cons len_utf8 d done in
+    let e : nat_lt limit (len_utf8 d) ≡ false = grind (arith, nat_tests) in
+    let n : length done + 1 ≡ suc (length done) = omega arith in
+    ap (λ (b : Bool). cond b (Some 0) (option_map (λ (n : ℕ). n + 1) (first_above (limit - len_utf8 d) (done ++ c ∷ r)))) e
+    ∙ (ap (option_map (λ (n : ℕ). n + 1)) (above_at (limit - len_utf8 d) done r c (omega arith) (omega arith)) ∙ ap (λ (x : ℕ). Some x) n)
+
+-- ---- the stop of a text that is too long
+
+-- the text before the line `%%`
+pub take_head : (t : List ℕ) → take (head_len t) t ≡ head_text true t
+take_head t =
+    let f = head_prefix true t in
+    ap (λ (n : ℕ). take n t) (head_length t) ∙ (ap (take (length (head_text true t))) f.1 ∙ take-append_seam (head_text true t) f.0)
+
+-- a text within the limit does not stop
+pub stops_none : (limit : ℕ) (t : List ℕ) → bytes_len (head_text true t) ≤ limit → text_stops limit t ≡ []
+stops_none limit t h = ap (λ (x : List ℕ). too_long t (first_above limit x)) (take_head t) ∙ ap (too_long t) (above_none limit (head_text true t) h)
+
+-- a text above the limit stops by that character
+stops_by : (limit : ℕ) (t done r : List ℕ) (c : ℕ) → head_text true t ≡ done ++ c ∷ r → bytes_len done ≤ limit → limit < bytes_len done + len_utf8 c
+    → text_stops limit t ≡ too_long t (Some (length done))
+stops_by limit t done r c e h l = ap (λ (x : List ℕ). too_long t (first_above limit x)) (take_head t ∙ e) ∙ ap (too_long t) (above_at limit done r c h l)
+
+-- ---- the place behind a character
+
+-- the characters behind the last LF
+after_len : (t : List ℕ) → length (after_last is_line_feed t) ≡ suffix_len (λ (x : ℕ). not (is_line_feed x)) t
+after_len t =
+    let a = length-drop (length t - suffix_len (λ (x : ℕ). not (is_line_feed x)) t) t in
+    let b = suffix_len-le-length (λ (x : ℕ). not (is_line_feed x)) t in
+    omega arith
+
+-- one more at the end
+suffix_more : (p : ℕ → Bool) (t : List ℕ) (c : ℕ) → suffix_len p (t ++ c ∷ []) ≡ cond (p c) (1 + suffix_len p t) 0
+suffix_more p t c = ap (prefix_len p) (reverse-append t (c ∷ []))
+
+-- the place behind one character more
+pub place_push : (t : List ℕ) (c : ℕ) → next_place (place_after t) c ≡ place_after (t ++ c ∷ [])
+place_push t c = by (is_line_feed c) refl
+  where
+    n : count_by is_line_feed (t ++ c ∷ []) ≡ count_by is_line_feed t + cond (is_line_feed c) 1 0
+    n = let a = sum_by-append (λ (x : ℕ). cond (is_line_feed x) 1 0) t (c ∷ []) in omega arith
+
+    m : length (after_last is_line_feed (t ++ c ∷ [])) ≡ cond (not (is_line_feed c)) (1 + suffix_len (λ (x : ℕ). not (is_line_feed x)) t) 0
+    m = after_len (t ++ c ∷ []) ∙ suffix_more (λ (x : ℕ). not (is_line_feed x)) t c
+
+    both : (a b k l : ℕ) → a ≡ b → k ≡ l → ◌≡◌ {A = Place} (record { line = a; column = k }) (record { line = b; column = l })
+    both a b k l e f = ap (λ (x : ℕ). record { line = x; column = k }) e ∙ ap (λ (x : ℕ). record { line = b; column = x }) f
+
+    by : (b : Bool) → is_line_feed c ≡ b → cond {A = Place} b (record { line = (1 + count_by is_line_feed t) + 1; column = 1 }) (record { line = 1 + count_by is_line_feed t; column = (1 + length (after_last is_line_feed t)) + 1 })
+        ≡ place_after (t ++ c ∷ [])
+    by true e =
+        let w = n in
+        let v = m in
+        let x = ap (λ (b : Bool). cond {A = ℕ} b 1 0) e in
+        let y = ap (λ (b : Bool). cond {A = ℕ} (not b) (1 + suffix_len (λ (x : ℕ). not (is_line_feed x)) t) 0) e in
+        both ((1 + count_by is_line_feed t) + 1) (1 + count_by is_line_feed (t ++ c ∷ [])) 1 (1 + length (after_last is_line_feed (t ++ c ∷ []))) (omega arith) (omega arith)
+    by false e =
+        let w = n in
+        let v = m in
+        let x = ap (λ (b : Bool). cond {A = ℕ} b 1 0) e in
+        let y = ap (λ (b : Bool). cond {A = ℕ} (not b) (1 + suffix_len (λ (x : ℕ). not (is_line_feed x)) t) 0) e in
+        let z = after_len t in
+        both (1 + count_by is_line_feed t) (1 + count_by is_line_feed (t ++ c ∷ [])) ((1 + length (after_last is_line_feed t)) + 1) (1 + length (after_last is_line_feed (t ++ c ∷ []))) (omega arith) (omega arith)
+
+-- ---- a line's start
+
+-- whether the text that follows these characters begins a line
+abbrev pub Begins : List ℕ → Bool → Type 0
+Begins done starts = (x : List ℕ) → ((length done == 0) || (get_or (done ++ x) (length done - 1) 0 == 10)) ≡ starts
+
+-- an LF begins a line, and nothing else does
+pub begins_push : (done : List ℕ) (c : ℕ) → Begins (done ++ c ∷ []) (c == 10)
+begins_push done c x =
+    let l = length-append done (c ∷ []) in
+    let z : (length (done ++ c ∷ []) == 0) ≡ false = grind (arith, nat_tests) in
+    let n : length (done ++ c ∷ []) - 1 ≡ length done = omega arith in
+    ap (λ (b : Bool). b || (get_or ((done ++ c ∷ []) ++ x) (length (done ++ c ∷ []) - 1) 0 == 10)) z
+    ∙ (ap (λ (k : ℕ). get_or ((done ++ c ∷ []) ++ x) k 0 == 10) n
+    ∙ (ap (λ (y : List ℕ). get_or y (length done) 0 == 10) (append_assoc done (c ∷ []) x) ∙ ap (λ (k : ℕ). k == 10) (get_or-append_seam done c x 0)))
+
+-- whether a `%` that begins a line stands here
+line_percent : (t done r : List ℕ) (c : ℕ) (starts : Bool) → t ≡ done ++ c ∷ r → Begins done starts → is_line_percent t (length done) ≡ ((c == 37) && starts)
+line_percent t done r c starts e b =
+    ap (λ (y : List ℕ). is_line_percent y (length done)) e
+    ∙ (ap (λ (k : ℕ). (k == 37) && ((length done == 0) || (get_or (done ++ c ∷ r) (length done - 1) 0 == 10))) (get_or-append_seam done c r 0)
+    ∙ ap (λ (x : Bool). (c == 37) && x) (b (c ∷ r)))
+
+module _ (limit : ℕ) (t done r : List ℕ) (c : ℕ) (starts : Bool) (e : t ≡ done ++ c ∷ r) (b : Begins done starts) where
+  -- the text before the character
+  prefix : take (length done) t ≡ done
+  prefix = ap (take (length done)) e ∙ take-append_seam done (c ∷ r)
+
+  -- the character with which the text is too long
+  pub stops_here : (back : List ℕ) → head_text true t ≡ done ++ c ∷ back → bytes_len done ≤ limit → limit < bytes_len done + len_utf8 c → ((c == 37) && starts) ≡ false
+      → text_stops limit t ≡ stop_at (length done) (place_after done) F4 ∷ []
+  stops_here back h k l q = stops_by limit t done back c h k l
+      ∙ (ap (λ (x : Bool). cond {A = List Stop} x (cond (nat_lt (length done + 1) (length t)) (stop_at (length done + 1) (place_after (take (length done) t)) F4 ∷ []) []) (stop_at (length done) (place_after (take (length done) t)) F4 ∷ []))
+      (line_percent t done r c starts e b ∙ q)
+      ∙ ap (λ (x : List ℕ). stop_at (length done) (place_after x) F4 ∷ []) prefix)
+
+  -- a `%` at the start of a line, with which the text is too long
+  pub stops_held : (back : List ℕ) → head_text true t ≡ done ++ c ∷ back → bytes_len done ≤ limit → limit < bytes_len done + len_utf8 c → ((c == 37) && starts) ≡ true
+      → text_stops limit t ≡ cond (nat_lt (length done + 1) (length t)) (stop_at (length done + 1) (place_after done) F4 ∷ []) []
+  stops_held back h k l q = stops_by limit t done back c h k l
+      ∙ (ap (λ (x : Bool). cond {A = List Stop} x (cond (nat_lt (length done + 1) (length t)) (stop_at (length done + 1) (place_after (take (length done) t)) F4 ∷ []) []) (stop_at (length done) (place_after (take (length done) t)) F4 ∷ []))
+      (line_percent t done r c starts e b ∙ q)
+      ∙ ap (λ (x : List ℕ). cond (nat_lt (length done + 1) (length t)) (stop_at (length done + 1) (place_after x) F4 ∷ []) []) prefix)

@@ -1,0 +1,4 @@
+pub mod CodesAreOfGlyphs
+pub mod CodesAreTwoLetters
+pub mod CodesByPlace
+pub mod NameOfFirstRow

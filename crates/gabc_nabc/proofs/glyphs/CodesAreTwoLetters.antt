@@ -1,0 +1,124 @@
+-- The codes that the table spells.
+use Rattle.std.proofs.Common.{◌≡◌, ℕ, ◌≤◌, List, [], ◌∷◌, ◌++◌, Bool, true, false, not, ◌&&◌, ◌||◌, ◌==◌, refl, sym, ap, ◌∙◌, subst, codes, arith, IsTrue, ◌↔◌, inl, inr}
+use native.Mathlib.Decide.{dec_lt}
+use Rattle.std.proofs.lemmas.Bool.Decides.{nat_tests}
+use Rattle.gabc_patterns.specs.Pattern.{Spells, one_of, ◌·◌, is_in}
+use Rattle.gabc_patterns.proofs.BothOfTwoTests.{and_true}
+use Rattle.gabc_patterns.proofs.AutomatonsByTests.{below, below_at, alike, alike_equal}
+use Rattle.gabc_nabc.specs.Table.{code}
+use Rattle.gabc_nabc.specs.Events.{is_letter, begins_code, is_code}
+
+abbrev pub letters : List ℕ
+letters = codes "abcdefghijklmnopqrstuvwxyz"
+
+abbrev pub firsts : List ℕ
+firsts = codes "abcdefgijkmnoqrtuvwxyz"
+
+abbrev pub behind_s : List ℕ
+behind_s = codes "abcdefghijklmnopqrstvwxyz"
+
+abbrev pub behind_p : List ℕ
+behind_p = codes "abcdefghijklmnoqrstuvwxyz"
+
+abbrev pub behind_l : List ℕ
+behind_l = codes "abcdefghijklmnopqruvwxyz"
+
+-- ---- two tests of one character are alike
+
+below_or_beyond : (f g : ℕ → Bool) → below 128 (λ c. alike (f c) (g c)) ≡ true → ((c : ℕ) → 128 ≤ c → f c ≡ g c) → (c : ℕ) → f c ≡ g c
+below_or_beyond f g t far c = elim (dec_lt c 128) [
+  | yes l ↦ alike_equal (f c) (g c) (below_at 128 (λ d. alike (f d) (g d)) c t l)
+  | no n ↦ far c (omega arith)
+]
+
+letters_are : (c : ℕ) → is_in c letters ≡ is_letter c
+letters_are = below_or_beyond (λ c. is_in c letters) is_letter refl (λ c h. grind (arith, nat_tests))
+
+firsts_are : (a : ℕ) → is_in a firsts ≡ (begins_code a && (not (a == 115) && (not (a == 112) && not (a == 108))))
+firsts_are = below_or_beyond (λ a. is_in a firsts) (λ a. begins_code a && (not (a == 115) && (not (a == 112) && not (a == 108)))) refl (λ c h. grind (arith, nat_tests))
+
+behind_s_are : (c : ℕ) → is_in c behind_s ≡ is_code 115 c
+behind_s_are = below_or_beyond (λ c. is_in c behind_s) (is_code 115) refl (λ c h. grind (arith, nat_tests))
+
+behind_p_are : (c : ℕ) → is_in c behind_p ≡ is_code 112 c
+behind_p_are = below_or_beyond (λ c. is_in c behind_p) (is_code 112) refl (λ c h. grind (arith, nat_tests))
+
+behind_l_are : (c : ℕ) → is_in c behind_l ≡ is_code 108 c
+behind_l_are = below_or_beyond (λ c. is_in c behind_l) (is_code 108) refl (λ c h. grind (arith, nat_tests))
+
+-- ---- what two letters spell
+
+-- one of these, and one of those
+pair_to : (cs ds : List ℕ) (a c : ℕ) → Spells (one_of cs · one_of ds) (a ∷ c ∷ []) → (is_in a cs ≡ true) × (is_in c ds ≡ true)
+pair_to cs ds a c (x, y, (k, h, e), (l, i, f), g) =
+    let both : a ∷ c ∷ [] ≡ k ∷ l ∷ [] = g ∙ (ap (λ (u : List ℕ). u ++ y) e ∙ ap (λ (u : List ℕ). k ∷ u) f) in
+    let first : k ≡ a = cc in
+    let second : l ≡ c = cc in
+    (subst (λ (n : ℕ). is_in n cs ≡ true) first h, subst (λ (n : ℕ). is_in n ds ≡ true) second i)
+
+pair_from : (cs ds : List ℕ) (a c : ℕ) → is_in a cs ≡ true → is_in c ds ≡ true → Spells (one_of cs · one_of ds) (a ∷ c ∷ [])
+pair_from cs ds a c h i = (a ∷ [], c ∷ [], (a, h, refl), (c, i, refl), refl)
+
+pub same_in : (n a : ℕ) → is_in a (n ∷ []) ≡ true → a ≡ n
+same_in n a e = go (n == a) refl e
+  where
+    go : (b : Bool) → (n == a) ≡ b → (b || false) ≡ true → a ≡ n
+    go true f g = grind (arith, nat_tests)
+    go false f g = absurd (cc)
+
+in_same : (n a : ℕ) → a ≡ n → is_in a (n ∷ []) ≡ true
+in_same n a e =
+    let f : (n == a) ≡ true = grind (arith, nat_tests) in
+    ap (λ (b : Bool). b || false) f
+
+-- a letter that begins any code, and any letter
+plain_code : (a c : ℕ) → (a == 115) ≡ false → (a == 112) ≡ false → (a == 108) ≡ false → is_code a c ≡ (begins_code a && is_letter c)
+plain_code a c s p l =
+    let none : ((a == 115) && (c == 117)) || (((a == 112) && (c == 112)) || ((a == 108) && ((c == 115) || (c == 116)))) ≡ false = rw (s, p, l) refl in
+    ap (λ (b : Bool). begins_code a && (is_letter c && not b)) none ∙ go (is_letter c)
+  where
+    go : (b : Bool) → (begins_code a && (b && true)) ≡ (begins_code a && b)
+    go true = refl
+    go false = refl
+
+spelled : (a c : ℕ) → is_code a c ≡ true → Spells code (a ∷ c ∷ [])
+spelled a c e = go (a == 115) (a == 112) (a == 108) refl refl refl
+  where
+    go : (s p l : Bool) → (a == 115) ≡ s → (a == 112) ≡ p → (a == 108) ≡ l → Spells code (a ∷ c ∷ [])
+    go true p l f g h =
+        let same : a ≡ 115 = grind (arith, nat_tests) in
+        inr (inl (pair_from (115 ∷ []) behind_s a c (in_same 115 a same) (behind_s_are c ∙ (ap (λ (n : ℕ). is_code n c) (sym same) ∙ e))))
+    go false true l f g h =
+        let same : a ≡ 112 = grind (arith, nat_tests) in
+        inr (inr (inl (pair_from (112 ∷ []) behind_p a c (in_same 112 a same) (behind_p_are c ∙ (ap (λ (n : ℕ). is_code n c) (sym same) ∙ e)))))
+    go false false true f g h =
+        let same : a ≡ 108 = grind (arith, nat_tests) in
+        inr (inr (inr (pair_from (108 ∷ []) behind_l a c (in_same 108 a same) (behind_l_are c ∙ (ap (λ (n : ℕ). is_code n c) (sym same) ∙ e)))))
+    go false false false f g h =
+        let both = and_true (begins_code a) (is_letter c) (sym (plain_code a c f g h) ∙ e) in
+        inl (pair_from firsts letters a c (firsts_are a ∙ rw (both.0, f, g, h) refl) (letters_are c ∙ both.1))
+
+not_true : (b : Bool) → not b ≡ true → b ≡ false
+not_true false e = refl
+not_true true e = absurd (cc)
+
+is_spelled : (a c : ℕ) → Spells code (a ∷ c ∷ []) → is_code a c ≡ true
+is_spelled a c (inl h) =
+    let x = pair_to firsts letters a c h in
+    let y = and_true (begins_code a) (not (a == 115) && (not (a == 112) && not (a == 108))) (sym (firsts_are a) ∙ x.0) in
+    let z = and_true (not (a == 115)) (not (a == 112) && not (a == 108)) y.1 in
+    let w = and_true (not (a == 112)) (not (a == 108)) z.1 in
+    plain_code a c (not_true (a == 115) z.0) (not_true (a == 112) w.0) (not_true (a == 108) w.1) ∙ rw (y.0, sym (letters_are c) ∙ x.1) refl
+is_spelled a c (inr (inl h)) =
+    let x = pair_to (115 ∷ []) behind_s a c h in
+    ap (λ (n : ℕ). is_code n c) (same_in 115 a x.0) ∙ (sym (behind_s_are c) ∙ x.1)
+is_spelled a c (inr (inr (inl h))) =
+    let x = pair_to (112 ∷ []) behind_p a c h in
+    ap (λ (n : ℕ). is_code n c) (same_in 112 a x.0) ∙ (sym (behind_p_are c) ∙ x.1)
+is_spelled a c (inr (inr (inr h))) =
+    let x = pair_to (108 ∷ []) behind_l a c h in
+    ap (λ (n : ℕ). is_code n c) (same_in 108 a x.0) ∙ (sym (behind_l_are c) ∙ x.1)
+
+-- the table spells two letters exactly if they are a code
+pub letters_spell : (a c : ℕ) → IsTrue (is_code a c) ↔ Spells code (a ∷ c ∷ [])
+letters_spell a c = (spelled a c, is_spelled a c)

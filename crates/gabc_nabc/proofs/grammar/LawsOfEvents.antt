@@ -1,0 +1,296 @@
+-- Laws of the definitions.
+use Rattle.std.proofs.Common.{◌≡◌, ℕ, ◌≤◌, List, [], ◌∷◌, ◌++◌, length, length-append, take, drop, map, Bool, true, false, cond, ◌||◌, refl, sym, ap, ◌∙◌, codes, append-nil, append_assoc, arith}
+use Rattle.gabc_places.specs.declared.code.Code.TheVariants.{E3, E6, W7}
+use Rattle.gabc_places.specs.declared.place.Char.{Char}
+use Rattle.gabc_places.specs.StageLaw.{concat_of}
+use Rattle.gabc_patterns.specs.Reading.{OneKind, IsSnippet, IsViable, IsItemOf}
+use Rattle.gabc_patterns.specs.Derivative.{run, is_whole, is_snippet, is_viable}
+use Rattle.gabc_patterns.specs.Function.{trim}
+use Rattle.gabc_patterns.proofs.AutomatonsByTests.{reading, rows_of}
+use Rattle.gabc_patterns.proofs.FunctionsMeetRelations.{trim_trims}
+use Rattle.std.proofs.lemmas.Str.{encodes-append}
+use lib.Utf8.{encodes}
+use Rattle.gabc_patterns.proofs.RowsAfterACharacter.{rows_end_to}
+use Rattle.gabc_patterns.proofs.RowsRun.{ends_once}
+use Rattle.gabc_patterns.proofs.ItemSoFar.{one_kind}
+use Rattle.gabc_patterns.proofs.StatesAfterTexts.{completes}
+use Rattle.gabc_notes.specs.declared.stage.NoteEnd.{NoteEnd}
+use Rattle.gabc_notes.specs.declared.stage.NoteEnd.TheVariants as ending
+use Rattle.gabc_notes.specs.declared.stage.NoteEvent.{NoteEvent}
+use Rattle.gabc_notes.specs.declared.stage.NoteEvent.TheVariants.{Kept, Found, Ended}
+use Rattle.gabc_nabc.specs.Table.{nabc}
+use Rattle.gabc_nabc.specs.Events.{is_character, is_end, has_end, kept_of, first_of, is_missing, finding_event, events_at, nabc_events_behind, nabc_events, end_by_mark, bytes_in}
+use Rattle.gabc_notes.specs.SnippetRead.{ends_of, kept_of as kept_in}
+use Rattle.gabc_nabc.specs.SnippetRead.{before_end_behind, before_end, from_end, kept_before, end_before}
+use Rattle.gabc_nabc.specs.declared.state.DescriptorState.{DescriptorState}
+use Rattle.gabc_nabc.specs.declared.state.DescriptorState.TheVariants.{Start, CodeL, CodeP, CodeS, Code, Glyph, Modified, GlyphH, Pitched, Joined, TailL, TailP, TailS, Points, PointsLetter, Letters, LettersMore, Counted, CountedH, Tail, Slash, Tick, Space}
+use Rattle.gabc_nabc.proofs.machine.MachineReadsTable.{machine, snippets_read, items_read}
+use Rattle.gabc_nabc.proofs.machine.TextWithACharacterMore.{end_more, kept_more, kept_same}
+
+-- at each state at most one kind may end
+once : (s : DescriptorState) → ends_once (rows_of nabc machine s) ≡ true
+once Start = refl
+once CodeL = refl
+once CodeP = refl
+once CodeS = refl
+once Code = refl
+once Glyph = refl
+once Modified = refl
+once GlyphH = refl
+once Pitched = refl
+once Joined = refl
+once TailL = refl
+once TailP = refl
+once TailS = refl
+once Points = refl
+once PointsLetter = refl
+once Letters = refl
+once LettersMore = refl
+once Counted = refl
+once CountedH = refl
+once Tail = refl
+once Slash = refl
+once Tick = refl
+once Space = refl
+
+-- rows that spell one text are of one kind
+pub kinds_are_one : OneKind nabc
+kinds_are_one = one_kind nabc machine items_read once
+
+-- no part is empty
+pub none_empty : (k : Bool) → ¬ IsItemOf nabc k []
+none_empty k h = (let f = rows_end_to nabc k h in absurd (cc))
+
+-- what completes a state: the second letter of a code, a whole one, a pitch, or what points and letters lack
+abbrev completion : DescriptorState → List ℕ
+completion CodeL = codes "i"
+completion CodeP = codes "i"
+completion CodeS = codes "i"
+completion Code = codes "i"
+completion GlyphH = codes "a"
+completion Joined = codes "vi"
+completion TailL = codes "i"
+completion TailP = codes "i"
+completion TailS = codes "i"
+completion Points = codes "1"
+completion PointsLetter = codes "1"
+completion Letters = codes "a1"
+completion LettersMore = codes "1"
+completion CountedH = codes "a"
+completion _ = []
+
+completed : (s : DescriptorState) → is_whole (run nabc (reading nabc machine s) (completion s)) ≡ true
+completed Start = refl
+completed CodeL = refl
+completed CodeP = refl
+completed CodeS = refl
+completed Code = refl
+completed Glyph = refl
+completed Modified = refl
+completed GlyphH = refl
+completed Pitched = refl
+completed Joined = refl
+completed TailL = refl
+completed TailP = refl
+completed TailS = refl
+completed Points = refl
+completed PointsLetter = refl
+completed Letters = refl
+completed LettersMore = refl
+completed Counted = refl
+completed CountedH = refl
+completed Tail = refl
+completed Slash = refl
+completed Tick = refl
+completed Space = refl
+
+-- it is no longer than two characters
+short : (s : DescriptorState) → length (completion s) ≤ 2
+short Start = omega arith
+short CodeL = omega arith
+short CodeP = omega arith
+short CodeS = omega arith
+short Code = omega arith
+short Glyph = omega arith
+short Modified = omega arith
+short GlyphH = omega arith
+short Pitched = omega arith
+short Joined = omega arith
+short TailL = omega arith
+short TailP = omega arith
+short TailS = omega arith
+short Points = omega arith
+short PointsLetter = omega arith
+short Letters = omega arith
+short LettersMore = omega arith
+short Counted = omega arith
+short CountedH = omega arith
+short Tail = omega arith
+short Slash = omega arith
+short Tick = omega arith
+short Space = omega arith
+
+-- a viable text needs at most two characters more
+pub two_complete : (t : List ℕ) → IsViable nabc t → (more : List ℕ) × (length more ≤ 2) × IsSnippet nabc (t ++ more)
+two_complete t v = let x = completes nabc machine snippets_read completion completed t v in (completion x.0, short x.0, x.2)
+
+-- ---- what is emitted
+
+prefix_emitted : (t : List ℕ) (xs ys : List Char) → take (length xs) (nabc_events_behind t (xs ++ ys)) ≡ take (length xs) (nabc_events_behind t xs)
+prefix_emitted t [] ys = refl
+prefix_emitted t (x ∷ xs) ys = ap (λ (l : List (List NoteEvent)). events_at t x ∷ l) (prefix_emitted (t ++ x.c ∷ []) xs ys)
+
+-- what is emitted of a prefix does not depend on what follows
+pub prefix_stays : (xs ys zs : List Char) → take (length xs) (nabc_events (xs ++ ys)) ≡ take (length xs) (nabc_events (xs ++ zs))
+prefix_stays xs ys zs = prefix_emitted [] xs ys ∙ sym (prefix_emitted [] xs zs)
+
+kept_append : (xs ys : List NoteEvent) → kept_in (xs ++ ys) ≡ kept_in xs ++ kept_in ys
+kept_append [] ys = refl
+kept_append (Kept x ∷ xs) ys = ap (λ (l : List ℕ). x.c ∷ l) (kept_append xs ys)
+kept_append (Found f ∷ xs) ys = kept_append xs ys
+kept_append (Ended e n ∷ xs) ys = kept_append xs ys
+
+-- behind the end nothing is emitted
+pub silent : (t : List ℕ) (xs : List Char) → has_end t ≡ true → concat_of (nabc_events_behind t xs) ≡ []
+silent t [] e = rw e refl
+silent t (x ∷ xs) e =
+    let none : events_at t x ≡ [] = rw e refl in
+    ap (λ (l : List NoteEvent). l ++ concat_of (nabc_events_behind (t ++ x.c ∷ []) xs)) none
+    ∙ silent (t ++ x.c ∷ []) xs (end_more t x.c ∙ ap (λ (b : Bool). b || is_end t x.c) e)
+
+-- at the end nothing is kept
+none_kept : (t : List ℕ) (x : Char) → has_end t ≡ false → is_end t x.c ≡ true → kept_in (events_at t x) ≡ []
+none_kept t x e f = rw (e, f) (go (is_snippet nabc (kept_of t)))
+  where
+    go : (b : Bool) → kept_in (cond b [] (finding_event x.place E6 ∷ []) ++ Ended (end_by_mark x.c) (bytes_in (trim nabc (kept_of t))) ∷ []) ≡ []
+    go true = refl
+    go false = refl
+
+-- before it, what is emitted as kept is what is kept more
+one_kept : (t : List ℕ) (x : Char) → has_end t ≡ false → is_end t x.c ≡ false → kept_of t ++ kept_in (events_at t x) ≡ kept_of (t ++ x.c ∷ [])
+one_kept t x e f = by (is_character t x.c) (is_viable nabc (kept_of t ++ x.c ∷ [])) refl refl
+  where
+    warned : (b : Bool) → kept_in (Kept x ∷ cond b (finding_event x.place W7 ∷ []) []) ≡ x.c ∷ []
+    warned true = refl
+    warned false = refl
+
+    by : (a b : Bool) → is_character t x.c ≡ a → is_viable nabc (kept_of t ++ x.c ∷ []) ≡ b → kept_of t ++ kept_in (events_at t x) ≡ kept_of (t ++ x.c ∷ [])
+    by false b h i =
+        let none : events_at t x ≡ [] = rw (e, f, h) refl in
+        ap (λ (l : List NoteEvent). kept_of t ++ kept_in l) none ∙ (append-nil (kept_of t) ∙ sym (kept_same t x.c h))
+    by true false h i =
+        let out : events_at t x ≡ finding_event x.place E3 ∷ [] = rw (e, f, h, i) refl in
+        ap (λ (l : List NoteEvent). kept_of t ++ kept_in l) out ∙ (append-nil (kept_of t) ∙ sym (kept_more t x.c h ∙ rw i refl))
+    by true true h i =
+        let out : events_at t x ≡ Kept x ∷ cond (is_missing (first_of (kept_of t)) x.c) (finding_event x.place W7 ∷ []) [] = rw (e, f, h, i) refl in
+        ap (λ (l : List NoteEvent). kept_of t ++ kept_in l) out
+        ∙ (ap (λ (l : List ℕ). kept_of t ++ l) (warned (is_missing (first_of (kept_of t)) x.c)) ∙ sym (kept_more t x.c h ∙ rw i refl))
+
+all_kept : (xs : List Char) (t : List ℕ) → has_end t ≡ false
+    → kept_of t ++ kept_in (concat_of (nabc_events_behind t xs)) ≡ kept_of (t ++ before_end_behind t (map (λ (x : Char). x.c) xs))
+all_kept [] t e = rw e (append-nil (kept_of t) ∙ ap kept_of (sym (append-nil t)))
+all_kept (x ∷ xs) t e = go (is_end t x.c) refl (all_kept xs (t ++ x.c ∷ []))
+  where
+    later : List NoteEvent
+    later = concat_of (nabc_events_behind (t ++ x.c ∷ []) xs)
+
+    go : (b : Bool) → is_end t x.c ≡ b
+        → (has_end (t ++ x.c ∷ []) ≡ false → kept_of (t ++ x.c ∷ []) ++ kept_in later ≡ kept_of ((t ++ x.c ∷ []) ++ before_end_behind (t ++ x.c ∷ []) (map (λ (y : Char). y.c) xs)))
+        → kept_of t ++ kept_in (events_at t x ++ later) ≡ kept_of (t ++ cond b [] (x.c ∷ before_end_behind (t ++ x.c ∷ []) (map (λ (y : Char). y.c) xs)))
+    go true f more =
+        let none : kept_in (events_at t x ++ later) ≡ [] =
+        kept_append (events_at t x) later ∙ (ap (λ (l : List ℕ). l ++ kept_in later) (none_kept t x e f) ∙ ap kept_in (silent (t ++ x.c ∷ []) xs (end_more t x.c ∙ rw (e, f) refl))) in
+        ap (λ (l : List ℕ). kept_of t ++ l) none ∙ (append-nil (kept_of t) ∙ ap kept_of (sym (append-nil t)))
+    go false f more =
+        ap (λ (l : List ℕ). kept_of t ++ l) (kept_append (events_at t x) later)
+        ∙ (sym (append_assoc (kept_of t) (kept_in (events_at t x)) (kept_in later))
+        ∙ (ap (λ (l : List ℕ). l ++ kept_in later) (one_kept t x e f)
+        ∙ (more (end_more t x.c ∙ rw (e, f) refl) ∙ ap kept_of (append_assoc t (x.c ∷ []) (before_end_behind (t ++ x.c ∷ []) (map (λ (y : Char). y.c) xs))))))
+
+-- what is emitted as kept is what is kept of the text before its end
+pub emitted_kept : (xs : List Char) → kept_in (concat_of (nabc_events xs)) ≡ kept_of (before_end (map (λ (x : Char). x.c) xs))
+emitted_kept xs = all_kept xs [] refl
+
+-- ---- the end
+
+ends_append : (xs ys : List NoteEvent) → ends_of (xs ++ ys) ≡ ends_of xs ++ ends_of ys
+ends_append [] ys = refl
+ends_append (Kept x ∷ xs) ys = ends_append xs ys
+ends_append (Found f ∷ xs) ys = ends_append xs ys
+ends_append (Ended e n ∷ xs) ys = ap (λ (l : List (NoteEnd × ℕ)). (e, n) ∷ l) (ends_append xs ys)
+
+-- at the end
+one_end : (t : List ℕ) (x : Char) → has_end t ≡ false → is_end t x.c ≡ true → ends_of (events_at t x) ≡ (end_by_mark x.c, bytes_in (trim nabc (kept_of t))) ∷ []
+one_end t x e f = rw (e, f) (go (is_snippet nabc (kept_of t)))
+  where
+    go : (b : Bool) → ends_of (cond b [] (finding_event x.place E6 ∷ []) ++ Ended (end_by_mark x.c) (bytes_in (trim nabc (kept_of t))) ∷ []) ≡ (end_by_mark x.c, bytes_in (trim nabc (kept_of t))) ∷ []
+    go true = refl
+    go false = refl
+
+-- before it
+pub no_end : (t : List ℕ) (x : Char) → has_end t ≡ false → is_end t x.c ≡ false → ends_of (events_at t x) ≡ []
+no_end t x e f = rw (e, f) (by (is_character t x.c))
+  where
+    warned : (b : Bool) → ends_of (Kept x ∷ cond b (finding_event x.place W7 ∷ []) []) ≡ []
+    warned true = refl
+    warned false = refl
+
+    viable : (b : Bool) → ends_of (cond b (Kept x ∷ cond (is_missing (first_of (kept_of t)) x.c) (finding_event x.place W7 ∷ []) []) (finding_event x.place E3 ∷ [])) ≡ []
+    viable true = warned (is_missing (first_of (kept_of t)) x.c)
+    viable false = refl
+
+    by : (b : Bool) → ends_of (cond b (cond (is_viable nabc (kept_of t ++ x.c ∷ [])) (Kept x ∷ cond (is_missing (first_of (kept_of t)) x.c) (finding_event x.place W7 ∷ []) []) (finding_event x.place E3 ∷ [])) []) ≡ []
+    by true = viable (is_viable nabc (kept_of t ++ x.c ∷ []))
+    by false = refl
+
+-- the end that is emitted of these characters behind the text
+abbrev end_told : List ℕ → List ℕ → List ℕ → List (NoteEnd × ℕ)
+end_told t prefix rest = (end_before rest, bytes_in (kept_before (t ++ prefix) rest)) ∷ []
+
+ends_from : (xs : List Char) (t : List ℕ) → has_end t ≡ false
+    → ends_of (concat_of (nabc_events_behind t xs)) ≡ end_told t (before_end_behind t (map (λ (x : Char). x.c) xs)) (drop (length (before_end_behind t (map (λ (x : Char). x.c) xs))) (map (λ (x : Char). x.c) xs))
+ends_from [] t e = rw e (ap (λ (u : List ℕ). (ending.Cut (record { line = 0; column = 0 }), bytes_in (kept_of u)) ∷ []) (sym (append-nil t)))
+ends_from (x ∷ xs) t e = go (is_end t x.c) refl (ends_from xs (t ++ x.c ∷ []))
+  where
+    later : List NoteEvent
+    later = concat_of (nabc_events_behind (t ++ x.c ∷ []) xs)
+
+    cs : List ℕ
+    cs = map (λ (y : Char). y.c) xs
+
+    prefix : Bool → List ℕ
+    prefix b = cond b [] (x.c ∷ before_end_behind (t ++ x.c ∷ []) cs)
+
+    go : (b : Bool) → is_end t x.c ≡ b
+        → (has_end (t ++ x.c ∷ []) ≡ false → ends_of later ≡ end_told (t ++ x.c ∷ []) (before_end_behind (t ++ x.c ∷ []) cs) (drop (length (before_end_behind (t ++ x.c ∷ []) cs)) cs))
+        → ends_of (events_at t x ++ later) ≡ end_told t (prefix b) (drop (length (prefix b)) (x.c ∷ cs))
+    go true f more =
+        ends_append (events_at t x) later
+        ∙ (ap (λ (l : List (NoteEnd × ℕ)). l ++ ends_of later) (one_end t x e f)
+        ∙ (ap (λ (l : List NoteEvent). (end_by_mark x.c, bytes_in (trim nabc (kept_of t))) ∷ ends_of l) (silent (t ++ x.c ∷ []) xs (end_more t x.c ∙ rw (e, f) refl))
+        ∙ ap (λ (u : List ℕ). (end_by_mark x.c, bytes_in (trim nabc (kept_of u))) ∷ []) (sym (append-nil t))))
+    go false f more =
+        ends_append (events_at t x) later
+        ∙ (ap (λ (l : List (NoteEnd × ℕ)). l ++ ends_of later) (no_end t x e f)
+        ∙ (more (end_more t x.c ∙ rw (e, f) refl)
+        ∙ ap (λ (u : List ℕ). (end_before (drop (length (before_end_behind (t ++ x.c ∷ []) cs)) cs), bytes_in (kept_before u (drop (length (before_end_behind (t ++ x.c ∷ []) cs)) cs))) ∷ [])
+        (append_assoc t (x.c ∷ []) (before_end_behind (t ++ x.c ∷ []) cs))))
+
+-- one end is emitted
+pub end_is_emitted : (xs : List Char)
+    → ends_of (concat_of (nabc_events xs)) ≡ (end_before (from_end (map (λ (x : Char). x.c) xs)), bytes_in (kept_before (before_end (map (λ (x : Char). x.c) xs)) (from_end (map (λ (x : Char). x.c) xs)))) ∷ []
+end_is_emitted xs = ends_from xs [] refl
+
+bytes_within : (u rest : List ℕ) → bytes_in (kept_before u rest) ≤ length (encodes (kept_of u))
+bytes_within u [] = omega arith
+bytes_within u (c ∷ cs) =
+    let s = trim_trims nabc refl (kept_of u) in
+    let n = ap length (ap encodes s.cut ∙ encodes-append (trim nabc (kept_of u)) s.rest) in
+    omega (arith, n, length-append (encodes (trim nabc (kept_of u))) (encodes s.rest))
+
+-- with at most the bytes of the characters kept
+pub end_within : (xs : List Char)
+    → bytes_in (kept_before (before_end (map (λ (x : Char). x.c) xs)) (from_end (map (λ (x : Char). x.c) xs))) ≤ length (encodes (kept_in (concat_of (nabc_events xs))))
+end_within xs =
+    let w = bytes_within (before_end (map (λ (x : Char). x.c) xs)) (from_end (map (λ (x : Char). x.c) xs)) in
+    rw (emitted_kept xs) w

@@ -1,0 +1,81 @@
+-- What is gathered of a stage's events is what the definition says of the text.
+use Rattle.std.proofs.Common.{◌≡◌, ℕ, ◌+◌, ◌<◌, List, [], ◌∷◌, ◌++◌, Bool, true, false, cond, refl, sym, ap, ◌∙◌, append-nil, length, take, get_or, Some}
+use Rattle.std.proofs.lemmas.List.{take_more}
+use Rattle.std.proofs.lemmas.Str.{encodes-append}
+use lib.Utf8.{encode, encodes}
+use Rattle.gabc_places.specs.declared.code.Code.TheVariants.{E3, E6, W7}
+use Rattle.gabc_places.specs.declared.code.Finding.{Finding}
+use Rattle.gabc_places.specs.declared.place.Char.{Char}
+use Rattle.gabc_notes.specs.declared.stage.NoteEvent.{NoteEvent}
+use Rattle.gabc_notes.specs.declared.stage.NoteEvent.TheVariants.{Kept, Found, Ended}
+use Rattle.gabc_patterns.specs.Derivative.{is_snippet, is_viable}
+use Rattle.gabc_patterns.specs.Function.{trim}
+use Rattle.gabc_nabc.specs.Table.{nabc}
+use Rattle.gabc_nabc.specs.Events.{is_character, is_end, has_end, kept_of, first_of, is_missing, bytes_in, finding_event, end_by_mark, events_at}
+use Rattle.gabc_notes.specs.SnippetRead.{findings_of}
+use Rattle.gabc_nabc.specs.machine.BuiltNabc.{BuiltNabc, with_event, with_events}
+use Rattle.gabc_nabc.proofs.machine.TextWithACharacterMore.{kept_more, kept_same}
+
+-- ---- events one after another
+
+with_append : (g : BuiltNabc) (xs ys : List NoteEvent) → with_events g (xs ++ ys) ≡ with_events (with_events g xs) ys
+with_append g [] ys = refl
+with_append g (x ∷ xs) ys = with_append (with_event g x) xs ys
+
+-- one event more of a list
+pub with_more : (first now new : BuiltNabc) (xs : List NoteEvent) (i : ℕ) (d : NoteEvent) → i < length xs
+    → now ≡ with_events first (take i xs) → new ≡ with_event now (get_or xs i d) → new ≡ with_events first (take (i + 1) xs)
+with_more first now new xs i d h f g =
+    g ∙ ap (λ (t : BuiltNabc). with_event t (get_or xs i d)) f ∙ sym (with_append first (take i xs) (get_or xs i d ∷ []))
+    ∙ ap (with_events first) (sym (take_more xs i d h))
+
+pub findings_append : (xs ys : List NoteEvent) → findings_of (xs ++ ys) ≡ findings_of xs ++ findings_of ys
+findings_append [] ys = refl
+findings_append (Found f ∷ xs) ys = ap (λ (l : List Finding). f ∷ l) (findings_append xs ys)
+findings_append (Kept x ∷ xs) ys = findings_append xs ys
+findings_append (Ended e n ∷ xs) ys = findings_append xs ys
+
+-- ---- one character
+
+-- at the end
+pub gathers_end : (g : BuiltNabc) (t : List ℕ) (x : Char) → has_end t ≡ false → is_end t x.c ≡ true
+    → with_events g (events_at t x) ≡ record g { findings = g.findings ++ findings_of (events_at t x); end = Some (end_by_mark x.c, bytes_in (trim nabc (kept_of t))) }
+gathers_end g t x e f = rw (e, f) (go (is_snippet nabc (kept_of t)))
+  where
+    go : (b : Bool) → with_events g (cond b [] (finding_event x.place E6 ∷ []) ++ Ended (end_by_mark x.c) (bytes_in (trim nabc (kept_of t))) ∷ [])
+        ≡ record g { findings = g.findings ++ findings_of (cond b [] (finding_event x.place E6 ∷ []) ++ Ended (end_by_mark x.c) (bytes_in (trim nabc (kept_of t))) ∷ []); end = Some (end_by_mark x.c, bytes_in (trim nabc (kept_of t))) }
+    go true = ap (λ (l : List Finding). record g { findings = l; end = Some (end_by_mark x.c, bytes_in (trim nabc (kept_of t))) }) (sym (append-nil g.findings))
+    go false = refl
+
+-- before it
+pub gathers_on : (g : BuiltNabc) (t : List ℕ) (x : Char) → has_end t ≡ false → is_end t x.c ≡ false → g.kept ≡ encodes (kept_of t)
+    → with_events g (events_at t x) ≡ record g { kept = encodes (kept_of (t ++ x.c ∷ [])); findings = g.findings ++ findings_of (events_at t x) }
+gathers_on g t x e f k = by (is_character t x.c) (is_viable nabc (kept_of t ++ x.c ∷ [])) refl refl
+  where
+    same : {fs : List Finding} → kept_of (t ++ x.c ∷ []) ≡ kept_of t → record g { findings = fs } ≡ record g { kept = encodes (kept_of (t ++ x.c ∷ [])); findings = fs }
+    same {fs} h = ap (λ (l : List ℕ). record g { kept = l; findings = fs }) (k ∙ ap encodes (sym h))
+
+    more : {fs : List Finding} → kept_of (t ++ x.c ∷ []) ≡ kept_of t ++ x.c ∷ [] → record g { kept = g.kept ++ encode x.c; findings = fs } ≡ record g { kept = encodes (kept_of (t ++ x.c ∷ [])); findings = fs }
+    more {fs} h =
+        ap (λ (l : List ℕ). record g { kept = l; findings = fs })
+        (ap (λ (l : List ℕ). l ++ encode x.c) k ∙ (ap (λ (l : List ℕ). encodes (kept_of t) ++ l) (sym (append-nil (encode x.c))) ∙ (sym (encodes-append (kept_of t) (x.c ∷ [])) ∙ ap encodes (sym h))))
+
+    warned : (b : Bool) → kept_of (t ++ x.c ∷ []) ≡ kept_of t ++ x.c ∷ []
+        → with_events g (Kept x ∷ cond b (finding_event x.place W7 ∷ []) []) ≡ record g { kept = encodes (kept_of (t ++ x.c ∷ [])); findings = g.findings ++ findings_of (Kept x ∷ cond b (finding_event x.place W7 ∷ []) []) }
+    warned true h = more h
+    warned false h = ap (λ (l : List Finding). record g { kept = g.kept ++ encode x.c; findings = l }) (sym (append-nil g.findings)) ∙ more h
+
+    by : (a b : Bool) → is_character t x.c ≡ a → is_viable nabc (kept_of t ++ x.c ∷ []) ≡ b
+        → with_events g (events_at t x) ≡ record g { kept = encodes (kept_of (t ++ x.c ∷ [])); findings = g.findings ++ findings_of (events_at t x) }
+    by false b h i =
+        let none : events_at t x ≡ [] = rw (e, f, h) refl in
+        ap (with_events g) none ∙ (ap (λ (l : List Finding). record g { findings = l }) (sym (append-nil g.findings) ∙ ap (λ (l : List NoteEvent). g.findings ++ findings_of l) (sym none))
+        ∙ same (kept_same t x.c h))
+    by true false h i =
+        let out : events_at t x ≡ finding_event x.place E3 ∷ [] = rw (e, f, h, i) refl in
+        ap (with_events g) out ∙ (ap (λ (l : List NoteEvent). record g { findings = g.findings ++ findings_of l }) (sym out)
+        ∙ same (kept_more t x.c h ∙ rw i refl))
+    by true true h i =
+        let out : events_at t x ≡ Kept x ∷ cond (is_missing (first_of (kept_of t)) x.c) (finding_event x.place W7 ∷ []) [] = rw (e, f, h, i) refl in
+        ap (with_events g) out ∙ (warned (is_missing (first_of (kept_of t)) x.c) (kept_more t x.c h ∙ rw i refl)
+        ∙ ap (λ (l : List NoteEvent). record g { kept = encodes (kept_of (t ++ x.c ∷ [])); findings = g.findings ++ findings_of l }) (sym out))

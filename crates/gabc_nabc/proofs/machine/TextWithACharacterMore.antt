@@ -1,0 +1,113 @@
+-- What is said of a text, when a character stands behind it.
+use Rattle.std.proofs.Common.{◌≡◌, ℕ, ◌-◌, List, [], ◌∷◌, ◌++◌, Bool, true, false, cond, not, ◌&&◌, ◌||◌, ◌==◌, refl, sym, ap, ◌∙◌, length, take, drop, append_assoc, append-nil, length-append, arith}
+use Rattle.std.proofs.lemmas.List.Folds.{list_any-append}
+use Rattle.std.proofs.Math.Seq.{take-append_seam, drop-append_seam}
+use Rattle.std.proofs.lemmas.Str.{encodes-append, length-encode}
+use lib.Utf8.{encode, encodes}
+use Rattle.gabc_patterns.specs.Reading.{Table}
+use Rattle.gabc_patterns.specs.Pattern.{is_in}
+use Rattle.gabc_patterns.specs.Derivative.{is_snippet, is_viable}
+use Rattle.gabc_patterns.specs.Function.{keep, trim, trim_from}
+use Rattle.gabc_patterns.proofs.FunctionsMeetRelations.{keep_append}
+use Rattle.gabc_nabc.specs.Table.{nabc}
+use Rattle.gabc_nabc.specs.Events.{in_comment, is_character, is_end, characters_behind, has_end_behind, has_end, kept_of, last_of, before_last, bytes_in}
+use Rattle.gabc_nabc.specs.DescriptorMachine.{comment_in, count_plus}
+
+comment_step : (percent feed later has opened : Bool) → (percent && not (has || (feed || false))) || (later || (opened && not feed)) ≡ later || (((percent && not has) || opened) && not feed)
+comment_step false false false false opened = refl
+comment_step false false false true opened = refl
+comment_step false false true false opened = refl
+comment_step false false true true opened = refl
+comment_step false true false false false = refl
+comment_step false true false false true = refl
+comment_step false true false true false = refl
+comment_step false true false true true = refl
+comment_step false true true has opened = refl
+comment_step true false false false opened = refl
+comment_step true false false true opened = refl
+comment_step true false true false opened = refl
+comment_step true false true true opened = refl
+comment_step true true later false false = refl
+comment_step true true later false true = refl
+comment_step true true later true false = refl
+comment_step true true later true true = refl
+
+-- whether a comment is open
+pub comment_more : (t : List ℕ) (c : ℕ) → in_comment (t ++ c ∷ []) ≡ comment_in (in_comment t) c
+comment_more [] c = go (c == 37)
+  where
+    go : (b : Bool) → (b && true) || false ≡ b || false
+    go true = refl
+    go false = refl
+comment_more (d ∷ t) c =
+    ap (λ (b : Bool). ((d == 37) && not b) || in_comment (t ++ c ∷ [])) (list_any-append (λ (x : ℕ). x == 10) t (c ∷ []))
+    ∙ (ap (λ (b : Bool). ((d == 37) && not (is_in 10 t || is_in 10 (c ∷ []))) || b) (comment_more t c)
+    ∙ comment_step (d == 37) (c == 10) (c == 37) (is_in 10 t) (in_comment t))
+
+or_false : (a : Bool) → (a || false) ≡ a
+or_false true = refl
+or_false false = refl
+
+or_assoc : (a b c : Bool) → (a || (b || c)) ≡ ((a || b) || c)
+or_assoc true b c = refl
+or_assoc false b c = refl
+
+-- whether it has an end
+end_from : (s cs : List ℕ) (c : ℕ) → has_end_behind s (cs ++ c ∷ []) ≡ has_end_behind s cs || is_end (s ++ cs) c
+end_from s [] c = or_false (is_end s c) ∙ ap (λ (t : List ℕ). is_end t c) (sym (append-nil s))
+end_from s (d ∷ cs) c =
+    ap (λ (b : Bool). is_end s d || b) (end_from (s ++ d ∷ []) cs c ∙ ap (λ (t : List ℕ). has_end_behind (s ++ d ∷ []) cs || is_end t c) (append_assoc s (d ∷ []) cs))
+    ∙ or_assoc (is_end s d) (has_end_behind (s ++ d ∷ []) cs) (is_end (s ++ d ∷ cs) c)
+
+pub end_more : (t : List ℕ) (c : ℕ) → has_end (t ++ c ∷ []) ≡ has_end t || is_end t c
+end_more t c = end_from [] t c
+
+-- its characters
+characters_from : (s cs : List ℕ) (c : ℕ) → characters_behind s (cs ++ c ∷ []) ≡ cond (is_character (s ++ cs) c) (characters_behind s cs ++ c ∷ []) (characters_behind s cs)
+characters_from s [] c = ap (λ (t : List ℕ). cond (is_character t c) (c ∷ []) []) (sym (append-nil s))
+characters_from s (d ∷ cs) c =
+    go (is_character s d) (is_character (s ++ d ∷ cs) c) (characters_behind (s ++ d ∷ []) (cs ++ c ∷ [])) (characters_behind (s ++ d ∷ []) cs)
+    (characters_from (s ++ d ∷ []) cs c ∙ ap (λ (t : List ℕ). cond (is_character t c) (characters_behind (s ++ d ∷ []) cs ++ c ∷ []) (characters_behind (s ++ d ∷ []) cs)) (append_assoc s (d ∷ []) cs))
+  where
+    go : (a b : Bool) (u v : List ℕ) → u ≡ cond b (v ++ c ∷ []) v → cond a (d ∷ u) u ≡ cond b (cond a (d ∷ v) v ++ c ∷ []) (cond a (d ∷ v) v)
+    go true true u v e = ap (λ (t : List ℕ). d ∷ t) e
+    go true false u v e = ap (λ (t : List ℕ). d ∷ t) e
+    go false true u v e = e
+    go false false u v e = e
+
+-- what is kept of it, behind a character of the snippet
+pub kept_more : (t : List ℕ) (c : ℕ) → is_character t c ≡ true → kept_of (t ++ c ∷ []) ≡ cond (is_viable nabc (kept_of t ++ c ∷ [])) (kept_of t ++ c ∷ []) (kept_of t)
+kept_more t c e =
+    ap (keep nabc) (characters_from [] t c ∙ ap (λ (b : Bool). cond b (characters_behind [] t ++ c ∷ []) (characters_behind [] t)) e)
+    ∙ keep_append nabc [] (characters_behind [] t) (c ∷ [])
+
+-- and behind another
+pub kept_same : (t : List ℕ) (c : ℕ) → is_character t c ≡ false → kept_of (t ++ c ∷ []) ≡ kept_of t
+kept_same t c e = ap (keep nabc) (characters_from [] t c ∙ ap (λ (b : Bool). cond b (characters_behind [] t ++ c ∷ []) (characters_behind [] t)) e)
+
+trim_append : {K : Type 0} (rows : Table K) (best before s t : List ℕ) → trim_from rows best before (s ++ t) ≡ trim_from rows (trim_from rows best before s) (before ++ s) t
+trim_append rows best before [] t = ap (λ (u : List ℕ). trim_from rows best u t) (sym (append-nil before))
+trim_append rows best before (c ∷ s) t =
+    trim_append rows (cond (is_snippet rows (before ++ c ∷ [])) (before ++ c ∷ []) best) (before ++ c ∷ []) s t
+    ∙ ap (λ (u : List ℕ). trim_from rows (trim_from rows (cond (is_snippet rows (before ++ c ∷ [])) (before ++ c ∷ []) best) (before ++ c ∷ []) s) u t) (append_assoc before (c ∷ []) s)
+
+-- its longest prefix that is a snippet
+pub trim_more : (u : List ℕ) (c : ℕ) → trim nabc (u ++ c ∷ []) ≡ cond (is_snippet nabc (u ++ c ∷ [])) (u ++ c ∷ []) (trim nabc u)
+trim_more u c = trim_append nabc [] [] u (c ∷ [])
+
+prefix_long : (u : List ℕ) (c : ℕ) → length (u ++ c ∷ []) - 1 ≡ length u
+prefix_long u c = omega (arith, length-append u (c ∷ []))
+
+-- its last character, and what stands before that
+pub last_is : (u : List ℕ) (c : ℕ) → last_of (u ++ c ∷ []) ≡ c ∷ []
+last_is u c = ap (λ (n : ℕ). drop n (u ++ c ∷ [])) (prefix_long u c) ∙ drop-append_seam u (c ∷ [])
+
+pub before_last_is : (u : List ℕ) (c : ℕ) → before_last (u ++ c ∷ []) ≡ u
+before_last_is u c = ap (λ (n : ℕ). take n (u ++ c ∷ [])) (prefix_long u c) ∙ take-append_seam u (c ∷ [])
+
+-- its bytes
+pub bytes_more : (u : List ℕ) (c : ℕ) → bytes_in (u ++ c ∷ []) ≡ count_plus (bytes_in u) c
+bytes_more u c =
+    let e = ap length (encodes-append u (c ∷ [])) in
+    let f = ap length (append-nil (encode c)) in
+    omega (arith, e, f, length-append (encodes u) (encodes (c ∷ [])), length-encode c)

@@ -1,0 +1,2 @@
+pub mod FirstPartByBytes
+pub mod PartsByBytes

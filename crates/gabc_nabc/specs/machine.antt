@@ -1,0 +1,3 @@
+pub mod BuiltNabc
+pub mod DescriptorMachine
+pub mod Parts

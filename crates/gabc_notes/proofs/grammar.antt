@@ -1,0 +1,4 @@
+pub mod InsideRawIsAnOpenBracket
+pub mod LawsOfEventsByPoint
+pub mod LawsOfKeptTexts
+pub mod OpenBracketByLastItem

@@ -1,0 +1,145 @@
+-- Laws of the definitions.
+use Rattle.std.proofs.Common.{◌≡◌, ℕ, ◌≤◌, List, [], ◌++◌, length, Bool, true, false, not, ◌&&◌, refl, codes, arith, Decides}
+use Rattle.gabc_patterns.specs.Reading.{OneKind, IsSnippet, IsViable, IsItemOf}
+use Rattle.gabc_patterns.specs.Derivative.{run, is_whole, is_snippet}
+use Rattle.gabc_patterns.proofs.AutomatonsByTests.{reading, rows_of}
+use Rattle.gabc_patterns.proofs.RowsAfterACharacter.{rows_end_to}
+use Rattle.gabc_patterns.proofs.RowsRun.{ends_once}
+use Rattle.gabc_patterns.proofs.ItemSoFar.{one_kind}
+use Rattle.gabc_patterns.proofs.StatesAfterTexts.{completes}
+use Rattle.gabc_patterns.proofs.FunctionsMeetRelations.{snippet_decides}
+use Rattle.gabc_notes.specs.Table.{gabc}
+use Rattle.gabc_notes.specs.Events.{in_raw}
+use Rattle.gabc_notes.specs.declared.item.ItemKind.{ItemKind}
+use Rattle.gabc_notes.specs.declared.state.ItemState.{ItemState}
+use Rattle.gabc_notes.specs.declared.state.ItemState.TheVariants.{Start, Dash, DashPitch, Body, Pitch, ClefPitch, ClefFlat, Clef as ClefS, Join, JoinPitch, JoinFlat, Altered, Sharp, Bar as BarS, Colon, BarAsked, BarSigned, Slash, Blanks, SmallZ, CapitalZ, Raw, SlashRaw, At, Done}
+use Rattle.gabc_notes.specs.declared.state.FullItem.TheVariants.{Alteration as FullAlteration, Clef as FullClef, Spacing as FullSpacing, Custos as FullCustos, Break as FullBreak, Attribute as FullAttribute, Fusion as FullFusion}
+use Rattle.gabc_notes.proofs.machine.MachineReadsTable.{machine, snippets_read, items_read}
+
+-- at each state at most one kind may end
+once : (s : ItemState) → ends_once (rows_of gabc machine s) ≡ true
+once Start = refl
+once Dash = refl
+once DashPitch = refl
+once Body = refl
+once Pitch = refl
+once ClefPitch = refl
+once ClefFlat = refl
+once ClefS = refl
+once Join = refl
+once JoinPitch = refl
+once JoinFlat = refl
+once Altered = refl
+once Sharp = refl
+once BarS = refl
+once Colon = refl
+once BarAsked = refl
+once BarSigned = refl
+once Slash = refl
+once Blanks = refl
+once SmallZ = refl
+once CapitalZ = refl
+once Raw = refl
+once SlashRaw = refl
+once At = refl
+once (Done FullAlteration) = refl
+once (Done FullClef) = refl
+once (Done FullSpacing) = refl
+once (Done FullCustos) = refl
+once (Done FullBreak) = refl
+once (Done FullAttribute) = refl
+once (Done FullFusion) = refl
+
+-- rows that spell one text are of one kind
+pub kinds_are_one : OneKind gabc
+kinds_are_one = one_kind gabc machine items_read once
+
+-- no item is empty
+pub none_empty : (k : ItemKind) → ¬ IsItemOf gabc k []
+none_empty k h = (let f = rows_end_to gabc k h in absurd (cc))
+
+-- what completes a state: the pitch of a note, or the bracket that closes
+abbrev pub completion : ItemState → List ℕ
+completion Dash = codes "f"
+completion Raw = codes "]"
+completion SlashRaw = codes "]"
+completion _ = []
+
+completed : (s : ItemState) → is_whole (run gabc (reading gabc machine s) (completion s)) ≡ true
+completed Start = refl
+completed Dash = refl
+completed DashPitch = refl
+completed Body = refl
+completed Pitch = refl
+completed ClefPitch = refl
+completed ClefFlat = refl
+completed ClefS = refl
+completed Join = refl
+completed JoinPitch = refl
+completed JoinFlat = refl
+completed Altered = refl
+completed Sharp = refl
+completed BarS = refl
+completed Colon = refl
+completed BarAsked = refl
+completed BarSigned = refl
+completed Slash = refl
+completed Blanks = refl
+completed SmallZ = refl
+completed CapitalZ = refl
+completed Raw = refl
+completed SlashRaw = refl
+completed At = refl
+completed (Done FullAlteration) = refl
+completed (Done FullClef) = refl
+completed (Done FullSpacing) = refl
+completed (Done FullCustos) = refl
+completed (Done FullBreak) = refl
+completed (Done FullAttribute) = refl
+completed (Done FullFusion) = refl
+
+short : (s : ItemState) → length (completion s) ≤ 1
+short Start = omega arith
+short Dash = omega arith
+short DashPitch = omega arith
+short Body = omega arith
+short Pitch = omega arith
+short ClefPitch = omega arith
+short ClefFlat = omega arith
+short ClefS = omega arith
+short Join = omega arith
+short JoinPitch = omega arith
+short JoinFlat = omega arith
+short Altered = omega arith
+short Sharp = omega arith
+short BarS = omega arith
+short Colon = omega arith
+short BarAsked = omega arith
+short BarSigned = omega arith
+short Slash = omega arith
+short Blanks = omega arith
+short SmallZ = omega arith
+short CapitalZ = omega arith
+short Raw = omega arith
+short SlashRaw = omega arith
+short At = omega arith
+short (Done FullAlteration) = omega arith
+short (Done FullClef) = omega arith
+short (Done FullSpacing) = omega arith
+short (Done FullCustos) = omega arith
+short (Done FullBreak) = omega arith
+short (Done FullAttribute) = omega arith
+short (Done FullFusion) = omega arith
+
+-- one character is enough to complete a viable text
+pub one_completes : (t : List ℕ) → IsViable gabc t → (more : List ℕ) × (length more ≤ 1) × IsSnippet gabc (t ++ more)
+one_completes t v = let y = completes gabc machine snippets_read completion completed t v in (completion y.0, short y.0, y.2)
+
+-- inside raw
+pub raw_decides : (t : List ℕ) → Decides (in_raw t) (IsSnippet gabc (t ++ codes "]") × (¬ IsSnippet gabc t))
+raw_decides t = go (is_snippet gabc (t ++ codes "]")) (is_snippet gabc t) (snippet_decides gabc refl (t ++ codes "]")) (snippet_decides gabc refl t)
+  where
+    go : (a b : Bool) {P Q : Type 0} → Decides a P → Decides b Q → Decides (a && not b) (P × (¬ Q))
+    go true true p q = (λ e. absurd (cc), λ h. absurd (h.1 (q.0 refl)))
+    go true false p q = (λ e. (p.0 refl, λ y. absurd (let f = q.1 y in cc)), λ h. refl)
+    go false b p q = (λ e. absurd (cc), λ h. p.1 h.0)

@@ -1,0 +1,5 @@
+pub mod FirstItemByBytes
+pub mod ItemAtCharacter
+pub mod ItemByStates
+pub mod ItemsByBytes
+pub mod LastItemByState

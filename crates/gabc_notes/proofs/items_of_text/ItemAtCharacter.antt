@@ -1,0 +1,182 @@
+-- The item that ends with a character, by the states before and behind it.
+use Rattle.std.proofs.Common.{◌≡◌, ℕ, ◌⊎◌, inl, inr, List, [], ◌∷◌, ◌++◌, Bool, true, false, cond, ◌||◌, ◌==◌, IsTrue, refl, sym, ap, ◌∙◌, subst, codes, Some, None, append-nil, append_assoc, eqb-true, ne_eqb, arith}
+use Rattle.std.specs.List.{concat}
+use Rattle.gabc_patterns.specs.Pattern.{Spells, Each, is_in, any_but, one_of, text}
+use Rattle.gabc_patterns.specs.Reading.{IsItemOf, Reads, IsSnippet}
+use Rattle.gabc_patterns.specs.Derivative.{Munch, start, nowhere, within, run, is_snippet}
+use Rattle.gabc_patterns.specs.Function.{items}
+use Rattle.gabc_patterns.proofs.ItemsFunctionReads.{items_only}
+use Rattle.gabc_patterns.proofs.LongestMunchByCharacter.{snippet_to}
+use Rattle.gabc_notes.specs.Table.{gabc, bracket, fusion}
+use Rattle.gabc_notes.specs.StageEvents.{kind_at}
+use Rattle.gabc_notes.specs.Events.{ItemText, last_of, last_item}
+use Rattle.gabc_notes.specs.declared.item.ItemKind.{ItemKind}
+use Rattle.gabc_notes.specs.declared.item.ItemKind.TheVariants.{Note, Alteration, Clef, Bar, Spacing, Custos, Break, Attribute, Fusion}
+use Rattle.gabc_notes.proofs.grammar.LawsOfKeptTexts.{kinds_are_one}
+use Rattle.gabc_notes.proofs.items_of_text.LastItemByState.{last_is, ReadsOn, shrink, cut_reading, join_reading}
+
+-- ---- the last of a list
+
+-- lists with an element more at the end
+pub push_same : {X : Type 0} (a b : List X) (x y : X) → a ++ x ∷ [] ≡ b ++ y ∷ [] → (a ≡ b) × (x ≡ y)
+push_same [] [] x y e = (refl, (cc))
+push_same [] (d ∷ b) x y e = absurd (let f : [] ≡ b ++ y ∷ [] = cc in none_pushed b y f)
+  where
+    none_pushed : {X : Type 0} (b : List X) (y : X) → [] ≡ b ++ y ∷ [] → ⊥
+    none_pushed [] y f = cc
+    none_pushed (d ∷ b) y f = cc
+push_same (c ∷ a) [] x y e = absurd (let f : a ++ x ∷ [] ≡ [] = cc in none_pushed a x f)
+  where
+    none_pushed : {X : Type 0} (b : List X) (y : X) → b ++ y ∷ [] ≡ [] → ⊥
+    none_pushed [] y f = cc
+    none_pushed (d ∷ b) y f = cc
+push_same (c ∷ a) (d ∷ b) x y e =
+    let f : a ++ x ∷ [] ≡ b ++ y ∷ [] = cc in
+    let g : c ≡ d = cc in
+    let h = push_same a b x y f in
+    let i : a ≡ b = h.0 in
+    ((cc), h.1)
+
+pub last_pushed : (is : List ItemText) (i : ItemText) → last_of (is ++ i ∷ []) ≡ Some i
+last_pushed [] i = refl
+last_pushed (j ∷ []) i = refl
+last_pushed (j ∷ k ∷ is) i = last_pushed (k ∷ is) i
+
+-- a list is empty, or has a last element
+pub pushed : {X : Type 0} (t : List X) → (t ≡ []) ⊎ ((a : List X) × (x : X) × (t ≡ a ++ x ∷ []))
+pushed [] = inl refl
+pushed {X} (c ∷ t) = elim (pushed t) [
+  | inl e ↦ inr ([], c, ap (λ (u : List X). c ∷ u) e)
+  | inr h ↦ inr (c ∷ h.0, h.1, ap (λ (u : List X). c ∷ u) h.2)
+]
+
+-- ---- the last item
+
+pub one_items : (is : List ItemText) (t : List ℕ) → Reads gabc is t → items gabc t ≡ is
+one_items is t h = sym (items_only gabc refl kinds_are_one t is h)
+
+pub last_item_is : (is : List ItemText) (i : ItemText) (t : List ℕ) → Reads gabc (is ++ i ∷ []) t → last_item t ≡ Some i
+last_item_is is i t h =
+    ap (λ (b : Bool). cond b (last_of (items gabc t)) None) (snippet_to gabc refl t (is ++ i ∷ [], h))
+    ∙ (ap last_of (one_items (is ++ i ∷ []) t h) ∙ last_pushed is i)
+
+pub last_item_none : (t : List ℕ) → is_snippet gabc t ≡ false → last_item t ≡ None
+last_item_none t e = ap (λ (b : Bool). cond b (last_of (items gabc t)) None) e
+
+-- the items before the last one, and its text
+pub record Ends (i : ItemText) (t : List ℕ) : Type 0 where
+  pub before : List ItemText
+  pub prefix : List ℕ
+  pub cut : t ≡ prefix ++ i.1
+  pub reads : ReadsOn gabc before prefix i.1
+  pub has : IsItemOf gabc i.0 i.1
+
+pub ends_of : (is : List ItemText) (i : ItemText) (t : List ℕ) → Reads gabc (is ++ i ∷ []) t → Ends i t
+ends_of is i t h =
+    let y = cut_reading gabc is (i ∷ []) t h in
+    let all : y.1 ≡ i.1 = y.4.1 ∙ (ap (λ (u : List ℕ). i.1 ++ u) y.4.4 ∙ append-nil i.1) in
+    record {
+      before = is;
+      prefix = y.0;
+      cut = y.2 ∙ ap (λ (u : List ℕ). y.0 ++ u) all;
+      reads = subst (λ (u : List ℕ). ReadsOn gabc is y.0 u) all y.3;
+      has = y.4.2;
+    }
+
+-- what is read is a snippet
+pub prefix_snippet : (is : List ItemText) (a b : List ℕ) → ReadsOn gabc is a b → IsSnippet gabc a
+prefix_snippet is a b h =
+    (is, subst (λ (js : List ItemText). Reads gabc js a) (append-nil is) (subst (Reads gabc (is ++ [])) (append-nil a) (join_reading gabc is [] a [] (shrink gabc is a [] b h) refl)))
+
+-- by where the reading stands
+pub ends_with : (t : List ℕ) (k : ItemKind) → kind_at (run gabc start t) ≡ Some k → (u : List ℕ) × Ends (k, u) t × (last_item t ≡ Some (k, u))
+ends_with t k e = go (run gabc start t) refl e
+  where
+    go : (m : Munch ItemKind) → run gabc start t ≡ m → kind_at m ≡ Some k → (u : List ℕ) × Ends (k, u) t × (last_item t ≡ Some (k, u))
+    go start f e = absurd (cc)
+    go nowhere f e = absurd (cc)
+    go (within rows back) f e =
+        let h = last_is gabc k rows back t f e in
+        (h.last, ends_of h.before (k, h.last) t h.reads, last_item_is h.before (k, h.last) t h.reads)
+
+-- ---- the texts of items
+
+-- one of one character
+one_char : (d : ℕ) (t : List ℕ) → Spells (one_of (d ∷ [])) t → t ≡ d ∷ []
+one_char d t (c, i, e) = e ∙ ap (λ (x : ℕ). x ∷ []) (sym (eqb-true d c (only (d == c) i)))
+  where
+    only : (b : Bool) → IsTrue (b || false) → b ≡ true
+    only true h = refl
+    only false h = h
+
+-- a fusion mark
+pub fusion_texts : (t : List ℕ) → IsItemOf gabc Fusion t → (t ≡ codes "@") ⊎ ((t ≡ codes "@[") ⊎ (t ≡ codes "]"))
+fusion_texts t h = elim (at_row h) [
+  | inl x ↦ inl (one_char 64 t x)
+  | inr y ↦ elim y [
+    | inl x ↦ inr (inl (two x))
+    | inr x ↦ inr (inr (one_char 93 t x))
+  ]
+]
+  where
+    two : Spells (text (codes "@[")) t → t ≡ codes "@["
+    two (a, b, x, y, e) = e ∙ (ap (λ (u : List ℕ). u ++ b) (one_char 64 a x) ∙ ap (λ (u : List ℕ). 64 ∷ u) (one_char 91 b y))
+
+    at_row : IsItemOf gabc Fusion t → Spells fusion t
+    at_row (inl x) = absurd (let f : Note ≡ Fusion = x.0 in cc)
+    at_row (inr (inl x)) = absurd (let f : Alteration ≡ Fusion = x.0 in cc)
+    at_row (inr (inr (inl x))) = absurd (let f : Clef ≡ Fusion = x.0 in cc)
+    at_row (inr (inr (inr (inl x)))) = absurd (let f : Bar ≡ Fusion = x.0 in cc)
+    at_row (inr (inr (inr (inr (inl x))))) = absurd (let f : Spacing ≡ Fusion = x.0 in cc)
+    at_row (inr (inr (inr (inr (inr (inl x)))))) = absurd (let f : Custos ≡ Fusion = x.0 in cc)
+    at_row (inr (inr (inr (inr (inr (inr (inl x))))))) = absurd (let f : Break ≡ Fusion = x.0 in cc)
+    at_row (inr (inr (inr (inr (inr (inr (inr (inl x)))))))) = absurd (let f : Attribute ≡ Fusion = x.0 in cc)
+    at_row (inr (inr (inr (inr (inr (inr (inr (inr (inl x))))))))) = x.1
+    at_row (inr (inr (inr (inr (inr (inr (inr (inr (inr x))))))))) = absurd x
+
+-- what a bracket holds has no `]`
+no_close : (parts : List (List ℕ)) → Each (Spells (any_but 93)) parts → is_in 93 (concat parts) ≡ false
+no_close [] h = refl
+no_close (p ∷ parts) h = (let x = h.0 in ap (λ (t : List ℕ). is_in 93 (t ++ concat parts)) x.2 ∙ (ap (λ (b : Bool). b || is_in 93 (concat parts)) (ne_eqb x.0 93 x.1) ∙ no_close parts h.1))
+
+-- an attribute
+pub attribute_text : (t : List ℕ) → IsItemOf gabc Attribute t → (r : List ℕ) × (t ≡ 91 ∷ r ++ 93 ∷ []) × (is_in 93 r ≡ false)
+attribute_text t h = spelt (at_row h)
+  where
+    spelt : Spells bracket t → (r : List ℕ) × (t ≡ 91 ∷ r ++ 93 ∷ []) × (is_in 93 r ≡ false)
+    spelt (a, b, x, (r, c, y, z, f), e) = (
+      r,
+      e ∙ (ap (λ (u : List ℕ). u ++ b) (one_char 91 a x) ∙ ap (λ (u : List ℕ). 91 ∷ u) (f ∙ ap (λ (u : List ℕ). r ++ u) (one_char 93 c z))),
+      ap (is_in 93) y.2 ∙ no_close y.0 y.1,
+    )
+
+    at_row : IsItemOf gabc Attribute t → Spells bracket t
+    at_row (inl x) = absurd (let f : Note ≡ Attribute = x.0 in cc)
+    at_row (inr (inl x)) = absurd (let f : Alteration ≡ Attribute = x.0 in cc)
+    at_row (inr (inr (inl x))) = absurd (let f : Clef ≡ Attribute = x.0 in cc)
+    at_row (inr (inr (inr (inl x)))) = absurd (let f : Bar ≡ Attribute = x.0 in cc)
+    at_row (inr (inr (inr (inr (inl x))))) = absurd (let f : Spacing ≡ Attribute = x.0 in cc)
+    at_row (inr (inr (inr (inr (inr (inl x)))))) = absurd (let f : Custos ≡ Attribute = x.0 in cc)
+    at_row (inr (inr (inr (inr (inr (inr (inl x))))))) = absurd (let f : Break ≡ Attribute = x.0 in cc)
+    at_row (inr (inr (inr (inr (inr (inr (inr (inl x)))))))) = x.1
+    at_row (inr (inr (inr (inr (inr (inr (inr (inr (inl x))))))))) = absurd (let f : Fusion ≡ Attribute = x.0 in cc)
+    at_row (inr (inr (inr (inr (inr (inr (inr (inr (inr x))))))))) = absurd x
+
+-- a fusion mark by its last character
+pub fusion_open : (k u : List ℕ) → Ends (Fusion, u) (k ++ 91 ∷ []) → u ≡ codes "@["
+fusion_open k u h = elim (fusion_texts u h.has) [
+  | inl e ↦ absurd (let f = push_same k h.prefix 91 64 (h.cut ∙ ap (λ (v : List ℕ). h.prefix ++ v) e) in omega (arith, f.1))
+  | inr y ↦ elim y [
+    | inl e ↦ e
+    | inr e ↦ absurd (let f = push_same k h.prefix 91 93 (h.cut ∙ ap (λ (v : List ℕ). h.prefix ++ v) e) in omega (arith, f.1))
+  ]
+]
+
+pub fusion_close : (k u : List ℕ) → Ends (Fusion, u) (k ++ 93 ∷ []) → u ≡ codes "]"
+fusion_close k u h = elim (fusion_texts u h.has) [
+  | inl e ↦ absurd (let f = push_same k h.prefix 93 64 (h.cut ∙ ap (λ (v : List ℕ). h.prefix ++ v) e) in omega (arith, f.1))
+  | inr y ↦ elim y [
+    | inl e ↦ absurd (let f = push_same k (h.prefix ++ 64 ∷ []) 93 91 (h.cut ∙ (ap (λ (v : List ℕ). h.prefix ++ v) e ∙ sym (append_assoc h.prefix (64 ∷ []) (91 ∷ [])))) in omega (arith, f.1))
+    | inr e ↦ e
+  ]
+]

@@ -1,0 +1,517 @@
+-- What a fresh stage tells is what is said of the characters by those before them.
+use Rattle.std.proofs.Common.{◌≡◌, ℕ, inl, inr, ◌+◌, min, List, [], ◌∷◌, ◌++◌, Bool, true, false, cond, not, ◌&&◌, ◌||◌, ◌==◌, refl, sym, ap, ◌∙◌, subst, Option, Some, None, option_to_list, append-nil, append_assoc, eqb-true, ne_eqb, arith}
+use Rattle.std.specs.Prelude.{sum_by, find}
+use Rattle.std.specs.Char.{len_utf8}
+use Rattle.std.specs.Option.{option_map_or}
+use Rattle.std.proofs.lemmas.List.Sums.{sum_by-append}
+use Rattle.gabc_places.specs.declared.code.Code.TheVariants.{E1, E6, W8, W10}
+use Rattle.gabc_places.specs.declared.place.Char.{Char}
+use Rattle.gabc_places.specs.StageLaw.{silence}
+use Rattle.gabc_places.specs.declared.place.Place.{Place}
+use Rattle.gabc_patterns.specs.Reading.{IsSnippet, IsViable}
+use Rattle.gabc_patterns.specs.Derivative.{Munch, is_alive, is_snippet, is_viable}
+use Rattle.gabc_patterns.specs.Function.{keep, trim, trim_from}
+use Rattle.gabc_patterns.proofs.BothOfTwoTests.{append_none}
+use Rattle.gabc_patterns.proofs.FunctionsMeetRelations.{keep_append, viable_decides}
+use Rattle.gabc_patterns.proofs.LongestPrefixIsOne.{split_push}
+use Rattle.gabc_patterns.proofs.StatesAfterTexts.{Stands, state_of, after_char}
+use Rattle.gabc_notes.specs.Table.{gabc}
+use Rattle.gabc_notes.specs.machine.ItemMachine.{whole_at, raw_state, attribute_state}
+use Rattle.gabc_notes.specs.StageEvents.{ends_with_attribute, kind_at, is_attribute_kind, macro_digit, char_facts, role_in, before_in, fused_in, events_in, warning_in, event_list, raw_with, count_plus, cut_event, events_following, events_behind}
+use Rattle.gabc_notes.specs.machine.StageEvents.{nothing_before}
+use Rattle.gabc_notes.specs.Events.{in_raw, finding_event, end_by_mark, is_missing, Point, points, outside_comments, ends_in_comment, with_comments, kept, is_comment, is_in_raw, kept_with, is_kept, last_item, item_at, opens_fusion, closes_fusion, macro_of, is_fused, opener, bytes_of, is_end, is_over, is_unpaired, warnings, at_end, events_at, cut_events, note_events_behind, note_events}
+use Rattle.gabc_notes.specs.declared.item.ItemKind.{ItemKind}
+use Rattle.gabc_notes.specs.declared.stage.Before.{Before}
+use Rattle.gabc_notes.specs.declared.stage.NoteEnd.TheVariants.{Cut}
+use Rattle.gabc_notes.specs.declared.stage.NoteEvent.{NoteEvent}
+use Rattle.gabc_notes.specs.declared.stage.NoteEvent.TheVariants.{Kept, Ended}
+use Rattle.gabc_notes.specs.declared.stage.CharRole.{CharRole}
+use Rattle.gabc_notes.specs.declared.stage.CharRole.TheVariants.{Silent, Comment, Ends, Keep, LeaveOut}
+use Rattle.gabc_notes.specs.declared.state.ItemState.{ItemState}
+use Rattle.gabc_notes.proofs.machine.MachineReadsTable.{machine, snippets_read}
+use Rattle.gabc_notes.proofs.machine.StageEmitsItsEvents.{raw_is, attribute_is}
+use Rattle.gabc_notes.proofs.grammar.InsideRawIsAnOpenBracket.{on, step_in, raw_not_whole}
+use Rattle.gabc_notes.proofs.machine.EventsDependOnState.{raw_at, raw_by}
+use Rattle.gabc_notes.proofs.items_of_text.ItemByStates.{Steps, RawFrom, ItemIs, item_is, closed_by}
+
+abbrev pub point : List Char → Char → Point
+point back x = record { back = back; here = x }
+
+-- ---- a character more
+
+pub kept_more : (back : List Char) (x : Char) → is_comment (point back x) ≡ false → kept (x ∷ back) ≡ cond (is_viable gabc (kept_with (point back x))) (kept_with (point back x)) (kept back)
+kept_more back x e =
+    ap (λ (b : Bool). keep gabc (cond b (outside_comments (with_comments back)) (outside_comments (with_comments back) ++ x.c ∷ []))) e
+    ∙ keep_append gabc [] (outside_comments (with_comments back)) (x.c ∷ [])
+
+pub kept_same : (back : List Char) (x : Char) → is_comment (point back x) ≡ true → kept (x ∷ back) ≡ kept back
+kept_same back x e = ap (λ (b : Bool). keep gabc (cond b (outside_comments (with_comments back)) (outside_comments (with_comments back) ++ x.c ∷ []))) e
+
+pub fused_more : (back : List Char) (x : Char) → is_fused (x ∷ back)
+    ≡ cond (opens_fusion (item_at (point back x))) true (cond (closes_fusion (item_at (point back x))) false (is_fused back))
+fused_more back x = go (opens_fusion (item_at (point back x))) refl (closes_fusion (item_at (point back x)))
+  where
+    rest : Option Point
+    rest = find (λ (p : Point). opens_fusion (item_at p) || closes_fusion (item_at p)) (points back)
+
+    go : (a : Bool) → opens_fusion (item_at (point back x)) ≡ a → (l : Bool)
+        → option_map_or (λ (p : Point). opens_fusion (item_at p)) (cond (a || l) (Some (point back x)) (find (λ (p : Point). opens_fusion (item_at p) || closes_fusion (item_at p)) (points back))) false
+        ≡ cond a true (cond l false (is_fused back))
+    go true e l = e
+    go false e true = e
+    go false e false = refl
+
+pub opener_more : (back : List Char) (x : Char) → opener (x ∷ back) ≡ cond (is_kept (point back x) && not (is_in_raw (point back x))) x.place (opener back)
+opener_more back x = go (is_kept (point back x) && not (is_in_raw (point back x)))
+  where
+    go : (a : Bool)
+        → option_map_or (λ (p : Point). p.here.place) (cond a (Some (point back x)) (find (λ (p : Point). is_kept p && not (is_in_raw p)) (points back))) (record { line = 0; column = 0 })
+        ≡ cond a x.place (opener back)
+    go true = refl
+    go false = refl
+
+bytes_more : (k : List ℕ) (c : ℕ) → bytes_of (k ++ c ∷ []) ≡ count_plus (bytes_of k) c
+bytes_more k c =
+    ap (λ (n : ℕ). min n 18446744073709551615) (sum_by-append len_utf8 k (c ∷ []))
+    ∙ (ap (λ (n : ℕ). min (sum_by len_utf8 k + n) 18446744073709551615) (plus (len_utf8 c)) ∙ least (sum_by len_utf8 k) (len_utf8 c))
+  where
+    plus : (n : ℕ) → 0 + n ≡ n
+    plus n = omega arith
+
+    least : (a b : ℕ) → min (a + b) 18446744073709551615 ≡ min (min a 18446744073709551615 + b) 18446744073709551615
+    least a b = omega arith
+
+trim_more : (best before t : List ℕ) (c : ℕ) → trim_from gabc best before (t ++ c ∷ [])
+    ≡ cond (is_snippet gabc ((before ++ t) ++ c ∷ [])) ((before ++ t) ++ c ∷ []) (trim_from gabc best before t)
+trim_more best before [] c = ap (λ (u : List ℕ). cond (is_snippet gabc (u ++ c ∷ [])) (u ++ c ∷ []) best) (sym (append-nil before))
+trim_more best before (d ∷ t) c =
+    trim_more (cond (is_snippet gabc (before ++ d ∷ [])) (before ++ d ∷ []) best) (before ++ d ∷ []) t c
+    ∙ ap (λ (u : List ℕ). cond (is_snippet gabc (u ++ c ∷ [])) (u ++ c ∷ []) (trim_from gabc best before (d ∷ t))) (append_assoc before (d ∷ []) t)
+
+-- ---- roles
+
+abbrev pub RoleIs : CharRole → Bool → Bool → Bool → Bool → Type 0
+RoleIs Silent m C B V = (C ≡ true) × (m ≡ true)
+RoleIs Comment m C B V = C ≡ true
+RoleIs Ends m C B V = (C ≡ false) × (B ≡ true)
+RoleIs Keep m C B V = (C ≡ false) × (B ≡ false) × (V ≡ true)
+RoleIs LeaveOut m C B V = (C ≡ false) × (B ≡ false) × (V ≡ false)
+
+role_is : (m n B D V : Bool) → (B ≡ true → D ≡ false) → (D ≡ true → n ≡ true)
+    → RoleIs (cond (m && n) Silent (cond B Ends (cond D Comment (cond V Keep LeaveOut)))) m (n && (m || D)) B V
+role_is true true B D V f g = (refl, refl)
+role_is true false true D V f g = (refl, refl)
+role_is true false false true V f g = g refl
+role_is true false false false true f g = (refl, refl, refl)
+role_is true false false false false f g = (refl, refl, refl)
+role_is false true true D V f g = (f refl, refl)
+role_is false false true D V f g = (refl, refl)
+role_is false true false true V f g = refl
+role_is false false false true V f g = g refl
+role_is false true false false true f g = (refl, refl, refl)
+role_is false true false false false f g = (refl, refl, refl)
+role_is false false false false true f g = (refl, refl, refl)
+role_is false false false false false f g = (refl, refl, refl)
+
+no_percent : (raw split : Bool) (c : ℕ) → (not raw && ((c == 41) || (split && (c == 124)))) ≡ true → (not raw && (c == 37)) ≡ false
+no_percent true split c e = refl
+no_percent false split c e = ne_eqb c 37 (λ f. go split (subst (λ (d : ℕ). ((d == 41) || (split && (d == 124))) ≡ true) f e))
+  where
+    go : (s : Bool) → ((37 == 41) || (s && (37 == 124))) ≡ true → ⊥
+    go true h = absurd (cc)
+    go false h = absurd (cc)
+
+no_feed : (raw : Bool) (c : ℕ) → (not raw && (c == 37)) ≡ true → not (c == 10) ≡ true
+no_feed true c e = absurd (cc)
+no_feed false c e = subst (λ (d : ℕ). not (d == 10) ≡ true) (sym (eqb-true c 37 e)) refl
+
+pub pick_none : (o C B V : Bool) (A K L : List NoteEvent) → o ≡ false → C ≡ true → cond o [] (cond (not C && B) A (cond C [] (cond (not C && V) K L))) ≡ []
+pick_none o C B V A K L e f = rw (e, f) refl
+
+pub pick_end : (o C B V : Bool) (A K L : List NoteEvent) → o ≡ false → C ≡ false → B ≡ true → cond o [] (cond (not C && B) A (cond C [] (cond (not C && V) K L))) ≡ A
+pick_end o C B V A K L e f g = rw (e, f, g) refl
+
+pub pick_kept : (o C B V : Bool) (A K L : List NoteEvent) → o ≡ false → C ≡ false → B ≡ false → V ≡ true → cond o [] (cond (not C && B) A (cond C [] (cond (not C && V) K L))) ≡ K
+pick_kept o C B V A K L e f g h = rw (e, f, g, h) refl
+
+pub pick_left : (o C B V : Bool) (A K L : List NoteEvent) → o ≡ false → C ≡ false → B ≡ false → V ≡ false → cond o [] (cond (not C && B) A (cond C [] (cond (not C && V) K L))) ≡ L
+pick_left o C B V A K L e f g h = rw (e, f, g, h) refl
+
+-- ---- what stands before a character
+
+pub record Holds (split : Bool) (back : List Char) (raw : List ℕ) (b : Before) : Type 0 where
+  pub comment : b.comment ≡ ends_in_comment (with_comments back)
+  pub place : b.place ≡ opener back
+  pub fused : b.fused ≡ is_fused back
+  pub bytes : b.kept ≡ bytes_of (kept back)
+  pub whole : b.whole ≡ bytes_of (trim gabc (kept back))
+  pub over : is_over split back ≡ false
+  pub raw_from : in_raw (kept back) ≡ true → RawFrom (kept back) raw
+  pub no_raw : in_raw (kept back) ≡ false → raw ≡ []
+
+-- behind a character that is not kept
+pub unkept : (split : Bool) (back : List Char) (raw : List ℕ) (b : Before) (x : Char) (m : Bool) → Holds split back raw b → is_kept (point back x) ≡ false
+    → kept (x ∷ back) ≡ kept back → is_end split (point back x) ≡ false → is_comment (point back x) ≡ m → Holds split (x ∷ back) raw (record b { comment = m })
+unkept split back raw b x m h n same e f = record {
+  comment = sym f;
+  place = h.place ∙ sym (opener_more back x ∙ ap (λ (a : Bool). cond (a && not (is_in_raw (point back x))) x.place (opener back)) n);
+  fused = h.fused ∙ sym (fused_more back x ∙ ap (λ (a : Bool). cond (opens_fusion (cond a (last_item (kept_with (point back x))) None)) true (cond (closes_fusion (cond a (last_item (kept_with (point back x))) None)) false (is_fused back))) n);
+  bytes = h.bytes ∙ ap bytes_of (sym same);
+  whole = h.whole ∙ ap (λ (k : List ℕ). bytes_of (trim gabc k)) (sym same);
+  over = ap (λ (a : Bool). a || is_over split back) e ∙ h.over;
+  raw_from = λ r. subst (λ (k : List ℕ). RawFrom k raw) (sym same) (h.raw_from (ap in_raw (sym same) ∙ r));
+  no_raw = λ r. h.no_raw (ap in_raw (sym same) ∙ r);
+}
+
+-- a character that is kept, by the states before and behind it
+pub record KeptBy (k : List ℕ) (c : ℕ) : Type 0 where
+  pub from : ItemState
+  pub to : ItemState
+  pub steps : Steps k c from to
+  pub raw : in_raw k ≡ raw_state from
+  pub raw_after : in_raw (k ++ c ∷ []) ≡ raw_state to
+  pub attribute : ends_with_attribute (k ++ c ∷ []) ≡ attribute_state to
+
+pub kept_by : (k : List ℕ) (c : ℕ) → is_viable gabc (k ++ c ∷ []) ≡ true → KeptBy k c
+kept_by k c v =
+    let w = (viable_decides gabc refl (k ++ c ∷ [])).0 v in
+    let less : IsViable gabc k = (c ∷ w.0, subst (λ (t : List ℕ). IsSnippet gabc t) (append_assoc k (c ∷ []) w.0) w.1) in
+    let y = state_of gabc machine snippets_read k less in
+    go y.0 y.1 (on y.0 c) refl
+  where
+    go : (s : ItemState) → Stands gabc machine s k → (o : Option ItemState) → on s c ≡ o → KeptBy k c
+    go s h None e = absurd (let f : false ≡ true = ap is_alive (sym (after_char gabc machine snippets_read s k c None h e)) ∙ v in cc)
+    go s h (Some z) e =
+        let there = after_char gabc machine snippets_read s k c (Some z) h e in
+        record {
+          from = s;
+          to = z;
+          steps = record { here = h; next = e };
+          raw = raw_by k ∙ (ap raw_at (sym h.reads) ∙ raw_is s);
+          raw_after = raw_by (k ++ c ∷ []) ∙ (ap raw_at there ∙ raw_is z);
+          attribute = ap (λ (m : Munch ItemKind). is_attribute_kind (kind_at m)) there ∙ attribute_is z;
+        }
+
+-- the tests of the item that ends with it, by raw
+opens_by : (rs rz a d fu : Bool) → (rz ≡ true → d ≡ false) → cond (a && (not rs && not rz)) true (cond (d && not rs) false fu) ≡ cond (rs || rz) fu (a || (fu && not d))
+opens_by true rz true true fu f = refl
+opens_by true rz true false fu f = refl
+opens_by true rz false true fu f = refl
+opens_by true rz false false fu f = refl
+opens_by false true true true fu f = absurd (let g : true ≡ false = f refl in cc)
+opens_by false true true false fu f = refl
+opens_by false true false true fu f = absurd (let g : true ≡ false = f refl in cc)
+opens_by false true false false fu f = refl
+opens_by false false true d fu f = refl
+opens_by false false false true true f = refl
+opens_by false false false true false f = refl
+opens_by false false false false true f = refl
+opens_by false false false false false f = refl
+
+-- the warnings
+warned : (rs rz a d fu att : Bool) (M : Option ℕ → Bool) (digit : Option ℕ) (w8 w10 : NoteEvent) → M None ≡ false
+    → option_to_list (cond rs (cond (att && M digit) (Some w8) None) (cond ((a && (not rz && fu)) || (d && not fu)) (Some w10) None)) ++ []
+    ≡ cond (((a && (not rs && not rz)) && fu) || ((d && not rs) && not fu)) (w10 ∷ []) [] ++ cond (M (cond (rs && att) digit None)) (w8 ∷ []) []
+warned rs rz a d fu att M digit w8 w10 e = go rs a d
+  where
+    inside : (att : Bool) → option_to_list (cond (att && M digit) (Some w8) None) ++ [] ≡ cond (M (cond att digit None)) (w8 ∷ []) []
+    inside true = last (M digit)
+      where
+        last : (m : Bool) → option_to_list (cond m (Some w8) None) ++ [] ≡ cond m (w8 ∷ []) []
+        last true = refl
+        last false = refl
+    inside false = rw e refl
+
+    outside : (b : Bool) → option_to_list (cond b (Some w10) None) ++ [] ≡ cond b (w10 ∷ []) [] ++ cond (M None) (w8 ∷ []) []
+    outside true = rw e refl
+    outside false = rw e refl
+
+    and_assoc : (x y z : Bool) → ((x && y) && z) ≡ (x && (y && z))
+    and_assoc true y z = refl
+    and_assoc false y z = refl
+
+    and_one : (b : Bool) → (b && true) ≡ b
+    and_one true = refl
+    and_one false = refl
+
+    go : (rs a d : Bool) → option_to_list (cond rs (cond (att && M digit) (Some w8) None) (cond ((a && (not rz && fu)) || (d && not fu)) (Some w10) None)) ++ []
+        ≡ cond (((a && (not rs && not rz)) && fu) || ((d && not rs) && not fu)) (w10 ∷ []) [] ++ cond (M (cond (rs && att) digit None)) (w8 ∷ []) []
+    go true true true = inside att
+    go true true false = inside att
+    go true false true = inside att
+    go true false false = inside att
+    go false a d =
+        outside ((a && (not rz && fu)) || (d && not fu))
+        ∙ ap (λ (b : Bool). cond b (w10 ∷ []) [] ++ cond (M None) (w8 ∷ []) []) (sym (rw (and_assoc a (not rz) fu, and_one d) refl))
+
+flipped : {X : Type 0} (r : Bool) (a b : X) → cond (not r) a b ≡ cond r b a
+flipped true a b = refl
+flipped false a b = refl
+
+-- raw goes on, or begins
+raw_on : (k raw : List ℕ) (c : ℕ) (y : KeptBy k c) → (in_raw k ≡ true → RawFrom k raw) → (in_raw k ≡ false → raw ≡ []) → in_raw (k ++ c ∷ []) ≡ true
+    → RawFrom (k ++ c ∷ []) (raw ++ c ∷ [])
+raw_on k raw c y f n r = elim (step_in y.from y.to c y.steps.next (sym y.raw_after ∙ r)) [
+  | inl x ↦ (let h = f (y.raw ∙ x.0) in record {
+    before = h.before;
+    behind = h.behind ++ c ∷ [];
+    cut = ap (λ (t : List ℕ). t ++ c ∷ []) h.cut ∙ append_assoc h.before (91 ∷ h.behind) (c ∷ []);
+    raw_is = ap (λ (t : List ℕ). t ++ c ∷ []) h.raw_is;
+    outside = h.outside;
+    inside = λ a b e. elim (split_push h.behind a b c e) [
+      | inl z ↦ ap (λ (t : List ℕ). in_raw (h.before ++ 91 ∷ t)) z
+          ∙ (ap in_raw (sym (ap (λ (t : List ℕ). t ++ c ∷ []) h.cut ∙ append_assoc h.before (91 ∷ h.behind) (c ∷ []))) ∙ r)
+      | inr z ↦ h.inside a z.0 z.1
+    ];
+  })
+  | inr x ↦ (let out : in_raw k ≡ false = y.raw ∙ outside y.from x.1 in record {
+    before = k;
+    behind = [];
+    cut = ap (λ (d : ℕ). k ++ d ∷ []) x.0;
+    raw_is = ap (λ (t : List ℕ). t ++ c ∷ []) (n out) ∙ ap (λ (d : ℕ). d ∷ []) x.0;
+    outside = out;
+    inside = λ a b e. ap (λ (t : List ℕ). in_raw (k ++ 91 ∷ t)) (append_none a b e).0 ∙ (ap (λ (d : ℕ). in_raw (k ++ d ∷ [])) (sym x.0) ∙ r);
+  })
+]
+  where
+    outside : (s : ItemState) → whole_at s ≡ true → raw_state s ≡ false
+    outside s w = go (raw_state s) refl
+      where
+        go : (b : Bool) → raw_state s ≡ b → b ≡ false
+        go true e = absurd (let g = raw_not_whole s e in cc)
+        go false e = refl
+
+-- no `]` leads into raw
+no_close : (k : List ℕ) (c : ℕ) (y : KeptBy k c) → raw_state y.to ≡ true → c == 93 ≡ false
+no_close k c y r = go (c == 93) refl
+  where
+    at : (z : ItemState) → raw_state z ≡ true → on y.from 93 ≡ Some z → ⊥
+    at z r e = elim (closed_by y.from z e) [
+      | inl x ↦ elim x.1 [ inl f ↦ (let g = ap raw_state f in cc) | inr f ↦ (let g = ap raw_state f in cc) ]
+      | inr x ↦ (let g = ap raw_state x.1 in cc)
+    ]
+
+    go : (b : Bool) → c == 93 ≡ b → b ≡ false
+    go true e = absurd (at y.to r (subst (λ (d : ℕ). on y.from d ≡ Some y.to) (eqb-true c 93 e) y.steps.next))
+    go false e = refl
+
+-- a character that is kept, and what is known of its item
+pub record KeptHere (split : Bool) (back : List Char) (raw : List ℕ) (b : Before) (x : Char) : Type 0 where
+  pub holds : Holds split back raw b
+  pub plain : is_comment (point back x) ≡ false
+  pub going : is_end split (point back x) ≡ false
+  pub viable : is_viable gabc (kept_with (point back x)) ≡ true
+
+module _ (split : Bool) (back : List Char) (raw : List ℕ) (b : Before) (x : Char) (h : KeptHere split back raw b x) where
+  by : KeptBy (kept back) x.c
+  by = kept_by (kept back) x.c h.viable
+
+  is : is_kept (point back x) ≡ true
+  is = ap (λ (a : Bool). not a && is_viable gabc (kept_with (point back x))) h.plain ∙ h.viable
+
+  item : item_at (point back x) ≡ last_item (kept back ++ x.c ∷ [])
+  item = ap (λ (a : Bool). cond a (last_item (kept_with (point back x))) None) is
+
+  events_item : ItemIs raw x.c by.from by.to (last_item (kept back ++ x.c ∷ []))
+  events_item = item_is (kept back) raw x.c by.from by.to by.steps (λ r. h.holds.raw_from (by.raw ∙ r))
+
+  opens_is : opens_fusion (item_at (point back x)) ≡ ((x.c == 91) && (not (in_raw (kept back)) && not (in_raw (kept back ++ x.c ∷ []))))
+  opens_is = ap opens_fusion item ∙ (events_item.opens ∙ sym (rw (by.raw, by.raw_after) refl))
+
+  closes_is : closes_fusion (item_at (point back x)) ≡ ((x.c == 93) && not (in_raw (kept back)))
+  closes_is = ap closes_fusion item ∙ (events_item.closes ∙ sym (rw by.raw refl))
+
+  pub macro_is : macro_of (item_at (point back x)) ≡ cond (in_raw (kept back) && ends_with_attribute (kept back ++ x.c ∷ [])) (macro_digit raw) None
+  macro_is = ap macro_of item ∙ (events_item.macro ∙ sym (rw (by.raw, by.attribute) refl))
+
+  same : kept (x ∷ back) ≡ kept back ++ x.c ∷ []
+  same = kept_more back x h.plain ∙ ap (λ (a : Bool). cond a (kept_with (point back x)) (kept back)) h.viable
+
+  whole_next : cond (is_snippet gabc (kept back ++ x.c ∷ [])) (count_plus b.kept x.c) b.whole ≡ bytes_of (trim gabc (kept (x ∷ back)))
+  whole_next =
+      go (is_snippet gabc (kept back ++ x.c ∷ []))
+      ∙ (ap bytes_of (sym (trim_more [] [] (kept back) x.c)) ∙ ap (λ (t : List ℕ). bytes_of (trim gabc t)) (sym same))
+    where
+      go : (w : Bool) → cond w (count_plus b.kept x.c) b.whole ≡ bytes_of (cond w (kept back ++ x.c ∷ []) (trim gabc (kept back)))
+      go true = ap (λ (n : ℕ). count_plus n x.c) h.holds.bytes ∙ sym (bytes_more (kept back) x.c)
+      go false = h.holds.whole
+
+  fused_next : fused_in b (char_facts (kept back) raw x.c) x ≡ is_fused (x ∷ back)
+  fused_next =
+      ap (λ (f : Bool). cond (in_raw (kept back) || in_raw (kept back ++ x.c ∷ [])) f ((x.c == 91) || (f && not (x.c == 93)))) h.holds.fused
+      ∙ (sym (opens_by (in_raw (kept back)) (in_raw (kept back ++ x.c ∷ [])) (x.c == 91) (x.c == 93) (is_fused back) (λ r. no_close (kept back) x.c by (sym by.raw_after ∙ r)))
+      ∙ (ap (λ (o : Bool). cond o true (cond ((x.c == 93) && not (in_raw (kept back))) false (is_fused back))) (sym opens_is)
+      ∙ (ap (λ (o : Bool). cond (opens_fusion (item_at (point back x))) true (cond o false (is_fused back))) (sym closes_is)
+      ∙ sym (fused_more back x))))
+
+  place_next : cond (in_raw (kept back)) b.place x.place ≡ opener (x ∷ back)
+  place_next =
+      ap (λ (p : Place). cond (in_raw (kept back)) p x.place) h.holds.place
+      ∙ (sym (flipped (in_raw (kept back)) x.place (opener back))
+      ∙ (ap (λ (a : Bool). cond (a && not (in_raw (kept back))) x.place (opener back)) (sym is) ∙ sym (opener_more back x)))
+
+  pub kept_holds : Holds split (x ∷ back) (raw_with (char_facts (kept back) raw x.c) raw x.c) (before_in Keep b (char_facts (kept back) raw x.c) x)
+  kept_holds = record {
+    comment = sym h.plain;
+    place = place_next;
+    fused = fused_next;
+    bytes = ap (λ (n : ℕ). count_plus n x.c) h.holds.bytes ∙ (sym (bytes_more (kept back) x.c) ∙ ap bytes_of (sym same));
+    whole = whole_next;
+    over = ap (λ (a : Bool). a || is_over split back) h.going ∙ h.holds.over;
+    raw_from = λ r. (let f : in_raw (kept back ++ x.c ∷ []) ≡ true = ap in_raw (sym same) ∙ r in
+        subst (λ (t : List ℕ). RawFrom t (cond (in_raw (kept back ++ x.c ∷ [])) (raw ++ x.c ∷ []) [])) (sym same)
+        (subst (λ (a : Bool). RawFrom (kept back ++ x.c ∷ []) (cond a (raw ++ x.c ∷ []) [])) (sym f)
+        (raw_on (kept back) raw x.c by h.holds.raw_from h.holds.no_raw f)));
+    no_raw = λ r. ap (λ (a : Bool). cond a (raw ++ x.c ∷ []) []) (ap in_raw (sym same) ∙ r);
+  }
+
+  -- the warnings are those of the items
+  pub kept_warns : (macros : ℕ) → option_to_list (warning_in macros b (char_facts (kept back) raw x.c) x) ++ [] ≡ warnings macros (point back x)
+  kept_warns macros =
+      ap (λ (f : Bool). option_to_list (cond (in_raw (kept back)) (cond (ends_with_attribute (kept back ++ x.c ∷ []) && is_missing macros (macro_digit raw)) (Some (finding_event b.place W8)) None)
+      (cond (((x.c == 91) && (not (in_raw (kept back ++ x.c ∷ [])) && f)) || ((x.c == 93) && not f)) (Some (finding_event x.place W10)) None)) ++ []) h.holds.fused
+      ∙ (ap (λ (q : Place). option_to_list (cond (in_raw (kept back)) (cond (ends_with_attribute (kept back ++ x.c ∷ []) && is_missing macros (macro_digit raw)) (Some (finding_event q W8)) None)
+      (cond (((x.c == 91) && (not (in_raw (kept back ++ x.c ∷ [])) && is_fused back)) || ((x.c == 93) && not (is_fused back))) (Some (finding_event x.place W10)) None)) ++ []) h.holds.place
+      ∙ (warned (in_raw (kept back)) (in_raw (kept back ++ x.c ∷ [])) (x.c == 91) (x.c == 93) (is_fused back) (ends_with_attribute (kept back ++ x.c ∷ [])) (is_missing macros) (macro_digit raw)
+      (finding_event (opener back) W8) (finding_event x.place W10) refl
+      ∙ (ap (λ (o : Bool). cond ((o && is_fused back) || (((x.c == 93) && not (in_raw (kept back))) && not (is_fused back))) (finding_event x.place W10 ∷ []) []
+      ++ cond (is_missing macros (cond (in_raw (kept back) && ends_with_attribute (kept back ++ x.c ∷ [])) (macro_digit raw) None)) (finding_event (opener back) W8 ∷ []) []) (sym opens_is)
+      ∙ (ap (λ (o : Bool). cond ((opens_fusion (item_at (point back x)) && is_fused back) || (o && not (is_fused back))) (finding_event x.place W10 ∷ []) []
+      ++ cond (is_missing macros (cond (in_raw (kept back) && ends_with_attribute (kept back ++ x.c ∷ [])) (macro_digit raw) None)) (finding_event (opener back) W8 ∷ []) []) (sym closes_is)
+      ∙ ap (λ (d : Option ℕ). cond (is_unpaired (point back x)) (finding_event x.place W10 ∷ []) [] ++ cond (is_missing macros d) (finding_event (opener back) W8 ∷ []) []) (sym macro_is)))))
+
+-- ---- all characters
+
+-- behind the end nothing is emitted
+pub over_emits : (split : Bool) (macros : ℕ) (xs back : List Char) → is_over split back ≡ true → note_events_behind split macros back xs ≡ silence xs
+over_emits split macros [] back e = ap (λ (o : Bool). cond o [] (Ended (Cut (cond (in_raw (kept back)) (opener back) (record { line = 0; column = 0 }))) (bytes_of (kept back)) ∷ []) ∷ []) e
+over_emits split macros (x ∷ xs) back e =
+    let later = over_emits split macros xs (x ∷ back) (any (is_end split (point back x)) (is_over split back) e) in
+    ap (λ (l : List (List NoteEvent)). events_at split macros (point back x) ∷ l) later
+    ∙ ap (λ (l : List NoteEvent). l ∷ silence xs) (none (is_over split back) _ e)
+  where
+    any : (a b : Bool) → b ≡ true → (a || b) ≡ true
+    any true b f = refl
+    any false b f = f
+
+    none : (o : Bool) (l : List NoteEvent) → o ≡ true → cond o [] l ≡ []
+    none o l f = rw f refl
+
+-- the end of the snippet
+mark_emits : (macros : ℕ) (back : List Char) (raw : List ℕ) (b : Before) (x : Char) → b.fused ≡ is_fused back → b.whole ≡ bytes_of (trim gabc (kept back))
+    → event_list (events_in Ends macros b (char_facts (kept back) raw x.c) x) ≡ at_end (point back x)
+mark_emits macros back raw b x f w =
+    go (is_snippet gabc (kept back)) b.fused
+    ∙ (ap (λ (o : Bool). cond (is_snippet gabc (kept back)) [] (finding_event x.place E6 ∷ []) ++ (cond o (finding_event x.place W10 ∷ []) [] ++ Ended (end_by_mark x.c) b.whole ∷ [])) f
+    ∙ ap (λ (n : ℕ). cond (is_snippet gabc (kept back)) [] (finding_event x.place E6 ∷ []) ++ (cond (is_fused back) (finding_event x.place W10 ∷ []) [] ++ Ended (end_by_mark x.c) n ∷ [])) w)
+  where
+    go : (s o : Bool) → option_to_list (cond s None (Some (finding_event x.place E6))) ++ (option_to_list (cond o (Some (finding_event x.place W10)) None) ++ Ended (end_by_mark x.c) b.whole ∷ [])
+        ≡ cond s [] (finding_event x.place E6 ∷ []) ++ (cond o (finding_event x.place W10 ∷ []) [] ++ Ended (end_by_mark x.c) b.whole ∷ [])
+    go true true = refl
+    go true false = refl
+    go false true = refl
+    go false false = refl
+
+-- the characters end before the snippet does
+cut_emits : (split : Bool) (back : List Char) (raw : List ℕ) (b : Before) → Holds split back raw b → cut_event (in_raw (kept back)) b ∷ [] ≡ cut_events split back
+cut_emits split back raw b h =
+    ap (λ (p : Place). Ended (Cut (cond (in_raw (kept back)) p (record { line = 0; column = 0 }))) b.kept ∷ []) h.place
+    ∙ (ap (λ (n : ℕ). Ended (Cut (cond (in_raw (kept back)) (opener back) (record { line = 0; column = 0 }))) n ∷ []) h.bytes
+    ∙ sym (ap (λ (o : Bool). cond o [] (Ended (Cut (cond (in_raw (kept back)) (opener back) (record { line = 0; column = 0 }))) (bytes_of (kept back)) ∷ [])) h.over))
+
+pub events_emits : (split : Bool) (macros : ℕ) (xs back : List Char) (raw : List ℕ) (b : Before) → Holds split back raw b
+    → events_behind split macros (kept back) raw b xs ≡ note_events_behind split macros back xs
+events_emits split macros [] back raw b h = ap (λ (o : List NoteEvent). o ∷ []) (cut_emits split back raw b h)
+events_emits split macros (x ∷ xs) back raw b h =
+    go (role_in split b.comment (char_facts (kept back) raw x.c) x.c) refl (λ r d. events_emits split macros xs (x ∷ back) r d)
+  where
+    B : Bool
+    B = not (in_raw (kept back)) && ((x.c == 41) || (split && (x.c == 124)))
+
+    p : Point
+    p = point back x
+
+    roles : (r : CharRole) → role_in split b.comment (char_facts (kept back) raw x.c) x.c ≡ r
+        → RoleIs r b.comment (is_comment (point back x)) (not (in_raw (kept back)) && ((x.c == 41) || (split && (x.c == 124)))) (is_viable gabc (kept back ++ x.c ∷ []))
+    roles r e =
+        subst (λ (q : CharRole). RoleIs q b.comment (is_comment (point back x)) (not (in_raw (kept back)) && ((x.c == 41) || (split && (x.c == 124)))) (is_viable gabc (kept back ++ x.c ∷ []))) e
+        (subst (λ (m : Bool). RoleIs (role_in split b.comment (char_facts (kept back) raw x.c) x.c) b.comment (not (x.c == 10) && (m || (not (in_raw (kept back)) && (x.c == 37))))
+        (not (in_raw (kept back)) && ((x.c == 41) || (split && (x.c == 124)))) (is_viable gabc (kept back ++ x.c ∷ []))) h.comment
+        (role_is b.comment (not (x.c == 10)) (not (in_raw (kept back)) && ((x.c == 41) || (split && (x.c == 124)))) (not (in_raw (kept back)) && (x.c == 37)) (is_viable gabc (kept back ++ x.c ∷ []))
+        (no_percent (in_raw (kept back)) split x.c) (no_feed (in_raw (kept back)) x.c)))
+
+    -- of a character that is not kept
+    left : (d : Before) (emitted : List NoteEvent) → kept (x ∷ back) ≡ kept back → Holds split (x ∷ back) raw d → emitted ≡ events_at split macros (point back x)
+        → ((r : List ℕ) (d : Before) → Holds split (x ∷ back) r d → events_behind split macros (kept (x ∷ back)) r d xs ≡ note_events_behind split macros (x ∷ back) xs)
+        → emitted ∷ events_behind split macros (kept back) raw d xs ≡ events_at split macros (point back x) ∷ note_events_behind split macros (x ∷ back) xs
+    left d emitted same holds g F =
+        ap (λ (l : List (List NoteEvent)). emitted ∷ l) (ap (λ (t : List ℕ). events_behind split macros t raw d xs) (sym same) ∙ F raw d holds)
+        ∙ ap (λ (l : List NoteEvent). l ∷ note_events_behind split macros (x ∷ back) xs) g
+
+    no_end : is_comment (point back x) ≡ true → is_end split (point back x) ≡ false
+    no_end c = ap (λ (a : Bool). not a && (not (in_raw (kept back)) && ((x.c == 41) || (split && (x.c == 124))))) c
+
+    not_kept : is_comment (point back x) ≡ true → is_kept (point back x) ≡ false
+    not_kept c = ap (λ (a : Bool). not a && is_viable gabc (kept back ++ x.c ∷ [])) c
+
+    go : (r : CharRole) → role_in split b.comment (char_facts (kept back) raw x.c) x.c ≡ r
+        → ((r : List ℕ) (d : Before) → Holds split (x ∷ back) r d → events_behind split macros (kept (x ∷ back)) r d xs ≡ note_events_behind split macros (x ∷ back) xs)
+        → event_list (events_in r macros b (char_facts (kept back) raw x.c) x)
+        ∷ events_following r (silence xs) (events_behind split macros (kept back ++ x.c ∷ []) (raw_with (char_facts (kept back) raw x.c) raw x.c) (before_in r b (char_facts (kept back) raw x.c) x) xs)
+        (events_behind split macros (kept back) raw (before_in r b (char_facts (kept back) raw x.c) x) xs)
+        ≡ events_at split macros (point back x) ∷ note_events_behind split macros (x ∷ back) xs
+    go Silent e F =
+        let R = roles Silent e in
+        left b [] (kept_same back x R.0)
+        (subst (λ (d : Before). Holds split (x ∷ back) raw d) (ap (λ (m : Bool). record b { comment = m }) (sym R.1))
+        (unkept split back raw b x true h (not_kept R.0) (kept_same back x R.0) (no_end R.0) R.0))
+        (sym (pick_none _ _ _ _ _ _ _ h.over R.0)) F
+    go Comment e F =
+        let R : is_comment (point back x) ≡ true = roles Comment e in
+        left (record b { comment = true }) [] (kept_same back x R) (unkept split back raw b x true h (not_kept R) (kept_same back x R) (no_end R) R)
+        (sym (pick_none _ _ _ _ _ _ _ h.over R)) F
+    go Ends e F =
+        let R = roles Ends e in
+        let ended : is_end split (point back x) ≡ true = ap (λ (a : Bool). not a && (not (in_raw (kept back)) && ((x.c == 41) || (split && (x.c == 124))))) R.0 ∙ R.1 in
+        ap (λ (l : List NoteEvent). l ∷ silence xs) (mark_emits macros back raw b x h.fused h.whole ∙ sym (pick_end _ _ _ _ _ _ _ h.over R.0 R.1))
+        ∙ ap (λ (l : List (List NoteEvent)). events_at split macros (point back x) ∷ l) (sym (over_emits split macros xs (x ∷ back) (ap (λ (a : Bool). a || is_over split back) ended)))
+    go LeaveOut e F =
+        let R = roles LeaveOut e in
+        let same : kept (x ∷ back) ≡ kept back = kept_more back x R.0 ∙ ap (λ (a : Bool). cond a (kept back ++ x.c ∷ []) (kept back)) R.2 in
+        left (record b { comment = false }) (finding_event x.place E1 ∷ []) same
+        (unkept split back raw b x false h (ap (λ (a : Bool). not a && is_viable gabc (kept back ++ x.c ∷ [])) R.0 ∙ R.2) same
+        (ap (λ (a : Bool). not a && (not (in_raw (kept back)) && ((x.c == 41) || (split && (x.c == 124))))) R.0 ∙ R.1) R.0)
+        (sym (pick_left _ _ _ _ _ _ _ h.over R.0 R.1 R.2)) F
+    go Keep e F =
+        let R = roles Keep e in
+        let here : KeptHere split back raw b x = record {
+          holds = h;
+          plain = R.0;
+          going = ap (λ (a : Bool). not a && (not (in_raw (kept back)) && ((x.c == 41) || (split && (x.c == 124))))) R.0 ∙ R.1;
+          viable = R.2;
+        } in
+        let same : kept (x ∷ back) ≡ kept back ++ x.c ∷ [] = kept_more back x R.0 ∙ ap (λ (a : Bool). cond a (kept back ++ x.c ∷ []) (kept back)) R.2 in
+        ap (λ (l : List NoteEvent). (Kept x ∷ l) ∷ events_behind split macros (kept back ++ x.c ∷ []) (raw_with (char_facts (kept back) raw x.c) raw x.c) (before_in Keep b (char_facts (kept back) raw x.c) x) xs)
+        (kept_warns split back raw b x here macros)
+        ∙ (ap (λ (l : List NoteEvent). l ∷ events_behind split macros (kept back ++ x.c ∷ []) (raw_with (char_facts (kept back) raw x.c) raw x.c) (before_in Keep b (char_facts (kept back) raw x.c) x) xs)
+        (sym (pick_kept _ _ _ _ _ _ _ h.over R.0 R.1 R.2))
+        ∙ (ap (λ (t : List ℕ). events_at split macros (point back x) ∷ events_behind split macros t (raw_with (char_facts (kept back) raw x.c) raw x.c) (before_in Keep b (char_facts (kept back) raw x.c) x) xs) (sym same)
+        ∙ ap (λ (l : List (List NoteEvent)). events_at split macros (point back x) ∷ l) (F _ _ (kept_holds split back raw b x here))))
+
+-- before the first character
+pub begun : (split : Bool) → Holds split [] [] nothing_before
+begun split = record {
+  comment = refl;
+  place = refl;
+  fused = refl;
+  bytes = refl;
+  whole = refl;
+  over = refl;
+  raw_from = λ e. absurd (let f : false ≡ true = e in cc);
+  no_raw = λ e. refl;
+}
+
+-- so a fresh stage tells what is said
+pub fresh_says : (split : Bool) (macros : ℕ) (xs : List Char) → events_behind split macros [] [] nothing_before xs ≡ note_events split macros xs
+unfolding note_events
+fresh_says split macros xs = events_emits split macros xs [] [] nothing_before (begun split)

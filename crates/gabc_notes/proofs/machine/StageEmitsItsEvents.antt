@@ -1,0 +1,244 @@
+-- The stage tells what the definition tells.
+use Rattle.std.proofs.Common.{◌≡◌, ℕ, List, [], ◌∷◌, ◌++◌, Bool, true, false, cond, not, ◌&&◌, ◌||◌, ◌==◌, refl, sym, ap, ◌∙◌, codes, Option, Some, None, append-nil, length, ◌≤◌, arith, option_to_list}
+use Rattle.gabc_places.specs.declared.place.Char.{Char}
+use Rattle.gabc_patterns.specs.Pattern.{is_in}
+use Rattle.gabc_patterns.specs.Derivative.{Munch, start}
+use Rattle.gabc_patterns.proofs.StatesAfterTexts.{run-append}
+use Rattle.gabc_patterns.proofs.AutomatonsByTests.{reading, reading_of}
+use Rattle.gabc_notes.specs.Table.{gabc}
+use Rattle.gabc_notes.specs.machine.Class.{class_of_character}
+use Rattle.gabc_notes.specs.StageEvents.{is_attribute_kind, kind_at, macro_digit, char_facts, role_in, before_in, events_in, event_list, raw_with, events_following, events_behind}
+use Rattle.gabc_notes.specs.machine.ItemMachine.{next_state, raw_state, attribute_state, digit_of_prefix, facts_by_states, prefix_with, prefix_after, stage_after}
+use Rattle.gabc_notes.specs.ItemMachine.{example, example_prefix, events_left}
+use Rattle.gabc_notes.specs.declared.item.ItemKind.{ItemKind}
+use Rattle.gabc_notes.specs.declared.stage.MacroPrefix.{MacroPrefix}
+use Rattle.gabc_notes.specs.declared.stage.MacroPrefix.TheVariants.{Closed, Opened, Letter, Named, Last, Other}
+use Rattle.gabc_notes.specs.declared.stage.NoteEvent.{NoteEvent}
+use Rattle.gabc_notes.specs.declared.stage.NoteStage.{NoteStage}
+use Rattle.gabc_notes.specs.declared.stage.CharRole.{CharRole}
+use Rattle.gabc_notes.specs.declared.stage.CharRole.TheVariants.{Silent, Comment, Ends, Keep, LeaveOut}
+use Rattle.gabc_notes.specs.declared.stage.CharFacts.{CharFacts}
+use Rattle.gabc_notes.specs.declared.state.ItemState.{ItemState}
+use Rattle.gabc_notes.specs.declared.state.ItemState.TheVariants.{Start, Dash, DashPitch, Body, Pitch, ClefPitch, ClefFlat, Clef as ClefS, Join, JoinPitch, JoinFlat, Altered, Sharp, Bar as BarS, Colon, BarAsked, BarSigned, Slash, Blanks, SmallZ, CapitalZ, Raw, SlashRaw, At, Done}
+use Rattle.gabc_notes.specs.declared.state.FullItem.TheVariants.{Alteration as FullAlteration, Clef as FullClef, Spacing as FullSpacing, Custos as FullCustos, Break as FullBreak, Attribute as FullAttribute, Fusion as FullFusion}
+use Rattle.gabc_notes.proofs.machine.MachineReadsTable.{machine, snippets_read}
+use Rattle.gabc_notes.proofs.machine.EventsDependOnState.{at_end, raw_at, facts_at, facts_by, Alike, events_alike}
+use Rattle.gabc_places.specs.BoundedList.{BoundedList, extended_by}
+use Rattle.gabc_places.specs.StageLaw.{Pushes, silence}
+use Rattle.gabc_notes.specs.declared.stage.CharEvents.{CharEvents}
+
+-- whether a state lies inside raw
+pub raw_is : (s : ItemState) → raw_at (reading gabc machine s) ≡ raw_state s
+raw_is Start = refl
+raw_is Dash = refl
+raw_is DashPitch = refl
+raw_is Body = refl
+raw_is Pitch = refl
+raw_is ClefPitch = refl
+raw_is ClefFlat = refl
+raw_is ClefS = refl
+raw_is Join = refl
+raw_is JoinPitch = refl
+raw_is JoinFlat = refl
+raw_is Altered = refl
+raw_is Sharp = refl
+raw_is BarS = refl
+raw_is Colon = refl
+raw_is BarAsked = refl
+raw_is BarSigned = refl
+raw_is Slash = refl
+raw_is Blanks = refl
+raw_is SmallZ = refl
+raw_is CapitalZ = refl
+raw_is Raw = refl
+raw_is SlashRaw = refl
+raw_is At = refl
+raw_is (Done FullAlteration) = refl
+raw_is (Done FullClef) = refl
+raw_is (Done FullSpacing) = refl
+raw_is (Done FullCustos) = refl
+raw_is (Done FullBreak) = refl
+raw_is (Done FullAttribute) = refl
+raw_is (Done FullFusion) = refl
+
+-- whether a state ends with an attribute
+pub attribute_is : (s : ItemState) → is_attribute_kind (kind_at (reading gabc machine s)) ≡ attribute_state s
+attribute_is Start = refl
+attribute_is Dash = refl
+attribute_is DashPitch = refl
+attribute_is Body = refl
+attribute_is Pitch = refl
+attribute_is ClefPitch = refl
+attribute_is ClefFlat = refl
+attribute_is ClefS = refl
+attribute_is Join = refl
+attribute_is JoinPitch = refl
+attribute_is JoinFlat = refl
+attribute_is Altered = refl
+attribute_is Sharp = refl
+attribute_is BarS = refl
+attribute_is Colon = refl
+attribute_is BarAsked = refl
+attribute_is BarSigned = refl
+attribute_is Slash = refl
+attribute_is Blanks = refl
+attribute_is SmallZ = refl
+attribute_is CapitalZ = refl
+attribute_is Raw = refl
+attribute_is SlashRaw = refl
+attribute_is At = refl
+attribute_is (Done FullAlteration) = refl
+attribute_is (Done FullClef) = refl
+attribute_is (Done FullSpacing) = refl
+attribute_is (Done FullCustos) = refl
+attribute_is (Done FullBreak) = refl
+attribute_is (Done FullAttribute) = refl
+attribute_is (Done FullFusion) = refl
+
+-- the digit of a macro's name is emitted
+digit_is : (n : MacroPrefix) → macro_digit (example_prefix n) ≡ digit_of_prefix n
+digit_is Closed = refl
+digit_is Opened = refl
+digit_is Letter = refl
+digit_is Named = refl
+digit_is (Last c) = refl
+digit_is Other = refl
+
+-- what is known by the readings is what is known by the states
+by_states : (s : ItemState) (o : Option ItemState) (n : MacroPrefix) → facts_at (reading gabc machine s) (reading_of gabc machine o) (digit_of_prefix n) ≡ facts_by_states s o n
+by_states s None n = rw (raw_is s, snippets_read.whole s) refl
+by_states s (Some z) n = rw (raw_is s, raw_is z, snippets_read.whole s, snippets_read.whole z, snippets_read.alive z, attribute_is z) refl
+
+-- so the machine looks as the definition does
+pub looked_is : (s : ItemState) (n : MacroPrefix) (c : ℕ) → char_facts (example s) (example_prefix n) c ≡ facts_by_states s (next_state s (class_of_character c)) n
+looked_is s n c =
+    facts_by (example s) (example_prefix n) c
+    ∙ (ap (λ (m : Munch ItemKind). facts_at (reading gabc machine s) m (macro_digit (example_prefix n))) (snippets_read.steps s c)
+    ∙ (ap (λ (d : Option ℕ). facts_at (reading gabc machine s) (reading_of gabc machine (next_state s (class_of_character c))) d) (digit_is n)
+    ∙ by_states s (next_state s (class_of_character c)) n))
+
+-- a name with a character more
+pub name_alike : (n : MacroPrefix) (c : ℕ) → Alike (example_prefix n ++ c ∷ []) (example_prefix (prefix_with n c))
+name_alike Closed c w = go (c == 91) refl w
+  where
+    go : (b : Bool) → c == 91 ≡ b → (w : List ℕ) → macro_digit (c ∷ w) ≡ macro_digit (example_prefix (cond b Opened Other) ++ w)
+    go true e [] = refl
+    go true e (l ∷ []) = refl
+    go true e (l ∷ m ∷ []) = refl
+    go true e (l ∷ m ∷ d ∷ []) = rw e refl
+    go true e (l ∷ m ∷ d ∷ x ∷ w) = refl
+    go false e [] = refl
+    go false e (l ∷ []) = refl
+    go false e (l ∷ m ∷ []) = refl
+    go false e (l ∷ m ∷ d ∷ []) = rw e refl
+    go false e (l ∷ m ∷ d ∷ x ∷ w) = refl
+name_alike Opened c w = go (is_in c (codes "nge")) refl w
+  where
+    go : (b : Bool) → is_in c (codes "nge") ≡ b → (w : List ℕ) → macro_digit (91 ∷ c ∷ w) ≡ macro_digit (example_prefix (cond b Letter Other) ++ w)
+    go true e [] = refl
+    go true e (m ∷ []) = refl
+    go true e (m ∷ d ∷ []) = rw e refl
+    go true e (m ∷ d ∷ x ∷ w) = refl
+    go false e [] = refl
+    go false e (m ∷ []) = refl
+    go false e (m ∷ d ∷ []) = rw e refl
+    go false e (m ∷ d ∷ x ∷ w) = refl
+name_alike Letter c w = go (c == 109) refl w
+  where
+    go : (b : Bool) → c == 109 ≡ b → (w : List ℕ) → macro_digit (91 ∷ 110 ∷ c ∷ w) ≡ macro_digit (example_prefix (cond b Named Other) ++ w)
+    go true e [] = refl
+    go true e (d ∷ []) = rw e refl
+    go true e (d ∷ x ∷ w) = refl
+    go false e [] = refl
+    go false e (d ∷ []) = rw e refl
+    go false e (d ∷ x ∷ w) = refl
+name_alike Named c w = refl
+name_alike (Last d) c w = refl
+name_alike Other c w = refl
+
+named_alike : (e : CharFacts) (n : MacroPrefix) (c : ℕ) → Alike (raw_with e (example_prefix n) c) (example_prefix (prefix_after e n c))
+named_alike e n c = go e.raw_after
+  where
+    go : (b : Bool) → Alike (cond b (example_prefix n ++ c ∷ []) []) (example_prefix (cond b (prefix_with n c) Closed))
+    go true = name_alike n c
+    go false = λ w. refl
+
+-- what is not viable is not kept
+not_kept : (split comment : Bool) (s : ItemState) (n : MacroPrefix) (c : ℕ) → role_in split comment (facts_by_states s None n) c ≡ Keep → ⊥
+not_kept split comment s n c e = go (comment && not (c == 10)) (not (raw_state s) && ((c == 41) || (split && (c == 124)))) (not (raw_state s) && (c == 37)) e
+  where
+    go : (a b d : Bool) → cond a Silent (cond b Ends (cond d Comment LeaveOut)) ≡ Keep → ⊥
+    go true b d e = absurd (cc)
+    go false true d e = absurd (cc)
+    go false false true e = absurd (cc)
+    go false false false e = absurd (cc)
+
+-- what follows a character is what the stage tells from there on
+follow_rest : (st : NoteStage) (x : Char) (xs : List Char) (o : Option ItemState) (e : CharFacts) (r : CharRole) → st.ended ≡ false
+    → next_state st.state (class_of_character x.c) ≡ o → (o ≡ None → r ≡ Keep → ⊥)
+    → events_following r (silence xs) (events_behind st.split st.macros (example st.state ++ x.c ∷ []) (raw_with e (example_prefix st.name) x.c) (before_in r st.before e x) xs)
+    (events_behind st.split st.macros (example st.state) (example_prefix st.name) (before_in r st.before e x) xs)
+    ≡ events_left (stage_after st r e o x) xs
+follow_rest st x xs o e Silent f g h = rw f refl
+follow_rest st x xs o e Comment f g h = rw f refl
+follow_rest st x xs o e Ends f g h = refl
+follow_rest st x xs o e LeaveOut f g h = rw f refl
+follow_rest st x xs None e Keep f g h = absurd (h refl refl)
+follow_rest st x xs (Some z) e Keep f g h =
+    let next : at_end (example st.state ++ x.c ∷ []) ≡ at_end (example z) =
+    run-append gabc start (example st.state) (x.c ∷ []) ∙ (snippets_read.steps st.state x.c ∙ ap (reading_of gabc machine) g) in
+    rw f (events_alike st.split st.macros xs (example st.state ++ x.c ∷ []) (example z) (raw_with e (example_prefix st.name) x.c) (example_prefix (prefix_after e st.name x.c))
+    (before_in Keep st.before e x) next (named_alike e st.name x.c))
+
+-- what a push gives, and then what the stage still gives, is what it gave before
+pub push_law : (st : NoteStage) (x : Char) (xs : List Char) (o : Option ItemState) (e : CharFacts) (r : CharRole) → st.ended ≡ false
+    → o ≡ next_state st.state (class_of_character x.c) → e ≡ facts_by_states st.state o st.name → r ≡ role_in st.split st.before.comment e x.c
+    → events_left st (x ∷ xs) ≡ event_list (events_in r st.macros st.before e x) ∷ events_left (stage_after st r e o x) xs
+push_law st x xs o e r f g h k =
+    let same : char_facts (example st.state) (example_prefix st.name) x.c ≡ e = looked_is st.state st.name x.c ∙ (ap (λ (p : Option ItemState). facts_by_states st.state p st.name) (sym g) ∙ sym h) in
+    let none : o ≡ None → r ≡ Keep → ⊥ = λ a b. not_kept st.split st.before.comment st.state st.name x.c
+    (ap (λ (v : CharFacts). role_in st.split st.before.comment v x.c) (ap (λ (p : Option ItemState). facts_by_states st.state p st.name) (sym a) ∙ sym h) ∙ (sym k ∙ b)) in
+    let kept : CharFacts → List (List NoteEvent) = λ v. events_behind st.split st.macros (example st.state ++ x.c ∷ []) (raw_with v (example_prefix st.name) x.c) (before_in (role_in st.split st.before.comment v x.c) st.before v x) xs in
+    let left : CharFacts → List (List NoteEvent) = λ v. events_behind st.split st.macros (example st.state) (example_prefix st.name) (before_in (role_in st.split st.before.comment v x.c) st.before v x) xs in
+    let all : CharFacts → List (List NoteEvent) = λ v. event_list (events_in (role_in st.split st.before.comment v x.c) st.macros st.before v x) ∷ events_following (role_in st.split st.before.comment v x.c) (silence xs) (kept v) (left v) in
+    let one : CharRole → List (List NoteEvent) = λ q. event_list (events_in q st.macros st.before e x)
+    ∷ events_following q (silence xs) (events_behind st.split st.macros (example st.state ++ x.c ∷ []) (raw_with e (example_prefix st.name) x.c) (before_in q st.before e x) xs)
+    (events_behind st.split st.macros (example st.state) (example_prefix st.name) (before_in q st.before e x) xs) in
+    let outer : Bool → List (List NoteEvent) = λ b. cond b (silence (x ∷ xs)) (events_behind st.split st.macros (example st.state) (example_prefix st.name) st.before (x ∷ xs)) in
+    ap outer f
+    ∙ (ap all same ∙ (ap one (sym k) ∙ ap (λ (l : List (List NoteEvent)). event_list (events_in r st.macros st.before e x) ∷ l) (follow_rest st x xs o e r f (sym g) none)))
+
+-- one call gives at most three events
+pub few_emitted : (g : CharEvents) → length (event_list g) ≤ 3
+few_emitted g = go g.first g.second g.third
+  where
+    go : (a b c : Option NoteEvent) → length (option_to_list a ++ (option_to_list b ++ option_to_list c)) ≤ 3
+    go None None None = omega arith
+    go None None (Some c) = omega arith
+    go None (Some b) None = omega arith
+    go None (Some b) (Some c) = omega arith
+    go (Some a) None None = omega arith
+    go (Some a) None (Some c) = omega arith
+    go (Some a) (Some b) None = omega arith
+    go (Some a) (Some b) (Some c) = omega arith
+
+-- so a push is as the law of stages says
+pub push_emits : (st next : NoteStage) (x : Char) (o : Option ItemState) (e : CharFacts) (r : CharRole) (g : CharEvents) (old new : BoundedList NoteEvent) → st.ended ≡ false
+    → o ≡ next_state st.state (class_of_character x.c) → e ≡ facts_by_states st.state o st.name → r ≡ role_in st.split st.before.comment e x.c
+    → g ≡ events_in r st.macros st.before e x → next ≡ stage_after st r e o x → new ≡ extended_by old (event_list g)
+    → Pushes (events_left st) (events_left next) x 3 old new
+push_emits st next x o e r g old new f h k l m n p = record {
+  events = event_list g;
+  out = p;
+  few = few_emitted g;
+  law = λ xs. push_law st x xs o e r f h k l ∙ (ap (λ (y : CharEvents). event_list y ∷ events_left (stage_after st r e o x) xs) (sym m) ∙ ap (λ (y : NoteStage). event_list g ∷ events_left y xs) (sym n));
+}
+
+-- after the end nothing is given
+pub ended_emits : (st : NoteStage) (x : Char) (old : BoundedList NoteEvent) → st.ended ≡ true → Pushes (events_left st) (events_left st) x 3 old old
+ended_emits st x old e = record {
+  events = [];
+  out = ap (λ (l : List NoteEvent). record old { items = l }) (sym (append-nil old.items));
+  few = omega arith;
+  law = λ xs. rw e refl;
+}

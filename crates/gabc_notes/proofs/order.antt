@@ -1,0 +1,2 @@
+pub mod FindingsAreInOrder
+pub mod FindingsLieWithin

@@ -1,0 +1,392 @@
+-- The findings of a text are emitted in the order of their places.
+use Rattle.std.proofs.Common.{◌≡◌, ℕ, ◌+◌, ◌<◌, ◌≤◌, List, [], ◌∷◌, ◌++◌, Bool, true, false, cond, not, ◌&&◌, ◌||◌, ◌==◌, ◌⊎◌, inl, inr, refl, sym, ap, ◌∙◌, subst, codes, eqb-true, Option, Some, None, arith}
+use Rattle.gabc_places.specs.declared.code.Code.TheVariants.{E1, E6, W8, W10}
+use Rattle.gabc_places.specs.declared.code.Finding.{Finding}
+use Rattle.gabc_places.specs.declared.place.Char.{Char}
+use Rattle.gabc_places.specs.declared.place.Place.{Place}
+use Rattle.gabc_places.specs.Findings.{StandsBefore, AreInOrder}
+use Rattle.gabc_places.specs.StageLaw.{concat_of}
+use Rattle.gabc_places.specs.Place.{next_place, placed_characters_from}
+use Rattle.gabc_patterns.specs.Derivative.{is_alive, is_snippet, is_viable}
+use Rattle.gabc_patterns.specs.Function.{items, trim}
+use Rattle.gabc_patterns.proofs.AutomatonsByTests.{reading_of}
+use Rattle.gabc_patterns.proofs.BothOfTwoTests.{and_true, or_true}
+use Rattle.gabc_patterns.proofs.LongestMunchByCharacter.{snippet_from}
+use Rattle.gabc_patterns.proofs.StatesAfterTexts.{state_of, after_char}
+use Rattle.gabc_notes.specs.Table.{gabc}
+use Rattle.gabc_notes.specs.machine.StageEvents.{nothing_before}
+use Rattle.gabc_notes.specs.StageEvents.{char_facts, raw_with, before_in}
+use Rattle.gabc_notes.specs.Events.{ItemText, Point, in_raw, kept, kept_with, is_comment, is_kept, is_end, is_over, is_fused, is_unpaired, is_missing, opener, item_at, opens_fusion, closes_fusion, macro_of, bytes_of, finding_event, end_by_mark, last_of, warnings, at_end, events_at, note_events, note_events_behind}
+use Rattle.gabc_notes.specs.SnippetRead.{findings_of}
+use Rattle.gabc_notes.specs.declared.item.ItemKind.TheVariants.{Attribute}
+use Rattle.gabc_notes.specs.declared.stage.Before.{Before}
+use Rattle.gabc_notes.specs.declared.stage.NoteEvent.{NoteEvent}
+use Rattle.gabc_notes.specs.declared.stage.NoteEvent.TheVariants.{Kept, Ended}
+use Rattle.gabc_notes.specs.declared.stage.CharRole.TheVariants.{Keep}
+use Rattle.gabc_notes.specs.machine.ItemMachine.{raw_state}
+use Rattle.gabc_notes.specs.declared.state.ItemState.{ItemState}
+use Rattle.gabc_notes.specs.declared.state.ItemState.TheVariants.{Raw, SlashRaw}
+use Rattle.gabc_notes.proofs.items_of_text.ItemByStates.{and_false}
+use Rattle.gabc_notes.proofs.machine.StageEmitsItsEvents.{raw_is}
+use Rattle.gabc_notes.proofs.machine.MachineReadsTable.{machine, snippets_read}
+use Rattle.gabc_notes.proofs.grammar.InsideRawIsAnOpenBracket.{on, is_raw, step_on}
+use Rattle.gabc_notes.proofs.grammar.LawsOfEventsByPoint.{not_true, cut_outs, over_joined, more_over}
+use Rattle.gabc_notes.proofs.machine.EventsDependOnState.{raw_at, raw_by}
+use Rattle.gabc_notes.proofs.machine.LoopOverBody.{findings_append, is_emitted}
+use Rattle.gabc_notes.proofs.machine.FreshStageEmitsEventsByPoint.{point, kept_more, kept_same, opener_more, pick_none, pick_kept, pick_left, Holds, begun, unkept, kept_holds, macro_is}
+
+-- ---- places
+
+abbrev pub Lt : Place → Place → Type 0
+Lt p q = (p.line < q.line) ⊎ ((p.line ≡ q.line) × (p.column < q.column))
+
+abbrev pub Le : Place → Place → Type 0
+Le p q = (p.line < q.line) ⊎ ((p.line ≡ q.line) × (p.column ≤ q.column))
+
+pub lt_le : (p q : Place) → Lt p q → Le p q
+lt_le p q (inl l) = inl l
+lt_le p q (inr h) = (let l = h.1 in inr (h.0, omega arith))
+
+pub le_self : (p : Place) → Le p p
+le_self p = inr (refl, omega arith)
+
+pub le_then : (p q r : Place) → Le p q → Le q r → Le p r
+le_then p q r (inl a) (inl b) = inl (omega arith)
+le_then p q r (inl a) (inr b) = (let e = b.0 in inl (omega arith))
+le_then p q r (inr a) (inl b) = (let e = a.0 in inl (omega arith))
+le_then p q r (inr a) (inr b) = (let d = a.0 in let e = b.0 in let l = a.1 in let m = b.1 in inr (omega arith, omega arith))
+
+lt_then : (p q r : Place) → Lt p q → Le q r → Lt p r
+lt_then p q r (inl a) (inl b) = inl (omega arith)
+lt_then p q r (inl a) (inr b) = (let e = b.0 in inl (omega arith))
+lt_then p q r (inr a) (inl b) = (let e = a.0 in inl (omega arith))
+lt_then p q r (inr a) (inr b) = (let d = a.0 in let e = b.0 in let l = a.1 in let m = b.1 in inr (omega arith, omega arith))
+
+pub next_after : (p : Place) (c : ℕ) → Lt p (next_place p c)
+next_after p c = go (c == 10)
+  where
+    go : (b : Bool) → Lt p (cond b (record { line = p.line + 1; column = 1 }) (record { line = p.line; column = p.column + 1 }))
+    go true = inl (omega arith)
+    go false = inr (refl, omega arith)
+
+-- ---- sorted findings
+
+abbrev pub HeadFrom : Place → List Finding → Type 0
+HeadFrom p [] = Unit {0}
+HeadFrom p (f ∷ fs) = Le p f.place
+
+-- in order, and none before p
+pub record Sorted (p : Place) (fs : List Finding) : Type 0 where
+  pub order : AreInOrder fs
+  pub head : HeadFrom p fs
+
+no_findings : (p : Place) → Sorted p []
+no_findings p = record { order = tt; head = tt }
+
+weaken : (p q : Place) (fs : List Finding) → Le p q → Sorted q fs → Sorted p fs
+weaken p q [] l s = no_findings p
+weaken p q (f ∷ fs) l s = record { order = s.order; head = le_then p q f.place l s.head }
+
+before : (f g : Finding) → Lt f.place g.place → StandsBefore f g
+before f g (inl l) = inl l
+before f g (inr h) = inr (h.0, inl h.1)
+
+prepend : (p q : Place) (f : Finding) (fs : List Finding) → Le p f.place → Lt f.place q → Sorted q fs → Sorted p (f ∷ fs)
+prepend p q f [] l m s = record { order = tt; head = l }
+prepend p q f (g ∷ gs) l m s = record { order = (before f g (lt_then f.place q g.place m s.head), s.order); head = l }
+
+-- ---- what holds before a character
+
+or_false : (a b : Bool) → (a || b) ≡ false → (a ≡ false) × (b ≡ false)
+or_false true b e = absurd (cc)
+or_false false b e = (refl, e)
+
+plain_mark : (split : Bool) (back : List Char) (x : Char) → is_comment (point back x) ≡ false → is_end split (point back x) ≡ false
+    → (not (in_raw (kept back)) && ((x.c == 41) || (split && (x.c == 124)))) ≡ false
+plain_mark split back x c n = sym (ap (λ (a : Bool). not a && (not (in_raw (kept back)) && ((x.c == 41) || (split && (x.c == 124))))) c) ∙ n
+
+pub record Stood (split : Bool) (back : List Char) : Type 0 where
+  pub raw : List ℕ
+  pub stood : Before
+  pub holds : Holds split back raw stood
+
+pub stand : (split : Bool) (back : List Char) → is_over split back ≡ false → Stood split back
+stand split [] o = record { raw = []; stood = nothing_before; holds = begun split }
+stand split (x ∷ back) o =
+    let f = or_false (is_end split (point back x)) (is_over split back) o in
+    go f.0 (stand split back f.1) (is_comment (point back x)) refl (is_viable gabc (kept_with (point back x))) refl
+  where
+    go : is_end split (point back x) ≡ false → Stood split back → (c : Bool) → is_comment (point back x) ≡ c → (v : Bool) → is_viable gabc (kept_with (point back x)) ≡ v → Stood split (x ∷ back)
+    go n s true c v w = record {
+      raw = s.raw;
+      stood = record s.stood { comment = true };
+      holds = unkept split back s.raw s.stood x true s.holds (ap (λ (a : Bool). not a && is_viable gabc (kept_with (point back x))) c) (kept_same back x c) n c;
+    }
+    go n s false c false w = record {
+      raw = s.raw;
+      stood = record s.stood { comment = false };
+      holds = unkept split back s.raw s.stood x false s.holds (ap (λ (a : Bool). not a && is_viable gabc (kept_with (point back x))) c ∙ w)
+          (kept_more back x c ∙ ap (λ (a : Bool). cond a (kept_with (point back x)) (kept back)) w) n c;
+    }
+    go n s false c true w = record {
+      raw = raw_with (char_facts (kept back) s.raw x.c) s.raw x.c;
+      stood = before_in Keep s.stood (char_facts (kept back) s.raw x.c) x;
+      holds = kept_holds split back s.raw s.stood x (record { holds = s.holds; plain = c; going = n; viable = w });
+    }
+
+-- ---- the items
+
+some_kept : (T : Option ItemText → Bool) (a b : Bool) (i : Option ItemText) → T None ≡ false → T (cond a (cond b i None) None) ≡ true → (a ≡ true) × (b ≡ true)
+some_kept T true true i n e = (refl, refl)
+some_kept T true false i n e = absurd (let f = sym e ∙ n in differ f)
+  where
+    differ : true ≡ false → ⊥
+    differ f = cc
+some_kept T false b i n e = absurd (let f = sym e ∙ n in differ f)
+  where
+    differ : true ≡ false → ⊥
+    differ f = cc
+
+-- an item that ends at a point makes a snippet
+item_snippet : (T : Option ItemText → Bool) (p : Point) → T None ≡ false → T (item_at p) ≡ true → is_snippet gabc (kept_with p) ≡ true
+item_snippet T p n e = (some_kept T (is_kept p) (is_snippet gabc (kept_with p)) (last_of (items gabc (kept_with p))) n e).1
+
+open_no_macro : (i : Option ItemText) → opens_fusion i ≡ true → macro_of i ≡ None
+open_no_macro None e = refl
+open_no_macro (Some (Attribute, t)) e = absurd (cc)
+open_no_macro (Some (_, t)) e = refl
+
+close_no_macro : (i : Option ItemText) → closes_fusion i ≡ true → macro_of i ≡ None
+close_no_macro None e = refl
+close_no_macro (Some (Attribute, t)) e = absurd (cc)
+close_no_macro (Some (_, t)) e = refl
+
+-- inside raw every character is viable
+raw_goes : (s : ItemState) → raw_state s ≡ true → (c : ℕ) → is_alive (reading_of gabc machine (on s c)) ≡ true
+raw_goes s r c = go (c == 93) refl
+  where
+    at_close : (s : ItemState) → raw_state s ≡ true → is_alive (reading_of gabc machine (on s 93)) ≡ true
+    at_close Raw r = refl
+    at_close SlashRaw r = refl
+    at_close _ r = absurd (cc)
+
+    some : (o : Option ItemState) → is_raw o ≡ true → is_alive (reading_of gabc machine o) ≡ true
+    some None e = absurd (cc)
+    some (Some z) e = snippets_read.alive z
+
+    go : (b : Bool) → c == 93 ≡ b → is_alive (reading_of gabc machine (on s c)) ≡ true
+    go true e = subst (λ (d : ℕ). is_alive (reading_of gabc machine (on s d)) ≡ true) (sym (eqb-true c 93 e)) (at_close s r)
+    go false e = some (on s c) (step_on s c r e)
+
+raw_viable : (k : List ℕ) (c : ℕ) → in_raw k ≡ true → is_viable gabc (k ++ c ∷ []) ≡ true
+raw_viable k c r =
+    let snippet = snippet_from gabc refl (k ++ codes "]") (and_true (is_snippet gabc (k ++ codes "]")) (not (is_snippet gabc k)) r).0 in
+    let y = state_of gabc machine snippets_read k (codes "]", snippet) in
+    let state : raw_state y.0 ≡ true = sym (raw_by k ∙ (ap raw_at (sym y.1.reads) ∙ raw_is y.0)) ∙ r in
+    ap is_alive (after_char gabc machine snippets_read y.0 k c (on y.0 c) y.1 refl) ∙ raw_goes y.0 state c
+
+-- ---- a character
+
+-- the place from which findings are still told: of the bracket that is open, else of the next character
+abbrev pub low : List Char → Place → Place
+low back p = cond (in_raw (kept back)) (opener back) p
+
+abbrev pub OpenerBefore : List Char → Place → Type 0
+OpenerBefore back p = in_raw (kept back) ≡ true → Lt (opener back) p
+
+low_before : (back : List Char) (p : Place) → OpenerBefore back p → Le (low back p) p
+low_before back p b = go (in_raw (kept back)) refl
+  where
+    go : (r : Bool) → in_raw (kept back) ≡ r → Le (cond r (opener back) p) p
+    go true e = lt_le (opener back) p (b e)
+    go false e = le_self p
+
+-- the same place where nothing is kept
+opener_same : (back : List Char) (x : Char) → is_kept (point back x) ≡ false → opener (x ∷ back) ≡ opener back
+opener_same back x k = opener_more back x ∙ ap (λ (a : Bool). cond (a && not (in_raw (kept back))) x.place (opener back)) k
+
+low_same : (back : List Char) (x : Char) (q : Place) → is_kept (point back x) ≡ false → kept (x ∷ back) ≡ kept back → low (x ∷ back) q ≡ low back q
+low_same back x q k same = ap (λ (t : List ℕ). cond (in_raw t) (opener (x ∷ back)) q) same ∙ ap (λ (o : Place). cond (in_raw (kept back)) o q) (opener_same back x k)
+
+low_grows : (back : List Char) (p q : Place) → Lt p q → Le (low back p) (low back q)
+low_grows back p q l = go (in_raw (kept back))
+  where
+    go : (r : Bool) → Le (cond r (opener back) p) (cond r (opener back) q)
+    go true = le_self (opener back)
+    go false = lt_le p q l
+
+unkept_before : (back : List Char) (x : Char) (q : Place) → is_kept (point back x) ≡ false → kept (x ∷ back) ≡ kept back → Lt x.place q → OpenerBefore back x.place → OpenerBefore (x ∷ back) q
+unkept_before back x q k same l b r =
+    subst (λ (o : Place). Lt o q) (sym (opener_same back x k)) (lt_then (opener back) x.place q (b (ap in_raw (sym same) ∙ r)) (lt_le x.place q l))
+
+-- where a character is kept
+opener_kept : (back : List Char) (x : Char) → is_kept (point back x) ≡ true → opener (x ∷ back) ≡ cond (in_raw (kept back)) (opener back) x.place
+opener_kept back x k = opener_more back x ∙ (ap (λ (a : Bool). cond (a && not (in_raw (kept back))) x.place (opener back)) k ∙ flip (in_raw (kept back)))
+  where
+    flip : (r : Bool) → cond (not r) x.place (opener back) ≡ cond r (opener back) x.place
+    flip true = refl
+    flip false = refl
+
+kept_before : (back : List Char) (x : Char) (q : Place) → is_kept (point back x) ≡ true → Lt x.place q → OpenerBefore back x.place → OpenerBefore (x ∷ back) q
+kept_before back x q k l b r =
+    subst (λ (o : Place). Lt o q) (sym (opener_kept back x k)) (go (in_raw (kept back)) refl)
+  where
+    go : (s : Bool) → in_raw (kept back) ≡ s → Lt (cond s (opener back) x.place) q
+    go true e = lt_then (opener back) x.place q (b e) (lt_le x.place q l)
+    go false e = l
+
+low_kept : (back : List Char) (x : Char) (q : Place) → is_kept (point back x) ≡ true → Lt x.place q → OpenerBefore back x.place → Le (low back x.place) (low (x ∷ back) q)
+low_kept back x q k l b = subst (λ (o : Place). Le (low back x.place) (cond (in_raw (kept (x ∷ back))) o q)) (sym (opener_kept back x k)) (go (in_raw (kept back)) refl (in_raw (kept (x ∷ back))))
+  where
+    go : (s : Bool) → in_raw (kept back) ≡ s → (a : Bool) → Le (cond s (opener back) x.place) (cond a (cond s (opener back) x.place) q)
+    go s e true = le_self (cond s (opener back) x.place)
+    go true e false = lt_le (opener back) q (lt_then (opener back) x.place q (b e) (lt_le x.place q l))
+    go false e false = lt_le x.place q l
+
+-- an item that uses a macro closes a bracket
+pub missing_inside : (split : Bool) (macros : ℕ) (back : List Char) (x : Char) → Stood split back → is_comment (point back x) ≡ false → is_end split (point back x) ≡ false
+    → is_viable gabc (kept_with (point back x)) ≡ true → is_missing macros (macro_of (item_at (point back x))) ≡ true → in_raw (kept back) ≡ true
+missing_inside split macros back x t c n w e = by (in_raw (kept back)) _ _ (macro_is split back t.raw t.stood x (record { holds = t.holds; plain = c; going = n; viable = w }))
+  where
+    by : (r : Bool) (a : Bool) (d : Option ℕ) → macro_of (item_at (point back x)) ≡ cond (r && a) d None → r ≡ true
+    by true a d f = refl
+    by false a d f = absurd (let g = sym e ∙ ap (is_missing macros) f in differ g)
+      where
+        differ : true ≡ false → ⊥
+        differ g = cc
+
+-- the findings of a character that is kept
+kept_sorted : (split : Bool) (macros : ℕ) (back : List Char) (x : Char) (q : Place) (fs : List Finding) → Stood split back → is_comment (point back x) ≡ false → is_end split (point back x) ≡ false
+    → is_viable gabc (kept_with (point back x)) ≡ true → Lt x.place q → OpenerBefore back x.place → Sorted (low (x ∷ back) q) fs
+    → Sorted (low back x.place) (findings_of (warnings macros (point back x)) ++ fs)
+kept_sorted split macros back x q fs t c n w l b s = go (is_unpaired (point back x)) refl (is_missing macros (macro_of (item_at (point back x)))) refl
+  where
+    is : is_kept (point back x) ≡ true
+    is = ap (λ (a : Bool). not a && is_viable gabc (kept_with (point back x))) c ∙ w
+
+    same : kept (x ∷ back) ≡ kept_with (point back x)
+    same = kept_more back x c ∙ ap (λ (a : Bool). cond a (kept_with (point back x)) (kept back)) w
+
+    -- behind an item nothing is emitted before the next character
+    later : is_snippet gabc (kept_with (point back x)) ≡ true → Sorted q fs
+    later e = subst (λ (a : Bool). Sorted (cond a (opener (x ∷ back)) q) fs)
+        (ap in_raw same ∙ (ap (λ (d : Bool). is_snippet gabc (kept_with (point back x) ++ codes "]") && not d) e ∙ and_false (is_snippet gabc (kept_with (point back x) ++ codes "]")))) s
+
+    mark : is_unpaired (point back x) ≡ true → (is_snippet gabc (kept_with (point back x)) ≡ true) × (macro_of (item_at (point back x)) ≡ None)
+    mark e = elim (or_true (opens_fusion (item_at (point back x)) && is_fused back) (closes_fusion (item_at (point back x)) && not (is_fused back)) e) [
+      | inl h ↦ (let f = (and_true (opens_fusion (item_at (point back x))) (is_fused back) h).0 in
+          (item_snippet opens_fusion (point back x) refl f, open_no_macro (item_at (point back x)) f))
+      | inr h ↦ (let f = (and_true (closes_fusion (item_at (point back x))) (not (is_fused back)) h).0 in
+          (item_snippet closes_fusion (point back x) refl f, close_no_macro (item_at (point back x)) f))
+    ]
+
+    go : (u : Bool) → is_unpaired (point back x) ≡ u → (m : Bool) → is_missing macros (macro_of (item_at (point back x))) ≡ m
+        → Sorted (low back x.place) (findings_of (cond u (finding_event x.place W10 ∷ []) [] ++ cond m (finding_event (opener back) W8 ∷ []) []) ++ fs)
+    go true e true f = absurd (let g = sym f ∙ ap (is_missing macros) (mark e).1 in differ g)
+      where
+        differ : true ≡ false → ⊥
+        differ g = cc
+    go true e false f = prepend (low back x.place) q (record { place = x.place; code = W10 }) fs (low_before back x.place b) l (later (mark e).0)
+    go false e true f =
+        let r = missing_inside split macros back x t c n w f in
+        prepend (low back x.place) q (record { place = opener back; code = W8 }) fs
+        (subst (λ (a : Bool). Le (cond a (opener back) x.place) (opener back)) (sym r) (le_self (opener back)))
+        (lt_then (opener back) x.place q (b r) (lt_le x.place q l))
+        (later (item_snippet (λ i. is_missing macros (macro_of i)) (point back x) refl f))
+    go false e false f = weaken (low back x.place) (low (x ∷ back) q) fs (low_kept back x q is l b) s
+
+-- the findings of the end
+end_sorted : (macros : ℕ) (back : List Char) (x : Char) → in_raw (kept back) ≡ false → Sorted (low back x.place) (findings_of (at_end (point back x)) ++ [])
+end_sorted macros back x r = subst (λ (a : Bool). Sorted (cond a (opener back) x.place) (findings_of (at_end (point back x)) ++ [])) (sym r) (go (is_snippet gabc (kept back)) (is_fused back))
+  where
+    go : (a b : Bool) → Sorted x.place (findings_of (cond a [] (finding_event x.place E6 ∷ []) ++ (cond b (finding_event x.place W10 ∷ []) [] ++ Ended (end_by_mark x.c) (bytes_of (trim gabc (kept back))) ∷ [])) ++ [])
+    go true true = record { order = tt; head = le_self x.place }
+    go true false = no_findings x.place
+    go false true = record { order = (inr (refl, inr (refl, omega arith)), tt); head = le_self x.place }
+    go false false = record { order = tt; head = le_self x.place }
+
+-- ---- all characters
+
+abbrev pub FactsHow : Bool → ℕ → List Char → Char → Type 0
+FactsHow split macros back x =
+    ((is_comment (point back x) ≡ true) × (events_at split macros (point back x) ≡ []))
+    ⊎ (((is_comment (point back x) ≡ false) × (is_viable gabc (kept_with (point back x)) ≡ true) × (events_at split macros (point back x) ≡ Kept x ∷ warnings macros (point back x)))
+    ⊎ ((is_comment (point back x) ≡ false) × (is_viable gabc (kept_with (point back x)) ≡ false) × (events_at split macros (point back x) ≡ finding_event x.place E1 ∷ [])))
+
+pub facts_how : (split : Bool) (macros : ℕ) (back : List Char) (x : Char) → is_over split back ≡ false → is_end split (point back x) ≡ false → FactsHow split macros back x
+facts_how split macros back x o n = go (is_comment (point back x)) refl (is_viable gabc (kept_with (point back x))) refl
+  where
+    go : (c : Bool) → is_comment (point back x) ≡ c → (v : Bool) → is_viable gabc (kept_with (point back x)) ≡ v → FactsHow split macros back x
+    go true c v w = inl (c, pick_none _ _ _ _ _ _ _ o c)
+    go false c true w = inr (inl (c, w, pick_kept _ _ _ _ _ _ _ o c (plain_mark split back x c n) w))
+    go false c false w = inr (inr (c, w, pick_left _ _ _ _ _ _ _ o c (plain_mark split back x c n) w))
+
+-- the findings of a character and of those that follow it
+one_sorted : (split : Bool) (macros : ℕ) (back xs : List Char) (x : Char) (q : Place) → is_over split back ≡ false → Lt x.place q → OpenerBefore back x.place
+    → (OpenerBefore (x ∷ back) q → Sorted (low (x ∷ back) q) (findings_of (concat_of (note_events_behind split macros (x ∷ back) xs))))
+    → Sorted (low back x.place) (findings_of (events_at split macros (point back x)) ++ findings_of (concat_of (note_events_behind split macros (x ∷ back) xs)))
+one_sorted split macros back xs x q o l b F = elim (is_emitted split macros back x o) [
+  | inl n ↦ going n (facts_how split macros back x o n)
+  | inr h ↦ ended h.0 h.1
+]
+  where
+    ended : is_end split (point back x) ≡ true → events_at split macros (point back x) ≡ at_end (point back x)
+        → Sorted (low back x.place) (findings_of (events_at split macros (point back x)) ++ findings_of (concat_of (note_events_behind split macros (x ∷ back) xs)))
+    ended e f =
+        let none : concat_of (note_events_behind split macros (x ∷ back) xs) ≡ [] = over_joined split macros (x ∷ back) xs (more_over split back x true o e) in
+        let out = not_true (in_raw (kept back)) (and_true (not (in_raw (kept back))) ((x.c == 41) || (split && (x.c == 124))) (and_true (not (is_comment (point back x))) _ e).1).0 in
+        subst (λ (a : List NoteEvent). Sorted (low back x.place) (findings_of a ++ findings_of (concat_of (note_events_behind split macros (x ∷ back) xs)))) (sym f)
+        (subst (λ (a : List NoteEvent). Sorted (low back x.place) (findings_of (at_end (point back x)) ++ findings_of a)) (sym none) (end_sorted macros back x out))
+
+    going : is_end split (point back x) ≡ false → FactsHow split macros back x
+        → Sorted (low back x.place) (findings_of (events_at split macros (point back x)) ++ findings_of (concat_of (note_events_behind split macros (x ∷ back) xs)))
+    going n (inl h) =
+        let k : is_kept (point back x) ≡ false = ap (λ (a : Bool). not a && is_viable gabc (kept_with (point back x))) h.0 in
+        let same = kept_same back x h.0 in
+        subst (λ (a : List NoteEvent). Sorted (low back x.place) (findings_of a ++ findings_of (concat_of (note_events_behind split macros (x ∷ back) xs)))) (sym h.1)
+        (weaken (low back x.place) (low (x ∷ back) q) _ (subst (λ (r : Place). Le (low back x.place) r) (sym (low_same back x q k same)) (low_grows back x.place q l))
+        (F (unkept_before back x q k same l b)))
+    going n (inr (inl h)) =
+        let k : is_kept (point back x) ≡ true = ap (λ (a : Bool). not a && is_viable gabc (kept_with (point back x))) h.0 ∙ h.1 in
+        subst (λ (a : List NoteEvent). Sorted (low back x.place) (findings_of a ++ findings_of (concat_of (note_events_behind split macros (x ∷ back) xs)))) (sym h.2)
+        (kept_sorted split macros back x q _ (stand split back o) h.0 n h.1 l b (F (kept_before back x q k l b)))
+    going n (inr (inr h)) =
+        let k : is_kept (point back x) ≡ false = ap (λ (a : Bool). not a && is_viable gabc (kept_with (point back x))) h.0 ∙ h.1 in
+        let same : kept (x ∷ back) ≡ kept back = kept_more back x h.0 ∙ ap (λ (a : Bool). cond a (kept_with (point back x)) (kept back)) h.1 in
+        let out : in_raw (kept back) ≡ false = outside (in_raw (kept back)) refl h.1 in
+        subst (λ (a : List NoteEvent). Sorted (low back x.place) (findings_of a ++ findings_of (concat_of (note_events_behind split macros (x ∷ back) xs)))) (sym h.2)
+        (prepend (low back x.place) q (record { place = x.place; code = E1 }) _ (low_before back x.place b) l
+        (subst (λ (r : Place). Sorted r (findings_of (concat_of (note_events_behind split macros (x ∷ back) xs)))) (low_same back x q k same ∙ ap (λ (r : Bool). cond r (opener back) q) out)
+        (F (unkept_before back x q k same l b))))
+      where
+        outside : (r : Bool) → in_raw (kept back) ≡ r → is_viable gabc (kept_with (point back x)) ≡ false → in_raw (kept back) ≡ false
+        outside true e v = absurd (let g = sym (raw_viable (kept back) x.c e) ∙ v in differ g)
+          where
+            differ : true ≡ false → ⊥
+            differ g = cc
+        outside false e v = e
+
+pub events_sorted : (split : Bool) (macros : ℕ) (t : List ℕ) (back : List Char) (p : Place) → OpenerBefore back p
+    → Sorted (low back p) (findings_of (concat_of (note_events_behind split macros back (placed_characters_from p t))))
+events_sorted split macros [] back p b = go (is_over split back) refl
+  where
+    go : (o : Bool) → is_over split back ≡ o → Sorted (low back p) (findings_of (concat_of (note_events_behind split macros back [])))
+    go true o = subst (λ (l : List NoteEvent). Sorted (low back p) (findings_of l)) (sym (over_joined split macros back [] o)) (no_findings (low back p))
+    go false o = subst (λ (l : List NoteEvent). Sorted (low back p) (findings_of (l ++ []))) (sym (cut_outs split back o)) (no_findings (low back p))
+events_sorted split macros (c ∷ t) back p b = go (is_over split back) refl (events_sorted split macros t (record { c = c; place = p } ∷ back) (next_place p c))
+  where
+    go : (o : Bool) → is_over split back ≡ o
+        → (OpenerBefore (record { c = c; place = p } ∷ back) (next_place p c) → Sorted (low (record { c = c; place = p } ∷ back) (next_place p c)) (findings_of (concat_of (note_events_behind split macros (record { c = c; place = p } ∷ back) (placed_characters_from (next_place p c) t)))))
+        → Sorted (low back p) (findings_of (concat_of (note_events_behind split macros back (placed_characters_from p (c ∷ t)))))
+    go true o F = subst (λ (l : List NoteEvent). Sorted (low back p) (findings_of l)) (sym (over_joined split macros back (placed_characters_from p (c ∷ t)) o)) (no_findings (low back p))
+    go false o F =
+        subst (Sorted (low back p)) (sym (findings_append (events_at split macros (point back (record { c = c; place = p }))) (concat_of (note_events_behind split macros (record { c = c; place = p } ∷ back) (placed_characters_from (next_place p c) t)))))
+        (one_sorted split macros back (placed_characters_from (next_place p c) t) (record { c = c; place = p }) (next_place p c) o (next_after p c) b F)
+
+-- of a whole text
+pub all_in_order : (at : Place) (split : Bool) (macros : ℕ) (t : List ℕ) → AreInOrder (findings_of (concat_of (note_events split macros (placed_characters_from at t))))
+unfolding note_events
+all_in_order at split macros t = (events_sorted split macros t [] at (λ r. absurd (let f : false ≡ true = r in none f))).order
+  where
+    none : false ≡ true → ⊥
+    none f = cc

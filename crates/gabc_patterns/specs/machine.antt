@@ -1,0 +1,2 @@
+pub mod Fallback
+pub mod Items

@@ -1,0 +1,5 @@
+pub mod CharactersOfStrings
+pub mod LinesAreCutAtReturns
+pub mod PlacesOfCharacters
+pub mod TextIsReadLineByLine
+pub mod Utf8PrefixIsRead

@@ -1,0 +1,79 @@
+-- The characters of a text that grows or is cut by a character.
+use Rattle.std.proofs.Common.{subst, take, ◌+◌, ◌≤◌, ◌≡◌, ◌≢◌, ℕ, Bool, true, false, cond, List, [], ◌∷◌, ◌++◌, filter, length, drop, slice_index, Result, Ok, Err, OnOk, is_ok, ap, ◌∙◌, sym, refl, append-nil, arith, IsUtf8}
+use Rattle.std.specs.Str.{chars, NonePass, NoCharPasses, IsCharBoundary}
+use Rattle.std.specs.Bool.{◌==◌}
+use Rattle.std.specs.Char.{IsScalar, len_utf8}
+use Rattle.std.proofs.lemmas.Bool.Decides.{nat_tests}
+use Rattle.std.proofs.lemmas.List.Elements.{filter-append}
+use Rattle.std.proofs.lemmas.Str.{chars-nil, chars-append, chars_past_char, encodes-chars, chars_from_encodes, IsUtf8-append, IsUtf8-encode, IsUtf8-take, IsUtf8-drop, IsCharBoundary-from_drop}
+use Rattle.std.proofs.lemmas.List.{take-append-drop}
+use Rattle.gabc_places.specs.Text.{is_shown}
+use lib.Utf8.{encode, encodes}
+
+-- the one character of its own bytes
+pub chars-encode : (c : ℕ) → IsScalar c → chars (encode c) ≡ c ∷ []
+chars-encode c s = chars_past_char (encode c) [] c (IsUtf8-encode c s) (sym (append-nil (encode c))) ∙ ap (λ l. c ∷ l) chars-nil
+
+-- a character is pushed behind a text, if there is memory
+pub chars-pushed : {E : Type 0} (r : Result (Unit {0}) E) (bs more text : List ℕ) (c : ℕ) → IsUtf8 bs → IsScalar c → chars bs ≡ text
+    → more ≡ cond (is_ok r) (bs ++ encode c) bs → OnOk r (chars more ≡ text ++ c ∷ [])
+chars-pushed (Ok x) bs more text c u s v e = ap chars e ∙ chars-append bs (encode c) u ∙ ap (λ l. chars bs ++ l) (chars-encode c s) ∙ ap (λ l. l ++ c ∷ []) v
+chars-pushed (Err x) bs more text c u s v e = tt
+
+-- no characters are left at the end
+pub chars-none : (bs : List ℕ) → length bs ≡ 0 → chars bs ≡ []
+chars-none [] e = chars-nil
+chars-none (x ∷ xs) e = absurd (omega arith)
+
+-- a text is added behind a text, if there is memory
+pub chars-added : {E : Type 0} (r : Result (Unit {0}) E) (bs more text part : List ℕ) → IsUtf8 bs → chars bs ≡ text → more ≡ cond (is_ok r) (bs ++ part) bs → OnOk r (chars more ≡ text ++ chars part)
+chars-added (Ok x) bs more text part u v e = ap chars e ∙ chars-append bs part u ∙ ap (λ l. l ++ chars part) v
+chars-added (Err x) bs more text part u v e = tt
+
+-- the characters around a character
+pub chars-split : (bs prefix after : List ℕ) (c : ℕ) → IsScalar c → IsUtf8 prefix → IsUtf8 after → bs ≡ prefix ++ (encode c ++ after) → chars bs ≡ chars prefix ++ c ∷ chars after
+chars-split bs prefix after c s u v e =
+    ap chars e ∙ chars-append prefix (encode c ++ after) u ∙ ap (λ l. chars prefix ++ l) (chars_past_char (encode c ++ after) after c (IsUtf8-append (encode c) after (IsUtf8-encode c s) v) refl)
+
+none_hidden : (cs : List ℕ) → NonePass (λ c. c == 0xFEFF) cs → filter is_shown cs ≡ cs
+none_hidden [] none = refl
+none_hidden (c ∷ cs) none = rw none.0 (ap (λ l. c ∷ l) (none_hidden cs none.1))
+
+-- bytes without U+FEFF are shown whole
+pub all-shown : (bs : List ℕ) → IsUtf8 bs → NoCharPasses (λ c. c == 0xFEFF) bs → filter is_shown (chars bs) ≡ chars bs
+all-shown bs u (cs, is, none) = none_hidden (chars bs) (subst (NonePass (λ c. c == 0xFEFF)) (chars_from_encodes cs bs u is) none)
+
+-- what stands before the first U+FEFF is shown, and then what is shown of the rest
+pub shown-split : (bs prefix after : List ℕ) → IsUtf8 prefix → IsUtf8 after → bs ≡ prefix ++ (encode 0xFEFF ++ after) → NoCharPasses (λ c. c == 0xFEFF) prefix
+    → filter is_shown (chars bs) ≡ chars prefix ++ filter is_shown (chars after)
+shown-split bs prefix after u v e none =
+    ap (filter is_shown) (chars-split bs prefix after 0xFEFF refl u v e)
+    ∙ filter-append is_shown (chars prefix) (0xFEFF ∷ chars after)
+    ∙ ap (λ l. l ++ filter is_shown (chars after)) (all-shown prefix u none)
+
+-- a text that is split at its first U+FEFF
+pub shown-cut : (bs prefix after : List ℕ) (i j : ℕ) → IsUtf8 bs → drop i bs ≡ encode 0xFEFF ++ drop j bs → IsCharBoundary bs (i + len_utf8 0xFEFF) → j ≡ i + len_utf8 0xFEFF → i ≤ length bs
+    → prefix ≡ take i bs → after ≡ drop j bs → NoCharPasses (λ c. c == 0xFEFF) (take i bs) → IsUtf8 after × (filter is_shown (chars bs) ≡ chars prefix ++ filter is_shown (chars after))
+shown-cut bs prefix after i j u split boundary ends le e f none =
+    let v : IsUtf8 after = rw (f, ends) (IsUtf8-drop bs (i + len_utf8 0xFEFF) u boundary) in
+    let rest : drop i bs ≡ encode 0xFEFF ++ after = split ∙ ap (λ l. encode 0xFEFF ++ l) (sym f) in
+    let w : IsUtf8 (drop i bs) = subst IsUtf8 (sym rest) (IsUtf8-append (encode 0xFEFF) after (IsUtf8-encode 0xFEFF refl) v) in
+    let x : IsUtf8 prefix = subst IsUtf8 (sym e) (IsUtf8-take bs i u (IsCharBoundary-from_drop bs i le w)) in
+    let whole : bs ≡ prefix ++ (encode 0xFEFF ++ after) = sym (take-append-drop i bs) ∙ ap (λ l. l ++ drop i bs) (sym e) ∙ ap (λ l. prefix ++ l) rest in
+    (v, shown-split bs prefix after x v whole (subst (NoCharPasses (λ c. c == 0xFEFF)) (sym e) none))
+
+feed_by : (b : Bool) (bs cs : List ℕ) (c : ℕ) → (c == 10) ≡ b → ((rest : List ℕ) → bs ≢ encode 10 ++ rest) → encode c ++ encodes cs ≡ bs → c ∷ cs ≡ cond b cs (c ∷ cs)
+feed_by true bs cs c e none is = let same : c ≡ 10 = grind (arith, nat_tests) in absurd (none (encodes cs) (sym is ∙ ap (λ d. encode d ++ encodes cs) same))
+feed_by false bs cs c e none is = refl
+
+no_feed : (bs cs : List ℕ) → ((rest : List ℕ) → bs ≢ encode 10 ++ rest) → encodes cs ≡ bs → cs ≡ cond (slice_index cs 0 == 10) (drop 1 cs) cs
+no_feed bs [] none is = refl
+no_feed bs (c ∷ cs) none is = feed_by (c == 10) bs cs c refl none is
+
+-- no LF stands at the start of the bytes, and so none at the start of the characters
+pub chars-no_feed : (bs : List ℕ) → IsUtf8 bs → ((rest : List ℕ) → bs ≢ encode 10 ++ rest) → chars bs ≡ cond (slice_index (chars bs) 0 == 10) (drop 1 (chars bs)) (chars bs)
+chars-no_feed bs u none = no_feed bs (chars bs) none (encodes-chars bs u)
+
+-- an LF stands at the start
+pub chars-feed : (bs rest : List ℕ) → IsUtf8 bs → bs ≡ encode 10 ++ rest → chars rest ≡ cond (slice_index (chars bs) 0 == 10) (drop 1 (chars bs)) (chars bs)
+chars-feed bs rest u e = rw (chars_past_char bs rest 10 u e) refl

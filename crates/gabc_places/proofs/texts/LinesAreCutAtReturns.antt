@@ -1,0 +1,70 @@
+-- Bytes up to a CR byte are characters up to a CR.
+use Rattle.std.proofs.Common.{◌≡◌, ℕ, ◌+◌, ◌<◌, ◌≤◌, Bool, true, false, cond, List, [], ◌∷◌, ◌++◌, filter, length, take, drop, slice_index, refl, ap, sym, ◌∙◌, arith, append_assoc, length-append, ◌==◌, IsUtf8}
+use Rattle.std.specs.Str.{chars, IsCharBoundary, NonePass}
+use Rattle.std.proofs.lemmas.Bool.Decides.{nat_tests}
+use Rattle.std.proofs.lemmas.List.{take-append-drop, drop_more, get_or-append-add, get_or-take, length-take-le}
+use Rattle.std.proofs.lemmas.Str.{encodes-chars, encode_ascii, IsCharBoundary-after_ascii}
+use Rattle.memchr.specs.Find.{Nowhere, NoneBefore, Passes, is_byte}
+use Rattle.gabc_places.specs.Text.{is_shown, text_of_characters}
+use Rattle.gabc_places.proofs.texts.CharactersOfStrings.{chars-split}
+use Rattle.gabc_places.proofs.texts.TextIsReadLineByLine.{text_behind, line-shown, line-last, behind-return}
+use lib.Utf8.{encode, encodes}
+
+-- no byte is a CR
+abbrev NoReturnByte : List ℕ → Type 0
+NoReturnByte bs = (k : ℕ) → k < length bs → ¬ ((slice_index bs k == 13) ≡ true)
+
+first_is : (b : Bool) (c : ℕ) (bs : List ℕ) → (c == 13) ≡ b → NoReturnByte (encode c ++ bs) → b ≡ false
+first_is true c bs e none =
+    let same : c ≡ 13 = grind (arith, nat_tests) in
+    let at : encode c ++ bs ≡ 13 ∷ bs = rw (same, encode_ascii 13 (omega arith)) refl in
+    absurd (none 0 (omega (arith, ap length at)) (rw at refl))
+first_is false c bs e none = refl
+
+none_of : (cs : List ℕ) → NoReturnByte (encodes cs) → NonePass (λ c. c == 13) cs
+none_of [] none = tt
+none_of (c ∷ cs) none = (
+  first_is (c == 13) c (encodes cs) refl none,
+  none_of cs (λ k less is. none (length (encode c) + k) (omega (arith, length-append (encode c) (encodes cs))) (rw (get_or-append-add (encode c) (encodes cs) k 0) is)),
+)
+
+-- without the byte there is no such character
+pub no-return : (bs : List ℕ) → IsUtf8 bs → Nowhere (Passes (is_byte 13) bs) 0 (length bs) → NonePass (λ c. c == 13) (chars bs)
+no-return bs u none = none_of (chars bs) (λ k less is.
+    let e : encodes (chars bs) ≡ bs = encodes-chars bs u in
+    none k (omega arith) (omega (arith, ap length e)) (rw e at is))
+
+no-return-prefix : (bs prefix : List ℕ) (at : ℕ) → prefix ≡ take at bs → at ≤ length bs → IsUtf8 prefix → Nowhere (Passes (is_byte 13) bs) 0 at → NonePass (λ c. c == 13) (chars prefix)
+no-return-prefix bs prefix at e le u none = no-return prefix u (λ k low less is.
+    let short : k < at = omega (arith, ap length e, length-take-le at bs le) in
+    none k low short (rw (e, get_or-take at bs k 0 short) at is))
+
+-- the characters around a CR byte
+chars-cut : (bs prefix after : List ℕ) (at : ℕ) → at < length bs → (slice_index bs at == 13) ≡ true → prefix ≡ take at bs → after ≡ drop (at + 1) bs → IsUtf8 prefix → IsUtf8 after → chars bs ≡ chars prefix ++ 13 ∷ chars after
+chars-cut bs prefix after at less is e f u v =
+    let same : slice_index bs at ≡ 13 = grind (arith, nat_tests) in
+    let ascii : encode 13 ≡ 13 ∷ [] = encode_ascii 13 (omega arith) in
+    let whole : bs ≡ prefix ++ (encode 13 ++ after) = sym (take-append-drop at bs) ∙ ap (λ l. take at bs ++ l) (drop_more bs at 0 less) ∙ rw (same, ← e, ← f, ascii) refl in
+    chars-split bs prefix after 13 refl u v whole
+
+-- the text of bytes is the line before the first CR byte, an LF, and the text of what follows, where an LF directly behind the CR is left out
+pub line-read : (bs prefix after next : List ℕ) (at : ℕ) → IsUtf8 prefix → IsUtf8 after → prefix ≡ take at bs → after ≡ drop (at + 1) bs
+    → NoneBefore (Passes (is_byte 13) bs) 0 (length bs) at → (slice_index bs at == 13) ≡ true
+    → chars next ≡ cond (slice_index (chars after) 0 == 10) (drop 1 (chars after)) (chars after)
+    → text_of_characters (chars bs) ≡ filter is_shown (chars prefix) ++ 10 ∷ text_of_characters (chars next)
+line-read bs prefix after next at u v e f first is n =
+    ap (text_behind 0) (chars-cut bs prefix after at first.high is e f u v)
+    ∙ line-shown 0 (chars prefix) (chars after) refl (no-return-prefix bs prefix at e (omega arith) u first.before)
+    ∙ ap (λ l. filter is_shown (chars prefix) ++ 10 ∷ l) (behind-return (chars after) (chars next) n)
+
+-- the text of bytes without CR
+pub last-read : (bs : List ℕ) → IsUtf8 bs → Nowhere (Passes (is_byte 13) bs) 0 (length bs) → text_of_characters (chars bs) ≡ filter is_shown (chars bs)
+last-read bs u none = line-last 0 (chars bs) refl (no-return bs u none)
+
+-- a line and an LF are added to the text so far
+pub line-added : (text shown rest before : List ℕ) → before ≡ shown ++ 10 ∷ rest → ((text ++ shown) ++ 10 ∷ []) ++ rest ≡ text ++ before
+line-added text shown rest before e = append_assoc (text ++ shown) (10 ∷ []) rest ∙ append_assoc text shown (10 ∷ rest) ∙ ap (λ l. text ++ l) (sym e)
+
+-- bytes may be cut behind a CR byte
+pub cut-behind : (bs : List ℕ) (at : ℕ) → IsUtf8 bs → at < length bs → (slice_index bs at == 13) ≡ true → IsCharBoundary bs (at + 1)
+cut-behind bs at u less is = IsCharBoundary-after_ascii bs at u less (let same : slice_index bs at ≡ 13 = grind (arith, nat_tests) in omega arith)

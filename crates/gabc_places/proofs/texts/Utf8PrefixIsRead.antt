@@ -1,0 +1,33 @@
+-- What a reader of UTF-8 tells of bytes is their prefix and its tail.
+use Rattle.std.proofs.Common.{◌≡◌, ℕ, ◌<◌, List, [], ◌∷◌, length, take, drop, Option, refl, ap, sym, ◌∙◌, arith, length-drop, IsUtf8}
+use Rattle.std.proofs.lemmas.Str.{utf8_valid_len-IsUtf8}
+use Rattle.std.specs.Str.{chars}
+use Rattle.std.specs.Str.Lossy.{utf8_valid_len, utf8_error_len}
+use Rattle.std.proofs.lemmas.List.{take_all}
+use Rattle.std.proofs.Math.ListN.{drop_of_length-le}
+use Rattle.gabc_places.specs.Text.{utf8_prefix_of, tail_of, tail_at, tail_by}
+use Rattle.gabc_places.specs.declared.decoded.Tail.TheVariants.{Nothing}
+
+-- of valid bytes the prefix is all of them
+pub prefix-whole : (bs : List ℕ) → IsUtf8 bs → chars bs ≡ utf8_prefix_of bs
+unfolding utf8_prefix_of
+prefix-whole bs u = ap chars (sym (take_all (utf8_valid_len bs) bs (omega (arith, utf8_valid_len-IsUtf8 bs u))))
+
+-- of other bytes the prefix is what is told to be valid
+pub prefix-told : (bs prefix : List ℕ) (n : ℕ) → n ≡ utf8_valid_len bs → prefix ≡ take n bs → chars prefix ≡ utf8_prefix_of bs
+unfolding utf8_prefix_of
+prefix-told bs prefix n e f = ap chars f ∙ ap (λ k. chars (take k bs)) e
+
+-- behind valid bytes nothing follows
+pub tail-whole : (bs : List ℕ) → IsUtf8 bs → tail_of bs ≡ Nothing
+unfolding tail_of
+tail-whole bs u = ap tail_at (drop_of_length-le bs {i = utf8_valid_len bs} (omega (arith, utf8_valid_len-IsUtf8 bs u)))
+
+tail_at-some : (bs : List ℕ) → 0 < length bs → tail_at bs ≡ tail_by (utf8_error_len bs)
+tail_at-some [] h = absurd (omega arith)
+tail_at-some (b ∷ bs) h = refl
+
+-- behind a prefix that is told to be valid stands what is told of the fault
+pub tail-told : (bs : List ℕ) (n : ℕ) (o : Option ℕ) → n < length bs → n ≡ utf8_valid_len bs → o ≡ utf8_error_len (drop n bs) → tail_of bs ≡ tail_by o
+unfolding tail_of
+tail-told bs n o less e f = ap (λ k. tail_at (drop k bs)) (sym e) ∙ tail_at-some (drop n bs) (omega (arith, length-drop n bs)) ∙ ap tail_by (sym f)

@@ -1,0 +1,38 @@
+-- What the calls of a stage do, where `before` and `after` are what it will still give: a list for each input to come, and
+-- one for the end.
+use Rattle.std.specs.Prelude.{ℕ, List, [], ◌∷◌, ◌++◌, length, ◌≤◌, ◌≡◌, Bool, true}
+use Rattle.std.specs.List.{flat_map}
+use Rattle.gabc_places.specs.BoundedList.{BoundedList, extended_by}
+
+-- the lists joined in order
+abbrev pub concat_of : {T : Type 0} → List (List T) → List T
+concat_of lists = flat_map (λ xs. xs) lists
+
+-- What a push of x did: it added at most `most` outputs, those that were still to come for x, and what the stage gives from
+-- then on follows them.
+pub record Pushes {I O : Type 0} (before after : List I → List (List O)) (x : I) (most : ℕ) (old new : BoundedList O) : Type 0 where
+  pub events : List O
+  pub out : new ≡ extended_by old events
+  pub few : length events ≤ most
+  pub law : (xs : List I) → before (x ∷ xs) ≡ events ∷ after xs
+
+-- What the end did: it added what was still to come.
+pub record Finishes {I O : Type 0} (before : List I → List (List O)) (most : ℕ) (old new : BoundedList O) : Type 0 where
+  pub events : List O
+  pub out : new ≡ extended_by old events
+  pub few : length events ≤ most
+  pub law : before [] ≡ events ∷ []
+
+-- nothing for each of these inputs, and nothing for the end
+abbrev pub silence : {I O : Type 0} → List I → List (List O)
+silence [] = [] ∷ []
+silence (x ∷ xs) = [] ∷ silence xs
+
+-- whatever comes, it gives nothing
+abbrev pub GivesNothing : {I O : Type 0} → (List I → List (List O)) → Type 0
+GivesNothing after = (xs : _) → concat_of (after xs) ≡ []
+
+-- What a call did with outputs that end the stage: behind the first of them it added no other, and from then on it gives nothing.
+abbrev pub StopsAtEnd : {I O : Type 0} → (O → Bool) → (List I → List (List O)) → BoundedList O → BoundedList O → Type 0
+StopsAtEnd ends after old new =
+    (before behind : List _) (x : _) → new ≡ extended_by old (before ++ x ∷ behind) → ends x ≡ true → (behind ≡ []) × GivesNothing after

@@ -1,0 +1,9 @@
+pub mod BodyPointByPoint
+pub mod EndOfBody
+pub mod EventsOfOnePoint
+pub mod EventsOfSyllableParts
+pub mod GathererHoldsDefinition
+pub mod LengthOfCanonicalText
+pub mod OneListEachCharacter
+pub mod PositionsFromTheLast
+pub mod StopIsFirst

@@ -1,0 +1,92 @@
+-- What is emitted at a point: what the gatherer holds after it, what was found, and which limit is passed.
+use Rattle.std.proofs.Common.{◌≡◌, ℕ, ◌+◌, ◌-◌, ◌<◌, ◌^◌, ◌||◌, ◌&&◌, not, min, nat_lt, Bool, true, false, cond, List, [], ◌∷◌, ◌++◌, length, take, get_or, Some, None, refl, sym, ap, ◌∙◌, arith, append_assoc, append-nil}
+use Rattle.std.proofs.lemmas.List.{take_more, take_at}
+use Rattle.gabc_places.specs.declared.code.Code.TheVariants.{F5, F7}
+use Rattle.gabc_places.specs.declared.code.Finding.{Finding}
+use Rattle.gabc_places.specs.declared.limits.Limits.{Limits}
+use Rattle.gabc_text.specs.declared.stage.TextEvent.TheVariants as text
+use Rattle.gabc_notes.specs.declared.stage.NoteEvent.TheVariants as note
+use Rattle.gabc_score.specs.declared.events.BodyEvent.{BodyEvent}
+use Rattle.gabc_score.specs.declared.events.BodyEvent.TheVariants as event
+use Rattle.gabc_score.specs.Syllable.{UnplacedSyllable, closes, since_close, kept_of, syllable_by, is_eu, is_nlba, all_syllables}
+use Rattle.gabc_score.specs.Canonical.{canonical_bytes}
+use Rattle.gabc_score.specs.Body.{is_longer, is_none, events_onto, code_at, findings_with, findings_of}
+use Rattle.gabc_score.specs.machine.Gatherer.{Gathered, with_event}
+use Rattle.gabc_score.specs.machine.BodyBuilder.{with_all, findings_after, code_in}
+use Rattle.gabc_score.proofs.building.GathererHoldsDefinition.{gathered, gathered_step, over_by}
+
+-- ---- lists
+
+with_all_append : (g : Gathered) (xs ys : List BodyEvent) → with_all g (xs ++ ys) ≡ with_all (with_all g xs) ys
+with_all_append g [] ys = refl
+with_all_append g (x ∷ xs) ys = with_all_append (with_event g x) xs ys
+
+pub with_all_more : (first now new : Gathered) (ts : List BodyEvent) (i : ℕ) (d : BodyEvent) → i < length ts
+    → now ≡ with_all first (take i ts) → new ≡ with_event now (get_or ts i d) → new ≡ with_all first (take (i + 1) ts)
+with_all_more first now new ts i d h f g =
+    g ∙ ap (λ (s : Gathered). with_event s (get_or ts i d)) f ∙ sym (with_all_append first (take i ts) (get_or ts i d ∷ []))
+    ∙ ap (with_all first) (sym (take_more ts i d h))
+
+findings_after_append : (found : List Finding) (xs ys : List BodyEvent) → findings_after found (xs ++ ys) ≡ findings_after (findings_after found xs) ys
+findings_after_append found [] ys = refl
+findings_after_append found (x ∷ xs) ys = findings_after_append (findings_with found x) xs ys
+
+pub findings_after_more : (first now new : List Finding) (ts : List BodyEvent) (i : ℕ) (d : BodyEvent) → i < length ts
+    → now ≡ findings_after first (take i ts) → new ≡ findings_with now (get_or ts i d) → new ≡ findings_after first (take (i + 1) ts)
+findings_after_more first now new ts i d h f g =
+    g ∙ ap (λ (s : List Finding). findings_with s (get_or ts i d)) f ∙ sym (findings_after_append first (take i ts) (get_or ts i d ∷ []))
+    ∙ ap (findings_after first) (sym (take_more ts i d h))
+
+-- ---- a point
+
+pub gathered_all : (limit head : ℕ) (before : List BodyEvent) → limit < 2 ^ 64 - 1 → (now : List BodyEvent) → with_all (gathered limit head before) now ≡ gathered limit head (events_onto now before)
+gathered_all limit head before h [] = refl
+gathered_all limit head before h (t ∷ now) = ap (λ g. with_all g now) (gathered_step limit head before h t) ∙ gathered_all limit head (t ∷ before) h now
+
+found_with : (found fs : List Finding) (t : BodyEvent) → findings_with (found ++ fs) t ≡ found ++ findings_with fs t
+found_with found fs (event.Text (text.Kept c)) = refl
+found_with found fs (event.Text (text.Part p)) = refl
+found_with found fs (event.Text (text.Found f)) = append_assoc found fs (f ∷ [])
+found_with found fs (event.Text (text.Ended e)) = refl
+found_with found fs (event.Notes line (note.Kept c)) = refl
+found_with found fs (event.Notes line (note.Found f)) = append_assoc found fs (f ∷ [])
+found_with found fs (event.Notes line (note.Ended e n)) = refl
+
+pub found_all : (found : List Finding) (before now : List BodyEvent) → findings_after (found ++ findings_of before) now ≡ found ++ findings_of (events_onto now before)
+found_all found before [] = refl
+found_all found before (t ∷ now) = ap (λ fs. findings_after fs now) (found_with found (findings_of before) t) ∙ found_all found (t ∷ before) now
+
+pub lt_total : (limit n m : ℕ) → limit < m → nat_lt limit (min n m + 1) ≡ nat_lt limit (n + 1)
+lt_total limit n m h = grind arith
+
+pub code_is : (limits : Limits) (head : ℕ) (before : List BodyEvent) → limits.input < 2 ^ 64 - 1 → code_in limits (gathered limits.syllable head before) ≡ code_at limits head before
+code_is limits head before h =
+    ap (λ b. cond (is_longer limits.syllable (kept_of (since_close before)) || over_by limits.syllable (all_syllables before)) (Some F5) (cond (not (is_none (all_syllables before)) && b) (Some F7) None))
+    (lt_total limits.input (head + canonical_bytes (all_syllables before)) (2 ^ 64 - 1) h)
+
+-- ---- the syllables that were made before a point
+
+made_more : (t : BodyEvent) (before : List BodyEvent) → (more : List UnplacedSyllable) × (all_syllables (t ∷ before) ≡ all_syllables before ++ more)
+made_more t before = by (closes t)
+  where
+    by : (b : Bool) → (more : List UnplacedSyllable) × (cond b (all_syllables before ++ syllable_by (t ∷ since_close before) (is_eu before) (is_nlba before) ∷ []) (all_syllables before) ≡ all_syllables before ++ more)
+    by true = (syllable_by (t ∷ since_close before) (is_eu before) (is_nlba before) ∷ [], refl)
+    by false = ([], sym (append-nil (all_syllables before)))
+
+pub made_after : (now before : List BodyEvent) → (more : List UnplacedSyllable) × (all_syllables (events_onto now before) ≡ all_syllables before ++ more)
+made_after [] before = ([], sym (append-nil (all_syllables before)))
+made_after (t ∷ now) before =
+    let first = made_more t before in
+    let rest = made_after now (t ∷ before) in
+    (first.0 ++ rest.0, rest.1 ∙ ap (λ (ms : List UnplacedSyllable). ms ++ rest.0) first.1 ∙ append_assoc (all_syllables before) first.0 rest.0)
+
+pub made_before : (now before : List BodyEvent) → take (length (all_syllables before)) (all_syllables (events_onto now before)) ≡ all_syllables before
+made_before now before =
+    let more = made_after now before in
+    ap (take (length (all_syllables before))) more.1 ∙ take_at (all_syllables before) more.0 (length (all_syllables before)) refl
+
+pub made_first : (now before : List BodyEvent) (more : List UnplacedSyllable) → take (length (all_syllables before)) (all_syllables (events_onto now before) ++ more) ≡ all_syllables before
+made_first now before more =
+    let first = made_after now before in
+    ap (take (length (all_syllables before))) (ap (λ (ms : List UnplacedSyllable). ms ++ more) first.1 ∙ append_assoc (all_syllables before) first.0 more)
+    ∙ take_at (all_syllables before) (first.0 ++ more) (length (all_syllables before)) refl

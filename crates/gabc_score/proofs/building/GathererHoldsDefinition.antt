@@ -1,0 +1,170 @@
+-- What the gatherer holds is what the definitions say of what was emitted.
+use Rattle.std.proofs.Common.{◌≡◌, ℕ, ◌+◌, ◌-◌, ◌<◌, ◌^◌, ◌||◌, ◌&&◌, min, nat_lt, Bool, true, false, cond, List, [], ◌∷◌, ◌++◌, length, take, drop, refl, sym, ap, ◌∙◌, arith, append_assoc, append-nil, length-append, encode_utf8, codes}
+use Rattle.std.specs.List.{list_any, sum_by}
+use lib.Utf8.{encode}
+use Rattle.std.proofs.Math.Seq.{take-append-add, drop-append-add}
+use Rattle.std.proofs.lemmas.List.Sums.{sum_by_push}
+use Rattle.std.proofs.lemmas.List.Folds.{list_any-append}
+use Rattle.gabc_text.specs.declared.view.TextView.{TextView}
+use Rattle.gabc_text.specs.declared.stage.TextPart.TheVariants as part
+use Rattle.gabc_text.specs.declared.stage.TextEnd.TheVariants as text_end
+use Rattle.gabc_text.specs.declared.stage.TextEvent.TheVariants as text
+use Rattle.gabc_notes.specs.declared.stage.NoteEnd.TheVariants as note_end
+use Rattle.gabc_notes.specs.declared.stage.NoteEvent.TheVariants as note
+use Rattle.gabc_score.specs.declared.events.BodyEvent.{BodyEvent}
+use Rattle.gabc_score.specs.declared.events.BodyEvent.TheVariants as event
+use Rattle.gabc_score.specs.declared.snippets.Snippet.{Snippet}
+use Rattle.gabc_score.specs.Syllable.{UnplacedSyllable, since_close, prefix_of, is_seam, part_of, ended_parts_of, kept_of, snippets_of, snippet_at, view_of, is_eu, is_nlba, syllable_by, all_syllables}
+use Rattle.gabc_score.specs.Canonical.{canonical, canonicals, canonical_bytes}
+use Rattle.gabc_score.specs.Body.{is_longer, is_none, cut_of}
+use Rattle.gabc_score.specs.machine.SyllableBuilder.{OpenSyllable, past_snippet}
+use Rattle.gabc_score.specs.machine.Gatherer.{Gathered, with_event, with_syllable, with_made}
+
+-- ---- cut texts
+
+cond_after : (b : Bool) (e t p : List ℕ) → cond b (e ++ t) (e ++ p) ≡ e ++ cond b t p
+cond_after true e t p = refl
+cond_after false e t p = refl
+
+-- a text is cut within its last part
+cut_append : (e p : List ℕ) (n : ℕ) → prefix_of (length e + n) (e ++ p) ≡ e ++ prefix_of n p
+cut_append e p n =
+    ap (λ d. cond (is_seam d) (take (length e + n) (e ++ p)) (e ++ p)) (drop-append-add e p n)
+    ∙ ap (λ t. cond (is_seam (drop n p)) t (e ++ p)) (take-append-add e p n)
+    ∙ cond_after (is_seam (drop n p)) e (take n p) p
+
+-- ---- one syllable more
+
+abbrev pub over_by : ℕ → List UnplacedSyllable → Bool
+over_by limit made = list_any (λ (m : UnplacedSyllable). is_longer limit m.kept) made || list_any (λ text. is_longer limit text) (canonicals true made)
+
+first_is : (first b : Bool) → (first || b) ≡ ((first && true) || b)
+first_is true b = refl
+first_is false b = refl
+
+later_is : (first b : Bool) → b ≡ ((first && false) || b)
+later_is true b = refl
+later_is false b = refl
+
+canonicals_push : (first : Bool) (ms : List UnplacedSyllable) (m : UnplacedSyllable)
+    → canonicals first (ms ++ m ∷ []) ≡ canonicals first ms ++ canonical ((first && is_none ms) || m.text.word_start) m ∷ []
+canonicals_push first [] m = ap (λ b. canonical b m ∷ []) (first_is first m.text.word_start)
+canonicals_push first (n ∷ ms) m =
+    ap (λ (l : List (List ℕ)). canonical (first || n.text.word_start) n ∷ l)
+    (canonicals_push false ms m ∙ ap (λ b. canonicals false ms ++ canonical b m ∷ []) (later_is first m.text.word_start))
+
+module _ (limit : ℕ) (ms : List UnplacedSyllable) (m : UnplacedSyllable) where
+  abbrev text_of : List ℕ
+  text_of = canonical (is_none ms || m.text.word_start) m
+
+  bytes_push : canonical_bytes (ms ++ m ∷ []) ≡ canonical_bytes ms + length text_of
+  bytes_push = ap (sum_by (λ (t : List ℕ). length t)) (canonicals_push true ms m) ∙ sum_by_push (λ (t : List ℕ). length t) (canonicals true ms) text_of
+
+  pub any_push : {X : Type 0} (p : X → Bool) (xs : List X) (x : X) → list_any p (xs ++ x ∷ []) ≡ (list_any p xs || (p x || false))
+  any_push p xs x = list_any-append p xs (x ∷ [])
+
+or_shuffle : (a b k c : Bool) → ((a || b) || (k || c)) ≡ ((a || (k || false)) || (b || (c || false)))
+or_shuffle true b k c = refl
+or_shuffle false true true c = refl
+or_shuffle false true false c = refl
+or_shuffle false false true c = refl
+or_shuffle false false false true = refl
+or_shuffle false false false false = refl
+
+lt_min : (limit n m : ℕ) → limit < m → nat_lt limit (min n m) ≡ nat_lt limit n
+lt_min limit n m h = grind arith
+
+module _ (limit : ℕ) (ms : List UnplacedSyllable) (m : UnplacedSyllable) where
+  abbrev size_of : ℕ
+  size_of = length (text_of limit ms m)
+
+  total_push : (head : ℕ) → min (min (head + canonical_bytes ms) (2 ^ 64 - 1) + min size_of (2 ^ 64 - 1)) (2 ^ 64 - 1) ≡ min (head + canonical_bytes (ms ++ m ∷ [])) (2 ^ 64 - 1)
+  total_push head = omega (arith, bytes_push limit ms m)
+
+  over_push : limit < 2 ^ 64 - 1 → (over_by limit ms || (is_longer limit m.kept || nat_lt limit (min size_of (2 ^ 64 - 1)))) ≡ over_by limit (ms ++ m ∷ [])
+  over_push h =
+      ap (λ b. over_by limit ms || (is_longer limit m.kept || b)) (lt_min limit size_of (2 ^ 64 - 1) h)
+      ∙ or_shuffle (list_any (λ (n : UnplacedSyllable). is_longer limit n.kept) ms) (list_any (λ t. is_longer limit t) (canonicals true ms)) (is_longer limit m.kept) (nat_lt limit size_of)
+      ∙ ap (λ b. b || (list_any (λ t. is_longer limit t) (canonicals true ms) || (nat_lt limit size_of || false))) (sym (any_push limit ms m (λ (n : UnplacedSyllable). is_longer limit n.kept) ms m))
+      ∙ ap (λ b. list_any (λ (n : UnplacedSyllable). is_longer limit n.kept) (ms ++ m ∷ []) || b)
+      (sym (any_push limit ms m (λ t. is_longer limit t) (canonicals true ms) (text_of limit ms m)) ∙ ap (list_any (λ t. is_longer limit t)) (sym (canonicals_push true ms m)))
+
+-- ---- the gatherer
+
+abbrev pub gathered : ℕ → ℕ → List BodyEvent → Gathered
+gathered limit head before =
+    let events = since_close before in
+    record {
+      limit = limit;
+      builder = record { kept = kept_of events; from = length (ended_parts_of events); view = view_of events; snippets = snippets_of events };
+      eu = is_eu before;
+      nlba = is_nlba before;
+      made = all_syllables before;
+      total = min (head + canonical_bytes (all_syllables before)) (2 ^ 64 - 1);
+      over = over_by limit (all_syllables before);
+      cut = cut_of before;
+    }
+
+abbrev open_with : List ℕ → List ℕ → TextView → List Snippet → OpenSyllable
+open_with ended part view snippets = record { kept = ended ++ part; from = length ended; view = view; snippets = snippets }
+
+marked_is : (ended part mark : List ℕ) (view : TextView) (snippets : List Snippet)
+    → record { kept = (ended ++ part) ++ mark; from = length ((ended ++ part) ++ mark); view = view; snippets = snippets } ≡ open_with (ended ++ (part ++ mark)) [] view snippets
+marked_is ended part mark view snippets =
+    ap (λ k. record { kept = k; from = length k; view = view; snippets = snippets }) (append_assoc ended part mark)
+    ∙ ap (λ k. record { kept = k; from = length (ended ++ (part ++ mark)); view = view; snippets = snippets }) (sym (append-nil (ended ++ (part ++ mark))))
+
+snippet_is : (ended part : List ℕ) (view : TextView) (snippets : List Snippet) (line count mark : ℕ)
+    → past_snippet (open_with ended part view snippets) line count mark
+    ≡ open_with (ended ++ (prefix_of count part ++ encode_utf8 mark)) [] view (snippets ++ snippet_at line (length ended) (prefix_of count part) ∷ [])
+snippet_is ended part view snippets line count mark =
+    let with : List ℕ → ℕ → OpenSyllable = λ k to. record { kept = k ++ encode_utf8 mark; from = length (k ++ encode_utf8 mark); view = view; snippets = snippets ++ record { line = line; span = record { from = length ended; to = to } } ∷ [] } in
+    ap (λ k. with k (length k)) (cut_append ended part count)
+    ∙ ap (with (ended ++ prefix_of count part)) (length-append ended (prefix_of count part))
+    ∙ marked_is ended (prefix_of count part) (encode_utf8 mark) view (snippets ++ snippet_at line (length ended) (prefix_of count part) ∷ [])
+
+module _ (limit head : ℕ) (before : List BodyEvent) (small : limit < 2 ^ 64 - 1) where
+  abbrev now : Gathered
+  now = gathered limit head before
+
+  kept_more : (more : List ℕ) → record now { builder = record now.builder { kept = now.builder.kept ++ more } }
+      ≡ record now { builder = record now.builder { kept = ended_parts_of (since_close before) ++ (part_of (since_close before) ++ more) } }
+  kept_more more = ap (λ k. record now { builder = record now.builder { kept = k } }) (append_assoc (ended_parts_of (since_close before)) (part_of (since_close before)) more)
+
+  ended_as : (line count mark : ℕ) → past_snippet now.builder line count mark
+      ≡ open_with (ended_parts_of (since_close before) ++ (prefix_of count (part_of (since_close before)) ++ encode_utf8 mark)) [] (view_of (since_close before))
+      (snippets_of (since_close before) ++ snippet_at line (length (ended_parts_of (since_close before))) (prefix_of count (part_of (since_close before))) ∷ [])
+  ended_as line count mark = snippet_is (ended_parts_of (since_close before)) (part_of (since_close before)) (view_of (since_close before)) (snippets_of (since_close before)) line count mark
+
+  pub made_is : (m : UnplacedSyllable) → with_made now m
+      ≡ record now {
+        builder = record { kept = []; from = 0; view = view_of []; snippets = [] };
+        made = all_syllables before ++ m ∷ [];
+        total = min (head + canonical_bytes (all_syllables before ++ m ∷ [])) (2 ^ 64 - 1);
+        over = over_by limit (all_syllables before ++ m ∷ []);
+      }
+  made_is m =
+      ap (λ n. record now { builder = record { kept = []; from = 0; view = view_of []; snippets = [] }; made = all_syllables before ++ m ∷ []; total = n; over = now.over || (is_longer limit m.kept || nat_lt limit (min (size_of limit (all_syllables before) m) (2 ^ 64 - 1))) })
+      (total_push limit (all_syllables before) m head)
+      ∙ ap (λ b. record now { builder = record { kept = []; from = 0; view = view_of []; snippets = [] }; made = all_syllables before ++ m ∷ []; total = min (head + canonical_bytes (all_syllables before ++ m ∷ [])) (2 ^ 64 - 1); over = b })
+      (over_push limit (all_syllables before) m small)
+
+  pub gathered_step : (t : BodyEvent) → with_event now t ≡ gathered limit head (t ∷ before)
+  unfolding encode
+  gathered_step (event.Text (text.Kept c)) = kept_more (encode_utf8 c.c)
+  gathered_step (event.Text (text.Part part.WordStart)) = refl
+  gathered_step (event.Text (text.Part (part.Piece p))) = refl
+  gathered_step (event.Text (text.Part (part.Centre s))) = refl
+  gathered_step (event.Text (text.Part (part.Translation s))) = refl
+  gathered_step (event.Text (text.Found f)) = refl
+  gathered_step (event.Text (text.Ended text_end.Notes)) =
+      ap (λ o. record now { builder = o }) (marked_is (ended_parts_of (since_close before)) (part_of (since_close before)) (codes "(") (view_of (since_close before)) (snippets_of (since_close before)))
+  gathered_step (event.Text (text.Ended text_end.Finished)) = refl
+  gathered_step (event.Text (text.Ended (text_end.Cut p))) = refl
+  gathered_step (event.Notes line (note.Kept c)) = kept_more (encode_utf8 c.c)
+  gathered_step (event.Notes line (note.Found f)) = refl
+  gathered_step (event.Notes line (note.Ended note_end.Next n)) = ap (λ o. record now { builder = o }) (ended_as line n 124)
+  gathered_step (event.Notes line (note.Ended note_end.Close n)) =
+      ap (λ o. with_syllable (record now { builder = o })) (ended_as line n 41)
+      ∙ made_is (syllable_by (event.Notes line (note.Ended note_end.Close n) ∷ since_close before) (is_eu before) (is_nlba before))
+  gathered_step (event.Notes line (note.Ended (note_end.Cut p) n)) = refl

@@ -1,0 +1,4 @@
+pub mod ScoreHoldsParts
+pub mod SnippetsAreHeld
+pub mod SyllableHoldsPartByPart
+pub mod SyllablesHoldParts

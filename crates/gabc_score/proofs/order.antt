@@ -1,0 +1,5 @@
+pub mod FindingsOfCutParts
+pub mod FindingsOfLayers
+pub mod FindingsOfParts
+pub mod FindingsOfScore
+pub mod FindingsOneAfterAnother

@@ -1,0 +1,129 @@
+-- What is found in a body that is cut into parts stands in order.
+use Rattle.std.proofs.Common.{◌≡◌, ℕ, suc, ◌+◌, ◌-◌, ◌≤◌, ◌^◌, ◌==◌, nat_lt, min, List, [], ◌∷◌, ◌++◌, Bool, true, false, cond, refl, sym, ap, subst, ◌∙◌, length, arith, inl, inr, ◌⊎◌}
+use Rattle.gabc_places.specs.declared.place.Place.{Place}
+use Rattle.gabc_places.specs.declared.place.Char.{Char}
+use Rattle.gabc_places.specs.declared.code.Finding.{Finding}
+use Rattle.gabc_places.specs.Findings.{IsUpTo}
+use Rattle.gabc_places.specs.StageLaw.{concat_of}
+use Rattle.gabc_places.specs.Place.{next_place, place_past, placed_characters_from}
+use Rattle.gabc_notes.specs.Events as notes
+use Rattle.gabc_nabc.specs.Events as nabc
+use Rattle.gabc_score.specs.Events.{PartAhead, texts_by_definition, text_from, snippet_from, behind_mark}
+use Rattle.gabc_score.specs.Units.{Mark, Opens, Next, Closes, CutPart, whole, events_through, EndsBehind, part_following, Cuts, events_of_cutting}
+use Rattle.gabc_score.proofs.units.BodyHasOneCutting.{text_mark}
+use Rattle.gabc_score.proofs.order.FindingsOneAfterAnother.{IsBefore, up_to_then, before_up_to, next_behind, past_up_to, past_append, from_earlier, from_append, before_append, order_append, all_before, before_then, no_notes}
+use Rattle.gabc_score.proofs.order.FindingsOfParts.{found, found_append, joined_append, TextsLie, SnippetsLie, Lie, LieLast, text_lies, text_lies_last, snippet_lies, snippet_lies_last}
+
+-- ---- the characters of a part and those behind it
+
+record Split (xs : List Char) (x : Char) (ys : List Char) (p : Place) (cs : List ℕ) : Type 0 where
+  prefix : List ℕ
+  c : ℕ
+  rest : List ℕ
+  all : cs ≡ prefix ++ c ∷ rest
+  size : length xs ≡ length prefix
+  here : x ≡ record { c = c; place = place_past p prefix }
+  behind : ys ≡ placed_characters_from (next_place (place_past p prefix) c) rest
+
+split : (xs : List Char) (x : Char) (ys : List Char) (p : Place) (cs : List ℕ) → xs ++ x ∷ ys ≡ placed_characters_from p cs → Split xs x ys p cs
+split [] x ys p [] e = absurd (cc)
+split [] x ys p (c ∷ cs) e = record { prefix = []; c = c; rest = cs; all = refl; size = refl; here = cc; behind = cc }
+split (z ∷ xs) x ys p [] e = absurd (cc)
+split (z ∷ xs) x ys p (c ∷ cs) e =
+    let f : xs ++ x ∷ ys ≡ placed_characters_from (next_place p c) cs = cc in
+    let s = split xs x ys (next_place p c) cs f in
+    record { prefix = c ∷ s.prefix; c = s.c; rest = s.rest; all = ap (λ ds. c ∷ ds) s.all; size = ap suc s.size; here = s.here; behind = s.behind }
+
+-- ---- no column reaches its last value
+
+pub record Short (p : Place) (cs : List ℕ) : Type 0 where
+  pub here : p.column + length cs ≤ 2 ^ 64 - 1
+  pub begun : 1 + length cs ≤ 2 ^ 64 - 1
+
+short_next : (p : Place) (c : ℕ) (cs : List ℕ) → Short p (c ∷ cs) → Short (next_place p c) cs
+short_next p c cs h = by (c == 10)
+  where
+    less : length cs + 1 ≤ length (c ∷ cs)
+    less = omega arith
+
+    by : (b : Bool) → Short (cond b (record { line = p.line + 1; column = 1 }) (record { line = p.line; column = p.column + 1 })) cs
+    by true = record { here = omega (arith, h.begun, less); begun = omega (arith, h.begun, less) }
+    by false = record { here = omega (arith, h.here, less); begun = omega (arith, h.begun, less) }
+
+pub short_past : (p : Place) (prefix rest : List ℕ) → Short p (prefix ++ rest) → Short (place_past p prefix) rest
+short_past p [] rest h = h
+short_past p (c ∷ prefix) rest h = short_past (next_place p c) prefix rest (short_next p c (prefix ++ rest) h)
+
+-- behind a `)`
+behind_is : (q : Place) (c : ℕ) (rest : List ℕ) → c ≡ 41 → Short q (c ∷ rest) → behind_mark q ≡ next_place q c
+behind_is q c rest e h =
+    let less : q.column + 1 ≤ 2 ^ 64 - 1 = omega (arith, h.here, some) in
+    rw e (ap (λ n. record { line = q.line; column = n }) (let m : min (q.column + 1) (2 ^ 64 - 1) ≡ q.column + 1 = grind (arith, less) in m))
+  where
+    some : 1 ≤ length (c ∷ rest)
+    some = omega arith
+
+module _ (lines macros : ℕ) (texts : TextsLie) (gabc : SnippetsLie (λ xs. notes.note_events (nat_lt 0 lines) macros xs)) (marks : SnippetsLie (λ xs. nabc.nabc_events xs))
+    (closes : (line : ℕ) (opened : Place) (prefix : List Char) (x : Char) (rest : List Char) → EndsBehind lines (snippet_from lines macros line opened (prefix ++ x ∷ rest)) prefix Closes → x.c ≡ 41) where
+  -- the part begins here with these characters
+  abbrev pub Begins : PartAhead → Place → List Char → Type 0
+  Begins part p xs = (part ≡ text_from texts_by_definition p xs) ⊎ ((line : ℕ) × (opened : Place) × (part ≡ snippet_from lines macros line opened xs))
+
+  last_lies : (part : PartAhead) (p : Place) (cs : List ℕ) (last : List Char) → last ≡ placed_characters_from p cs → Begins part p last → LieLast p (place_past p cs) (found (concat_of (events_through part last)))
+  last_lies part p cs last e (inl f) = rw (f, e) (text_lies_last texts p cs)
+  last_lies part p cs last e (inr h) = rw (h.2, e) (snippet_lies_last lines macros gabc marks h.0 h.1 p cs)
+
+  through_lies : (part : PartAhead) (p : Place) (cs : List ℕ) (xs : List Char) (x : Char) (ys : List Char) (s : Split xs x ys p cs) → xs ++ x ∷ ys ≡ placed_characters_from p cs → Begins part p (xs ++ x ∷ ys)
+      → Lie p (place_past p s.prefix) (found (concat_of (events_through part xs)))
+  through_lies part p cs xs x ys s e (inl f) =
+      subst (λ q. Lie p (place_past p s.prefix) (found (concat_of (events_through q xs)))) (sym (f ∙ ap (text_from texts_by_definition p) (e ∙ ap (placed_characters_from p) s.all)))
+      (text_lies texts p s.prefix (s.c ∷ s.rest) xs s.size)
+  through_lies part p cs xs x ys s e (inr h) =
+      subst (λ q. Lie p (place_past p s.prefix) (found (concat_of (events_through q xs)))) (sym (h.2 ∙ ap (snippet_from lines macros h.0 h.1) (e ∙ ap (placed_characters_from p) s.all)))
+      (snippet_lies lines macros gabc marks h.0 h.1 p s.prefix (s.c ∷ s.rest) xs s.size)
+
+  closes_at : (part : PartAhead) (p : Place) (xs : List Char) (x : Char) (ys : List Char) → Begins part p (xs ++ x ∷ ys) → EndsBehind lines part xs Closes → x.c ≡ 41
+  closes_at part p xs x ys (inl f) h = elim (text_mark texts_by_definition lines macros _ xs Closes (subst (λ q. EndsBehind lines q xs Closes) f h)) [ ]
+  closes_at part p xs x ys (inr b) h = closes b.0 b.1 xs x ys (subst (λ q. EndsBehind lines q xs Closes) b.2 h)
+
+  next_begins : (part : PartAhead) (p : Place) (cs : List ℕ) (xs : List Char) (x : Char) (ys : List Char) (mark : Mark) (s : Split xs x ys p cs) → Short p cs
+      → Begins part p (xs ++ x ∷ ys) → EndsBehind lines part xs mark
+      → Begins (part_following texts_by_definition lines macros mark x ys) (next_place (place_past p s.prefix) s.c) ys
+  next_begins part p cs xs x ys Opens s short b h = inr (0, x.place, refl)
+  next_begins part p cs xs x ys (Next line opened) s short b h = inr (line, opened, refl)
+  next_begins part p cs xs x ys Closes s short b h =
+      let at = ap (λ (y : Char). y.place) s.here in
+      let c : s.c ≡ 41 = sym (ap (λ (y : Char). y.c) s.here) ∙ closes_at part p xs x ys b h in
+      inl (ap (λ q. text_from texts_by_definition q ys)
+      (ap behind_mark at ∙ behind_is (place_past p s.prefix) s.c s.rest c (short_past p s.prefix (s.c ∷ s.rest) (subst (Short p) s.all short))))
+
+  both_lie : (p q r e : Place) (fs gs : List Finding) → IsUpTo p r → IsBefore q r → IsUpTo r e → Lie p q fs → LieLast r e gs → LieLast p e (fs ++ gs)
+  both_lie p q r e fs gs u l m f g = record {
+    order = order_append fs gs q r f.order f.up_to l g.order g.from;
+    from = from_append p fs gs f.from (from_earlier p r gs u g.from);
+    before = before_append (no_notes e) fs gs (all_before q (no_notes e) fs f.up_to (before_then q r e l m)) g.before;
+  }
+
+  -- ---- all parts
+
+  pub pieces_lie : (pieces : List CutPart) (last : List Char) (part : PartAhead) (p : Place) (cs : List ℕ) → whole pieces last ≡ placed_characters_from p cs → Short p cs
+      → Begins part p (whole pieces last) → Cuts texts_by_definition lines macros part pieces last
+      → LieLast p (place_past p cs) (found (concat_of (events_of_cutting texts_by_definition lines macros part pieces last)))
+  pieces_lie [] last part p cs e short b h = last_lies part p cs last e b
+  pieces_lie (q ∷ pieces) last part p cs e short b h =
+      let s = split q.characters q.end (whole pieces last) p cs e in
+      let r = place_past p s.prefix in
+      let next = next_place (place_past p s.prefix) s.c in
+      let f = through_lies part p cs q.characters q.end (whole pieces last) s e b in
+      let g = pieces_lie pieces last (part_following texts_by_definition lines macros q.mark q.end (whole pieces last)) (next_place (place_past p s.prefix) s.c) s.rest s.behind
+      (short_next (place_past p s.prefix) s.c s.rest (short_past p s.prefix (s.c ∷ s.rest) (subst (Short p) s.all short)))
+      (next_begins part p cs q.characters q.end (whole pieces last) q.mark s short b h.0) h.1 in
+      let end : place_past (next_place (place_past p s.prefix) s.c) s.rest ≡ place_past p cs = sym (past_append p s.prefix (s.c ∷ s.rest)) ∙ ap (place_past p) (sym s.all) in
+      let l = next_behind (place_past p s.prefix) s.c in
+      subst (LieLast p (place_past p cs))
+      (sym (ap found (joined_append (events_through part q.characters) (events_of_cutting texts_by_definition lines macros (part_following texts_by_definition lines macros q.mark q.end (whole pieces last)) pieces last))
+      ∙ found_append (concat_of (events_through part q.characters)) (concat_of (events_of_cutting texts_by_definition lines macros (part_following texts_by_definition lines macros q.mark q.end (whole pieces last)) pieces last))))
+      (subst (λ o. LieLast p o (found (concat_of (events_through part q.characters)) ++ found (concat_of (events_of_cutting texts_by_definition lines macros (part_following texts_by_definition lines macros q.mark q.end (whole pieces last)) pieces last)))) end
+      (both_lie p (place_past p s.prefix) (next_place (place_past p s.prefix) s.c) (place_past (next_place (place_past p s.prefix) s.c) s.rest) _ _
+      (up_to_then p (place_past p s.prefix) (next_place (place_past p s.prefix) s.c) (past_up_to p s.prefix) (before_up_to (place_past p s.prefix) (next_place (place_past p s.prefix) s.c) l)) l
+      (past_up_to (next_place (place_past p s.prefix) s.c) s.rest) f g))

@@ -1,0 +1,268 @@
+-- What is found in the parts of a body, each through the character that ends it.
+use Rattle.std.proofs.Common.{◌≡◌, ℕ, suc, ◌+◌, ◌==◌, nat_lt, List, [], ◌∷◌, ◌++◌, Bool, true, false, if◌then◌else◌, refl, sym, ap, subst, ◌∙◌, append_assoc, append-nil, length, length-append, take, drop, map, arith, inl, inr, ◌⊎◌, take-append-drop}
+use Rattle.std.proofs.Math.Seq.{take-length}
+use Rattle.gabc_places.specs.declared.place.Place.{Place}
+use Rattle.gabc_places.specs.declared.place.Char.{Char}
+use Rattle.gabc_places.specs.declared.code.Finding.{Finding}
+use Rattle.gabc_places.specs.Findings.{AreInOrder, LieBetween}
+use Rattle.gabc_places.specs.StageLaw.{concat_of}
+use Rattle.gabc_places.specs.Place.{next_place, place_past, placed_characters_from}
+use Rattle.gabc_text.specs.declared.stage.TextEvent.{TextEvent}
+use Rattle.gabc_text.specs.declared.stage.TextEvent.TheVariants as text
+use Rattle.gabc_text.specs.Events.{codes_of, events_by_point}
+use Rattle.gabc_text.specs.BuiltText.{found_in}
+use Rattle.gabc_notes.specs.declared.stage.NoteEvent.{NoteEvent}
+use Rattle.gabc_notes.specs.declared.stage.NoteEvent.TheVariants as note
+use Rattle.gabc_notes.specs.SnippetRead.{findings_of as notes_found}
+use Rattle.gabc_notes.specs.Events as notes
+use Rattle.gabc_nabc.specs.Events as nabc
+use Rattle.gabc_score.specs.declared.events.BodyEvent.{BodyEvent}
+use Rattle.gabc_score.specs.declared.events.BodyEvent.TheVariants as event
+use Rattle.gabc_score.specs.Events.{InText, InNotes, note_event, texts_by_definition, text_from, snippet_from}
+use Rattle.gabc_score.specs.Units.{events_through}
+use Rattle.gabc_score.specs.Body.{events_onto, findings_with, findings_of}
+use Rattle.gabc_score.proofs.order.FindingsOneAfterAnother.{AllFrom, AllUpTo, AllBefore, AllBelow, lie_from, lie_up_to, order_prefix, below_prefix, below_before, all_before, no_notes, next_behind, IsBefore, past_append}
+
+-- ---- what was found, in the order in which it was emitted
+
+abbrev pub found_with : BodyEvent → List Finding
+found_with (event.Text (text.Found f)) = f ∷ []
+found_with (event.Notes line (note.Found f)) = f ∷ []
+found_with _ = []
+
+abbrev pub found : List BodyEvent → List Finding
+found [] = []
+found (t ∷ ts) = found_with t ++ found ts
+
+pub found_append : (ts us : List BodyEvent) → found (ts ++ us) ≡ found ts ++ found us
+found_append [] us = refl
+found_append (t ∷ ts) us = ap (λ (fs : List Finding). found_with t ++ fs) (found_append ts us) ∙ sym (append_assoc (found_with t) (found ts) (found us))
+
+one_found : (fs : List Finding) (t : BodyEvent) → findings_with fs t ≡ fs ++ found_with t
+one_found fs (event.Text (text.Kept c)) = sym (append-nil fs)
+one_found fs (event.Text (text.Part p)) = sym (append-nil fs)
+one_found fs (event.Text (text.Found f)) = refl
+one_found fs (event.Text (text.Ended e)) = sym (append-nil fs)
+one_found fs (event.Notes line (note.Kept c)) = sym (append-nil fs)
+one_found fs (event.Notes line (note.Found f)) = refl
+one_found fs (event.Notes line (note.Ended e n)) = sym (append-nil fs)
+
+pub found_onto : (now before : List BodyEvent) → findings_of (events_onto now before) ≡ findings_of before ++ found now
+found_onto [] before = sym (append-nil (findings_of before))
+found_onto (t ∷ now) before =
+    found_onto now (t ∷ before) ∙ ap (λ (fs : List Finding). fs ++ found now) (one_found (findings_of before) t)
+    ∙ append_assoc (findings_of before) (found_with t) (found now)
+
+-- ---- of a text
+
+text_emitted : (emitted : List TextEvent) → found (map (λ (o : TextEvent). event.Text o) emitted) ≡ found_in emitted
+text_emitted [] = refl
+text_emitted (text.Found f ∷ emitted) = ap (λ (fs : List Finding). f ∷ fs) (text_emitted emitted)
+text_emitted (text.Kept c ∷ emitted) = text_emitted emitted
+text_emitted (text.Part p ∷ emitted) = text_emitted emitted
+text_emitted (text.Ended e ∷ emitted) = text_emitted emitted
+
+pub text_found_append : (xs ys : List TextEvent) → found_in (xs ++ ys) ≡ found_in xs ++ found_in ys
+text_found_append [] ys = refl
+text_found_append (text.Found f ∷ xs) ys = ap (λ (fs : List Finding). f ∷ fs) (text_found_append xs ys)
+text_found_append (text.Kept c ∷ xs) ys = text_found_append xs ys
+text_found_append (text.Part p ∷ xs) ys = text_found_append xs ys
+text_found_append (text.Ended e ∷ xs) ys = text_found_append xs ys
+
+-- the lists of the characters, and that of the point behind them
+pub text_through : (lists : List (List TextEvent)) (xs : List Char) → found (concat_of (events_through (InText lists) xs)) ≡ found_in (concat_of (take (suc (length xs)) lists))
+text_through [] [] = refl
+text_through (l ∷ lists) [] =
+    ap found (append-nil (map (λ (o : TextEvent). event.Text o) l)) ∙ text_emitted l ∙ ap found_in (sym (append-nil l))
+text_through [] (x ∷ xs) = text_through [] xs
+text_through (l ∷ lists) (x ∷ xs) =
+    found_append (map (λ (o : TextEvent). event.Text o) l) (concat_of (events_through (InText lists) xs))
+    ∙ ap (λ (fs : List Finding). fs ++ found (concat_of (events_through (InText lists) xs))) (text_emitted l)
+    ∙ ap (λ (fs : List Finding). found_in l ++ fs) (text_through lists xs)
+    ∙ sym (text_found_append l (concat_of (take (suc (length xs)) lists)))
+
+-- ---- of a snippet
+
+pub notes_append : (xs ys : List NoteEvent) → notes_found (xs ++ ys) ≡ notes_found xs ++ notes_found ys
+notes_append [] ys = refl
+notes_append (note.Found f ∷ xs) ys = ap (λ (fs : List Finding). f ∷ fs) (notes_append xs ys)
+notes_append (note.Kept c ∷ xs) ys = notes_append xs ys
+notes_append (note.Ended e n ∷ xs) ys = notes_append xs ys
+
+snippet_emitted : (line : ℕ) (opened : Place) (emitted : List NoteEvent) → found (map (note_event line opened) emitted) ≡ notes_found emitted
+snippet_emitted line opened [] = refl
+snippet_emitted line opened (note.Found f ∷ emitted) = ap (λ (fs : List Finding). f ∷ fs) (snippet_emitted line opened emitted)
+snippet_emitted line opened (note.Kept c ∷ emitted) = snippet_emitted line opened emitted
+snippet_emitted line opened (note.Ended e n ∷ emitted) = snippet_emitted line opened emitted
+
+pub snippet_through : (line : ℕ) (opened : Place) (lists : List (List NoteEvent)) (xs : List Char)
+    → found (concat_of (events_through (InNotes line opened lists) xs)) ≡ notes_found (concat_of (take (suc (length xs)) lists))
+snippet_through line opened [] [] = refl
+snippet_through line opened (l ∷ lists) [] =
+    ap found (append-nil (map (note_event line opened) l)) ∙ snippet_emitted line opened l ∙ ap notes_found (sym (append-nil l))
+snippet_through line opened [] (x ∷ xs) = snippet_through line opened [] xs
+snippet_through line opened (l ∷ lists) (x ∷ xs) =
+    found_append (map (note_event line opened) l) (concat_of (events_through (InNotes line opened lists) xs))
+    ∙ ap (λ (fs : List Finding). fs ++ found (concat_of (events_through (InNotes line opened lists) xs))) (snippet_emitted line opened l)
+    ∙ ap (λ (fs : List Finding). notes_found l ++ fs) (snippet_through line opened lists xs)
+    ∙ sym (notes_append l (concat_of (take (suc (length xs)) lists)))
+
+-- ---- prefixes
+
+-- a text is empty, or has a last character
+pub last_or_none : (cs : List ℕ) → (cs ≡ []) ⊎ ((prefix : List ℕ) × (c : ℕ) × (cs ≡ prefix ++ c ∷ []))
+last_or_none [] = inl refl
+last_or_none (c ∷ cs) = elim (last_or_none cs) [
+  | inl e ↦ inr ([], c, ap (λ ds. c ∷ ds) e)
+  | inr h ↦ inr (c ∷ h.0, h.1, ap (λ ds. c ∷ ds) h.2)
+]
+
+pub joined_append : {X : Type 0} (xs ys : List (List X)) → concat_of (xs ++ ys) ≡ concat_of xs ++ concat_of ys
+joined_append [] ys = refl
+joined_append (x ∷ xs) ys = ap (λ zs. x ++ zs) (joined_append xs ys) ∙ sym (append_assoc x (concat_of xs) (concat_of ys))
+
+joined_split : {X : Type 0} (n : ℕ) (lists : List (List X)) → concat_of lists ≡ concat_of (take n lists) ++ concat_of (drop n lists)
+joined_split n lists = ap concat_of (sym (take-append-drop n lists)) ∙ joined_append (take n lists) (drop n lists)
+
+text_order : (n : ℕ) (lists : List (List TextEvent)) → AreInOrder (found_in (concat_of lists)) → AreInOrder (found_in (concat_of (take n lists)))
+text_order n lists h =
+    order_prefix (found_in (concat_of (take n lists))) (found_in (concat_of (drop n lists)))
+    (subst AreInOrder (ap found_in (joined_split n lists) ∙ text_found_append (concat_of (take n lists)) (concat_of (drop n lists))) h)
+
+text_below : (n : ℕ) (lists : List (List TextEvent)) → AllBelow (found_in (concat_of lists)) → AllBelow (found_in (concat_of (take n lists)))
+text_below n lists h =
+    below_prefix (found_in (concat_of (take n lists))) (found_in (concat_of (drop n lists)))
+    (subst AllBelow (ap found_in (joined_split n lists) ∙ text_found_append (concat_of (take n lists)) (concat_of (drop n lists))) h)
+
+notes_order : (n : ℕ) (lists : List (List NoteEvent)) → AreInOrder (notes_found (concat_of lists)) → AreInOrder (notes_found (concat_of (take n lists)))
+notes_order n lists h =
+    order_prefix (notes_found (concat_of (take n lists))) (notes_found (concat_of (drop n lists)))
+    (subst AreInOrder (ap notes_found (joined_split n lists) ∙ notes_append (concat_of (take n lists)) (concat_of (drop n lists))) h)
+
+-- ---- what the layers below say of their findings
+
+-- of texts
+pub record TextsLie : Type 0 where
+  pub within : (at : Place) (prefix rest : List ℕ) → LieBetween at (place_past at prefix) (found_in (concat_of (take (length prefix + 1) (events_by_point at (prefix ++ rest)))))
+  pub order : (at : Place) (t : List ℕ) → AreInOrder (found_in (concat_of (events_by_point at t)))
+  pub below : (at : Place) (t : List ℕ) → AllBelow (found_in (concat_of (events_by_point at t)))
+
+-- of snippets that are read so
+pub record SnippetsLie (says : List Char → List (List NoteEvent)) : Type 0 where
+  pub within : (at : Place) (prefix rest : List ℕ) → LieBetween at (place_past at prefix) (notes_found (concat_of (take (length prefix + 1) (says (placed_characters_from at (prefix ++ rest))))))
+  pub order : (at : Place) (t : List ℕ) → AreInOrder (notes_found (concat_of (says (placed_characters_from at t))))
+  pub last : (xs : List Char) → notes_found (concat_of (says xs)) ≡ notes_found (concat_of (take (length xs) (says xs)))
+  pub each : (xs : List Char) → length (says xs) ≡ length xs + 1
+
+-- what is found through the end of a part whose first character stands at p, and behind which stands the place q
+pub record Lie (p q : Place) (fs : List Finding) : Type 0 where
+  pub order : AreInOrder fs
+  pub from : AllFrom p fs
+  pub up_to : AllUpTo q fs
+
+-- the same where the characters end: behind it a text without notes is found
+pub record LieLast (p q : Place) (fs : List Finding) : Type 0 where
+  pub order : AreInOrder fs
+  pub from : AllFrom p fs
+  pub before : AllBefore (no_notes q) fs
+
+pub codes_placed : (p : Place) (cs : List ℕ) → codes_of (placed_characters_from p cs) ≡ cs
+codes_placed p [] = refl
+codes_placed p (c ∷ cs) = ap (λ ds. c ∷ ds) (codes_placed (next_place p c) cs)
+
+pub length_placed : (p : Place) (cs : List ℕ) → length (placed_characters_from p cs) ≡ length cs
+length_placed p [] = refl
+length_placed p (c ∷ cs) = ap suc (length_placed (next_place p c) cs)
+
+through_is : (n m : ℕ) → n ≡ m → suc n ≡ m + 1
+through_is n m e = omega (arith, e)
+
+module _ (texts : TextsLie) where
+  pub text_lies : (p : Place) (prefix rest : List ℕ) (xs : List Char) → length xs ≡ length prefix
+      → Lie p (place_past p prefix) (found (concat_of (events_through (text_from texts_by_definition p (placed_characters_from p (prefix ++ rest))) xs)))
+  text_lies p prefix rest xs e =
+      let lists = events_by_point p (prefix ++ rest) in
+      subst (Lie p (place_past p prefix))
+      (sym (text_through (events_by_point p (codes_of (placed_characters_from p (prefix ++ rest)))) xs
+      ∙ ap (λ t. found_in (concat_of (take (suc (length xs)) (events_by_point p t)))) (codes_placed p (prefix ++ rest))
+      ∙ ap (λ n. found_in (concat_of (take n (events_by_point p (prefix ++ rest))))) (through_is (length xs) (length prefix) e)))
+      (record {
+        order = text_order (length prefix + 1) (events_by_point p (prefix ++ rest)) (texts.order p (prefix ++ rest));
+        from = lie_from p (place_past p prefix) _ (texts.within p prefix rest);
+        up_to = lie_up_to p (place_past p prefix) _ (texts.within p prefix rest);
+      })
+
+  pub text_lies_last : (p : Place) (cs : List ℕ) → LieLast p (place_past p cs) (found (concat_of (events_through (text_from texts_by_definition p (placed_characters_from p cs)) (placed_characters_from p cs))))
+  text_lies_last p cs =
+      let h = text_lies p cs [] (placed_characters_from p cs) (length_placed p cs) in
+      let k : Lie p (place_past p cs) (found (concat_of (events_through (text_from texts_by_definition p (placed_characters_from p cs)) (placed_characters_from p cs)))) = subst (λ ds. Lie p (place_past p cs) (found (concat_of (events_through (text_from texts_by_definition p (placed_characters_from p ds)) (placed_characters_from p cs))))) (append-nil cs) h in
+      record {
+        order = k.order;
+        from = k.from;
+        before = below_before (place_past p cs) _ k.up_to below;
+      }
+    where
+      below : AllBelow (found (concat_of (events_through (text_from texts_by_definition p (placed_characters_from p cs)) (placed_characters_from p cs))))
+      below =
+          subst AllBelow
+          (sym (text_through (events_by_point p (codes_of (placed_characters_from p cs))) (placed_characters_from p cs)
+          ∙ ap (λ t. found_in (concat_of (take (suc (length (placed_characters_from p cs))) (events_by_point p t)))) (codes_placed p cs)))
+          (text_below (suc (length (placed_characters_from p cs))) (events_by_point p cs) (texts.below p cs))
+
+-- the lists of a snippet of that line
+abbrev pub snippet_emits : ℕ → ℕ → ℕ → List Char → List (List NoteEvent)
+snippet_emits lines macros line xs = if line == 0 then notes.note_events (nat_lt 0 lines) macros xs else nabc.nabc_events xs
+
+module _ (lines macros : ℕ) (gabc : SnippetsLie (λ xs. notes.note_events (nat_lt 0 lines) macros xs)) (marks : SnippetsLie (λ xs. nabc.nabc_events xs)) where
+  pub snippets : (line : ℕ) → SnippetsLie (λ xs. snippet_emits lines macros line xs)
+  snippets line = by (line == 0)
+    where
+      by : (b : Bool) → SnippetsLie (λ xs. if b then notes.note_events (nat_lt 0 lines) macros xs else nabc.nabc_events xs)
+      by true = gabc
+      by false = marks
+
+  pub snippet_lies : (line : ℕ) (opened p : Place) (prefix rest : List ℕ) (xs : List Char) → length xs ≡ length prefix
+      → Lie p (place_past p prefix) (found (concat_of (events_through (snippet_from lines macros line opened (placed_characters_from p (prefix ++ rest))) xs)))
+  snippet_lies line opened p prefix rest xs e =
+      let s = snippets line in
+      subst (Lie p (place_past p prefix))
+      (sym (snippet_through line opened (snippet_emits lines macros line (placed_characters_from p (prefix ++ rest))) xs
+      ∙ ap (λ n. notes_found (concat_of (take n (snippet_emits lines macros line (placed_characters_from p (prefix ++ rest)))))) (through_is (length xs) (length prefix) e)))
+      (record {
+        order = notes_order (length prefix + 1) (snippet_emits lines macros line (placed_characters_from p (prefix ++ rest))) (s.order p (prefix ++ rest));
+        from = lie_from p (place_past p prefix) _ (s.within p prefix rest);
+        up_to = lie_up_to p (place_past p prefix) _ (s.within p prefix rest);
+      })
+
+  -- nothing is found where the characters of a snippet end
+  pub snippet_lies_last : (line : ℕ) (opened p : Place) (cs : List ℕ)
+      → LieLast p (place_past p cs) (found (concat_of (events_through (snippet_from lines macros line opened (placed_characters_from p cs)) (placed_characters_from p cs))))
+  snippet_lies_last line opened p cs =
+      let s = snippets line in
+      let says = snippet_emits lines macros line (placed_characters_from p cs) in
+      subst (LieLast p (place_past p cs))
+      (sym (snippet_through line opened says (placed_characters_from p cs)
+      ∙ ap (λ n. notes_found (concat_of (take n (snippet_emits lines macros line (placed_characters_from p cs))))) (through_is (length (placed_characters_from p cs)) (length (placed_characters_from p cs)) refl ∙ sym (s.each (placed_characters_from p cs)))
+      ∙ ap (λ ls. notes_found (concat_of ls)) (take-length says)
+      ∙ s.last (placed_characters_from p cs)
+      ∙ ap (λ n. notes_found (concat_of (take n (snippet_emits lines macros line (placed_characters_from p cs))))) (length_placed p cs)))
+      (by cs)
+    where
+      ends_with : (ds prefix : List ℕ) (c : ℕ) → ds ≡ prefix ++ c ∷ [] → LieLast p (place_past p ds) (notes_found (concat_of (take (length ds) (snippet_emits lines macros line (placed_characters_from p ds)))))
+      ends_with ds prefix c e =
+          let s = snippets line in
+          let says = snippet_emits lines macros line (placed_characters_from p (prefix ++ c ∷ [])) in
+          let n : length (prefix ++ c ∷ []) ≡ length prefix + 1 = length-append prefix (c ∷ []) in
+          let k : LieBetween p (place_past p prefix) (notes_found (concat_of (take (length prefix + 1) (snippet_emits lines macros line (placed_characters_from p (prefix ++ c ∷ [])))))) = s.within p prefix (c ∷ []) in
+          rw (e, n) (record {
+            order = notes_order (length prefix + 1) (snippet_emits lines macros line (placed_characters_from p (prefix ++ c ∷ []))) (s.order p (prefix ++ c ∷ []));
+            from = lie_from p (place_past p prefix) _ k;
+            before = all_before (place_past p prefix) (no_notes (place_past p (prefix ++ c ∷ []))) _ (lie_up_to p (place_past p prefix) _ k)
+                (subst (IsBefore (place_past p prefix)) (sym (past_append p prefix (c ∷ []))) (next_behind (place_past p prefix) c));
+          })
+
+      by : (ds : List ℕ) → LieLast p (place_past p ds) (notes_found (concat_of (take (length ds) (snippet_emits lines macros line (placed_characters_from p ds)))))
+      by ds = elim (last_or_none ds) [
+        | inl e ↦ rw e (record { order = tt; from = tt; before = tt })
+        | inr h ↦ ends_with ds h.0 h.1 h.2
+      ]

@@ -1,0 +1,161 @@
+-- Findings of several parts, one after the other, in order.
+use Rattle.std.proofs.Common.{◌≡◌, ℕ, ◌+◌, ◌<◌, ◌≤◌, ◌==◌, List, [], ◌∷◌, ◌++◌, Bool, true, false, cond, refl, arith, inl, inr, ◌⊎◌, eqb-true}
+use Rattle.std.proofs.lemmas.Bool.{eqb-false}
+use Rattle.gabc_places.specs.declared.place.Place.{Place}
+use Rattle.gabc_places.specs.declared.code.Finding.{Finding}
+use Rattle.gabc_places.specs.declared.code.Code.TheVariants.{W9}
+use Rattle.gabc_places.specs.Code.{rank_of}
+use Rattle.gabc_places.specs.Findings.{StandsBefore, StandBehind, AreInOrder, IsUpTo, LieBetween}
+use Rattle.gabc_places.specs.Place.{next_place, place_past}
+
+-- ---- places
+
+-- p stands before q
+abbrev pub IsBefore : Place → Place → Type 0
+IsBefore p q = (p.line < q.line) ⊎ ((p.line ≡ q.line) × (p.column < q.column))
+
+pub up_to_self : (p : Place) → IsUpTo p p
+up_to_self p = inr (refl, omega arith)
+
+pub before_up_to : (p q : Place) → IsBefore p q → IsUpTo p q
+before_up_to p q (inl l) = inl l
+before_up_to p q (inr h) = (let l = h.1 in inr (h.0, omega arith))
+
+pub up_to_then : (p q r : Place) → IsUpTo p q → IsUpTo q r → IsUpTo p r
+up_to_then p q r (inl a) (inl b) = inl (omega arith)
+up_to_then p q r (inl a) (inr b) = (let e = b.0 in inl (omega arith))
+up_to_then p q r (inr a) (inl b) = (let e = a.0 in inl (omega arith))
+up_to_then p q r (inr a) (inr b) = (let d = a.0 in let e = b.0 in let l = a.1 in let m = b.1 in inr (omega arith, omega arith))
+
+pub before_then : (p q r : Place) → IsBefore p q → IsUpTo q r → IsBefore p r
+before_then p q r (inl a) (inl b) = inl (omega arith)
+before_then p q r (inl a) (inr b) = (let e = b.0 in inl (omega arith))
+before_then p q r (inr a) (inl b) = (let e = a.0 in inl (omega arith))
+before_then p q r (inr a) (inr b) = (let d = a.0 in let e = b.0 in let l = a.1 in let m = b.1 in inr (omega arith, omega arith))
+
+pub then_before : (p q r : Place) → IsUpTo p q → IsBefore q r → IsBefore p r
+then_before p q r (inl a) (inl b) = inl (omega arith)
+then_before p q r (inl a) (inr b) = (let e = b.0 in inl (omega arith))
+then_before p q r (inr a) (inl b) = (let e = a.0 in inl (omega arith))
+then_before p q r (inr a) (inr b) = (let d = a.0 in let e = b.0 in let l = a.1 in let m = b.1 in inr (omega arith, omega arith))
+
+pub next_behind : (p : Place) (c : ℕ) → IsBefore p (next_place p c)
+next_behind p c = by (c == 10)
+  where
+    by : (b : Bool) → IsBefore p (cond b (record { line = p.line + 1; column = 1 }) (record { line = p.line; column = p.column + 1 }))
+    by true = inl (omega arith)
+    by false = inr (refl, omega arith)
+
+pub past_up_to : (p : Place) (cs : List ℕ) → IsUpTo p (place_past p cs)
+past_up_to p [] = up_to_self p
+past_up_to p (c ∷ cs) = up_to_then p (next_place p c) (place_past (next_place p c) cs) (before_up_to p (next_place p c) (next_behind p c)) (past_up_to (next_place p c) cs)
+
+pub past_append : (p : Place) (cs ds : List ℕ) → place_past p (cs ++ ds) ≡ place_past (place_past p cs) ds
+past_append p [] ds = refl
+past_append p (c ∷ cs) ds = past_append (next_place p c) cs ds
+
+-- ---- lists of findings
+
+abbrev pub AllFrom : Place → List Finding → Type 0
+AllFrom p [] = Unit {0}
+AllFrom p (f ∷ fs) = IsUpTo p f.place × AllFrom p fs
+
+abbrev pub AllUpTo : Place → List Finding → Type 0
+AllUpTo q [] = Unit {0}
+AllUpTo q (f ∷ fs) = IsUpTo f.place q × AllUpTo q fs
+
+-- each stands before this one
+abbrev pub AllBefore : Finding → List Finding → Type 0
+AllBefore g [] = Unit {0}
+AllBefore g (f ∷ fs) = StandsBefore f g × AllBefore g fs
+
+pub lie_from : (p q : Place) (fs : List Finding) → LieBetween p q fs → AllFrom p fs
+lie_from p q [] h = tt
+lie_from p q (f ∷ fs) h = (h.0.0, lie_from p q fs h.1)
+
+pub lie_up_to : (p q : Place) (fs : List Finding) → LieBetween p q fs → AllUpTo q fs
+lie_up_to p q [] h = tt
+lie_up_to p q (f ∷ fs) h = (h.0.1, lie_up_to p q fs h.1)
+
+pub from_earlier : (p q : Place) (fs : List Finding) → IsUpTo p q → AllFrom q fs → AllFrom p fs
+from_earlier p q [] l h = tt
+from_earlier p q (f ∷ fs) l h = (up_to_then p q f.place l h.0, from_earlier p q fs l h.1)
+
+pub from_append : (p : Place) (fs gs : List Finding) → AllFrom p fs → AllFrom p gs → AllFrom p (fs ++ gs)
+from_append p [] gs h k = k
+from_append p (f ∷ fs) gs h k = (h.0, from_append p fs gs h.1 k)
+
+pub before_append : (g : Finding) (fs gs : List Finding) → AllBefore g fs → AllBefore g gs → AllBefore g (fs ++ gs)
+before_append g [] gs h k = k
+before_append g (f ∷ fs) gs h k = (h.0, before_append g fs gs h.1 k)
+
+stands : (f g : Finding) → IsBefore f.place g.place → StandsBefore f g
+stands f g (inl h) = inl h
+stands f g (inr h) = inr (h.0, inl h.1)
+
+-- findings up to q stand before one behind q
+pub all_before : (q : Place) (g : Finding) (fs : List Finding) → AllUpTo q fs → IsBefore q g.place → AllBefore g fs
+all_before q g [] h l = tt
+all_before q g (f ∷ fs) h l = (stands f g (then_before f.place q g.place h.0 l), all_before q g fs h.1 l)
+
+behind_one : (f : Finding) (fs gs : List Finding) (q r : Place) → IsUpTo f.place q → AllUpTo q fs → IsBefore q r → StandBehind f fs → AreInOrder gs → AllFrom r gs → StandBehind f (fs ++ gs)
+behind_one f [] [] q r u h l s o k = tt
+behind_one f [] (g ∷ gs) q r u h l s o k = (stands f g (before_then f.place r g.place (then_before f.place q r u l) k.0), o)
+behind_one f (x ∷ fs) gs q r u h l s o k = (s.0, behind_one x fs gs q r h.0 h.1 l s.1 o k)
+
+-- findings in order up to q, and findings in order from a place behind q on
+pub order_append : (fs gs : List Finding) (q r : Place) → AreInOrder fs → AllUpTo q fs → IsBefore q r → AreInOrder gs → AllFrom r gs → AreInOrder (fs ++ gs)
+order_append [] gs q r s h l o k = o
+order_append (f ∷ fs) gs q r s h l o k = behind_one f fs gs q r h.0 h.1 l s o k
+
+one_more : (f : Finding) (fs : List Finding) (g : Finding) (gs : List Finding) → StandsBefore f g → AllBefore g fs → StandBehind f fs → AreInOrder (g ∷ gs) → StandBehind f (fs ++ g ∷ gs)
+one_more f [] g gs l h s o = (l, o)
+one_more f (x ∷ fs) g gs l h s o = (s.0, one_more x fs g gs h.0 h.1 s.1 o)
+
+-- findings in order, and such as all of them stand before
+pub order_then : (fs : List Finding) (g : Finding) (gs : List Finding) → AreInOrder fs → AllBefore g fs → AreInOrder (g ∷ gs) → AreInOrder (fs ++ g ∷ gs)
+order_then [] g gs s h o = o
+order_then (f ∷ fs) g gs s h o = one_more f fs g gs h.0 h.1 s o
+
+stand_prefix : (f : Finding) (fs gs : List Finding) → StandBehind f (fs ++ gs) → StandBehind f fs
+stand_prefix f [] gs h = tt
+stand_prefix f (x ∷ fs) gs h = (h.0, stand_prefix x fs gs h.1)
+
+-- a prefix of findings in order
+pub order_prefix : (fs gs : List Finding) → AreInOrder (fs ++ gs) → AreInOrder fs
+order_prefix [] gs h = tt
+order_prefix (f ∷ fs) gs h = stand_prefix f fs gs h
+
+pub from_prefix : (p : Place) (fs gs : List Finding) → AllFrom p (fs ++ gs) → AllFrom p fs
+from_prefix p [] gs h = tt
+from_prefix p (f ∷ fs) gs h = (h.0, from_prefix p fs gs h.1)
+
+-- ---- codes
+
+-- each has a code below that of W9
+abbrev pub AllBelow : List Finding → Type 0
+AllBelow [] = Unit {0}
+AllBelow (f ∷ fs) = (rank_of f.code < rank_of W9) × AllBelow fs
+
+pub below_prefix : (fs gs : List Finding) → AllBelow (fs ++ gs) → AllBelow fs
+below_prefix [] gs h = tt
+below_prefix (f ∷ fs) gs h = (h.0, below_prefix fs gs h.1)
+
+-- the finding of a text without notes, at this place
+abbrev pub no_notes : Place → Finding
+no_notes p = record { place = p; code = W9 }
+
+pub below_before : (p : Place) (fs : List Finding) → AllUpTo p fs → AllBelow fs → AllBefore (no_notes p) fs
+below_before p [] h b = tt
+below_before p (f ∷ fs) h b = (by h.0, below_before p fs h.1 b.1)
+  where
+    by : IsUpTo f.place p → StandsBefore f (no_notes p)
+    by (inl l) = inl l
+    by (inr l) = (let c = l.1 in at (f.place.column == p.column) refl l.0 c)
+      where
+        at : (b : Bool) → (f.place.column == p.column) ≡ b → f.place.line ≡ p.line → f.place.column ≤ p.column → StandsBefore f (no_notes p)
+        at true e l c = inr (l, inr (eqb-true f.place.column p.column e, b.0))
+        at false e l c = inr (l, inl (less (eqb-false f.place.column p.column e) c))
+          where
+            less : ¬ (f.place.column ≡ p.column) → f.place.column ≤ p.column → f.place.column < p.column
+            less n c = omega (arith, n)

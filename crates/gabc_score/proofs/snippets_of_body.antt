@@ -1,0 +1,4 @@
+pub mod GabcEmitsThroughEnd
+pub mod NabcEmitsThroughEnd
+pub mod SnippetEmitsThroughEnd
+pub mod SnippetsEndAlike

@@ -1,0 +1,267 @@
+-- Where a snippet ends, and what it tells through its end: for GABC and NABC alike.
+use Rattle.std.proofs.Common.{true, false, ◌&&◌, ◌≡◌, ◌⊎◌, inl, inr, ℕ, ◌+◌, ◌≤◌, Bool, false, ◌==◌, ◌||◌, if◌then◌else◌, List, [], ◌∷◌, ◌++◌, map, Option, Some, None, refl, sym, ap, ◌∙◌, arith, append_assoc, append-nil}
+use Rattle.std.specs.Char.{len_utf8}
+use Rattle.std.specs.List.{list_any}
+use Rattle.std.proofs.lemmas.List.{map-append}
+use Rattle.gabc_places.specs.StageLaw.{concat_of}
+use Rattle.gabc_places.specs.declared.place.Place.{Place}
+use Rattle.gabc_places.specs.declared.place.Char.{Char}
+use Rattle.gabc_text.specs.Events.{codes_of}
+use Rattle.gabc_notes.specs.declared.stage.NoteEnd.{NoteEnd}
+use Rattle.gabc_notes.specs.declared.stage.NoteEnd.TheVariants as note_end
+use Rattle.gabc_notes.specs.declared.stage.NoteEvent.{NoteEvent}
+use Rattle.gabc_notes.specs.declared.stage.NoteEvent.TheVariants as note
+use Rattle.gabc_notes.specs.SnippetRead.{kept_of, ends_of}
+use Rattle.gabc_score.specs.declared.events.BodyEvent.{BodyEvent}
+use Rattle.gabc_score.specs.declared.events.BodyEvent.TheVariants.{Notes}
+use Rattle.gabc_score.specs.Events.{PartAhead, InNotes, is_next, is_close, next_line, note_event}
+use Rattle.gabc_score.specs.Units.{Mark, Opens, Next, Closes, events_through, Endless, EndsBehind}
+use Rattle.gabc_score.proofs.texts_of_body.SeamsOfCharacters.{size, size_append, size_of_one}
+
+pub and_right : (a b : Bool) → (a && b) ≡ true → b ≡ true
+and_right true b h = h
+and_right false b h = cc
+
+-- ---- events without an end
+
+ends_append : (xs ys : List NoteEvent) → ends_of xs ≡ [] → ends_of (xs ++ ys) ≡ ends_of ys
+ends_append [] ys h = refl
+ends_append (note.Kept x ∷ xs) ys h = ends_append xs ys h
+ends_append (note.Found f ∷ xs) ys h = ends_append xs ys h
+ends_append (note.Ended how n ∷ xs) ys h = cc
+
+pub kept_append : (xs ys : List NoteEvent) → kept_of (xs ++ ys) ≡ kept_of xs ++ kept_of ys
+kept_append [] ys = refl
+kept_append (note.Kept x ∷ xs) ys = ap (λ ks. x.c ∷ ks) (kept_append xs ys)
+kept_append (note.Found f ∷ xs) ys = kept_append xs ys
+kept_append (note.Ended how n ∷ xs) ys = kept_append xs ys
+
+any_append : (test : NoteEvent → Bool) → ((x : Char) → test (note.Kept x) ≡ false) → ((f : _) → test (note.Found f) ≡ false)
+    → (xs ys : List NoteEvent) → ends_of xs ≡ [] → list_any test (xs ++ ys) ≡ list_any test ys
+any_append test k f [] ys h = refl
+any_append test k f (note.Kept x ∷ xs) ys h = ap (λ b. b || list_any test (xs ++ ys)) (k x) ∙ any_append test k f xs ys h
+any_append test k f (note.Found g ∷ xs) ys h = ap (λ b. b || list_any test (xs ++ ys)) (f g) ∙ any_append test k f xs ys h
+any_append test k f (note.Ended how n ∷ xs) ys h = cc
+
+pub few_one : (x : Char) (more : List ℕ) → more ≡ [] → size (x.c ∷ more) ≤ len_utf8 x.c
+few_one x more h = let one : size (x.c ∷ more) ≡ len_utf8 x.c = ap (λ ks. size (x.c ∷ ks)) h ∙ size_of_one x.c in omega arith
+
+-- ---- a grammar of snippets
+
+-- What is emitted of a character in a state: no end, and what is kept is kept behind what was kept before.
+pub record Goes {S : Type 0} (Running : S → Type 0) (kept : S → List ℕ) (next : S → Char → S) (s : S) (x : Char) (emitted : List NoteEvent) : Type 0 where
+  pub silent : ends_of emitted ≡ []
+  pub kept_is : kept (next s x) ≡ kept s ++ kept_of emitted
+  pub few : size (kept_of emitted) ≤ len_utf8 x.c
+  pub runs : Running (next s x)
+
+-- how this character ends a snippet: a `|` or a `)`
+abbrev pub IsMark : ℕ → NoteEnd → Type 0
+IsMark c note_end.Next = c ≡ 124
+IsMark c note_end.Close = c ≡ 41
+IsMark c (note_end.Cut place) = ⊥
+
+-- What is emitted of a character that ends the snippet: nothing kept, and the end with the bytes of the trimmed text.
+pub record Stops (count c : ℕ) (emitted : List NoteEvent) : Type 0 where
+  pub mids : List NoteEvent
+  pub how : NoteEnd
+  pub events_are : emitted ≡ mids ++ note.Ended how count ∷ []
+  pub silent : ends_of mids ≡ []
+  pub none : kept_of mids ≡ []
+  pub is_mark : IsMark c how
+
+-- what is emitted of the end of the input
+pub record Cuts (emitted : List NoteEvent) : Type 0 where
+  pub place : Place
+  pub count : ℕ
+  pub events_are : emitted ≡ note.Ended (note_end.Cut place) count ∷ []
+
+-- how snippets are emitted: state by state
+pub record Grammar (S : Type 0) : Type 1 where
+  pub Running : S → Type 0
+  pub said : S → Char → List NoteEvent
+  pub cut : S → List NoteEvent
+  pub next : S → Char → S
+  pub kept : S → List ℕ
+  pub count : List ℕ → ℕ
+  pub goes : (s : S) (x : Char) → Running s → Goes Running kept next s x (said s x) ⊎ Stops (count (kept s)) x.c (said s x)
+  pub cuts : (s : S) → Running s → Cuts (cut s)
+
+abbrev pub lists : {S : Type 0} → Grammar S → S → List Char → List (List NoteEvent)
+lists g s [] = g.cut s ∷ []
+lists g s (x ∷ xs) = g.said s x ∷ lists g (g.next s x) xs
+
+-- the state behind these characters
+abbrev pub run : {S : Type 0} → Grammar S → S → List Char → S
+run g s [] = s
+run g s (x ∷ xs) = run g (g.next s x) xs
+
+-- ---- the first mark
+
+-- how a snippet of a line ended that ended so
+abbrev pub Marks : ℕ → ℕ → Place → NoteEnd → Mark → Type 0
+Marks lines line opened how Opens = ⊥
+Marks lines line opened how (Next l o) = (how ≡ note_end.Next) × (l ≡ next_line lines line) × (o ≡ opened)
+Marks lines line opened how Closes = how ≡ note_end.Close
+
+-- what a snippet tells through its end: before the end what is kept, then the end
+pub record EndEmitted {S : Type 0} (g : Grammar S) (lines line : ℕ) (opened : Place) (s : S) (prefix : List Char) (end : Char) (mark : Mark) (events : List BodyEvent) : Type 0 where
+  pub mids : List NoteEvent
+  pub how : NoteEnd
+  pub told_are : events ≡ map (note_event line opened) mids ++ Notes line (note.Ended how (g.count (g.kept s ++ kept_of mids))) ∷ []
+  pub silent : ends_of mids ≡ []
+  pub few : size (kept_of mids) ≤ size (codes_of prefix)
+  pub marks : Marks lines line opened how mark
+  pub kept_is : g.kept s ++ kept_of mids ≡ g.kept (run g s prefix)
+  pub is_mark : IsMark end.c how
+
+-- what a snippet tells that the end of the input cuts
+pub record CutEmitted (line : ℕ) (opened : Place) (events : List BodyEvent) : Type 0 where
+  pub mids : List NoteEvent
+  pub place : Place
+  pub count : ℕ
+  pub told_are : events ≡ map (note_event line opened) mids ++ Notes line (note.Ended (note_end.Cut place) count) ∷ []
+  pub silent : ends_of mids ≡ []
+
+module _ (lines line : ℕ) (opened : Place) where
+  abbrev mark_by : Bool → Bool → Option Mark
+  mark_by next close = if next then Some (Next (next_line lines line) opened) else if close then Some Closes else None
+
+  abbrev mark_of : List NoteEvent → Option Mark
+  mark_of emitted = mark_by (list_any is_next emitted) (list_any is_close emitted)
+
+  no_mark : (emitted : List NoteEvent) → list_any is_next emitted ≡ false → list_any is_close emitted ≡ false → mark_of emitted ≡ None
+  no_mark emitted n c = ap (λ b. mark_by b (list_any is_close emitted)) n ∙ ap (mark_by false) c
+
+  silent_mark : (emitted : List NoteEvent) → ends_of emitted ≡ [] → mark_of emitted ≡ None
+  silent_mark [] h = refl
+  silent_mark (note.Kept x ∷ emitted) h = silent_mark emitted h
+  silent_mark (note.Found f ∷ emitted) h = silent_mark emitted h
+  silent_mark (note.Ended how n ∷ emitted) h = cc
+
+  mark_last : (mids : List NoteEvent) (how : NoteEnd) (n : ℕ) → ends_of mids ≡ [] → mark_of (mids ++ note.Ended how n ∷ []) ≡ mark_of (note.Ended how n ∷ [])
+  mark_last [] how n h = refl
+  mark_last (note.Kept x ∷ mids) how n h = mark_last mids how n h
+  mark_last (note.Found f ∷ mids) how n h = mark_last mids how n h
+  mark_last (note.Ended end m ∷ mids) how n h = cc
+
+  mark_emitted : (how : NoteEnd) (n c : ℕ) → IsMark c how → (mark : Mark) → mark_of (note.Ended how n ∷ []) ≡ Some mark → Marks lines line opened how mark
+  mark_emitted note_end.Next n c k Opens h = cc
+  mark_emitted note_end.Next n c k (Next l o) h = (refl, cc, cc)
+  mark_emitted note_end.Next n c k Closes h = cc
+  mark_emitted note_end.Close n c k Opens h = cc
+  mark_emitted note_end.Close n c k (Next l o) h = cc
+  mark_emitted note_end.Close n c k Closes h = refl
+  mark_emitted (note_end.Cut place) n c k mark h = absurd k
+
+  marked : (how : NoteEnd) (n c : ℕ) → IsMark c how → mark_of (note.Ended how n ∷ []) ≡ None → ⊥
+  marked note_end.Next n c k h = cc
+  marked note_end.Close n c k h = cc
+  marked (note_end.Cut place) n c k h = absurd k
+
+  mark_is_emitted : (how : NoteEnd) (n c : ℕ) → IsMark c how → note_event line opened (note.Ended how n) ≡ Notes line (note.Ended how n)
+  mark_is_emitted note_end.Next n c k = refl
+  mark_is_emitted note_end.Close n c k = refl
+  mark_is_emitted (note_end.Cut place) n c k = absurd k
+
+  module _ {S : Type 0} (g : Grammar S) where
+    abbrev part_at : S → List Char → PartAhead
+    part_at s xs = InNotes line opened (lists g s xs)
+
+    -- what a stopping character tells
+    stop_emitted : (count c : ℕ) (emitted : List NoteEvent) (st : Stops count c emitted) → map (note_event line opened) emitted ≡ map (note_event line opened) st.mids ++ Notes line (note.Ended st.how count) ∷ []
+    stop_emitted count c emitted st =
+        ap (map (note_event line opened)) st.events_are
+        ∙ map-append (note_event line opened) st.mids (note.Ended st.how count ∷ [])
+        ∙ ap (λ t. map (note_event line opened) st.mids ++ t ∷ []) (mark_is_emitted st.how count c st.is_mark)
+
+    -- what is kept behind a character is kept behind what it keeps
+    kept_on : (s : S) (x : Char) (mids : List NoteEvent) → g.kept (g.next s x) ≡ g.kept s ++ kept_of (g.said s x) → g.kept (g.next s x) ++ kept_of mids ≡ g.kept s ++ kept_of (g.said s x ++ mids)
+    kept_on s x mids h =
+        ap (λ ks. ks ++ kept_of mids) h ∙ append_assoc (g.kept s) (kept_of (g.said s x)) (kept_of mids)
+        ∙ ap (λ ks. g.kept s ++ ks) (sym (kept_append (g.said s x) mids))
+
+    events_on : (s : S) (x : Char) (mids : List NoteEvent) (later : List BodyEvent) (last : BodyEvent) → later ≡ map (note_event line opened) mids ++ last ∷ []
+        → map (note_event line opened) (g.said s x) ++ later ≡ map (note_event line opened) (g.said s x ++ mids) ++ last ∷ []
+    events_on s x mids later last h =
+        ap (λ ts. map (note_event line opened) (g.said s x) ++ ts) h
+        ∙ sym (append_assoc (map (note_event line opened) (g.said s x)) (map (note_event line opened) mids) (last ∷ []))
+        ∙ ap (λ ts. ts ++ last ∷ []) (sym (map-append (note_event line opened) (g.said s x) mids))
+
+    few_on : (s : S) (x : Char) (mids : List NoteEvent) (prefix : List Char) → size (kept_of (g.said s x)) ≤ len_utf8 x.c → size (kept_of mids) ≤ size (codes_of prefix)
+        → size (kept_of (g.said s x ++ mids)) ≤ size (codes_of (x ∷ prefix))
+    few_on s x mids prefix h k =
+        let all : size (kept_of (g.said s x ++ mids)) ≡ size (kept_of (g.said s x)) + size (kept_of mids) = ap size (kept_append (g.said s x) mids) ∙ size_append (kept_of (g.said s x)) (kept_of mids) in
+        let more : size (codes_of (x ∷ prefix)) ≡ len_utf8 x.c + size (codes_of prefix) = size_append (x.c ∷ []) (codes_of prefix) ∙ ap (λ n. n + size (codes_of prefix)) (size_of_one x.c) in
+        omega arith
+
+    few_none : (mids : List NoteEvent) → kept_of mids ≡ [] → size (kept_of mids) ≤ 0
+    few_none mids h = let none : size (kept_of mids) ≡ 0 = ap size h in omega arith
+
+    ended_here : (s : S) (end : Char) (rest : List Char) (mark : Mark) → mark_of (g.said s end) ≡ Some mark
+        → Goes g.Running g.kept g.next s end (g.said s end) ⊎ Stops (g.count (g.kept s)) end.c (g.said s end) → EndEmitted g lines line opened s [] end mark (concat_of (events_through (part_at s (end ∷ rest)) []))
+    ended_here s end rest mark h (inl go) = absurd (let e = silent_mark (g.said s end) go.silent in cc)
+    ended_here s end rest mark h (inr st) = record {
+      mids = st.mids;
+      how = st.how;
+      told_are = append-nil (map (note_event line opened) (g.said s end)) ∙ stop_emitted (g.count (g.kept s)) end.c (g.said s end) st
+          ∙ ap (λ ks. map (note_event line opened) st.mids ++ Notes line (note.Ended st.how (g.count ks)) ∷ []) (sym (append-nil (g.kept s)) ∙ ap (λ ks. g.kept s ++ ks) (sym st.none));
+      silent = st.silent;
+      few = few_none st.mids st.none;
+      kept_is = ap (λ ks. g.kept s ++ ks) st.none ∙ append-nil (g.kept s);
+      is_mark = st.is_mark;
+      marks = mark_emitted st.how (g.count (g.kept s)) end.c st.is_mark mark (sym (mark_last st.mids st.how (g.count (g.kept s)) st.silent) ∙ ap mark_of (sym st.events_are) ∙ h);
+    }
+
+    no_stop : (s : S) (x : Char) → mark_of (g.said s x) ≡ None → Stops (g.count (g.kept s)) x.c (g.said s x) → ⊥
+    no_stop s x h st = marked st.how (g.count (g.kept s)) x.c st.is_mark (sym (mark_last st.mids st.how (g.count (g.kept s)) st.silent) ∙ ap mark_of (sym st.events_are) ∙ h)
+
+    ended_on : (s : S) (x : Char) (prefix : List Char) (end : Char) (rest : List Char) (mark : Mark) → mark_of (g.said s x) ≡ None
+        → Goes g.Running g.kept g.next s x (g.said s x) ⊎ Stops (g.count (g.kept s)) x.c (g.said s x)
+        → (g.Running (g.next s x) → EndEmitted g lines line opened (g.next s x) prefix end mark (concat_of (events_through (part_at (g.next s x) (prefix ++ end ∷ rest)) prefix)))
+        → EndEmitted g lines line opened s (x ∷ prefix) end mark (concat_of (events_through (part_at s (x ∷ prefix ++ end ∷ rest)) (x ∷ prefix)))
+    ended_on s x prefix end rest mark h (inl go) later = let on = later go.runs in record {
+      mids = g.said s x ++ on.mids;
+      how = on.how;
+      told_are = events_on s x on.mids (concat_of (events_through (part_at (g.next s x) (prefix ++ end ∷ rest)) prefix)) (Notes line (note.Ended on.how (g.count (g.kept (g.next s x) ++ kept_of on.mids)))) on.told_are
+          ∙ ap (λ ks. map (note_event line opened) (g.said s x ++ on.mids) ++ Notes line (note.Ended on.how (g.count ks)) ∷ []) (kept_on s x on.mids go.kept_is);
+      silent = ends_append (g.said s x) on.mids go.silent ∙ on.silent;
+      few = few_on s x on.mids prefix go.few on.few;
+      kept_is = sym (kept_on s x on.mids go.kept_is) ∙ on.kept_is;
+      is_mark = on.is_mark;
+      marks = on.marks;
+    }
+    ended_on s x prefix end rest mark h (inr st) later = absurd (no_stop s x h st)
+
+    pub ended : (s : S) (prefix : List Char) (end : Char) (rest : List Char) (mark : Mark) → g.Running s → EndsBehind lines (part_at s (prefix ++ end ∷ rest)) prefix mark
+        → EndEmitted g lines line opened s prefix end mark (concat_of (events_through (part_at s (prefix ++ end ∷ rest)) prefix))
+    ended s [] end rest mark r h = ended_here s end rest mark h (g.goes s end r)
+    ended s (x ∷ prefix) end rest mark r h = ended_on s x prefix end rest mark h.0 (g.goes s x r) (λ k. ended (g.next s x) prefix end rest mark k h.1)
+
+    -- ---- no mark
+
+    cut_here : (s : S) → Cuts (g.cut s) → CutEmitted line opened (concat_of (events_through (part_at s []) []))
+    cut_here s c = record {
+      mids = [];
+      place = if c.place.line == 0 then opened else c.place;
+      count = c.count;
+      told_are = ap (λ emitted. map (note_event line opened) emitted ++ []) c.events_are;
+      silent = refl;
+    }
+
+    cut_on : (s : S) (x : Char) (last : List Char) → mark_of (g.said s x) ≡ None
+        → Goes g.Running g.kept g.next s x (g.said s x) ⊎ Stops (g.count (g.kept s)) x.c (g.said s x)
+        → (g.Running (g.next s x) → CutEmitted line opened (concat_of (events_through (part_at (g.next s x) last) last)))
+        → CutEmitted line opened (concat_of (events_through (part_at s (x ∷ last)) (x ∷ last)))
+    cut_on s x last h (inl go) later = let on = later go.runs in record {
+      mids = g.said s x ++ on.mids;
+      place = on.place;
+      count = on.count;
+      told_are = events_on s x on.mids (concat_of (events_through (part_at (g.next s x) last) last)) (Notes line (note.Ended (note_end.Cut on.place) on.count)) on.told_are;
+      silent = ends_append (g.said s x) on.mids go.silent ∙ on.silent;
+    }
+    cut_on s x last h (inr st) later = absurd (no_stop s x h st)
+
+    pub endless : (s : S) (last : List Char) → g.Running s → Endless lines (part_at s last) last → CutEmitted line opened (concat_of (events_through (part_at s last) last))
+    endless s [] r h = cut_here s (g.cuts s r)
+    endless s (x ∷ last) r h = cut_on s x last h.0 (g.goes s x r) (λ k. endless (g.next s x) last k h.1)

@@ -1,0 +1,7 @@
+pub mod BodyBehindHeads
+pub mod SeamsOfCharacters
+pub mod SlicesOfTexts
+pub mod StageAndDefinitionAgree
+pub mod TextEmitsThroughEnd
+pub mod TextEventsOfBody
+pub mod ViewStandsInLongerText

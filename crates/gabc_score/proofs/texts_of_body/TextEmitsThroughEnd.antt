@@ -1,0 +1,258 @@
+-- What a text tells through its end.
+use Rattle.std.proofs.Common.{◌≡◌, ℕ, suc, ◌+◌, ◌<◌, ◌≤◌, Bool, false, if◌then◌else◌, List, [], ◌∷◌, ◌++◌, length, drop, Option, Some, None, refl, sym, ap, subst, ◌∙◌, arith, append_assoc, append-nil, length-append}
+use Rattle.std.specs.List.{list_any}
+use lib.Utf8.{encodes}
+use Rattle.std.proofs.lemmas.List.{drop_at, map-append}
+use Rattle.std.proofs.lemmas.Grind.{flat_map-append}
+use Rattle.gabc_places.specs.StageLaw.{concat_of}
+use Rattle.gabc_places.specs.declared.place.Place.{Place}
+use Rattle.gabc_places.specs.declared.place.Char.{Char}
+use Rattle.gabc_text.specs.declared.stage.TextEnd.{TextEnd}
+use Rattle.gabc_text.specs.declared.stage.TextEnd.TheVariants as text_end
+use Rattle.gabc_text.specs.declared.stage.TextEvent.{TextEvent}
+use Rattle.gabc_text.specs.declared.stage.TextEvent.TheVariants as text
+use Rattle.gabc_text.specs.BuiltText.{BuiltText as Gathered, with_events, with_event, empty_text, text_built_at}
+use Rattle.gabc_text.specs.Ends.{ends_in, Leaves, EndsOnce}
+use Rattle.gabc_text.specs.Events.{codes_of, events_by_point, no_events_each}
+use Rattle.gabc_text.specs.View.{kept}
+use Rattle.gabc_text.specs.TextRead.{view_in}
+use Rattle.gabc_score.specs.declared.events.BodyEvent.{BodyEvent}
+use Rattle.gabc_score.specs.declared.events.BodyEvent.TheVariants.{Text}
+use Rattle.gabc_score.specs.Events.{InText, is_text_end, texts_by_definition}
+use Rattle.gabc_score.specs.Units.{Mark, Opens, events_through, Endless, EndsBehind}
+use Rattle.gabc_score.proofs.building.EventsOfSyllableParts.{text_emitted}
+
+-- ---- events without an end
+
+ends_apart : (xs ys : List TextEvent) → ends_in (xs ++ ys) ≡ [] → (ends_in xs ≡ []) × (ends_in ys ≡ [])
+ends_apart [] ys h = (refl, h)
+ends_apart (text.Kept x ∷ xs) ys h = ends_apart xs ys h
+ends_apart (text.Part p ∷ xs) ys h = ends_apart xs ys h
+ends_apart (text.Found f ∷ xs) ys h = ends_apart xs ys h
+ends_apart (text.Ended how ∷ xs) ys h = cc
+
+ends_append : (xs ys : List TextEvent) → ends_in xs ≡ [] → ends_in (xs ++ ys) ≡ ends_in ys
+ends_append [] ys h = refl
+ends_append (text.Kept x ∷ xs) ys h = ends_append xs ys h
+ends_append (text.Part p ∷ xs) ys h = ends_append xs ys h
+ends_append (text.Found f ∷ xs) ys h = ends_append xs ys h
+ends_append (text.Ended how ∷ xs) ys h = cc
+
+any_after : (xs ys : List TextEvent) → ends_in xs ≡ [] → list_any is_text_end (xs ++ ys) ≡ list_any is_text_end ys
+any_after [] ys h = refl
+any_after (text.Kept x ∷ xs) ys h = any_after xs ys h
+any_after (text.Part p ∷ xs) ys h = any_after xs ys h
+any_after (text.Found f ∷ xs) ys h = any_after xs ys h
+any_after (text.Ended how ∷ xs) ys h = cc
+
+none_ends : (xs : List TextEvent) → ends_in xs ≡ [] → list_any is_text_end xs ≡ false
+none_ends xs h = ap (list_any is_text_end) (sym (append-nil xs)) ∙ any_after xs [] h
+
+gathers_on : (g : Gathered) (xs ys : List TextEvent) → with_events g (xs ++ ys) ≡ with_events (with_events g xs) ys
+gathers_on g [] ys = refl
+gathers_on g (x ∷ xs) ys = gathers_on (with_event g x) xs ys
+
+-- ---- the first `(`
+
+-- no `(` ends the text
+abbrev pub IsOpenEnd : TextEnd → Type 0
+IsOpenEnd text_end.Notes = ⊥
+IsOpenEnd text_end.Finished = Unit {0}
+IsOpenEnd (text_end.Cut place) = Unit {0}
+
+module _ (lines : ℕ) where
+  abbrev mark_by : Bool → Option Mark
+  mark_by b = if b then Some Opens else None
+
+  nothing_ends : (rest : List ℕ) (xs : List Char) (mark : Mark) → EndsBehind lines (InText (no_events_each rest)) xs mark → ⊥
+  nothing_ends [] [] mark h = cc
+  nothing_ends (c ∷ rest) [] mark h = cc
+  nothing_ends [] (x ∷ xs) mark h = nothing_ends [] xs mark h.1
+  nothing_ends (c ∷ rest) (x ∷ xs) mark h = nothing_ends rest xs mark h.1
+
+  nothing_through : (rest : List ℕ) (xs : List Char) → concat_of (events_through (InText (no_events_each rest)) xs) ≡ []
+  nothing_through [] [] = refl
+  nothing_through (c ∷ rest) [] = refl
+  nothing_through [] (x ∷ xs) = nothing_through [] xs
+  nothing_through (c ∷ rest) (x ∷ xs) = nothing_through rest xs
+
+  abbrev all_lists : List (List TextEvent) → List TextEvent → TextEnd → List ℕ → List (List TextEvent)
+  all_lists before last how rest = before ++ (last ++ text.Ended how ∷ []) ∷ no_events_each rest
+
+  -- what is emitted up to the end, and the end
+  abbrev through : List (List TextEvent) → List TextEvent → TextEnd → List BodyEvent
+  through before last how = text_emitted (concat_of before ++ last) ++ Text (text.Ended how) ∷ []
+
+  last_through : (last : List TextEvent) (how : TextEnd) → text_emitted (last ++ text.Ended how ∷ []) ++ [] ≡ through [] last how
+  last_through last how = append-nil (text_emitted (last ++ text.Ended how ∷ [])) ∙ map-append (λ (o : TextEvent). Text o) last (text.Ended how ∷ [])
+
+  more_through : (b : List TextEvent) (before : List (List TextEvent)) (last : List TextEvent) (how : TextEnd) (later : List BodyEvent) → later ≡ through before last how
+      → text_emitted b ++ later ≡ through (b ∷ before) last how
+  more_through b before last how later h =
+      ap (λ ts. text_emitted b ++ ts) h
+      ∙ sym (append_assoc (text_emitted b) (text_emitted (concat_of before ++ last)) (Text (text.Ended how) ∷ []))
+      ∙ ap (λ ts. ts ++ Text (text.Ended how) ∷ []) (sym (map-append (λ (o : TextEvent). Text o) b (concat_of before ++ last)) ∙ ap text_emitted (sym (append_assoc b (concat_of before) last)))
+
+  last_mark : (how : TextEnd) (mark : Mark) → mark_by (list_any is_text_end (text.Ended how ∷ [])) ≡ Some mark → (how ≡ text_end.Notes) × (mark ≡ Opens)
+  last_mark text_end.Notes mark h = (refl, cc)
+  last_mark text_end.Finished mark h = cc
+  last_mark (text_end.Cut place) mark h = cc
+
+  no_last_mark : (how : TextEnd) → mark_by (list_any is_text_end (text.Ended how ∷ [])) ≡ None → IsOpenEnd how
+  no_last_mark text_end.Notes h = cc
+  no_last_mark text_end.Finished h = tt
+  no_last_mark (text_end.Cut place) h = tt
+
+  pub ends_through : (before : List (List TextEvent)) (last : List TextEvent) (how : TextEnd) (rest : List ℕ) (prefix : List Char) (mark : Mark)
+      → ends_in (concat_of before) ≡ [] → ends_in last ≡ [] → EndsBehind lines (InText (all_lists before last how rest)) prefix mark
+      → (concat_of (events_through (InText (all_lists before last how rest)) prefix) ≡ through before last how) × ((how ≡ text_end.Notes) × (mark ≡ Opens))
+  ends_through [] last how rest [] mark n l h = (last_through last how, last_mark how mark (ap mark_by (sym (any_after last (text.Ended how ∷ []) l)) ∙ h))
+  ends_through [] last how rest (x ∷ xs) mark n l h = absurd (nothing_ends rest xs mark h.1)
+  ends_through (b ∷ before) last how rest [] mark n l h = absurd (let e = ap mark_by (none_ends b (ends_apart b (concat_of before) n).0) in cc)
+  ends_through (b ∷ before) last how rest (x ∷ xs) mark n l h =
+      let on = ends_through before last how rest xs mark (ends_apart b (concat_of before) n).1 l h.1 in
+      (more_through b before last how (concat_of (events_through (InText (all_lists before last how rest)) xs)) on.0, on.1)
+
+  -- the end stands where the `(` stands
+  ends_at : (before : List (List TextEvent)) (last : List TextEvent) (how : TextEnd) (rest : List ℕ) (prefix : List Char) (mark : Mark)
+      → ends_in (concat_of before) ≡ [] → EndsBehind lines (InText (all_lists before last how rest)) prefix mark → length prefix ≡ length before
+  ends_at [] last how rest [] mark n h = refl
+  ends_at [] last how rest (x ∷ xs) mark n h = absurd (nothing_ends rest xs mark h.1)
+  ends_at (b ∷ before) last how rest [] mark n h = absurd (let e = ap mark_by (none_ends b (ends_apart b (concat_of before) n).0) in cc)
+  ends_at (b ∷ before) last how rest (x ∷ xs) mark n h = ap (λ k. suc k) (ends_at before last how rest xs mark (ends_apart b (concat_of before) n).1 h.1)
+
+  pub endless_through : (before : List (List TextEvent)) (last : List TextEvent) (how : TextEnd) (rest : List ℕ) (xs : List Char)
+      → ends_in last ≡ [] → length before ≤ length xs → Endless lines (InText (all_lists before last how rest)) xs
+      → (concat_of (events_through (InText (all_lists before last how rest)) xs) ≡ through before last how)
+  endless_through [] last how rest [] l few h = last_through last how
+  endless_through [] last how rest (x ∷ xs) l few h = ap (λ ts. text_emitted (last ++ text.Ended how ∷ []) ++ ts) (nothing_through rest xs) ∙ last_through last how
+  endless_through (b ∷ before) last how rest [] l few h = absurd (omega arith)
+  endless_through (b ∷ before) last how rest (x ∷ xs) l few h =
+      more_through b before last how (concat_of (events_through (InText (all_lists before last how rest)) xs)) (endless_through before last how rest xs l (omega arith) h.1)
+
+  pub endless_open : (before : List (List TextEvent)) (last : List TextEvent) (how : TextEnd) (rest : List ℕ) (xs : List Char)
+      → ends_in last ≡ [] → length before < length xs → Endless lines (InText (all_lists before last how rest)) xs → IsOpenEnd how
+  endless_open [] last how rest [] l few h = absurd (omega arith)
+  endless_open [] last how rest (x ∷ xs) l few h = no_last_mark how (ap mark_by (sym (any_after last (text.Ended how ∷ []) l)) ∙ h.0)
+  endless_open (b ∷ before) last how rest [] l few h = absurd (omega arith)
+  endless_open (b ∷ before) last how rest (x ∷ xs) l few h = endless_open before last how rest xs l (omega arith) h.1
+
+-- ---- a text
+
+nothing_joined : (rest : List ℕ) → concat_of (no_events_each rest) ≡ []
+nothing_joined [] = refl
+nothing_joined (c ∷ rest) = nothing_joined rest
+
+pub length_of_codes : (xs : List Char) → length (codes_of xs) ≡ length xs
+length_of_codes [] = refl
+length_of_codes (x ∷ xs) = ap (λ n. suc n) (length_of_codes xs)
+
+pub codes_append : (xs ys : List Char) → codes_of (xs ++ ys) ≡ codes_of xs ++ codes_of ys
+codes_append [] ys = refl
+codes_append (x ∷ xs) ys = ap (λ cs. x.c ∷ cs) (codes_append xs ys)
+
+-- what a text tells through its end: what is emitted before the end gathers to its kept text and its view
+pub record TextEmitted (t : List ℕ) (how : TextEnd) (events : List BodyEvent) : Type 0 where
+  pub mids : List TextEvent
+  pub told_are : events ≡ text_emitted mids ++ Text (text.Ended how) ∷ []
+  pub silent : ends_in mids ≡ []
+  pub kept_is : (with_events empty_text mids).kept ≡ encodes (kept t)
+  pub view_is : (with_events empty_text mids).view ≡ view_in t
+
+module _ (ends : (at : Place) (t : List ℕ) → EndsOnce at t) (tells : (at : Place) (t : List ℕ) → with_events empty_text (concat_of (events_by_point at t)) ≡ text_built_at at t) (lines : ℕ) (at : Place) where
+  joined_all : (before : List (List TextEvent)) (last : List TextEvent) (how : TextEnd) (rest : List ℕ) → concat_of (all_lists lines before last how rest) ≡ (concat_of before ++ last) ++ text.Ended how ∷ []
+  joined_all before last how rest =
+      flat_map-append (λ (xs : List TextEvent). xs) before ((last ++ text.Ended how ∷ []) ∷ no_events_each rest)
+      ∙ ap (λ ys. concat_of before ++ ((last ++ text.Ended how ∷ []) ++ ys)) (nothing_joined rest)
+      ∙ ap (λ ys. concat_of before ++ ys) (append-nil (last ++ text.Ended how ∷ []))
+      ∙ sym (append_assoc (concat_of before) last (text.Ended how ∷ []))
+
+  gathered : (t : List ℕ) → (let e = ends at t in with_events empty_text ((concat_of e.before ++ e.last) ++ text.Ended e.how ∷ []) ≡ text_built_at at t)
+  gathered t = let e = ends at t in
+      ap (with_events empty_text) (sym (joined_all e.before e.last e.how e.rest) ∙ ap concat_of (sym e.events_are)) ∙ tells at t
+
+  with_end : (mids : List TextEvent) (how : TextEnd) → with_events empty_text (mids ++ text.Ended how ∷ []) ≡ with_event (with_events empty_text mids) (text.Ended how)
+  with_end mids how = gathers_on empty_text mids (text.Ended how ∷ [])
+
+  text_emitted_by : (t : List ℕ) (events : List BodyEvent) → (let e = ends at t in events ≡ through lines e.before e.last e.how) → TextEmitted t (ends at t).how events
+  text_emitted_by t events h = let e = ends at t in record {
+    mids = concat_of e.before ++ e.last;
+    told_are = h;
+    silent = ends_append (concat_of e.before) e.last e.none_before ∙ e.none_in_last;
+    kept_is = ap (λ (g : Gathered). g.kept) (sym (with_end (concat_of e.before ++ e.last) e.how) ∙ gathered t);
+    view_is = ap (λ (g : Gathered). g.view) (sym (with_end (concat_of e.before ++ e.last) e.how) ∙ gathered t);
+  }
+
+  -- a text that ends at its `(`
+  pub text_ended : (prefix : List Char) (end : Char) (rest : List Char) (mark : Mark) → (let xs = prefix ++ end ∷ rest in
+      EndsBehind lines (InText (texts_by_definition at xs)) prefix mark → TextEmitted (codes_of xs) text_end.Notes (concat_of (events_through (InText (texts_by_definition at xs)) prefix)) × (mark ≡ Opens))
+  text_ended prefix end rest mark h =
+      let xs = prefix ++ end ∷ rest in
+      let e = ends at (codes_of xs) in
+      let through_is = ends_through lines e.before e.last e.how e.rest prefix mark e.none_before e.none_in_last (subst (λ ls. EndsBehind lines (InText ls) prefix mark) e.events_are h) in (
+        subst (λ how. TextEmitted (codes_of xs) how (concat_of (events_through (InText (texts_by_definition at xs)) prefix))) through_is.1.0
+            (text_emitted_by (codes_of xs) (concat_of (events_through (InText (texts_by_definition at xs)) prefix)) (ap (λ ls. concat_of (events_through (InText ls) prefix)) e.events_are ∙ through_is.0)),
+        through_is.1.1,
+      )
+
+  -- that character is a `(`
+  pub text_mark : (prefix : List Char) (end : Char) (rest : List Char) (mark : Mark) → EndsBehind lines (InText (texts_by_definition at (prefix ++ end ∷ rest))) prefix mark → end.c ≡ 40
+  text_mark prefix end rest mark h =
+      let xs = prefix ++ end ∷ rest in
+      let e = ends at (codes_of xs) in
+      let k : EndsBehind lines (InText (all_lists lines e.before e.last e.how e.rest)) prefix mark = subst (λ ls. EndsBehind lines (InText ls) prefix mark) e.events_are h in
+      let notes : e.how ≡ text_end.Notes = (ends_through lines e.before e.last e.how e.rest prefix mark e.none_before e.none_in_last k).1.0 in
+      let left : e.rest ≡ 40 ∷ drop 1 e.rest = subst (λ how. Leaves how e.rest) notes e.leaves in
+      let size : length (codes_of prefix) ≡ length e.prefix = length_of_codes prefix ∙ ends_at lines e.before e.last e.how e.rest prefix mark e.none_before k ∙ e.one_each in
+      let all : codes_of prefix ++ end.c ∷ codes_of rest ≡ e.prefix ++ e.rest = sym (codes_append prefix (end ∷ rest)) ∙ e.text_is in
+      let behind : end.c ∷ codes_of rest ≡ 40 ∷ drop 1 e.rest =
+      sym (drop_at (codes_of prefix) (end.c ∷ codes_of rest) (length e.prefix) size) ∙ ap (drop (length e.prefix)) all ∙ drop_at e.prefix e.rest (length e.prefix) refl ∙ left in
+      cc
+
+  lengths : (xs : List Char) → (let e = ends at (codes_of xs) in length xs ≡ length e.before + length e.rest)
+  lengths xs = let e = ends at (codes_of xs) in
+      sym (length_of_codes xs) ∙ ap length e.text_is ∙ length-append e.prefix e.rest ∙ ap (λ n. n + length e.rest) (sym e.one_each)
+
+  short : (xs : List Char) → length (ends at (codes_of xs)).before ≤ length xs
+  short xs = let e = lengths xs in omega arith
+
+  open_by : (xs : List Char) → Endless lines (InText (texts_by_definition at xs)) xs → (how : TextEnd) → (ends at (codes_of xs)).how ≡ how → IsOpenEnd how
+  open_by xs h text_end.Finished e = tt
+  open_by xs h (text_end.Cut place) e = tt
+  open_by xs h text_end.Notes e =
+      let s = ends at (codes_of xs) in
+      let all : length xs ≡ length s.before + length s.rest = lengths xs in
+      let left : Leaves text_end.Notes s.rest = subst (λ how. Leaves how s.rest) e s.leaves in
+      let more : length s.rest ≡ suc (length (drop 1 s.rest)) = ap length left in
+      subst IsOpenEnd e (endless_open lines s.before s.last s.how s.rest xs s.none_in_last (omega arith) (subst (λ ls. Endless lines (InText ls) xs) s.events_are h))
+
+  -- a text that the end of the input ends
+  pub text_endless : (xs : List Char) → Endless lines (InText (texts_by_definition at xs)) xs → (how : TextEnd) × IsOpenEnd how × TextEmitted (codes_of xs) how (concat_of (events_through (InText (texts_by_definition at xs)) xs))
+  text_endless xs h = let e = ends at (codes_of xs) in (
+    e.how,
+    open_by xs h e.how refl,
+    text_emitted_by (codes_of xs) (concat_of (events_through (InText (texts_by_definition at xs)) xs))
+        (ap (λ ls. concat_of (events_through (InText ls) xs)) e.events_are ∙ endless_through lines e.before e.last e.how e.rest xs e.none_in_last (short xs) (subst (λ ls. Endless lines (InText ls) xs) e.events_are h)),
+  )
+
+  -- what is emitted of a text through its end is what it gives
+  events_all : (t : List ℕ) → (let e = ends at t in through lines e.before e.last e.how ≡ text_emitted (concat_of (events_by_point at t)))
+  events_all t = let e = ends at t in
+      sym (map-append (λ (o : TextEvent). Text o) (concat_of e.before ++ e.last) (text.Ended e.how ∷ []))
+      ∙ ap text_emitted (sym (joined_all e.before e.last e.how e.rest) ∙ ap concat_of (sym e.events_are))
+
+  pub ended_tells : (prefix : List Char) (end : Char) (rest : List Char) (mark : Mark) → (let xs = prefix ++ end ∷ rest in
+      EndsBehind lines (InText (texts_by_definition at xs)) prefix mark → concat_of (events_through (InText (texts_by_definition at xs)) prefix) ≡ text_emitted (concat_of (events_by_point at (codes_of xs))))
+  ended_tells prefix end rest mark h =
+      let xs = prefix ++ end ∷ rest in
+      let e = ends at (codes_of xs) in
+      ap (λ ls. concat_of (events_through (InText ls) prefix)) e.events_are
+      ∙ (ends_through lines e.before e.last e.how e.rest prefix mark e.none_before e.none_in_last (subst (λ ls. EndsBehind lines (InText ls) prefix mark) e.events_are h)).0
+      ∙ events_all (codes_of xs)
+
+  pub endless_emits : (xs : List Char) → Endless lines (InText (texts_by_definition at xs)) xs → concat_of (events_through (InText (texts_by_definition at xs)) xs) ≡ text_emitted (concat_of (events_by_point at (codes_of xs)))
+  endless_emits xs h =
+      let e = ends at (codes_of xs) in
+      ap (λ ls. concat_of (events_through (InText ls) xs)) e.events_are
+      ∙ endless_through lines e.before e.last e.how e.rest xs e.none_in_last (short xs) (subst (λ ls. Endless lines (InText ls) xs) e.events_are h)
+      ∙ events_all (codes_of xs)

@@ -1,0 +1,2 @@
+pub mod BodyHasOneCutting
+pub mod UnitsEndAtMarks

@@ -1,0 +1,110 @@
+-- What the gatherer of syllables does with what is emitted.
+use Rattle.std.specs.Prelude.{ℕ, ◌+◌, ◌||◌, ◌^◌, ◌-◌, min, nat_lt, List, [], ◌∷◌, ◌++◌, Bool, false, cond, length, map, Option, Some, None, codes}
+use Rattle.gabc_places.specs.declared.place.Place.{Place}
+use Rattle.gabc_text.specs.declared.view.Piece.{Piece}
+use Rattle.gabc_text.specs.declared.stage.TextPart.{TextPart}
+use Rattle.gabc_text.specs.declared.stage.TextPart.TheVariants as part
+use Rattle.gabc_text.specs.declared.stage.TextEnd.{TextEnd}
+use Rattle.gabc_text.specs.declared.stage.TextEnd.TheVariants as text_end
+use Rattle.gabc_text.specs.declared.stage.TextEvent.{TextEvent}
+use Rattle.gabc_text.specs.declared.stage.TextEvent.TheVariants as text
+use Rattle.gabc_text.specs.BuiltText.{with_part}
+use Rattle.gabc_notes.specs.declared.stage.NoteEnd.{NoteEnd}
+use Rattle.gabc_notes.specs.declared.stage.NoteEnd.TheVariants as note_end
+use Rattle.gabc_notes.specs.declared.stage.NoteEvent.{NoteEvent}
+use Rattle.gabc_notes.specs.declared.stage.NoteEvent.TheVariants as note
+use Rattle.gabc_score.specs.declared.events.BodyEvent.{BodyEvent}
+use Rattle.gabc_score.specs.declared.events.BodyEvent.TheVariants as event
+use Rattle.gabc_score.specs.declared.gatherer.Gatherer.{Gatherer}
+use Rattle.gabc_score.specs.Syllable.{UnplacedSyllable, unplaced_of, slice, is_open_after}
+use Rattle.gabc_score.specs.Canonical.{canonical}
+use Rattle.gabc_score.specs.Body.{is_longer, is_none, empty_snippet, has_text}
+use Rattle.gabc_score.specs.machine.SyllableBuilder.{OpenSyllable, open_of, nothing_open, with_kept, past_text, past_snippet, made_from}
+
+-- What was gathered: `total` counts the canonical bytes of the headers and of the syllables that were made, and `over` tells
+-- whether one of those is longer than the limit.
+pub record Gathered : Type 0 where
+  pub limit : ℕ
+  pub builder : OpenSyllable
+  pub eu : Bool
+  pub nlba : Bool
+  pub made : List UnplacedSyllable
+  pub total : ℕ
+  pub over : Bool
+  pub cut : Option Place
+
+abbrev pub gathered_of : Gatherer → Gathered
+gathered_of g = record {
+  limit = g.limit;
+  builder = open_of g.builder;
+  eu = g.eu;
+  nlba = g.nlba;
+  made = map unplaced_of g.made.items;
+  total = g.total;
+  over = g.over;
+  cut = g.cut;
+}
+
+abbrev pub nothing_gathered : ℕ → ℕ → Gathered
+nothing_gathered limit head = record { limit = limit; builder = nothing_open; eu = false; nlba = false; made = []; total = head; over = false; cut = None }
+
+abbrev pub with_mark : Gathered → Piece → Gathered
+with_mark g p =
+    let spelled = slice p.span g.builder.kept in
+    record g {
+      eu = is_open_after (codes "<eu>") (codes "</eu>") g.eu p.kind spelled;
+      nlba = is_open_after (codes "<nlba>") (codes "</nlba>") g.nlba p.kind spelled;
+    }
+
+abbrev pub with_mark_of : Gathered → TextPart → Gathered
+with_mark_of g (part.Piece p) = with_mark g p
+with_mark_of g _ = g
+
+abbrev pub with_view_part : Gathered → TextPart → Gathered
+with_view_part g p = record g { builder = record g.builder { view = with_part g.builder.view p } }
+
+abbrev pub with_text_end : Gathered → TextEnd → Gathered
+with_text_end g text_end.Notes = record g { builder = past_text g.builder }
+with_text_end g text_end.Finished = g
+with_text_end g (text_end.Cut place) = record g { cut = Some place }
+
+abbrev pub with_text : Gathered → TextEvent → Gathered
+with_text g (text.Kept c) = record g { builder = with_kept g.builder c.c }
+with_text g (text.Part p) = with_view_part (with_mark_of g p) p
+with_text g (text.Found f) = g
+with_text g (text.Ended end) = with_text_end g end
+
+abbrev pub with_snippet : Gathered → ℕ → ℕ → ℕ → Gathered
+with_snippet g line count mark = record g { builder = past_snippet g.builder line count mark }
+
+abbrev pub with_count : Gathered → UnplacedSyllable → Gathered
+with_count g m =
+    let size = min (length (canonical (is_none g.made || m.text.word_start) m)) (2 ^ 64 - 1) in
+    record g { total = min (g.total + size) (2 ^ 64 - 1); over = g.over || (is_longer g.limit m.kept || nat_lt g.limit size) }
+
+abbrev pub with_made : Gathered → UnplacedSyllable → Gathered
+with_made g m = record (with_count g m) { builder = nothing_open; made = g.made ++ m ∷ [] }
+
+abbrev pub with_syllable : Gathered → Gathered
+with_syllable g = with_made g (made_from g.builder g.eu g.nlba)
+
+abbrev pub with_note_end : Gathered → ℕ → NoteEnd → ℕ → Gathered
+with_note_end g line note_end.Next count = with_snippet g line count 124
+with_note_end g line note_end.Close count = with_syllable (with_snippet g line count 41)
+with_note_end g line (note_end.Cut place) count = record g { cut = Some place }
+
+abbrev pub with_note : Gathered → ℕ → NoteEvent → Gathered
+with_note g line (note.Kept c) = record g { builder = with_kept g.builder c.c }
+with_note g line (note.Found f) = g
+with_note g line (note.Ended how count) = with_note_end g line how count
+
+abbrev pub with_event : Gathered → BodyEvent → Gathered
+with_event g (event.Text out) = with_text g out
+with_event g (event.Notes line out) = with_note g line out
+
+-- the notes of a last text are one empty snippet
+abbrev pub with_no_notes : Gathered → Gathered
+with_no_notes g = record g { builder = record g.builder { snippets = empty_snippet g.builder.kept ∷ [] } }
+
+abbrev pub with_last : Gathered → Gathered
+with_last g = cond (has_text g.builder.view) (with_syllable (with_no_notes g)) g

@@ -1,0 +1,14 @@
+//! What the characters of a score tell.
+
+use gabc_notes::NoteEvent;
+use gabc_text::TextEvent;
+
+/// What a character of a score tells.
+#[derive(Clone, Copy, Debug, PartialEq, Eq)]
+pub enum BodyEvent {
+    /// Of a text.
+    Text(TextEvent),
+    /// Of a snippet of notes. Line 0 is GABC, and the lines from 1 on are its NABC lines. The place of a cut is that of the
+    /// innermost bracket that is open.
+    Notes { line: u8, out: NoteEvent },
+}

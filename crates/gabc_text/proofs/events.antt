@@ -1,0 +1,3 @@
+pub mod EventsBuildText
+pub mod EventsByPointAreEvents
+pub mod TextEndsOnce

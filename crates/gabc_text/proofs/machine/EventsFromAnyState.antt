@@ -1,0 +1,426 @@
+-- A character more, and the end: from any state on, the machine gives what the definitions say of the tokens ahead.
+use Rattle.std.proofs.Common.{◌≡◌, ℕ, ◌==◌, ◌&&◌, List, [], ◌∷◌, ◌++◌, Bool, true, false, cond, refl, sym, ap, ◌∙◌, subst, append_assoc, append-nil, length, drop, Option, Some, None, inl, inr, ◌⊎◌}
+use Rattle.std.proofs.lemmas.Bool.{eqb-true}
+use Rattle.gabc_places.specs.declared.place.Place.{Place}
+use Rattle.gabc_text.specs.declared.text_facts.TextFacts.{TextFacts}
+use Rattle.gabc_text.specs.declared.token.TokenKind.{TokenKind}
+use Rattle.gabc_text.specs.declared.token.TokenKind.TheVariants as kind
+use Rattle.gabc_text.specs.declared.token.TagEffect.{TagEffect}
+use Rattle.gabc_text.specs.declared.token.TagEffect.TheVariants.{Other}
+use Rattle.gabc_text.specs.declared.token_state.TokenState.{TokenState}
+use Rattle.gabc_text.specs.declared.token_state.TokenState.TheVariants.{Plain, Dollar, Comment, Tag, Raw, Translation}
+use Rattle.gabc_text.specs.declared.token_state.Step.{Step}
+use Rattle.gabc_text.specs.declared.token_state.Step.TheVariants.{Stays, Ends}
+use Rattle.gabc_text.specs.declared.stage.Progress.{Progress}
+use Rattle.gabc_text.specs.declared.stage.TextStage.{TextStage}
+use Rattle.gabc_text.specs.declared.stage.TextEnd.{TextEnd}
+use Rattle.gabc_text.specs.declared.stage.TextEnd.TheVariants as ending
+use Rattle.gabc_text.specs.declared.stage.TextEvent.{TextEvent}
+use Rattle.gabc_text.specs.Token.{Token, spelling, tokens, is_special}
+use Rattle.gabc_text.specs.View.{effect, is_open_kind, is_translation}
+use Rattle.gabc_text.specs.Events.{is_lone, with_first, with_last, no_events_each}
+use Rattle.gabc_text.specs.machine.TextFacts.{early_at, facts_after}
+use Rattle.gabc_text.specs.machine.TokenState.{settled_kind, next_step, keep, kind_at_end, is_plain}
+use Rattle.gabc_text.specs.TextStage.{place_after_char}
+use Rattle.gabc_text.specs.machine.TextStage.{option_list, events_of_settling_by, settle_stage_by, settled_push_stage, events_of_settled_push, events_of_reading, read_stage, events_of_step, stage_after_step, stage_past_char, progress_past, char_event, finding_event, bytes_with, token_stage, events_of_token, events_of_end, end_stage, events_of_finish_by, end_by, progress_after, is_cut_end}
+use Rattle.gabc_text.specs.FactsPast.{past, bytes_past}
+use Rattle.gabc_text.specs.EventsLeft.{kept_by, lists_kept, early_events_by, last_by, token_events_by, lists_past, lists_last, owed_events_at, facts_at, progress_at}
+use Rattle.gabc_text.specs.ViewFacts.{but_end}
+use Rattle.gabc_text.proofs.machine.EventsStepByStep.{stepwise, stepwise_left}
+use Rattle.gabc_text.proofs.tokens.TokensByCharacter.{drop_past}
+use Rattle.gabc_text.proofs.machine.TokenStateByCharacter.{Holds, Settles, WentBy, goes, settles, ends, EndsAs}
+use Rattle.gabc_text.proofs.machine.KeptOfOpenToken.{kept_held, sort_settled, settled_uncut, ends_uncut}
+use Rattle.gabc_text.proofs.machine.TokensOneAfterAnother.{size, drop_more, rest_done, with_none, with_more, end_other}
+use Rattle.gabc_text.proofs.machine.FactsPastTokens.{past_append, bytes_past_append, facts_on, progress_on, past_token, behind}
+use Rattle.gabc_text.proofs.machine.TokenEventsAgree.{whole_same, end_same}
+use Rattle.gabc_text.proofs.machine.EventsOfOpenToken.{KeptGo, ListsGo, kept_goes, lists_goes, bytes_go, none_held, none_first, lists_held, each_held, early_is, in_translation, events_read, but_last_is, not_lone}
+use Rattle.gabc_text.proofs.machine.TokensPastTheFirst.{lists_from, first_token}
+
+-- what follows the tokens
+abbrev pub remaining : List ℕ → List ℕ
+remaining t = drop (size (tokens t)) t
+
+remaining_more : (k : Token) (t rest : List ℕ) → tokens t ≡ k ∷ tokens rest → t ≡ spelling k ++ rest → remaining t ≡ remaining rest
+remaining_more k t rest e f = rw (e, f) (drop_more (spelling k) rest (size (tokens rest)))
+
+-- what is left where the machine goes on with this stage at c
+abbrev LeftAt : TextStage → ℕ → List ℕ → List ℕ
+LeftAt s c t = cond s.done (c ∷ t) (stepwise_left s t)
+
+-- the last of some characters
+but_end_is : (held : List ℕ) (c : ℕ) → but_end (held ++ c ∷ []) ≡ held
+but_end_is [] c = refl
+but_end_is (x ∷ held) c = but_last_is x (held ++ c ∷ []) (x ∷ held) c refl
+
+module _ (read : List ℕ) (s : TextStage) where
+  -- the machine has read this more of the first token
+  abbrev pub progress_in : TokenState → List ℕ → Progress
+  progress_in mode more = record (s.progress) { next = past s.progress.next more; kept = bytes_past s.progress.kept (kept_held mode more) }
+
+  abbrev pub stage_in : TokenState → List ℕ → TextStage
+  stage_in mode more = record { mode = mode; facts = s.facts; progress = progress_in mode more; done = false }
+
+  abbrev pub emitted_in : TokenState → List ℕ → List (List TextEvent)
+  emitted_in mode more = lists_held read s.facts s.progress.place s.progress.next mode more
+
+  -- what is emitted of a text that begins with what was read
+  abbrev pub ahead : List ℕ → List (List TextEvent)
+  ahead t = lists_from read s [] (tokens t) (remaining t)
+
+  ahead_more : (k : Token) (t rest : List ℕ) → tokens t ≡ k ∷ tokens rest → t ≡ spelling k ++ rest → is_open_kind k.kind ≡ false
+      → ahead t ≡ lists_past read s [] k ++ with_first (owed_events_at read s (k ∷ [])) (lists_from [] (past_token read s k) [] (tokens rest) (remaining rest))
+  ahead_more k t rest e f u =
+      rw (e, f, drop_more (spelling k) rest (size (tokens rest))) (first_token read s k (tokens rest) (remaining rest) u)
+
+  -- ---- a token that ends before the next character, or at the end
+
+  -- nothing is given of the token but what is emitted of its characters, or it shows only by what follows
+  abbrev Quiet : Token → TokenKind → Type 0
+  Quiet k d = (is_lone k ≡ true) ⊎ ((progress : Progress) (last : ℕ) → events_of_token s.facts progress d Other last ≡ [])
+
+  -- a token of this kind is what was read of it
+  abbrev Closing : TokenState → List ℕ → Token → TokenKind → Type 0
+  Closing mode more k d = (kept_held mode more ≡ kept_by s.facts d more) × (in_translation mode ≡ is_translation d) × (each_held read s.facts s.progress.place s.progress.next mode more ≡ lists_kept s.facts s.progress.next d more) × Quiet k d
+
+  closing_letter : (held more : List ℕ) (k : Token) → held ≡ 36 ∷ [] → spelling k ≡ held → Closing Dollar more k kind.Letter
+  closing_letter held more k h f =
+      let g : k.more ≡ [] = cc in
+      let first : k.first ≡ 36 = cc in (refl, refl, refl, inl (rw (first, g) refl))
+
+  closing_comment : (more : List ℕ) (k : Token) → Closing Comment more k kind.Comment
+  closing_comment more k = (refl, refl, refl, inr (λ progress last. refl))
+
+  settle_closing : (mode : TokenState) (held more : List ℕ) (c : ℕ) (k : Token) → Holds mode held → settled_kind mode c ≡ Some k.kind → spelling k ≡ held → Closing mode more k k.kind
+  settle_closing Plain held more c k h e f = absurd (cc)
+  settle_closing Dollar held more c k h e f = by (is_special c) k.kind e
+    where
+      by : (b : Bool) (d : TokenKind) → cond b None (Some kind.Letter) ≡ Some d → Closing Dollar more k d
+      by true d g = absurd (cc)
+      by false d g = let same : kind.Letter ≡ d = cc in subst (Closing Dollar more k) same (closing_letter held more k h f)
+  settle_closing Comment held more c k h e f = by (c == 10) k.kind e
+    where
+      by : (b : Bool) (d : TokenKind) → cond b (Some kind.Comment) None ≡ Some d → Closing Comment more k d
+      by true d g = let same : kind.Comment ≡ d = cc in subst (Closing Comment more k) same (closing_comment more k)
+      by false d g = absurd (cc)
+  settle_closing (Tag name) held more c k h e f = absurd (cc)
+  settle_closing (Raw raw m) held more c k h e f = absurd (cc)
+  settle_closing Translation held more c k h e f = absurd (cc)
+
+  end_closing : (mode : TokenState) (held more : List ℕ) (k : Token) (d : TokenKind) → Holds mode held → kind_at_end mode ≡ Some d → spelling k ≡ held → Closing mode more k d
+  end_closing Plain held more k d h e f = absurd (cc)
+  end_closing Dollar held more k d h e f = let same : kind.Letter ≡ d = cc in subst (Closing Dollar more k) same (closing_letter held more k h f)
+  end_closing Comment held more k d h e f = let same : kind.Comment ≡ d = cc in subst (Closing Comment more k) same (closing_comment more k)
+  end_closing (Tag name) held more k d h e f = let same : kind.OpenTag ≡ d = cc in subst (Closing (Tag name) more k) same (refl, refl, refl, inr (λ progress last. refl))
+  end_closing (Raw raw m) held more k d h e f = let same : kind.OpenTag ≡ d = cc in subst (Closing (Raw raw m) more k) same (refl, refl, refl, inr (λ progress last. refl))
+  end_closing Translation held more k d h e f = let same : kind.OpenTranslation ≡ d = cc in subst (Closing Translation more k) same (refl, refl, refl, inr (λ progress last. refl))
+
+  record Closed (mode : TokenState) (more : List ℕ) (k : Token) : Type 0 where
+    lists : emitted_in mode more ≡ lists_past read s [] k
+    owes : events_of_token s.facts (progress_in mode more) k.kind Other s.progress.start ≡ owed_events_at read s (k ∷ [])
+    state : token_stage (stage_in mode more) k.kind Other (past s.progress.next more) ≡ past_token read s k
+
+  closed : (mode : TokenState) (more : List ℕ) (k : Token) → drop (length read) (spelling k) ≡ more → effect k ≡ Other → Closing mode more k k.kind → Closed mode more k
+  closed mode more k e so h = record {
+    lists = sym (ap (λ (x : List TextEvent). with_last x (with_first (early_events_by s.facts s.progress.place read k.kind) (lists_kept s.facts s.progress.next k.kind (drop (length read) (spelling k))))) (nothing_now (is_lone k) refl h.3)
+        ∙ with_none (with_first (early_events_by s.facts s.progress.place read k.kind) (lists_kept s.facts s.progress.next k.kind (drop (length read) (spelling k))))
+        ∙ rw (e, early_is s.facts s.progress.place read k.kind, ← h.1, ← h.2) refl);
+    owes = owes_it (is_lone k) refl h.3;
+    state = rw (e, so, h.0) refl;
+  }
+    where
+      whole_is : (last : ℕ) → events_of_token s.facts (progress_in mode more) k.kind Other last ≡ events_of_token s.facts (behind s.facts s.progress k.kind (drop (length read) (spelling k))) k.kind (effect k) last
+      whole_is last = rw (e, so, h.0) refl
+
+      nothing_now : (b : Bool) → is_lone k ≡ b → Quiet k k.kind → cond (is_lone k) [] (token_events_by s.facts s.progress k (drop (length read) (spelling k))) ≡ []
+      nothing_now true f q = ap (λ (b : Bool). cond b [] (token_events_by s.facts s.progress k (drop (length read) (spelling k)))) f
+      nothing_now false f (inl q) = absurd (cc)
+      nothing_now false f (inr q) =
+          ap (λ (b : Bool). cond b [] (token_events_by s.facts s.progress k (drop (length read) (spelling k)))) f
+          ∙ sym (whole_same s.facts s.progress k (drop (length read) (spelling k)))
+          ∙ ap (λ (x : TagEffect). events_of_token s.facts (behind s.facts s.progress k.kind (drop (length read) (spelling k))) k.kind x (last_by s.progress k (drop (length read) (spelling k)))) so
+          ∙ q (behind s.facts s.progress k.kind (drop (length read) (spelling k))) (last_by s.progress k (drop (length read) (spelling k)))
+
+      owed_is : (b : Bool) → is_lone k ≡ b → cond b (token_events_by s.facts s.progress k (drop (length read) (spelling k))) [] ≡ owed_events_at read s (k ∷ [])
+      owed_is b f = ap (λ (b : Bool). cond b (token_events_by s.facts s.progress k (drop (length read) (spelling k))) []) (sym f)
+
+      owes_it : (b : Bool) → is_lone k ≡ b → Quiet k k.kind → events_of_token s.facts (progress_in mode more) k.kind Other s.progress.start ≡ owed_events_at read s (k ∷ [])
+      owes_it true f q =
+          whole_is s.progress.start
+          ∙ ap (λ (b : Bool). events_of_token s.facts (behind s.facts s.progress k.kind (drop (length read) (spelling k))) k.kind (effect k) (cond b s.progress.start (bytes_past s.progress.kept (but_end (drop (length read) (spelling k)))))) (sym f)
+          ∙ whole_same s.facts s.progress k (drop (length read) (spelling k))
+          ∙ owed_is true f
+      owes_it false f (inl q) = absurd (cc)
+      owes_it false f (inr q) = q (progress_in mode more) s.progress.start ∙ owed_is false f
+
+  -- ---- the counts at a character that is read
+
+  next_goes : (more : List ℕ) (c : ℕ) → place_after_char (past s.progress.next more) c ≡ past s.progress.next (more ++ c ∷ [])
+  next_goes more c = sym (past_append s.progress.next more (c ∷ []))
+
+  bytes_goes : (mode : TokenState) (more : List ℕ) (c : ℕ) (kept : List ℕ) → kept_held mode more ++ option_list (keep s.facts mode c) ≡ kept
+      → bytes_with (bytes_past s.progress.kept (kept_held mode more)) (keep s.facts mode c) ≡ bytes_past s.progress.kept kept
+  bytes_goes mode more c kept e =
+      bytes_go (bytes_past s.progress.kept (kept_held mode more)) (keep s.facts mode c)
+      ∙ sym (bytes_past_append s.progress.kept (kept_held mode more) (option_list (keep s.facts mode c)))
+      ∙ ap (bytes_past s.progress.kept) e
+
+  -- ---- what is emitted from the character c on
+
+  abbrev From : TokenState → List ℕ → List ℕ → ℕ → List ℕ → List TextEvent → TextStage → Type 0
+  From mode more held c t events next = (emitted_in mode more ++ (events ∷ stepwise next t) ≡ ahead (held ++ c ∷ t)) × (LeftAt next c t ≡ remaining (held ++ c ∷ t))
+
+-- from any state on, for these characters
+abbrev pub Runs : List ℕ → Type 0
+Runs t = (read : List ℕ) (s : TextStage) (mode : TokenState) (more held : List ℕ) → held ≡ read ++ more → Holds mode held
+    → (emitted_in read s mode more ++ stepwise (stage_in read s mode more) t ≡ ahead read s (held ++ t)) × (stepwise_left (stage_in read s mode more) t ≡ remaining (held ++ t))
+
+-- one list more
+moved : (xs : List (List TextEvent)) (ys : List TextEvent) (rest : List (List TextEvent)) → xs ++ (ys ∷ rest) ≡ (xs ++ ys ∷ []) ++ rest
+moved xs ys rest = sym (append_assoc xs (ys ∷ []) rest)
+
+-- the part of a token that was to come
+to_come : (read more : List ℕ) (k : Token) → spelling k ≡ read ++ more → drop (length read) (spelling k) ≡ more
+to_come read more k e = ap (drop (length read)) e ∙ drop_past read more
+
+more_kept : (mode : TokenState) (c : ℕ) (d : TokenKind) (so : TagEffect) (more : List ℕ) → (mode ≡ Plain → more ≡ []) → next_step mode c ≡ Ends d so → kept_held mode more ≡ more
+more_kept Plain c d so more h e = sym (h refl)
+more_kept Comment c d so more h e = absurd (cc)
+more_kept _ c d so more h e = refl
+
+-- the `(` between tokens
+notes_end : (s : TextStage) (t : List ℕ) → From [] s Plain [] [] 40 t (events_of_end s.facts (progress_in [] s Plain []) ending.Notes) (end_stage (stage_in [] s Plain []))
+notes_end s t = (
+  ap (λ (x : List (List TextEvent)). events_of_end s.facts s.progress ending.Notes ∷ x) (rest_done (end_stage (stage_in [] s Plain [])) t refl)
+      ∙ ap (λ (x : List TextEvent). x ∷ ([] ∷ no_events_each t)) (end_same s.facts s.progress ending.Notes false refl),
+  refl,
+)
+
+module _ (c : ℕ) (t : List ℕ) (read : List ℕ) (s : TextStage) (mode : TokenState) (more held : List ℕ) (here : held ≡ read ++ more) (holds : Holds mode held) where
+  abbrev stage : TextStage
+  stage = stage_in read s mode more
+
+  abbrev Reading : Step → Type 0
+  Reading w = From read s mode more held c t
+      (option_list (finding_event s.progress.place (early_at s.facts mode c)) ++ (option_list (char_event (past s.progress.next more) (keep s.facts mode c)) ++ events_of_step (stage_past_char stage c) w (bytes_past s.progress.kept (kept_held mode more))))
+      (stage_after_step (stage_past_char stage c) w)
+
+  -- what is emitted with the character of a second translation, and of itself
+  abbrev events_early : List TextEvent
+  events_early = option_list (finding_event s.progress.place (early_at s.facts mode c))
+
+  abbrev events_kept : List TextEvent
+  events_kept = option_list (char_event (past s.progress.next more) (keep s.facts mode c))
+
+  in_read : Holds mode (read ++ more)
+  in_read = subst (Holds mode) here holds
+
+  plain_none : mode ≡ Plain → more ≡ []
+  plain_none e = (none_held mode read more e in_read).1
+
+  events_next : ListsGo read s.facts s.progress.place s.progress.next (emitted_in read s mode more ++ events_read read s.facts s.progress.place s.progress.next mode more c ∷ []) more c (next_step mode c)
+  events_next = lists_goes read s.facts s.progress.place s.progress.next mode more c in_read
+
+  kept_next : KeptGo s.facts (kept_held mode more ++ option_list (keep s.facts mode c)) more c (next_step mode c)
+  kept_next = kept_goes s.facts mode more c plain_none
+
+  longer : held ++ c ∷ [] ≡ read ++ (more ++ c ∷ [])
+  longer = ap (λ (x : List ℕ). x ++ c ∷ []) here ∙ append_assoc read more (c ∷ [])
+
+  stays : (next : TokenState) → Runs t → next_step mode c ≡ Stays next → Holds next (held ++ c ∷ []) → Reading (Stays next)
+  stays next ih e h =
+      let kept : kept_held mode more ++ option_list (keep s.facts mode c) ≡ kept_held next (more ++ c ∷ []) =
+      subst (KeptGo s.facts (kept_held mode more ++ option_list (keep s.facts mode c)) more c) e kept_next in
+      let lists : emitted_in read s mode more ++ events_read read s.facts s.progress.place s.progress.next mode more c ∷ [] ≡ emitted_in read s next (more ++ c ∷ []) =
+      subst (ListsGo read s.facts s.progress.place s.progress.next (emitted_in read s mode more ++ events_read read s.facts s.progress.place s.progress.next mode more c ∷ []) more c) e events_next in
+      let state : stage_after_step (stage_past_char stage c) (Stays next) ≡ stage_in read s next (more ++ c ∷ []) =
+      rw (next_goes read s more c, bytes_goes read s mode more c (kept_held next (more ++ c ∷ [])) kept) refl in
+      let run = ih read s next (more ++ c ∷ []) (held ++ c ∷ []) longer h in (
+        ap (λ (x : TextStage). emitted_in read s mode more ++ ((option_list (finding_event s.progress.place (early_at s.facts mode c)) ++ (option_list (char_event (past s.progress.next more) (keep s.facts mode c)) ++ [])) ∷ stepwise x t)) state
+            ∙ ap (λ (x : List TextEvent). emitted_in read s mode more ++ ((option_list (finding_event s.progress.place (early_at s.facts mode c)) ++ x) ∷ stepwise (stage_in read s next (more ++ c ∷ [])) t)) (append-nil (option_list (char_event (past s.progress.next more) (keep s.facts mode c))))
+            ∙ moved (emitted_in read s mode more) (events_read read s.facts s.progress.place s.progress.next mode more c) (stepwise (stage_in read s next (more ++ c ∷ [])) t)
+            ∙ ap (λ (x : List (List TextEvent)). x ++ stepwise (stage_in read s next (more ++ c ∷ [])) t) lists
+            ∙ run.0
+            ∙ ap (ahead read s) (append_assoc held (c ∷ []) t),
+        ap (λ (x : TextStage). LeftAt x c t) state ∙ run.1 ∙ ap remaining (append_assoc held (c ∷ []) t),
+      )
+
+  -- a token that the character ends
+  module _ (so : TagEffect) (k : Token) (e : next_step mode c ≡ Ends k.kind so) (sk : effect k ≡ so) (f : spelling k ≡ held ++ c ∷ []) where
+    come : drop (length read) (spelling k) ≡ more ++ c ∷ []
+    come = to_come read (more ++ c ∷ []) k (f ∙ longer)
+
+    lone : is_lone k ≡ false
+    lone = not_lone mode held c k so holds e f
+
+    spot_is : progress_past (progress_in read s mode more) c (keep s.facts mode c) ≡ behind s.facts s.progress k.kind (more ++ c ∷ [])
+    spot_is =
+        let kept : kept_held mode more ++ option_list (keep s.facts mode c) ≡ kept_by s.facts k.kind (more ++ c ∷ []) =
+        subst (KeptGo s.facts (kept_held mode more ++ option_list (keep s.facts mode c)) more c) e kept_next in
+        rw (next_goes read s more c, bytes_goes read s mode more c (kept_by s.facts k.kind (more ++ c ∷ [])) kept) refl
+
+    last_is : bytes_past s.progress.kept (kept_held mode more) ≡ last_by s.progress k (more ++ c ∷ [])
+    last_is = rw (lone, but_end_is more c) (ap (bytes_past s.progress.kept) (more_kept mode c k.kind so more plain_none e))
+
+    emitted_are : events_of_step (stage_past_char stage c) (Ends k.kind so) (bytes_past s.progress.kept (kept_held mode more)) ≡ token_events_by s.facts s.progress k (more ++ c ∷ [])
+    emitted_are =
+        ap (λ (x : Progress). events_of_token s.facts x k.kind so (bytes_past s.progress.kept (kept_held mode more))) spot_is
+        ∙ ap (events_of_token s.facts (behind s.facts s.progress k.kind (more ++ c ∷ [])) k.kind so) last_is
+        ∙ ap (λ (x : TagEffect). events_of_token s.facts (behind s.facts s.progress k.kind (more ++ c ∷ [])) k.kind x (last_by s.progress k (more ++ c ∷ []))) (sym sk)
+        ∙ whole_same s.facts s.progress k (more ++ c ∷ [])
+
+    state_is : stage_after_step (stage_past_char stage c) (Ends k.kind so) ≡ past_token read s k
+    state_is =
+        ap (λ (x : Progress). record { mode = Plain; facts = facts_after s.facts k.kind so; progress = progress_after s.facts x k.kind so x.next; done = false }) spot_is
+        ∙ ap (λ (x : TagEffect). record { mode = Plain; facts = facts_after s.facts k.kind x; progress = progress_after s.facts (behind s.facts s.progress k.kind (more ++ c ∷ [])) k.kind x (past s.progress.next (more ++ c ∷ [])); done = false }) (sym sk)
+        ∙ ap (λ (x : List ℕ). record { mode = Plain; facts = facts_after s.facts k.kind (effect k); progress = progress_after s.facts (behind s.facts s.progress k.kind x) k.kind (effect k) (past s.progress.next x); done = false }) (sym come)
+
+    lists_are : emitted_in read s mode more ++ (events_early ++ (events_kept ++ token_events_by s.facts s.progress k (more ++ c ∷ []))) ∷ [] ≡ lists_past read s [] k
+    lists_are =
+        let whole = token_events_by s.facts s.progress k (more ++ c ∷ []) in
+        let lists : emitted_in read s mode more ++ (events_early ++ events_kept) ∷ [] ≡ with_first (early_events_by s.facts s.progress.place read k.kind) (lists_kept s.facts s.progress.next k.kind (more ++ c ∷ [])) =
+        subst (ListsGo read s.facts s.progress.place s.progress.next (emitted_in read s mode more ++ (events_early ++ events_kept) ∷ []) more c) e events_next in
+        let now : cond (is_lone k) [] whole ≡ whole = ap (λ (b : Bool). cond b [] whole) lone in
+        ap (λ (x : List TextEvent). emitted_in read s mode more ++ x ∷ []) (sym (append_assoc events_early events_kept whole))
+        ∙ sym (with_more whole (emitted_in read s mode more) (events_early ++ events_kept))
+        ∙ ap (with_last whole) lists
+        ∙ ap (λ (x : List TextEvent). with_last x (with_first (early_events_by s.facts s.progress.place read k.kind) (lists_kept s.facts s.progress.next k.kind (more ++ c ∷ [])))) (sym now)
+        ∙ ap (λ (x : List ℕ). with_last (cond (is_lone k) [] (token_events_by s.facts s.progress k x)) (with_first (early_events_by s.facts s.progress.place read k.kind) (lists_kept s.facts s.progress.next k.kind x))) (sym come)
+
+    none_owed : owed_events_at read s (k ∷ []) ≡ []
+    none_owed = ap (λ (b : Bool). cond b (token_events_by s.facts s.progress k (drop (length read) (spelling k))) []) lone
+
+    ends_token : Runs t → ((u : List ℕ) → tokens (held ++ c ∷ u) ≡ k ∷ tokens u) → Reading (Ends k.kind so)
+    ends_token ih cuts =
+        let spelled : held ++ c ∷ t ≡ spelling k ++ t = sym (append_assoc held (c ∷ []) t) ∙ ap (λ (x : List ℕ). x ++ t) (sym f) in
+        let run = ih [] (past_token read s k) Plain [] [] refl refl in (
+          ap (λ (x : List TextEvent). emitted_in read s mode more ++ ((events_early ++ (events_kept ++ x)) ∷ stepwise (stage_after_step (stage_past_char stage c) (Ends k.kind so)) t)) emitted_are
+              ∙ moved (emitted_in read s mode more) (events_early ++ (events_kept ++ token_events_by s.facts s.progress k (more ++ c ∷ []))) (stepwise (stage_after_step (stage_past_char stage c) (Ends k.kind so)) t)
+              ∙ ap (λ (x : List (List TextEvent)). x ++ stepwise (stage_after_step (stage_past_char stage c) (Ends k.kind so)) t) lists_are
+              ∙ ap (λ (x : TextStage). lists_past read s [] k ++ stepwise x t) state_is
+              ∙ ap (λ (x : List (List TextEvent)). lists_past read s [] k ++ x) run.0
+              ∙ ap (λ (x : List (List TextEvent)). lists_past read s [] k ++ x) (sym (none_first (ahead [] (past_token read s k) t)))
+              ∙ ap (λ (x : List TextEvent). lists_past read s [] k ++ with_first x (ahead [] (past_token read s k) t)) (sym none_owed)
+              ∙ sym (ahead_more read s k (held ++ c ∷ t) t (cuts t) spelled (ends_uncut mode c k.kind so e)),
+          ap (λ (x : TextStage). LeftAt x c t) state_is ∙ run.1 ∙ sym (remaining_more k (held ++ c ∷ t) t (cuts t) spelled),
+        )
+
+  read_emits : Runs t → (mode ≡ Plain → c == 40 ≡ false) → settled_kind mode c ≡ None → Reading (next_step mode c)
+  read_emits ih plain e = by (next_step mode c) refl (goes mode held c holds e plain)
+    where
+      by : (w : Step) → next_step mode c ≡ w → WentBy w held c → Reading w
+      by (Stays next) f h = stays next ih f h
+      by (Ends d so) f h =
+          subst (λ (x : TokenKind). Reading (Ends x so)) h.kind_is (ends_token so h.token (f ∙ ap (λ (x : TokenKind). Ends x so) (sym h.kind_is)) h.sort_is h.spelled ih h.cuts)
+
+  -- a character before which no token ends
+  settled_emits : Runs t → settled_kind mode c ≡ None → From read s mode more held c t (events_of_settled_push stage c) (settled_push_stage stage c)
+  settled_emits ih e = by (c == 40) (is_plain mode) refl refl
+    where
+      plain : (m : TokenState) → is_plain m ≡ true → m ≡ Plain
+      plain Plain f = refl
+      plain _ f = absurd (cc)
+
+      notes : c ≡ 40 → mode ≡ Plain → From read s mode more held c t (events_of_end s.facts (progress_in read s mode more) ending.Notes) (end_stage stage)
+      notes f g =
+          let none = none_held mode read more g in_read in
+          let empty : held ≡ [] = subst (λ (m : TokenState). Holds m held) g holds in
+          rw (f, g, none.0, none.1, empty) (notes_end s t)
+
+      by : (b x : Bool) → c == 40 ≡ b → is_plain mode ≡ x
+          → From read s mode more held c t (cond (b && x) (events_of_end s.facts (progress_in read s mode more) ending.Notes) (events_of_reading stage c)) (cond (b && x) (end_stage stage) (read_stage stage c))
+      by true true f g = notes (eqb-true c 40 f) (plain mode g)
+      by true false f g = read_emits ih (λ h. absurd (let z : true ≡ false = sym (ap is_plain h) ∙ g in cc)) e
+      by false x f g = read_emits ih (λ h. f) e
+
+-- ---- a token that ends before the character
+
+settle_emits : (c : ℕ) (t : List ℕ) (read : List ℕ) (s : TextStage) (mode : TokenState) (more held : List ℕ) (k : Token) → Runs t → held ≡ read ++ more → Holds mode held
+    → settled_kind mode c ≡ Some k.kind → spelling k ≡ held → ((u : List ℕ) → tokens (held ++ c ∷ u) ≡ k ∷ tokens (c ∷ u))
+    → From read s mode more held c t (events_of_settling_by (stage_in read s mode more) (Some k.kind) ++ events_of_settled_push (settle_stage_by (stage_in read s mode more) (Some k.kind)) c)
+    (settled_push_stage (settle_stage_by (stage_in read s mode more) (Some k.kind)) c)
+settle_emits c t read s mode more held k ih here holds e f cuts =
+    let cl = closed read s mode more k (to_come read more k (f ∙ here)) (sort_settled mode c k e) (settle_closing read s mode held more c k holds e f) in
+    let next = settled_emits c t [] (past_token read s k) Plain [] [] refl refl ih refl in
+    let owes = events_of_token s.facts (progress_in read s mode more) k.kind Other s.progress.start in
+    let spelled : held ++ c ∷ t ≡ spelling k ++ c ∷ t = ap (λ (x : List ℕ). x ++ c ∷ t) (sym f) in (
+      ap (λ (x : TextStage). emitted_in read s mode more ++ ((owes ++ events_of_settled_push x c) ∷ stepwise (settled_push_stage x c) t)) cl.state
+          ∙ ap (λ (x : List TextEvent). emitted_in read s mode more ++ ((x ++ events_of_settled_push (past_token read s k) c) ∷ stepwise (settled_push_stage (past_token read s k) c) t)) cl.owes
+          ∙ ap (λ (x : List (List TextEvent)). x ++ ((owed_events_at read s (k ∷ []) ++ events_of_settled_push (past_token read s k) c) ∷ stepwise (settled_push_stage (past_token read s k) c) t)) cl.lists
+          ∙ ap (λ (x : List (List TextEvent)). lists_past read s [] k ++ with_first (owed_events_at read s (k ∷ [])) x) next.0
+          ∙ sym (ahead_more read s k (held ++ c ∷ t) (c ∷ t) (cuts t) spelled (settled_uncut mode c k.kind e)),
+      ap (λ (x : TextStage). LeftAt (settled_push_stage x c) c t) cl.state ∙ next.1 ∙ sym (remaining_more k (held ++ c ∷ t) (c ∷ t) (cuts t) spelled),
+    )
+
+step : (c : ℕ) (t : List ℕ) → Runs t → Runs (c ∷ t)
+step c t ih read s mode more held here holds = by (settled_kind mode c) refl
+  where
+    by : (o : Option TokenKind) → settled_kind mode c ≡ o
+        → From read s mode more held c t (events_of_settling_by (stage_in read s mode more) o ++ events_of_settled_push (settle_stage_by (stage_in read s mode more) o) c) (settled_push_stage (settle_stage_by (stage_in read s mode more) o) c)
+    by None e = settled_emits c t read s mode more held here holds ih e
+    by (Some d) e = go (settles mode held c d holds e)
+      where
+        go : Settles held c d → From read s mode more held c t (events_of_settling_by (stage_in read s mode more) (Some d) ++ events_of_settled_push (settle_stage_by (stage_in read s mode more) (Some d)) c) (settled_push_stage (settle_stage_by (stage_in read s mode more) (Some d)) c)
+        go h =
+            subst (λ (d : TokenKind). From read s mode more held c t (events_of_settling_by (stage_in read s mode more) (Some d) ++ events_of_settled_push (settle_stage_by (stage_in read s mode more) (Some d)) c) (settled_push_stage (settle_stage_by (stage_in read s mode more) (Some d)) c)) h.kind_is
+            (settle_emits c t read s mode more held h.token ih here holds (e ∙ ap Some (sym h.kind_is)) h.spelled h.cuts)
+
+-- ---- the end
+
+abbrev EndingOf : List ℕ → TextStage → TokenState → List ℕ → List ℕ → Option TokenKind → Type 0
+EndingOf read s mode more held o = (emitted_in read s mode more ++ events_of_finish_by (stage_in read s mode more) o ∷ [] ≡ ahead read s (held ++ [])) × ([] ≡ remaining (held ++ []))
+
+finish : Runs []
+finish read s mode more held here holds = by (kind_at_end mode) refl (ends mode held holds)
+  where
+    plain : (m : TokenState) → kind_at_end m ≡ None → m ≡ Plain
+    plain Plain e = refl
+    plain _ e = absurd (cc)
+
+    end_is : (d : TokenKind) (q : Place) → end_by d q ≡ cond (is_open_kind d) (ending.Cut q) ending.Finished
+    end_is kind.OpenTag q = refl
+    end_is kind.OpenTranslation q = refl
+    end_is _ q = refl
+
+    cut_is : (b : Bool) (q : Place) → is_cut_end (cond b (ending.Cut q) ending.Finished) ≡ b
+    cut_is true q = refl
+    cut_is false q = refl
+
+    at_plain : (s : TextStage) → EndingOf [] s Plain [] [] None
+    at_plain s = (ap (λ (x : List TextEvent). x ∷ []) (end_same s.facts s.progress ending.Finished false refl), refl)
+
+    none : mode ≡ Plain → EndingOf read s mode more held None
+    none g =
+        let n = none_held mode read more g (subst (Holds mode) here holds) in
+        let empty : held ≡ [] = subst (λ (m : TokenState). Holds m held) g holds in
+        rw (g, n.0, n.1, empty) (at_plain s)
+
+    token : (k : Token) → kind_at_end mode ≡ Some k.kind → spelling k ≡ held → tokens held ≡ k ∷ [] → EndingOf read s mode more held (Some k.kind)
+    token k e f g =
+        let so : effect k ≡ Other = end_other mode k k.kind e refl in
+        let cl = closed read s mode more k (to_come read more k (f ∙ here)) so (end_closing read s mode held more k k.kind holds e f) in
+        let owes = events_of_token s.facts (progress_in read s mode more) k.kind Other s.progress.start in
+        let cut : tokens (held ++ []) ≡ k ∷ [] = ap tokens (append-nil held) ∙ g in
+        let spelled : held ++ [] ≡ spelling k ++ [] = ap (λ (x : List ℕ). x ++ []) (sym f) in
+        let none_left : remaining (held ++ []) ≡ [] = remaining_more k (held ++ []) [] cut spelled in
+        let there : facts_at read s (k ∷ []) ≡ (past_token read s k).facts = facts_on s.facts k [] in
+        let progress : progress_at read s (k ∷ []) ≡ (past_token read s k).progress = progress_on read s k [] in
+        let whole : ahead read s (held ++ []) ≡ lists_past read s [] k ++ lists_last read s (k ∷ []) [] =
+        rw (none_left, cut) (ap (λ (x : List (List TextEvent)). x ++ lists_last read s (k ∷ []) []) (append-nil (lists_past read s [] k))) in (
+          ap (λ (x : TextStage). emitted_in read s mode more ++ (owes ++ events_of_end x.facts x.progress (end_by k.kind s.progress.place)) ∷ []) cl.state
+              ∙ ap (λ (x : List TextEvent). emitted_in read s mode more ++ (x ++ events_of_end (past_token read s k).facts (past_token read s k).progress (end_by k.kind s.progress.place)) ∷ []) cl.owes
+              ∙ ap (λ (x : List (List TextEvent)). x ++ (owed_events_at read s (k ∷ []) ++ events_of_end (past_token read s k).facts (past_token read s k).progress (end_by k.kind s.progress.place)) ∷ []) cl.lists
+              ∙ ap (λ (x : TextFacts). lists_past read s [] k ++ (owed_events_at read s (k ∷ []) ++ events_of_end x (past_token read s k).progress (end_by k.kind s.progress.place)) ∷ []) (sym there)
+              ∙ ap (λ (x : Progress). lists_past read s [] k ++ (owed_events_at read s (k ∷ []) ++ events_of_end (facts_at read s (k ∷ [])) x (end_by k.kind s.progress.place)) ∷ []) (sym progress)
+              ∙ ap (λ (x : TextEnd). lists_past read s [] k ++ (owed_events_at read s (k ∷ []) ++ events_of_end (facts_at read s (k ∷ [])) (progress_at read s (k ∷ [])) x) ∷ []) (end_is k.kind s.progress.place)
+              ∙ ap (λ (x : List TextEvent). lists_past read s [] k ++ (owed_events_at read s (k ∷ []) ++ x) ∷ []) (end_same (facts_at read s (k ∷ [])) (progress_at read s (k ∷ [])) (cond (is_open_kind k.kind) (ending.Cut s.progress.place) ending.Finished) (is_open_kind k.kind) (cut_is (is_open_kind k.kind) s.progress.place))
+              ∙ sym whole,
+          sym none_left,
+        )
+
+    by : (o : Option TokenKind) → kind_at_end mode ≡ o → EndsAs o held → EndingOf read s mode more held o
+    by None e h = none (plain mode e)
+    by (Some d) e (k, kd, sp, tk) = subst (λ (x : TokenKind). EndingOf read s mode more held (Some x)) kd (token k (e ∙ ap Some (sym kd)) sp tk)
+
+pub runs : (t : List ℕ) → Runs t
+runs [] = finish
+runs (c ∷ t) = step c t (runs t)

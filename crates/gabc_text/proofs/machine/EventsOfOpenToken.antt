@@ -1,0 +1,320 @@
+-- What the machine has given of the characters to come of a token that goes on.
+use Rattle.std.proofs.Common.{◌≡◌, ℕ, ◌==◌, ◌&&◌, nat_lt, List, [], ◌∷◌, ◌++◌, Bool, true, false, cond, refl, sym, ap, ◌∙◌, subst, Option, Some, None, codes}
+use Rattle.gabc_places.specs.declared.place.Place.{Place}
+use Rattle.gabc_places.specs.declared.code.Code.TheVariants.{W5}
+use Rattle.gabc_text.specs.declared.token.TokenKind.{TokenKind}
+use Rattle.gabc_text.specs.declared.token.TokenKind.TheVariants as kind
+use Rattle.gabc_text.specs.declared.token.TagEffect.{TagEffect}
+use Rattle.gabc_text.specs.declared.token.TagEffect.TheVariants.{Opens, Closes, Mark, Begins, Other}
+use Rattle.gabc_text.specs.declared.token_state.TokenState.{TokenState}
+use Rattle.gabc_text.specs.declared.token_state.TokenState.TheVariants.{Plain, Dollar, Comment, Tag, Raw, Translation}
+use Rattle.gabc_text.specs.declared.token_state.Step.{Step}
+use Rattle.gabc_text.specs.declared.token_state.Step.TheVariants.{Stays, Ends}
+use Rattle.gabc_text.specs.declared.text_facts.TextFacts.{TextFacts}
+use Rattle.gabc_text.specs.declared.stage.TextEvent.{TextEvent}
+use Rattle.gabc_text.specs.declared.stage.TextEvent.TheVariants as out
+use Rattle.gabc_text.specs.declared.tag_name.TagWord.TheVariants as word
+use Rattle.gabc_text.specs.Token.{Token, spelling, single, is_blank, is_one_of, is_text}
+use Rattle.gabc_text.specs.View.{is_space, is_translation}
+use Rattle.gabc_text.specs.Events.{no_events_each, with_first, but_last, is_lone}
+use Rattle.gabc_text.specs.machine.TextFacts.{early_at, is_left_out_by}
+use Rattle.gabc_text.specs.machine.TokenState.{is_plain, next_step, first_step, keep, keep_first, is_blank_kind, step_at_tag_end, wanted_char}
+use Rattle.gabc_text.specs.machine.TagPrefix.{effect_named}
+use Rattle.gabc_text.specs.machine.TextStage.{option_list, char_event, finding_event, bytes_with}
+use Rattle.gabc_text.specs.TextStage.{place_after_char}
+use Rattle.gabc_text.specs.FactsPast.{past, bytes_past}
+use Rattle.gabc_text.specs.EventsLeft.{kept_by, each_kept, lists_kept, early_events_by}
+use Rattle.gabc_text.proofs.machine.TagNameByCharacter.{by_case}
+use Rattle.gabc_text.proofs.machine.KeptOfOpenToken.{kept_held, is_within, is_kept_whole, IsKept, within_kept, keep_within, held_within}
+use Rattle.gabc_text.proofs.machine.TokenStateByCharacter.{Holds}
+
+-- a token of which something was read has a first character
+pub held_some : (mode : TokenState) (held : List ℕ) → Holds mode held → is_plain mode ≡ false → (c : ℕ) × (s : List ℕ) × (held ≡ c ∷ s)
+held_some Plain held h e = absurd (cc)
+held_some Dollar held h e = (36, [], h)
+held_some Comment held h e = (37, h.s, h.held_is)
+held_some (Tag name) held h e = (60, h.s, h.held_is)
+held_some (Raw raw m) held h e = (60, (h.s ++ 62 ∷ []) ++ h.r, h.held_is)
+held_some Translation held h e = (91, h.s, h.held_is)
+
+abbrev pub in_translation : TokenState → Bool
+in_translation Translation = true
+in_translation _ = false
+
+single_kind : (P : TokenKind → Type 0) → P kind.Blank → P kind.Stray → P kind.Begin → P kind.End → P kind.Letter → (c : ℕ) → P (single c)
+single_kind P a b d e l c = by (is_blank c) (is_one_of (codes ")]>") c) (c == 123) (c == 125)
+  where
+    by : (w x y z : Bool) → P (cond w kind.Blank (cond x kind.Stray (cond y kind.Begin (cond z kind.End kind.Letter))))
+    by true x y z = a
+    by false true y z = b
+    by false false true z = d
+    by false false false true = e
+    by false false false false = l
+
+single_no_translation : (c : ℕ) → is_translation (single c) ≡ false
+single_no_translation c = single_kind (λ k. is_translation k ≡ false) refl refl refl refl refl c
+
+-- a token that goes on is a translation, or the token that ends is one
+abbrev pub SameEmitted : Bool → Step → Type 0
+SameEmitted b (Stays next) = in_translation next ≡ b
+SameEmitted b (Ends d s) = is_translation d ≡ b
+
+either_emitted : (a b : Bool) (x y : Step) → SameEmitted a x → SameEmitted a y → SameEmitted a (cond b x y)
+either_emitted a true x y f g = f
+either_emitted a false x y f g = g
+
+tag_emitted : (s : TagEffect) → SameEmitted false (step_at_tag_end s)
+tag_emitted (Begins raw) = refl
+tag_emitted (Opens r) = refl
+tag_emitted (Closes r) = refl
+tag_emitted Mark = refl
+tag_emitted Other = refl
+
+pub events_goes : (mode : TokenState) (c : ℕ) → is_plain mode ≡ false → SameEmitted (in_translation mode) (next_step mode c)
+events_goes Plain c e = absurd (cc)
+events_goes Dollar c e = refl
+events_goes Comment c e = refl
+events_goes (Tag name) c e = either_emitted false (c == 62) _ _ (tag_emitted (effect_named name.closing name.word)) refl
+events_goes (Raw raw m) c e =
+    either_emitted false (c == wanted_char raw m) _ _
+    (either_emitted false (c == 62) _ _ refl (either_emitted false (nat_lt m 5) _ _ refl refl))
+    (either_emitted false (c == 60) _ _ refl refl)
+events_goes Translation c e = either_emitted true (c == 93) _ _ refl refl
+
+each_more : (p : Place) (more : List ℕ) (c : ℕ) → each_kept p more ++ (out.Kept (record { c = c; place = past p more }) ∷ []) ∷ [] ≡ each_kept p (more ++ c ∷ [])
+each_more p [] c = refl
+each_more p (x ∷ more) c = ap (λ (xs : List (List TextEvent)). (out.Kept (record { c = x; place = p }) ∷ []) ∷ xs) (each_more (place_after_char p x) more c)
+
+nothing_more : (more : List ℕ) (c : ℕ) → no_events_each more ++ [] ∷ [] ≡ no_events_each (more ++ c ∷ [])
+nothing_more [] c = refl
+nothing_more (x ∷ more) c = ap (λ (xs : List (List TextEvent)). [] ∷ xs) (nothing_more more c)
+
+pub bytes_go : (n : ℕ) (o : Option ℕ) → bytes_with n o ≡ bytes_past n (option_list o)
+bytes_go n None = refl
+bytes_go n (Some c) = refl
+
+module _ (facts : TextFacts) where
+  -- ---- what is kept
+
+  abbrev pub KeptGo : List ℕ → List ℕ → ℕ → Step → Type 0
+  KeptGo xs more c (Stays next) = xs ≡ kept_held next (more ++ c ∷ [])
+  KeptGo xs more c (Ends d s) = xs ≡ kept_by facts d (more ++ c ∷ [])
+
+  whole_kept : (d : TokenKind) (cs : List ℕ) → is_kept_whole d ≡ true → kept_by facts d cs ≡ cs
+  whole_kept kind.Letter cs e = refl
+  whole_kept kind.Tag cs e = refl
+  whole_kept kind.Raw cs e = refl
+  whole_kept kind.Translation cs e = refl
+  whole_kept _ cs e = absurd (cc)
+
+  kept_on : (w : Step) (more : List ℕ) (c : ℕ) → IsKept w → KeptGo (more ++ c ∷ []) more c w
+  kept_on (Stays next) more c i = sym (held_within next (more ++ c ∷ []) i)
+  kept_on (Ends d s) more c i = sym (whole_kept d (more ++ c ∷ []) i)
+
+  first_kept : (c : ℕ) (d : TokenKind) → c == 37 ≡ false → option_list (keep_first facts c d) ≡ kept_by facts d (c ∷ [])
+  first_kept c d e = rw e (by (is_left_out_by facts d) d)
+    where
+      blank : (b : Bool) → option_list {X = ℕ} (cond b None (Some 32)) ≡ cond b [] (32 ∷ [])
+      blank true = refl
+      blank false = refl
+
+      by : (b : Bool) (d : TokenKind) → option_list {X = ℕ} (cond b None (cond (is_blank_kind d) (cond facts.space None (Some 32)) (Some c))) ≡ cond b [] (cond (is_space d) (cond facts.space [] (32 ∷ [])) (c ∷ []))
+      by true d = refl
+      by false kind.Blank = blank facts.space
+      by false _ = refl
+
+  abbrev KeptBegin : ℕ → Type 0
+  KeptBegin c = KeptGo (option_list (keep_first facts c (single c))) [] c (first_step c)
+
+  kept_begin : (c : ℕ) → KeptBegin c
+  kept_begin c =
+      by_case 36 c KeptBegin refl (λ e36.
+      by_case 37 c KeptBegin refl (λ e37.
+      by_case 60 c KeptBegin refl (λ e60.
+      by_case 91 c KeptBegin refl (λ e91.
+      let f = first_kept c (single c) e37 in
+      rw (e36, e37, e60, e91) (rw e37 at f)))))
+
+  -- what is kept with a character more
+  pub kept_goes : (mode : TokenState) (more : List ℕ) (c : ℕ) → (mode ≡ Plain → more ≡ []) → KeptGo (kept_held mode more ++ option_list (keep facts mode c)) more c (next_step mode c)
+  kept_goes Plain more c h = rw (h refl) (kept_begin c)
+  kept_goes Comment more c h = refl
+  kept_goes mode more c h = within mode refl
+    where
+      within : (m : TokenState) → is_within m ≡ true → KeptGo (kept_held m more ++ option_list (keep facts m c)) more c (next_step m c)
+      within m w = rw (keep_within facts m c w, held_within m more w) (kept_on (next_step m c) more c (within_kept m c w))
+
+-- a second translation is emitted at its `[`
+abbrev pub emitted_early : TextFacts → Place → List ℕ → Bool → List TextEvent
+emitted_early facts p [] b = cond (b && facts.translated) (out.Found (record { place = p; code = W5 }) ∷ []) []
+emitted_early facts p (c ∷ read) b = []
+
+pub early_is : (facts : TextFacts) (p : Place) (read : List ℕ) (k : TokenKind) → early_events_by facts p read k ≡ emitted_early facts p read (is_translation k)
+early_is facts p [] k = refl
+early_is facts p (c ∷ read) k = refl
+
+pub none_first : (lists : List (List TextEvent)) → with_first [] lists ≡ lists
+none_first [] = refl
+none_first (xs ∷ lists) = refl
+
+module _ (read : List ℕ) (facts : TextFacts) (place next : Place) where
+  -- ---- what is kept of each character
+
+  abbrev pub each_held : TokenState → List ℕ → List (List TextEvent)
+  each_held Plain more = []
+  each_held Comment more = no_events_each more
+  each_held _ more = each_kept next more
+
+  abbrev pub lists_held : TokenState → List ℕ → List (List TextEvent)
+  lists_held mode more = with_first (emitted_early facts place read (in_translation mode)) (each_held mode more)
+
+  abbrev EachGo : List (List TextEvent) → List ℕ → ℕ → Step → Type 0
+  EachGo xs more c (Stays m) = xs ≡ each_held m (more ++ c ∷ [])
+  EachGo xs more c (Ends d s) = xs ≡ lists_kept facts next d (more ++ c ∷ [])
+
+  whole_each : (d : TokenKind) (cs : List ℕ) → is_kept_whole d ≡ true → lists_kept facts next d cs ≡ each_kept next cs
+  whole_each kind.Letter cs e = refl
+  whole_each kind.Tag cs e = refl
+  whole_each kind.Raw cs e = refl
+  whole_each kind.Translation cs e = refl
+  whole_each _ cs e = absurd (cc)
+
+  pub each_within : (mode : TokenState) (more : List ℕ) → is_within mode ≡ true → each_held mode more ≡ each_kept next more
+  each_within Plain more e = absurd (cc)
+  each_within Comment more e = absurd (cc)
+  each_within _ more e = refl
+
+  each_on : (w : Step) (xs : List (List TextEvent)) (more : List ℕ) (c : ℕ) → IsKept w → xs ≡ each_kept next (more ++ c ∷ []) → EachGo xs more c w
+  each_on (Stays m) xs more c i e = e ∙ sym (each_within m (more ++ c ∷ []) i)
+  each_on (Ends d s) xs more c i e = e ∙ sym (whole_each d (more ++ c ∷ []) i)
+
+  first_each : (c : ℕ) (d : TokenKind) → c == 37 ≡ false → option_list (char_event next (keep_first facts c d)) ∷ [] ≡ lists_kept facts next d (c ∷ [])
+  first_each c d e = rw e (by (is_left_out_by facts d) d)
+    where
+      blank : (b : Bool) → option_list (char_event next (cond b None (Some 32))) ∷ [] ≡ cond b [] (out.Kept (record { c = 32; place = next }) ∷ []) ∷ []
+      blank true = refl
+      blank false = refl
+
+      by : (b : Bool) (d : TokenKind) → option_list (char_event next (cond b None (cond (is_blank_kind d) (cond facts.space None (Some 32)) (Some c)))) ∷ []
+          ≡ cond b ([] ∷ []) (cond (is_space d) (cond facts.space [] (out.Kept (record { c = 32; place = next }) ∷ []) ∷ []) ((out.Kept (record { c = c; place = next }) ∷ []) ∷ []))
+      by true d = refl
+      by false kind.Blank = blank facts.space
+      by false _ = refl
+
+  each_goes : (mode : TokenState) (more : List ℕ) (c : ℕ) → is_plain mode ≡ false → EachGo (each_held mode more ++ option_list (char_event (past next more) (keep facts mode c)) ∷ []) more c (next_step mode c)
+  each_goes Plain more c e = absurd (cc)
+  each_goes Comment more c e = nothing_more more c
+  each_goes mode more c e = within mode refl
+    where
+      within : (m : TokenState) → is_within m ≡ true → EachGo (each_held m more ++ option_list (char_event (past next more) (keep facts m c)) ∷ []) more c (next_step m c)
+      within m w =
+          rw (keep_within facts m c w, each_within m more w)
+          (each_on (next_step m c) (each_kept next more ++ (out.Kept (record { c = c; place = past next more }) ∷ []) ∷ []) more c (within_kept m c w) (each_more next more c))
+
+  -- ---- what is emitted with each character
+
+  abbrev pub ListsGo : List (List TextEvent) → List ℕ → ℕ → Step → Type 0
+  ListsGo xs more c (Stays m) = xs ≡ lists_held m (more ++ c ∷ [])
+  ListsGo xs more c (Ends d s) = xs ≡ with_first (early_events_by facts place read d) (lists_kept facts next d (more ++ c ∷ []))
+
+  lists_both : (w : Step) (b : Bool) (xs : List (List TextEvent)) (more : List ℕ) (c : ℕ) → SameEmitted b w → EachGo xs more c w → ListsGo (with_first (emitted_early facts place read b) xs) more c w
+  lists_both (Stays m) b xs more c e f = rw (e, f) refl
+  lists_both (Ends d s) b xs more c e f = rw (early_is facts place read d, e, f) refl
+
+  -- the characters so far, and one more
+  lists_more : (mode : TokenState) (more : List ℕ) (ks : List TextEvent) → is_plain mode ≡ false → Holds mode (read ++ more)
+      → lists_held mode more ++ ks ∷ [] ≡ with_first (emitted_early facts place read (in_translation mode)) (each_held mode more ++ ks ∷ [])
+  lists_more mode more ks e h = by mode read more e h
+    where
+      by : (m : TokenState) (r more : List ℕ) → is_plain m ≡ false → Holds m (r ++ more)
+          → with_first (emitted_early facts place r (in_translation m)) (each_held m more) ++ ks ∷ [] ≡ with_first (emitted_early facts place r (in_translation m)) (each_held m more ++ ks ∷ [])
+      by m (x ∷ r) more e h = ap (λ (l : List (List TextEvent)). l ++ ks ∷ []) (none_first (each_held m more)) ∙ sym (none_first (each_held m more ++ ks ∷ []))
+      by m [] [] e h = let (x, s, f) = held_some m [] h e in absurd (cc)
+      by Plain [] (x ∷ more) e h = absurd (cc)
+      by Dollar [] (x ∷ more) e h = refl
+      by Comment [] (x ∷ more) e h = refl
+      by (Tag name) [] (x ∷ more) e h = refl
+      by (Raw raw m) [] (x ∷ more) e h = refl
+      by Translation [] (x ∷ more) e h = refl
+
+module _ (facts : TextFacts) (place next : Place) where
+  abbrev ListsBegins : ℕ → Type 0
+  ListsBegins c = ListsGo [] facts place next ((option_list (finding_event place (early_at facts Plain c)) ++ option_list (char_event next (keep_first facts c (single c)))) ∷ []) [] c (first_step c)
+
+  lists_begin : (c : ℕ) → ListsBegins c
+  lists_begin c =
+      by_case 36 c ListsBegins refl (λ e36.
+      by_case 37 c ListsBegins refl (λ e37.
+      by_case 60 c ListsBegins refl (λ e60.
+      by_case 91 c ListsBegins (second facts.translated) (λ e91.
+      let f : with_first [] (option_list (char_event next (keep_first facts c (single c))) ∷ []) ≡ with_first [] (lists_kept facts next (single c) (c ∷ [])) =
+      ap (with_first []) (first_each [] facts place next c (single c) e37) in
+      rw (e36, e37, e60, e91) (rw (single_no_translation c) (rw e37 at f))))))
+    where
+      second : (b : Bool) → (option_list (finding_event place (cond b (Some W5) None)) ++ out.Kept (record { c = 91; place = next }) ∷ []) ∷ [] ≡ (cond b (out.Found (record { place = place; code = W5 }) ∷ []) [] ++ out.Kept (record { c = 91; place = next }) ∷ []) ∷ []
+      second true = refl
+      second false = refl
+
+-- between tokens nothing is held
+pub none_held : (mode : TokenState) (read more : List ℕ) → mode ≡ Plain → Holds mode (read ++ more) → (read ≡ []) × (more ≡ [])
+none_held mode read more e h = by read more (subst (λ (m : TokenState). Holds m (read ++ more)) e h)
+  where
+    by : (r more : List ℕ) → r ++ more ≡ [] → (r ≡ []) × (more ≡ [])
+    by [] more f = (refl, f)
+    by (x ∷ r) more f = absurd (cc)
+
+module _ (read : List ℕ) (facts : TextFacts) (place next : Place) where
+  abbrev pub events_read : TokenState → List ℕ → ℕ → List TextEvent
+  events_read mode more c = option_list (finding_event place (early_at facts mode c)) ++ option_list (char_event (past next more) (keep facts mode c))
+
+  -- a character more
+  pub lists_goes : (mode : TokenState) (more : List ℕ) (c : ℕ) → Holds mode (read ++ more) → ListsGo read facts place next (lists_held read facts place next mode more ++ events_read mode more c ∷ []) more c (next_step mode c)
+  lists_goes Plain more c h =
+      let n = none_held Plain read more refl h in
+      rw (n.0, n.1) (lists_begin facts place next c)
+  lists_goes mode more c h = other mode refl h
+    where
+      none_early : (m : TokenState) → is_plain m ≡ false → early_at facts m c ≡ None
+      none_early Plain e = absurd (cc)
+      none_early _ e = refl
+
+      other : (m : TokenState) → is_plain m ≡ false → Holds m (read ++ more) → ListsGo read facts place next (lists_held read facts place next m more ++ events_read m more c ∷ []) more c (next_step m c)
+      other m e h =
+          rw (none_early m e, lists_more read facts place next m more (option_list (char_event (past next more) (keep facts m c))) e h)
+          (lists_both read facts place next (next_step m c) (in_translation m) (each_held read facts place next m more ++ option_list (char_event (past next more) (keep facts m c)) ∷ []) more c
+          (events_goes m c e) (each_goes read facts place next m more c e))
+
+-- ---- a token that its last character ends
+
+pub but_last_is : (x : ℕ) (xs held : List ℕ) (c : ℕ) → x ∷ xs ≡ held ++ c ∷ [] → but_last x xs ≡ held
+but_last_is x [] [] c e = refl
+but_last_is x [] (h ∷ []) c e = absurd (cc)
+but_last_is x [] (h ∷ i ∷ hs) c e = absurd (cc)
+but_last_is x (y ∷ ys) [] c e = absurd (cc)
+but_last_is x (y ∷ ys) (h ∷ hs) c e =
+    let f : y ∷ ys ≡ hs ++ c ∷ [] = cc in
+    let g = but_last_is y ys hs c f in cc
+
+-- a token that its last character ends is no `$` by itself
+pub not_lone : (mode : TokenState) (held : List ℕ) (c : ℕ) (k : Token) (so : TagEffect) → Holds mode held → next_step mode c ≡ Ends k.kind so → spelling k ≡ held ++ c ∷ [] → is_lone k ≡ false
+not_lone Plain held c k so h e f = by (c == 36) refl e
+  where
+    by : (b : Bool) → c == 36 ≡ b → cond b (Stays Dollar) (cond (c == 37) (Stays Comment) (cond (c == 60) (Stays (Tag (record { closing = false; word = word.Start }))) (cond (c == 91) (Stays Translation) (Ends (single c) Other)))) ≡ Ends k.kind so → is_lone k ≡ false
+    by true g i = absurd (cc)
+    by false g i = ap (is_text (codes "$")) (f ∙ ap (λ (x : List ℕ). x ++ c ∷ []) h) ∙ rw g refl
+not_lone mode held c k so h e f = other mode refl h
+  where
+    longer : (x : ℕ) (s : List ℕ) → is_text (codes "$") (x ∷ (s ++ c ∷ [])) ≡ false
+    longer x [] = no (x == 36)
+      where
+        no : (b : Bool) → (b && false) ≡ false
+        no true = refl
+        no false = refl
+    longer x (y ∷ s) = no (x == 36)
+      where
+        no : (b : Bool) → (b && false) ≡ false
+        no true = refl
+        no false = refl
+
+    other : (m : TokenState) → is_plain m ≡ false → Holds m held → is_lone k ≡ false
+    other m g h = let (x, s, i) = held_some m held h g in ap (is_text (codes "$")) (f ∙ ap (λ (y : List ℕ). y ++ c ∷ []) i) ∙ longer x s

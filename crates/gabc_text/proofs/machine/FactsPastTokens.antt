@@ -1,0 +1,176 @@
+-- What was seen past some tokens, and where they leave the machine, one token at a time.
+use Rattle.std.proofs.Common.{◌≡◌, ℕ, List, [], ◌∷◌, ◌++◌, false, not, cond, ◌||◌, ◌&&◌, refl, sym, ap, ◌∙◌, drop, length, Option, Some, None, is_some}
+use Rattle.std.specs.Char.{len_utf8}
+use Rattle.gabc_places.specs.declared.place.Place.{Place}
+use Rattle.gabc_text.specs.declared.styles.Style.TheVariants.{B, C, E, I, Sc, Tt, Ul}
+use Rattle.gabc_text.specs.declared.text_facts.TextFacts.{TextFacts}
+use Rattle.gabc_text.specs.declared.token.TokenKind.{TokenKind}
+use Rattle.gabc_text.specs.declared.token.TokenKind.TheVariants as kind
+use Rattle.gabc_text.specs.declared.token.TagEffect.{TagEffect}
+use Rattle.gabc_text.specs.declared.token.TagEffect.TheVariants.{Opens, Closes, Mark, Begins, Other}
+use Rattle.gabc_text.specs.declared.token_state.TokenState.TheVariants.{Plain}
+use Rattle.gabc_text.specs.declared.view.PieceKind.{PieceKind}
+use Rattle.gabc_text.specs.declared.view.PieceKind.TheVariants as piece
+use Rattle.gabc_text.specs.declared.stage.Progress.{Progress}
+use Rattle.gabc_text.specs.declared.stage.TextStage.{TextStage}
+use Rattle.gabc_text.specs.Token.{Token, spelling, effect_of}
+use Rattle.gabc_text.specs.View.{effect, effect_as, is_open_after, has_word, has_begin, has_translation, piece_kind, is_word_kind, is_space, is_begin, is_end, is_translation}
+use Rattle.gabc_text.specs.machine.TextFacts.{facts_after, after_tag, piece_kind_at}
+use Rattle.gabc_text.specs.TextStage.{count_plus, place_after_char}
+use Rattle.gabc_text.specs.machine.TextStage.{progress_after, count_with, blank_waiting, begin_after, end_after_token}
+use Rattle.gabc_text.specs.FactsPast.{is_open_past, blank_past, begun_past, ended_past, space_past, starts_past, facts_past, past, bytes_past, leaves_out}
+use Rattle.gabc_text.specs.EventsLeft.{piece_by, kept_by, kept_behind, facts_at, read_at, ahead_at, text_since, kept_since, bytes_at, progress_at, waiting_by}
+
+-- ---- what was seen
+
+module _ (facts : TextFacts) (before : List Token) where
+  -- what is seen after a token of this kind and sort
+  abbrev grown : TokenKind → TagEffect → TextFacts
+  grown k s = record {
+    styles = record {
+      b = is_open_after B s (is_open_past B facts.styles.b before);
+      c = is_open_after C s (is_open_past C facts.styles.c before);
+      e = is_open_after E s (is_open_past E facts.styles.e before);
+      i = is_open_after I s (is_open_past I facts.styles.i before);
+      sc = is_open_after Sc s (is_open_past Sc facts.styles.sc before);
+      tt = is_open_after Tt s (is_open_past Tt facts.styles.tt before);
+      ul = is_open_after Ul s (is_open_past Ul facts.styles.ul before);
+    };
+    word = (is_word_kind (piece_kind k s) || has_word before) || facts.word;
+    blank = is_space k || (not (is_some (piece_kind k s)) && blank_past facts.blank before);
+    space = is_space k || (leaves_out (record facts { begun = begun_past facts before; ended = ended_past facts before }) k && space_past facts before);
+    begun = (is_begin k || has_begin before) || facts.begun;
+    ended = (is_end k && begun_past facts before) || ended_past facts before;
+    translated = (is_translation k || has_translation before) || facts.translated;
+    starts = (is_space k && not (has_word before || facts.word)) || starts_past facts before;
+  }
+
+  after_a_tag : (s : TagEffect) → after_tag (facts_past facts before) s ≡ grown kind.Tag s
+  after_a_tag (Opens B) = refl
+  after_a_tag (Opens C) = refl
+  after_a_tag (Opens E) = refl
+  after_a_tag (Opens I) = refl
+  after_a_tag (Opens Sc) = refl
+  after_a_tag (Opens Tt) = refl
+  after_a_tag (Opens Ul) = refl
+  after_a_tag (Closes B) = refl
+  after_a_tag (Closes C) = refl
+  after_a_tag (Closes E) = refl
+  after_a_tag (Closes I) = refl
+  after_a_tag (Closes Sc) = refl
+  after_a_tag (Closes Tt) = refl
+  after_a_tag (Closes Ul) = refl
+  after_a_tag Mark = refl
+  after_a_tag (Begins r) = refl
+  after_a_tag Other = refl
+
+  after_kind : (k : TokenKind) (t : List ℕ) → facts_after (facts_past facts before) k (effect_as k t) ≡ grown k (effect_as k t)
+  after_kind kind.Letter t = refl
+  after_kind kind.Blank t = refl
+  after_kind kind.Comment t = refl
+  after_kind kind.Stray t = refl
+  after_kind kind.Begin t = refl
+  after_kind kind.End t = refl
+  after_kind kind.Tag t = after_a_tag (effect_of t)
+  after_kind kind.Raw t = refl
+  after_kind kind.Translation t = refl
+  after_kind kind.OpenTag t = refl
+  after_kind kind.OpenTranslation t = refl
+
+-- one token more
+pub facts_step : (facts : TextFacts) (before : List Token) (k : Token) → facts_past facts (k ∷ before) ≡ facts_after (facts_past facts before) k.kind (effect k)
+facts_step facts before k = sym (after_kind facts before k.kind (spelling k))
+
+-- one token less: what it shows is seen from the beginning
+pub facts_on : (facts : TextFacts) (k : Token) (before : List Token) → facts_past facts (before ++ k ∷ []) ≡ facts_past (facts_after facts k.kind (effect k)) before
+facts_on facts k [] = facts_step facts [] k
+facts_on facts k (j ∷ before) =
+    facts_step facts (before ++ k ∷ []) j
+    ∙ ap (λ (x : TextFacts). facts_after x j.kind (effect j)) (facts_on facts k before)
+    ∙ sym (facts_step (facts_after facts k.kind (effect k)) before j)
+
+-- ---- where the machine stands
+
+pub past_append : (p : Place) (s t : List ℕ) → past p (s ++ t) ≡ past (past p s) t
+past_append p [] t = refl
+past_append p (c ∷ s) t = past_append (place_after_char p c) s t
+
+pub bytes_past_append : (n : ℕ) (s t : List ℕ) → bytes_past n (s ++ t) ≡ bytes_past (bytes_past n s) t
+bytes_past_append n [] t = refl
+bytes_past_append n (c ∷ s) t = bytes_past_append (count_plus n (len_utf8 c)) s t
+
+pieces_same : (progress : Progress) (o : Option PieceKind) → count_with progress o ≡ cond (is_some o) (count_plus progress.pieces 1) progress.pieces
+pieces_same progress None = refl
+pieces_same progress (Some k) = refl
+
+begin_same : (facts : TextFacts) (progress : Progress) (k : TokenKind) → begin_after facts progress k ≡ cond (is_begin k && not facts.begun) (Some progress.pieces) progress.begin
+begin_same facts progress kind.Begin = refl
+begin_same facts progress _ = refl
+
+end_same : (facts : TextFacts) (progress : Progress) (k : TokenKind) → end_after_token facts progress k ≡ cond (is_end k && (facts.begun && not facts.ended)) (Some progress.pieces) progress.end
+end_same facts progress kind.End = refl
+end_same facts progress _ = refl
+
+pub piece_is : (facts : TextFacts) (k : TokenKind) (so : TagEffect) → piece_by facts k so ≡ piece_kind_at facts k so
+piece_is facts kind.Blank so = refl
+piece_is facts _ so = refl
+
+-- behind a token, which is not counted yet
+abbrev pub behind : TextFacts → Progress → TokenKind → List ℕ → Progress
+behind facts progress k cs = record progress { next = past progress.next cs; kept = kept_behind facts progress k cs }
+
+-- where the machine stands after a token, of which these characters were to come
+abbrev pub spot_after : TextFacts → Progress → Token → List ℕ → Progress
+spot_after facts progress k cs = progress_after facts (behind facts progress k.kind cs) k.kind (effect k) (past progress.next cs)
+
+module _ (read : List ℕ) (s : TextStage) where
+  blank_same : (before : List Token) (k : Token) (progress : Progress) (o : Option PieceKind) → progress.start ≡ (progress_at read s before).start → progress.kept ≡ bytes_at read s (k ∷ before) → progress.blank ≡ (progress_at read s before).blank
+      → blank_waiting (facts_at read s before) progress o ≡ waiting_by read s before k o (progress_at read s before).blank
+  blank_same before k progress None e f g = g
+  blank_same before k progress (Some piece.Blank) e f g = rw (e, f) refl
+  blank_same before k progress (Some piece.Char) e f g = refl
+  blank_same before k progress (Some piece.Raw) e f g = refl
+  blank_same before k progress (Some piece.Mark) e f g = refl
+  blank_same before k progress (Some piece.Tag) e f g = refl
+
+  -- one token more
+  pub progress_step : (before : List Token) (k : Token) → progress_at read s (k ∷ before) ≡ spot_after (facts_at read s before) (progress_at read s before) k (ahead_at read s before k)
+  progress_step before k =
+      let next = past_append s.progress.next (text_since read s before) (ahead_at read s before k) in
+      let kept = bytes_past_append s.progress.kept (kept_since read s before) (kept_by (facts_at read s before) k.kind (ahead_at read s before k)) in
+      rw (
+        piece_is (facts_at read s before) k.kind (effect k),
+        pieces_same (behind (facts_at read s before) (progress_at read s before) k.kind (ahead_at read s before k)) (piece_kind_at (facts_at read s before) k.kind (effect k)),
+        begin_same (facts_at read s before) (behind (facts_at read s before) (progress_at read s before) k.kind (ahead_at read s before k)) k.kind,
+        end_same (facts_at read s before) (behind (facts_at read s before) (progress_at read s before) k.kind (ahead_at read s before k)) k.kind,
+        blank_same before k (behind (facts_at read s before) (progress_at read s before) k.kind (ahead_at read s before k)) (piece_kind_at (facts_at read s before) k.kind (effect k)) refl (sym kept) refl,
+        next,
+        kept,
+      ) refl
+
+  -- the state past a token
+  abbrev pub past_token : Token → TextStage
+  past_token k = record {
+    mode = Plain;
+    facts = facts_after s.facts k.kind (effect k);
+    progress = spot_after s.facts s.progress k (drop (length read) (spelling k));
+    done = false;
+  }
+
+pub read_on : (read : List ℕ) (s : TextStage) (before : List Token) (k : Token) → read_at read s (before ++ k ∷ []) ≡ []
+read_on read s [] k = refl
+read_on read s (j ∷ before) k = refl
+
+pub read_none : (s : TextStage) (before : List Token) → read_at [] s before ≡ []
+read_none s [] = refl
+read_none s (j ∷ before) = refl
+
+-- one token less: the machine goes on from the state past it
+pub progress_on : (read : List ℕ) (s : TextStage) (k : Token) (before : List Token) → progress_at read s (before ++ k ∷ []) ≡ progress_at [] (past_token read s k) before
+progress_on read s k [] = progress_step read s [] k
+progress_on read s k (j ∷ before) =
+    progress_step read s (before ++ k ∷ []) j
+    ∙ ap (λ (x : TextFacts). spot_after x (progress_at read s (before ++ k ∷ [])) j (ahead_at read s (before ++ k ∷ []) j)) (facts_on s.facts k before)
+    ∙ ap (λ (x : Progress). spot_after (facts_at [] (past_token read s k) before) x j (ahead_at read s (before ++ k ∷ []) j)) (progress_on read s k before)
+    ∙ ap (λ (x : List ℕ). spot_after (facts_at [] (past_token read s k) before) (progress_at [] (past_token read s k) before) j (drop (length x) (spelling j))) (read_on read s before k ∙ sym (read_none (past_token read s k) before))
+    ∙ sym (progress_step [] (past_token read s k) before j)

@@ -1,0 +1,138 @@
+-- Sorts and kinds of the tokens that a character ends, and what of a token that goes on is kept.
+use Rattle.std.proofs.Common.{◌≡◌, ℕ, ◌==◌, nat_lt, List, [], Bool, true, false, cond, refl, ap, ◌∙◌, subst, Some, None, codes}
+use Rattle.gabc_text.specs.declared.text_facts.TextFacts.{TextFacts}
+use Rattle.gabc_text.specs.declared.token.TokenKind.{TokenKind}
+use Rattle.gabc_text.specs.declared.token.TokenKind.TheVariants as kind
+use Rattle.gabc_text.specs.declared.token.TagEffect.{TagEffect}
+use Rattle.gabc_text.specs.declared.token.TagEffect.TheVariants.{Opens, Closes, Mark, Begins, Other}
+use Rattle.gabc_text.specs.declared.token_state.TokenState.{TokenState}
+use Rattle.gabc_text.specs.declared.token_state.TokenState.TheVariants.{Plain, Dollar, Comment, Tag, Raw, Translation}
+use Rattle.gabc_text.specs.declared.token_state.Step.{Step}
+use Rattle.gabc_text.specs.declared.token_state.Step.TheVariants.{Stays, Ends}
+use Rattle.gabc_text.specs.Token.{is_blank, is_one_of, Token, spelling, is_special, single}
+use Rattle.gabc_text.specs.View.{is_open_kind, effect, effect_as}
+use Rattle.gabc_text.specs.machine.TokenState.{settled_kind, next_step, first_step, keep, step_at_tag_end, wanted_char}
+use Rattle.gabc_text.specs.machine.TagPrefix.{effect_named}
+use Rattle.gabc_text.proofs.machine.TagNameByCharacter.{by_case}
+
+-- what is kept of a token that goes on
+abbrev pub kept_held : TokenState → List ℕ → List ℕ
+kept_held Plain held = []
+kept_held Comment held = []
+kept_held _ held = held
+
+pub sort_settled : (mode : TokenState) (c : ℕ) (k : Token) → settled_kind mode c ≡ Some k.kind → effect k ≡ Other
+sort_settled Plain c k e = absurd (cc)
+sort_settled Dollar c k e = by (is_special c) k.kind e
+  where
+    by : (b : Bool) (d : TokenKind) → cond b None (Some kind.Letter) ≡ Some d → effect_as d (spelling k) ≡ Other
+    by true d g = absurd (cc)
+    by false d g = let same : kind.Letter ≡ d = cc in subst (λ (x : TokenKind). effect_as x (spelling k) ≡ Other) same refl
+sort_settled Comment c k e = by (c == 10) k.kind e
+  where
+    by : (b : Bool) (d : TokenKind) → cond b (Some kind.Comment) None ≡ Some d → effect_as d (spelling k) ≡ Other
+    by true d g = let same : kind.Comment ≡ d = cc in subst (λ (x : TokenKind). effect_as x (spelling k) ≡ Other) same refl
+    by false d g = absurd (cc)
+sort_settled (Tag name) c k e = absurd (cc)
+sort_settled (Raw raw m) c k e = absurd (cc)
+sort_settled Translation c k e = absurd (cc)
+
+pub settled_uncut : (mode : TokenState) (c : ℕ) (k : TokenKind) → settled_kind mode c ≡ Some k → is_open_kind k ≡ false
+settled_uncut Plain c k e = absurd (cc)
+settled_uncut Dollar c k e = by (is_special c) e
+  where
+    by : (b : Bool) → cond b None (Some kind.Letter) ≡ Some k → is_open_kind k ≡ false
+    by true g = absurd (cc)
+    by false g = let same : kind.Letter ≡ k = cc in subst (λ (x : TokenKind). is_open_kind x ≡ false) same refl
+settled_uncut Comment c k e = by (c == 10) e
+  where
+    by : (b : Bool) → cond b (Some kind.Comment) None ≡ Some k → is_open_kind k ≡ false
+    by true g = let same : kind.Comment ≡ k = cc in subst (λ (x : TokenKind). is_open_kind x ≡ false) same refl
+    by false g = absurd (cc)
+settled_uncut (Tag name) c k e = absurd (cc)
+settled_uncut (Raw raw m) c k e = absurd (cc)
+settled_uncut Translation c k e = absurd (cc)
+
+-- all of it is kept
+abbrev pub is_kept_whole : TokenKind → Bool
+is_kept_whole kind.Letter = true
+is_kept_whole kind.Tag = true
+is_kept_whole kind.Raw = true
+is_kept_whole kind.Translation = true
+is_kept_whole _ = false
+
+abbrev pub is_within : TokenState → Bool
+is_within Plain = false
+is_within Comment = false
+is_within _ = true
+
+pub held_within : (mode : TokenState) (held : List ℕ) → is_within mode ≡ true → kept_held mode held ≡ held
+held_within Plain held e = absurd (cc)
+held_within Comment held e = absurd (cc)
+held_within _ held e = refl
+
+-- a token goes on that is kept, or one ends
+abbrev pub IsKept : Step → Type 0
+IsKept (Stays mode) = is_within mode ≡ true
+IsKept (Ends k s) = is_kept_whole k ≡ true
+
+either_kept : (b : Bool) (x y : Step) → IsKept x → IsKept y → IsKept (cond b x y)
+either_kept true x y f g = f
+either_kept false x y f g = g
+
+tag_kept : (s : TagEffect) → IsKept (step_at_tag_end s)
+tag_kept (Begins raw) = refl
+tag_kept (Opens r) = refl
+tag_kept (Closes r) = refl
+tag_kept Mark = refl
+tag_kept Other = refl
+
+pub within_kept : (mode : TokenState) (c : ℕ) → is_within mode ≡ true → IsKept (next_step mode c)
+within_kept Plain c e = absurd (cc)
+within_kept Dollar c e = refl
+within_kept Comment c e = absurd (cc)
+within_kept (Tag name) c e = either_kept (c == 62) _ _ (tag_kept (effect_named name.closing name.word)) refl
+within_kept (Raw raw m) c e =
+    either_kept (c == wanted_char raw m) _ _
+    (either_kept (c == 62) _ _ refl (either_kept (nat_lt m 5) _ _ refl refl))
+    (either_kept (c == 60) _ _ refl refl)
+within_kept Translation c e = either_kept (c == 93) _ _ refl refl
+
+pub keep_within : (facts : TextFacts) (mode : TokenState) (c : ℕ) → is_within mode ≡ true → keep facts mode c ≡ Some c
+keep_within facts Plain c e = absurd (cc)
+keep_within facts Comment c e = absurd (cc)
+keep_within facts _ c e = refl
+
+abbrev pub Single : ℕ → Type 0
+Single c = (k : TokenKind) (so : TagEffect) → first_step c ≡ Ends k so → (k ≡ single c) × (c == 37 ≡ false)
+
+pub begin_ends : (c : ℕ) → Single c
+begin_ends c =
+    by_case 36 c Single (λ k so e. absurd (cc)) (λ e36.
+    by_case 37 c Single (λ k so e. absurd (cc)) (λ e37.
+    by_case 60 c Single (λ k so e. absurd (cc)) (λ e60.
+    by_case 91 c Single (λ k so e. absurd (cc)) (λ e91.
+    λ k so e. let f = rw (e36, e37, e60, e91) at e in ((let g : k ≡ single c = cc in g), e37)))))
+
+pub single_uncut : (c : ℕ) → is_open_kind (single c) ≡ false
+single_uncut c = by (is_blank c) (is_one_of (codes ")]>") c) (c == 123) (c == 125)
+  where
+    by : (a b d e : Bool) → is_open_kind (cond a kind.Blank (cond b kind.Stray (cond d kind.Begin (cond e kind.End kind.Letter)))) ≡ false
+    by true b d e = refl
+    by false true d e = refl
+    by false false true e = refl
+    by false false false true = refl
+    by false false false false = refl
+
+whole_uncut : (k : TokenKind) → is_kept_whole k ≡ true → is_open_kind k ≡ false
+whole_uncut kind.OpenTag e = absurd (cc)
+whole_uncut kind.OpenTranslation e = absurd (cc)
+whole_uncut _ e = refl
+
+pub ends_uncut : (mode : TokenState) (c : ℕ) (k : TokenKind) (so : TagEffect) → next_step mode c ≡ Ends k so → is_open_kind k ≡ false
+ends_uncut Plain c k so e = ap is_open_kind (begin_ends c k so e).0 ∙ single_uncut c
+ends_uncut Comment c k so e = absurd (cc)
+ends_uncut mode c k so e = within mode refl e
+  where
+    within : (m : TokenState) → is_within m ≡ true → next_step m c ≡ Ends k so → is_open_kind k ≡ false
+    within m w e = whole_uncut k (subst IsKept e (within_kept m c w))

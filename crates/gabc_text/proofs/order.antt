@@ -1,0 +1,3 @@
+pub mod FindingsAreInOrder
+pub mod FindingsLieWithin
+pub mod FindingsOfEvents

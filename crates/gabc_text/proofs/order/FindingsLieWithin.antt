@@ -1,0 +1,268 @@
+-- What is emitted of a text by a point is found no later than there.
+use Rattle.std.proofs.Common.{◌≡◌, ℕ, suc, ◌+◌, ◌==◌, List, [], ◌∷◌, ◌++◌, Bool, true, false, cond, refl, sym, ap, ◌∙◌, subst, append_assoc, append-nil, length, length-append, drop, take, map, arith, inl, inr}
+use Rattle.gabc_places.specs.StageLaw.{concat_of}
+use Rattle.gabc_places.specs.Place.{next_place, place_past}
+use Rattle.gabc_places.specs.Findings.{IsUpTo, LieBetween}
+use Rattle.gabc_places.specs.declared.place.Place.{Place}
+use Rattle.gabc_places.specs.declared.place.Span.{Span}
+use Rattle.gabc_places.specs.declared.code.Code.{Code}
+use Rattle.gabc_places.specs.declared.code.Finding.{Finding}
+use Rattle.gabc_text.specs.declared.stage.TextPart.{TextPart}
+use Rattle.gabc_text.specs.declared.stage.TextPart.TheVariants as part
+use Rattle.gabc_text.specs.declared.stage.TextEvent.{TextEvent}
+use Rattle.gabc_text.specs.declared.stage.TextEvent.TheVariants as out
+use Rattle.gabc_text.specs.Token.{Token, spelling, tokens}
+use Rattle.gabc_text.specs.View.{along, effect, is_left_out, is_space, follows_space, place_of, text_of, found_at, findings_at_end, early_codes, late_codes, is_cut, codes_at_end}
+use Rattle.gabc_text.specs.Events.{events_by_point, after_tokens, end_events, lists_at, lists_end, with_first, with_last, no_events_each, kept_each, kept_lists_by, owed_events, last_char_events, early_events, token_events, finding_events, is_lone, parts_at, option_list_of, centre_of, end_after}
+use Rattle.gabc_text.specs.BuiltText.{found_in}
+use Rattle.gabc_text.specs.Printed.{text_of_tokens}
+use Rattle.gabc_text.proofs.tokens.CountsOfTexts.{place_append}
+use Rattle.gabc_text.proofs.machine.TokensOneAfterAnother.{onto, after_is, size}
+use Rattle.gabc_text.proofs.tokens.TokensByCharacter.{drop_past}
+use Rattle.gabc_text.proofs.tokens.TextIsTokensAndRest.{Goes, AllGo, Parted, parted}
+
+-- ---- the order of places
+
+same_place : (p : Place) → IsUpTo p p
+same_place p = inr (refl, omega arith)
+
+up_then : (p q r : Place) → IsUpTo p q → IsUpTo q r → IsUpTo p r
+up_then p q r (inl h) (inl g) = inl (omega arith)
+up_then p q r (inl h) (inr g) = inl (omega (arith, g.0))
+up_then p q r (inr h) (inl g) = inl (omega (arith, h.0))
+up_then p q r (inr h) (inr g) = inr (h.0 ∙ g.0, (let a = h.1 in let b = g.1 in omega arith))
+
+up_next : (p : Place) (c : ℕ) → IsUpTo p (next_place p c)
+up_next p c = by (c == 10)
+  where
+    by : (b : Bool) → IsUpTo p (cond b (record { line = p.line + 1; column = 1 }) (record { line = p.line; column = p.column + 1 }))
+    by true = inl (omega arith)
+    by false = inr (refl, omega arith)
+
+up_past : (p : Place) (t : List ℕ) → IsUpTo p (place_past p t)
+up_past p [] = same_place p
+up_past p (c ∷ t) = up_then p (next_place p c) (place_past (next_place p c) t) (up_next p c) (up_past (next_place p c) t)
+
+up_token : (at : Place) (before : List Token) (k : Token) → IsUpTo (place_of at before) (place_of at (k ∷ before))
+up_token at before k = subst (IsUpTo (place_of at before)) (sym (place_append at (text_of before) (spelling k))) (up_past (place_of at before) (spelling k))
+
+-- ---- lists of findings
+
+lie_wide : (p q r : Place) (fs : List Finding) → IsUpTo q r → LieBetween p q fs → LieBetween p r fs
+lie_wide p q r [] h g = tt
+lie_wide p q r (f ∷ fs) h g = ((g.0.0, up_then f.place q r g.0.1 h), lie_wide p q r fs h g.1)
+
+lie_append : (p q : Place) (fs gs : List Finding) → LieBetween p q fs → LieBetween p q gs → LieBetween p q (fs ++ gs)
+lie_append p q [] gs h g = g
+lie_append p q (f ∷ fs) gs h g = (h.0, lie_append p q fs gs h.1 g)
+
+pub found_more : (xs ys : List TextEvent) → found_in (xs ++ ys) ≡ found_in xs ++ found_in ys
+found_more [] ys = refl
+found_more (out.Kept c ∷ xs) ys = found_more xs ys
+found_more (out.Part p ∷ xs) ys = found_more xs ys
+found_more (out.Found f ∷ xs) ys = ap (λ (x : List Finding). f ∷ x) (found_more xs ys)
+found_more (out.Ended e ∷ xs) ys = found_more xs ys
+
+no_parts : (ps : List TextPart) → found_in (map (λ (p : TextPart). out.Part p) ps) ≡ []
+no_parts [] = refl
+no_parts (p ∷ ps) = no_parts ps
+
+all_found : (fs : List Finding) → found_in (map out.Found fs) ≡ fs
+all_found [] = refl
+all_found (f ∷ fs) = ap (λ (x : List Finding). f ∷ x) (all_found fs)
+
+-- ---- lists by the characters of a text
+
+module _ (at : Place) where
+  -- what is emitted with each character of a text that begins at p is found no later than the character
+  abbrev Walk : Place → List ℕ → List (List TextEvent) → Type 0
+  Walk p t [] = Unit {0}
+  Walk p [] (xs ∷ lists) = LieBetween at p (found_in xs) × Walk p [] lists
+  Walk p (c ∷ t) (xs ∷ lists) = LieBetween at p (found_in xs) × Walk (next_place p c) t lists
+
+  both : (p : Place) (xs ys : List TextEvent) → LieBetween at p (found_in xs) → LieBetween at p (found_in ys) → LieBetween at p (found_in (xs ++ ys))
+  both p xs ys h g = rw (found_more xs ys) (lie_append at p (found_in xs) (found_in ys) h g)
+
+  -- what is emitted through the character behind the prefix
+  walked : (p : Place) (prefix rest : List ℕ) (lists : List (List TextEvent)) → Walk p (prefix ++ rest) lists → LieBetween at (place_past p prefix) (found_in (concat_of (take (suc (length prefix)) lists)))
+  walked p prefix rest [] h = tt
+  walked p [] [] (xs ∷ lists) h = both p xs [] h.0 tt
+  walked p [] (c ∷ rest) (xs ∷ lists) h = both p xs [] h.0 tt
+  walked p (c ∷ prefix) rest (xs ∷ lists) h =
+      both (place_past (next_place p c) prefix) xs (concat_of (take (suc (length prefix)) lists))
+      (lie_wide at p (place_past (next_place p c) prefix) (found_in xs) (up_past p (c ∷ prefix)) h.0)
+      (walked (next_place p c) prefix rest lists h.1)
+
+  walk_nothing : (p : Place) (t u : List ℕ) → Walk p t (no_events_each u)
+  walk_nothing p t [] = tt
+  walk_nothing p [] (d ∷ u) = (tt, walk_nothing p [] u)
+  walk_nothing p (c ∷ t) (d ∷ u) = (tt, walk_nothing (next_place p c) t u)
+
+  walk_append : (p : Place) (s t : List ℕ) (ls ms : List (List TextEvent)) → length ls ≡ length s → Walk p s ls → Walk (place_past p s) t ms → Walk p (s ++ t) (ls ++ ms)
+  walk_append p [] t [] ms e h g = g
+  walk_append p [] t (xs ∷ ls) ms e h g = absurd (omega arith)
+  walk_append p (c ∷ s) t [] ms e h g = absurd (omega arith)
+  walk_append p (c ∷ s) t (xs ∷ ls) ms e h g = (h.0, walk_append (next_place p c) s t ls ms (omega arith) h.1 g)
+
+  walk_first : (p : Place) (s : List ℕ) (xs : List TextEvent) (ls : List (List TextEvent)) → LieBetween at p (found_in xs) → Walk p s ls → Walk p s (with_first xs ls)
+  walk_first p s xs [] h g = tt
+  walk_first p [] xs (ys ∷ ls) h g = (both p xs ys h g.0, g.1)
+  walk_first p (c ∷ s) xs (ys ∷ ls) h g = (both p xs ys h g.0, g.1)
+
+  walk_last : (p : Place) (s : List ℕ) (xs : List TextEvent) (ls : List (List TextEvent)) → LieBetween at p (found_in xs) → Walk p s ls → Walk p s (with_last xs ls)
+  walk_last p s xs [] h g = tt
+  walk_last p [] xs (ys ∷ []) h g = (both p ys xs g.0 h, tt)
+  walk_last p (c ∷ s) xs (ys ∷ []) h g = (both p ys xs g.0 h, tt)
+  walk_last p [] xs (ys ∷ zs ∷ ls) h g = (g.0, walk_last p [] xs (zs ∷ ls) h g.1)
+  walk_last p (c ∷ s) xs (ys ∷ zs ∷ ls) h g =
+      (g.0, walk_last (next_place p c) s xs (zs ∷ ls) (lie_wide at p (next_place p c) (found_in xs) (up_next p c) h) g.1)
+
+  walk_kept : (p q : Place) (s t : List ℕ) → Walk p s (kept_each q t)
+  walk_kept p q s [] = tt
+  walk_kept p q [] (d ∷ t) = (tt, walk_kept p (next_place q d) [] t)
+  walk_kept p q (c ∷ s) (d ∷ t) = (tt, walk_kept (next_place p c) (next_place q d) s t)
+
+  walk_base : (before : List Token) (k : Token) → Walk (place_of at before) (spelling k) (kept_lists_by at before k.kind (spelling k))
+  walk_base before k = by (is_left_out before k.kind) (is_space k.kind) (follows_space before)
+    where
+      by : (a b f : Bool) → Walk (place_of at before) (spelling k) (cond a (no_events_each (spelling k)) (cond b (cond f [] (out.Kept (record { c = 32; place = place_of at before }) ∷ []) ∷ []) (kept_each (place_of at before) (spelling k))))
+      by true b f = walk_nothing (place_of at before) (spelling k) (spelling k)
+      by false true true = (tt, tt)
+      by false true false = (tt, tt)
+      by false false f = walk_kept (place_of at before) (place_of at before) (spelling k) (spelling k)
+
+  -- ---- how many lists a token has
+
+  many_first : (xs : List TextEvent) (ls : List (List TextEvent)) → length (with_first xs ls) ≡ length ls
+  many_first xs [] = refl
+  many_first xs (ys ∷ ls) = refl
+
+  many_last : (xs : List TextEvent) (ls : List (List TextEvent)) → length (with_last xs ls) ≡ length ls
+  many_last xs [] = refl
+  many_last xs (ys ∷ []) = refl
+  many_last xs (ys ∷ zs ∷ ls) = ap suc (many_last xs (zs ∷ ls))
+
+  many_nothing : (s : List ℕ) → length (no_events_each s) ≡ length s
+  many_nothing [] = refl
+  many_nothing (c ∷ s) = ap suc (many_nothing s)
+
+  many_kept : (p : Place) (s : List ℕ) → length (kept_each p s) ≡ length s
+  many_kept p [] = refl
+  many_kept p (c ∷ s) = ap suc (many_kept (next_place p c) s)
+
+  many_base : (before : List Token) (k : Token) → (is_space k.kind ≡ true → k.more ≡ []) → length (kept_lists_by at before k.kind (spelling k)) ≡ length (spelling k)
+  many_base before k h = by (is_left_out before k.kind) (is_space k.kind) refl
+    where
+      by : (a b : Bool) → is_space k.kind ≡ b
+          → length (cond a (no_events_each (spelling k)) (cond b (cond (follows_space before) [] (out.Kept (record { c = 32; place = place_of at before }) ∷ []) ∷ []) (kept_each (place_of at before) (spelling k)))) ≡ length (spelling k)
+      by true b e = many_nothing (spelling k)
+      by false true e = ap (λ (s : List ℕ). length (k.first ∷ s)) (sym (h e))
+      by false false e = many_kept (place_of at before) (spelling k)
+
+  pub many_lists : (before : List Token) (k : Token) (u : List ℕ) → Goes k u → length (lists_at at before k) ≡ length (spelling k)
+  many_lists before k u g =
+      many_last (last_char_events at before k) (with_first (owed_events at before ++ early_events at before k.kind) (kept_lists_by at before k.kind (spelling k)))
+      ∙ many_first (owed_events at before ++ early_events at before k.kind) (kept_lists_by at before k.kind (spelling k))
+      ∙ many_base before k g.blank
+
+  -- ---- what a token tells
+
+  from_here : (before : List Token) → IsUpTo at (place_of at before)
+  from_here before = up_past at (text_of before)
+
+  lie_codes : (before : List Token) (cs : List Code) → LieBetween at (place_of at before) (found_in (finding_events at before cs))
+  lie_codes before [] = tt
+  lie_codes before (c ∷ cs) = ((from_here before, same_place (place_of at before)), lie_codes before cs)
+
+  lie_whole : (before : List Token) (k : Token) → LieBetween at (place_of at before) (found_in (token_events at before k))
+  lie_whole before k =
+      both (place_of at before) (map (λ (p : TextPart). out.Part p) (parts_at before k)) (finding_events at before (late_codes before k.kind (effect k)))
+      (rw (no_parts (parts_at before k)) tt) (lie_codes before (late_codes before k.kind (effect k)))
+
+  lie_now : (before : List Token) (k : Token) → LieBetween at (place_of at before) (found_in (last_char_events at before k))
+  lie_now before k = by (is_lone k)
+    where
+      by : (b : Bool) → LieBetween at (place_of at before) (found_in (cond b [] (token_events at before k)))
+      by true = tt
+      by false = lie_whole before k
+
+  lie_owed : (before : List Token) → LieBetween at (place_of at before) (found_in (owed_events at before))
+  lie_owed [] = tt
+  lie_owed (k ∷ before) = by (is_lone k)
+    where
+      by : (b : Bool) → LieBetween at (place_of at (k ∷ before)) (found_in (cond b (token_events at before k) []))
+      by true = lie_wide at (place_of at before) (place_of at (k ∷ before)) (found_in (token_events at before k)) (up_token at before k) (lie_whole before k)
+      by false = tt
+
+  walk_token : (before : List Token) (k : Token) → Walk (place_of at before) (spelling k) (lists_at at before k)
+  walk_token before k =
+      walk_last (place_of at before) (spelling k) (last_char_events at before k) (with_first (owed_events at before ++ early_events at before k.kind) (kept_lists_by at before k.kind (spelling k)))
+      (lie_now before k)
+      (walk_first (place_of at before) (spelling k) (owed_events at before ++ early_events at before k.kind) (kept_lists_by at before k.kind (spelling k))
+      (both (place_of at before) (owed_events at before) (early_events at before k.kind) (lie_owed before) (lie_codes before (early_codes before k.kind)))
+      (walk_base before k))
+
+  -- ---- the whole
+
+  lie_map : (before : List Token) (cs : List Code) → LieBetween at (place_of at before) (map (found_at (place_of at before)) cs)
+  lie_map before [] = tt
+  lie_map before (c ∷ cs) = ((from_here before, same_place (place_of at before)), lie_map before cs)
+
+  lie_end : (before : List Token) → LieBetween at (place_of at before) (findings_at_end at before)
+  lie_end before = by (is_cut before)
+    where
+      by : (b : Bool) → LieBetween at (place_of at before) (cond b [] (map (found_at (place_of at before)) (codes_at_end before)))
+      by true = tt
+      by false = lie_map before (codes_at_end before)
+
+  pub end_found : (before : List Token) (rest : List ℕ) → found_in (end_events at before rest) ≡ findings_at_end at before
+  end_found before rest =
+      let centre = map (λ (s : Span). out.Part (part.Centre s)) (option_list_of (centre_of before)) in
+      found_more (map out.Found (findings_at_end at before)) (centre ++ out.Ended (end_after at before rest) ∷ [])
+      ∙ ap (λ (x : List Finding). x ++ found_in (centre ++ out.Ended (end_after at before rest) ∷ [])) (all_found (findings_at_end at before))
+      ∙ ap (λ (x : List Finding). findings_at_end at before ++ x) (found_more centre (out.Ended (end_after at before rest) ∷ []) ∙ ap (λ (x : List Finding). x ++ []) (centres (option_list_of (centre_of before))))
+      ∙ append-nil (findings_at_end at before)
+    where
+      centres : (ss : List Span) → found_in (map (λ (s : Span). out.Part (part.Centre s)) ss) ≡ []
+      centres [] = refl
+      centres (s ∷ ss) = centres ss
+
+  walk_end : (p : Place) (xs : List TextEvent) (t : List ℕ) → LieBetween at p (found_in xs) → Walk p t (xs ∷ no_events_each t)
+  walk_end p xs [] h = (h, tt)
+  walk_end p xs (c ∷ t) h = (h, walk_nothing (next_place p c) t (c ∷ t))
+
+  walk_along : (ks before : List Token) (rest : List ℕ) → AllGo ks rest → Walk (place_of at before) (text_of_tokens ks ++ rest) (along (lists_at at) before ks ++ lists_end at (onto ks before) rest)
+  walk_along [] before rest g =
+      walk_end (place_of at before) (owed_events at before ++ end_events at before rest) rest
+      (both (place_of at before) (owed_events at before) (end_events at before rest) (lie_owed before) (rw (end_found before rest) (lie_end before)))
+  walk_along (k ∷ ks) before rest g =
+      let more = along (lists_at at) (k ∷ before) ks ++ lists_end at (onto ks (k ∷ before)) rest in
+      subst (λ (t : List ℕ). Walk (place_of at before) t ((lists_at at before k ++ along (lists_at at) (k ∷ before) ks) ++ lists_end at (onto ks (k ∷ before)) rest))
+      (sym (append_assoc (spelling k) (text_of_tokens ks) rest))
+      (subst (Walk (place_of at before) (spelling k ++ (text_of_tokens ks ++ rest))) (sym (append_assoc (lists_at at before k) (along (lists_at at) (k ∷ before) ks) (lists_end at (onto ks (k ∷ before)) rest)))
+      (walk_append (place_of at before) (spelling k) (text_of_tokens ks ++ rest) (lists_at at before k) more
+      (many_lists before k (text_of_tokens ks ++ rest) g.0) (walk_token before k)
+      (subst (λ (p : Place). Walk p (text_of_tokens ks ++ rest) more) (place_append at (text_of before) (spelling k)) (walk_along ks (k ∷ before) rest g.1))))
+
+-- the text as it is parted, and what it gives
+pub events_parted : (at : Place) (t : List ℕ) (p : Parted t (tokens t)) → events_by_point at t ≡ along (lists_at at) [] (tokens t) ++ lists_end at (onto (tokens t) []) p.rest
+events_parted at t p = ap (λ (x : List ℕ). along (lists_at at) [] (tokens t) ++ lists_end at (onto (tokens t) []) x) (left_is t p)
+  where
+    spelled : (ks : List Token) → size ks ≡ length (text_of_tokens ks)
+    spelled [] = refl
+    spelled (k ∷ ks) = ap (λ (n : ℕ). length (spelling k) + n) (spelled ks) ∙ sym (length-append (spelling k) (text_of_tokens ks))
+
+    left_is : (t : List ℕ) (p : Parted t (tokens t)) → after_tokens t ≡ p.rest
+    left_is t p =
+        after_is t ∙ ap (λ (n : ℕ). drop n t) (spelled (tokens t)) ∙ ap (drop (length (text_of_tokens (tokens t)))) p.parts ∙ drop_past (text_of_tokens (tokens t)) p.rest
+
+pub found_within : (at : Place) (prefix rest : List ℕ) → LieBetween at (place_past at prefix) (found_in (concat_of (take (length prefix + 1) (events_by_point at (prefix ++ rest)))))
+found_within at prefix rest =
+    let t = prefix ++ rest in
+    let p = parted t in
+    let w = walk_along at (tokens t) [] p.rest p.go in
+    let v = subst (λ (s : List ℕ). Walk at at s (along (lists_at at) [] (tokens t) ++ lists_end at (onto (tokens t) []) p.rest)) (sym p.parts) w in
+    let h = subst (Walk at at t) (sym (events_parted at t p)) v in
+    let one : suc (length prefix) ≡ length prefix + 1 = omega arith in
+    subst (λ (n : ℕ). LieBetween at (place_past at prefix) (found_in (concat_of (take n (events_by_point at t))))) one
+    (walked at at prefix rest (events_by_point at t) h)

@@ -1,0 +1,105 @@
+-- All that is found of a text is its findings, and their codes are low.
+use Rattle.std.proofs.Common.{◌≡◌, ℕ, ◌<◌, ◌&&◌, not, List, [], ◌∷◌, ◌++◌, Bool, true, false, cond, sym, ap, ◌∙◌, append_assoc, append-nil, map, reverse, arith}
+use Rattle.std.specs.List.{All, list_any}
+use Rattle.std.proofs.lemmas.List.Elements.{All-nil, All-cons}
+use Rattle.gabc_places.specs.StageLaw.{concat_of}
+use Rattle.gabc_places.specs.Code.{rank_of}
+use Rattle.gabc_places.specs.declared.place.Place.{Place}
+use Rattle.gabc_places.specs.declared.code.Code.{Code}
+use Rattle.gabc_places.specs.declared.code.Code.TheVariants.{W3, W4}
+use Rattle.gabc_places.specs.declared.code.Finding.{Finding}
+use Rattle.gabc_text.specs.declared.token.TokenKind.{TokenKind}
+use Rattle.gabc_text.specs.declared.token.TokenKind.TheVariants as kind
+use Rattle.gabc_text.specs.declared.token.TagEffect.{TagEffect}
+use Rattle.gabc_text.specs.declared.token.TagEffect.TheVariants.{Opens, Closes, Other}
+use Rattle.gabc_text.specs.declared.stage.TextEvent.{TextEvent}
+use Rattle.gabc_text.specs.declared.stage.TextEvent.TheVariants as out
+use Rattle.gabc_text.specs.Token.{Token, tokens}
+use Rattle.gabc_text.specs.View.{along, effect, is_open, all_styles, has_begin, has_end, has_translation, is_cut, early_codes, late_codes, found_at, findings_at, findings_at_end, findings, place_of}
+use Rattle.gabc_text.specs.Events.{events_of, events_by_point}
+use Rattle.gabc_text.specs.BuiltText.{BuiltText, with_event, with_events, empty_text, found_in}
+use Rattle.gabc_text.proofs.events.EventsByPointAreEvents.{points_joined}
+use Rattle.gabc_text.proofs.events.EventsBuildText.{events_whole}
+
+gathered : (t : BuiltText) (os : List TextEvent) → (with_events t os).findings ≡ t.findings ++ found_in os
+gathered t [] = sym (append-nil t.findings)
+gathered t (out.Kept c ∷ os) = gathered (with_event t (out.Kept c)) os
+gathered t (out.Part p ∷ os) = gathered (with_event t (out.Part p)) os
+gathered t (out.Found f ∷ os) = gathered (with_event t (out.Found f)) os ∙ append_assoc t.findings (f ∷ []) (found_in os)
+gathered t (out.Ended e ∷ os) = gathered (with_event t (out.Ended e)) os
+
+pub found_all : (at : Place) (t : List ℕ) → found_in (concat_of (events_by_point at t)) ≡ findings at t
+found_all at t = ap found_in (points_joined at t) ∙ sym (gathered empty_text (events_of at t)) ∙ ap (λ (x : BuiltText). x.findings) (events_whole at t)
+
+-- ---- codes
+
+abbrev IsLow : Code → Type 0
+IsLow c = rank_of c < 15
+
+abbrev AreLow : List Code → Type 0
+AreLow [] = Unit {0}
+AreLow (c ∷ cs) = IsLow c × AreLow cs
+
+low_append : (cs ds : List Code) → AreLow cs → AreLow ds → AreLow (cs ++ ds)
+low_append [] ds h g = g
+low_append (c ∷ cs) ds h g = (h.0, low_append cs ds h.1 g)
+
+either : (b : Bool) (c : Code) → IsLow c → AreLow (cond b (c ∷ []) [])
+either true c h = (h, tt)
+either false c h = tt
+
+neither : (b : Bool) (c : Code) → IsLow c → AreLow (cond b [] (c ∷ []))
+neither true c h = tt
+neither false c h = (h, tt)
+
+early_low : (before : List Token) (d : TokenKind) → AreLow (early_codes before d)
+early_low before kind.Translation = either (has_translation before) _ (omega arith)
+early_low before kind.OpenTranslation = either (has_translation before) _ (omega arith)
+early_low before _ = tt
+
+late_low : (before : List Token) (d : TokenKind) (s : TagEffect) → AreLow (late_codes before d s)
+late_low before kind.Stray s = (omega arith, tt)
+late_low before kind.Begin s = either (has_begin before) _ (omega arith)
+late_low before kind.End s = neither (has_begin before && not (has_end before)) _ (omega arith)
+late_low before kind.Tag (Opens r) = either (is_open r before) _ (omega arith)
+late_low before kind.Tag (Closes r) = neither (is_open r before) _ (omega arith)
+late_low before kind.Tag Other = (omega arith, tt)
+late_low before kind.Tag _ = tt
+late_low before _ s = tt
+
+-- ---- findings
+
+abbrev AllLow : List Finding → Type 0
+AllLow [] = Unit {0}
+AllLow (f ∷ fs) = IsLow f.code × AllLow fs
+
+found_low : (p : Place) (cs : List Code) → AreLow cs → AllLow (map (found_at p) cs)
+found_low p [] h = tt
+found_low p (c ∷ cs) h = (h.0, found_low p cs h.1)
+
+more_low : (fs gs : List Finding) → AllLow fs → AllLow gs → AllLow (fs ++ gs)
+more_low [] gs h g = g
+more_low (f ∷ fs) gs h g = (h.0, more_low fs gs h.1 g)
+
+each_low : (fs : List Finding) → AllLow fs → All (λ (f : Finding). rank_of f.code < 15) fs
+each_low [] h = All-nil (λ (f : Finding). rank_of f.code < 15)
+each_low (f ∷ fs) h = All-cons (λ (g : Finding). rank_of g.code < 15) f fs h.0 (each_low fs h.1)
+
+module _ (at : Place) where
+  along_low : (ks before : List Token) → AllLow (along (findings_at at) before ks)
+  along_low [] before = tt
+  along_low (k ∷ ks) before =
+      more_low (findings_at at before k) (along (findings_at at) (k ∷ before) ks)
+      (found_low (place_of at before) (early_codes before k.kind ++ late_codes before k.kind (effect k))
+      (low_append (early_codes before k.kind) (late_codes before k.kind (effect k)) (early_low before k.kind) (late_low before k.kind (effect k))))
+      (along_low ks (k ∷ before))
+
+  end_low : (before : List Token) → AllLow (findings_at_end at before)
+  end_low before = by (is_cut before) (list_any (λ s. is_open s before) all_styles) (has_begin before && not (has_end before))
+    where
+      by : (x y z : Bool) → AllLow (cond x [] (map (found_at (place_of at before)) (cond y (W3 ∷ []) [] ++ cond z (W4 ∷ []) [])))
+      by true y z = tt
+      by false y z = found_low (place_of at before) (cond y (W3 ∷ []) [] ++ cond z (W4 ∷ []) []) (low_append (cond y (W3 ∷ []) []) (cond z (W4 ∷ []) []) (either y W3 (omega arith)) (either z W4 (omega arith)))
+
+  pub findings_low : (t : List ℕ) → All (λ (f : Finding). rank_of f.code < 15) (findings at t)
+  findings_low t = each_low (findings at t) (more_low (along (findings_at at) [] (tokens t)) (findings_at_end at (reverse (tokens t))) (along_low (tokens t) []) (end_low (reverse (tokens t))))

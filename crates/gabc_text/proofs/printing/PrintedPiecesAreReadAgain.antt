@@ -1,0 +1,189 @@
+-- Printed pieces are read as they were.
+use Rattle.std.proofs.Common.{◌≡◌, ℕ, ◌+◌, ◌==◌, List, [], ◌∷◌, ◌++◌, Bool, true, false, ◌||◌, cond, refl, ap, ◌∙◌, map, reverse, filter, Option, Some, None}
+use Rattle.gabc_places.specs.declared.place.Span.{Span}
+use Rattle.gabc_text.specs.declared.styles.Style.{Style}
+use Rattle.gabc_text.specs.declared.styles.Style.TheVariants.{B, C, E, I, Sc, Tt, Ul}
+use Rattle.gabc_text.specs.declared.view.PieceKind.{PieceKind}
+use Rattle.gabc_text.specs.declared.view.PieceKind.TheVariants as piece
+use Rattle.gabc_text.specs.declared.token.TokenKind.{TokenKind}
+use Rattle.gabc_text.specs.declared.token.TokenKind.TheVariants as kind
+use Rattle.gabc_text.specs.declared.token.TagEffect.{TagEffect}
+use Rattle.gabc_text.specs.declared.token.TagEffect.TheVariants.{Opens, Closes}
+use Rattle.gabc_text.specs.Token.{Token, spelling, effect_of}
+use Rattle.gabc_text.specs.View.{along, effect_as, tag_piece, piece_kind, is_open_after, is_open, all_styles, open_styles, kind_of, is_word_kind, has_word, follows_blank, starts_word, pieces_at, piece_of, PieceFacts, text_of_piece, is_space, is_blank_piece, is_translation}
+use Rattle.gabc_text.specs.Canonical.{after_common}
+use Rattle.gabc_text.specs.Printed.{opening_tag, closing_tag, tokens_between, brace_tokens, printed_piece, print_from}
+use Rattle.gabc_text.proofs.printing.TokensAreReadAgain.{Stable, opening_stable, closing_stable}
+use Rattle.gabc_text.proofs.printing.PrintedTagsOpenStyles.{push, along_append, member, AllOnce, Quiet, across, styles_again, once}
+
+-- ---- tokens that are no pieces
+
+pub record Silent (k : Token) : Type 0 where
+  pub none : kind_of k ≡ None
+  pub no_space : is_space k.kind ≡ false
+  pub no_translation : is_translation k.kind ≡ false
+  pub stable : Stable k
+
+abbrev pub AllSilent : List Token → Type 0
+AllSilent [] = Unit {0}
+AllSilent (k ∷ ks) = Silent k × AllSilent ks
+
+pub silent_append : (ks ls : List Token) → AllSilent ks → AllSilent ls → AllSilent (ks ++ ls)
+silent_append [] ls h g = g
+silent_append (k ∷ ks) ls h g = (h.0, silent_append ks ls h.1 g)
+
+pub opening_silent : (ss : List Style) → AllSilent (map opening_tag ss)
+opening_silent [] = tt
+opening_silent (s ∷ ss) = (one s, opening_silent ss)
+  where
+    one : (s : Style) → Silent (opening_tag s)
+    one B = record { none = refl; no_space = refl; no_translation = refl; stable = opening_stable B }
+    one C = record { none = refl; no_space = refl; no_translation = refl; stable = opening_stable C }
+    one E = record { none = refl; no_space = refl; no_translation = refl; stable = opening_stable E }
+    one I = record { none = refl; no_space = refl; no_translation = refl; stable = opening_stable I }
+    one Sc = record { none = refl; no_space = refl; no_translation = refl; stable = opening_stable Sc }
+    one Tt = record { none = refl; no_space = refl; no_translation = refl; stable = opening_stable Tt }
+    one Ul = record { none = refl; no_space = refl; no_translation = refl; stable = opening_stable Ul }
+
+pub closing_silent : (ss : List Style) → AllSilent (map closing_tag ss)
+closing_silent [] = tt
+closing_silent (s ∷ ss) = (one s, closing_silent ss)
+  where
+    one : (s : Style) → Silent (closing_tag s)
+    one B = record { none = refl; no_space = refl; no_translation = refl; stable = closing_stable B }
+    one C = record { none = refl; no_space = refl; no_translation = refl; stable = closing_stable C }
+    one E = record { none = refl; no_space = refl; no_translation = refl; stable = closing_stable E }
+    one I = record { none = refl; no_space = refl; no_translation = refl; stable = closing_stable I }
+    one Sc = record { none = refl; no_space = refl; no_translation = refl; stable = closing_stable Sc }
+    one Tt = record { none = refl; no_space = refl; no_translation = refl; stable = closing_stable Tt }
+    one Ul = record { none = refl; no_space = refl; no_translation = refl; stable = closing_stable Ul }
+
+-- braces between pieces
+pub record Braces (ks : List Token) : Type 0 where
+  pub silent : AllSilent ks
+  pub quiet : Quiet ks
+
+pub are_braces : (centre : Option Span) (i : ℕ) → Braces (brace_tokens centre i)
+are_braces None i = record { silent = tt; quiet = λ s before. refl }
+are_braces (Some c) i = by (c.from == i) (c.to == i)
+  where
+    by : (a b : Bool) → Braces (cond a (cond b (record { kind = kind.Begin; first = 123; more = [] } ∷ record { kind = kind.End; first = 125; more = [] } ∷ []) (record { kind = kind.Begin; first = 123; more = [] } ∷ []))
+        (cond b (record { kind = kind.End; first = 125; more = [] } ∷ []) []))
+    by true true = record { silent = (record { none = refl; no_space = refl; no_translation = refl; stable = λ u. refl }, (record { none = refl; no_space = refl; no_translation = refl; stable = λ u. refl }, tt)); quiet = λ s before. refl }
+    by true false = record { silent = (record { none = refl; no_space = refl; no_translation = refl; stable = λ u. refl }, tt); quiet = λ s before. refl }
+    by false true = record { silent = (record { none = refl; no_space = refl; no_translation = refl; stable = λ u. refl }, tt); quiet = λ s before. refl }
+    by false false = record { silent = tt; quiet = λ s before. refl }
+
+pub between_silent : (old new : List Style) (middle : List Token) → AllSilent middle → AllSilent (tokens_between old new middle)
+between_silent old new middle h =
+    silent_append (map closing_tag (reverse (after_common old new).0) ++ middle) (map opening_tag (after_common old new).1)
+    (silent_append (map closing_tag (reverse (after_common old new).0)) middle (closing_silent (reverse (after_common old new).0)) h) (opening_silent (after_common old new).1)
+
+-- they give no pieces, and change nothing of what the pieces look at
+no_pieces : (before : List Token) (k : Token) → Silent k → pieces_at before k ≡ []
+no_pieces before k h = rw (h.none, h.no_space) refl
+
+pub silent_along : (before ks : List Token) → AllSilent ks → along pieces_at before ks ≡ []
+silent_along before [] h = refl
+silent_along before (k ∷ ks) h = rw (no_pieces before k h.0) (silent_along (k ∷ before) ks h.1)
+
+pub silent_word : (before ks : List Token) → AllSilent ks → has_word (push ks before) ≡ has_word before
+silent_word before [] h = refl
+silent_word before (k ∷ ks) h = silent_word (k ∷ before) ks h.1 ∙ rw h.0.none refl
+
+pub silent_blank : (before ks : List Token) → AllSilent ks → follows_blank (push ks before) ≡ follows_blank before
+silent_blank before [] h = refl
+silent_blank before (k ∷ ks) h = silent_blank (k ∷ before) ks h.1 ∙ rw (h.0.none, h.0.no_space) refl
+
+pub silent_starts : (before ks : List Token) → AllSilent ks → starts_word (push ks before) ≡ starts_word before
+silent_starts before [] h = refl
+silent_starts before (k ∷ ks) h = silent_starts (k ∷ before) ks h.1 ∙ rw h.0.no_space refl
+
+-- ---- pieces that are read again
+
+-- a piece but a blank, which is printed as a token of that kind, and a blank after a word and no blank
+abbrev pub Says : PieceKind → List ℕ → Bool → Bool → Type 0
+Says piece.Blank t w b = (t ≡ []) × (w ≡ true) × (b ≡ false)
+Says k t w b = (kind_of (printed_piece k t) ≡ Some k) × (text_of_piece k (printed_piece k t) ≡ t) × (is_space (printed_piece k t).kind ≡ false)
+
+pub record Good (p : PieceFacts) (w b : Bool) : Type 0 where
+  pub test : Style → Bool
+  pub styles_are : p.styles ≡ filter test all_styles
+  pub stable : Stable (printed_piece p.kind p.text)
+  pub says : Says p.kind p.text w b
+
+-- the pieces after a word or none, and after a blank or none
+abbrev pub AllGood : Bool → Bool → List PieceFacts → Type 0
+AllGood w b [] = Unit {0}
+AllGood w b (p ∷ ps) = Good p w b × AllGood (is_word_kind (Some p.kind) || w) (is_blank_piece p.kind) ps
+
+of_kind : (before : List Token) (k : Token) (p : PieceKind) (t : List ℕ) → kind_of k ≡ Some p → text_of_piece p k ≡ t
+    → pieces_at before k ≡ record { kind = p; styles = open_styles before; text = t } ∷ []
+of_kind before k p t e f = ap (piece_of before k) e ∙ ap (λ (x : List ℕ). record { kind = p; styles = open_styles before; text = x } ∷ []) f
+
+-- a piece changes no style
+same_open : (s : Style) (d : TokenKind) (t : List ℕ) (p : PieceKind) (was : Bool) → piece_kind d (effect_as d t) ≡ Some p → is_open_after s (effect_as d t) was ≡ was
+same_open s kind.Tag t p was e = by (effect_of t) e
+  where
+    by : (so : TagEffect) → tag_piece so ≡ Some p → is_open_after s so was ≡ was
+    by (Opens r) e = absurd (cc)
+    by (Closes r) e = absurd (cc)
+    by _ e = refl
+same_open s _ t p was e = refl
+
+-- what a printed piece does after such tokens
+pub record Does (p : PieceFacts) (w b : Bool) (before : List Token) : Type 0 where
+  pub gives : pieces_at before (printed_piece p.kind p.text) ≡ record { kind = p.kind; styles = open_styles before; text = p.text } ∷ []
+  pub word : has_word (printed_piece p.kind p.text ∷ before) ≡ (is_word_kind (Some p.kind) || w)
+  pub blank : follows_blank (printed_piece p.kind p.text ∷ before) ≡ is_blank_piece p.kind
+  pub opens : (s : Style) → is_open s (printed_piece p.kind p.text ∷ before) ≡ is_open s before
+  pub starts : starts_word (printed_piece p.kind p.text ∷ before) ≡ starts_word before
+
+no_blank : (k : PieceKind) (t : List ℕ) (ss : List Style) (w b : Bool) (before : List Token) → kind_of (printed_piece k t) ≡ Some k → text_of_piece k (printed_piece k t) ≡ t → is_space (printed_piece k t).kind ≡ false
+    → is_blank_piece k ≡ false → has_word before ≡ w → Does (record { kind = k; styles = ss; text = t }) w b before
+no_blank k t ss w b before e f g n h = record {
+  gives = of_kind before (printed_piece k t) k t e f;
+  word = ap (λ o. is_word_kind o || has_word before) e ∙ ap (λ x. is_word_kind (Some k) || x) h;
+  blank = rw (g, e, n) refl;
+  opens = λ s. same_open s (printed_piece k t).kind (spelling (printed_piece k t)) k (is_open s before) e;
+  starts = rw g refl;
+}
+
+pub does : (p : PieceFacts) (w b : Bool) (before : List Token) → Good p w b → has_word before ≡ w → (w ≡ true → follows_blank before ≡ b) → Does p w b before
+does p w b before h e f = by p.kind h.says
+  where
+    by : (k : PieceKind) → Says k p.text w b → Does (record { kind = k; styles = p.styles; text = p.text }) w b before
+    by piece.Blank g = record {
+      gives = rw (e, g.1, f g.1, g.2, g.0) refl;
+      word = e ∙ g.1;
+      blank = refl;
+      opens = λ s. refl;
+      starts = rw (e, g.1) refl;
+    }
+    by piece.Char g = no_blank piece.Char p.text p.styles w b before g.0 g.1 g.2 refl e
+    by piece.Raw g = no_blank piece.Raw p.text p.styles w b before g.0 g.1 g.2 refl e
+    by piece.Tag g = no_blank piece.Tag p.text p.styles w b before g.0 g.1 g.2 refl e
+    by piece.Mark g = no_blank piece.Mark p.text p.styles w b before g.0 g.1 g.2 refl e
+
+-- the pieces are read again
+pub pieces_again : (centre : Option Span) (i : ℕ) (old : List Style) (ps : List PieceFacts) (w b : Bool) (before : List Token)
+    → AllOnce old → ((s : Style) → is_open s before ≡ member s old) → has_word before ≡ w → (w ≡ true → follows_blank before ≡ b) → AllGood w b ps
+    → along pieces_at before (print_from centre i old ps) ≡ ps
+pieces_again centre i old [] w b before o h e f g = silent_along before (tokens_between old [] (brace_tokens centre i)) (between_silent old [] (brace_tokens centre i) (are_braces centre i).silent)
+pieces_again centre i old (p ∷ ps) w b before o h e f g =
+    let gap = tokens_between old p.styles (brace_tokens centre i) in
+    let silent : AllSilent gap = between_silent old p.styles (brace_tokens centre i) (are_braces centre i).silent in
+    let set : p.styles ≡ filter (g.0).test all_styles = (g.0).styles_are in
+    let now = push gap before in
+    let d = does p w b now g.0 (silent_word before gap silent ∙ e) (λ x. silent_blank before gap silent ∙ f x) in
+    let styles : open_styles now ≡ p.styles =
+    rw set (styles_again old (g.0).test (brace_tokens centre i) before o (are_braces centre i).quiet h) in
+    let opens : (s : Style) → is_open s (printed_piece p.kind p.text ∷ now) ≡ member s p.styles =
+    λ s. d.opens s ∙ across s old p.styles (brace_tokens centre i) before o (are_braces centre i).quiet (h s) in
+    let none : AllOnce p.styles = rw set (once (g.0).test) in
+    along_append pieces_at before gap (printed_piece p.kind p.text ∷ print_from centre (i + 1) p.styles ps)
+    ∙ ap (λ (x : List PieceFacts). x ++ along pieces_at now (printed_piece p.kind p.text ∷ print_from centre (i + 1) p.styles ps)) (silent_along before gap silent)
+    ∙ ap (λ (x : List PieceFacts). x ++ along pieces_at (printed_piece p.kind p.text ∷ now) (print_from centre (i + 1) p.styles ps)) d.gives
+    ∙ ap (λ (x : List Style). record { kind = p.kind; styles = x; text = p.text } ∷ along pieces_at (printed_piece p.kind p.text ∷ now) (print_from centre (i + 1) p.styles ps)) styles
+    ∙ ap (λ (x : List PieceFacts). p ∷ x)
+    (pieces_again centre (i + 1) p.styles ps (is_word_kind (Some p.kind) || w) (is_blank_piece p.kind) (printed_piece p.kind p.text ∷ now) none opens d.word (λ x. d.blank) g.1)

@@ -1,0 +1,219 @@
+-- Printed tags leave open the styles that they should.
+use Rattle.std.proofs.Common.{◌≡◌, List, [], ◌∷◌, ◌++◌, Bool, true, false, ◌||◌, ◌&&◌, not, cond, refl, sym, ap, ◌∙◌, map, reverse, filter, append_assoc}
+use Rattle.std.proofs.lemmas.List.{reverse-append}
+use Rattle.std.specs.List.{list_any}
+use Rattle.gabc_text.specs.declared.styles.Style.{Style}
+use Rattle.gabc_text.specs.declared.styles.Style.TheVariants.{B, C, E, I, Sc, Tt, Ul}
+use Rattle.gabc_text.specs.Token.{Token}
+use Rattle.gabc_text.specs.View.{along, is_open, is_same, all_styles, open_styles}
+use Rattle.gabc_text.specs.Canonical.{after_common}
+use Rattle.gabc_text.specs.Printed.{opening_tag, closing_tag, tokens_between}
+
+-- the tokens ks after `before`, the nearest first
+abbrev pub push : List Token → List Token → List Token
+push [] before = before
+push (k ∷ ks) before = push ks (k ∷ before)
+
+pub push_append : (ks ls before : List Token) → push (ks ++ ls) before ≡ push ls (push ks before)
+push_append [] ls before = refl
+push_append (k ∷ ks) ls before = push_append ks ls (k ∷ before)
+
+pub along_append : {X : Type 0} (at : List Token → Token → List X) (before ks ls : List Token) → along at before (ks ++ ls) ≡ along at before ks ++ along at (push ks before) ls
+along_append at before [] ls = refl
+along_append at before (k ∷ ks) ls =
+    ap (λ x. at before k ++ x) (along_append at (k ∷ before) ks ls) ∙ sym (append_assoc (at before k) (along at (k ∷ before) ks) (along at (push ks (k ∷ before)) ls))
+
+abbrev pub member : Style → List Style → Bool
+member s xs = list_any (λ r. is_same r s) xs
+
+-- ---- one tag
+
+open_one : (r s : Style) (before : List Token) → is_open s (opening_tag r ∷ before) ≡ cond (is_same r s) true (is_open s before)
+open_one B s before = refl
+open_one C s before = refl
+open_one E s before = refl
+open_one I s before = refl
+open_one Sc s before = refl
+open_one Tt s before = refl
+open_one Ul s before = refl
+
+close_one : (r s : Style) (before : List Token) → is_open s (closing_tag r ∷ before) ≡ cond (is_same r s) false (is_open s before)
+close_one B s before = refl
+close_one C s before = refl
+close_one E s before = refl
+close_one I s before = refl
+close_one Sc s before = refl
+close_one Tt s before = refl
+close_one Ul s before = refl
+
+-- ---- several tags
+
+opened : (s : Style) (ys : List Style) (before : List Token) → is_open s (push (map opening_tag ys) before) ≡ (member s ys || is_open s before)
+opened s [] before = refl
+opened s (y ∷ ys) before = opened s ys (opening_tag y ∷ before) ∙ ap (λ b. member s ys || b) (open_one y s before) ∙ turn (is_same y s) (member s ys) (is_open s before)
+  where
+    turn : (a m b : Bool) → (m || cond a true b) ≡ ((a || m) || b)
+    turn true true b = refl
+    turn true false b = refl
+    turn false m b = refl
+
+closed : (s : Style) (ys : List Style) (before : List Token) → is_open s (push (map closing_tag ys) before) ≡ (not (member s ys) && is_open s before)
+closed s [] before = refl
+closed s (y ∷ ys) before = closed s ys (closing_tag y ∷ before) ∙ ap (λ b. not (member s ys) && b) (close_one y s before) ∙ turn (is_same y s) (member s ys) (is_open s before)
+  where
+    turn : (a m b : Bool) → (not m && cond a false b) ≡ (not (a || m) && b)
+    turn true true b = refl
+    turn true false b = refl
+    turn false m b = refl
+
+any_append : (s : Style) (xs ys : List Style) → member s (xs ++ ys) ≡ (member s xs || member s ys)
+any_append s [] ys = refl
+any_append s (x ∷ xs) ys = ap (λ b. is_same x s || b) (any_append s xs ys) ∙ assoc (is_same x s) (member s xs) (member s ys)
+  where
+    assoc : (a b c : Bool) → (a || (b || c)) ≡ ((a || b) || c)
+    assoc true b c = refl
+    assoc false b c = refl
+
+any_reverse : (s : Style) (xs : List Style) → member s (reverse xs) ≡ member s xs
+any_reverse s [] = refl
+any_reverse s (x ∷ xs) =
+    ap (member s) (reverse-append (x ∷ []) xs) ∙ any_append s (reverse xs) (x ∷ []) ∙ ap (λ b. b || (is_same x s || false)) (any_reverse s xs) ∙ swap (member s xs) (is_same x s)
+  where
+    swap : (a b : Bool) → (a || (b || false)) ≡ (b || a)
+    swap true true = refl
+    swap true false = refl
+    swap false true = refl
+    swap false false = refl
+
+-- ---- the common prefix
+
+-- no style twice
+abbrev pub AllOnce : List Style → Type 0
+AllOnce [] = Unit {0}
+AllOnce (x ∷ xs) = (member x xs ≡ false) × AllOnce xs
+
+same_style : (r s : Style) → is_same r s ≡ true → r ≡ s
+same_style B B e = refl
+same_style C C e = refl
+same_style E E e = refl
+same_style I I e = refl
+same_style Sc Sc e = refl
+same_style Tt Tt e = refl
+same_style Ul Ul e = refl
+same_style _ _ e = absurd (cc)
+
+neither : (a b : Bool) → (a || b) ≡ false → (a ≡ false) × (b ≡ false)
+neither true b e = absurd (cc)
+neither false b e = (refl, e)
+
+-- what is left of the old are styles of the old
+within : (s : Style) (old new : List Style) → member s old ≡ false → member s (after_common old new).0 ≡ false
+within s [] new h = refl
+within s (x ∷ old) [] h = h
+within s (x ∷ old) (y ∷ new) h = by (is_same x y) (within s old new (neither (is_same x s) (member s old) h).1)
+  where
+    by : (b : Bool) → member s (after_common old new).0 ≡ false → member s (cond b (after_common old new) (x ∷ old, y ∷ new)).0 ≡ false
+    by true e = e
+    by false e = h
+
+-- closing what is left of the old and opening what is left of the new makes the new
+abbrev Turned : Style → List Style → List Style → List Style × List Style → Type 0
+Turned s old new left = (member s left.1 || (not (member s left.0) && member s old)) ≡ member s new
+
+none_closed : (m n : Bool) → (n || (not m && m)) ≡ n
+none_closed true true = refl
+none_closed true false = refl
+none_closed false true = refl
+none_closed false false = refl
+
+pub turned_over : (s : Style) (old new : List Style) → AllOnce old → Turned s old new (after_common old new)
+turned_over s [] new h = none_closed false (member s new)
+turned_over s (x ∷ old) [] h = none_closed (member s (x ∷ old)) false
+turned_over s (x ∷ old) (y ∷ new) h = by (is_same x y) refl (turned_over s old new h.1)
+  where
+    common : (b : Bool) → is_same x s ≡ b → x ≡ y → Turned s old new (after_common old new) → Turned s (x ∷ old) (y ∷ new) (after_common old new)
+    common true f e t =
+        let mine : member s (after_common old new).0 ≡ false = within s old new (ap (λ r. member r old) (sym (same_style x s f)) ∙ h.0) in
+        rw (← e, f, mine) (ends (member s (after_common old new).1))
+      where
+        ends : (b : Bool) → (b || true) ≡ true
+        ends true = refl
+        ends false = refl
+    common false f e t = rw (← e, f) t
+
+    by : (b : Bool) → is_same x y ≡ b → Turned s old new (after_common old new) → Turned s (x ∷ old) (y ∷ new) (cond b (after_common old new) (x ∷ old, y ∷ new))
+    by true e t = common (is_same x s) refl (same_style x y e) t
+    by false e t = none_closed (member s (x ∷ old)) (member s (y ∷ new))
+
+-- ---- a boundary
+
+-- tokens that are no style tags
+abbrev pub Quiet : List Token → Type 0
+Quiet ks = (s : Style) (before : List Token) → is_open s (push ks before) ≡ is_open s before
+
+pub across : (s : Style) (old new : List Style) (middle before : List Token) → AllOnce old → Quiet middle → is_open s before ≡ member s old
+    → is_open s (push (tokens_between old new middle) before) ≡ member s new
+across s old new middle before once quiet h =
+    let left = after_common old new in
+    ap (is_open s) (push_append (map closing_tag (reverse left.0) ++ middle) (map opening_tag left.1) before)
+    ∙ opened s left.1 (push (map closing_tag (reverse left.0) ++ middle) before)
+    ∙ ap (λ b. member s left.1 || b)
+    (ap (is_open s) (push_append (map closing_tag (reverse left.0)) middle before) ∙ quiet s (push (map closing_tag (reverse left.0)) before)
+    ∙ closed s (reverse left.0) before ∙ ap (λ b. not b && is_open s before) (any_reverse s left.0) ∙ ap (λ b. not (member s left.0) && b) h)
+    ∙ turned_over s old new once
+
+-- ---- sets of styles as lists
+
+congruent : (f g : Style → Bool) (xs : List Style) → ((s : Style) → f s ≡ g s) → filter f xs ≡ filter g xs
+congruent f g [] h = refl
+congruent f g (x ∷ xs) h = rw (h x, congruent f g xs h) refl
+
+pub member_filter : (s : Style) (f : Style → Bool) (xs : List Style) → member s (filter f xs) ≡ (f s && member s xs)
+member_filter s f [] = sym (and_false (f s))
+  where
+    and_false : (b : Bool) → (b && false) ≡ false
+    and_false true = refl
+    and_false false = refl
+member_filter s f (x ∷ xs) = by (f x) (is_same x s) refl refl (member_filter s f xs)
+  where
+    by : (b a : Bool) → f x ≡ b → is_same x s ≡ a → member s (filter f xs) ≡ (f s && member s xs) → member s (cond b (x ∷ filter f xs) (filter f xs)) ≡ (f s && (a || member s xs))
+    by true true e g h = let k : f s ≡ true = ap f (sym (same_style x s g)) ∙ e in rw (g, k) refl
+    by true false e g h = rw g h
+    by false true e g h = let k : f s ≡ false = ap f (sym (same_style x s g)) ∙ e in rw (h, k) refl
+    by false false e g h = h
+
+all_members : (s : Style) → member s all_styles ≡ true
+all_members B = refl
+all_members C = refl
+all_members E = refl
+all_members I = refl
+all_members Sc = refl
+all_members Tt = refl
+all_members Ul = refl
+
+-- the open styles after a boundary are the new ones
+pub styles_again : (old : List Style) (f : Style → Bool) (middle before : List Token) → AllOnce old → Quiet middle → ((s : Style) → is_open s before ≡ member s old)
+    → open_styles (push (tokens_between old (filter f all_styles) middle) before) ≡ filter f all_styles
+styles_again old f middle before once quiet h =
+    congruent (λ s. is_open s (push (tokens_between old (filter f all_styles) middle) before)) f all_styles
+    (λ s. across s old (filter f all_styles) middle before once quiet (h s) ∙ member_filter s f all_styles ∙ ap (λ b. f s && b) (all_members s) ∙ and_true (f s))
+  where
+    and_true : (b : Bool) → (b && true) ≡ b
+    and_true true = refl
+    and_true false = refl
+
+-- a list of open styles has none twice
+pub once : (f : Style → Bool) → AllOnce (filter f all_styles)
+once f = once_filter all_styles (refl, (refl, (refl, (refl, (refl, (refl, (refl, tt)))))))
+  where
+    once_filter : (xs : List Style) → AllOnce xs → AllOnce (filter f xs)
+    once_filter [] h = tt
+    once_filter (x ∷ xs) h = by (f x) (once_filter xs h.1)
+      where
+        and_false : (b : Bool) → (b && false) ≡ false
+        and_false true = refl
+        and_false false = refl
+
+        by : (b : Bool) → AllOnce (filter f xs) → AllOnce (cond b (x ∷ filter f xs) (filter f xs))
+        by true g = (member_filter x f xs ∙ ap (λ c. f x && c) h.0 ∙ and_false (f x), g)
+        by false g = g

@@ -1,0 +1,164 @@
+-- All of a printed text is kept.
+use Rattle.std.proofs.Common.{◌≡◌, ℕ, ◌+◌, ◌==◌, List, [], ◌∷◌, ◌++◌, Bool, true, false, ◌||◌, cond, refl, sym, ap, ◌∙◌, map, reverse, append_assoc, Option, Some, None, length, arith}
+use Rattle.std.proofs.lemmas.Bool.{eqb-true, eqb-false}
+use Rattle.gabc_places.specs.declared.place.Span.{Span}
+use Rattle.gabc_text.specs.declared.styles.Style.{Style}
+use Rattle.gabc_text.specs.declared.view.PieceKind.{PieceKind}
+use Rattle.gabc_text.specs.declared.view.PieceKind.TheVariants as piece
+use Rattle.gabc_text.specs.Token.{Token, spelling}
+use Rattle.gabc_text.specs.View.{along, effect, PieceFacts, is_word_kind, has_word, follows_blank, follows_space, is_blank_piece, has_begin, has_end, count_pieces, is_left_out, is_space, kept, kept_at}
+use Rattle.gabc_text.specs.Canonical.{after_common}
+use Rattle.gabc_text.specs.ViewFacts.{ViewFacts, view_facts}
+use Rattle.gabc_text.specs.Printed.{print_from, printed_piece, tokens_between, brace_tokens, opening_tag, closing_tag, text_of_tokens, text_tokens, translation_tokens, word_break, print_tokens, print}
+use Rattle.gabc_text.proofs.printing.PrintedTagsOpenStyles.{push, along_append}
+use Rattle.gabc_text.proofs.printing.PrintedPiecesAreReadAgain.{AllGood, Good, Says, does, silent_word, silent_blank}
+use Rattle.gabc_text.proofs.printing.PrintedBracesGiveCentre.{Phase, gap_by, gap_silent, closing_marks, piece_marks, braces_by}
+use Rattle.gabc_text.proofs.spans.SpansStandForView.{no_space, kept_spelled}
+use Rattle.gabc_text.proofs.printing.ViewFromFirstToken.{view}
+use Rattle.gabc_text.proofs.printing.PrintedTextIsReadAgain.{IsCentre, Sound, view_sound, tokens_printed}
+use Rattle.gabc_text.proofs.printing.ViewForwardIsViewBackward.{facts_is}
+
+written_append : (ks ls : List Token) → text_of_tokens (ks ++ ls) ≡ text_of_tokens ks ++ text_of_tokens ls
+written_append [] ls = refl
+written_append (k ∷ ks) ls = ap (λ (x : List ℕ). spelling k ++ x) (written_append ks ls) ∙ sym (append_assoc (spelling k) (text_of_tokens ks) (text_of_tokens ls))
+
+-- all of these is kept
+abbrev Kept : List Token → List Token → Type 0
+Kept before ks = along kept_at before ks ≡ text_of_tokens ks
+
+both_kept : (before ks ls : List Token) → Kept before ks → Kept (push ks before) ls → Kept before (ks ++ ls)
+both_kept before ks ls h g = along_append kept_at before ks ls ∙ ap (λ (x : List ℕ). x ++ along kept_at (push ks before) ls) h ∙ ap (λ (x : List ℕ). text_of_tokens ks ++ x) g ∙ sym (written_append ks ls)
+
+openings : (ss : List Style) (before : List Token) → Kept before (map opening_tag ss)
+openings [] before = refl
+openings (s ∷ ss) before = ap (λ (x : List ℕ). spelling (opening_tag s) ++ x) (openings ss (opening_tag s ∷ before))
+
+closings : (ss : List Style) (before : List Token) → Kept before (map closing_tag ss)
+closings [] before = refl
+closings (s ∷ ss) before = ap (λ (x : List ℕ). spelling (closing_tag s) ++ x) (closings ss (closing_tag s ∷ before))
+
+-- the braces stand where they may
+abbrev Allowed : Bool → Bool → Bool → Bool → Type 0
+Allowed true y begun ended = (begun ≡ false) × (ended ≡ false)
+Allowed false true begun ended = (begun ≡ true) × (ended ≡ false)
+Allowed false false begun ended = Unit {0}
+
+braces_kept : (x y begun ended : Bool) (at : List Token) → Allowed x y begun ended → has_begin at ≡ begun → has_end at ≡ ended → Kept at (braces_by x y)
+braces_kept true true begun ended at (h, g) e f = rw (e, h, f, g) refl
+braces_kept true false begun ended at (h, g) e f = rw (e, h) refl
+braces_kept false true begun ended at (h, g) e f = rw (e, h, f, g) refl
+braces_kept false false begun ended at h e f = refl
+
+allowed : (x y begun ended : Bool) (a b i n : ℕ) → a == i ≡ x → b == i ≡ y → Phase begun ended a b i n → Allowed x y begun ended
+allowed true y false false a b i n e f p = (refl, refl)
+allowed true y true ended a b i n e f p = absurd (let u = p.has_begun refl in let v : a ≡ i = eqb-true a i e in omega arith)
+allowed true y false true a b i n e f p = absurd (let u = p.has_ended refl in let v : a ≡ i = eqb-true a i e in omega (arith, p.order))
+allowed false true true false a b i n e f p = (refl, refl)
+allowed false true begun true a b i n e f p = absurd (let u = p.has_ended refl in let v : b ≡ i = eqb-true b i f in omega arith)
+allowed false true false false a b i n e f p = absurd (let u = p.to_begin refl in let v : b ≡ i = eqb-true b i f in omega (arith, p.order, λ (z : a ≡ i). eqb-false a i e z))
+allowed false false begun ended a b i n e f p = tt
+
+gap_kept : (old new : List Style) (before ms : List Token) → ((at : List Token) → has_begin at ≡ has_begin before → has_end at ≡ has_end before → Kept at ms) → Kept before (tokens_between old new ms)
+gap_kept old new before ms h =
+    let left = after_common old new in
+    let cs = map closing_tag (reverse (after_common old new).0) in
+    let m = closing_marks (reverse (after_common old new).0) before in
+    both_kept before (map closing_tag (reverse (after_common old new).0) ++ ms) (map opening_tag (after_common old new).1)
+    (both_kept before (map closing_tag (reverse (after_common old new).0)) ms (closings (reverse (after_common old new).0) before) (h (push (map closing_tag (reverse (after_common old new).0)) before) m.begun_is m.ended_is))
+    (openings (after_common old new).1 (push (map closing_tag (reverse (after_common old new).0) ++ ms) before))
+
+piece_kept : (p : PieceFacts) (w b : Bool) (now : List Token) → Good p w b → (w ≡ true → follows_blank now ≡ b) → kept_at now (printed_piece p.kind p.text) ≡ spelling (printed_piece p.kind p.text)
+piece_kept p w b now g f = by p.kind g.says
+  where
+    spelled : (k : Token) (q : PieceKind) → (is_left_out now k.kind ≡ false) × (is_space k.kind ≡ false) → kept_at now k ≡ spelling k
+    spelled k q h = rw (h.0, h.1) refl
+
+    by : (k : PieceKind) → Says k p.text w b → kept_at now (printed_piece k p.text) ≡ spelling (printed_piece k p.text)
+    by piece.Blank h = let s : follows_space now ≡ false = no_space now (f h.1 ∙ h.2) in rw s refl
+    by piece.Char h = spelled (printed_piece piece.Char p.text) piece.Char (kept_spelled now (printed_piece piece.Char p.text) (printed_piece piece.Char p.text).kind (effect (printed_piece piece.Char p.text)) piece.Char h.0)
+    by piece.Raw h = spelled (printed_piece piece.Raw p.text) piece.Raw (kept_spelled now (printed_piece piece.Raw p.text) (printed_piece piece.Raw p.text).kind (effect (printed_piece piece.Raw p.text)) piece.Raw h.0)
+    by piece.Tag h = spelled (printed_piece piece.Tag p.text) piece.Tag (kept_spelled now (printed_piece piece.Tag p.text) (printed_piece piece.Tag p.text).kind (effect (printed_piece piece.Tag p.text)) piece.Tag h.0)
+    by piece.Mark h = spelled (printed_piece piece.Mark p.text) piece.Mark (kept_spelled now (printed_piece piece.Mark p.text) (printed_piece piece.Mark p.text).kind (effect (printed_piece piece.Mark p.text)) piece.Mark h.0)
+
+one_kept : (now : List Token) (k : Token) (ks : List Token) → kept_at now k ≡ spelling k → Kept (k ∷ now) ks → Kept now (k ∷ ks)
+one_kept now k ks e h = ap (λ (x : List ℕ). x ++ along kept_at (k ∷ now) ks) e ∙ ap (λ (x : List ℕ). spelling k ++ x) h
+
+-- the pieces with a centre
+kept_from : (c : Span) (i : ℕ) (old : List Style) (ps : List PieceFacts) (w b0 : Bool) (before : List Token) (begun ended : Bool)
+    → has_word before ≡ w → (w ≡ true → follows_blank before ≡ b0) → AllGood w b0 ps → count_pieces before ≡ i
+    → Phase begun ended c.from c.to i (length ps) → has_begin before ≡ begun → has_end before ≡ ended → Kept before (print_from (Some c) i old ps)
+kept_from c i old [] w b0 before begun ended e f g count ph hb he =
+    gap_kept old [] before (brace_tokens (Some c) i) (λ at u v. braces_kept (c.from == i) (c.to == i) begun ended at (allowed (c.from == i) (c.to == i) begun ended c.from c.to i 0 refl refl ph) (u ∙ hb) (v ∙ he))
+kept_from c i old (p ∷ ps) w b0 before begun ended e f g count ph hb he =
+    let gap = tokens_between old p.styles (brace_tokens (Some c) i) in
+    let k = printed_piece p.kind p.text in
+    let more = print_from (Some c) (i + 1) p.styles ps in
+    let silent = gap_silent (Some c) i old p.styles in
+    let d = does p w b0 (push gap before) g.0 (silent_word before gap silent ∙ e) (λ x. silent_blank before gap silent ∙ f x) in
+    let q = gap_by old p.styles before c.from c.to i (length (p ∷ ps)) count (c.from == i) (c.to == i) begun ended refl refl ph hb he in
+    let m = piece_marks p w b0 (push gap before) g.0 d in
+    both_kept before (tokens_between old p.styles (brace_tokens (Some c) i)) (printed_piece p.kind p.text ∷ print_from (Some c) (i + 1) p.styles ps)
+    (gap_kept old p.styles before (brace_tokens (Some c) i) (λ at u v. braces_kept (c.from == i) (c.to == i) begun ended at (allowed (c.from == i) (c.to == i) begun ended c.from c.to i (length (p ∷ ps)) refl refl ph) (u ∙ hb) (v ∙ he)))
+    (one_kept (push gap before) k more (piece_kept p w b0 (push gap before) g.0 (λ x. silent_blank before gap silent ∙ f x))
+    (kept_from c (i + 1) p.styles ps (is_word_kind (Some p.kind) || w) (is_blank_piece p.kind) (k ∷ push gap before) q.begun' q.ended'
+    d.word (λ x. d.blank) g.1 (m.count_is ∙ ap (λ (n : ℕ). n + 1) (q.marks).count_is)
+    (record {
+      order = ph.order;
+      last = omega (arith, ph.last);
+      to_begin = λ z. (let u = q.to_begin z in omega arith);
+      has_begun = λ z. (let u = q.has_begun z in omega arith);
+      to_end = λ z. (let u = q.to_end z in omega arith);
+      has_ended = λ z. (let u = q.has_ended z in omega arith);
+    })
+    (m.begun_is ∙ (q.marks).begun_is) (m.ended_is ∙ (q.marks).ended_is)))
+
+-- and without one
+kept_none : (i : ℕ) (old : List Style) (ps : List PieceFacts) (w b0 : Bool) (before : List Token)
+    → has_word before ≡ w → (w ≡ true → follows_blank before ≡ b0) → AllGood w b0 ps → Kept before (print_from None i old ps)
+kept_none i old [] w b0 before e f g = gap_kept old [] before [] (λ at u v. refl)
+kept_none i old (p ∷ ps) w b0 before e f g =
+    let gap = tokens_between old p.styles [] in
+    let k = printed_piece p.kind p.text in
+    let silent = gap_silent None i old p.styles in
+    let d = does p w b0 (push gap before) g.0 (silent_word before gap silent ∙ e) (λ x. silent_blank before gap silent ∙ f x) in
+    both_kept before (tokens_between old p.styles []) (printed_piece p.kind p.text ∷ print_from None (i + 1) p.styles ps)
+    (gap_kept old p.styles before [] (λ at u v. refl))
+    (one_kept (push gap before) k (print_from None (i + 1) p.styles ps) (piece_kept p w b0 (push gap before) g.0 (λ x. silent_blank before gap silent ∙ f x))
+    (kept_none (i + 1) p.styles ps (is_word_kind (Some p.kind) || w) (is_blank_piece p.kind) (k ∷ push gap before) d.word (λ x. d.blank) g.1))
+
+-- the blank before a word, as it is kept
+abbrev word_kept : Bool → List ℕ
+word_kept b = cond b (32 ∷ []) []
+
+view_kept : (v : ViewFacts) → Sound v → along kept_at [] (print_tokens v) ≡ word_kept v.word_start ++ text_of_tokens (text_tokens v ++ translation_tokens v.translation)
+view_kept v s =
+    ap (along kept_at []) (append_assoc (word_break v.word_start) (text_tokens v) (translation_tokens v.translation))
+    ∙ along_append kept_at [] (word_break v.word_start) (text_tokens v ++ translation_tokens v.translation)
+    ∙ ap (λ (x : List ℕ). x ++ along kept_at (push (word_break v.word_start) []) (text_tokens v ++ translation_tokens v.translation)) (word v.word_start)
+    ∙ ap (λ (x : List ℕ). word_kept v.word_start ++ x)
+    (both_kept (push (word_break v.word_start) []) (text_tokens v) (translation_tokens v.translation)
+    (text v.word_start v.centre s.centre_in) (end v.translation (push (text_tokens v) (push (word_break v.word_start) []))))
+  where
+    word : (b : Bool) → along kept_at [] (word_break b) ≡ word_kept b
+    word true = refl
+    word false = refl
+
+    end : (tr : Option (List ℕ)) (before : List Token) → Kept before (translation_tokens tr)
+    end None before = refl
+    end (Some t) before = refl
+
+    starts : (b : Bool) → (has_word (push (word_break b) []) ≡ false) × (count_pieces (push (word_break b) []) ≡ 0) × (has_begin (push (word_break b) []) ≡ false) × (has_end (push (word_break b) []) ≡ false)
+    starts true = (refl, refl, refl, refl)
+    starts false = (refl, refl, refl, refl)
+
+    text : (b : Bool) (c : Option Span) → IsCentre (length v.pieces) c → Kept (push (word_break b) []) (print_from c 0 [] v.pieces)
+    text b None h = kept_none 0 [] v.pieces false false (push (word_break b) []) (starts b).0 (λ e. absurd (cc)) s.good
+    text b (Some c) h =
+        kept_from c 0 [] v.pieces false false (push (word_break b) []) false false (starts b).0 (λ e. absurd (cc)) s.good (starts b).1
+        (record { order = h.0; last = omega (arith, h.1); to_begin = λ _. omega arith; has_begun = λ e. absurd (cc); to_end = λ _. omega arith; has_ended = λ e. absurd (cc) })
+        (starts b).2 (starts b).3
+
+pub printed_kept : (t rest : List ℕ) → kept (print (view_facts t) ++ 40 ∷ rest) ≡ word_kept (view_facts t).word_start ++ text_of_tokens (text_tokens (view_facts t) ++ translation_tokens (view_facts t).translation)
+printed_kept t rest =
+    ap (λ (v : ViewFacts). kept (print v ++ 40 ∷ rest)) (facts_is t) ∙ ap (along kept_at []) (tokens_printed t rest) ∙ view_kept (view t) (view_sound t)
+    ∙ ap (λ (v : ViewFacts). word_kept v.word_start ++ text_of_tokens (text_tokens v ++ translation_tokens v.translation)) (sym (facts_is t))

@@ -1,0 +1,229 @@
+-- Tokens that are read again, whatever follows.
+use Rattle.std.proofs.Common.{◌≡◌, ℕ, zero, suc, ◌≤◌, ◌==◌, List, [], ◌∷◌, ◌++◌, Bool, true, false, ◌&&◌, cond, refl, sym, ap, ◌∙◌, subst, append_assoc, append-nil, length, drop, Option, Some, None, option_map, arith, codes}
+use Rattle.std.proofs.Common.{eq-eqb}
+use Rattle.std.proofs.lemmas.Bool.{eqb-true}
+use Rattle.gabc_text.proofs.machine.TagNameByCharacter.{and_both, by_case}
+use Rattle.gabc_text.specs.declared.token.TokenKind.{TokenKind}
+use Rattle.gabc_text.specs.declared.token.TokenKind.TheVariants as kind
+use Rattle.gabc_text.specs.declared.token.TagEffect.{TagEffect}
+use Rattle.gabc_text.specs.declared.token.TagEffect.TheVariants.{Opens, Closes, Mark, Begins, Other}
+use Rattle.gabc_text.specs.declared.token.RawKind.{RawKind}
+use Rattle.gabc_text.specs.declared.token.RawKind.TheVariants.{V, Sp, Alt}
+use Rattle.gabc_text.specs.declared.styles.Style.{Style}
+use Rattle.gabc_text.specs.declared.styles.Style.TheVariants.{B, C, E, I, Sc, Tt, Ul}
+use Rattle.gabc_text.specs.Token.{Token, spelling, tokens, tokens_after, token_at, through, begins_with, ended_token, tag_at, token_of_tag, single, is_special, is_blank, is_one_of, effect_of, ending_of}
+use Rattle.gabc_text.specs.Printed.{text_of_tokens, opening_tag, closing_tag, letter}
+use Rattle.gabc_text.proofs.tokens.TokensByCharacter.{tokens_first, drop_past}
+use Rattle.gabc_text.proofs.tokens.RawEndingIsMatched.{begins_itself}
+use Rattle.gabc_text.proofs.machine.TokenStateByCharacter.{turned}
+
+abbrev pub Stable : Token → Type 0
+Stable k = (u : List ℕ) → tokens (spelling k ++ u) ≡ k ∷ tokens u
+
+abbrev pub AllStable : List Token → Type 0
+AllStable [] = Unit {0}
+AllStable (k ∷ ks) = Stable k × AllStable ks
+
+pub written_stable : (ks : List Token) (u : List ℕ) → AllStable ks → tokens (text_of_tokens ks ++ u) ≡ ks ++ tokens u
+written_stable [] u h = refl
+written_stable (k ∷ ks) u h =
+    ap tokens (append_assoc (spelling k) (text_of_tokens ks) u) ∙ h.0 (text_of_tokens ks ++ u) ∙ ap (λ (x : List Token). k ∷ x) (written_stable ks u h.1)
+
+-- ---- the tags of styles
+
+pub opening_stable : (s : Style) → Stable (opening_tag s)
+opening_stable B u = refl
+opening_stable C u = refl
+opening_stable E u = refl
+opening_stable I u = refl
+opening_stable Sc u = refl
+opening_stable Tt u = refl
+opening_stable Ul u = refl
+
+pub closing_stable : (s : Style) → Stable (closing_tag s)
+closing_stable B u = refl
+closing_stable C u = refl
+closing_stable E u = refl
+closing_stable I u = refl
+closing_stable Sc u = refl
+closing_stable Tt u = refl
+closing_stable Ul u = refl
+
+-- ---- what was found is found again
+
+begins_prefix : (e a u v : List ℕ) → length e ≤ length a → begins_with e (a ++ u) ≡ begins_with e (a ++ v)
+begins_prefix [] a u v h = refl
+begins_prefix (d ∷ e) [] u v h = absurd (omega arith)
+begins_prefix (d ∷ e) (c ∷ a) u v h = ap (λ b. d == c && b) (begins_prefix e a u v (omega arith))
+
+pub record Found (e t y : List ℕ) : Type 0 where
+  pub rest : List ℕ
+  pub parts : t ≡ y ++ rest
+  pub long : length e ≤ length y
+  pub again : (u : List ℕ) → through e (y ++ u) ≡ Some y
+
+begins_parts : (e t : List ℕ) → begins_with e t ≡ true → (rest : List ℕ) × (t ≡ e ++ rest)
+begins_parts [] t h = (t, refl)
+begins_parts (d ∷ e) [] h = absurd (cc)
+begins_parts (d ∷ e) (c ∷ t) h =
+    let both = and_both (d == c) (begins_with e t) h in
+    let r = begins_parts e t both.1 in
+    let same : d ≡ c = eqb-true d c both.0 in
+    let left : t ≡ e ++ r.0 = r.1 in
+    (r.0, (let f : c ∷ t ≡ d ∷ (e ++ r.0) = cc in f))
+
+found_here : (x : ℕ) (e t : List ℕ) → begins_with (x ∷ e) t ≡ true → Found (x ∷ e) t (x ∷ e)
+found_here x e t h =
+    let r = begins_parts (x ∷ e) t h in
+    record { rest = r.0; parts = r.1; long = omega arith; again = λ u. rw (eq-eqb x x refl, begins_itself e u) refl }
+
+found_later : (x : ℕ) (e : List ℕ) (c : ℕ) (t y : List ℕ) → begins_with (x ∷ e) (c ∷ t) ≡ false → Found (x ∷ e) t y → Found (x ∷ e) (c ∷ t) (c ∷ y)
+found_later x e c t y h f = record {
+  rest = f.rest;
+  parts = ap (λ (s : List ℕ). c ∷ s) f.parts;
+  long = omega (arith, f.long);
+  again = λ u.
+      let e1 : begins_with (x ∷ e) ((c ∷ y) ++ u) ≡ false =
+      begins_prefix (x ∷ e) (c ∷ y) u f.rest (omega (arith, f.long)) ∙ ap (λ (s : List ℕ). begins_with (x ∷ e) (c ∷ s)) (sym f.parts) ∙ h in
+      rw (e1, f.again u) refl;
+}
+
+pub found : (x : ℕ) (e t y : List ℕ) → through (x ∷ e) t ≡ Some y → Found (x ∷ e) t y
+found x e [] y h = absurd (cc)
+found x e (c ∷ t) y h = by (begins_with (x ∷ e) (c ∷ t)) (through (x ∷ e) t) refl refl h (λ z g. found x e t z g)
+  where
+    by : (b : Bool) (o : Option (List ℕ)) → begins_with (x ∷ e) (c ∷ t) ≡ b → through (x ∷ e) t ≡ o → cond b (Some (x ∷ e)) (option_map (λ s. c ∷ s) o) ≡ Some y
+        → ((z : List ℕ) → through (x ∷ e) t ≡ Some z → Found (x ∷ e) t z) → Found (x ∷ e) (c ∷ t) y
+    by true o f g h more = let same : x ∷ e ≡ y = cc in subst (Found (x ∷ e) (c ∷ t)) same (found_here x e (c ∷ t) f)
+    by false None f g h more = absurd (cc)
+    by false (Some z) f g h more = let same : c ∷ z ≡ y = cc in subst (Found (x ∷ e) (c ∷ t)) same (found_later x e c t z f (more z g))
+
+-- ---- raw parts, tags and translations
+
+abbrev pub is_bracketed : TokenKind → Bool
+is_bracketed kind.Raw = true
+is_bracketed kind.Tag = true
+is_bracketed kind.Translation = true
+is_bracketed _ = false
+
+-- a token that is read again, if it is a raw part, a tag or a translation
+abbrev pub Again : Token → Type 0
+Again k = is_bracketed k.kind ≡ true → Stable k
+
+pub again_by : (k : Token) → k.first == 40 ≡ false → ((u : List ℕ) → token_at k.first (k.more ++ u) ≡ k) → Stable k
+again_by k ne f u = tokens_first k.first (k.more ++ u) u k ne (f u) refl
+
+one_found : (x : ℕ) (t y : List ℕ) → through (x ∷ []) t ≡ Some y → (u : List ℕ) → through (x ∷ []) (y ++ u) ≡ Some y
+one_found x t y e = (found x [] t y e).again
+
+raw_found : (raw : RawKind) (t y : List ℕ) → through (ending_of raw) t ≡ Some y → (u : List ℕ) → through (ending_of raw) (y ++ u) ≡ Some y
+raw_found V t y e = (found 60 (codes "/v>") t y e).again
+raw_found Sp t y e = (found 60 (codes "/sp>") t y e).again
+raw_found Alt t y e = (found 60 (codes "/alt>") t y e).again
+
+-- the tag read again
+tag_again : (t name y u : List ℕ) → through (62 ∷ []) t ≡ Some name → token_at 60 ((name ++ y) ++ u) ≡ token_of_tag name (y ++ u) (effect_of (60 ∷ name))
+tag_again t name y u e =
+    ap (token_at 60) (append_assoc name y u) ∙ ap (tag_at (name ++ (y ++ u))) (one_found 62 t name e (y ++ u))
+    ∙ ap (λ (x : List ℕ). token_of_tag name x (effect_of (60 ∷ name))) (drop_past name (y ++ u))
+
+tag_only : (t name : List ℕ) (s : TagEffect) → through (62 ∷ []) t ≡ Some name → effect_of (60 ∷ name) ≡ s
+    → ((u : List ℕ) → token_of_tag name u s ≡ record { kind = kind.Tag; first = 60; more = name }) → Stable (record { kind = kind.Tag; first = 60; more = name })
+tag_only t name s e g k = again_by (record { kind = kind.Tag; first = 60; more = name }) refl
+    (λ u. ap (λ (x : List ℕ). token_at 60 (x ++ u)) (sym (append-nil name)) ∙ tag_again t name [] u e ∙ ap (token_of_tag name u) g ∙ k u)
+
+tag_case : (t name v : List ℕ) (so : TagEffect) → through (62 ∷ []) t ≡ Some name → effect_of (60 ∷ name) ≡ so → Again (token_of_tag name v so)
+tag_case t name v (Begins raw) e f h = by (through (ending_of raw) v) refl h
+  where
+    by : (o : Option (List ℕ)) → through (ending_of raw) v ≡ o → Again (ended_token kind.Raw kind.OpenTag 60 name v o)
+    by None g h = absurd (cc)
+    by (Some y) g h = again_by (record { kind = kind.Raw; first = 60; more = name ++ y }) refl
+        (λ u. tag_again t name y u e ∙ ap (token_of_tag name (y ++ u)) f ∙ ap (ended_token kind.Raw kind.OpenTag 60 name (y ++ u)) (raw_found raw v y g u))
+tag_case t name v (Opens r) e f h = tag_only t name (Opens r) e f (λ u. refl)
+tag_case t name v (Closes r) e f h = tag_only t name (Closes r) e f (λ u. refl)
+tag_case t name v Mark e f h = tag_only t name Mark e f (λ u. refl)
+tag_case t name v Other e f h = tag_only t name Other e f (λ u. refl)
+
+at_tag : (t : List ℕ) → Again (token_at 60 t)
+at_tag t = by (through (62 ∷ []) t) refl
+  where
+    by : (o : Option (List ℕ)) → through (62 ∷ []) t ≡ o → Again (tag_at t o)
+    by None e h = absurd (cc)
+    by (Some name) e h = tag_case t name (drop (length name) t) (effect_of (60 ∷ name)) e refl h
+
+at_bracket : (t : List ℕ) → Again (token_at 91 t)
+at_bracket t = by (through (93 ∷ []) t) refl
+  where
+    by : (o : Option (List ℕ)) → through (93 ∷ []) t ≡ o → Again (ended_token kind.Translation kind.OpenTranslation 91 [] t o)
+    by None e h = absurd (cc)
+    by (Some y) e h = again_by (record { kind = kind.Translation; first = 91; more = y }) refl
+        (λ u. ap (ended_token kind.Translation kind.OpenTranslation 91 [] (y ++ u)) (one_found 93 t y e u))
+
+at_dollar : (t : List ℕ) → Again (token_at 36 t)
+at_dollar [] h = absurd (cc)
+at_dollar (c ∷ t) h = absurd (cc)
+
+single_plain : (c : ℕ) → is_bracketed (single c) ≡ false
+single_plain c = by (is_blank c) (is_one_of (codes ")]>") c) (c == 123) (c == 125)
+  where
+    by : (a b d e : Bool) → is_bracketed (cond a kind.Blank (cond b kind.Stray (cond d kind.Begin (cond e kind.End kind.Letter)))) ≡ false
+    by true b d e = refl
+    by false true d e = refl
+    by false false true e = refl
+    by false false false true = refl
+    by false false false false = refl
+
+-- each token of a text
+abbrev AgainAt : List ℕ → ℕ → Type 0
+AgainAt t c = Again (token_at c t)
+
+pub token_again : (c : ℕ) (t : List ℕ) → Again (token_at c t)
+token_again c t =
+    by_case 36 c (AgainAt t) (at_dollar t) (λ e36.
+    by_case 37 c (AgainAt t) (λ h. absurd (cc)) (λ e37.
+    by_case 60 c (AgainAt t) (at_tag t) (λ e60.
+    by_case 91 c (AgainAt t) (at_bracket t) (λ e91.
+    λ h. absurd (let f : is_bracketed (single c) ≡ true = rw (e36, e37, e60, e91) at h in let g = single_plain c in cc)))))
+
+abbrev pub EachAgain : List Token → Type 0
+EachAgain [] = Unit {0}
+EachAgain (k ∷ ks) = Again k × EachAgain ks
+
+pub tokens_again : (n : ℕ) (t : List ℕ) → EachAgain (tokens_after n t)
+tokens_again n [] = tt
+tokens_again (suc n) (c ∷ t) = tokens_again n t
+tokens_again zero (c ∷ t) = by (c == 40) (token_again c t) (tokens_again (length (token_at c t).more) t)
+  where
+    by : (b : Bool) → Again (token_at c t) → EachAgain (tokens_after (length (token_at c t).more) t) → EachAgain (cond b [] (token_at c t ∷ tokens_after (length (token_at c t).more) t))
+    by true f g = tt
+    by false f g = (f, g)
+
+-- ---- a letter, as it is printed
+
+abbrev Bare : ℕ → Type 0
+Bare c = is_special c ≡ false → is_blank c ≡ false → Stable (record { kind = kind.Letter; first = c; more = [] })
+
+bare_stable : (c : ℕ) → Bare c
+bare_stable c =
+    by_case 40 c Bare (λ s b. absurd (cc)) (λ e40.
+    by_case 41 c Bare (λ s b. absurd (cc)) (λ e41.
+    by_case 91 c Bare (λ s b. absurd (cc)) (λ e91.
+    by_case 93 c Bare (λ s b. absurd (cc)) (λ e93.
+    by_case 123 c Bare (λ s b. absurd (cc)) (λ e123.
+    by_case 125 c Bare (λ s b. absurd (cc)) (λ e125.
+    by_case 60 c Bare (λ s b. absurd (cc)) (λ e60.
+    by_case 62 c Bare (λ s b. absurd (cc)) (λ e62.
+    by_case 37 c Bare (λ s b. absurd (cc)) (λ e37.
+    by_case 36 c Bare (λ s b. absurd (cc)) (λ e36.
+    λ s b. again_by (record { kind = kind.Letter; first = c; more = [] }) e40
+    (λ u. rw (e36, e37, e60, e91, b, turned 41 c e41, turned 93 c e93, turned 62 c e62, e123, e125) refl)))))))))))
+
+pub escaped_stable : (c : ℕ) → is_special c ≡ true → Stable (record { kind = kind.Letter; first = 36; more = c ∷ [] })
+escaped_stable c e = again_by (record { kind = kind.Letter; first = 36; more = c ∷ [] }) refl (λ u. rw e refl)
+
+pub letter_stable : (c : ℕ) → is_blank c ≡ false → Stable (letter (c ∷ []))
+letter_stable c b = by (is_special c) refl
+  where
+    by : (x : Bool) → is_special c ≡ x → Stable (cond x (record { kind = kind.Letter; first = 36; more = c ∷ [] }) (record { kind = kind.Letter; first = c; more = [] }))
+    by true e = escaped_stable c e
+    by false e = bare_stable c e b

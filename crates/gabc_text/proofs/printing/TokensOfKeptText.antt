@@ -1,0 +1,216 @@
+-- The tokens of a kept text are those of the text as they are kept.
+use Rattle.std.proofs.Common.{◌≡◌, ℕ, zero, suc, ◌==◌, List, [], ◌∷◌, ◌++◌, Bool, true, false, cond, refl, sym, ap, ◌∙◌, append-nil, length, drop, reverse, Option, Some, None, inl, inr, ◌⊎◌}
+use Rattle.gabc_text.specs.declared.text_facts.TextFacts.{TextFacts}
+use Rattle.gabc_text.specs.declared.token.TokenKind.TheVariants as kind
+use Rattle.gabc_text.specs.declared.token.TagEffect.{TagEffect}
+use Rattle.gabc_text.specs.declared.token.TagEffect.TheVariants.{Opens, Closes, Mark, Begins, Other}
+use Rattle.gabc_text.specs.Token.{Token, spelling, tokens, tokens_after, token_at, tag_at, token_of_tag, ended_token, through, ending_of, effect_of, single, is_special, is_blank}
+use Rattle.gabc_text.specs.View.{along, PieceFacts, is_space, is_left_out, follows_space, kept, kept_at, pieces_at, starts_word, begin_of, end_of, centre_by}
+use Rattle.gabc_text.specs.ViewFacts.{ViewFacts, view_facts, but_blank, translation_text}
+use Rattle.gabc_text.specs.Printed.{text_of_tokens}
+use Rattle.gabc_text.proofs.machine.TagNameByCharacter.{by_case}
+use Rattle.gabc_text.proofs.machine.TokenStateByCharacter.{turned}
+use Rattle.gabc_text.proofs.tokens.TokensByCharacter.{drop_past}
+use Rattle.gabc_text.proofs.printing.TokensAreReadAgain.{Stable, token_again, again_by, escaped_stable, found}
+use Rattle.gabc_text.proofs.printing.KeptTextIsReadAgain.{kept_token, kept_token_by, one_blank, alike}
+
+-- ---- how a token is read again
+
+-- the next token is a blank or a letter, and begins with no character that a `$` makes a letter
+abbrev NextPlain : List Token → Type 0
+NextPlain [] = Unit {0}
+NextPlain (j ∷ js) = (is_special j.first ≡ false) × ((j.kind ≡ kind.Blank) ⊎ (j.kind ≡ kind.Letter))
+
+abbrev by_itself : Token
+by_itself = record { kind = kind.Letter; first = 36; more = [] }
+
+abbrev Lone : Token → List Token → Type 0
+Lone k ks = (k ≡ by_itself) × NextPlain ks
+
+abbrev IsLast : Token → List Token → Type 0
+IsLast k ks = (ks ≡ []) × (tokens (spelling k) ≡ k ∷ [])
+
+-- whatever follows; before a plain one; at the end; or it is left out
+abbrev IsRead : Token → List Token → Type 0
+IsRead k ks = Stable k ⊎ (Lone k ks ⊎ (IsLast k ks ⊎ (k.kind ≡ kind.Comment)))
+
+abbrev AllRead : List Token → Type 0
+AllRead [] = Unit {0}
+AllRead (k ∷ ks) = IsRead k ks × AllRead ks
+
+none_after : (t : List ℕ) → tokens_after (length t) t ≡ []
+none_after [] = refl
+none_after (c ∷ t) = none_after t
+
+-- the token that begins with c, and those after it
+abbrev ReadAt : List ℕ → ℕ → Type 0
+ReadAt t c = c == 40 ≡ false → IsRead (token_at c t) (tokens_after (length (token_at c t).more) t)
+
+last_read : (c : ℕ) (t : List ℕ) → c == 40 ≡ false → (token_at c t).first ≡ c → (token_at c t).more ≡ t → IsLast (token_at c t) (tokens_after (length (token_at c t).more) t)
+last_read c t ne f m = (
+  none,
+  ap tokens (ap (λ (x : ℕ). x ∷ (token_at c t).more) f ∙ ap (λ (x : List ℕ). c ∷ x) m) ∙ rw ne (ap (λ (x : List Token). token_at c t ∷ x) none),
+)
+  where
+    none : tokens_after (length (token_at c t).more) t ≡ []
+    none = ap (λ (u : List ℕ). tokens_after (length u) t) m ∙ none_after t
+
+abbrev PlainAt : List ℕ → ℕ → Type 0
+PlainAt u d = is_special d ≡ false → NextPlain (tokens (d ∷ u))
+
+plain_next : (d : ℕ) (u : List ℕ) → PlainAt u d
+plain_next d u =
+    by_case 40 d (PlainAt u) (λ s. absurd (cc)) (λ e40.
+    by_case 41 d (PlainAt u) (λ s. absurd (cc)) (λ e41.
+    by_case 91 d (PlainAt u) (λ s. absurd (cc)) (λ e91.
+    by_case 93 d (PlainAt u) (λ s. absurd (cc)) (λ e93.
+    by_case 123 d (PlainAt u) (λ s. absurd (cc)) (λ e123.
+    by_case 125 d (PlainAt u) (λ s. absurd (cc)) (λ e125.
+    by_case 60 d (PlainAt u) (λ s. absurd (cc)) (λ e60.
+    by_case 62 d (PlainAt u) (λ s. absurd (cc)) (λ e62.
+    by_case 37 d (PlainAt u) (λ s. absurd (cc)) (λ e37.
+    by_case 36 d (PlainAt u) (λ s. absurd (cc)) (λ e36.
+    λ s. rw (e40, e36, e37, e60, e91) (s, rw (turned 41 d e41, turned 93 d e93, turned 62 d e62, e123, e125) (by (is_blank d)))))))))))))
+  where
+    by : (b : Bool) → (cond b kind.Blank kind.Letter ≡ kind.Blank) ⊎ (cond b kind.Blank kind.Letter ≡ kind.Letter)
+    by true = inl refl
+    by false = inr refl
+
+dollar_read : (t : List ℕ) → ReadAt t 36
+dollar_read [] ne = inr (inl (refl, tt))
+dollar_read (d ∷ u) ne = by (is_special d) refl
+  where
+    by : (b : Bool) → is_special d ≡ b → IsRead (record { kind = kind.Letter; first = 36; more = cond b (d ∷ []) [] }) (tokens_after (length {A = ℕ} (cond b (d ∷ []) [])) (d ∷ u))
+    by true e = inl (escaped_stable d e)
+    by false e = inr (inl (refl, plain_next d u e))
+
+-- a tag or raw part that is ended is read again whatever follows
+tag_read : (t : List ℕ) → ReadAt t 60
+tag_read t ne = by (through (62 ∷ []) t) refl
+  where
+    here : (o : Option (List ℕ)) → through (62 ∷ []) t ≡ o → token_at 60 t ≡ tag_at t o
+    here o e = ap (tag_at t) e
+
+    stands : (token_at 60 t).kind ≡ kind.Tag ⊎ (token_at 60 t).kind ≡ kind.Raw → IsRead (token_at 60 t) (tokens_after (length (token_at 60 t).more) t)
+    stands (inl e) = inl (token_again 60 t (rw e refl))
+    stands (inr e) = inl (token_again 60 t (rw e refl))
+
+    last : (token_at 60 t).first ≡ 60 → (token_at 60 t).more ≡ t → IsRead (token_at 60 t) (tokens_after (length (token_at 60 t).more) t)
+    last f m = inr (inr (inl (last_read 60 t ne f m)))
+
+    rest_of : (name : List ℕ) → through (62 ∷ []) t ≡ Some name → name ++ drop (length name) t ≡ t
+    rest_of name e =
+        let f = found 62 [] t name e in
+        ap (λ (x : List ℕ). name ++ drop (length name) x) f.parts ∙ ap (λ (x : List ℕ). name ++ x) (drop_past name f.rest) ∙ sym f.parts
+
+    raws : (name : List ℕ) (o : Option (List ℕ)) → through (62 ∷ []) t ≡ Some name → token_at 60 t ≡ ended_token kind.Raw kind.OpenTag 60 name (drop (length name) t) o
+        → IsRead (token_at 60 t) (tokens_after (length (token_at 60 t).more) t)
+    raws name None e f = last (ap (λ (k : Token). k.first) f) (ap (λ (k : Token). k.more) f ∙ rest_of name e)
+    raws name (Some y) e f = stands (inr (ap (λ (k : Token). k.kind) f))
+
+    sorted : (name : List ℕ) (so : TagEffect) → through (62 ∷ []) t ≡ Some name → token_at 60 t ≡ token_of_tag name (drop (length name) t) so → IsRead (token_at 60 t) (tokens_after (length (token_at 60 t).more) t)
+    sorted name (Begins raw) e f = raws name (through (ending_of raw) (drop (length name) t)) e f
+    sorted name (Opens r) e f = stands (inl (ap (λ (k : Token). k.kind) f))
+    sorted name (Closes r) e f = stands (inl (ap (λ (k : Token). k.kind) f))
+    sorted name Mark e f = stands (inl (ap (λ (k : Token). k.kind) f))
+    sorted name Other e f = stands (inl (ap (λ (k : Token). k.kind) f))
+
+    by : (o : Option (List ℕ)) → through (62 ∷ []) t ≡ o → IsRead (token_at 60 t) (tokens_after (length (token_at 60 t).more) t)
+    by None e = last (ap (λ (k : Token). k.first) (here None e)) (ap (λ (k : Token). k.more) (here None e))
+    by (Some name) e = sorted name (effect_of (60 ∷ name)) e (here (Some name) e)
+
+bracket_read : (t : List ℕ) → ReadAt t 91
+bracket_read t ne = by (through (93 ∷ []) t) refl
+  where
+    here : (o : Option (List ℕ)) → through (93 ∷ []) t ≡ o → token_at 91 t ≡ ended_token kind.Translation kind.OpenTranslation 91 [] t o
+    here o e = ap (ended_token kind.Translation kind.OpenTranslation 91 [] t) e
+
+    by : (o : Option (List ℕ)) → through (93 ∷ []) t ≡ o → IsRead (token_at 91 t) (tokens_after (length (token_at 91 t).more) t)
+    by None e = inr (inr (inl (last_read 91 t ne (ap (λ (k : Token). k.first) (here None e)) (ap (λ (k : Token). k.more) (here None e)))))
+    by (Some y) e = inl (token_again 91 t (let f = ap (λ (k : Token). k.kind) (here (Some y) e) in rw f refl))
+
+token_read : (c : ℕ) (t : List ℕ) → ReadAt t c
+token_read c t =
+    by_case 36 c (ReadAt t) (dollar_read t) (λ e36.
+    by_case 37 c (ReadAt t) (λ ne. inr (inr (inr refl))) (λ e37.
+    by_case 60 c (ReadAt t) (tag_read t) (λ e60.
+    by_case 91 c (ReadAt t) (bracket_read t) (λ e91.
+    λ ne. inl (rw (e36, e37, e60, e91) (again_by (record { kind = single c; first = c; more = [] }) ne (λ u. rw (e36, e37, e60, e91) refl)))))))
+
+all_read : (n : ℕ) (t : List ℕ) → AllRead (tokens_after n t)
+all_read n [] = tt
+all_read (suc n) (c ∷ t) = all_read n t
+all_read zero (c ∷ t) = by (c == 40) refl (token_read c t) (all_read (length (token_at c t).more) t)
+  where
+    by : (b : Bool) → c == 40 ≡ b → ReadAt t c → AllRead (tokens_after (length (token_at c t).more) t) → AllRead (cond b [] (token_at c t ∷ tokens_after (length (token_at c t).more) t))
+    by true e f g = tt
+    by false e f g = (f e, g)
+
+-- ---- the tokens of the kept text
+
+lone_read : (b ks : List Token) (k : Token) → Lone k ks → tokens (spelling k ++ text_of_tokens (along kept_token (k ∷ b) ks)) ≡ k ∷ tokens (text_of_tokens (along kept_token (k ∷ b) ks))
+lone_read b ks k h = by ks h.1
+  where
+    dollar : (d : ℕ) (u : List ℕ) → is_special d ≡ false → tokens (36 ∷ d ∷ u) ≡ record { kind = kind.Letter; first = 36; more = [] } ∷ tokens (d ∷ u)
+    dollar d u e = rw e refl
+
+    by : (ks : List Token) → NextPlain ks → tokens (spelling k ++ text_of_tokens (along kept_token (k ∷ b) ks)) ≡ k ∷ tokens (text_of_tokens (along kept_token (k ∷ b) ks))
+    by [] n = rw (h.0) refl
+    by (j ∷ js) (s, inl e) = rw (h.0, e) (dollar 32 (text_of_tokens (along kept_token (record { kind = kind.Blank; first = j.first; more = j.more } ∷ by_itself ∷ b) js)) refl)
+    by (j ∷ js) (s, inr e) = rw (h.0, e) (dollar j.first (j.more ++ text_of_tokens (along kept_token (record { kind = kind.Letter; first = j.first; more = j.more } ∷ by_itself ∷ b) js)) s)
+
+kept_tokens : (ks b : List Token) → AllRead ks → tokens (text_of_tokens (along kept_token b ks)) ≡ along kept_token b ks
+kept_tokens [] b h = refl
+kept_tokens (k ∷ ks) b h = by (is_left_out b k.kind) (is_space k.kind) (follows_space b) refl h.0 (kept_tokens ks (k ∷ b) h.1)
+  where
+    rest : List Token
+    rest = along kept_token (k ∷ b) ks
+
+    left : k.kind ≡ kind.Comment → is_left_out b k.kind ≡ false → ⊥
+    left e f = let g : is_left_out b k.kind ≡ true = rw e refl in absurd (cc)
+
+    whole : is_left_out b k.kind ≡ false → IsRead k ks → tokens (text_of_tokens (along kept_token (k ∷ b) ks)) ≡ along kept_token (k ∷ b) ks
+        → tokens (spelling k ++ text_of_tokens (along kept_token (k ∷ b) ks)) ≡ k ∷ along kept_token (k ∷ b) ks
+    whole o (inl s) ih = s (text_of_tokens (along kept_token (k ∷ b) ks)) ∙ ap (λ (x : List Token). k ∷ x) ih
+    whole o (inr (inl l)) ih = lone_read b ks k l ∙ ap (λ (x : List Token). k ∷ x) ih
+    whole o (inr (inr (inl l))) ih = rw (l.0) (ap tokens (append-nil (spelling k)) ∙ l.1)
+    whole o (inr (inr (inr e))) ih = absurd (left e o)
+
+    by : (o s f : Bool) → is_left_out b k.kind ≡ o → IsRead k ks → tokens (text_of_tokens (along kept_token (k ∷ b) ks)) ≡ along kept_token (k ∷ b) ks
+        → tokens (text_of_tokens (kept_token_by o s f k ++ along kept_token (k ∷ b) ks)) ≡ kept_token_by o s f k ++ along kept_token (k ∷ b) ks
+    by true s f e r ih = ih
+    by false true true e r ih = ih
+    by false true false e r ih = ap (λ (x : List Token). one_blank ∷ x) ih
+    by false false f e r ih = whole e r ih
+
+written_kept : (ks b : List Token) → text_of_tokens (along kept_token b ks) ≡ along kept_at b ks
+written_kept [] b = refl
+written_kept (k ∷ ks) b = by (is_left_out b k.kind) (is_space k.kind) (follows_space b) (written_kept ks (k ∷ b))
+  where
+    by : (o s f : Bool) → text_of_tokens (along kept_token (k ∷ b) ks) ≡ along kept_at (k ∷ b) ks
+        → text_of_tokens (kept_token_by o s f k ++ along kept_token (k ∷ b) ks) ≡ cond o [] (cond s (cond f [] (32 ∷ [])) (spelling k)) ++ along kept_at (k ∷ b) ks
+    by true s f ih = ih
+    by false true true ih = ih
+    by false true false ih = ap (λ (x : List ℕ). 32 ∷ x) ih
+    by false false f ih = ap (λ (x : List ℕ). spelling k ++ x) ih
+
+tokens_kept : (t : List ℕ) → tokens (kept t) ≡ along kept_token [] (tokens t)
+tokens_kept t = ap tokens (sym (written_kept (tokens t) [])) ∙ kept_tokens (tokens t) [] (all_read 0 t)
+
+pub kept_again : (t : List ℕ) → kept (kept t) ≡ kept t
+kept_again t = ap (along kept_at []) (tokens_kept t) ∙ sym (alike (tokens t) [] [] (record { facts = refl; count = refl; begin = refl; end = refl; translation = refl })).kept
+
+abbrev with_parts : Bool → List PieceFacts → Option ℕ → Option ℕ → Option (List ℕ) → ViewFacts
+with_parts w ps x y tr = record { word_start = w; pieces = but_blank ps; centre = centre_by (length (but_blank ps)) x y; translation = tr }
+
+pub facts_again : (t : List ℕ) → view_facts (kept t) ≡ view_facts t
+facts_again t =
+    let ks = tokens t in
+    let ls = along kept_token [] ks in
+    let a = alike (tokens t) [] [] (record { facts = refl; count = refl; begin = refl; end = refl; translation = refl }) in
+    ap (λ (x : List Token). with_parts (starts_word (reverse x)) (along pieces_at [] x) (begin_of (reverse x)) (end_of (reverse x)) (translation_text (reverse x))) (tokens_kept t)
+    ∙ ap (λ (w : Bool). with_parts w (along pieces_at [] ls) (begin_of (reverse ls)) (end_of (reverse ls)) (translation_text (reverse ls))) (sym (ap (λ (s : TextFacts). s.starts) a.after.facts))
+    ∙ ap (λ (ps : List PieceFacts). with_parts (starts_word (reverse ks)) ps (begin_of (reverse ls)) (end_of (reverse ls)) (translation_text (reverse ls))) (sym a.pieces)
+    ∙ ap (λ (x : Option ℕ). with_parts (starts_word (reverse ks)) (along pieces_at [] ks) x (end_of (reverse ls)) (translation_text (reverse ls))) (sym a.after.begin)
+    ∙ ap (λ (x : Option ℕ). with_parts (starts_word (reverse ks)) (along pieces_at [] ks) (begin_of (reverse ks)) x (translation_text (reverse ls))) (sym a.after.end)
+    ∙ ap (λ (x : Option (List ℕ)). with_parts (starts_word (reverse ks)) (along pieces_at [] ks) (begin_of (reverse ks)) (end_of (reverse ks)) x) (sym a.after.translation)

@@ -1,0 +1,214 @@
+-- What a text says is the same from its first token on and from its last one back.
+use Rattle.std.proofs.Common.{◌≡◌, ℕ, zero, suc, ◌-◌, ◌==◌, ◌||◌, ◌&&◌, not, List, [], ◌∷◌, ◌++◌, Bool, true, false, cond, refl, sym, ap, ◌∙◌, length, take, drop, reverse, Option, Some, None, arith, codes}
+use Rattle.gabc_places.specs.declared.place.Span.{Span}
+use Rattle.gabc_text.specs.declared.token.TokenKind.{TokenKind}
+use Rattle.gabc_text.specs.declared.token.TokenKind.TheVariants as kind
+use Rattle.gabc_text.specs.declared.token.TagEffect.{TagEffect}
+use Rattle.gabc_text.specs.declared.token.TagEffect.TheVariants.{Opens, Closes, Mark, Begins, Other}
+use Rattle.gabc_text.specs.Token.{Token, tokens, tokens_after, token_at, tag_at, token_of_tag, ended_token, through, ending_of, effect_of, single, is_blank, is_one_of}
+use Rattle.gabc_text.specs.View.{along, is_begin, is_end, has_begin, has_end, begin_of, end_of, count_pieces, centre_by, has_translation, is_translation, starts_word}
+use Rattle.gabc_text.specs.Events.{but_last}
+use Rattle.gabc_text.specs.ViewFacts.{ViewFacts, view_facts, translation_text, but_end}
+use Rattle.gabc_text.specs.Printed.{print}
+use Rattle.gabc_text.proofs.machine.TagNameByCharacter.{by_case}
+use Rattle.gabc_text.proofs.machine.TokensOneAfterAnother.{onto}
+use Rattle.gabc_text.proofs.printing.ViewFromFirstToken.{begin_at, end_at, translation_from, view, view_by, pieces_of}
+use Rattle.gabc_text.proofs.printing.ViewFromFirstToken as forward
+use Rattle.gabc_text.proofs.printing.PrintedTextIsReadAgain.{forward_again}
+
+abbrev first_in : List ℕ → Option ℕ
+first_in [] = None
+first_in (x ∷ xs) = Some x
+
+abbrev or_else : Option ℕ → Option ℕ → Option ℕ
+or_else None y = y
+or_else (Some x) y = Some x
+
+-- ---- where the centre begins and ends
+
+no_begin : (ks before : List Token) → has_begin before ≡ true → along begin_at before ks ≡ []
+no_begin [] before h = refl
+no_begin (k ∷ ks) before h = rw (h) (by (is_begin k.kind) (no_begin ks (k ∷ before)))
+  where
+    by : (b : Bool) → ((b || has_begin before) ≡ true → along begin_at (k ∷ before) ks ≡ []) → cond (b && false) (count_pieces before ∷ []) [] ++ along begin_at (k ∷ before) ks ≡ []
+    by true ih = ih refl
+    by false ih = ih h
+
+begins_so : (ks before : List Token) → begin_of (onto ks before) ≡ or_else (first_in (along begin_at before ks)) (begin_of before)
+begins_so [] before = refl
+begins_so (k ∷ ks) before = begins_so ks (k ∷ before) ∙ by (is_begin k.kind) (has_begin before) refl (no_begin ks (k ∷ before))
+  where
+    by : (b h : Bool) → has_begin before ≡ h → ((b || h) ≡ true → along begin_at (k ∷ before) ks ≡ [])
+        → or_else (first_in (along begin_at (k ∷ before) ks)) (cond (b && not h) (Some (count_pieces before)) (begin_of before))
+        ≡ or_else (first_in (cond (b && not h) (count_pieces before ∷ []) [] ++ along begin_at (k ∷ before) ks)) (begin_of before)
+    by true true e n = refl
+    by true false e n = rw (n refl) refl
+    by false h e n = refl
+
+no_end : (ks before : List Token) → has_end before ≡ true → along end_at before ks ≡ []
+no_end [] before h = refl
+no_end (k ∷ ks) before h = rw (h) (by (is_end k.kind) (has_begin before) (no_end ks (k ∷ before)))
+  where
+    by : (b x : Bool) → (((b && x) || has_end before) ≡ true → along end_at (k ∷ before) ks ≡ []) → cond (b && x && false) (count_pieces before ∷ []) [] ++ along end_at (k ∷ before) ks ≡ []
+    by true true ih = ih refl
+    by true false ih = ih h
+    by false x ih = ih h
+
+ends_so : (ks before : List Token) → end_of (onto ks before) ≡ or_else (first_in (along end_at before ks)) (end_of before)
+ends_so [] before = refl
+ends_so (k ∷ ks) before = ends_so ks (k ∷ before) ∙ by (is_end k.kind) (has_begin before) (has_end before) (no_end ks (k ∷ before))
+  where
+    by : (b x h : Bool) → (((b && x) || h) ≡ true → along end_at (k ∷ before) ks ≡ [])
+        → or_else (first_in (along end_at (k ∷ before) ks)) (cond (b && (x && not h)) (Some (count_pieces before)) (end_of before))
+        ≡ or_else (first_in (cond (b && x && not h) (count_pieces before ∷ []) [] ++ along end_at (k ∷ before) ks)) (end_of before)
+    by true true true n = refl
+    by true true false n = rw (n refl) refl
+    by true false h n = refl
+    by false x h n = refl
+
+or_nothing : (o : Option ℕ) → or_else o None ≡ o
+or_nothing None = refl
+or_nothing (Some x) = refl
+
+centre_so : (n : ℕ) (xs ys : List ℕ) → centre_by n (first_in xs) (first_in ys) ≡ forward.centre_by n xs ys
+centre_so n [] ys = refl
+centre_so n (x ∷ xs) [] = refl
+centre_so n (x ∷ xs) (y ∷ ys) = refl
+
+-- ---- the translation
+
+-- only the last token is a translation that is left open
+abbrev is_open_one : TokenKind → Bool
+is_open_one kind.OpenTranslation = true
+is_open_one _ = false
+
+abbrev OpenLast : List Token → Type 0
+OpenLast [] = Unit {0}
+OpenLast (k ∷ ks) = (is_open_one k.kind ≡ true → ks ≡ []) × OpenLast ks
+
+but_end_take : (s : List ℕ) → but_end s ≡ take (length s - 1) s
+but_end_take [] = refl
+but_end_take (c ∷ s) = prefix c s ∙ ap (λ (n : ℕ). take n (c ∷ s)) (let e : length s ≡ suc (length s) - 1 = omega arith in e)
+  where
+    prefix : (c : ℕ) (s : List ℕ) → but_last c s ≡ take (length s) (c ∷ s)
+    prefix c [] = refl
+    prefix c (d ∷ s) = ap (λ (x : List ℕ). c ∷ x) (prefix d s)
+
+one_translation : (ks before : List Token) → has_translation before ≡ true → translation_text (onto ks before) ≡ translation_text before
+one_translation [] before h = refl
+one_translation (k ∷ ks) before h = one_translation ks (k ∷ before) (rw h (ends (is_translation k.kind))) ∙ by k.kind
+  where
+    ends : (b : Bool) → (b || true) ≡ true
+    ends true = refl
+    ends false = refl
+
+    by : (d : TokenKind) → translation_text (record { kind = d; first = k.first; more = k.more } ∷ before) ≡ translation_text before
+    by kind.Translation = rw h refl
+    by _ = refl
+
+first_translation : (ks before : List Token) → has_translation before ≡ false → translation_text before ≡ None → OpenLast ks → translation_text (onto ks before) ≡ translation_from ks
+first_translation [] before h n o = n
+first_translation (k ∷ ks) before h n o = by k.kind k.first k.more refl o (first_translation ks (k ∷ before)) (one_translation ks (k ∷ before))
+  where
+    by : (d : TokenKind) (c : ℕ) (m : List ℕ) → k ≡ record { kind = d; first = c; more = m } → OpenLast (k ∷ ks)
+        → (has_translation (k ∷ before) ≡ false → translation_text (k ∷ before) ≡ None → OpenLast ks → translation_text (onto ks (k ∷ before)) ≡ translation_from ks)
+        → (has_translation (k ∷ before) ≡ true → translation_text (onto ks (k ∷ before)) ≡ translation_text (k ∷ before))
+        → translation_text (onto ks (k ∷ before)) ≡ translation_from (record { kind = d; first = c; more = m } ∷ ks)
+    by kind.Translation c m e o ih one =
+        one (rw e refl) ∙ (rw (e, h) (ap Some (but_end_take m)))
+    by kind.OpenTranslation c m e o ih one =
+        let last : ks ≡ [] = o.0 (rw e refl) in
+        rw (last, e) n
+    by kind.Letter c m e o ih one = ih (rw e h) (rw e n) o.1
+    by kind.Blank c m e o ih one = ih (rw e h) (rw e n) o.1
+    by kind.Comment c m e o ih one = ih (rw e h) (rw e n) o.1
+    by kind.Stray c m e o ih one = ih (rw e h) (rw e n) o.1
+    by kind.Begin c m e o ih one = ih (rw e h) (rw e n) o.1
+    by kind.End c m e o ih one = ih (rw e h) (rw e n) o.1
+    by kind.Tag c m e o ih one = ih (rw e h) (rw e n) o.1
+    by kind.Raw c m e o ih one = ih (rw e h) (rw e n) o.1
+    by kind.OpenTag c m e o ih one = ih (rw e h) (rw e n) o.1
+
+-- a translation that is left open takes the rest of the text
+abbrev TakesAll : List ℕ → ℕ → Type 0
+TakesAll t c = is_open_one (token_at c t).kind ≡ true → (token_at c t).more ≡ t
+
+at_bracket : (t : List ℕ) → TakesAll t 91
+at_bracket t = by (through (93 ∷ []) t)
+  where
+    by : (o : Option (List ℕ)) → is_open_one (ended_token kind.Translation kind.OpenTranslation 91 [] t o).kind ≡ true → (ended_token kind.Translation kind.OpenTranslation 91 [] t o).more ≡ t
+    by None h = refl
+    by (Some y) h = absurd (cc)
+
+at_tag : (t : List ℕ) → TakesAll t 60
+at_tag t h = absurd (by (through (62 ∷ []) t) h)
+  where
+    raws : (name u : List ℕ) (o : Option (List ℕ)) → is_open_one (ended_token kind.Raw kind.OpenTag 60 name u o).kind ≡ true → ⊥
+    raws name u None h = absurd (cc)
+    raws name u (Some y) h = absurd (cc)
+
+    sorted : (name u : List ℕ) (s : TagEffect) → is_open_one (token_of_tag name u s).kind ≡ true → ⊥
+    sorted name u (Begins raw) h = raws name u (through (ending_of raw) u) h
+    sorted name u (Opens r) h = absurd (cc)
+    sorted name u (Closes r) h = absurd (cc)
+    sorted name u Mark h = absurd (cc)
+    sorted name u Other h = absurd (cc)
+
+    by : (o : Option (List ℕ)) → is_open_one (tag_at t o).kind ≡ true → ⊥
+    by None h = absurd (cc)
+    by (Some name) h = sorted name (drop (length name) t) (effect_of (60 ∷ name)) h
+
+at_dollar : (t : List ℕ) → TakesAll t 36
+at_dollar [] h = absurd (cc)
+at_dollar (c ∷ t) h = absurd (cc)
+
+single_no : (c : ℕ) → is_open_one (single c) ≡ false
+single_no c = by (is_blank c) (is_one_of (codes ")]>") c) (c == 123) (c == 125)
+  where
+    by : (a b d e : Bool) → is_open_one (cond a kind.Blank (cond b kind.Stray (cond d kind.Begin (cond e kind.End kind.Letter)))) ≡ false
+    by true b d e = refl
+    by false true d e = refl
+    by false false true e = refl
+    by false false false true = refl
+    by false false false false = refl
+
+takes_all : (c : ℕ) (t : List ℕ) → TakesAll t c
+takes_all c t =
+    by_case 36 c (TakesAll t) (at_dollar t) (λ e36.
+    by_case 37 c (TakesAll t) (λ h. absurd (cc)) (λ e37.
+    by_case 60 c (TakesAll t) (at_tag t) (λ e60.
+    by_case 91 c (TakesAll t) (at_bracket t) (λ e91.
+    λ h. absurd (let f : is_open_one (single c) ≡ true = rw (e36, e37, e60, e91) at h in let g = single_no c in cc)))))
+
+none_after : (t : List ℕ) → tokens_after (length t) t ≡ []
+none_after [] = refl
+none_after (c ∷ t) = none_after t
+
+open_last : (n : ℕ) (t : List ℕ) → OpenLast (tokens_after n t)
+open_last n [] = tt
+open_last (suc n) (c ∷ t) = open_last n t
+open_last zero (c ∷ t) = by (c == 40) (open_last (length (token_at c t).more) t)
+  where
+    by : (b : Bool) → OpenLast (tokens_after (length (token_at c t).more) t) → OpenLast (cond b [] (token_at c t ∷ tokens_after (length (token_at c t).more) t))
+    by true h = tt
+    by false h = ((λ e. ap (λ (u : List ℕ). tokens_after (length u) t) (takes_all c t e) ∙ none_after t), h)
+
+-- ---- the view
+
+pub facts_is : (t : List ℕ) → view_facts t ≡ view t
+facts_is t =
+    let ks = tokens t in
+    let b : begin_of (reverse (tokens t)) ≡ first_in (along begin_at [] (tokens t)) = begins_so (tokens t) [] ∙ or_nothing (first_in (along begin_at [] (tokens t))) in
+    let e : end_of (reverse (tokens t)) ≡ first_in (along end_at [] (tokens t)) = ends_so (tokens t) [] ∙ or_nothing (first_in (along end_at [] (tokens t))) in
+    let tr : translation_text (reverse (tokens t)) ≡ translation_from (tokens t) = first_translation (tokens t) [] refl refl (open_last 0 t) in
+    ap (λ (x : Option ℕ). with_parts t (centre_by (length (pieces_of (tokens t))) x (end_of (reverse (tokens t)))) (translation_text (reverse (tokens t)))) b
+    ∙ ap (λ (x : Option ℕ). with_parts t (centre_by (length (pieces_of (tokens t))) (first_in (along begin_at [] (tokens t))) x) (translation_text (reverse (tokens t)))) e
+    ∙ ap (λ (x : Option Span). with_parts t x (translation_text (reverse (tokens t)))) (centre_so (length (pieces_of (tokens t))) (along begin_at [] (tokens t)) (along end_at [] (tokens t)))
+    ∙ ap (λ (x : Option (List ℕ)). with_parts t (forward.centre_by (length (pieces_of (tokens t))) (along begin_at [] (tokens t)) (along end_at [] (tokens t))) x) tr
+  where
+    with_parts : List ℕ → Option Span → Option (List ℕ) → ViewFacts
+    with_parts t c tr = record { word_start = starts_word (reverse (tokens t)); pieces = pieces_of (tokens t); centre = c; translation = tr }
+
+pub facts_again : (t rest : List ℕ) → view_facts (print (view_facts t) ++ 40 ∷ rest) ≡ view_facts t
+facts_again t rest =
+    ap (λ (v : ViewFacts). view_facts (print v ++ 40 ∷ rest)) (facts_is t) ∙ facts_is (print (view t) ++ 40 ∷ rest) ∙ forward_again t rest ∙ sym (facts_is t)

@@ -1,0 +1,2 @@
+pub mod CentreLiesAmongPieces
+pub mod SpansStandForView

@@ -1,0 +1,6 @@
+pub mod CountsOfTexts
+pub mod PrefixBeforeTag
+pub mod RawEndingIsMatched
+pub mod TextIsTokensAndRest
+pub mod TokensByCharacter
+pub mod TokensSpellPrefix

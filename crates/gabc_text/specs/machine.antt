@@ -1,0 +1,7 @@
+pub mod BuiltText
+pub mod ChangedStyles
+pub mod RawPart
+pub mod TagPrefix
+pub mod TextFacts
+pub mod TextStage
+pub mod TokenState

@@ -1,0 +1,248 @@
+//! What the tokens so far have shown.
+
+ghost use Rattle.std.specs.Prelude.{◌≡◌};
+ghost use Rattle.gabc_text.specs.machine.TextFacts.{styles_after, is_left_out_by, piece_kind_at, early_at, code_at, after_piece, after_tag, facts_after};
+ghost use Rattle.gabc_text.specs.TextFacts.{no_facts};
+ghost use Rattle.gabc_text.specs.machine.TokenState.{keep, keep_first};
+ghost use Rattle.gabc_text.specs.View.{piece_kind};
+
+use crate::styles::Styles;
+use crate::token::{TagEffect, TokenKind, is_blank_kind, single};
+use crate::token_state::TokenState;
+use crate::view::PieceKind;
+use gabc_places::Code;
+
+/// What the tokens so far have shown.
+#[derive(Clone, Copy)]
+pub struct TextFacts {
+    /// The open styles.
+    pub styles: Styles,
+    /// There was a piece but span marks.
+    pub word: bool,
+    /// Of blanks and pieces, a blank was last.
+    pub blank: bool,
+    /// Of what isn't left out, a blank was last.
+    pub space: bool,
+    /// There was a `{`, and a `}` after it.
+    pub begun: bool,
+    pub ended: bool,
+    /// There was a translation.
+    pub translated: bool,
+    /// There was a blank before the first word.
+    pub starts: bool,
+}
+
+pub(crate) fn kind_of(kind: TokenKind, sort: TagEffect) -> Option<PieceKind>
+    ensures { result ≡ piece_kind kind sort }
+{
+    match kind {
+        TokenKind::Letter => Some(PieceKind::Char),
+        TokenKind::Raw => Some(PieceKind::Raw),
+        TokenKind::Tag => match sort {
+            TagEffect::Mark => Some(PieceKind::Mark),
+            TagEffect::Other => Some(PieceKind::Tag),
+            _ => None,
+        },
+        _ => None,
+    }
+}
+
+/// The styles after a tag of this sort.
+pub(crate) fn styles_after(styles: Styles, sort: TagEffect) -> Styles
+    ensures { result ≡ styles_after styles sort }
+{
+    match sort {
+        TagEffect::Opens(style) => styles.with(style, true),
+        TagEffect::Closes(style) => styles.with(style, false),
+        _ => styles,
+    }
+}
+
+/// A brace, comment or stray character that is not kept.
+pub(crate) fn is_left_out(facts: TextFacts, kind: TokenKind) -> bool
+    ensures { result ≡ is_left_out_by facts kind }
+{
+    match kind {
+        TokenKind::Comment | TokenKind::Stray => true,
+        TokenKind::Begin => facts.begun,
+        TokenKind::End => !(facts.begun && !facts.ended),
+        _ => false,
+    }
+}
+
+/// The piece that a token is, if any.
+pub(crate) fn piece_at(facts: TextFacts, kind: TokenKind, sort: TagEffect) -> Option<PieceKind>
+    ensures { result ≡ piece_kind_at facts kind sort }
+{
+    match kind {
+        TokenKind::Blank => {
+            if facts.word && !facts.blank {
+                Some(PieceKind::Blank)
+            } else {
+                None
+            }
+        }
+        _ => kind_of(kind, sort),
+    }
+}
+
+/// The finding where a second translation begins.
+pub(crate) fn early_at(facts: TextFacts, mode: TokenState, c: char) -> Option<Code>
+    ensures { result ≡ early_at facts mode c }
+{
+    match mode {
+        TokenState::Plain if c == '[' && facts.translated => Some(Code::W5),
+        _ => None,
+    }
+}
+
+/// The finding where a token ends, if any.
+pub(crate) fn code_at(facts: TextFacts, kind: TokenKind, sort: TagEffect) -> Option<Code>
+    ensures { result ≡ code_at facts kind sort }
+{
+    match kind {
+        TokenKind::Stray => Some(Code::E2),
+        TokenKind::Begin => { if facts.begun { Some(Code::W4) } else { None } }
+        TokenKind::End => {
+            if facts.begun && !facts.ended {
+                None
+            } else {
+                Some(Code::W4)
+            }
+        }
+        TokenKind::Tag => match sort {
+            TagEffect::Opens(style) => {
+                if facts.styles.has(style) {
+                    Some(Code::W3)
+                } else {
+                    None
+                }
+            }
+            TagEffect::Closes(style) => {
+                if facts.styles.has(style) {
+                    None
+                } else {
+                    Some(Code::W3)
+                }
+            }
+            TagEffect::Other => Some(Code::W6),
+            _ => None,
+        },
+        _ => None,
+    }
+}
+
+/// What has been seen after a piece that is no blank and no span mark.
+fn after_piece(facts: TextFacts) -> TextFacts
+    ensures { result ≡ after_piece facts }
+{
+    TextFacts {
+        word: true,
+        blank: false,
+        space: false,
+        ..facts
+    }
+}
+
+/// What has been seen after a tag of this sort.
+fn after_tag(facts: TextFacts, sort: TagEffect) -> TextFacts
+    ensures { result ≡ after_tag facts sort }
+{
+    match sort {
+        TagEffect::Mark => TextFacts {
+            blank: false,
+            space: false,
+            ..facts
+        },
+        TagEffect::Other => after_piece(facts),
+        _ => TextFacts {
+            styles: styles_after(facts.styles, sort),
+            space: false,
+            ..facts
+        },
+    }
+}
+
+/// What has been seen after a token more.
+pub(crate) fn facts_after(facts: TextFacts, kind: TokenKind, sort: TagEffect) -> TextFacts
+    ensures { result ≡ facts_after facts kind sort }
+{
+    match kind {
+        TokenKind::Blank => TextFacts {
+            starts: !facts.word || facts.starts,
+            blank: true,
+            space: true,
+            ..facts
+        },
+        TokenKind::Letter | TokenKind::Raw => after_piece(facts),
+        TokenKind::Begin => TextFacts {
+            begun: true,
+            space: facts.begun && facts.space,
+            ..facts
+        },
+        TokenKind::End => TextFacts {
+            ended: facts.begun || facts.ended,
+            space: is_left_out(facts, kind) && facts.space,
+            ..facts
+        },
+        TokenKind::Comment | TokenKind::Stray => facts,
+        TokenKind::Translation | TokenKind::OpenTranslation => TextFacts {
+            translated: true,
+            space: false,
+            ..facts
+        },
+        TokenKind::OpenTag => TextFacts {
+            space: false,
+            ..facts
+        },
+        TokenKind::Tag => after_tag(facts, sort),
+    }
+}
+
+/// What is kept of a character between tokens, where this is its kind.
+pub(crate) fn keep_first(facts: TextFacts, c: char, kind: TokenKind) -> Option<char>
+    ensures { result ≡ keep_first facts c kind }
+{
+    if c == '%' || is_left_out(facts, kind) {
+        None
+    } else if is_blank_kind(kind) {
+        if facts.space { None } else { Some(' ') }
+    } else {
+        Some(c)
+    }
+}
+
+/// What is kept of a character.
+pub(crate) fn keep(facts: TextFacts, mode: TokenState, c: char) -> Option<char>
+    ensures { result ≡ keep facts mode c }
+{
+    match mode {
+        TokenState::Plain => keep_first(facts, c, single(c)),
+        TokenState::Comment => None,
+        _ => Some(c),
+    }
+}
+
+pub(crate) fn no_facts() -> TextFacts
+    ensures { result ≡ no_facts }
+{
+    let styles = Styles {
+        b: false,
+        c: false,
+        e: false,
+        i: false,
+        sc: false,
+        tt: false,
+        ul: false,
+    };
+    TextFacts {
+        styles,
+        word: false,
+        blank: false,
+        space: false,
+        begun: false,
+        ended: false,
+        translated: false,
+        starts: false,
+    }
+}

@@ -1,0 +1,2 @@
+pub mod HeaderText
+pub mod SyllableText

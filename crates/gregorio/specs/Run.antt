@@ -1,0 +1,54 @@
+-- What a run does to its source and its sinks.
+use Rattle.std.specs.Prelude.{◌≡◌, ℕ, ◌<◌, ◌≤◌, ◌+◌, List, length, take, Option, ◌⊎◌}
+use Rattle.std.specs.Io.KnownBytes.{Appends, Consumes, IsAtEnd, Keeps}
+use Rattle.gabc_places.specs.declared.limits.Limits.{Limits}
+use Rattle.gregorio.specs.declared.source_bytes.SourceEnding.{SourceEnding}
+use Rattle.gregorio.specs.declared.source_bytes.SourceEnding.TheVariants.{Whole}
+use Rattle.gregorio.specs.declared.job.Job.{Job}
+use Rattle.gregorio.specs.declared.job.Status.{Status}
+use Rattle.gregorio.specs.declared.job.Status.TheVariants.{NoMemory, WriteFault}
+use Rattle.gregorio.specs.Outcome.{outcome_of, output_of, messages_of, status_of}
+use Rattle.gregorio.specs.SourceBytes.{ReadsSource, TakesSource}
+
+-- An end before and after a run: its bytes, where they are known, and the number of its failures.
+pub record Use : Type 0 where
+  pub old : Option (List ℕ)
+  pub new : Option (List ℕ)
+  pub failed_old : ℕ
+  pub failed_new : ℕ
+
+-- the bytes that the source gave, and how it stopped
+pub record InputRead (limits : Limits) (source : Use) : Type 0 where
+  pub bytes : List ℕ
+  pub ending : SourceEnding
+  pub reads : ReadsSource source.old source.new source.failed_old source.failed_new limits.input bytes ending
+
+-- The whole output and all messages were written, and the status is theirs.
+pub record Done (job : Job) (limits : Limits) (source out messages : Use) (status : Status) : Type 0 where
+  pub input : InputRead limits source
+  pub written : Appends out.old out.new (output_of (outcome_of limits input.ending input.bytes))
+  pub messages_written : Appends messages.old messages.new (messages_of job (outcome_of limits input.ending input.bytes))
+  pub ends : status ≡ status_of (outcome_of limits input.ending input.bytes)
+
+-- Of the source these bytes were taken, and it stopped so: `Broken` also where it was not read to a stop.
+pub record Taken (limits : Limits) (source : Use) : Type 0 where
+  pub bytes : List ℕ
+  pub ending : SourceEnding
+  pub consumed : Consumes source.old source.new bytes
+  pub within : length bytes ≤ limits.input + 1
+  pub whole : ending ≡ Whole → length bytes ≤ limits.input → IsAtEnd source.new
+
+-- A sink failed: each stream holds a prefix of its text, for the bytes that were taken.
+pub record SinkCut (job : Job) (limits : Limits) (source out messages : Use) : Type 0 where
+  pub input : Taken limits source
+  pub written_count : ℕ
+  pub messages_count : ℕ
+  pub written : Appends out.old out.new (take written_count (output_of (outcome_of limits input.ending input.bytes)))
+  pub messages_written : Appends messages.old messages.new (take messages_count (messages_of job (outcome_of limits input.ending input.bytes)))
+  pub failed : (out.failed_old < out.failed_new) ⊎ (messages.failed_old < messages.failed_new)
+
+-- By how the run ended: there was no memory, nothing was written, and no more of the source was taken than may be; a sink failed; or all was written.
+abbrev pub Compiles : Job → Limits → Use → Use → Use → Status → Type 0
+Compiles job limits source out messages NoMemory = Keeps out.old out.new × (Keeps messages.old messages.new × TakesSource source.old source.new limits.input)
+Compiles job limits source out messages WriteFault = SinkCut job limits source out messages
+Compiles job limits source out messages status = Done job limits source out messages status
