@@ -9,7 +9,7 @@ use Rattle.gabc_notes.specs.Ends.{is_ended}
 use Rattle.gabc_notes.specs.declared.stage.NoteEnd.TheVariants.{Cut}
 use Rattle.gabc_notes.specs.declared.stage.NoteEvent.{NoteEvent}
 use Rattle.gabc_notes.specs.declared.stage.NoteEvent.TheVariants.{Kept, Ended}
-use Rattle.gabc_notes.proofs.EndsLast.{stops-without, stops-behind}
+use Rattle.gabc_places.proofs.NothingBehindAnEnd.{stops-endless, stops-last}
 use Rattle.gabc_nabc.specs.DescriptorMachine.{events_in, event_list, role_at, facts_at, stage_events_at, stage_after, events_of_cut, events_left}
 use Rattle.gabc_nabc.specs.Events.{finding_event, end_by_mark}
 use Rattle.gabc_nabc.specs.declared.stage.NabcStage.{NabcStage}
@@ -55,18 +55,18 @@ push_stops st next x old new n p = running st.ended refl
     at_role Ends f e =
         let same_events : stage_events_at st x ≡ event_list (events_in Ends (facts_at st x.c) st.whole x) = rw (e, f) refl in
         let over : next.ended ≡ true = ap (λ (s : NabcStage). s.ended) n ∙ rw (e, f) refl in
-        stops-behind is_ended (events_left next) old new (option_to_list (cond (facts_at st x.c).whole None (Some (finding_event x.place E6)))) (Ended (end_by_mark x.c) st.whole)
+        stops-last is_ended (events_left next) old new (option_to_list (cond (facts_at st x.c).whole None (Some (finding_event x.place E6)))) (Ended (end_by_mark x.c) st.whole)
         (p ∙ ap (extended_by old) same_events) (first (facts_at st x.c).whole) (ended-emits_nothing next over)
       where
         first : (b : Bool) → list_any is_ended (option_to_list (cond b None (Some (finding_event x.place E6)))) ≡ false
         first true = refl
         first false = refl
-    at_role Silent f e = stops-without is_ended (events_left next) old new (stage_events_at st x) p (none Silent f e (λ h. cc))
-    at_role Keep f e = stops-without is_ended (events_left next) old new (stage_events_at st x) p (none Keep f e (λ h. cc))
-    at_role LeaveOut f e = stops-without is_ended (events_left next) old new (stage_events_at st x) p (none LeaveOut f e (λ h. cc))
+    at_role Silent f e = stops-endless is_ended (events_left next) old new (stage_events_at st x) p (none Silent f e (λ h. cc))
+    at_role Keep f e = stops-endless is_ended (events_left next) old new (stage_events_at st x) p (none Keep f e (λ h. cc))
+    at_role LeaveOut f e = stops-endless is_ended (events_left next) old new (stage_events_at st x) p (none LeaveOut f e (λ h. cc))
 
     running : (b : Bool) → st.ended ≡ b → StopsAtEnd is_ended (events_left next) old new
-    running true e = stops-without is_ended (events_left next) old new (stage_events_at st x) p (rw e refl)
+    running true e = stops-endless is_ended (events_left next) old new (stage_events_at st x) p (rw e refl)
     running false e = at_role (role_at st x.c) refl e
 
 -- and so is it behind the end
@@ -75,7 +75,7 @@ pub finish_stops : (st next : NabcStage) (old new : BoundedList NoteEvent) → n
 finish_stops st next old new n p = go st.ended refl
   where
     go : (b : Bool) → st.ended ≡ b → StopsAtEnd is_ended (events_left next) old new
-    go true e = stops-without is_ended (events_left next) old new (events_of_cut st) p (rw e refl)
+    go true e = stops-endless is_ended (events_left next) old new (events_of_cut st) p (rw e refl)
     go false e =
         let same_events : events_of_cut st ≡ [] ++ Ended (Cut (record { line = 0; column = 0 })) st.kept ∷ [] = rw e refl in
-        stops-behind is_ended (events_left next) old new [] (Ended (Cut (record { line = 0; column = 0 })) st.kept) (p ∙ ap (extended_by old) same_events) refl (ended-emits_nothing next n)
+        stops-last is_ended (events_left next) old new [] (Ended (Cut (record { line = 0; column = 0 })) st.kept) (p ∙ ap (extended_by old) same_events) refl (ended-emits_nothing next n)

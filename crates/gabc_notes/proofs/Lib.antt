@@ -2,7 +2,6 @@ pub mod grammar
 pub mod items_of_text
 pub mod machine
 pub mod order
-pub mod EndsLast
 pub mod KeptChars
 pub mod KeptText
 pub mod Stopping

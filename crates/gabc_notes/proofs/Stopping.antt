@@ -23,7 +23,7 @@ use Rattle.gabc_notes.specs.declared.stage.CharRole.{CharRole}
 use Rattle.gabc_notes.specs.declared.stage.CharRole.TheVariants.{Silent, Comment, Ends, Keep, LeaveOut}
 use Rattle.gabc_notes.specs.declared.stage.CharFacts.{CharFacts}
 use Rattle.gabc_notes.specs.declared.state.ItemState.{ItemState}
-use Rattle.gabc_notes.proofs.EndsLast.{stops-without, stops-behind}
+use Rattle.gabc_places.proofs.NothingBehindAnEnd.{stops-endless, stops-last}
 
 -- a stage that has ended gives nothing
 pub ended-emits_nothing : (st : NoteStage) → st.ended ≡ true → GivesNothing (events_left st)
@@ -58,10 +58,10 @@ push_stops st next x o e Ends g old new m n p =
     let plain : list_any is_ended (first ++ second) ≡ false =
     list_any-append is_ended first second ∙ (ap (λ (b : Bool). b || list_any is_ended second) (none_found e.whole x.place E6) ∙ found_is st.before.fused x.place W10) in
     let all : event_list g ≡ (first ++ second) ++ last ∷ [] = ap event_list m ∙ sym (append_assoc first second (last ∷ [])) in
-    stops-behind is_ended (events_left next) old new (first ++ second) last (p ∙ ap (extended_by old) all) plain (ended-emits_nothing next (ap (λ (s : NoteStage). s.ended) n))
+    stops-last is_ended (events_left next) old new (first ++ second) last (p ∙ ap (extended_by old) all) plain (ended-emits_nothing next (ap (λ (s : NoteStage). s.ended) n))
 push_stops st next x o e Keep g old new m n p =
     let plain : list_any is_ended (event_list g) ≡ false = ap (λ (y : CharEvents). list_any is_ended (event_list y)) m ∙ warned st.macros st.before e x in
-    stops-without is_ended (events_left next) old new (event_list g) p plain
-push_stops st next x o e LeaveOut g old new m n p = stops-without is_ended (events_left next) old new (event_list g) p (ap (λ (y : CharEvents). list_any is_ended (event_list y)) m)
-push_stops st next x o e Silent g old new m n p = stops-without is_ended (events_left next) old new (event_list g) p (ap (λ (y : CharEvents). list_any is_ended (event_list y)) m)
-push_stops st next x o e Comment g old new m n p = stops-without is_ended (events_left next) old new (event_list g) p (ap (λ (y : CharEvents). list_any is_ended (event_list y)) m)
+    stops-endless is_ended (events_left next) old new (event_list g) p plain
+push_stops st next x o e LeaveOut g old new m n p = stops-endless is_ended (events_left next) old new (event_list g) p (ap (λ (y : CharEvents). list_any is_ended (event_list y)) m)
+push_stops st next x o e Silent g old new m n p = stops-endless is_ended (events_left next) old new (event_list g) p (ap (λ (y : CharEvents). list_any is_ended (event_list y)) m)
+push_stops st next x o e Comment g old new m n p = stops-endless is_ended (events_left next) old new (event_list g) p (ap (λ (y : CharEvents). list_any is_ended (event_list y)) m)

@@ -6,7 +6,7 @@ use Rattle.gabc_notes.specs.Ends.{is_ended}
 use Rattle.gabc_notes.specs.declared.stage.NoteEnd.TheVariants.{Cut}
 use Rattle.gabc_notes.specs.declared.stage.NoteEvent.{NoteEvent}
 use Rattle.gabc_notes.specs.declared.stage.NoteEvent.TheVariants.{Ended}
-use Rattle.gabc_notes.proofs.EndsLast.{stops-behind}
+use Rattle.gabc_places.proofs.NothingBehindAnEnd.{stops-last}
 use Rattle.gabc_notes.proofs.Stopping.{ended-emits_nothing}
 use Rattle.gabc_notes.proofs.stage.NoteStageStage.finish.Goals as goal
 
@@ -18,4 +18,4 @@ returns-clause-over c = λ xs. joined_silence xs
 
 pub returns-clause-end : goal.returns-clause-end
 returns-clause-end c =
-    stops-behind is_ended (silence {I = Char} {O = NoteEvent}) c.args.out.now c.push.new.self [] (Ended (Cut c.if-is_raw.place) c.args.self.now.before.kept) c.push.ensures refl (λ xs. joined_silence xs)
+    stops-last is_ended (silence {I = Char} {O = NoteEvent}) c.args.out.now c.push.new.self [] (Ended (Cut c.if-is_raw.place) c.args.self.now.before.kept) c.push.ensures refl (λ xs. joined_silence xs)
