@@ -1,5 +1,5 @@
 -- Behind the event that ends a text its stage gives nothing.
-use Rattle.std.proofs.Common.{◌≡◌, ◌==◌, ◌&&◌, ◌||◌, ℕ, List, [], ◌∷◌, ◌++◌, Bool, true, false, cond, Option, Some, None, refl, ap, sym, ◌∙◌, append_assoc}
+use Rattle.std.proofs.Common.{◌≡◌, ◌==◌, ◌&&◌, ◌||◌, ℕ, List, [], ◌∷◌, ◌++◌, Bool, true, false, cond, Option, Some, None, refl, ap, sym, ◌∙◌, append_assoc, map}
 use Rattle.std.specs.List.{list_any}
 use Rattle.std.proofs.lemmas.List.Folds.{list_any-append}
 use Rattle.gabc_places.specs.declared.code.Code.{Code}
@@ -12,24 +12,25 @@ use Rattle.gabc_places.proofs.NothingBehindAnEnd.{stops-endless, stops-last}
 use Rattle.gabc_text.specs.declared.token_state.Step.{Step}
 use Rattle.gabc_text.specs.declared.token_state.Step.TheVariants.{Stays, Ends}
 use Rattle.gabc_text.specs.declared.text_facts.TextFacts.{TextFacts}
-use Rattle.gabc_text.specs.declared.stage.Progress.{Progress}
+use Rattle.gabc_text.specs.declared.progress.Progress.{Progress}
 use Rattle.gabc_text.specs.declared.stage.TextEnd.{TextEnd}
 use Rattle.gabc_text.specs.declared.stage.TextEnd.TheVariants as text_ending
 use Rattle.gabc_text.specs.declared.stage.TextEvent.{TextEvent}
 use Rattle.gabc_text.specs.declared.stage.TextEvent.TheVariants as out
 use Rattle.gabc_text.specs.declared.stage.TextPart.{TextPart}
+use Rattle.gabc_text.specs.declared.stage.TextPart.TheVariants as part
 use Rattle.gabc_text.specs.declared.stage.TextStage.{TextStage}
 use Rattle.gabc_text.specs.declared.token.TokenKind.{TokenKind}
 use Rattle.gabc_text.specs.declared.token.TagEffect.{TagEffect}
 use Rattle.gabc_text.specs.declared.token.TagEffect.TheVariants.{Other}
-use Rattle.gabc_text.specs.declared.view.Piece.{Piece}
 use Rattle.gabc_text.specs.ExampleTexts.{stands_for}
 use Rattle.gabc_text.specs.End.{is_end}
-use Rattle.gabc_text.specs.machine.TextFacts.{code_at, early_at}
+use Rattle.gabc_text.specs.machine.TextFacts.{early_at}
 use Rattle.gabc_text.specs.machine.TokenState.{settled_kind, next_step, keep, kind_at_end, is_plain}
-use Rattle.gabc_text.specs.Events.{codes_of, no_events_each}
-use Rattle.gabc_text.specs.EventsLeft.{events_left, lists_ahead}
-use Rattle.gabc_text.specs.machine.TextStage.{option_list, piece_event, part_event, centre_event, finding_event, char_event, part_of, is_piece, events_of_token, events_of_settling, events_of_settling_by, settle_stage, events_of_step, stage_past_char, events_of_reading, style_code, centre_code, final_centre, events_of_end, end_stage, settled_push_stage, events_of_settled_push, read_stage, push_stage, events_of_push, finish_stage, finish_stage_by, events_of_finish, events_of_finish_by, progress_after, end_by}
+use Rattle.gabc_text.specs.View.{centre_by, piece_kind}
+use Rattle.gabc_text.specs.Events.{codes_of, no_events_each, option_list_of, count_by}
+use Rattle.gabc_text.specs.EventsLeft.{events_left, lists_ahead, findings_there, parts_by, codes_by, codes_last}
+use Rattle.gabc_text.specs.machine.TextStage.{char_event, events_of_token, events_of_settling, events_of_settling_by, settle_stage, events_of_step, stage_past_char, events_of_reading, events_of_end, end_stage, settled_push_stage, events_of_settled_push, read_stage, push_stage, events_of_push, finish_stage, finish_stage_by, events_of_finish, events_of_finish_by, progress_after, end_by, is_cut_end}
 use Rattle.gabc_text.specs.machine.TextFacts.{facts_after}
 use Rattle.gabc_text.proofs.machine.EventsLeftAreThoseAhead.{rest_by}
 
@@ -52,30 +53,21 @@ pub record Endless (events : List TextEvent) : Type 0 where
 endless-append : (a b : List TextEvent) → Endless a → Endless b → Endless (a ++ b)
 endless-append a b e h = record { none = list_any-append is_end a b ∙ ap (λ (v : Bool). v || list_any is_end b) e.none ∙ h.none }
 
-found_endless : (p : Place) (c : Option Code) → Endless (option_list (finding_event p c))
-found_endless p None = record { none = refl }
-found_endless p (Some c) = record { none = refl }
+mapped_endless : {X : Type 0} (f : X → TextEvent) → ((x : X) → is_end (f x) ≡ false) → (xs : List X) → Endless (map f xs)
+mapped_endless f h [] = record { none = refl }
+mapped_endless f h (x ∷ xs) = record { none = rw (h x) (mapped_endless f h xs).none }
 
-char_endless : (p : Place) (c : Option ℕ) → Endless (option_list (char_event p c))
+found_endless : (p : Place) (cs : List Code) → Endless (findings_there p cs)
+found_endless p cs = mapped_endless (λ (c : Code). out.Found (record { place = p; code = c })) (λ c. refl) cs
+
+char_endless : (p : Place) (c : Option ℕ) → Endless (option_list_of (char_event p c))
 char_endless p None = record { none = refl }
 char_endless p (Some c) = record { none = refl }
 
-piece_endless : (p : Option Piece) → Endless (option_list (piece_event p))
-piece_endless None = record { none = refl }
-piece_endless (Some p) = record { none = refl }
-
-part_endless : (p : Option TextPart) → Endless (option_list (part_event p))
-part_endless None = record { none = refl }
-part_endless (Some p) = record { none = refl }
-
-centre_endless : (s : Option Span) → Endless (option_list (centre_event s))
-centre_endless None = record { none = refl }
-centre_endless (Some s) = record { none = refl }
-
 token_endless : (facts : TextFacts) (progress : Progress) (k : TokenKind) (s : TagEffect) (last : ℕ) → Endless (events_of_token facts progress k s last)
 token_endless facts progress k s last =
-    endless-append _ _ (piece_endless (cond (is_piece (part_of facts progress k s last)) progress.blank None))
-    (endless-append _ _ (part_endless (part_of facts progress k s last)) (found_endless progress.place (code_at facts k s)))
+    endless-append _ _ (mapped_endless (λ (p : TextPart). out.Part p) (λ p. refl) (parts_by facts progress k last progress.kept (piece_kind k s)))
+    (found_endless progress.place (codes_by facts k s))
 
 settle_endless : (t : TextStage) (o : Option TokenKind) → Endless (events_of_settling_by t o)
 settle_endless t None = record { none = refl }
@@ -87,7 +79,7 @@ went_endless t (Ends k s) last = token_endless t.facts t.progress k s last
 
 read_endless : (t : TextStage) (c : ℕ) → Endless (events_of_reading t c)
 read_endless t c =
-    endless-append _ _ (found_endless t.progress.place (early_at t.facts t.mode c))
+    endless-append _ _ (found_endless t.progress.place (option_list_of (early_at t.facts t.mode c)))
     (endless-append _ _ (char_endless t.progress.next (keep t.facts t.mode c)) (went_endless (stage_past_char t c) (next_step t.mode c) t.progress.kept))
 
 -- ---- the end comes last
@@ -109,9 +101,9 @@ behind a b e l = record {
 
 end_last : (facts : TextFacts) (progress : Progress) (h : TextEnd) → EndsLast (events_of_end facts progress h)
 end_last facts progress h =
-    behind _ _ (found_endless progress.next (style_code facts h))
-    (behind _ _ (found_endless progress.next (centre_code facts h))
-    (behind _ _ (centre_endless (final_centre progress)) (record { before = []; last = out.Ended h; events_are = refl; endless = record { none = refl } })))
+    behind _ _ (found_endless progress.next (cond (is_cut_end h) [] (codes_last facts)))
+    (behind _ _ (mapped_endless (λ (c : Span). out.Part (part.Centre c)) (λ c. refl) (option_list_of (centre_by (count_by progress.pieces progress.blank) progress.begin progress.end)))
+    (record { before = []; last = out.Ended h; events_are = refl; endless = record { none = refl } }))
 
 last_stops : (next : TextStage) (events : List TextEvent) (old new : BoundedList TextEvent) → next.done ≡ true → new ≡ extended_by old events → EndsLast events
     → StopsAtEnd is_end (λ (cs : List Char). events_left next (codes_of cs)) old new

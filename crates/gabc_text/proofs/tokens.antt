@@ -1,3 +1,4 @@
+pub mod CasesOfCharacters
 pub mod CountsOfTexts
 pub mod PrefixBeforeTag
 pub mod RawEndingIsMatched

@@ -1,5 +1,5 @@
--- What a text gives as it is read: its kept characters, the parts of its view, its findings and its end.
-use Rattle.std.specs.Prelude.{ℕ, ◌+◌, ◌-◌, ◌<◌, ◌^◌, List, [], ◌∷◌, ◌++◌, Bool, true, false, cond, not, ◌&&◌, length, Option, Some, None, map, reverse, drop, codes}
+-- What a text emits as it is read: its kept characters, the parts of its view, its findings and its end.
+use Rattle.std.specs.Prelude.{if◌then◌else◌, ℕ, ◌+◌, ◌-◌, ◌<◌, ◌^◌, List, [], ◌∷◌, ◌++◌, Bool, true, false, cond, not, ◌&&◌, length, Option, Some, None, map, reverse, drop, codes}
 use Rattle.gabc_places.specs.Place.{placed_characters_from}
 use Rattle.gabc_places.specs.declared.place.Place.{Place}
 use Rattle.gabc_places.specs.declared.place.Span.{Span}
@@ -19,7 +19,7 @@ use Rattle.gabc_text.specs.declared.stage.TextEnd.TheVariants as ending
 use Rattle.gabc_text.specs.declared.stage.TextEvent.{TextEvent}
 use Rattle.gabc_text.specs.declared.stage.TextEvent.TheVariants as out
 use Rattle.gabc_text.specs.Token.{Token, spelling, tokens, is_text}
-use Rattle.gabc_text.specs.View.{along, effect, kind_of, is_open, is_space, is_left_out, follows_space, follows_blank, has_word, starts_word, has_translation, kept_at, text_of, place_of, bytes_of, begin_of, end_of, centre_by, count_pieces, early_codes, late_codes, found_at, findings_at_end, is_open_kind}
+use Rattle.gabc_text.specs.View.{along, effect, kind_of, is_open, is_space, is_left_out, follows_space, follows_blank, has_word, starts_word, has_translation, kept_as, kept_at, text_of, place_of, bytes_of, begin_of, end_of, centre_by, count_pieces, early_codes, late_codes, found_at, findings_at_end, is_open_kind}
 
 -- the set of styles that are open
 abbrev pub styles_of : List Token → Styles
@@ -66,7 +66,7 @@ all_pieces_by before k None = cond (is_blank_at before k.kind) (piece_at before 
 abbrev pub all_pieces_at : List Token → Token → List Piece
 all_pieces_at before k = all_pieces_by before k (kind_of k)
 
--- the blank that is the last piece so far, if it is one: it is given with the next piece
+-- the blank that is the last piece so far, if it is one: it is emitted with the next piece
 abbrev pub waiting_by : List Token → Token → Option PieceKind → Option Piece → Option Piece
 waiting_by before k (Some kind) was = None
 waiting_by before k None was = cond (is_blank_at before k.kind) (Some (piece_at before k piece.Blank)) was
@@ -103,9 +103,8 @@ parts_at before k = parts_by before k (kind_of k)
 -- the characters that are kept of a token, each with its place
 abbrev pub chars_at : Place → List Token → Token → List Char
 chars_at at before k =
-    cond (is_left_out before k.kind) []
-    (cond (is_space k.kind) (cond (follows_space before) [] (record { c = 32; place = place_of at before } ∷ []))
-    (placed_characters_from (place_of at before) (spelling k)))
+    kept_as (is_left_out before k.kind) (follows_space before) k.kind [] (record { c = 32; place = place_of at before } ∷ [])
+    (placed_characters_from (place_of at before) (spelling k))
 
 -- ---- events
 
@@ -122,7 +121,7 @@ token_events at before k = map (λ (p : TextPart). out.Part p) (parts_at before 
 abbrev pub events_at : Place → List Token → Token → List TextEvent
 events_at at before k = early_events at before k.kind ++ (map (λ (c : Char). out.Kept c) (chars_at at before k) ++ token_events at before k)
 
--- how many pieces are given
+-- how many pieces are emitted
 abbrev pub count_by : ℕ → Option Piece → ℕ
 count_by n (Some p) = n - 1
 count_by n None = n
@@ -149,7 +148,7 @@ end_events at before rest =
 abbrev pub after_tokens : List ℕ → List ℕ
 after_tokens t = drop (length (text_of (reverse (tokens t)))) t
 
--- what a text gives whose first character stands at this place
+-- what a text emits whose first character stands at this place
 abbrev pub events_of : Place → List ℕ → List TextEvent
 events_of at t = along (events_at at) [] (tokens t) ++ end_events at (reverse (tokens t)) (after_tokens t)
 
@@ -162,22 +161,26 @@ no_events_each t = map (λ _. []) t
 abbrev pub kept_each : Place → List ℕ → List (List TextEvent)
 kept_each p t = map (λ (c : Char). out.Kept c ∷ []) (placed_characters_from p t)
 
+-- what is kept of each of these characters of a token, where the first stands at this place, if this is each of them
+abbrev pub kept_lists_as : Bool → Bool → TokenKind → Place → List ℕ → List (List TextEvent) → List (List TextEvent)
+kept_lists_as left_out space k p s each =
+    if left_out then no_events_each s
+    else (if is_space k then (if space then [] else out.Kept (record { c = 32; place = p }) ∷ []) ∷ [] else each)
+
 -- what is kept of each character of a token of this kind and spelling
 abbrev pub kept_lists_by : Place → List Token → TokenKind → List ℕ → List (List TextEvent)
 kept_lists_by at before k s =
-    cond (is_left_out before k) (no_events_each s)
-    (cond (is_space k) (cond (follows_space before) [] (out.Kept (record { c = 32; place = place_of at before }) ∷ []) ∷ [])
-    (kept_each (place_of at before) s))
+    kept_lists_as (is_left_out before k) (follows_space before) k (place_of at before) s (kept_each (place_of at before) s)
 
 -- a `$` that is no escape shows only by the character after it, or by the end, that it stands for itself
 abbrev pub is_lone : Token → Bool
 is_lone k = is_text (codes "$") (spelling k)
 
--- what a token gives with its last character
+-- what a token emits with its last character
 abbrev pub last_char_events : Place → List Token → Token → List TextEvent
 last_char_events at before k = cond (is_lone k) [] (token_events at before k)
 
--- what the last of the tokens before gives with the character after it, or with the end
+-- what the last of the tokens before emits with the character after it, or with the end
 abbrev pub owed_events : Place → List Token → List TextEvent
 owed_events at [] = []
 owed_events at (k ∷ before) = cond (is_lone k) (token_events at before k) []
@@ -203,7 +206,7 @@ lists_at at before k =
 abbrev pub lists_end : Place → List Token → List ℕ → List (List TextEvent)
 lists_end at before rest = (owed_events at before ++ end_events at before rest) ∷ no_events_each rest
 
--- What a text gives whose first character stands at this place: a list for each of its characters, and one for the end.
+-- What a text emits whose first character stands at this place: a list for each of its characters, and one for the end.
 abbrev pub events_by_point : Place → List ℕ → List (List TextEvent)
 events_by_point at t = along (lists_at at) [] (tokens t) ++ lists_end at (reverse (tokens t)) (after_tokens t)
 

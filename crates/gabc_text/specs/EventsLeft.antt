@@ -1,22 +1,18 @@
--- What a stage still gives of a text, in any state. A state stands between two tokens or within one. A text of the token that
+-- What a stage still emits of a text, in any state. A state stands between two tokens or within one. A text of the token that
 -- it stands in, and then the characters to come, are the tokens ahead; what was seen before one of them is what the state has
 -- seen, with the tokens since. In these definitions `before` are the tokens since, the nearest first: before the first none.
-use Rattle.std.specs.Prelude.{ℕ, List, [], ◌∷◌, ◌++◌, Bool, cond, not, ◌&&◌, length, drop, map, Option, Some, None, is_some, reverse}
-use Rattle.std.specs.List.{list_any}
+use Rattle.std.specs.Prelude.{if◌then◌else◌, ℕ, List, [], ◌∷◌, ◌++◌, Bool, cond, not, ◌&&◌, length, drop, map, Option, Some, None, is_some, reverse}
 use Rattle.gabc_places.specs.declared.place.Place.{Place}
 use Rattle.gabc_places.specs.declared.place.Span.{Span}
 use Rattle.gabc_places.specs.declared.code.Code.{Code}
-use Rattle.gabc_places.specs.declared.code.Code.TheVariants.{E2, W3, W4, W5, W6}
-use Rattle.gabc_text.specs.declared.styles.Styles.{Styles}
+use Rattle.gabc_places.specs.declared.code.Code.TheVariants.{W5}
 use Rattle.gabc_text.specs.declared.view.PieceKind.{PieceKind}
 use Rattle.gabc_text.specs.declared.view.PieceKind.TheVariants as piece
 use Rattle.gabc_text.specs.declared.view.Piece.{Piece}
 use Rattle.gabc_text.specs.declared.token.TokenKind.{TokenKind}
-use Rattle.gabc_text.specs.declared.token.TokenKind.TheVariants as kind
 use Rattle.gabc_text.specs.declared.token.TagEffect.{TagEffect}
-use Rattle.gabc_text.specs.declared.token.TagEffect.TheVariants.{Opens, Closes, Other}
 use Rattle.gabc_text.specs.declared.text_facts.TextFacts.{TextFacts}
-use Rattle.gabc_text.specs.declared.stage.Progress.{Progress}
+use Rattle.gabc_text.specs.declared.progress.Progress.{Progress}
 use Rattle.gabc_text.specs.declared.stage.TextStage.{TextStage}
 use Rattle.gabc_text.specs.declared.stage.TextPart.{TextPart}
 use Rattle.gabc_text.specs.declared.stage.TextPart.TheVariants as part
@@ -25,19 +21,19 @@ use Rattle.gabc_text.specs.declared.stage.TextEnd.TheVariants as ending
 use Rattle.gabc_text.specs.declared.stage.TextEvent.{TextEvent}
 use Rattle.gabc_text.specs.declared.stage.TextEvent.TheVariants as out
 use Rattle.gabc_text.specs.Token.{Token, spelling, tokens}
-use Rattle.gabc_text.specs.View.{along, effect, kind_of, piece_kind, is_space, is_begin, is_end, is_translation, is_open_kind, is_cut, all_styles, centre_by}
-use Rattle.gabc_text.specs.Events.{no_events_each, is_lone, is_whole_translation, with_first, with_last, option_list_of, count_by, end_by_rest, after_tokens}
+use Rattle.gabc_text.specs.View.{along, effect, piece_kind, is_space, is_begin, is_end, is_translation, is_open_kind, is_cut, centre_by, kept_as, late_codes_by, end_codes_by}
+use Rattle.gabc_text.specs.Events.{no_events_each, kept_lists_as, is_lone, is_whole_translation, with_first, with_last, option_list_of, count_by, end_by_rest, after_tokens}
 use Rattle.gabc_text.specs.ViewFacts.{but_end}
 use Rattle.gabc_text.specs.TextFacts.{has_style}
 use Rattle.gabc_text.specs.TextStage.{count_plus, place_after_char}
 use Rattle.gabc_text.specs.ExampleTexts.{stands_for}
 use Rattle.gabc_text.specs.FactsPast.{facts_past, leaves_out, past, bytes_past}
 
--- ---- what a token gives of its characters to come, by what was seen before it and where it begins
+-- ---- what a token emits of its characters to come, by what was seen before it and where it begins
 
--- what is kept of them: of several blanks one
+-- what is kept of them
 abbrev pub kept_by : TextFacts → TokenKind → List ℕ → List ℕ
-kept_by facts k cs = cond (leaves_out facts k) [] (cond (is_space k) (cond facts.space [] (32 ∷ [])) cs)
+kept_by facts k cs = kept_as (leaves_out facts k) facts.space k [] (32 ∷ []) cs
 
 -- each character with its place, the first at this one
 abbrev pub each_kept : Place → List ℕ → List (List TextEvent)
@@ -46,10 +42,7 @@ each_kept p (c ∷ cs) = (out.Kept (record { c = c; place = p }) ∷ []) ∷ eac
 
 -- what is kept of each, the first of which stands at this place
 abbrev pub lists_kept : TextFacts → Place → TokenKind → List ℕ → List (List TextEvent)
-lists_kept facts p k cs =
-    cond (leaves_out facts k) (no_events_each cs)
-    (cond (is_space k) (cond facts.space [] (out.Kept (record { c = 32; place = p }) ∷ []) ∷ [])
-    (each_kept p cs))
+lists_kept facts p k cs = kept_lists_as (leaves_out facts k) facts.space k p cs (each_kept p cs)
 
 -- the piece that a token is, if any: a blank is one after a word's piece, and not after a blank piece
 abbrev pub piece_by : TextFacts → TokenKind → TagEffect → Option PieceKind
@@ -64,13 +57,13 @@ abbrev pub kept_behind : TextFacts → Progress → TokenKind → List ℕ → �
 kept_behind facts progress k cs = bytes_past progress.kept (kept_by facts k cs)
 
 -- a piece has the span of its token in the kept text, a character that of the token's last character
-abbrev pub from_by : Progress → PieceKind → ℕ → ℕ
-from_by progress piece.Char last = last
-from_by progress _ last = progress.start
+abbrev pub from_by : ℕ → PieceKind → ℕ → ℕ
+from_by start piece.Char last = last
+from_by start _ last = start
 
 -- a piece of this kind, where so many bytes are kept before the token's last character, and so many behind it
 abbrev pub piece_there : TextFacts → Progress → PieceKind → ℕ → ℕ → Piece
-piece_there facts progress kind last to = record { kind = kind; styles = facts.styles; span = record { from = from_by progress kind last; to = to } }
+piece_there facts progress kind last to = record { kind = kind; styles = facts.styles; span = record { from = from_by progress.start kind last; to = to } }
 
 -- a piece comes with the blank that waits for it
 abbrev pub parts_by : TextFacts → Progress → TokenKind → ℕ → ℕ → Option PieceKind → List TextPart
@@ -80,43 +73,54 @@ parts_by facts progress k last to None =
     (cond (is_whole_translation k && not facts.translated) (part.Translation (record { from = count_plus progress.start 1; to = last }) ∷ [])
     [])
 
--- the finding of a tag that opens what is open, or closes what is not, or is not known
-abbrev pub tag_codes_by : Styles → TagEffect → List Code
-tag_codes_by styles (Opens r) = cond (has_style styles r) (W3 ∷ []) []
-tag_codes_by styles (Closes r) = cond (has_style styles r) [] (W3 ∷ [])
-tag_codes_by styles Other = W6 ∷ []
-tag_codes_by styles _ = []
-
--- a second translation is found where it begins, all else where the token ends
+-- the findings where the token ends
 abbrev pub codes_by : TextFacts → TokenKind → TagEffect → List Code
-codes_by facts kind.Stray so = E2 ∷ []
-codes_by facts kind.Begin so = cond facts.begun (W4 ∷ []) []
-codes_by facts kind.End so = cond (facts.begun && not facts.ended) [] (W4 ∷ [])
-codes_by facts kind.Tag so = tag_codes_by facts.styles so
-codes_by facts _ so = []
+codes_by facts k so = late_codes_by (has_style facts.styles) facts.begun facts.ended k so
 
 -- the findings of these codes at a place
 abbrev pub findings_there : Place → List Code → List TextEvent
 findings_there p cs = map (λ (c : Code). out.Found (record { place = p; code = c })) cs
 
--- what is emitted of it as a whole: its parts and its findings
+-- what is emitted of it as a whole, where so many bytes are kept before its last character, and so many behind it: its parts and
+-- its findings
+abbrev pub whole_events_by : TextFacts → Progress → TokenKind → TagEffect → ℕ → ℕ → List TextEvent
+whole_events_by facts progress k so last to =
+    map (λ (p : TextPart). out.Part p) (parts_by facts progress k last to (piece_kind k so))
+    ++ findings_there progress.place (codes_by facts k so)
+
 abbrev pub token_events_by : TextFacts → Progress → Token → List ℕ → List TextEvent
-token_events_by facts progress k cs =
-    map (λ (p : TextPart). out.Part p) (parts_by facts progress k.kind (last_by progress k cs) (kept_behind facts progress k.kind cs) (kind_of k))
-    ++ findings_there progress.place (codes_by facts k.kind (effect k))
+token_events_by facts progress k cs = whole_events_by facts progress k.kind (effect k) (last_by progress k cs) (kept_behind facts progress k.kind cs)
 
 -- a second translation, if nothing of it was read before
 abbrev pub early_events_by : TextFacts → Place → List ℕ → TokenKind → List TextEvent
 early_events_by facts p [] k = cond (is_translation k && facts.translated) (findings_there p (W5 ∷ [])) []
 early_events_by facts p (c ∷ read) k = []
 
--- ---- what the end gives, by what was seen and where it stands
+-- ---- what is counted behind a token
+
+-- the pieces, if it is this piece or none
+abbrev pub count_behind : ℕ → Option PieceKind → ℕ
+count_behind n o = if is_some o then count_plus n 1 else n
+
+-- the blank that waits: a blank does, and any other piece takes it along
+abbrev pub waiting_behind : Piece → Option Piece → Option PieceKind → Option Piece
+waiting_behind blank was (Some piece.Blank) = Some blank
+waiting_behind blank was (Some _) = None
+waiting_behind blank was None = was
+
+-- the pieces before the first `{`
+abbrev pub begin_behind : TextFacts → TokenKind → ℕ → Option ℕ → Option ℕ
+begin_behind facts k n was = if is_begin k && not facts.begun then Some n else was
+
+-- the pieces before the first `}` after it
+abbrev pub end_behind : TextFacts → TokenKind → ℕ → Option ℕ → Option ℕ
+end_behind facts k n was = if is_end k && (facts.begun && not facts.ended) then Some n else was
+
+-- ---- what the end emits, by what was seen and where it stands
 
 -- styles that are still open, and a centre that is
 abbrev pub codes_last : TextFacts → List Code
-codes_last facts =
-    cond (list_any (λ r. has_style facts.styles r) all_styles) (W3 ∷ []) []
-    ++ cond (facts.begun && not facts.ended) (W4 ∷ []) []
+codes_last facts = end_codes_by (has_style facts.styles) facts.begun facts.ended
 
 -- of a text that is cut no finding
 abbrev pub end_events_by : TextFacts → Progress → Bool → TextEnd → List TextEvent
@@ -176,32 +180,26 @@ module _ (read : List ℕ) (s : TextStage) where
   -- how many pieces there are, with a blank that waits
   abbrev pub count_at : List Token → ℕ
   count_at [] = s.progress.pieces
-  count_at (k ∷ before) = cond (is_some (piece_at before k)) (count_plus (count_at before) 1) (count_at before)
+  count_at (k ∷ before) = count_behind (count_at before) (piece_at before k)
 
   -- the token, as a piece that is a blank
   abbrev pub blank_piece : List Token → Token → Piece
   blank_piece before k = record { kind = piece.Blank; styles = (facts_at before).styles; span = record { from = start_at before; to = bytes_at (k ∷ before) } }
 
-  -- a blank waits; any other piece takes it along
-  abbrev pub waiting_by : List Token → Token → Option PieceKind → Option Piece → Option Piece
-  waiting_by before k (Some piece.Blank) was = Some (blank_piece before k)
-  waiting_by before k (Some _) was = None
-  waiting_by before k None was = was
-
   -- the blank that is the last piece so far, if it is one
   abbrev pub waiting_at : List Token → Option Piece
   waiting_at [] = s.progress.blank
-  waiting_at (k ∷ before) = waiting_by before k (piece_at before k) (waiting_at before)
+  waiting_at (k ∷ before) = waiting_behind (blank_piece before k) (waiting_at before) (piece_at before k)
 
   -- how many pieces stand before the first `{`
   abbrev pub begin_at : List Token → Option ℕ
   begin_at [] = s.progress.begin
-  begin_at (k ∷ before) = cond (is_begin k.kind && not (facts_at before).begun) (Some (count_at before)) (begin_at before)
+  begin_at (k ∷ before) = begin_behind (facts_at before) k.kind (count_at before) (begin_at before)
 
   -- how many stand before the first `}` after it
   abbrev pub end_at : List Token → Option ℕ
   end_at [] = s.progress.end
-  end_at (k ∷ before) = cond (is_end k.kind && ((facts_at before).begun && not (facts_at before).ended)) (Some (count_at before)) (end_at before)
+  end_at (k ∷ before) = end_behind (facts_at before) k.kind (count_at before) (end_at before)
 
   -- where the token begins, and what is counted before it
   abbrev pub progress_at : List Token → Progress
@@ -216,11 +214,11 @@ module _ (read : List ℕ) (s : TextStage) where
     end = end_at before;
   }
 
-  -- what the token gives as a whole
+  -- what the token emits as a whole
   abbrev pub token_events_at : List Token → Token → List TextEvent
   token_events_at before k = token_events_by (facts_at before) (progress_at before) k (ahead_at before k)
 
-  -- what a `$` by itself gives with the character after it, or with the end
+  -- what a `$` by itself emits with the character after it, or with the end
   abbrev pub owed_events_at : List Token → List TextEvent
   owed_events_at [] = []
   owed_events_at (k ∷ before) = cond (is_lone k) (token_events_at before k) []
@@ -246,7 +244,7 @@ module _ (read : List ℕ) (s : TextStage) where
   abbrev pub lists_ahead : List ℕ → List (List TextEvent)
   lists_ahead t = along lists_past [] (tokens t) ++ lists_last (reverse (tokens t)) (after_tokens t)
 
--- what a stage will still give for these characters and then the end: a list for each of them, and one for the end
+-- what a stage will still emit for these characters and then the end: a list for each of them, and one for the end
 unfoldable pub events_left : TextStage → List ℕ → List (List TextEvent)
 events_left s t = cond s.done ([] ∷ no_events_each t) (lists_ahead (stands_for s.mode) s (stands_for s.mode ++ t))
 

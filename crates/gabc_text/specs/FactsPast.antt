@@ -1,16 +1,15 @@
 -- What is seen past some tokens, and the counts past some characters, from any state on. In these definitions `before` are the
 -- tokens, the nearest first.
-use Rattle.std.specs.Prelude.{ℕ, List, [], ◌∷◌, Bool, true, false, not, ◌||◌, ◌&&◌, is_some}
+use Rattle.std.specs.Prelude.{ℕ, List, [], ◌∷◌, Bool, not, ◌||◌, ◌&&◌, is_some}
 use Rattle.std.specs.Char.{len_utf8}
 use Rattle.gabc_places.specs.declared.place.Place.{Place}
 use Rattle.gabc_text.specs.declared.styles.Style.{Style}
 use Rattle.gabc_text.specs.declared.styles.Style.TheVariants as style
 use Rattle.gabc_text.specs.declared.styles.Styles.{Styles}
 use Rattle.gabc_text.specs.declared.token.TokenKind.{TokenKind}
-use Rattle.gabc_text.specs.declared.token.TokenKind.TheVariants as kind
 use Rattle.gabc_text.specs.declared.text_facts.TextFacts.{TextFacts}
 use Rattle.gabc_text.specs.Token.{Token}
-use Rattle.gabc_text.specs.View.{effect, kind_of, is_open_after, is_space, has_word, is_end, has_begin, has_translation}
+use Rattle.gabc_text.specs.View.{effect, kind_of, is_open_after, is_space, has_word, is_end, has_begin, has_translation, is_left_out_by}
 use Rattle.gabc_text.specs.TextStage.{count_plus, place_after_char}
 
 -- the nearest tag of the style opens it, or it was open
@@ -44,13 +43,9 @@ abbrev pub ended_past : TextFacts → List Token → Bool
 ended_past facts [] = facts.ended
 ended_past facts (k ∷ before) = (is_end k.kind && begun_past facts before) || ended_past facts before
 
--- a comment, a stray character, or a brace that is not the first `{` or the first `}` after it
+-- a token of this kind is left out
 abbrev pub leaves_out : TextFacts → TokenKind → Bool
-leaves_out facts kind.Comment = true
-leaves_out facts kind.Stray = true
-leaves_out facts kind.Begin = facts.begun
-leaves_out facts kind.End = not (facts.begun && not facts.ended)
-leaves_out facts _ = false
+leaves_out facts k = is_left_out_by facts.begun facts.ended k
 
 -- the nearest token that isn't left out is a blank
 abbrev pub space_past : TextFacts → List Token → Bool

@@ -1,13 +1,13 @@
 -- The tokens of a syllable's text: the parts of its spelling that the rules speak of.
-use Rattle.std.specs.Prelude.{ℕ, suc, zero, List, [], ◌∷◌, ◌++◌, Bool, true, false, cond, ◌&&◌, ◌==◌, length, drop, Option, Some, None, option_map, codes}
+use Rattle.std.specs.Prelude.{ℕ, suc, zero, List, [], ◌∷◌, ◌++◌, Bool, true, false, cond, ◌&&◌, ◌==◌, length, drop, map, Option, Some, None, option_map, codes}
 use Rattle.std.specs.List.{list_any}
 use Rattle.gabc_text.specs.declared.token.TokenKind.{TokenKind}
 use Rattle.gabc_text.specs.declared.token.TokenKind.TheVariants.{Letter, Blank, Comment, Stray, Begin, End, Tag, Raw, Translation, OpenTag, OpenTranslation}
 use Rattle.gabc_text.specs.declared.token.TagEffect.{TagEffect}
-use Rattle.gabc_text.specs.declared.token.TagEffect.TheVariants.{Opens, Closes, Mark, Begins, Other}
+use Rattle.gabc_text.specs.declared.token.TagEffect.TheVariants.{Begins, Other}
 use Rattle.gabc_text.specs.declared.token.RawKind.{RawKind}
 use Rattle.gabc_text.specs.declared.token.RawKind.TheVariants.{V, Sp, Alt}
-use Rattle.gabc_text.specs.declared.styles.Style.TheVariants.{B, C, E, I, Sc, Tt, Ul}
+use Rattle.gabc_text.specs.declared.tags.TheConstants.{TAGS}
 
 -- a token by its kind, its first character, and the others
 pub record Token : Type 0 where
@@ -57,19 +57,13 @@ is_text [] [] = true
 is_text (c ∷ s) (d ∷ t) = (d == c) && is_text s t
 is_text _ _ = false
 
+-- the names of the tags that are known, each with what the tag does: those of the table
+abbrev pub tag_names : List (List ℕ × TagEffect)
+tag_names = map (λ row. (row.0.now, row.1)) TAGS
+
 -- the tags that are known
 abbrev pub tags : List (List ℕ × TagEffect)
-tags =
-    (codes "<b>", Opens B) ∷ (codes "</b>", Closes B)
-    ∷ (codes "<c>", Opens C) ∷ (codes "</c>", Closes C)
-    ∷ (codes "<e>", Opens E) ∷ (codes "</e>", Closes E)
-    ∷ (codes "<i>", Opens I) ∷ (codes "</i>", Closes I)
-    ∷ (codes "<sc>", Opens Sc) ∷ (codes "</sc>", Closes Sc)
-    ∷ (codes "<tt>", Opens Tt) ∷ (codes "</tt>", Closes Tt)
-    ∷ (codes "<ul>", Opens Ul) ∷ (codes "</ul>", Closes Ul)
-    ∷ (codes "<eu>", Mark) ∷ (codes "</eu>", Mark) ∷ (codes "<nlba>", Mark) ∷ (codes "</nlba>", Mark)
-    ∷ (codes "<v>", Begins V) ∷ (codes "<sp>", Begins Sp) ∷ (codes "<alt>", Begins Alt)
-    ∷ []
+tags = map (λ row. (60 ∷ row.0 ++ 62 ∷ [], row.1)) tag_names
 
 abbrev pub effect_in : List (List ℕ × TagEffect) → List ℕ → TagEffect
 effect_in [] t = Other

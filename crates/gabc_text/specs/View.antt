@@ -1,5 +1,5 @@
 -- What a text means, by its tokens. In these definitions `before` are the tokens before a place, the nearest first.
-use Rattle.std.specs.Prelude.{ℕ, ◌+◌, List, [], ◌∷◌, ◌++◌, Bool, true, false, cond, not, ◌||◌, ◌&&◌, ◌==◌, length, take, filter, min, Option, Some, None, is_some, map, reverse, drop}
+use Rattle.std.specs.Prelude.{if◌then◌else◌, ℕ, ◌+◌, List, [], ◌∷◌, ◌++◌, Bool, true, false, cond, not, ◌||◌, ◌&&◌, ◌==◌, length, take, filter, min, Option, Some, None, is_some, map, reverse, drop}
 use Rattle.std.specs.List.{list_any}
 use Rattle.gabc_text.specs.declared.styles.Style.{Style}
 use Rattle.gabc_text.specs.declared.styles.Style.TheVariants.{B, C, E, I, Sc, Tt, Ul}
@@ -196,25 +196,32 @@ has_translation before = list_any (λ k. is_translation k.kind) before
 
 -- ---- the kept text
 
--- a comment, a stray character, or a brace that is not the first `{` or the first `}` after it
+-- A comment, a stray character, or a brace that is not the first `{` or the first `}` after it: by whether a `{` stands before,
+-- and a `}` after one.
+abbrev pub is_left_out_by : Bool → Bool → TokenKind → Bool
+is_left_out_by begun ended Comment = true
+is_left_out_by begun ended Stray = true
+is_left_out_by begun ended Begin = begun
+is_left_out_by begun ended End = not (begun && not ended)
+is_left_out_by begun ended _ = false
+
 abbrev pub is_left_out : List Token → TokenKind → Bool
-is_left_out before Comment = true
-is_left_out before Stray = true
-is_left_out before Begin = has_begin before
-is_left_out before End = not (has_begin before && not (has_end before))
-is_left_out before _ = false
+is_left_out before k = is_left_out_by (has_begin before) (has_end before) k
 
 -- the nearest token that isn't left out is a blank
 abbrev pub follows_space : List Token → Bool
 follows_space [] = false
 follows_space (k ∷ before) = is_space k.kind || (is_left_out before k.kind && follows_space before)
 
--- what is kept of a token after `before`: of several blanks one
+-- Nothing is kept of a token that is left out, of several blanks one, and all of any other token: by whether it is left out,
+-- and whether what is kept before it is a blank.
+abbrev pub kept_as : {X : Type 0} → Bool → Bool → TokenKind → X → X → X → X
+kept_as out space k nothing blank all =
+    if out then nothing else (if is_space k then (if space then nothing else blank) else all)
+
+-- what is kept of a token after `before`
 abbrev pub kept_at : List Token → Token → List ℕ
-kept_at before k =
-    cond (is_left_out before k.kind) []
-    (cond (is_space k.kind) (cond (follows_space before) [] (32 ∷ []))
-    (spelling k))
+kept_at before k = kept_as (is_left_out before k.kind) (follows_space before) k.kind [] (32 ∷ []) (spelling k)
 
 -- ---- how a text ends
 
@@ -240,11 +247,12 @@ ending_after at (k ∷ before) prefix rest = cond (is_open_kind k.kind) (Cut (pl
 
 -- ---- the findings, each with the index of its character
 
-abbrev pub tag_codes : List Token → TagEffect → List Code
-tag_codes before (Opens s) = cond (is_open s before) (W3 ∷ []) []
-tag_codes before (Closes s) = cond (is_open s before) [] (W3 ∷ [])
-tag_codes before Other = W6 ∷ []
-tag_codes before _ = []
+-- of a tag that opens what is open, or closes what is not, or is not known
+abbrev pub tag_codes_by : (Style → Bool) → TagEffect → List Code
+tag_codes_by opened (Opens s) = cond (opened s) (W3 ∷ []) []
+tag_codes_by opened (Closes s) = cond (opened s) [] (W3 ∷ [])
+tag_codes_by opened Other = W6 ∷ []
+tag_codes_by opened _ = []
 
 -- a second translation is found where it begins, all else where the token ends
 abbrev pub early_codes : List Token → TokenKind → List Code
@@ -252,12 +260,16 @@ early_codes before Translation = cond (has_translation before) (W5 ∷ []) []
 early_codes before OpenTranslation = cond (has_translation before) (W5 ∷ []) []
 early_codes before _ = []
 
+-- by which styles are open, whether a `{` stands before, and a `}` after one
+abbrev pub late_codes_by : (Style → Bool) → Bool → Bool → TokenKind → TagEffect → List Code
+late_codes_by opened begun ended Stray s = E2 ∷ []
+late_codes_by opened begun ended Begin s = cond begun (W4 ∷ []) []
+late_codes_by opened begun ended End s = cond (begun && not ended) [] (W4 ∷ [])
+late_codes_by opened begun ended Tag s = tag_codes_by opened s
+late_codes_by opened begun ended _ s = []
+
 abbrev pub late_codes : List Token → TokenKind → TagEffect → List Code
-late_codes before Stray s = E2 ∷ []
-late_codes before Begin s = cond (has_begin before) (W4 ∷ []) []
-late_codes before End s = cond (has_begin before && not (has_end before)) [] (W4 ∷ [])
-late_codes before Tag s = tag_codes before s
-late_codes before _ s = []
+late_codes before k s = late_codes_by (λ r. is_open r before) (has_begin before) (has_end before) k s
 
 abbrev pub found_at : Place → Code → Finding
 found_at place c = record { place = place; code = c }
@@ -266,10 +278,11 @@ abbrev pub findings_at : Place → List Token → Token → List Finding
 findings_at at before k = map (found_at (place_of at before)) (early_codes before k.kind ++ late_codes before k.kind (effect k))
 
 -- those of a text's end: styles that are still open, and a centre that is
+abbrev pub end_codes_by : (Style → Bool) → Bool → Bool → List Code
+end_codes_by opened begun ended = cond (list_any opened all_styles) (W3 ∷ []) [] ++ cond (begun && not ended) (W4 ∷ []) []
+
 abbrev pub codes_at_end : List Token → List Code
-codes_at_end before =
-    cond (list_any (λ s. is_open s before) all_styles) (W3 ∷ []) []
-    ++ cond (has_begin before && not (has_end before)) (W4 ∷ []) []
+codes_at_end before = end_codes_by (λ s. is_open s before) (has_begin before) (has_end before)
 
 abbrev pub findings_at_end : Place → List Token → List Finding
 findings_at_end at before = cond (is_cut before) [] (map (found_at (place_of at before)) (codes_at_end before))

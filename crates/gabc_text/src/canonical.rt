@@ -64,18 +64,31 @@ fn put(wanted: bool, text: &str, out: &mut Room<u8>)
     }
 }
 
+/// Adds the texts that are wanted, in order.
+fn put_each(texts: &[(bool, &'static str)], out: &mut Room<u8>)
+    requires { Fits out.old (length (flat_map (λ t. cond t.0 t.1.now []) texts.now)) }
+    ensures { out.new ≡ extended_by out.old (flat_map (λ t. cond t.0 t.1.now []) texts.now) }
+{
+    for (wanted, text) in texts {
+        put(*wanted, text, out);
+    }
+}
+
 /// Opens the styles in order.
 fn write_opening(styles: Styles, out: &mut Room<u8>)
     requires { Fits out.old (length (flat_map style_opening (listed_styles styles))) }
     ensures { out.new ≡ extended_by out.old (flat_map style_opening (listed_styles styles)) }
 {
-    put(styles.b, "<b>", out);
-    put(styles.c, "<c>", out);
-    put(styles.e, "<e>", out);
-    put(styles.i, "<i>", out);
-    put(styles.sc, "<sc>", out);
-    put(styles.tt, "<tt>", out);
-    put(styles.ul, "<ul>", out);
+    let tags = [
+        (styles.b, "<b>"),
+        (styles.c, "<c>"),
+        (styles.e, "<e>"),
+        (styles.i, "<i>"),
+        (styles.sc, "<sc>"),
+        (styles.tt, "<tt>"),
+        (styles.ul, "<ul>"),
+    ];
+    put_each(&tags, out);
 }
 
 /// Closes the styles from the last on.
@@ -84,13 +97,16 @@ fn write_closing(styles: Styles, out: &mut Room<u8>)
     ensures { out.new
         ≡ extended_by out.old (flat_map style_closing (reverse (listed_styles styles))) }
 {
-    put(styles.ul, "</ul>", out);
-    put(styles.tt, "</tt>", out);
-    put(styles.sc, "</sc>", out);
-    put(styles.i, "</i>", out);
-    put(styles.e, "</e>", out);
-    put(styles.c, "</c>", out);
-    put(styles.b, "</b>", out);
+    let tags = [
+        (styles.ul, "</ul>"),
+        (styles.tt, "</tt>"),
+        (styles.sc, "</sc>"),
+        (styles.i, "</i>"),
+        (styles.e, "</e>"),
+        (styles.c, "</c>"),
+        (styles.b, "</b>"),
+    ];
+    put_each(&tags, out);
 }
 
 /// The braces before the piece with this index.

@@ -25,7 +25,7 @@ ghost use Rattle.gabc_places.specs.BoundedList.{Fits, extended_by};
 use crate::stage::{TextEvent, TextStage};
 use gabc_places::{Char, Place, Room, drive};
 
-/// A fresh machine gives what the definition says, where no count of the text reaches its last value, and what it does not
+/// A fresh machine emits what the definition says, where no count of the text reaches its last value, and what it does not
 /// read begins with the `(` that ends the text.
 pub fn a_fresh_stage_emits_the_events_by_point()
     ensures events { (at : Place) (t : List ℕ) → CountsFit at t →
@@ -34,7 +34,7 @@ pub fn a_fresh_stage_emits_the_events_by_point()
         characters_left (fresh_stage at) t ≡ after_tokens t }
 {}
 
-/// A fresh stage, driven over the characters of a text, gives what the definition says of the text.
+/// A fresh stage, driven over the characters of a text, emits what the definition says of the text.
 pub fn a_fresh_stage_emits(at: Place, inputs: Vec<Char>, out: &mut Room<TextEvent>)
     requires room { Fits out.old (8 * (length inputs.items + 1)) }
     requires fits { CountsFit at (codes_of inputs.items) }
@@ -45,7 +45,7 @@ pub fn a_fresh_stage_emits(at: Place, inputs: Vec<Char>, out: &mut Room<TextEven
     drive(&mut stage, inputs, out);
 }
 
-/// A text gives a list of events for each character and one for the end. Joined, they are its events in order.
+/// A text has a list of events for each character and one for the end. Joined, they are its events in order.
 pub fn events_by_point_are_the_events()
     ensures each { (at : Place) (t : List ℕ) → CountsFit at t →
         length (events_by_point at t) ≡ length t + 1 }
@@ -64,7 +64,7 @@ pub fn findings_in_order()
     ensures { (at : Place) (t : List ℕ) → AreInOrder (findings at t) }
 {}
 
-/// A machine gives a list for each character and one for the end. What it gives for some characters does not depend on what
+/// A machine emits a list for each character and one for the end. What it emits for some characters does not depend on what
 /// follows them.
 pub fn events_need_nothing_behind()
     ensures each { (s : TextStage) (t : List ℕ) → length (events_left s t) ≡ length t + 1 }
@@ -72,7 +72,7 @@ pub fn events_need_nothing_behind()
         take (length t) (events_left s (t ++ u)) ≡ take (length t) (events_left s (t ++ v)) }
 {}
 
-/// If the `(` behind a text ends it, then it does so whatever follows, and nothing more is given.
+/// If the `(` behind a text ends it, then it does so whatever follows, and nothing more is emitted.
 pub fn nothing_after_the_notes_begin()
     ensures left { (s : TextStage) (t u v : List ℕ) → characters_left s (t ++ 40 ∷ u) ≡ 40 ∷ u →
         characters_left s (t ++ 40 ∷ v) ≡ 40 ∷ v }

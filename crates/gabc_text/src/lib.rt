@@ -16,9 +16,11 @@
 mod canonical;
 mod kept;
 pub mod laws;
+mod progress;
 mod stage;
 mod styles;
 mod tag_name;
+mod tags;
 mod text_facts;
 mod token;
 mod token_state;

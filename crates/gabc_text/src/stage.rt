@@ -1,21 +1,27 @@
 //! The machine that reads a text, one character at a time.
 
-ghost use Rattle.std.specs.Prelude.{◌≡◌, ◌==◌, ℕ, ◌+◌, ◌≤◌, List, length, true};
+ghost use Rattle.std.specs.Prelude.{◌≡◌, ◌==◌, ◌&&◌, not, cond, ℕ, ◌+◌, ◌≤◌, List, [], ◌∷◌, length, map, true, None};
 ghost use Rattle.std.specs.Str.{chars, NonePass};
 ghost use Rattle.gabc_places.specs.BoundedList.{Fits, extended_by};
-ghost use Rattle.gabc_text.specs.TextStage.{count_plus, place_after_char, fresh_stage};
-ghost use Rattle.gabc_text.specs.machine.TextStage.{option_list, part_of, span_of, waiting_piece, progress_after, token_stage, events_of_token, settle_stage, events_of_settling, read_stage, events_of_reading, progress_past, events_of_end, end_stage, push_stage, events_of_push, finish_stage, events_of_finish, is_piece, char_event, finding_event, final_centre, part_event, piece_event, centre_event, is_cut_end, style_code, centre_code, end_by};
-ghost use Rattle.gabc_text.specs.EventsLeft.{events_left};
+ghost use Rattle.gabc_text.specs.TextStage.{fresh_stage};
+ghost use Rattle.gabc_text.specs.machine.TextStage.{token_stage, events_of_token, settle_stage, events_of_settling, read_stage, events_of_reading, events_of_end, end_stage, push_stage, events_of_push, finish_stage, events_of_finish, char_event, is_cut_end, end_by};
+ghost use Rattle.gabc_text.specs.TextFacts.{has_style};
+ghost use Rattle.gabc_text.specs.View.{all_styles, piece_kind};
+ghost use Rattle.gabc_text.specs.Events.{option_list_of};
+ghost use Rattle.std.specs.List.{list_any};
+ghost use Rattle.gabc_text.specs.EventsLeft.{events_left, parts_by, findings_there};
 ghost use Rattle.gabc_text.specs.machine.RawPart.{stage_past, is_in_raw};
 ghost use Rattle.gabc_text.specs.Events.{CountsFit, codes_of, events_by_point};
 ghost use Rattle.gabc_text.specs.End.{is_end};
 
-use crate::text_facts::{TextFacts, code_at, early_at, facts_after, keep, no_facts, piece_at};
+use crate::progress::{Progress, centre, piece_there, plus, progress_after, progress_past};
+use crate::styles::Styles;
+use crate::text_facts::{TextFacts, code_at, early_at, facts_after, keep, kind_of, no_facts};
 use crate::token::{TagEffect, TokenKind};
 use crate::token_state::{
     Step, TokenState, is_plain, is_unmatched, kind_at_end, next_step, settled_kind,
 };
-use crate::view::{Piece, PieceKind};
+use crate::view::Piece;
 use gabc_places::{Char, Code, Finding, Place, Room, Span, Stage};
 
 /// A part of a text's view.
@@ -41,7 +47,7 @@ pub enum TextEnd {
     Cut(Place),
 }
 
-/// What a text gives as it is read.
+/// What a text emits as it is read.
 #[derive(Clone, Copy, Debug, PartialEq, Eq)]
 pub enum TextEvent {
     /// A character of the kept text.
@@ -52,26 +58,8 @@ pub enum TextEvent {
     Ended(TextEnd),
 }
 
-/// Where in the text and in what was kept of it the machine stands. A count that has reached its last value stays there.
-#[derive(Clone, Copy)]
-pub(crate) struct Progress {
-    /// Where the token that is read begins: its place, and the bytes kept before it.
-    place: Place,
-    start: usize,
-    /// The place of the character to come, and the bytes kept before it.
-    next: Place,
-    kept: usize,
-    /// How many pieces there are, with a blank that is not given yet.
-    pieces: usize,
-    /// A blank that is a piece if another piece follows.
-    blank: Option<Piece>,
-    /// How many pieces stand before the centre, and before its end.
-    begin: Option<usize>,
-    end: Option<usize>,
-}
-
 /// Reads a text, one character at a time, up to the `(` of its notes (GregorioRef, "Syllable Text Syntax"). What a character
-/// makes known is given with it; after the `(` nothing is given. It asks for no memory.
+/// makes known is emitted with it; after the `(` nothing is emitted. It asks for no memory.
 #[derive(Clone, Copy)]
 pub struct TextStage {
     mode: TokenState,
@@ -80,66 +68,55 @@ pub struct TextStage {
     done: bool,
 }
 
-/// The sum, or the last value where it is larger.
-fn plus(n: usize, more: usize) -> usize
-    ensures { result ≡ count_plus n more }
-{
-    n.saturating_add(more)
-}
-
-/// The place behind a character that stands here.
-fn after_place(place: Place, c: char) -> Place
-    ensures { result ≡ place_after_char place c }
-{
-    if c == '\n' {
-        Place {
-            line: place.line.saturating_add(1),
-            column: 1,
-        }
-    } else {
-        Place {
-            line: place.line,
-            column: place.column.saturating_add(1),
-        }
-    }
-}
-
-/// Adds what there is.
-fn emit(out: &mut Room<TextEvent>, item: Option<TextEvent>)
+/// Adds the character that is kept, if one is.
+fn emit_char(out: &mut Room<TextEvent>, place: Place, kept: Option<char>)
     requires { Fits out.old 1 }
-    ensures events { out.new ≡ extended_by out.old (option_list item) }
+    ensures events { out.new ≡ extended_by out.old (option_list_of (char_event place kept)) }
     ensures few { length out.new.items ≤ length out.old.items + 1 }
 {
-    if let Some(item) = item {
-        out.push(item);
+    if let Some(c) = kept {
+        out.push(TextEvent::Kept(Char { c, place }));
     }
 }
 
-/// The span of a token that is a piece: of a character without its `$`.
-fn span_of(progress: Progress, kind: PieceKind, last: usize) -> Span
-    ensures { result ≡ span_of progress kind last }
+/// Adds a part, if there is one.
+fn emit_part(out: &mut Room<TextEvent>, part: Option<TextPart>)
+    requires { Fits out.old 1 }
+    ensures events { out.new
+        ≡ extended_by out.old (map (λ p. TextEvent.Part p) (option_list_of part)) }
+    ensures few { length out.new.items ≤ length out.old.items + 1 }
 {
-    match kind {
-        PieceKind::Char => Span {
-            from: last,
-            to: progress.kept,
-        },
-        _ => Span {
-            from: progress.start,
-            to: progress.kept,
-        },
+    if let Some(part) = part {
+        out.push(TextEvent::Part(part));
     }
 }
 
-/// The part that a token is, if any, but for a blank. Before its last character, `last` bytes were kept.
-fn part_at(
-    facts: TextFacts,
-    progress: Progress,
-    kind: TokenKind,
-    sort: TagEffect,
-    last: usize,
-) -> Option<TextPart>
-    ensures { result ≡ part_of facts progress kind sort last }
+/// Adds a piece, if there is one.
+fn emit_piece(out: &mut Room<TextEvent>, piece: Option<Piece>)
+    requires { Fits out.old 1 }
+    ensures events { out.new ≡ extended_by out.old (map (λ p. TextEvent.Part p)
+        (map (λ p. TextPart.Piece p) (option_list_of piece))) }
+    ensures few { length out.new.items ≤ length out.old.items + 1 }
+{
+    if let Some(piece) = piece {
+        out.push(TextEvent::Part(TextPart::Piece(piece)));
+    }
+}
+
+/// Adds a finding of this code, if there is one.
+fn emit_code(out: &mut Room<TextEvent>, place: Place, code: Option<Code>)
+    requires { Fits out.old 1 }
+    ensures events { out.new ≡ extended_by out.old (findings_there place (option_list_of code)) }
+    ensures few { length out.new.items ≤ length out.old.items + 1 }
+{
+    if let Some(code) = code {
+        out.push(TextEvent::Found(Finding { place, code }));
+    }
+}
+
+/// The part that a token is which is no piece, if it is one. Before its last character, `last` bytes were kept.
+fn part_at(facts: TextFacts, progress: Progress, kind: TokenKind, last: usize) -> Option<TextPart>
+    ensures { (to : ℕ) → option_list_of result ≡ parts_by facts progress kind last to None }
 {
     match kind {
         TokenKind::Blank => {
@@ -159,166 +136,11 @@ fn part_at(
                 }))
             }
         }
-        _ => match piece_at(facts, kind, sort) {
-            Some(piece) => Some(TextPart::Piece(Piece {
-                kind: piece,
-                styles: facts.styles,
-                span: span_of(progress, piece, last),
-            })),
-            None => None,
-        },
+        _ => None,
     }
 }
 
-fn is_piece(part: Option<TextPart>) -> bool
-    ensures { result ≡ is_piece part }
-{
-    match part {
-        Some(TextPart::Piece(_)) => true,
-        _ => false,
-    }
-}
-
-/// The blank that waits after a token.
-fn waiting_piece(
-    facts: TextFacts,
-    progress: Progress,
-    kind: TokenKind,
-    sort: TagEffect,
-) -> Option<Piece>
-    ensures { result ≡ waiting_piece facts progress kind sort }
-{
-    match piece_at(facts, kind, sort) {
-        Some(PieceKind::Blank) => Some(Piece {
-            kind: PieceKind::Blank,
-            styles: facts.styles,
-            span: Span {
-                from: progress.start,
-                to: progress.kept,
-            },
-        }),
-        Some(_) => None,
-        None => progress.blank,
-    }
-}
-
-/// Where the machine stands after a token, which ends before this place.
-fn progress_after(
-    facts: TextFacts,
-    progress: Progress,
-    kind: TokenKind,
-    sort: TagEffect,
-    place: Place,
-) -> Progress
-    ensures { result ≡ progress_after facts progress kind sort place }
-{
-    let pieces = match piece_at(facts, kind, sort) {
-        Some(_) => plus(progress.pieces, 1),
-        None => progress.pieces,
-    };
-    let begin = match kind {
-        TokenKind::Begin if !facts.begun => Some(progress.pieces),
-        _ => progress.begin,
-    };
-    let end = match kind {
-        TokenKind::End if facts.begun && !facts.ended => Some(progress.pieces),
-        _ => progress.end,
-    };
-    Progress {
-        place,
-        start: progress.kept,
-        next: progress.next,
-        kept: progress.kept,
-        pieces,
-        blank: waiting_piece(facts, progress, kind, sort),
-        begin,
-        end,
-    }
-}
-
-/// The centre of a text that ends here. No position is past the last piece that is given.
-fn centre(progress: Progress) -> Option<Span>
-    ensures { result ≡ final_centre progress }
-{
-    let count = match progress.blank {
-        Some(_) => progress.pieces.saturating_sub(1),
-        None => progress.pieces,
-    };
-    match progress.begin {
-        Some(begin) => match progress.end {
-            Some(end) => Some(Span {
-                from: begin.min(count),
-                to: end.min(count),
-            }),
-            None => Some(Span {
-                from: begin.min(count),
-                to: count,
-            }),
-        },
-        None => None,
-    }
-}
-
-fn part_event(part: Option<TextPart>) -> Option<TextEvent>
-    ensures { result ≡ part_event part }
-{
-    match part {
-        Some(part) => Some(TextEvent::Part(part)),
-        None => None,
-    }
-}
-
-fn piece_event(piece: Option<Piece>) -> Option<TextEvent>
-    ensures { result ≡ piece_event piece }
-{
-    match piece {
-        Some(piece) => Some(TextEvent::Part(TextPart::Piece(piece))),
-        None => None,
-    }
-}
-
-fn centre_event(centre: Option<Span>) -> Option<TextEvent>
-    ensures { result ≡ centre_event centre }
-{
-    match centre {
-        Some(span) => Some(TextEvent::Part(TextPart::Centre(span))),
-        None => None,
-    }
-}
-
-fn finding_event(place: Place, code: Option<Code>) -> Option<TextEvent>
-    ensures { result ≡ finding_event place code }
-{
-    match code {
-        Some(code) => Some(TextEvent::Found(Finding { place, code })),
-        None => None,
-    }
-}
-
-fn char_event(place: Place, kept: Option<char>) -> Option<TextEvent>
-    ensures { result ≡ char_event place kept }
-{
-    match kept {
-        Some(c) => Some(TextEvent::Kept(Char { c, place })),
-        None => None,
-    }
-}
-
-/// Where the machine stands after a character, of which this was kept.
-fn progress_past(progress: Progress, c: char, kept: Option<char>) -> Progress
-    ensures { result ≡ progress_past progress c kept }
-{
-    let bytes = match kept {
-        Some(kept) => plus(progress.kept, kept.len_utf8()),
-        None => progress.kept,
-    };
-    Progress {
-        next: after_place(progress.next, c),
-        kept: bytes,
-        ..progress
-    }
-}
-
+/// Whether a text is cut that ends so.
 fn is_cut(how: TextEnd) -> bool
     ensures { result ≡ is_cut_end how }
 {
@@ -329,10 +151,11 @@ fn is_cut(how: TextEnd) -> bool
 }
 
 /// The finding of styles that are open where a text ends.
-fn style_code(facts: TextFacts, how: TextEnd) -> Option<Code>
-    ensures { result ≡ style_code facts how }
+fn style_code(styles: Styles) -> Option<Code>
+    ensures { option_list_of result
+        ≡ cond (list_any (has_style styles) all_styles) (Code.W3 ∷ []) [] }
 {
-    if is_cut(how) || facts.styles.is_empty() {
+    if styles.is_empty() {
         None
     } else {
         Some(Code::W3)
@@ -340,10 +163,10 @@ fn style_code(facts: TextFacts, how: TextEnd) -> Option<Code>
 }
 
 /// The finding of a centre that is open where a text ends.
-fn centre_code(facts: TextFacts, how: TextEnd) -> Option<Code>
-    ensures { result ≡ centre_code facts how }
+fn centre_code(facts: TextFacts) -> Option<Code>
+    ensures { option_list_of result ≡ cond (facts.begun && not facts.ended) (Code.W4 ∷ []) [] }
 {
-    if !is_cut(how) && facts.begun && !facts.ended {
+    if facts.begun && !facts.ended {
         Some(Code::W4)
     } else {
         None
@@ -351,7 +174,7 @@ fn centre_code(facts: TextFacts, how: TextEnd) -> Option<Code>
 }
 
 impl TextStage {
-    /// Returns a machine that has read nothing. The first character stands at `at`. Spans that it tells count bytes of the kept
+    /// Returns a machine that has read nothing. The first character stands at `at`. Spans that it emits count bytes of the kept
     /// text, a centre counts pieces. Each count saturates.
     pub fn new(at: Place) -> TextStage
         ensures fresh { result ≡ fresh_stage at }
@@ -375,36 +198,49 @@ impl TextStage {
         }
     }
 
+    /// Adds the parts that a token is: a piece comes with the blank that waits for it. Before its last character, `last` bytes were
+    /// kept.
+    fn emit_parts(&self, kind: TokenKind, effect: TagEffect, last: usize, out: &mut Room<TextEvent>)
+        requires { Fits out.old 2 }
+        ensures events { let progress = self.now.progress in out.new
+            ≡ extended_by out.old (map (λ p. TextEvent.Part p)
+            (parts_by self.now.facts progress kind last progress.kept (piece_kind kind effect))) }
+        ensures few { length out.new.items ≤ length out.old.items + 2 }
+    {
+        match kind_of(kind, effect) {
+            Some(piece) => {
+                emit_piece(out, self.progress.blank);
+                emit_piece(
+                    out,
+                    Some(piece_there(self.facts, self.progress, piece, last)),
+                );
+            }
+            None => emit_part(out, part_at(self.facts, self.progress, kind, last)),
+        }
+    }
+
     /// A token, which ends before this place. Before its last character, `last` bytes were kept.
     fn token(
         &mut self,
         kind: TokenKind,
-        sort: TagEffect,
+        effect: TagEffect,
         place: Place,
         last: usize,
         out: &mut Room<TextEvent>,
     )
         requires { Fits out.old 3 }
-        ensures stage { self.new ≡ token_stage self.old kind sort place }
+        ensures stage { self.new ≡ token_stage self.old kind effect place }
         ensures out { out.new
-            ≡ extended_by out.old (events_of_token self.old.facts self.old.progress kind sort last) }
+            ≡ extended_by out.old
+            (events_of_token self.old.facts self.old.progress kind effect last) }
         ensures few { length out.new.items ≤ length out.old.items + 3 }
     {
-        let part = part_at(self.facts, self.progress, kind, sort, last);
-        let blank = if is_piece(part) {
-            self.progress.blank
-        } else {
-            None
-        };
-        emit(out, piece_event(blank));
-        emit(out, part_event(part));
-        emit(
-            out,
-            finding_event(self.progress.place, code_at(self.facts, kind, sort)),
-        );
+        self.emit_parts(kind, effect, last, out);
+        let code = code_at(self.facts, kind, effect);
+        emit_code(out, self.progress.place, code);
         self.mode = TokenState::Plain;
-        self.progress = progress_after(self.facts, self.progress, kind, sort, place);
-        self.facts = facts_after(self.facts, kind, sort);
+        self.progress = progress_after(self.facts, self.progress, kind, effect, place);
+        self.facts = facts_after(self.facts, kind, effect);
     }
 
     /// The token, if any, that ends before the character.
@@ -434,15 +270,15 @@ impl TextStage {
     {
         let kept = keep(self.facts, self.mode, c);
         let last = self.progress.kept;
-        emit(
-            out,
-            finding_event(self.progress.place, early_at(self.facts, self.mode, c)),
-        );
-        emit(out, char_event(self.progress.next, kept));
+        let early = early_at(self.facts, self.mode, c);
+        emit_code(out, self.progress.place, early);
+        emit_char(out, self.progress.next, kept);
         self.progress = progress_past(self.progress, c, kept);
         match next_step(self.mode, c) {
             Step::Stays(mode) => self.mode = mode,
-            Step::Ends(kind, sort) => self.token(kind, sort, self.progress.next, last, out),
+            Step::Ends { kind, effect } => {
+                self.token(kind, effect, self.progress.next, last, out);
+            }
         }
     }
 
@@ -455,10 +291,12 @@ impl TextStage {
         ensures few { length out.new.items ≤ length out.old.items + 4 }
     {
         let place = self.progress.next;
-        emit(out, finding_event(place, style_code(self.facts, how)));
-        emit(out, finding_event(place, centre_code(self.facts, how)));
-        emit(out, centre_event(centre(self.progress)));
-        emit(out, Some(TextEvent::Ended(how)));
+        if !is_cut(how) {
+            emit_code(out, place, style_code(self.facts.styles));
+            emit_code(out, place, centre_code(self.facts));
+        }
+        emit_part(out, centre(self.progress).map(TextPart::Centre));
+        out.push(TextEvent::Ended(how));
         self.done = true;
     }
 
@@ -486,7 +324,8 @@ impl TextStage {
         !self.done && is_unmatched(self.mode)
     }
 
-    /// Takes the characters of a text in a raw part. None of them begins the ending, so that each is kept, and no more is given.
+    /// Takes the characters of a text in a raw part. None of them begins the ending, so that each is kept, and no more is
+    /// emitted.
     pub(crate) fn pass(&mut self, text: &str)
         requires raw { is_in_raw self.old ≡ true }
         requires no_ending { NonePass (λ c. c == 60) (chars text.now) }

@@ -1,146 +1,101 @@
-//! The names of tags, as their letters come.
+//! The names of tags, as their characters come.
 
-ghost use Rattle.std.specs.Prelude.{◌≡◌};
-ghost use Rattle.gabc_text.specs.machine.TagPrefix.{word_if, next_word, is_start, next_name, style_tag, raw_tag, effect_named};
+ghost use Rattle.std.specs.Prelude.{◌≡◌, ◌==◌, ℕ, ◌-◌, ◌≤◌, List, [], ◌∷◌, ◌++◌, length, take, drop, replicate, map};
+ghost use Rattle.std.specs.List.{list_all, zip};
+ghost use Rattle.std.proofs.Common.{ap, sym, ◌∙◌, subst, take-append-drop, length-take-le};
+ghost use Rattle.gabc_text.specs.declared.tags.TheConstants.{KEPT};
+ghost use Rattle.gabc_text.specs.Token.{is_text, effect_in, effect_of};
+ghost use Rattle.gabc_text.specs.machine.TagPrefix.{next_name};
 
-use crate::styles::Style;
-use crate::token::{RawKind, TagEffect};
+use crate::tags::{KEPT, TAGS};
+use crate::token::TagEffect;
+use std::marker::Model;
 
-/// The letters of a tag's name so far, without a `/` at its start; `Other` where they begin no name.
-#[derive(Clone, Copy)]
-pub enum TagWord {
-    Start,
-    B,
-    C,
-    E,
-    Eu,
-    I,
-    S,
-    Sc,
-    Sp,
-    T,
-    Tt,
-    U,
-    Ul,
-    N,
-    Nl,
-    Nlb,
-    Nlba,
-    V,
-    A,
-    Al,
-    Alt,
-    Other,
-}
-
-/// A tag's name so far.
+/// What was read of a tag's name: its first characters, up to so many that no known name has as many. Contracts see the list
+/// of them.
 #[derive(Clone, Copy)]
 pub struct TagPrefix {
-    pub closing: bool,
-    pub word: TagWord,
+    letters: [char; KEPT],
+    len: usize,
 }
 
-pub(crate) fn next_word(word: TagWord, c: char) -> TagWord
-    ensures { result ≡ next_word word c }
-{
-    match word {
-        TagWord::Start => match c {
-            'b' => TagWord::B,
-            'c' => TagWord::C,
-            'e' => TagWord::E,
-            'i' => TagWord::I,
-            's' => TagWord::S,
-            't' => TagWord::T,
-            'u' => TagWord::U,
-            'n' => TagWord::N,
-            'v' => TagWord::V,
-            'a' => TagWord::A,
-            _ => TagWord::Other,
-        },
-        TagWord::E => word_if(c, 'u', TagWord::Eu),
-        TagWord::S => match c {
-            'c' => TagWord::Sc,
-            'p' => TagWord::Sp,
-            _ => TagWord::Other,
-        },
-        TagWord::T => word_if(c, 't', TagWord::Tt),
-        TagWord::U => word_if(c, 'l', TagWord::Ul),
-        TagWord::N => word_if(c, 'l', TagWord::Nl),
-        TagWord::Nl => word_if(c, 'b', TagWord::Nlb),
-        TagWord::Nlb => word_if(c, 'a', TagWord::Nlba),
-        TagWord::A => word_if(c, 'l', TagWord::Al),
-        TagWord::Al => word_if(c, 't', TagWord::Alt),
-        _ => TagWord::Other,
-    }
+impl Model for TagPrefix {
+    ghost Value = { List ℕ };
+
+    ghost view = { λ n. take n.len n.letters };
+
+    ghost invariant = { λ n. (n.len ≤ KEPT)
+        × (length n.letters ≡ KEPT) × (drop n.len n.letters ≡ replicate (KEPT - n.len) 0) };
+
+    ghost inverse = { λ s. record {
+      letters = s ++ replicate (KEPT - length s) 0;
+      len = length s;
+    } };
+
+    ghost inverse_ok = { λ n h i.
+        let IsWithin : ℕ → Type 0 = λ k. n.len ≤ k in
+        let fits : n.len ≤ length n.letters = subst IsWithin (sym h.1) h.0 in
+        let long : length (take n.len n.letters) ≡ n.len = length-take-le n.len n.letters fits in
+        record {
+          letters = (ap (λ (k : ℕ). take n.len n.letters ++ replicate (KEPT - k) 0) long
+              ∙ ap (λ (u : List ℕ). take n.len n.letters ++ u) (sym h.2)
+              ∙ take-append-drop n.len n.letters) i;
+          len = long i;
+        } };
 }
 
-pub(crate) fn word_if(c: char, wanted: char, word: TagWord) -> TagWord
-    ensures { result ≡ word_if c wanted word }
-{
-    if c == wanted { word } else { TagWord::Other }
-}
-
-pub(crate) fn is_start(word: TagWord) -> bool
-    ensures { result ≡ is_start word }
-{
-    match word {
-        TagWord::Start => true,
-        _ => false,
-    }
-}
-
-pub(crate) fn next_name(name: TagPrefix, c: char) -> TagPrefix
-    ensures { result ≡ next_name name c }
-{
-    if c == '/' && is_start(name.word) && !name.closing {
+impl TagPrefix {
+    /// Nothing of the name was read.
+    pub(crate) fn new() -> TagPrefix
+        ensures { result ≡ [] }
+    {
         TagPrefix {
-            closing: true,
-            word: TagWord::Start,
-        }
-    } else {
-        TagPrefix {
-            closing: name.closing,
-            word: next_word(name.word, c),
+            letters: ['\0'; KEPT],
+            len: 0,
         }
     }
-}
 
-pub(crate) fn style_tag(closing: bool, style: Style) -> TagEffect
-    ensures { result ≡ style_tag closing style }
-{
-    if closing {
-        TagEffect::Closes(style)
-    } else {
-        TagEffect::Opens(style)
+    /// The name so far with a character more.
+    pub(crate) fn with(mut self, c: char) -> TagPrefix
+        ensures { result ≡ next_name self c }
+    {
+        if self.len < KEPT {
+            self.letters[self.len] = c;
+            self.len += 1;
+        }
+        self
     }
-}
 
-pub(crate) fn raw_tag(closing: bool, raw: RawKind) -> TagEffect
-    ensures { result ≡ raw_tag closing raw }
-{
-    if closing {
+    /// Whether this is a name in ASCII.
+    fn is(&self, name: &str) -> bool
+        ensures { result ≡ is_text name.now self.now }
+    {
+        name.len() == self.len && are_same(name.as_bytes(), &self.letters[..self.len])
+    }
+
+    /// What a tag of this name does, by the first of the rows that has it.
+    fn effect_among(&self, rows: &[(&'static str, TagEffect)]) -> TagEffect
+        ensures { result ≡ effect_in (map (λ row. (row.0.now, row.1)) rows.now) self.now }
+    {
+        for (name, effect) in rows {
+            if self.is(name) {
+                return *effect;
+            }
+        }
         TagEffect::Other
-    } else {
-        TagEffect::Begins(raw)
+    }
+
+    /// What the tag of this name does.
+    pub(crate) fn effect(&self) -> TagEffect
+        ensures { result ≡ effect_of (60 ∷ self.now ++ 62 ∷ []) }
+    {
+        self.effect_among(&TAGS)
     }
 }
 
-/// What the tag of this name does.
-pub(crate) fn effect_named(name: TagPrefix) -> TagEffect
-    ensures { result ≡ effect_named name.closing name.word }
+/// Whether the characters are these bytes, one by one, as far as there are both.
+fn are_same(bytes: &[u8], letters: &[char]) -> bool
+    ensures { result ≡ list_all (λ p. p.1 == p.0) (zip bytes.now letters.now) }
 {
-    match name.word {
-        TagWord::B => style_tag(name.closing, Style::B),
-        TagWord::C => style_tag(name.closing, Style::C),
-        TagWord::E => style_tag(name.closing, Style::E),
-        TagWord::I => style_tag(name.closing, Style::I),
-        TagWord::Sc => style_tag(name.closing, Style::Sc),
-        TagWord::Tt => style_tag(name.closing, Style::Tt),
-        TagWord::Ul => style_tag(name.closing, Style::Ul),
-        TagWord::Eu | TagWord::Nlba => TagEffect::Mark,
-        TagWord::V => raw_tag(name.closing, RawKind::V),
-        TagWord::Sp => raw_tag(name.closing, RawKind::Sp),
-        TagWord::Alt => raw_tag(name.closing, RawKind::Alt),
-        _ => TagEffect::Other,
-    }
+    bytes.iter().zip(letters).all(|(b, c)| *c == char::from(*b))
 }

@@ -1,7 +1,10 @@
 //! What the tokens so far have shown.
 
 ghost use Rattle.std.specs.Prelude.{◌≡◌};
-ghost use Rattle.gabc_text.specs.machine.TextFacts.{styles_after, is_left_out_by, piece_kind_at, early_at, code_at, after_piece, after_tag, facts_after};
+ghost use Rattle.gabc_text.specs.machine.TextFacts.{styles_after, early_at, after_piece, after_tag, facts_after};
+ghost use Rattle.gabc_text.specs.Events.{option_list_of};
+ghost use Rattle.gabc_text.specs.FactsPast.{leaves_out};
+ghost use Rattle.gabc_text.specs.EventsLeft.{piece_by, codes_by};
 ghost use Rattle.gabc_text.specs.TextFacts.{no_facts};
 ghost use Rattle.gabc_text.specs.machine.TokenState.{keep, keep_first};
 ghost use Rattle.gabc_text.specs.View.{piece_kind};
@@ -32,13 +35,13 @@ pub struct TextFacts {
     pub starts: bool,
 }
 
-pub(crate) fn kind_of(kind: TokenKind, sort: TagEffect) -> Option<PieceKind>
-    ensures { result ≡ piece_kind kind sort }
+pub(crate) fn kind_of(kind: TokenKind, effect: TagEffect) -> Option<PieceKind>
+    ensures { result ≡ piece_kind kind effect }
 {
     match kind {
         TokenKind::Letter => Some(PieceKind::Char),
         TokenKind::Raw => Some(PieceKind::Raw),
-        TokenKind::Tag => match sort {
+        TokenKind::Tag => match effect {
             TagEffect::Mark => Some(PieceKind::Mark),
             TagEffect::Other => Some(PieceKind::Tag),
             _ => None,
@@ -47,11 +50,11 @@ pub(crate) fn kind_of(kind: TokenKind, sort: TagEffect) -> Option<PieceKind>
     }
 }
 
-/// The styles after a tag of this sort.
-pub(crate) fn styles_after(styles: Styles, sort: TagEffect) -> Styles
-    ensures { result ≡ styles_after styles sort }
+/// The styles after a tag that does this.
+pub(crate) fn styles_after(styles: Styles, effect: TagEffect) -> Styles
+    ensures { result ≡ styles_after styles effect }
 {
-    match sort {
+    match effect {
         TagEffect::Opens(style) => styles.with(style, true),
         TagEffect::Closes(style) => styles.with(style, false),
         _ => styles,
@@ -60,7 +63,7 @@ pub(crate) fn styles_after(styles: Styles, sort: TagEffect) -> Styles
 
 /// A brace, comment or stray character that is not kept.
 pub(crate) fn is_left_out(facts: TextFacts, kind: TokenKind) -> bool
-    ensures { result ≡ is_left_out_by facts kind }
+    ensures { result ≡ leaves_out facts kind }
 {
     match kind {
         TokenKind::Comment | TokenKind::Stray => true,
@@ -71,8 +74,8 @@ pub(crate) fn is_left_out(facts: TextFacts, kind: TokenKind) -> bool
 }
 
 /// The piece that a token is, if any.
-pub(crate) fn piece_at(facts: TextFacts, kind: TokenKind, sort: TagEffect) -> Option<PieceKind>
-    ensures { result ≡ piece_kind_at facts kind sort }
+pub(crate) fn piece_at(facts: TextFacts, kind: TokenKind, effect: TagEffect) -> Option<PieceKind>
+    ensures { result ≡ piece_by facts kind effect }
 {
     match kind {
         TokenKind::Blank => {
@@ -82,7 +85,7 @@ pub(crate) fn piece_at(facts: TextFacts, kind: TokenKind, sort: TagEffect) -> Op
                 None
             }
         }
-        _ => kind_of(kind, sort),
+        _ => kind_of(kind, effect),
     }
 }
 
@@ -97,8 +100,8 @@ pub(crate) fn early_at(facts: TextFacts, mode: TokenState, c: char) -> Option<Co
 }
 
 /// The finding where a token ends, if any.
-pub(crate) fn code_at(facts: TextFacts, kind: TokenKind, sort: TagEffect) -> Option<Code>
-    ensures { result ≡ code_at facts kind sort }
+pub(crate) fn code_at(facts: TextFacts, kind: TokenKind, effect: TagEffect) -> Option<Code>
+    ensures { option_list_of result ≡ codes_by facts kind effect }
 {
     match kind {
         TokenKind::Stray => Some(Code::E2),
@@ -110,7 +113,7 @@ pub(crate) fn code_at(facts: TextFacts, kind: TokenKind, sort: TagEffect) -> Opt
                 Some(Code::W4)
             }
         }
-        TokenKind::Tag => match sort {
+        TokenKind::Tag => match effect {
             TagEffect::Opens(style) => {
                 if facts.styles.has(style) {
                     Some(Code::W3)
@@ -144,11 +147,11 @@ fn after_piece(facts: TextFacts) -> TextFacts
     }
 }
 
-/// What has been seen after a tag of this sort.
-fn after_tag(facts: TextFacts, sort: TagEffect) -> TextFacts
-    ensures { result ≡ after_tag facts sort }
+/// What has been seen after a tag that does this.
+fn after_tag(facts: TextFacts, effect: TagEffect) -> TextFacts
+    ensures { result ≡ after_tag facts effect }
 {
-    match sort {
+    match effect {
         TagEffect::Mark => TextFacts {
             blank: false,
             space: false,
@@ -156,7 +159,7 @@ fn after_tag(facts: TextFacts, sort: TagEffect) -> TextFacts
         },
         TagEffect::Other => after_piece(facts),
         _ => TextFacts {
-            styles: styles_after(facts.styles, sort),
+            styles: styles_after(facts.styles, effect),
             space: false,
             ..facts
         },
@@ -164,8 +167,8 @@ fn after_tag(facts: TextFacts, sort: TagEffect) -> TextFacts
 }
 
 /// What has been seen after a token more.
-pub(crate) fn facts_after(facts: TextFacts, kind: TokenKind, sort: TagEffect) -> TextFacts
-    ensures { result ≡ facts_after facts kind sort }
+pub(crate) fn facts_after(facts: TextFacts, kind: TokenKind, effect: TagEffect) -> TextFacts
+    ensures { result ≡ facts_after facts kind effect }
 {
     match kind {
         TokenKind::Blank => TextFacts {
@@ -177,7 +180,7 @@ pub(crate) fn facts_after(facts: TextFacts, kind: TokenKind, sort: TagEffect) ->
         TokenKind::Letter | TokenKind::Raw => after_piece(facts),
         TokenKind::Begin => TextFacts {
             begun: true,
-            space: facts.begun && facts.space,
+            space: is_left_out(facts, kind) && facts.space,
             ..facts
         },
         TokenKind::End => TextFacts {
@@ -195,7 +198,7 @@ pub(crate) fn facts_after(facts: TextFacts, kind: TokenKind, sort: TagEffect) ->
             space: false,
             ..facts
         },
-        TokenKind::Tag => after_tag(facts, sort),
+        TokenKind::Tag => after_tag(facts, effect),
     }
 }
 

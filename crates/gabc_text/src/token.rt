@@ -1,7 +1,8 @@
 //! The tokens of a text: the parts of its spelling that the rules speak of.
 
 ghost use Rattle.std.specs.Prelude.{◌≡◌};
-ghost use Rattle.gabc_text.specs.machine.TokenState.{is_special_char, single_kind, is_blank_kind};
+ghost use Rattle.gabc_text.specs.Token.{is_special, single};
+ghost use Rattle.gabc_text.specs.View.{is_space};
 
 use crate::styles::Style;
 
@@ -44,7 +45,7 @@ pub enum TagEffect {
 }
 
 pub(crate) fn is_special(c: char) -> bool
-    ensures { result ≡ is_special_char c }
+    ensures { result ≡ is_special c }
 {
     match c {
         '(' | ')' | '[' | ']' | '{' | '}' | '<' | '>' | '%' | '$' => true,
@@ -53,7 +54,7 @@ pub(crate) fn is_special(c: char) -> bool
 }
 
 pub(crate) fn single(c: char) -> TokenKind
-    ensures { result ≡ single_kind c }
+    ensures { result ≡ single c }
 {
     match c {
         ' ' | '\t' | '\n' => TokenKind::Blank,
@@ -65,7 +66,7 @@ pub(crate) fn single(c: char) -> TokenKind
 }
 
 pub(crate) fn is_blank_kind(kind: TokenKind) -> bool
-    ensures { result ≡ is_blank_kind kind }
+    ensures { result ≡ is_space kind }
 {
     match kind {
         TokenKind::Blank => true,

@@ -4,7 +4,7 @@ ghost use Rattle.std.specs.Prelude.{◌≡◌};
 ghost use Rattle.gabc_text.specs.machine.TokenState.{settled_kind, wanted_char, step_in_raw, step_at_tag_end, first_step, next_step, kind_at_end, is_plain};
 ghost use Rattle.gabc_text.specs.machine.RawPart.{is_unmatched};
 
-use crate::tag_name::{TagPrefix, TagWord, effect_named, next_name};
+use crate::tag_name::TagPrefix;
 use crate::token::{RawKind, TagEffect, TokenKind, is_special, single};
 
 /// What is read at a place: a token, or what was read of one.
@@ -18,7 +18,7 @@ pub enum TokenState {
     /// In a tag, with its name so far.
     Tag(TagPrefix),
     /// In a raw part, with how many characters of its ending were read.
-    Raw(RawKind, u8),
+    Raw { part: RawKind, matched: u8 },
     Translation,
 }
 
@@ -26,7 +26,7 @@ pub enum TokenState {
 #[derive(Clone, Copy)]
 pub enum Step {
     Stays(TokenState),
-    Ends(TokenKind, TagEffect),
+    Ends { kind: TokenKind, effect: TagEffect },
 }
 
 /// The token that ends before the character, if one does.
@@ -81,66 +81,87 @@ pub(crate) fn wanted_char(raw: RawKind, matched: u8) -> char
     }
 }
 
-pub(crate) fn step_in_raw(raw: RawKind, matched: u8, c: char) -> Step
-    ensures { result ≡ step_in_raw raw matched c }
+/// The end of a token that is no tag.
+fn ends(kind: TokenKind) -> Step
+    ensures { result ≡ Step.Ends kind TagEffect.Other }
 {
-    if c == wanted_char(raw, matched) {
+    Step::Ends {
+        kind,
+        effect: TagEffect::Other,
+    }
+}
+
+/// The raw part goes on, with so many characters of its ending read.
+fn stays_in_raw(part: RawKind, matched: u8) -> Step
+    ensures { result ≡ Step.Stays (TokenState.Raw part matched) }
+{
+    Step::Stays(TokenState::Raw { part, matched })
+}
+
+/// What a character does in a raw part.
+pub(crate) fn step_in_raw(part: RawKind, matched: u8, c: char) -> Step
+    ensures { result ≡ step_in_raw part matched c }
+{
+    if c == wanted_char(part, matched) {
         if c == '>' {
-            Step::Ends(TokenKind::Raw, TagEffect::Other)
+            ends(TokenKind::Raw)
         } else if matched < 5 {
-            Step::Stays(TokenState::Raw(raw, matched + 1))
+            stays_in_raw(part, matched + 1)
         } else {
-            Step::Stays(TokenState::Raw(raw, 0))
+            stays_in_raw(part, 0)
         }
     } else if c == '<' {
-        Step::Stays(TokenState::Raw(raw, 1))
+        stays_in_raw(part, 1)
     } else {
-        Step::Stays(TokenState::Raw(raw, 0))
+        stays_in_raw(part, 0)
     }
 }
 
-pub(crate) fn step_at_tag_end(sort: TagEffect) -> Step
-    ensures { result ≡ step_at_tag_end sort }
+/// What the `>` of a tag does that does this.
+pub(crate) fn step_at_tag_end(effect: TagEffect) -> Step
+    ensures { result ≡ step_at_tag_end effect }
 {
-    match sort {
-        TagEffect::Begins(raw) => Step::Stays(TokenState::Raw(raw, 0)),
-        _ => Step::Ends(TokenKind::Tag, sort),
+    match effect {
+        TagEffect::Begins(part) => stays_in_raw(part, 0),
+        _ => Step::Ends {
+            kind: TokenKind::Tag,
+            effect,
+        },
     }
 }
 
+/// What a character does between tokens.
 pub(crate) fn first_step(c: char) -> Step
     ensures { result ≡ first_step c }
 {
     match c {
         '$' => Step::Stays(TokenState::Dollar),
         '%' => Step::Stays(TokenState::Comment),
-        '<' => Step::Stays(TokenState::Tag(TagPrefix {
-            closing: false,
-            word: TagWord::Start,
-        })),
+        '<' => Step::Stays(TokenState::Tag(TagPrefix::new())),
         '[' => Step::Stays(TokenState::Translation),
-        _ => Step::Ends(single(c), TagEffect::Other),
+        _ => ends(single(c)),
     }
 }
 
+/// What a character does in this state.
 pub(crate) fn next_step(mode: TokenState, c: char) -> Step
     ensures { result ≡ next_step mode c }
 {
     match mode {
         TokenState::Plain => first_step(c),
-        TokenState::Dollar => Step::Ends(TokenKind::Letter, TagEffect::Other),
+        TokenState::Dollar => ends(TokenKind::Letter),
         TokenState::Comment => Step::Stays(TokenState::Comment),
         TokenState::Tag(name) => {
             if c == '>' {
-                step_at_tag_end(effect_named(name))
+                step_at_tag_end(name.effect())
             } else {
-                Step::Stays(TokenState::Tag(next_name(name, c)))
+                Step::Stays(TokenState::Tag(name.with(c)))
             }
         }
-        TokenState::Raw(raw, matched) => step_in_raw(raw, matched, c),
+        TokenState::Raw { part, matched } => step_in_raw(part, matched, c),
         TokenState::Translation => {
             if c == ']' {
-                Step::Ends(TokenKind::Translation, TagEffect::Other)
+                ends(TokenKind::Translation)
             } else {
                 Step::Stays(TokenState::Translation)
             }
@@ -156,11 +177,12 @@ pub(crate) fn kind_at_end(mode: TokenState) -> Option<TokenKind>
         TokenState::Plain => None,
         TokenState::Dollar => Some(TokenKind::Letter),
         TokenState::Comment => Some(TokenKind::Comment),
-        TokenState::Tag(_) | TokenState::Raw(_, _) => Some(TokenKind::OpenTag),
+        TokenState::Tag(_) | TokenState::Raw { .. } => Some(TokenKind::OpenTag),
         TokenState::Translation => Some(TokenKind::OpenTranslation),
     }
 }
 
+/// Whether it stands between tokens.
 pub(crate) fn is_plain(mode: TokenState) -> bool
     ensures { result ≡ is_plain mode }
 {
@@ -170,12 +192,12 @@ pub(crate) fn is_plain(mode: TokenState) -> bool
     }
 }
 
-/// In a raw part, with no character of its ending read.
+/// Whether it stands in a raw part, with no character of its ending read.
 pub(crate) fn is_unmatched(mode: TokenState) -> bool
     ensures { result ≡ is_unmatched mode }
 {
     match mode {
-        TokenState::Raw(_, matched) => matched == 0,
+        TokenState::Raw { matched, .. } => matched == 0,
         _ => false,
     }
 }

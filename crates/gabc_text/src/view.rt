@@ -40,7 +40,8 @@ impl Default for Piece {
     ghost use Rattle.gabc_text.specs.declared.view.PieceKind.TheVariants.{Char};
     ghost use Rattle.gabc_text.specs.declared.styles.TheConstants.Styles.{NONE};
 
-    ghost is_default = { λ p. (p.kind ≡ Char) × ((p.styles ≡ NONE) × ((p.span.from ≡ 0) × (p.span.to ≡ 0))) };
+    ghost is_default = { λ p.
+        (p.kind ≡ Char) × ((p.styles ≡ NONE) × ((p.span.from ≡ 0) × (p.span.to ≡ 0))) };
 
     fn default() -> Piece {
         Piece {
@@ -162,7 +163,7 @@ impl TextView {
         }
     }
 
-    /// Adds `part`, as the machine told it of a text. If there is no memory, the view is as it was.
+    /// Adds `part`, as the machine emitted it. If there is no memory, the view is as it was.
     pub fn add(&mut self, part: TextPart) -> Result<(), AllocError>
         ensures added { OnOk result (self.new ≡ with_part self.old part) }
         ensures unchanged { OnErr result (self.new ≡ self.old) }

@@ -70,7 +70,7 @@ impl TextBuilder {
         Ok(())
     }
 
-    /// Passes a character to the machine, and adds what it gives. Nothing stays in the room.
+    /// Passes a character to the machine, and adds what it emits. Nothing stays in the room.
     fn feed(
         &mut self,
         stage: &mut TextStage,
@@ -89,7 +89,7 @@ impl TextBuilder {
         Ok(())
     }
 
-    /// Passes the characters of a text in a raw part to the machine, and adds what it gives: it keeps them all, since none of
+    /// Passes the characters of a text in a raw part to the machine, and adds what it emits: it keeps them all, since none of
     /// them begins the ending.
     fn pass(&mut self, stage: &mut TextStage, text: &str) -> Result<(), AllocError>
         requires raw { is_in_raw stage.old ≡ true }
@@ -102,7 +102,7 @@ impl TextBuilder {
         self.kept.push_str(text)
     }
 
-    /// Ends the machine, and adds what it gives.
+    /// Ends the machine, and adds what it emits.
     fn close(&mut self, stage: &mut TextStage, room: &mut Room<TextEvent>) -> Result<(), AllocError>
         requires { room.old ≡ record { items = []; limit = 8 } }
         ensures { OnOk result (built_text_of self.new

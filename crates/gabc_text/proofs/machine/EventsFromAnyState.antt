@@ -11,20 +11,19 @@ use Rattle.gabc_text.specs.declared.token_state.TokenState.{TokenState}
 use Rattle.gabc_text.specs.declared.token_state.TokenState.TheVariants.{Plain, Dollar, Comment, Tag, Raw, Translation}
 use Rattle.gabc_text.specs.declared.token_state.Step.{Step}
 use Rattle.gabc_text.specs.declared.token_state.Step.TheVariants.{Stays, Ends}
-use Rattle.gabc_text.specs.declared.stage.Progress.{Progress}
+use Rattle.gabc_text.specs.declared.progress.Progress.{Progress}
 use Rattle.gabc_text.specs.declared.stage.TextStage.{TextStage}
-use Rattle.gabc_text.specs.declared.stage.TextEnd.{TextEnd}
 use Rattle.gabc_text.specs.declared.stage.TextEnd.TheVariants as ending
 use Rattle.gabc_text.specs.declared.stage.TextEvent.{TextEvent}
 use Rattle.gabc_text.specs.Token.{Token, spelling, tokens, is_special}
 use Rattle.gabc_text.specs.View.{effect, is_open_kind, is_translation}
-use Rattle.gabc_text.specs.Events.{is_lone, with_first, with_last, no_events_each}
+use Rattle.gabc_text.specs.Events.{option_list_of, is_lone, with_first, with_last, no_events_each}
 use Rattle.gabc_text.specs.machine.TextFacts.{early_at, facts_after}
 use Rattle.gabc_text.specs.machine.TokenState.{settled_kind, next_step, keep, kind_at_end, is_plain}
 use Rattle.gabc_text.specs.TextStage.{place_after_char}
-use Rattle.gabc_text.specs.machine.TextStage.{option_list, events_of_settling_by, settle_stage_by, settled_push_stage, events_of_settled_push, events_of_reading, read_stage, events_of_step, stage_after_step, stage_past_char, progress_past, char_event, finding_event, bytes_with, token_stage, events_of_token, events_of_end, end_stage, events_of_finish_by, end_by, progress_after, is_cut_end}
+use Rattle.gabc_text.specs.machine.TextStage.{events_of_settling_by, settle_stage_by, settled_push_stage, events_of_settled_push, events_of_reading, read_stage, events_of_step, stage_after_step, stage_past_char, progress_past, char_event, bytes_with, token_stage, events_of_token, events_of_end, end_stage, events_of_finish_by, end_by, progress_after, is_cut_end}
 use Rattle.gabc_text.specs.FactsPast.{past, bytes_past}
-use Rattle.gabc_text.specs.EventsLeft.{kept_by, lists_kept, early_events_by, last_by, token_events_by, lists_past, lists_last, owed_events_at, facts_at, progress_at}
+use Rattle.gabc_text.specs.EventsLeft.{findings_there, kept_by, lists_kept, early_events_by, last_by, token_events_by, lists_past, lists_last, owed_events_at, facts_at, progress_at}
 use Rattle.gabc_text.specs.ViewFacts.{but_end}
 use Rattle.gabc_text.proofs.machine.EventsStepByStep.{stepwise, stepwise_left}
 use Rattle.gabc_text.proofs.tokens.TokensByCharacter.{drop_past}
@@ -157,11 +156,11 @@ module _ (read : List ℕ) (s : TextStage) where
   next_goes : (more : List ℕ) (c : ℕ) → place_after_char (past s.progress.next more) c ≡ past s.progress.next (more ++ c ∷ [])
   next_goes more c = sym (past_append s.progress.next more (c ∷ []))
 
-  bytes_goes : (mode : TokenState) (more : List ℕ) (c : ℕ) (kept : List ℕ) → kept_held mode more ++ option_list (keep s.facts mode c) ≡ kept
+  bytes_goes : (mode : TokenState) (more : List ℕ) (c : ℕ) (kept : List ℕ) → kept_held mode more ++ option_list_of (keep s.facts mode c) ≡ kept
       → bytes_with (bytes_past s.progress.kept (kept_held mode more)) (keep s.facts mode c) ≡ bytes_past s.progress.kept kept
   bytes_goes mode more c kept e =
       bytes_go (bytes_past s.progress.kept (kept_held mode more)) (keep s.facts mode c)
-      ∙ sym (bytes_past_append s.progress.kept (kept_held mode more) (option_list (keep s.facts mode c)))
+      ∙ sym (bytes_past_append s.progress.kept (kept_held mode more) (option_list_of (keep s.facts mode c)))
       ∙ ap (bytes_past s.progress.kept) e
 
   -- ---- what is emitted from the character c on
@@ -201,15 +200,15 @@ module _ (c : ℕ) (t : List ℕ) (read : List ℕ) (s : TextStage) (mode : Toke
 
   abbrev Reading : Step → Type 0
   Reading w = From read s mode more held c t
-      (option_list (finding_event s.progress.place (early_at s.facts mode c)) ++ (option_list (char_event (past s.progress.next more) (keep s.facts mode c)) ++ events_of_step (stage_past_char stage c) w (bytes_past s.progress.kept (kept_held mode more))))
+      (findings_there s.progress.place (option_list_of (early_at s.facts mode c)) ++ (option_list_of (char_event (past s.progress.next more) (keep s.facts mode c)) ++ events_of_step (stage_past_char stage c) w (bytes_past s.progress.kept (kept_held mode more))))
       (stage_after_step (stage_past_char stage c) w)
 
   -- what is emitted with the character of a second translation, and of itself
   abbrev events_early : List TextEvent
-  events_early = option_list (finding_event s.progress.place (early_at s.facts mode c))
+  events_early = findings_there s.progress.place (option_list_of (early_at s.facts mode c))
 
   abbrev events_kept : List TextEvent
-  events_kept = option_list (char_event (past s.progress.next more) (keep s.facts mode c))
+  events_kept = option_list_of (char_event (past s.progress.next more) (keep s.facts mode c))
 
   in_read : Holds mode (read ++ more)
   in_read = subst (Holds mode) here holds
@@ -220,7 +219,7 @@ module _ (c : ℕ) (t : List ℕ) (read : List ℕ) (s : TextStage) (mode : Toke
   events_next : ListsGo read s.facts s.progress.place s.progress.next (emitted_in read s mode more ++ events_read read s.facts s.progress.place s.progress.next mode more c ∷ []) more c (next_step mode c)
   events_next = lists_goes read s.facts s.progress.place s.progress.next mode more c in_read
 
-  kept_next : KeptGo s.facts (kept_held mode more ++ option_list (keep s.facts mode c)) more c (next_step mode c)
+  kept_next : KeptGo s.facts (kept_held mode more ++ option_list_of (keep s.facts mode c)) more c (next_step mode c)
   kept_next = kept_goes s.facts mode more c plain_none
 
   longer : held ++ c ∷ [] ≡ read ++ (more ++ c ∷ [])
@@ -228,15 +227,15 @@ module _ (c : ℕ) (t : List ℕ) (read : List ℕ) (s : TextStage) (mode : Toke
 
   stays : (next : TokenState) → Runs t → next_step mode c ≡ Stays next → Holds next (held ++ c ∷ []) → Reading (Stays next)
   stays next ih e h =
-      let kept : kept_held mode more ++ option_list (keep s.facts mode c) ≡ kept_held next (more ++ c ∷ []) =
-      subst (KeptGo s.facts (kept_held mode more ++ option_list (keep s.facts mode c)) more c) e kept_next in
+      let kept : kept_held mode more ++ option_list_of (keep s.facts mode c) ≡ kept_held next (more ++ c ∷ []) =
+      subst (KeptGo s.facts (kept_held mode more ++ option_list_of (keep s.facts mode c)) more c) e kept_next in
       let lists : emitted_in read s mode more ++ events_read read s.facts s.progress.place s.progress.next mode more c ∷ [] ≡ emitted_in read s next (more ++ c ∷ []) =
       subst (ListsGo read s.facts s.progress.place s.progress.next (emitted_in read s mode more ++ events_read read s.facts s.progress.place s.progress.next mode more c ∷ []) more c) e events_next in
       let state : stage_after_step (stage_past_char stage c) (Stays next) ≡ stage_in read s next (more ++ c ∷ []) =
       rw (next_goes read s more c, bytes_goes read s mode more c (kept_held next (more ++ c ∷ [])) kept) refl in
       let run = ih read s next (more ++ c ∷ []) (held ++ c ∷ []) longer h in (
-        ap (λ (x : TextStage). emitted_in read s mode more ++ ((option_list (finding_event s.progress.place (early_at s.facts mode c)) ++ (option_list (char_event (past s.progress.next more) (keep s.facts mode c)) ++ [])) ∷ stepwise x t)) state
-            ∙ ap (λ (x : List TextEvent). emitted_in read s mode more ++ ((option_list (finding_event s.progress.place (early_at s.facts mode c)) ++ x) ∷ stepwise (stage_in read s next (more ++ c ∷ [])) t)) (append-nil (option_list (char_event (past s.progress.next more) (keep s.facts mode c))))
+        ap (λ (x : TextStage). emitted_in read s mode more ++ ((findings_there s.progress.place (option_list_of (early_at s.facts mode c)) ++ (option_list_of (char_event (past s.progress.next more) (keep s.facts mode c)) ++ [])) ∷ stepwise x t)) state
+            ∙ ap (λ (x : List TextEvent). emitted_in read s mode more ++ ((findings_there s.progress.place (option_list_of (early_at s.facts mode c)) ++ x) ∷ stepwise (stage_in read s next (more ++ c ∷ [])) t)) (append-nil (option_list_of (char_event (past s.progress.next more) (keep s.facts mode c))))
             ∙ moved (emitted_in read s mode more) (events_read read s.facts s.progress.place s.progress.next mode more c) (stepwise (stage_in read s next (more ++ c ∷ [])) t)
             ∙ ap (λ (x : List (List TextEvent)). x ++ stepwise (stage_in read s next (more ++ c ∷ [])) t) lists
             ∙ run.0
@@ -254,8 +253,8 @@ module _ (c : ℕ) (t : List ℕ) (read : List ℕ) (s : TextStage) (mode : Toke
 
     spot_is : progress_past (progress_in read s mode more) c (keep s.facts mode c) ≡ behind s.facts s.progress k.kind (more ++ c ∷ [])
     spot_is =
-        let kept : kept_held mode more ++ option_list (keep s.facts mode c) ≡ kept_by s.facts k.kind (more ++ c ∷ []) =
-        subst (KeptGo s.facts (kept_held mode more ++ option_list (keep s.facts mode c)) more c) e kept_next in
+        let kept : kept_held mode more ++ option_list_of (keep s.facts mode c) ≡ kept_by s.facts k.kind (more ++ c ∷ []) =
+        subst (KeptGo s.facts (kept_held mode more ++ option_list_of (keep s.facts mode c)) more c) e kept_next in
         rw (next_goes read s more c, bytes_goes read s mode more c (kept_by s.facts k.kind (more ++ c ∷ [])) kept) refl
 
     last_is : bytes_past s.progress.kept (kept_held mode more) ≡ last_by s.progress k (more ++ c ∷ [])
@@ -376,11 +375,6 @@ finish read s mode more held here holds = by (kind_at_end mode) refl (ends mode 
     plain Plain e = refl
     plain _ e = absurd (cc)
 
-    end_is : (d : TokenKind) (q : Place) → end_by d q ≡ cond (is_open_kind d) (ending.Cut q) ending.Finished
-    end_is kind.OpenTag q = refl
-    end_is kind.OpenTranslation q = refl
-    end_is _ q = refl
-
     cut_is : (b : Bool) (q : Place) → is_cut_end (cond b (ending.Cut q) ending.Finished) ≡ b
     cut_is true q = refl
     cut_is false q = refl
@@ -411,7 +405,6 @@ finish read s mode more held here holds = by (kind_at_end mode) refl (ends mode 
               ∙ ap (λ (x : List (List TextEvent)). x ++ (owed_events_at read s (k ∷ []) ++ events_of_end (past_token read s k).facts (past_token read s k).progress (end_by k.kind s.progress.place)) ∷ []) cl.lists
               ∙ ap (λ (x : TextFacts). lists_past read s [] k ++ (owed_events_at read s (k ∷ []) ++ events_of_end x (past_token read s k).progress (end_by k.kind s.progress.place)) ∷ []) (sym there)
               ∙ ap (λ (x : Progress). lists_past read s [] k ++ (owed_events_at read s (k ∷ []) ++ events_of_end (facts_at read s (k ∷ [])) x (end_by k.kind s.progress.place)) ∷ []) (sym progress)
-              ∙ ap (λ (x : TextEnd). lists_past read s [] k ++ (owed_events_at read s (k ∷ []) ++ events_of_end (facts_at read s (k ∷ [])) (progress_at read s (k ∷ [])) x) ∷ []) (end_is k.kind s.progress.place)
               ∙ ap (λ (x : List TextEvent). lists_past read s [] k ++ (owed_events_at read s (k ∷ []) ++ x) ∷ []) (end_same (facts_at read s (k ∷ [])) (progress_at read s (k ∷ [])) (cond (is_open_kind k.kind) (ending.Cut s.progress.place) ending.Finished) (is_open_kind k.kind) (cut_is (is_open_kind k.kind) s.progress.place))
               ∙ sym whole,
           sym none_left,

@@ -6,7 +6,7 @@ use Rattle.gabc_places.specs.declared.place.Char.{Char}
 use Rattle.gabc_text.specs.declared.token_state.TokenState.{TokenState}
 use Rattle.gabc_text.specs.declared.token_state.TokenState.TheVariants.{Plain, Dollar, Comment, Tag, Raw, Translation}
 use Rattle.gabc_text.specs.declared.text_facts.TextFacts.{TextFacts}
-use Rattle.gabc_text.specs.declared.stage.Progress.{Progress}
+use Rattle.gabc_text.specs.declared.progress.Progress.{Progress}
 use Rattle.gabc_text.specs.declared.stage.TextStage.{TextStage}
 use Rattle.gabc_text.specs.declared.stage.TextEvent.{TextEvent}
 use Rattle.gabc_text.specs.Token.{tokens}

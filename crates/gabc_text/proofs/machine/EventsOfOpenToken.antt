@@ -13,18 +13,16 @@ use Rattle.gabc_text.specs.declared.token_state.Step.TheVariants.{Stays, Ends}
 use Rattle.gabc_text.specs.declared.text_facts.TextFacts.{TextFacts}
 use Rattle.gabc_text.specs.declared.stage.TextEvent.{TextEvent}
 use Rattle.gabc_text.specs.declared.stage.TextEvent.TheVariants as out
-use Rattle.gabc_text.specs.declared.tag_name.TagWord.TheVariants as word
-use Rattle.gabc_text.specs.Token.{Token, spelling, single, is_blank, is_one_of, is_text}
+use Rattle.gabc_text.specs.Token.{Token, spelling, single, is_text, effect_of}
 use Rattle.gabc_text.specs.View.{is_space, is_translation}
-use Rattle.gabc_text.specs.Events.{no_events_each, with_first, but_last, is_lone}
-use Rattle.gabc_text.specs.machine.TextFacts.{early_at, is_left_out_by}
-use Rattle.gabc_text.specs.machine.TokenState.{is_plain, next_step, first_step, keep, keep_first, is_blank_kind, step_at_tag_end, wanted_char}
-use Rattle.gabc_text.specs.machine.TagPrefix.{effect_named}
-use Rattle.gabc_text.specs.machine.TextStage.{option_list, char_event, finding_event, bytes_with}
+use Rattle.gabc_text.specs.Events.{option_list_of, no_events_each, with_first, but_last, is_lone}
+use Rattle.gabc_text.specs.machine.TextFacts.{early_at}
+use Rattle.gabc_text.specs.machine.TokenState.{is_plain, next_step, first_step, keep, keep_first, step_at_tag_end, wanted_char}
+use Rattle.gabc_text.specs.machine.TextStage.{char_event, bytes_with}
 use Rattle.gabc_text.specs.TextStage.{place_after_char}
-use Rattle.gabc_text.specs.FactsPast.{past, bytes_past}
-use Rattle.gabc_text.specs.EventsLeft.{kept_by, each_kept, lists_kept, early_events_by}
-use Rattle.gabc_text.proofs.machine.TagNameByCharacter.{by_case}
+use Rattle.gabc_text.specs.FactsPast.{leaves_out, past, bytes_past}
+use Rattle.gabc_text.specs.EventsLeft.{findings_there, kept_by, each_kept, lists_kept, early_events_by}
+use Rattle.gabc_text.proofs.tokens.CasesOfCharacters.{by_case, single_kind}
 use Rattle.gabc_text.proofs.machine.KeptOfOpenToken.{kept_held, is_within, is_kept_whole, IsKept, within_kept, keep_within, held_within}
 use Rattle.gabc_text.proofs.machine.TokenStateByCharacter.{Holds}
 
@@ -40,16 +38,6 @@ held_some Translation held h e = (91, h.s, h.held_is)
 abbrev pub in_translation : TokenState → Bool
 in_translation Translation = true
 in_translation _ = false
-
-single_kind : (P : TokenKind → Type 0) → P kind.Blank → P kind.Stray → P kind.Begin → P kind.End → P kind.Letter → (c : ℕ) → P (single c)
-single_kind P a b d e l c = by (is_blank c) (is_one_of (codes ")]>") c) (c == 123) (c == 125)
-  where
-    by : (w x y z : Bool) → P (cond w kind.Blank (cond x kind.Stray (cond y kind.Begin (cond z kind.End kind.Letter))))
-    by true x y z = a
-    by false true y z = b
-    by false false true z = d
-    by false false false true = e
-    by false false false false = l
 
 single_no_translation : (c : ℕ) → is_translation (single c) ≡ false
 single_no_translation c = single_kind (λ k. is_translation k ≡ false) refl refl refl refl refl c
@@ -74,7 +62,7 @@ pub events_goes : (mode : TokenState) (c : ℕ) → is_plain mode ≡ false → 
 events_goes Plain c e = absurd (cc)
 events_goes Dollar c e = refl
 events_goes Comment c e = refl
-events_goes (Tag name) c e = either_emitted false (c == 62) _ _ (tag_emitted (effect_named name.closing name.word)) refl
+events_goes (Tag name) c e = either_emitted false (c == 62) _ _ (tag_emitted (effect_of (60 ∷ name ++ 62 ∷ []))) refl
 events_goes (Raw raw m) c e =
     either_emitted false (c == wanted_char raw m) _ _
     (either_emitted false (c == 62) _ _ refl (either_emitted false (nat_lt m 5) _ _ refl refl))
@@ -89,7 +77,7 @@ nothing_more : (more : List ℕ) (c : ℕ) → no_events_each more ++ [] ∷ [] 
 nothing_more [] c = refl
 nothing_more (x ∷ more) c = ap (λ (xs : List (List TextEvent)). [] ∷ xs) (nothing_more more c)
 
-pub bytes_go : (n : ℕ) (o : Option ℕ) → bytes_with n o ≡ bytes_past n (option_list o)
+pub bytes_go : (n : ℕ) (o : Option ℕ) → bytes_with n o ≡ bytes_past n (option_list_of o)
 bytes_go n None = refl
 bytes_go n (Some c) = refl
 
@@ -111,20 +99,20 @@ module _ (facts : TextFacts) where
   kept_on (Stays next) more c i = sym (held_within next (more ++ c ∷ []) i)
   kept_on (Ends d s) more c i = sym (whole_kept d (more ++ c ∷ []) i)
 
-  first_kept : (c : ℕ) (d : TokenKind) → c == 37 ≡ false → option_list (keep_first facts c d) ≡ kept_by facts d (c ∷ [])
-  first_kept c d e = rw e (by (is_left_out_by facts d) d)
+  first_kept : (c : ℕ) (d : TokenKind) → c == 37 ≡ false → option_list_of (keep_first facts c d) ≡ kept_by facts d (c ∷ [])
+  first_kept c d e = rw e (by (leaves_out facts d) d)
     where
-      blank : (b : Bool) → option_list {X = ℕ} (cond b None (Some 32)) ≡ cond b [] (32 ∷ [])
+      blank : (b : Bool) → option_list_of {X = ℕ} (cond b None (Some 32)) ≡ cond b [] (32 ∷ [])
       blank true = refl
       blank false = refl
 
-      by : (b : Bool) (d : TokenKind) → option_list {X = ℕ} (cond b None (cond (is_blank_kind d) (cond facts.space None (Some 32)) (Some c))) ≡ cond b [] (cond (is_space d) (cond facts.space [] (32 ∷ [])) (c ∷ []))
+      by : (b : Bool) (d : TokenKind) → option_list_of {X = ℕ} (cond b None (cond (is_space d) (cond facts.space None (Some 32)) (Some c))) ≡ cond b [] (cond (is_space d) (cond facts.space [] (32 ∷ [])) (c ∷ []))
       by true d = refl
       by false kind.Blank = blank facts.space
       by false _ = refl
 
   abbrev KeptBegin : ℕ → Type 0
-  KeptBegin c = KeptGo (option_list (keep_first facts c (single c))) [] c (first_step c)
+  KeptBegin c = KeptGo (option_list_of (keep_first facts c (single c))) [] c (first_step c)
 
   kept_begin : (c : ℕ) → KeptBegin c
   kept_begin c =
@@ -136,12 +124,12 @@ module _ (facts : TextFacts) where
       rw (e36, e37, e60, e91) (rw e37 at f)))))
 
   -- what is kept with a character more
-  pub kept_goes : (mode : TokenState) (more : List ℕ) (c : ℕ) → (mode ≡ Plain → more ≡ []) → KeptGo (kept_held mode more ++ option_list (keep facts mode c)) more c (next_step mode c)
+  pub kept_goes : (mode : TokenState) (more : List ℕ) (c : ℕ) → (mode ≡ Plain → more ≡ []) → KeptGo (kept_held mode more ++ option_list_of (keep facts mode c)) more c (next_step mode c)
   kept_goes Plain more c h = rw (h refl) (kept_begin c)
   kept_goes Comment more c h = refl
   kept_goes mode more c h = within mode refl
     where
-      within : (m : TokenState) → is_within m ≡ true → KeptGo (kept_held m more ++ option_list (keep facts m c)) more c (next_step m c)
+      within : (m : TokenState) → is_within m ≡ true → KeptGo (kept_held m more ++ option_list_of (keep facts m c)) more c (next_step m c)
       within m w = rw (keep_within facts m c w, held_within m more w) (kept_on (next_step m c) more c (within_kept m c w))
 
 -- a second translation is emitted at its `[`
@@ -188,25 +176,25 @@ module _ (read : List ℕ) (facts : TextFacts) (place next : Place) where
   each_on (Stays m) xs more c i e = e ∙ sym (each_within m (more ++ c ∷ []) i)
   each_on (Ends d s) xs more c i e = e ∙ sym (whole_each d (more ++ c ∷ []) i)
 
-  first_each : (c : ℕ) (d : TokenKind) → c == 37 ≡ false → option_list (char_event next (keep_first facts c d)) ∷ [] ≡ lists_kept facts next d (c ∷ [])
-  first_each c d e = rw e (by (is_left_out_by facts d) d)
+  first_each : (c : ℕ) (d : TokenKind) → c == 37 ≡ false → option_list_of (char_event next (keep_first facts c d)) ∷ [] ≡ lists_kept facts next d (c ∷ [])
+  first_each c d e = rw e (by (leaves_out facts d) d)
     where
-      blank : (b : Bool) → option_list (char_event next (cond b None (Some 32))) ∷ [] ≡ cond b [] (out.Kept (record { c = 32; place = next }) ∷ []) ∷ []
+      blank : (b : Bool) → option_list_of (char_event next (cond b None (Some 32))) ∷ [] ≡ cond b [] (out.Kept (record { c = 32; place = next }) ∷ []) ∷ []
       blank true = refl
       blank false = refl
 
-      by : (b : Bool) (d : TokenKind) → option_list (char_event next (cond b None (cond (is_blank_kind d) (cond facts.space None (Some 32)) (Some c)))) ∷ []
+      by : (b : Bool) (d : TokenKind) → option_list_of (char_event next (cond b None (cond (is_space d) (cond facts.space None (Some 32)) (Some c)))) ∷ []
           ≡ cond b ([] ∷ []) (cond (is_space d) (cond facts.space [] (out.Kept (record { c = 32; place = next }) ∷ []) ∷ []) ((out.Kept (record { c = c; place = next }) ∷ []) ∷ []))
       by true d = refl
       by false kind.Blank = blank facts.space
       by false _ = refl
 
-  each_goes : (mode : TokenState) (more : List ℕ) (c : ℕ) → is_plain mode ≡ false → EachGo (each_held mode more ++ option_list (char_event (past next more) (keep facts mode c)) ∷ []) more c (next_step mode c)
+  each_goes : (mode : TokenState) (more : List ℕ) (c : ℕ) → is_plain mode ≡ false → EachGo (each_held mode more ++ option_list_of (char_event (past next more) (keep facts mode c)) ∷ []) more c (next_step mode c)
   each_goes Plain more c e = absurd (cc)
   each_goes Comment more c e = nothing_more more c
   each_goes mode more c e = within mode refl
     where
-      within : (m : TokenState) → is_within m ≡ true → EachGo (each_held m more ++ option_list (char_event (past next more) (keep facts m c)) ∷ []) more c (next_step m c)
+      within : (m : TokenState) → is_within m ≡ true → EachGo (each_held m more ++ option_list_of (char_event (past next more) (keep facts m c)) ∷ []) more c (next_step m c)
       within m w =
           rw (keep_within facts m c w, each_within m more w)
           (each_on (next_step m c) (each_kept next more ++ (out.Kept (record { c = c; place = past next more }) ∷ []) ∷ []) more c (within_kept m c w) (each_more next more c))
@@ -239,7 +227,7 @@ module _ (read : List ℕ) (facts : TextFacts) (place next : Place) where
 
 module _ (facts : TextFacts) (place next : Place) where
   abbrev ListsBegins : ℕ → Type 0
-  ListsBegins c = ListsGo [] facts place next ((option_list (finding_event place (early_at facts Plain c)) ++ option_list (char_event next (keep_first facts c (single c)))) ∷ []) [] c (first_step c)
+  ListsBegins c = ListsGo [] facts place next ((findings_there place (option_list_of (early_at facts Plain c)) ++ option_list_of (char_event next (keep_first facts c (single c)))) ∷ []) [] c (first_step c)
 
   lists_begin : (c : ℕ) → ListsBegins c
   lists_begin c =
@@ -247,11 +235,11 @@ module _ (facts : TextFacts) (place next : Place) where
       by_case 37 c ListsBegins refl (λ e37.
       by_case 60 c ListsBegins refl (λ e60.
       by_case 91 c ListsBegins (second facts.translated) (λ e91.
-      let f : with_first [] (option_list (char_event next (keep_first facts c (single c))) ∷ []) ≡ with_first [] (lists_kept facts next (single c) (c ∷ [])) =
+      let f : with_first [] (option_list_of (char_event next (keep_first facts c (single c))) ∷ []) ≡ with_first [] (lists_kept facts next (single c) (c ∷ [])) =
       ap (with_first []) (first_each [] facts place next c (single c) e37) in
       rw (e36, e37, e60, e91) (rw (single_no_translation c) (rw e37 at f))))))
     where
-      second : (b : Bool) → (option_list (finding_event place (cond b (Some W5) None)) ++ out.Kept (record { c = 91; place = next }) ∷ []) ∷ [] ≡ (cond b (out.Found (record { place = place; code = W5 }) ∷ []) [] ++ out.Kept (record { c = 91; place = next }) ∷ []) ∷ []
+      second : (b : Bool) → (findings_there place (option_list_of (cond b (Some W5) None)) ++ out.Kept (record { c = 91; place = next }) ∷ []) ∷ [] ≡ (cond b (out.Found (record { place = place; code = W5 }) ∷ []) [] ++ out.Kept (record { c = 91; place = next }) ∷ []) ∷ []
       second true = refl
       second false = refl
 
@@ -265,7 +253,7 @@ none_held mode read more e h = by read more (subst (λ (m : TokenState). Holds m
 
 module _ (read : List ℕ) (facts : TextFacts) (place next : Place) where
   abbrev pub events_read : TokenState → List ℕ → ℕ → List TextEvent
-  events_read mode more c = option_list (finding_event place (early_at facts mode c)) ++ option_list (char_event (past next more) (keep facts mode c))
+  events_read mode more c = findings_there place (option_list_of (early_at facts mode c)) ++ option_list_of (char_event (past next more) (keep facts mode c))
 
   -- a character more
   pub lists_goes : (mode : TokenState) (more : List ℕ) (c : ℕ) → Holds mode (read ++ more) → ListsGo read facts place next (lists_held read facts place next mode more ++ events_read mode more c ∷ []) more c (next_step mode c)
@@ -280,8 +268,8 @@ module _ (read : List ℕ) (facts : TextFacts) (place next : Place) where
 
       other : (m : TokenState) → is_plain m ≡ false → Holds m (read ++ more) → ListsGo read facts place next (lists_held read facts place next m more ++ events_read m more c ∷ []) more c (next_step m c)
       other m e h =
-          rw (none_early m e, lists_more read facts place next m more (option_list (char_event (past next more) (keep facts m c))) e h)
-          (lists_both read facts place next (next_step m c) (in_translation m) (each_held read facts place next m more ++ option_list (char_event (past next more) (keep facts m c)) ∷ []) more c
+          rw (none_early m e, lists_more read facts place next m more (option_list_of (char_event (past next more) (keep facts m c))) e h)
+          (lists_both read facts place next (next_step m c) (in_translation m) (each_held read facts place next m more ++ option_list_of (char_event (past next more) (keep facts m c)) ∷ []) more c
           (events_goes m c e) (each_goes read facts place next m more c e))
 
 -- ---- a token that its last character ends
@@ -299,7 +287,7 @@ but_last_is x (y ∷ ys) (h ∷ hs) c e =
 pub not_lone : (mode : TokenState) (held : List ℕ) (c : ℕ) (k : Token) (so : TagEffect) → Holds mode held → next_step mode c ≡ Ends k.kind so → spelling k ≡ held ++ c ∷ [] → is_lone k ≡ false
 not_lone Plain held c k so h e f = by (c == 36) refl e
   where
-    by : (b : Bool) → c == 36 ≡ b → cond b (Stays Dollar) (cond (c == 37) (Stays Comment) (cond (c == 60) (Stays (Tag (record { closing = false; word = word.Start }))) (cond (c == 91) (Stays Translation) (Ends (single c) Other)))) ≡ Ends k.kind so → is_lone k ≡ false
+    by : (b : Bool) → c == 36 ≡ b → cond b (Stays Dollar) (cond (c == 37) (Stays Comment) (cond (c == 60) (Stays (Tag [])) (cond (c == 91) (Stays Translation) (Ends (single c) Other)))) ≡ Ends k.kind so → is_lone k ≡ false
     by true g i = absurd (cc)
     by false g i = ap (is_text (codes "$")) (f ∙ ap (λ (x : List ℕ). x ++ c ∷ []) h) ∙ rw g refl
 not_lone mode held c k so h e f = other mode refl h

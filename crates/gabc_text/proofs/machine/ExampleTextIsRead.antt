@@ -2,111 +2,25 @@
 use Rattle.std.proofs.Common.{◌≡◌, ℕ, ◌-◌, ◌<◌, ◌≤◌, ◌==◌, nat_lt, List, [], ◌∷◌, ◌++◌, Bool, true, false, cond, refl, ap, ◌∙◌, ne_eqb, length, min, take, Some, arith, codes}
 use Rattle.std.proofs.lemmas.Bool.{ltb-true, ltb-false}
 use Rattle.std.proofs.Math.Bool.{and-false}
-use Rattle.gabc_text.specs.declared.token.TagEffect.{TagEffect}
 use Rattle.gabc_text.specs.declared.token.RawKind.{RawKind}
 use Rattle.gabc_text.specs.declared.token.RawKind.TheVariants.{V, Sp, Alt}
-use Rattle.gabc_text.specs.declared.tag_name.TagWord.{TagWord}
-use Rattle.gabc_text.specs.declared.tag_name.TagWord.TheVariants as word
 use Rattle.gabc_text.specs.declared.token_state.TokenState.{TokenState}
 use Rattle.gabc_text.specs.declared.token_state.TokenState.TheVariants.{Plain, Dollar, Comment, Tag, Raw, Translation}
 use Rattle.gabc_text.specs.declared.token_state.Step.{Step}
 use Rattle.gabc_text.specs.declared.token_state.Step.TheVariants.{Stays, Ends}
 use Rattle.gabc_text.specs.declared.text_facts.TextFacts.{TextFacts}
-use Rattle.gabc_text.specs.declared.stage.Progress.{Progress}
+use Rattle.gabc_text.specs.declared.progress.Progress.{Progress}
 use Rattle.gabc_text.specs.declared.stage.TextStage.{TextStage}
 use Rattle.gabc_text.specs.declared.stage.TextEvent.{TextEvent}
-use Rattle.gabc_text.specs.Token.{ending_of, effect_in, tags}
+use Rattle.gabc_text.specs.Token.{ending_of}
 use Rattle.gabc_text.specs.machine.TokenState.{wanted_char, step_in_raw}
-use Rattle.gabc_text.specs.machine.TextStage.{option_list, char_event, events_of_step, stage_after_step, stage_past_char, push_stage, events_of_push}
-use Rattle.gabc_text.specs.ExampleTexts.{letters_of, stands_for}
+use Rattle.gabc_text.specs.Events.{option_list_of}
+use Rattle.gabc_text.specs.machine.TextStage.{char_event, events_of_step, stage_after_step, stage_past_char, push_stage, events_of_push}
+use Rattle.gabc_text.specs.ExampleTexts.{name_so_far, stands_for}
 use Rattle.gabc_text.proofs.machine.EventsStepByStep.{stepwise, stepwise_left}
-use Rattle.gabc_text.proofs.tokens.TokensByCharacter.{lacks}
 use Rattle.gabc_text.proofs.tokens.RawEndingIsMatched.{prefix_none}
-use Rattle.gabc_text.proofs.machine.TagNameByCharacter.{IsName, rest_all, rest_rows, sort_rest}
+use Rattle.gabc_text.proofs.machine.TagNameByCharacter.{is_name, name_lacks}
 use Rattle.gabc_text.proofs.machine.TokenStateByCharacter.{Holds, InRaw}
-
--- ---- the name of a tag
-
-sort_all : (s t : List ℕ) (rows : List (List ℕ × TagEffect)) → effect_in rows (s ++ t) ≡ effect_in (rest_all s rows) t
-sort_all [] t rows = refl
-sort_all (c ∷ s) t rows = sort_rest rows c (s ++ t) ∙ sort_all s t (rest_rows c rows)
-
-abbrev name_text : Bool → TagWord → List ℕ
-name_text closing w = cond closing (codes "/") [] ++ letters_of w
-
-is_name : (closing : Bool) (w : TagWord) → IsName (record { closing = closing; word = w }) (name_text closing w)
-is_name false word.Start t = sort_all (60 ∷ name_text false word.Start) t tags
-is_name false word.B t = sort_all (60 ∷ name_text false word.B) t tags
-is_name false word.C t = sort_all (60 ∷ name_text false word.C) t tags
-is_name false word.E t = sort_all (60 ∷ name_text false word.E) t tags
-is_name false word.Eu t = sort_all (60 ∷ name_text false word.Eu) t tags
-is_name false word.I t = sort_all (60 ∷ name_text false word.I) t tags
-is_name false word.S t = sort_all (60 ∷ name_text false word.S) t tags
-is_name false word.Sc t = sort_all (60 ∷ name_text false word.Sc) t tags
-is_name false word.Sp t = sort_all (60 ∷ name_text false word.Sp) t tags
-is_name false word.T t = sort_all (60 ∷ name_text false word.T) t tags
-is_name false word.Tt t = sort_all (60 ∷ name_text false word.Tt) t tags
-is_name false word.U t = sort_all (60 ∷ name_text false word.U) t tags
-is_name false word.Ul t = sort_all (60 ∷ name_text false word.Ul) t tags
-is_name false word.N t = sort_all (60 ∷ name_text false word.N) t tags
-is_name false word.Nl t = sort_all (60 ∷ name_text false word.Nl) t tags
-is_name false word.Nlb t = sort_all (60 ∷ name_text false word.Nlb) t tags
-is_name false word.Nlba t = sort_all (60 ∷ name_text false word.Nlba) t tags
-is_name false word.V t = sort_all (60 ∷ name_text false word.V) t tags
-is_name false word.A t = sort_all (60 ∷ name_text false word.A) t tags
-is_name false word.Al t = sort_all (60 ∷ name_text false word.Al) t tags
-is_name false word.Alt t = sort_all (60 ∷ name_text false word.Alt) t tags
-is_name false word.Other t = sort_all (60 ∷ name_text false word.Other) t tags
-is_name true word.Start t = sort_all (60 ∷ name_text true word.Start) t tags
-is_name true word.B t = sort_all (60 ∷ name_text true word.B) t tags
-is_name true word.C t = sort_all (60 ∷ name_text true word.C) t tags
-is_name true word.E t = sort_all (60 ∷ name_text true word.E) t tags
-is_name true word.Eu t = sort_all (60 ∷ name_text true word.Eu) t tags
-is_name true word.I t = sort_all (60 ∷ name_text true word.I) t tags
-is_name true word.S t = sort_all (60 ∷ name_text true word.S) t tags
-is_name true word.Sc t = sort_all (60 ∷ name_text true word.Sc) t tags
-is_name true word.Sp t = sort_all (60 ∷ name_text true word.Sp) t tags
-is_name true word.T t = sort_all (60 ∷ name_text true word.T) t tags
-is_name true word.Tt t = sort_all (60 ∷ name_text true word.Tt) t tags
-is_name true word.U t = sort_all (60 ∷ name_text true word.U) t tags
-is_name true word.Ul t = sort_all (60 ∷ name_text true word.Ul) t tags
-is_name true word.N t = sort_all (60 ∷ name_text true word.N) t tags
-is_name true word.Nl t = sort_all (60 ∷ name_text true word.Nl) t tags
-is_name true word.Nlb t = sort_all (60 ∷ name_text true word.Nlb) t tags
-is_name true word.Nlba t = sort_all (60 ∷ name_text true word.Nlba) t tags
-is_name true word.V t = sort_all (60 ∷ name_text true word.V) t tags
-is_name true word.A t = sort_all (60 ∷ name_text true word.A) t tags
-is_name true word.Al t = sort_all (60 ∷ name_text true word.Al) t tags
-is_name true word.Alt t = sort_all (60 ∷ name_text true word.Alt) t tags
-is_name true word.Other t = sort_all (60 ∷ name_text true word.Other) t tags
-
-letters_lack : (w : TagWord) → lacks 62 (letters_of w) ≡ true
-letters_lack word.Start = refl
-letters_lack word.B = refl
-letters_lack word.C = refl
-letters_lack word.E = refl
-letters_lack word.Eu = refl
-letters_lack word.I = refl
-letters_lack word.S = refl
-letters_lack word.Sc = refl
-letters_lack word.Sp = refl
-letters_lack word.T = refl
-letters_lack word.Tt = refl
-letters_lack word.U = refl
-letters_lack word.Ul = refl
-letters_lack word.N = refl
-letters_lack word.Nl = refl
-letters_lack word.Nlb = refl
-letters_lack word.Nlba = refl
-letters_lack word.V = refl
-letters_lack word.A = refl
-letters_lack word.Al = refl
-letters_lack word.Alt = refl
-letters_lack word.Other = refl
-
-name_lacks : (closing : Bool) (w : TagWord) → lacks 62 (name_text closing w) ≡ true
-name_lacks true w = letters_lack w
-name_lacks false w = letters_lack w
 
 -- ---- a raw part
 
@@ -157,7 +71,7 @@ pub holds_least : (mode : TokenState) → Holds (least mode) (stands_for mode)
 holds_least Plain = refl
 holds_least Dollar = refl
 holds_least Comment = record { s = []; held_is = refl; open_still = refl }
-holds_least (Tag name) = record { s = name_text name.closing name.word; held_is = refl; open_still = name_lacks name.closing name.word; named = is_name name.closing name.word }
+holds_least (Tag name) = record { s = name_so_far name; held_is = refl; open_still = name_lacks name; named = is_name name }
 holds_least (Raw raw m) = holds_raw raw m
 holds_least Translation = record { s = []; held_is = refl; open_still = refl }
 
@@ -187,7 +101,7 @@ staged mode facts progress = record { mode = mode; facts = facts; progress = pro
 
 module _ (facts : TextFacts) (progress : Progress) (raw : RawKind) (m n : ℕ) (same : (c : ℕ) → step_in_raw raw m c ≡ step_in_raw raw n c) where
   same_outs : (c : ℕ) → events_of_push (staged (Raw raw m) facts progress) c ≡ events_of_push (staged (Raw raw n) facts progress) c
-  same_outs c = rw (and-false (c == 40), same c) (ap (λ (x : List TextEvent). option_list (char_event progress.next (Some c)) ++ x) (by (step_in_raw raw n c)))
+  same_outs c = rw (and-false (c == 40), same c) (ap (λ (x : List TextEvent). option_list_of (char_event progress.next (Some c)) ++ x) (by (step_in_raw raw n c)))
     where
       by : (w : Step) → events_of_step (stage_past_char (staged (Raw raw m) facts progress) c) w progress.kept ≡ events_of_step (stage_past_char (staged (Raw raw n) facts progress) c) w progress.kept
       by (Stays next) = refl

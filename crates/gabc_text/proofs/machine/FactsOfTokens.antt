@@ -11,7 +11,7 @@ use Rattle.gabc_text.specs.Events.{styles_of}
 use Rattle.gabc_text.specs.Token.{Token, spelling, effect_of}
 use Rattle.gabc_text.specs.View.{effect, effect_as, is_open, is_open_after, has_word, follows_blank, follows_space, has_begin, has_end, has_translation, starts_word, is_left_out, piece_kind, is_word_kind, is_space, is_begin, is_end, is_translation}
 use Rattle.gabc_text.specs.TextFacts.{has_style}
-use Rattle.gabc_text.specs.machine.TextFacts.{is_left_out_by, facts_after, after_tag}
+use Rattle.gabc_text.specs.machine.TextFacts.{facts_after, after_tag}
 
 abbrev pub facts_of : List Token → TextFacts
 facts_of before = record {
@@ -33,13 +33,6 @@ has_of before I = refl
 has_of before Sc = refl
 has_of before Tt = refl
 has_of before Ul = refl
-
-pub left_out_of : (before : List Token) (k : TokenKind) → is_left_out_by (facts_of before) k ≡ is_left_out before k
-left_out_of before Comment = refl
-left_out_of before Stray = refl
-left_out_of before Begin = refl
-left_out_of before End = refl
-left_out_of before _ = refl
 
 -- what is seen after a token of this kind and sort
 abbrev grown : List Token → TokenKind → TagEffect → TextFacts

@@ -1,5 +1,5 @@
 -- What was seen past some tokens, and where they leave the machine, one token at a time.
-use Rattle.std.proofs.Common.{◌≡◌, ℕ, List, [], ◌∷◌, ◌++◌, false, not, cond, ◌||◌, ◌&&◌, refl, sym, ap, ◌∙◌, drop, length, Option, Some, None, is_some}
+use Rattle.std.proofs.Common.{◌≡◌, ℕ, List, [], ◌∷◌, ◌++◌, false, not, ◌||◌, ◌&&◌, refl, sym, ap, ◌∙◌, drop, length, is_some}
 use Rattle.std.specs.Char.{len_utf8}
 use Rattle.gabc_places.specs.declared.place.Place.{Place}
 use Rattle.gabc_text.specs.declared.styles.Style.TheVariants.{B, C, E, I, Sc, Tt, Ul}
@@ -9,17 +9,15 @@ use Rattle.gabc_text.specs.declared.token.TokenKind.TheVariants as kind
 use Rattle.gabc_text.specs.declared.token.TagEffect.{TagEffect}
 use Rattle.gabc_text.specs.declared.token.TagEffect.TheVariants.{Opens, Closes, Mark, Begins, Other}
 use Rattle.gabc_text.specs.declared.token_state.TokenState.TheVariants.{Plain}
-use Rattle.gabc_text.specs.declared.view.PieceKind.{PieceKind}
-use Rattle.gabc_text.specs.declared.view.PieceKind.TheVariants as piece
-use Rattle.gabc_text.specs.declared.stage.Progress.{Progress}
+use Rattle.gabc_text.specs.declared.progress.Progress.{Progress}
 use Rattle.gabc_text.specs.declared.stage.TextStage.{TextStage}
 use Rattle.gabc_text.specs.Token.{Token, spelling, effect_of}
 use Rattle.gabc_text.specs.View.{effect, effect_as, is_open_after, has_word, has_begin, has_translation, piece_kind, is_word_kind, is_space, is_begin, is_end, is_translation}
-use Rattle.gabc_text.specs.machine.TextFacts.{facts_after, after_tag, piece_kind_at}
+use Rattle.gabc_text.specs.machine.TextFacts.{facts_after, after_tag}
 use Rattle.gabc_text.specs.TextStage.{count_plus, place_after_char}
-use Rattle.gabc_text.specs.machine.TextStage.{progress_after, count_with, blank_waiting, begin_after, end_after_token}
+use Rattle.gabc_text.specs.machine.TextStage.{progress_after}
 use Rattle.gabc_text.specs.FactsPast.{is_open_past, blank_past, begun_past, ended_past, space_past, starts_past, facts_past, past, bytes_past, leaves_out}
-use Rattle.gabc_text.specs.EventsLeft.{piece_by, kept_by, kept_behind, facts_at, read_at, ahead_at, text_since, kept_since, bytes_at, progress_at, waiting_by}
+use Rattle.gabc_text.specs.EventsLeft.{kept_by, kept_behind, facts_at, read_at, ahead_at, text_since, kept_since, progress_at}
 
 -- ---- what was seen
 
@@ -99,22 +97,6 @@ pub bytes_past_append : (n : ℕ) (s t : List ℕ) → bytes_past n (s ++ t) ≡
 bytes_past_append n [] t = refl
 bytes_past_append n (c ∷ s) t = bytes_past_append (count_plus n (len_utf8 c)) s t
 
-pieces_same : (progress : Progress) (o : Option PieceKind) → count_with progress o ≡ cond (is_some o) (count_plus progress.pieces 1) progress.pieces
-pieces_same progress None = refl
-pieces_same progress (Some k) = refl
-
-begin_same : (facts : TextFacts) (progress : Progress) (k : TokenKind) → begin_after facts progress k ≡ cond (is_begin k && not facts.begun) (Some progress.pieces) progress.begin
-begin_same facts progress kind.Begin = refl
-begin_same facts progress _ = refl
-
-end_same : (facts : TextFacts) (progress : Progress) (k : TokenKind) → end_after_token facts progress k ≡ cond (is_end k && (facts.begun && not facts.ended)) (Some progress.pieces) progress.end
-end_same facts progress kind.End = refl
-end_same facts progress _ = refl
-
-pub piece_is : (facts : TextFacts) (k : TokenKind) (so : TagEffect) → piece_by facts k so ≡ piece_kind_at facts k so
-piece_is facts kind.Blank so = refl
-piece_is facts _ so = refl
-
 -- behind a token, which is not counted yet
 abbrev pub behind : TextFacts → Progress → TokenKind → List ℕ → Progress
 behind facts progress k cs = record progress { next = past progress.next cs; kept = kept_behind facts progress k cs }
@@ -124,29 +106,12 @@ abbrev pub spot_after : TextFacts → Progress → Token → List ℕ → Progre
 spot_after facts progress k cs = progress_after facts (behind facts progress k.kind cs) k.kind (effect k) (past progress.next cs)
 
 module _ (read : List ℕ) (s : TextStage) where
-  blank_same : (before : List Token) (k : Token) (progress : Progress) (o : Option PieceKind) → progress.start ≡ (progress_at read s before).start → progress.kept ≡ bytes_at read s (k ∷ before) → progress.blank ≡ (progress_at read s before).blank
-      → blank_waiting (facts_at read s before) progress o ≡ waiting_by read s before k o (progress_at read s before).blank
-  blank_same before k progress None e f g = g
-  blank_same before k progress (Some piece.Blank) e f g = rw (e, f) refl
-  blank_same before k progress (Some piece.Char) e f g = refl
-  blank_same before k progress (Some piece.Raw) e f g = refl
-  blank_same before k progress (Some piece.Mark) e f g = refl
-  blank_same before k progress (Some piece.Tag) e f g = refl
-
   -- one token more
   pub progress_step : (before : List Token) (k : Token) → progress_at read s (k ∷ before) ≡ spot_after (facts_at read s before) (progress_at read s before) k (ahead_at read s before k)
   progress_step before k =
       let next = past_append s.progress.next (text_since read s before) (ahead_at read s before k) in
       let kept = bytes_past_append s.progress.kept (kept_since read s before) (kept_by (facts_at read s before) k.kind (ahead_at read s before k)) in
-      rw (
-        piece_is (facts_at read s before) k.kind (effect k),
-        pieces_same (behind (facts_at read s before) (progress_at read s before) k.kind (ahead_at read s before k)) (piece_kind_at (facts_at read s before) k.kind (effect k)),
-        begin_same (facts_at read s before) (behind (facts_at read s before) (progress_at read s before) k.kind (ahead_at read s before k)) k.kind,
-        end_same (facts_at read s before) (behind (facts_at read s before) (progress_at read s before) k.kind (ahead_at read s before k)) k.kind,
-        blank_same before k (behind (facts_at read s before) (progress_at read s before) k.kind (ahead_at read s before k)) (piece_kind_at (facts_at read s before) k.kind (effect k)) refl (sym kept) refl,
-        next,
-        kept,
-      ) refl
+      rw (next, kept) refl
 
   -- the state past a token
   abbrev pub past_token : Token → TextStage

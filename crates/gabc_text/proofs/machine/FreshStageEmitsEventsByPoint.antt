@@ -15,7 +15,7 @@ use Rattle.gabc_text.specs.declared.token.TagEffect.TheVariants.{Opens, Closes, 
 use Rattle.gabc_text.specs.declared.view.PieceKind.{PieceKind}
 use Rattle.gabc_text.specs.declared.view.PieceKind.TheVariants as piece
 use Rattle.gabc_text.specs.declared.text_facts.TextFacts.{TextFacts}
-use Rattle.gabc_text.specs.declared.stage.Progress.{Progress}
+use Rattle.gabc_text.specs.declared.progress.Progress.{Progress}
 use Rattle.gabc_text.specs.declared.stage.TextPart.{TextPart}
 use Rattle.gabc_text.specs.declared.stage.TextPart.TheVariants as part
 use Rattle.gabc_text.specs.declared.stage.TextEnd.{TextEnd}
@@ -23,14 +23,14 @@ use Rattle.gabc_text.specs.declared.stage.TextEnd.TheVariants as ending
 use Rattle.gabc_text.specs.declared.stage.TextEvent.{TextEvent}
 use Rattle.gabc_text.specs.declared.stage.TextEvent.TheVariants as out
 use Rattle.gabc_text.specs.Token.{Token, spelling, tokens, is_text}
-use Rattle.gabc_text.specs.View.{along, effect, kind_of, late_codes, is_open, all_styles, has_begin, has_end, found_at, findings_at_end, text_of, place_of, bytes_of, kept_at, count_pieces, early_codes, is_cut, is_open_kind, is_space, follows_space, has_translation, is_left_out}
+use Rattle.gabc_text.specs.View.{along, effect, kind_of, late_codes, is_open, all_styles, has_begin, has_end, found_at, findings_at_end, text_of, place_of, bytes_of, kept_at, count_pieces, early_codes, is_cut, is_open_kind, follows_space, has_translation, is_left_out}
 use Rattle.gabc_text.specs.Events as Outs
-use Rattle.gabc_text.specs.Events.{parts_at, centre_of, option_list_of, CountsFit, events_by_point, end_events, token_events, lists_at, lists_end, owed_events, is_lone, with_first, with_last, no_events_each, kept_each, kept_lists_by, finding_events, kept_of, last_at, but_last, end_after, end_by_rest, after_tokens}
+use Rattle.gabc_text.specs.Events.{parts_at, centre_of, kept_lists_as, option_list_of, CountsFit, events_by_point, end_events, token_events, lists_at, lists_end, owed_events, is_lone, with_first, with_last, no_events_each, kept_each, kept_lists_by, finding_events, kept_of, last_at, but_last, end_after, end_by_rest, after_tokens}
 use Rattle.gabc_text.specs.machine.TextFacts.{facts_after}
 use Rattle.gabc_text.specs.TextFacts.{no_facts}
 use Rattle.gabc_text.specs.TextStage.{fresh_stage, count_plus}
 use Rattle.gabc_text.specs.machine.TextStage.{progress_after}
-use Rattle.gabc_text.specs.FactsPast.{facts_past, past, bytes_past, leaves_out}
+use Rattle.gabc_text.specs.FactsPast.{facts_past, past, bytes_past}
 use Rattle.gabc_text.specs.EventsLeft.{parts_by, codes_by, kept_behind, findings_there, codes_last, kept_by, each_kept, lists_kept, last_by, token_events_by, early_events_by, end_events_by, facts_at, progress_at, read_at, ahead_at, owed_events_at, token_events_at, end_at_text, lists_past, lists_last, events_left, characters_left}
 use Rattle.gabc_text.proofs.machine.FactsOfTokens.{facts_of, facts_more, has_of}
 use Rattle.gabc_text.proofs.tokens.CountsOfTexts.{bytes_append, place_append, up_is, later_is, place_small, kept_small, kept_at_small, pieces_small, some_bytes}
@@ -78,15 +78,8 @@ pub facts_fresh : (before : List Token) → facts_past no_facts before ≡ facts
 facts_fresh [] = refl
 facts_fresh (k ∷ before) = facts_step no_facts before k ∙ ap (λ (x : TextFacts). facts_after x k.kind (effect k)) (facts_fresh before) ∙ facts_more before k
 
-left_out_same : (before : List Token) (k : TokenKind) → leaves_out (facts_of before) k ≡ is_left_out before k
-left_out_same before kind.Comment = refl
-left_out_same before kind.Stray = refl
-left_out_same before kind.Begin = refl
-left_out_same before kind.End = refl
-left_out_same before _ = refl
-
 kept_same : (before : List Token) (k : Token) → kept_by (facts_of before) k.kind (spelling k) ≡ kept_at before k
-kept_same before k = ap (λ (b : Bool). cond b [] (cond (is_space k.kind) (cond (follows_space before) [] (32 ∷ [])) (spelling k))) (left_out_same before k.kind)
+kept_same before k = refl
 
 module _ (at : Place) (full : List ℕ) (fits : CountsFit at full) where
   -- the tokens before, and this text, are the whole
@@ -167,9 +160,6 @@ module _ (at : Place) (full : List ℕ) (fits : CountsFit at full) where
       by (Some piece.Blank) = refl
 
   codes_fresh : (before : List Token) (d : TokenKind) (so : TagEffect) → codes_by (facts_of before) d so ≡ late_codes before d so
-  codes_fresh before kind.Stray so = refl
-  codes_fresh before kind.Begin so = refl
-  codes_fresh before kind.End so = refl
   codes_fresh before kind.Tag (Opens r) = rw (has_of before r) refl
   codes_fresh before kind.Tag (Closes r) = rw (has_of before r) refl
   codes_fresh before kind.Tag Other = refl
@@ -212,8 +202,7 @@ module _ (at : Place) (full : List ℕ) (fits : CountsFit at full) where
 
   kept_fresh : (before : List Token) (k : Token) (y : List ℕ) → Behind before (spelling k ++ y) → lists_kept (facts_of before) (place_of at before) k.kind (spelling k) ≡ kept_lists_by at before k.kind (spelling k)
   kept_fresh before k y e =
-      ap (λ (b : Bool). cond b (no_events_each (spelling k)) (cond (is_space k.kind) (cond (follows_space before) [] (out.Kept (record { c = 32; place = place_of at before }) ∷ []) ∷ []) (each_kept (place_of at before) (spelling k)))) (left_out_same before k.kind)
-      ∙ ap (λ (x : List (List TextEvent)). cond (is_left_out before k.kind) (no_events_each (spelling k)) (cond (is_space k.kind) (cond (follows_space before) [] (out.Kept (record { c = 32; place = place_of at before }) ∷ []) ∷ []) x))
+      ap (kept_lists_as (is_left_out before k.kind) (follows_space before) k.kind (place_of at before) (spelling k))
       (each_small (place_of at before) (spelling k) (line_small before k y e) (column_small before k y e))
 
   lists_fresh : (before : List Token) (k : Token) (y : List ℕ) → Behind before (spelling k ++ y) → lists_past [] (fresh_stage at) before k ≡ lists_at at before k

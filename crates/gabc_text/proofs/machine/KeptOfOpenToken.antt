@@ -1,5 +1,5 @@
 -- Sorts and kinds of the tokens that a character ends, and what of a token that goes on is kept.
-use Rattle.std.proofs.Common.{◌≡◌, ℕ, ◌==◌, nat_lt, List, [], Bool, true, false, cond, refl, ap, ◌∙◌, subst, Some, None, codes}
+use Rattle.std.proofs.Common.{◌≡◌, ℕ, ◌==◌, nat_lt, List, [], Bool, true, false, cond, refl, ap, ◌∙◌, subst, Some, None, ◌∷◌, ◌++◌}
 use Rattle.gabc_text.specs.declared.text_facts.TextFacts.{TextFacts}
 use Rattle.gabc_text.specs.declared.token.TokenKind.{TokenKind}
 use Rattle.gabc_text.specs.declared.token.TokenKind.TheVariants as kind
@@ -9,11 +9,10 @@ use Rattle.gabc_text.specs.declared.token_state.TokenState.{TokenState}
 use Rattle.gabc_text.specs.declared.token_state.TokenState.TheVariants.{Plain, Dollar, Comment, Tag, Raw, Translation}
 use Rattle.gabc_text.specs.declared.token_state.Step.{Step}
 use Rattle.gabc_text.specs.declared.token_state.Step.TheVariants.{Stays, Ends}
-use Rattle.gabc_text.specs.Token.{is_blank, is_one_of, Token, spelling, is_special, single}
+use Rattle.gabc_text.specs.Token.{Token, spelling, is_special, single, effect_of}
 use Rattle.gabc_text.specs.View.{is_open_kind, effect, effect_as}
 use Rattle.gabc_text.specs.machine.TokenState.{settled_kind, next_step, first_step, keep, step_at_tag_end, wanted_char}
-use Rattle.gabc_text.specs.machine.TagPrefix.{effect_named}
-use Rattle.gabc_text.proofs.machine.TagNameByCharacter.{by_case}
+use Rattle.gabc_text.proofs.tokens.CasesOfCharacters.{by_case, single_kind}
 
 -- what is kept of a token that goes on
 abbrev pub kept_held : TokenState → List ℕ → List ℕ
@@ -91,7 +90,7 @@ pub within_kept : (mode : TokenState) (c : ℕ) → is_within mode ≡ true → 
 within_kept Plain c e = absurd (cc)
 within_kept Dollar c e = refl
 within_kept Comment c e = absurd (cc)
-within_kept (Tag name) c e = either_kept (c == 62) _ _ (tag_kept (effect_named name.closing name.word)) refl
+within_kept (Tag name) c e = either_kept (c == 62) _ _ (tag_kept (effect_of (60 ∷ name ++ 62 ∷ []))) refl
 within_kept (Raw raw m) c e =
     either_kept (c == wanted_char raw m) _ _
     (either_kept (c == 62) _ _ refl (either_kept (nat_lt m 5) _ _ refl refl))
@@ -115,14 +114,7 @@ begin_ends c =
     λ k so e. let f = rw (e36, e37, e60, e91) at e in ((let g : k ≡ single c = cc in g), e37)))))
 
 pub single_uncut : (c : ℕ) → is_open_kind (single c) ≡ false
-single_uncut c = by (is_blank c) (is_one_of (codes ")]>") c) (c == 123) (c == 125)
-  where
-    by : (a b d e : Bool) → is_open_kind (cond a kind.Blank (cond b kind.Stray (cond d kind.Begin (cond e kind.End kind.Letter)))) ≡ false
-    by true b d e = refl
-    by false true d e = refl
-    by false false true e = refl
-    by false false false true = refl
-    by false false false false = refl
+single_uncut c = single_kind (λ k. is_open_kind k ≡ false) refl refl refl refl refl c
 
 whole_uncut : (k : TokenKind) → is_kept_whole k ≡ true → is_open_kind k ≡ false
 whole_uncut kind.OpenTag e = absurd (cc)

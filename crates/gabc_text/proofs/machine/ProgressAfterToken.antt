@@ -8,12 +8,12 @@ use Rattle.gabc_text.specs.declared.token.TagEffect.TheVariants.{Opens, Closes, 
 use Rattle.gabc_text.specs.declared.view.PieceKind.{PieceKind}
 use Rattle.gabc_text.specs.declared.view.PieceKind.TheVariants as piece
 use Rattle.gabc_text.specs.declared.view.Piece.{Piece}
-use Rattle.gabc_text.specs.declared.stage.Progress.{Progress}
+use Rattle.gabc_text.specs.declared.progress.Progress.{Progress}
 use Rattle.gabc_text.specs.Token.{Token}
-use Rattle.gabc_text.specs.View.{effect, piece_kind, is_space, has_word, follows_blank, has_begin, has_end, place_of, bytes_of, begin_of, end_of, count_pieces, piece_of, PieceFacts, is_begin, is_end, open_styles}
+use Rattle.gabc_text.specs.View.{effect, piece_kind, is_space, has_word, follows_blank, place_of, bytes_of, begin_of, end_of, count_pieces, piece_of, PieceFacts, open_styles}
 use Rattle.gabc_text.specs.Events.{kept_of, piece_at, waiting_blank, is_blank_at}
-use Rattle.gabc_text.specs.machine.TextStage.{progress_after, count_with, waiting_piece, begin_after, end_after_token, blank_waiting}
-use Rattle.gabc_text.specs.machine.TextFacts.{piece_kind_at}
+use Rattle.gabc_text.specs.EventsLeft.{piece_by, piece_there, count_behind, waiting_behind}
+use Rattle.gabc_text.specs.machine.TextStage.{progress_after}
 use Rattle.gabc_text.proofs.machine.FactsOfTokens.{facts_of}
 use Rattle.gabc_text.proofs.tokens.CountsOfTexts.{up_is}
 
@@ -40,7 +40,7 @@ module _ (at : Place) (before : List Token) (k : Token) (p : Place) (small : cou
   facts_here d (Some q) = piece_of before k (Some q)
   facts_here d None = cond (is_space d && has_word before && not (follows_blank before)) (record { kind = piece.Blank; styles = open_styles before; text = [] } ∷ []) []
 
-  pieces_emitted : (d : TokenKind) (s : TagEffect) → count_with spot_there (piece_kind_at (facts_of before) d s) ≡ count_pieces before + length (facts_here d (piece_kind d s))
+  pieces_emitted : (d : TokenKind) (s : TagEffect) → count_behind (count_pieces before) (piece_by (facts_of before) d s) ≡ count_pieces before + length (facts_here d (piece_kind d s))
   pieces_emitted kind.Letter s = up_is (count_pieces before) 1 small
   pieces_emitted kind.Raw s = up_is (count_pieces before) 1 small
   pieces_emitted kind.Tag Mark = up_is (count_pieces before) 1 small
@@ -50,7 +50,7 @@ module _ (at : Place) (before : List Token) (k : Token) (p : Place) (small : cou
   pieces_emitted kind.Tag (Begins r) = omega arith
   pieces_emitted kind.Blank s = by (has_word before && not (follows_blank before))
     where
-      by : (b : Bool) → count_with spot_there (cond b (Some piece.Blank) None) ≡ count_pieces before + length {A = PieceFacts} (cond b (record { kind = piece.Blank; styles = open_styles before; text = [] } ∷ []) [])
+      by : (b : Bool) → count_behind (count_pieces before) (cond b (Some piece.Blank) None) ≡ count_pieces before + length {A = PieceFacts} (cond b (record { kind = piece.Blank; styles = open_styles before; text = [] } ∷ []) [])
       by true = up_is (count_pieces before) 1 small
       by false = omega arith
   pieces_emitted _ s = omega arith
@@ -59,7 +59,7 @@ module _ (at : Place) (before : List Token) (k : Token) (p : Place) (small : cou
   waiting_here d (Some q) was = None
   waiting_here d None was = cond (is_blank_at before d) (Some (piece_at before k piece.Blank)) was
 
-  blank_emitted : (d : TokenKind) (s : TagEffect) → waiting_piece (facts_of before) spot_there d s ≡ waiting_here d (piece_kind d s) (waiting_blank before)
+  blank_emitted : (d : TokenKind) (s : TagEffect) → waiting_behind (piece_there (facts_of before) spot_there piece.Blank spot_there.start spot_there.kept) (waiting_blank before) (piece_by (facts_of before) d s) ≡ waiting_here d (piece_kind d s) (waiting_blank before)
   blank_emitted kind.Letter s = refl
   blank_emitted kind.Raw s = refl
   blank_emitted kind.Tag Mark = refl
@@ -69,21 +69,13 @@ module _ (at : Place) (before : List Token) (k : Token) (p : Place) (small : cou
   blank_emitted kind.Tag (Begins r) = refl
   blank_emitted kind.Blank s = by (has_word before && not (follows_blank before))
     where
-      by : (b : Bool) → blank_waiting (facts_of before) spot_there (cond b (Some piece.Blank) None) ≡ cond b (Some (piece_at before k piece.Blank)) (waiting_blank before)
+      by : (b : Bool) → waiting_behind (piece_there (facts_of before) spot_there piece.Blank spot_there.start spot_there.kept) (waiting_blank before) (cond b (Some piece.Blank) None) ≡ cond b (Some (piece_at before k piece.Blank)) (waiting_blank before)
       by true = refl
       by false = refl
   blank_emitted _ s = refl
-
-  begin_emitted : (d : TokenKind) → begin_after (facts_of before) spot_there d ≡ cond (is_begin d && not (has_begin before)) (Some (count_pieces before)) (begin_of before)
-  begin_emitted kind.Begin = refl
-  begin_emitted _ = refl
-
-  end_emitted : (d : TokenKind) → end_after_token (facts_of before) spot_there d ≡ cond (is_end d && (has_begin before && not (has_end before))) (Some (count_pieces before)) (end_of before)
-  end_emitted kind.End = refl
-  end_emitted _ = refl
 
   -- where the machine stands after a token
   pub spot_emitted : (so : TagEffect) (next : Place) → effect k ≡ so → next ≡ place_of at (k ∷ before)
       → progress_after (facts_of before) spot_there k.kind so next ≡ progress_of at (k ∷ before) p (bytes_of (kept_of (k ∷ before)))
   spot_emitted so next e f =
-      rw (← e, f, pieces_emitted k.kind (effect k), blank_emitted k.kind (effect k), begin_emitted k.kind, end_emitted k.kind) refl
+      rw (← e, f, pieces_emitted k.kind (effect k), blank_emitted k.kind (effect k)) refl

@@ -1,216 +1,145 @@
--- A tag's name as its characters come: which rows of the table go on with what was read.
-use Rattle.std.proofs.Common.{◌≡◌, ℕ, List, [], ◌∷◌, ◌++◌, Bool, true, false, not, cond, ◌&&◌, ◌==◌, refl, sym, ap, ◌∙◌, subst, codes, append_assoc}
-use Rattle.std.proofs.lemmas.Bool.{eqb-true}
+-- A tag's name as its characters come: its first ones show what the tag does.
+use Rattle.std.proofs.Common.{◌≡◌, ℕ, List, [], ◌∷◌, ◌++◌, length, map, nat_lt, Bool, true, false, not, cond, ◌&&◌, ◌||◌, ◌==◌, refl, sym, ap, ◌∙◌, arith, append_assoc, append-nil, length-append, ne_eqb, codes}
+use Rattle.std.specs.List.{list_all, zip}
+use Rattle.std.proofs.lemmas.Bool.{eqb-true, eqb-false, ltb-false, le-ltb}
 use Rattle.gabc_text.specs.declared.token.TagEffect.{TagEffect}
-use Rattle.gabc_text.specs.declared.tag_name.TagPrefix.{TagPrefix}
-use Rattle.gabc_text.specs.declared.tag_name.TagWord.{TagWord}
-use Rattle.gabc_text.specs.declared.tag_name.TagWord.TheVariants.{Start, B, C, E, Eu, I, S, Sc, Sp, T, Tt, U, Ul, N, Nl, Nlb, Nlba, V, A, Al, Alt, Other}
-use Rattle.gabc_text.specs.Token.{tags, is_text, effect_in, effect_of}
-use Rattle.gabc_text.specs.machine.TagPrefix.{next_word, next_name, is_start, effect_named}
+use Rattle.gabc_text.specs.declared.token.TagEffect.TheVariants.{Other}
+use Rattle.gabc_text.specs.declared.tags.TheConstants.{KEPT}
+use Rattle.gabc_text.specs.Token.{tag_names, is_text, is_one_of, effect_in, effect_of}
+use Rattle.gabc_text.specs.machine.TagPrefix.{next_name}
+use Rattle.gabc_text.specs.ExampleTexts.{name_so_far}
+use Rattle.gabc_text.proofs.tokens.CasesOfCharacters.{and_both}
+use Rattle.gabc_text.proofs.tokens.TokensByCharacter.{lacks}
 
--- the rows that begin with c, without it
-abbrev pub rest_row : ℕ → List ℕ → TagEffect → List (List ℕ × TagEffect) → List (List ℕ × TagEffect)
-rest_row c [] s rows = rows
-rest_row c (d ∷ t) s rows = cond (c == d) ((t, s) ∷ rows) rows
+abbrev pub Rows : Type 0
+Rows = List (List ℕ × TagEffect)
 
-abbrev pub rest_rows : ℕ → List (List ℕ × TagEffect) → List (List ℕ × TagEffect)
-rest_rows c [] = []
-rest_rows c (row ∷ rows) = rest_row c row.0 row.1 (rest_rows c rows)
+-- ---- a tag by its name
 
-abbrev pub rest_all : List ℕ → List (List ℕ × TagEffect) → List (List ℕ × TagEffect)
-rest_all [] rows = rows
-rest_all (c ∷ t) rows = rest_all t (rest_rows c rows)
-
-one_row : (c : ℕ) (d : ℕ) (r : List ℕ) (s : TagEffect) (t : List ℕ) (rows others : List (List ℕ × TagEffect)) → effect_in rows (c ∷ t) ≡ effect_in others t
-    → cond (is_text (d ∷ r) (c ∷ t)) s (effect_in rows (c ∷ t)) ≡ effect_in (cond (c == d) ((r, s) ∷ others) others) t
-one_row c d r s t rows others e = by (c == d)
+same_ends : (r s : List ℕ) → is_text (r ++ 62 ∷ []) (s ++ 62 ∷ []) ≡ is_text r s
+same_ends [] [] = refl
+same_ends [] (d ∷ []) = no (d == 62)
   where
-    by : (b : Bool) → cond (b && is_text r t) s (effect_in rows (c ∷ t)) ≡ effect_in (cond b ((r, s) ∷ others) others) t
-    by true = rw e refl
-    by false = e
-
-pub sort_rest : (rows : List (List ℕ × TagEffect)) (c : ℕ) (t : List ℕ) → effect_in rows (c ∷ t) ≡ effect_in (rest_rows c rows) t
-sort_rest [] c t = refl
-sort_rest (row ∷ rows) c t = by row.0 (sort_rest rows c t)
+    no : (b : Bool) → (b && false) ≡ false
+    no true = refl
+    no false = refl
+same_ends [] (d ∷ e ∷ s) = no (d == 62)
   where
-    by : (r : List ℕ) → effect_in rows (c ∷ t) ≡ effect_in (rest_rows c rows) t
-        → cond (is_text r (c ∷ t)) row.1 (effect_in rows (c ∷ t)) ≡ effect_in (rest_row c r row.1 (rest_rows c rows)) t
-    by [] e = e
-    by (d ∷ r) e = one_row c d r row.1 t rows (rest_rows c rows) e
-
-abbrev pub letters : TagWord → List ℕ
-letters Start = []
-letters B = codes "b"
-letters C = codes "c"
-letters E = codes "e"
-letters Eu = codes "eu"
-letters I = codes "i"
-letters S = codes "s"
-letters Sc = codes "sc"
-letters Sp = codes "sp"
-letters T = codes "t"
-letters Tt = codes "tt"
-letters U = codes "u"
-letters Ul = codes "ul"
-letters N = codes "n"
-letters Nl = codes "nl"
-letters Nlb = codes "nlb"
-letters Nlba = codes "nlba"
-letters V = codes "v"
-letters A = codes "a"
-letters Al = codes "al"
-letters Alt = codes "alt"
-letters Other = []
-
--- the rows that go on with the name
-abbrev pub rows_at : Bool → TagWord → List (List ℕ × TagEffect)
-rows_at closing Other = []
-rows_at false w = rest_all (60 ∷ letters w) tags
-rows_at true w = rest_all (60 ∷ 47 ∷ letters w) tags
-
-pub by_case : (x c : ℕ) (P : ℕ → Type 0) → P x → (c == x ≡ false → P c) → P c
-by_case x c P here other = by (c == x) refl
+    no : (b : Bool) → (b && false) ≡ false
+    no true = refl
+    no false = refl
+same_ends (c ∷ []) [] = no (62 == c)
   where
-    by : (b : Bool) → c == x ≡ b → P c
-    by true e = subst P (sym (eqb-true c x e)) here
-    by false e = other e
+    no : (b : Bool) → (b && false) ≡ false
+    no true = refl
+    no false = refl
+same_ends (c ∷ d ∷ r) [] = no (62 == c)
+  where
+    no : (b : Bool) → (b && false) ≡ false
+    no true = refl
+    no false = refl
+same_ends (c ∷ r) (d ∷ s) = ap (λ (b : Bool). (d == c) && b) (same_ends r s)
 
-abbrev Steps : Bool → TagWord → ℕ → Type 0
-Steps closing w c = rest_rows c (rows_at closing w) ≡ rows_at closing (next_word w c)
+-- a tag does what the row of its name says
+pub effect-named : (s : List ℕ) → effect_of (60 ∷ s ++ 62 ∷ []) ≡ effect_in tag_names s
+effect-named s = by tag_names
+  where
+    by : (rows : Rows) → effect_in (map (λ row. (60 ∷ row.0 ++ 62 ∷ [], row.1)) rows) (60 ∷ s ++ 62 ∷ []) ≡ effect_in rows s
+    by [] = refl
+    by (row ∷ rows) = rw (same_ends row.0 s, by rows) refl
 
-no_slash : (b : Bool) → (b && true) ≡ false → b ≡ false
-no_slash true e = e
-no_slash false e = refl
+-- ---- a text as another
 
--- a character more, neither `>` nor a first `/`
-step : (closing : Bool) (w : TagWord) (c : ℕ) → c == 62 ≡ false → (c == 47 && (is_start w && not closing)) ≡ false → Steps closing w c
-step false Start c _ s = by_case 98 c (Steps false Start) refl (λ e98. by_case 99 c (Steps false Start) refl (λ e99. by_case 101 c (Steps false Start) refl (λ e101. by_case 105 c (Steps false Start) refl (λ e105. by_case 115 c (Steps false Start) refl (λ e115. by_case 116 c (Steps false Start) refl (λ e116. by_case 117 c (Steps false Start) refl (λ e117. by_case 110 c (Steps false Start) refl (λ e110. by_case 118 c (Steps false Start) refl (λ e118. by_case 97 c (Steps false Start) refl (λ e97. simp (no_slash (c == 47) s, e98, e99, e101, e105, e115, e116, e117, e110, e118, e97) refl))))))))))
-step false B c h _ = simp h refl
-step false C c h _ = simp h refl
-step false E c h _ = by_case 117 c (Steps false E) refl (λ e117. simp (h, e117) refl)
-step false Eu c h _ = simp h refl
-step false I c h _ = simp h refl
-step false S c _ _ = by_case 99 c (Steps false S) refl (λ e99. by_case 112 c (Steps false S) refl (λ e112. simp (e99, e112) refl))
-step false Sc c h _ = simp h refl
-step false Sp c h _ = simp h refl
-step false T c _ _ = by_case 116 c (Steps false T) refl (λ e116. simp e116 refl)
-step false Tt c h _ = simp h refl
-step false U c _ _ = by_case 108 c (Steps false U) refl (λ e108. simp e108 refl)
-step false Ul c h _ = simp h refl
-step false N c _ _ = by_case 108 c (Steps false N) refl (λ e108. simp e108 refl)
-step false Nl c _ _ = by_case 98 c (Steps false Nl) refl (λ e98. simp e98 refl)
-step false Nlb c _ _ = by_case 97 c (Steps false Nlb) refl (λ e97. simp e97 refl)
-step false Nlba c h _ = simp h refl
-step false V c h _ = simp h refl
-step false A c _ _ = by_case 108 c (Steps false A) refl (λ e108. simp e108 refl)
-step false Al c _ _ = by_case 116 c (Steps false Al) refl (λ e116. simp e116 refl)
-step false Alt c h _ = simp h refl
-step true Start c _ _ = by_case 98 c (Steps true Start) refl (λ e98. by_case 99 c (Steps true Start) refl (λ e99. by_case 101 c (Steps true Start) refl (λ e101. by_case 105 c (Steps true Start) refl (λ e105. by_case 115 c (Steps true Start) refl (λ e115. by_case 116 c (Steps true Start) refl (λ e116. by_case 117 c (Steps true Start) refl (λ e117. by_case 110 c (Steps true Start) refl (λ e110. by_case 118 c (Steps true Start) refl (λ e118. by_case 97 c (Steps true Start) refl (λ e97. simp (e98, e99, e101, e105, e115, e116, e117, e110, e118, e97) refl))))))))))
-step true B c h _ = simp h refl
-step true C c h _ = simp h refl
-step true E c h _ = by_case 117 c (Steps true E) refl (λ e117. simp (h, e117) refl)
-step true Eu c h _ = simp h refl
-step true I c h _ = simp h refl
-step true S c _ _ = by_case 99 c (Steps true S) refl (λ e99. by_case 112 c (Steps true S) refl (λ e112. simp (e99, e112) refl))
-step true Sc c h _ = simp h refl
-step true Sp c _ _ = refl
-step true T c _ _ = by_case 116 c (Steps true T) refl (λ e116. simp e116 refl)
-step true Tt c h _ = simp h refl
-step true U c _ _ = by_case 108 c (Steps true U) refl (λ e108. simp e108 refl)
-step true Ul c h _ = simp h refl
-step true N c _ _ = by_case 108 c (Steps true N) refl (λ e108. simp e108 refl)
-step true Nl c _ _ = by_case 98 c (Steps true Nl) refl (λ e98. simp e98 refl)
-step true Nlb c _ _ = by_case 97 c (Steps true Nlb) refl (λ e97. simp e97 refl)
-step true Nlba c h _ = simp h refl
-step true V c _ _ = refl
-step true A c _ _ = by_case 108 c (Steps true A) refl (λ e108. simp e108 refl)
-step true Al c _ _ = by_case 116 c (Steps true Al) refl (λ e116. simp e116 refl)
-step true Alt c _ _ = refl
-step closing Other c _ _ = refl
+text_is : (r s : List ℕ) → is_text r s ≡ true → r ≡ s
+text_is [] [] e = refl
+text_is [] (d ∷ s) e = absurd (cc)
+text_is (c ∷ r) [] e = absurd (cc)
+text_is (c ∷ r) (d ∷ s) e =
+    let both = and_both (d == c) (is_text r s) e in
+    let f : d ≡ c = eqb-true d c both.0 in
+    let g : r ≡ s = text_is r s both.1 in cc
 
--- ---- a name's letters so far
+-- one as long is compared character by character
+pub text_by_characters : (r s : List ℕ) → length r ≡ length s → list_all (λ (p : ℕ × ℕ). p.1 == p.0) (zip r s) ≡ is_text r s
+text_by_characters [] [] e = refl
+text_by_characters [] (d ∷ s) e = absurd (omega (arith, e))
+text_by_characters (c ∷ r) [] e = absurd (omega (arith, e))
+text_by_characters (c ∷ r) (d ∷ s) e = ap (λ (b : Bool). (d == c) && b) (text_by_characters r s (omega (arith, e)))
 
--- what a tag does that begins with these characters depends on the rest of it alone
-abbrev pub IsName : TagPrefix → List ℕ → Type 0
-IsName n s = (t : List ℕ) → effect_of (60 ∷ s ++ t) ≡ effect_in (rows_at n.closing n.word) t
+pub other_length : (r s : List ℕ) → (length r ≡ length s → ⊥) → is_text r s ≡ false
+other_length r s h = by (is_text r s) refl
+  where
+    by : (b : Bool) → is_text r s ≡ b → b ≡ false
+    by true e = absurd (h (ap length (text_is r s e)))
+    by false e = refl
 
-pub no_name : IsName (record { closing = false; word = Start }) []
-no_name t = sort_rest tags 60 t
+-- ---- names that no row has
 
-after_name : (s : List ℕ) (c : ℕ) (t : List ℕ) (rows next : List (List ℕ × TagEffect)) → ((u : List ℕ) → effect_of (60 ∷ s ++ u) ≡ effect_in rows u)
-    → rest_rows c rows ≡ next → effect_of (60 ∷ (s ++ c ∷ []) ++ t) ≡ effect_in next t
-after_name s c t rows next f e =
-    ap (λ (u : List ℕ). effect_of (60 ∷ u)) (append_assoc s (c ∷ []) t) ∙ f (c ∷ t) ∙ sort_rest rows c t ∙ ap (λ (r : List (List ℕ × TagEffect)). effect_in r t) e
+-- a text of which a test does not hold that holds of each row
+no_row : (p : List ℕ → Bool) (rows : Rows) (s : List ℕ) → list_all (λ (row : List ℕ × TagEffect). p row.0) rows ≡ true → p s ≡ false → effect_in rows s ≡ Other
+no_row p [] s h e = refl
+no_row p (row ∷ rows) s h e =
+    let both = and_both (p row.0) (list_all (λ (r : List ℕ × TagEffect). p r.0) rows) h in
+    by both.0 (no_row p rows s both.1 e) (is_text row.0 s) refl
+  where
+    by : p row.0 ≡ true → effect_in rows s ≡ Other → (b : Bool) → is_text row.0 s ≡ b → cond b row.1 (effect_in rows s) ≡ Other
+    by g i true f = absurd (let k : p row.0 ≡ p s = ap p (text_is row.0 s f) in cc)
+    by g i false f = i
 
-pub and_both : (a b : Bool) → (a && b) ≡ true → (a ≡ true) × (b ≡ true)
-and_both true b e = (refl, e)
-and_both false b e = absurd (cc)
+-- more characters than a name has
+too_long : (s : List ℕ) → nat_lt (length s) KEPT ≡ false → effect_in tag_names s ≡ Other
+too_long s e = no_row (λ (t : List ℕ). nat_lt (length t) KEPT) tag_names s refl e
 
-slash_at : (w : TagWord) (closing : Bool) → (is_start w && not closing) ≡ true → rest_rows 47 (rows_at closing w) ≡ rows_at true Start
-slash_at Start false e = refl
-slash_at Start true e = absurd (cc)
-slash_at _ closing e = absurd (cc)
+-- ---- a name's characters so far
 
-slash_step : (closing : Bool) (w : TagWord) (c : ℕ) → (c == 47 && (is_start w && not closing)) ≡ true → rest_rows c (rows_at closing w) ≡ rows_at true Start
-slash_step closing w c e =
-    let both = and_both (c == 47) (is_start w && not closing) e in
-    ap (λ (x : ℕ). rest_rows x (rows_at closing w)) (eqb-true c 47 both.0) ∙ slash_at w closing both.1
+-- what the tag does whose name begins with s depends on these characters and the rest of it alone
+abbrev pub IsName : List ℕ → List ℕ → Type 0
+IsName name s = (t : List ℕ) → effect_in tag_names (s ++ t) ≡ effect_in tag_names (name ++ t)
 
 -- a character more
-pub name_more : (n : TagPrefix) (s : List ℕ) (c : ℕ) → IsName n s → c == 62 ≡ false → IsName (next_name n c) (s ++ c ∷ [])
-name_more n s c f h = by (c == 47 && (is_start n.word && not n.closing)) refl
+pub name_more : (name s : List ℕ) (c : ℕ) → IsName name s → IsName (next_name name c) (s ++ c ∷ [])
+name_more name s c f t = ap (effect_in tag_names) (append_assoc s (c ∷ []) t) ∙ f (c ∷ t) ∙ by (nat_lt (length name) KEPT) refl
   where
-    by : (b : Bool) → (c == 47 && (is_start n.word && not n.closing)) ≡ b
-        → IsName (cond b (record { closing = true; word = Start }) (record { closing = n.closing; word = next_word n.word c })) (s ++ c ∷ [])
-    by true e = λ t. after_name s c t (rows_at n.closing n.word) (rows_at true Start) f (slash_step n.closing n.word c e)
-    by false e = λ t. after_name s c t (rows_at n.closing n.word) (rows_at n.closing (next_word n.word c)) f (step n.closing n.word c h e)
+    longer : (u : List ℕ) → nat_lt (length name) KEPT ≡ false → nat_lt (length (name ++ u)) KEPT ≡ false
+    longer u e = le-ltb (length (name ++ u)) KEPT (let l = ltb-false (length name) KEPT e in omega (arith, l, length-append name u))
+
+    by : (b : Bool) → nat_lt (length name) KEPT ≡ b → effect_in tag_names (name ++ c ∷ t) ≡ effect_in tag_names (cond b (name ++ c ∷ []) name ++ t)
+    by true e = ap (effect_in tag_names) (sym (append_assoc name (c ∷ []) t))
+    by false e = too_long (name ++ c ∷ t) (longer (c ∷ t) e) ∙ sym (too_long (name ++ t) (longer t e))
 
 -- the `>`
-pub name_ends : (n : TagPrefix) (s : List ℕ) → IsName n s → effect_of (60 ∷ s ++ 62 ∷ []) ≡ effect_named n.closing n.word
-name_ends n s f = f (62 ∷ []) ∙ at_close n.closing n.word
+pub name_ends : (name s : List ℕ) → IsName name s → effect_of (60 ∷ s ++ 62 ∷ []) ≡ effect_of (60 ∷ name ++ 62 ∷ [])
+name_ends name s f =
+    effect-named s ∙ ap (effect_in tag_names) (sym (append-nil s)) ∙ f [] ∙ ap (effect_in tag_names) (append-nil name) ∙ sym (effect-named name)
+
+-- ---- any characters
+
+one_of_append : (s t : List ℕ) → is_one_of s 62 ≡ true → is_one_of (s ++ t) 62 ≡ true
+one_of_append [] t e = absurd (cc)
+one_of_append (c ∷ s) t e = by (one_of_append s t) (c == 62) e
   where
-    at_close : (closing : Bool) (w : TagWord) → effect_in (rows_at closing w) (62 ∷ []) ≡ effect_named closing w
-    at_close false Start = refl
-    at_close false B = refl
-    at_close false C = refl
-    at_close false E = refl
-    at_close false Eu = refl
-    at_close false I = refl
-    at_close false S = refl
-    at_close false Sc = refl
-    at_close false Sp = refl
-    at_close false T = refl
-    at_close false Tt = refl
-    at_close false U = refl
-    at_close false Ul = refl
-    at_close false N = refl
-    at_close false Nl = refl
-    at_close false Nlb = refl
-    at_close false Nlba = refl
-    at_close false V = refl
-    at_close false A = refl
-    at_close false Al = refl
-    at_close false Alt = refl
-    at_close false Other = refl
-    at_close true Start = refl
-    at_close true B = refl
-    at_close true C = refl
-    at_close true E = refl
-    at_close true Eu = refl
-    at_close true I = refl
-    at_close true S = refl
-    at_close true Sc = refl
-    at_close true Sp = refl
-    at_close true T = refl
-    at_close true Tt = refl
-    at_close true U = refl
-    at_close true Ul = refl
-    at_close true N = refl
-    at_close true Nl = refl
-    at_close true Nlb = refl
-    at_close true Nlba = refl
-    at_close true V = refl
-    at_close true A = refl
-    at_close true Al = refl
-    at_close true Alt = refl
-    at_close true Other = refl
+    by : (is_one_of s 62 ≡ true → is_one_of (s ++ t) 62 ≡ true) → (b : Bool) → (b || is_one_of s 62) ≡ true → (b || is_one_of (s ++ t) 62) ≡ true
+    by h true f = refl
+    by h false f = h f
+
+pub is_name : (name : List ℕ) → IsName name (name_so_far name)
+is_name name t = by (is_one_of name 62) refl
+  where
+    by : (b : Bool) → is_one_of name 62 ≡ b → effect_in tag_names (cond b (codes "x") name ++ t) ≡ effect_in tag_names (name ++ t)
+    by true e = sym (no_row (λ (u : List ℕ). not (is_one_of u 62)) tag_names (name ++ t) refl (ap not (one_of_append name t e)))
+    by false e = refl
+
+pub name_lacks : (name : List ℕ) → lacks 62 (name_so_far name) ≡ true
+name_lacks name = by (is_one_of name 62) refl
+  where
+    none : (s : List ℕ) → is_one_of s 62 ≡ false → lacks 62 s ≡ true
+    none [] e = refl
+    none (c ∷ s) e = here (none s) (c == 62) refl e
+      where
+        here : (is_one_of s 62 ≡ false → lacks 62 s ≡ true) → (b : Bool) → c == 62 ≡ b → (b || is_one_of s 62) ≡ false → lacks 62 (c ∷ s) ≡ true
+        here h true f g = absurd (cc)
+        here h false f g = rw (ne_eqb 62 c (λ i. eqb-false c 62 f (sym i)), h g) refl
+
+    by : (b : Bool) → is_one_of name 62 ≡ b → lacks 62 (cond b (codes "x") name) ≡ true
+    by true e = refl
+    by false e = none name e

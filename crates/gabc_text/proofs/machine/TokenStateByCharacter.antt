@@ -11,17 +11,17 @@ use Rattle.gabc_text.specs.declared.token_state.TokenState.{TokenState}
 use Rattle.gabc_text.specs.declared.token_state.TokenState.TheVariants.{Plain, Dollar, Comment, Tag, Raw, Translation}
 use Rattle.gabc_text.specs.declared.token_state.Step.{Step}
 use Rattle.gabc_text.specs.declared.token_state.Step.TheVariants.{Stays, Ends}
-use Rattle.gabc_text.specs.declared.tag_name.TagPrefix.{TagPrefix}
-use Rattle.gabc_text.specs.Token.{Token, spelling, tokens, token_at, token_of_tag, tag_at, ended_token, through, is_special, single, effect_of, ending_of, is_blank, is_one_of}
+use Rattle.gabc_text.specs.Token.{Token, spelling, tokens, token_at, token_of_tag, tag_at, ended_token, through, is_special, single, effect_of, ending_of}
 use Rattle.gabc_text.specs.View.{effect, effect_as}
 use Rattle.gabc_text.specs.machine.TokenState.{settled_kind, wanted_char, step_in_raw, step_at_tag_end, first_step, next_step, kind_at_end}
-use Rattle.gabc_text.specs.machine.TagPrefix.{next_name, effect_named}
+use Rattle.gabc_text.specs.machine.TagPrefix.{next_name}
 use Rattle.gabc_text.proofs.tokens.TokensByCharacter.{tokens_first, drop_past, lacks, lacks_more, before_lacks, before_all, through_one, through_none}
 use Rattle.gabc_text.proofs.tokens.RawEndingIsMatched.{Matching, match_none, match_more, match_fails, match_ends, match_open, drop_one}
-use Rattle.gabc_text.proofs.machine.TagNameByCharacter.{IsName, no_name, name_more, name_ends}
+use Rattle.gabc_text.proofs.tokens.CasesOfCharacters.{single_kind}
+use Rattle.gabc_text.proofs.machine.TagNameByCharacter.{IsName, name_more, name_ends}
 
 -- in a tag, after `<` and s
-pub record InTag (name : TagPrefix) (held : List ℕ) : Type 0 where
+pub record InTag (name held : List ℕ) : Type 0 where
   pub s : List ℕ
   pub held_is : held ≡ 60 ∷ s
   pub open_still : lacks 62 s ≡ true
@@ -80,18 +80,11 @@ by_test : (b : Bool) (x y : Step) (held : List ℕ) (c : ℕ) → (b ≡ true �
 by_test true x y held c f g = f refl
 by_test false x y held c f g = g refl
 
-no_tag : (a b d e : Bool) (s : List ℕ) → effect_as (cond a kind.Blank (cond b kind.Stray (cond d kind.Begin (cond e kind.End kind.Letter)))) s ≡ Other
-no_tag true b d e s = refl
-no_tag false true d e s = refl
-no_tag false false true e s = refl
-no_tag false false false true s = refl
-no_tag false false false false s = refl
-
 one_character : (c : ℕ) → c == 40 ≡ false → c == 36 ≡ false → c == 37 ≡ false → c == 60 ≡ false → c == 91 ≡ false → Completes [] c (single c) Other
 one_character c e40 e36 e37 e60 e91 = record {
   token = record { kind = single c; first = c; more = [] };
   kind_is = refl;
-  sort_is = no_tag (is_blank c) (is_one_of (codes ")]>") c) (c == 123) (c == 125) (c ∷ []);
+  sort_is = single_kind (λ k. effect_as k (c ∷ []) ≡ Other) refl refl refl refl refl c;
   spelled = refl;
   cuts = λ t. tokens_first c t t (record { kind = single c; first = c; more = [] }) e40 (rw (e36, e37, e60, e91) refl) refl;
 }
@@ -100,7 +93,7 @@ pub begins_token : (c : ℕ) → c == 40 ≡ false → WentBy (first_step c) [] 
 begins_token c e40 =
     by_test (c == 36) _ _ [] c (λ e. ap (λ (x : ℕ). x ∷ []) (eqb-true c 36 e)) (λ e36.
     by_test (c == 37) _ _ [] c (λ e. record { s = []; held_is = ap (λ (x : ℕ). x ∷ []) (eqb-true c 37 e); open_still = refl }) (λ e37.
-    by_test (c == 60) _ _ [] c (λ e. record { s = []; held_is = ap (λ (x : ℕ). x ∷ []) (eqb-true c 60 e); open_still = refl; named = no_name }) (λ e60.
+    by_test (c == 60) _ _ [] c (λ e. record { s = []; held_is = ap (λ (x : ℕ). x ∷ []) (eqb-true c 60 e); open_still = refl; named = λ t. refl }) (λ e60.
     by_test (c == 91) _ _ [] c (λ e. record { s = []; held_is = ap (λ (x : ℕ). x ∷ []) (eqb-true c 91 e); open_still = refl }) (λ e91.
     one_character c e40 e36 e37 e60 e91))))
 
@@ -171,7 +164,7 @@ tag_token s t h =
     let e : drop (length (s ++ 62 ∷ [])) (s ++ 62 ∷ t) ≡ t = ap (drop (length (s ++ 62 ∷ []))) (sym (append_assoc s (62 ∷ []) t)) ∙ drop_past (s ++ 62 ∷ []) t in
     ap (tag_at (s ++ 62 ∷ t)) (through_one 62 s t h) ∙ ap (λ (u : List ℕ). token_of_tag (s ++ 62 ∷ []) u (effect_of (60 ∷ s ++ 62 ∷ []))) e
 
-tag_completes : (name : TagPrefix) (held : List ℕ) (so : TagEffect) → InTag name held → effect_named name.closing name.word ≡ so → is_no_raw so → Completes held 62 kind.Tag so
+tag_completes : (name held : List ℕ) (so : TagEffect) → InTag name held → effect_of (60 ∷ name ++ 62 ∷ []) ≡ so → is_no_raw so → Completes held 62 kind.Tag so
 tag_completes name held so h e n =
     let same : effect_of (60 ∷ h.s ++ 62 ∷ []) ≡ so = name_ends name h.s h.named ∙ e in
     record {
@@ -184,7 +177,7 @@ tag_completes name held so h e n =
           (tag_token h.s t h.open_still ∙ ap (token_of_tag (h.s ++ 62 ∷ []) t) same ∙ plain_tag (h.s ++ 62 ∷ []) t so n) (sym (append_assoc h.s (62 ∷ []) t));
     }
 
-tag_goes : (name : TagPrefix) (held : List ℕ) (so : TagEffect) → InTag name held → effect_named name.closing name.word ≡ so → WentBy (step_at_tag_end so) held 62
+tag_goes : (name held : List ℕ) (so : TagEffect) → InTag name held → effect_of (60 ∷ name ++ 62 ∷ []) ≡ so → WentBy (step_at_tag_end so) held 62
 tag_goes name held (Begins raw) h e = record {
   s = h.s;
   r = [];
@@ -204,12 +197,12 @@ tag_goes name held (Closes r) h e = tag_completes name held (Closes r) h e tt
 tag_goes name held Mark h e = tag_completes name held Mark h e tt
 tag_goes name held Other h e = tag_completes name held Other h e tt
 
-more_tag : (name : TagPrefix) (held : List ℕ) (c : ℕ) → InTag name held → c == 62 ≡ false → InTag (next_name name c) (held ++ c ∷ [])
+more_tag : (name held : List ℕ) (c : ℕ) → InTag name held → c == 62 ≡ false → InTag (next_name name c) (held ++ c ∷ [])
 more_tag name held c h e = record {
   s = h.s ++ c ∷ [];
   held_is = ap (λ (u : List ℕ). u ++ c ∷ []) h.held_is;
   open_still = lacks_more 62 h.s c h.open_still (turned 62 c e);
-  named = name_more name h.s c h.named e;
+  named = name_more name h.s c h.named;
 }
 
 -- ---- a raw part
@@ -349,7 +342,7 @@ goes Comment held c h s p = more_lacking 37 10 held c h (turned 10 c (is_kept (c
     is_kept false e = refl
 goes (Tag name) held c h s p =
     by_test (c == 62) _ _ held c
-    (λ e. subst (WentBy (step_at_tag_end (effect_named name.closing name.word)) held) (sym (eqb-true c 62 e)) (tag_goes name held (effect_named name.closing name.word) h refl))
+    (λ e. subst (WentBy (step_at_tag_end (effect_of (60 ∷ name ++ 62 ∷ []))) held) (sym (eqb-true c 62 e)) (tag_goes name held (effect_of (60 ∷ name ++ 62 ∷ [])) h refl))
     (λ e. more_tag name held c h e)
 goes (Raw raw m) held c h s p = raw_goes raw m held c h
 goes Translation held c h s p =

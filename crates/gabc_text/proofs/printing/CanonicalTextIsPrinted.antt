@@ -17,7 +17,7 @@ use Rattle.gabc_text.specs.TextRead.{view_in, pieces_in}
 use Rattle.gabc_text.specs.Canonical.{after_common, style_opening, style_closing, braces, boundary, span_bytes, with_dollar, piece_text, piece_text_by, text_from, canonical_text}
 use Rattle.gabc_text.specs.ViewFacts.{piece_facts_in, view_facts, StandsForView, IsPieceOf, ArePiecesOf, kept_of_piece}
 use Rattle.gabc_text.specs.Printed.{opening_tag, closing_tag, begin_brace, end_brace, brace_tokens, tokens_between, letter, spelled_as, printed_piece, print_from, text_tokens, text_of_tokens}
-use Rattle.gabc_text.proofs.machine.TagNameByCharacter.{by_case}
+use Rattle.gabc_text.proofs.tokens.CasesOfCharacters.{by_case}
 use Rattle.gabc_text.proofs.machine.TokenStateByCharacter.{turned}
 use Rattle.gabc_text.proofs.printing.PrintedPiecesAreReadAgain.{Good, AllGood, Says}
 use Rattle.gabc_text.proofs.printing.PiecesPrintWell.{pieces_good}

@@ -10,10 +10,11 @@ use Rattle.gabc_text.specs.declared.token.TagEffect.TheVariants.{Other}
 use Rattle.gabc_text.specs.Token.{Token, spelling}
 use Rattle.gabc_text.specs.View.{along, PieceFacts, effect, effect_as, kind_of, piece_kind, pieces_at, piece_of, text_of_piece, open_styles, is_space, is_begin, is_end, has_word, has_begin, has_end, follows_blank, follows_space, starts_word, is_left_out, kept_at, count_pieces, begin_of, end_of, has_translation, is_word_kind}
 use Rattle.gabc_text.specs.Events.{styles_of, is_whole_translation}
-use Rattle.gabc_text.specs.machine.TextFacts.{is_left_out_by, facts_after}
+use Rattle.gabc_text.specs.machine.TextFacts.{facts_after}
+use Rattle.gabc_text.specs.FactsPast.{leaves_out}
 use Rattle.gabc_text.specs.Canonical.{listed_styles}
 use Rattle.gabc_text.specs.ViewFacts.{translation_text, but_end}
-use Rattle.gabc_text.proofs.machine.FactsOfTokens.{facts_of, facts_more, left_out_of}
+use Rattle.gabc_text.proofs.machine.FactsOfTokens.{facts_of, facts_more}
 use Rattle.gabc_text.proofs.machine.TokensOneAfterAnother.{onto}
 use Rattle.gabc_text.proofs.spans.SpansStandForView.{styles_facts, left_no_piece}
 
@@ -218,7 +219,7 @@ pub record Alike (b c ks : List Token) : Type 0 where
 
 same_kept : (b c : List Token) (k : Token) → Same b c → kept_at b k ≡ kept_at c k
 same_kept b c k h =
-    let o : is_left_out b k.kind ≡ is_left_out c k.kind = sym (left_out_of b k.kind) ∙ ap (λ (s : TextFacts). is_left_out_by s k.kind) h.facts ∙ left_out_of c k.kind in
+    let o : is_left_out b k.kind ≡ is_left_out c k.kind = ap (λ (s : TextFacts). leaves_out s k.kind) h.facts in
     let s : follows_space b ≡ follows_space c = ap (λ (s : TextFacts). s.space) h.facts in
     rw (o, s) refl
 
@@ -275,7 +276,7 @@ alike (k ∷ ks) b c h = by (is_left_out b k.kind) (is_space k.kind) (follows_sp
     by false false f eo es ef ih =
         let r = ih (k ∷ c) (same_more b c k h) in
         let ps : pieces_at b k ≡ pieces_at c k = same_pieces b c k h in
-        let oc : is_left_out c k.kind ≡ false = sym (sym (left_out_of b k.kind) ∙ ap (λ (s : TextFacts). is_left_out_by s k.kind) h.facts ∙ left_out_of c k.kind) ∙ eo in
+        let oc : is_left_out c k.kind ≡ false = sym (ap (λ (s : TextFacts). leaves_out s k.kind) h.facts) ∙ eo in
         record {
           pieces = rw (eo, es, ps) (ap (λ (x : List PieceFacts). pieces_at c k ++ x) r.pieces);
           kept = rw (eo, es, oc, es) (ap (λ (x : List ℕ). spelling k ++ x) r.kept);

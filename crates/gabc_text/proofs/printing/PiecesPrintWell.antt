@@ -10,7 +10,7 @@ use Rattle.gabc_text.specs.Token.{Token, tokens, tokens_after, token_at, dollar_
 use Rattle.gabc_text.specs.View.{along, effect, effect_as, kind_of, piece_kind, tag_piece, is_open, open_styles, is_word_kind, has_word, follows_blank, pieces_at, piece_of, PieceFacts, text_of_piece, is_space, is_blank_piece, last_of}
 use Rattle.gabc_text.proofs.printing.ViewFromFirstToken.{pieces_of}
 use Rattle.gabc_text.specs.ViewFacts.{but_blank}
-use Rattle.gabc_text.proofs.machine.TagNameByCharacter.{by_case}
+use Rattle.gabc_text.proofs.tokens.CasesOfCharacters.{by_case}
 use Rattle.gabc_text.proofs.machine.TokenStateByCharacter.{turned}
 use Rattle.gabc_text.proofs.printing.TokensAreReadAgain.{Again, token_again, letter_stable}
 use Rattle.gabc_text.proofs.printing.PrintedPiecesAreReadAgain.{Good, AllGood, Says}

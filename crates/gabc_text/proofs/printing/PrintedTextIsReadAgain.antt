@@ -14,7 +14,7 @@ use Rattle.gabc_text.specs.ViewFacts.{ViewFacts, but_blank}
 use Rattle.gabc_text.specs.Printed.{print_tokens, print_from, text_tokens, translation_tokens, word_break, printed_piece, tokens_between, brace_tokens, print}
 use Rattle.gabc_text.specs.declared.token.TagEffect.{TagEffect}
 use Rattle.gabc_text.specs.declared.token.TagEffect.TheVariants.{Opens, Closes, Mark, Begins, Other}
-use Rattle.gabc_text.proofs.machine.TagNameByCharacter.{by_case}
+use Rattle.gabc_text.proofs.tokens.CasesOfCharacters.{by_case}
 use Rattle.gabc_text.proofs.printing.PrintedBracesGiveCentre.{centre_from, no_centre}
 use Rattle.gabc_text.proofs.printing.TokensAreReadAgain.{Stable, AllStable, written_stable, Again, token_again}
 use Rattle.gabc_text.proofs.printing.PrintedTagsOpenStyles.{push, push_append, along_append}

@@ -2,7 +2,7 @@
 use Rattle.std.proofs.Common.{◌≡◌, ℕ, zero, suc, ◌≤◌, ◌==◌, List, [], ◌∷◌, ◌++◌, Bool, true, false, ◌&&◌, cond, refl, sym, ap, ◌∙◌, subst, append_assoc, append-nil, length, drop, Option, Some, None, option_map, arith, codes}
 use Rattle.std.proofs.Common.{eq-eqb}
 use Rattle.std.proofs.lemmas.Bool.{eqb-true}
-use Rattle.gabc_text.proofs.machine.TagNameByCharacter.{and_both, by_case}
+use Rattle.gabc_text.proofs.tokens.CasesOfCharacters.{and_both, by_case, single_kind}
 use Rattle.gabc_text.specs.declared.token.TokenKind.{TokenKind}
 use Rattle.gabc_text.specs.declared.token.TokenKind.TheVariants as kind
 use Rattle.gabc_text.specs.declared.token.TagEffect.{TagEffect}
@@ -11,7 +11,7 @@ use Rattle.gabc_text.specs.declared.token.RawKind.{RawKind}
 use Rattle.gabc_text.specs.declared.token.RawKind.TheVariants.{V, Sp, Alt}
 use Rattle.gabc_text.specs.declared.styles.Style.{Style}
 use Rattle.gabc_text.specs.declared.styles.Style.TheVariants.{B, C, E, I, Sc, Tt, Ul}
-use Rattle.gabc_text.specs.Token.{Token, spelling, tokens, tokens_after, token_at, through, begins_with, ended_token, tag_at, token_of_tag, single, is_special, is_blank, is_one_of, effect_of, ending_of}
+use Rattle.gabc_text.specs.Token.{Token, spelling, tokens, tokens_after, token_at, through, begins_with, ended_token, tag_at, token_of_tag, single, is_special, is_blank, effect_of, ending_of}
 use Rattle.gabc_text.specs.Printed.{text_of_tokens, opening_tag, closing_tag, letter}
 use Rattle.gabc_text.proofs.tokens.TokensByCharacter.{tokens_first, drop_past}
 use Rattle.gabc_text.proofs.tokens.RawEndingIsMatched.{begins_itself}
@@ -164,14 +164,7 @@ at_dollar [] h = absurd (cc)
 at_dollar (c ∷ t) h = absurd (cc)
 
 single_plain : (c : ℕ) → is_bracketed (single c) ≡ false
-single_plain c = by (is_blank c) (is_one_of (codes ")]>") c) (c == 123) (c == 125)
-  where
-    by : (a b d e : Bool) → is_bracketed (cond a kind.Blank (cond b kind.Stray (cond d kind.Begin (cond e kind.End kind.Letter)))) ≡ false
-    by true b d e = refl
-    by false true d e = refl
-    by false false true e = refl
-    by false false false true = refl
-    by false false false false = refl
+single_plain c = single_kind (λ k. is_bracketed k ≡ false) refl refl refl refl refl c
 
 -- each token of a text
 abbrev AgainAt : List ℕ → ℕ → Type 0

@@ -8,7 +8,7 @@ use Rattle.gabc_text.specs.Token.{Token, spelling, tokens, tokens_after, token_a
 use Rattle.gabc_text.specs.View.{along, PieceFacts, is_space, is_left_out, follows_space, kept, kept_at, pieces_at, starts_word, begin_of, end_of, centre_by}
 use Rattle.gabc_text.specs.ViewFacts.{ViewFacts, view_facts, but_blank, translation_text}
 use Rattle.gabc_text.specs.Printed.{text_of_tokens}
-use Rattle.gabc_text.proofs.machine.TagNameByCharacter.{by_case}
+use Rattle.gabc_text.proofs.tokens.CasesOfCharacters.{by_case}
 use Rattle.gabc_text.proofs.machine.TokenStateByCharacter.{turned}
 use Rattle.gabc_text.proofs.tokens.TokensByCharacter.{drop_past}
 use Rattle.gabc_text.proofs.printing.TokensAreReadAgain.{Stable, token_again, again_by, escaped_stable, found}

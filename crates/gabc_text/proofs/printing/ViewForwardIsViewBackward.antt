@@ -1,16 +1,16 @@
 -- What a text says is the same from its first token on and from its last one back.
-use Rattle.std.proofs.Common.{◌≡◌, ℕ, zero, suc, ◌-◌, ◌==◌, ◌||◌, ◌&&◌, not, List, [], ◌∷◌, ◌++◌, Bool, true, false, cond, refl, sym, ap, ◌∙◌, length, take, drop, reverse, Option, Some, None, arith, codes}
+use Rattle.std.proofs.Common.{◌≡◌, ℕ, zero, suc, ◌-◌, ◌==◌, ◌||◌, ◌&&◌, not, List, [], ◌∷◌, ◌++◌, Bool, true, false, cond, refl, sym, ap, ◌∙◌, length, take, drop, reverse, Option, Some, None, arith}
 use Rattle.gabc_places.specs.declared.place.Span.{Span}
 use Rattle.gabc_text.specs.declared.token.TokenKind.{TokenKind}
 use Rattle.gabc_text.specs.declared.token.TokenKind.TheVariants as kind
 use Rattle.gabc_text.specs.declared.token.TagEffect.{TagEffect}
 use Rattle.gabc_text.specs.declared.token.TagEffect.TheVariants.{Opens, Closes, Mark, Begins, Other}
-use Rattle.gabc_text.specs.Token.{Token, tokens, tokens_after, token_at, tag_at, token_of_tag, ended_token, through, ending_of, effect_of, single, is_blank, is_one_of}
+use Rattle.gabc_text.specs.Token.{Token, tokens, tokens_after, token_at, tag_at, token_of_tag, ended_token, through, ending_of, effect_of, single}
 use Rattle.gabc_text.specs.View.{along, is_begin, is_end, has_begin, has_end, begin_of, end_of, count_pieces, centre_by, has_translation, is_translation, starts_word}
 use Rattle.gabc_text.specs.Events.{but_last}
 use Rattle.gabc_text.specs.ViewFacts.{ViewFacts, view_facts, translation_text, but_end}
 use Rattle.gabc_text.specs.Printed.{print}
-use Rattle.gabc_text.proofs.machine.TagNameByCharacter.{by_case}
+use Rattle.gabc_text.proofs.tokens.CasesOfCharacters.{by_case, single_kind}
 use Rattle.gabc_text.proofs.machine.TokensOneAfterAnother.{onto}
 use Rattle.gabc_text.proofs.printing.ViewFromFirstToken.{begin_at, end_at, translation_from, view, view_by, pieces_of}
 use Rattle.gabc_text.proofs.printing.ViewFromFirstToken as forward
@@ -163,14 +163,7 @@ at_dollar [] h = absurd (cc)
 at_dollar (c ∷ t) h = absurd (cc)
 
 single_no : (c : ℕ) → is_open_one (single c) ≡ false
-single_no c = by (is_blank c) (is_one_of (codes ")]>") c) (c == 123) (c == 125)
-  where
-    by : (a b d e : Bool) → is_open_one (cond a kind.Blank (cond b kind.Stray (cond d kind.Begin (cond e kind.End kind.Letter)))) ≡ false
-    by true b d e = refl
-    by false true d e = refl
-    by false false true e = refl
-    by false false false true = refl
-    by false false false false = refl
+single_no c = single_kind (λ k. is_open_one k ≡ false) refl refl refl refl refl c
 
 takes_all : (c : ℕ) (t : List ℕ) → TakesAll t c
 takes_all c t =

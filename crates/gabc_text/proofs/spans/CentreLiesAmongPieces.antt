@@ -1,5 +1,5 @@
 -- The centre lies among the pieces, and the translation's span stands for what is between its brackets.
-use Rattle.std.proofs.Common.{◌≡◌, ℕ, zero, suc, ◌+◌, ◌-◌, ◌≤◌, ◌==◌, ◌||◌, ◌&&◌, not, List, [], ◌∷◌, ◌++◌, Bool, true, false, cond, refl, sym, ap, ◌∙◌, append_assoc, append-nil, length, length-append, reverse, drop, Option, Some, None, option_map, arith, codes, nat_lt, slice_range}
+use Rattle.std.proofs.Common.{◌≡◌, ℕ, zero, suc, ◌+◌, ◌-◌, ◌≤◌, ◌==◌, ◌||◌, ◌&&◌, not, List, [], ◌∷◌, ◌++◌, Bool, true, false, cond, refl, sym, ap, ◌∙◌, append_assoc, append-nil, length, length-append, reverse, drop, Option, Some, None, option_map, arith, nat_lt, slice_range}
 use Rattle.std.proofs.lemmas.Bool.{le-ltb}
 use Rattle.std.proofs.lemmas.Str.{encodes-append}
 use Rattle.std.proofs.Math.Seq.{drop-append_seam, take-append_seam}
@@ -9,13 +9,13 @@ use Rattle.gabc_text.specs.declared.token.TokenKind.{TokenKind}
 use Rattle.gabc_text.specs.declared.token.TokenKind.TheVariants as kind
 use Rattle.gabc_text.specs.declared.token.TagEffect.{TagEffect}
 use Rattle.gabc_text.specs.declared.token.TagEffect.TheVariants.{Opens, Closes, Mark, Begins, Other}
-use Rattle.gabc_text.specs.Token.{Token, spelling, tokens, tokens_after, token_at, tag_at, token_of_tag, ended_token, through, single, is_blank, is_one_of, effect_of, ending_of}
+use Rattle.gabc_text.specs.Token.{Token, spelling, tokens, tokens_after, token_at, tag_at, token_of_tag, ended_token, through, single, effect_of, ending_of}
 use Rattle.gabc_text.specs.View.{is_begin, is_end, has_begin, has_end, count_pieces, pieces_at, begin_of, end_of, centre_by, has_translation, is_left_out, is_space, follows_space, kept, kept_at, bytes_of}
 use Rattle.gabc_text.specs.Events.{kept_of, but_last, is_whole_translation, translation_at}
 use Rattle.gabc_text.specs.TextRead.{pieces_in, translation_of, view_in}
 use Rattle.gabc_text.specs.Canonical.{span_bytes}
 use Rattle.gabc_text.specs.ViewFacts.{StandsFor, LiesAmong, IsTranslation, translation_text, but_end, StandsForView}
-use Rattle.gabc_text.proofs.machine.TagNameByCharacter.{by_case}
+use Rattle.gabc_text.proofs.tokens.CasesOfCharacters.{by_case, single_kind}
 use Rattle.gabc_text.proofs.tokens.CountsOfTexts.{bytes_append}
 use Rattle.gabc_text.proofs.machine.LoopOverText.{bytes_encodes}
 use Rattle.gabc_text.proofs.machine.TokensOneAfterAnother.{onto}
@@ -127,14 +127,7 @@ at_dollar [] h = absurd (cc)
 at_dollar (c ∷ t) h = absurd (cc)
 
 single_no : (c : ℕ) → is_whole_translation (single c) ≡ false
-single_no c = by (is_blank c) (is_one_of (codes ")]>") c) (c == 123) (c == 125)
-  where
-    by : (a b d e : Bool) → is_whole_translation (cond a kind.Blank (cond b kind.Stray (cond d kind.Begin (cond e kind.End kind.Letter)))) ≡ false
-    by true b d e = refl
-    by false true d e = refl
-    by false false true e = refl
-    by false false false true = refl
-    by false false false false = refl
+single_no c = single_kind (λ k. is_whole_translation k ≡ false) refl refl refl refl refl c
 
 abbrev BracketedAt : List ℕ → ℕ → Type 0
 BracketedAt t c = Bracketed (token_at c t)

@@ -9,7 +9,7 @@ use Rattle.gabc_text.specs.declared.token.RawKind.TheVariants.{V, Sp, Alt}
 use Rattle.gabc_text.specs.Token.{Token, spelling, tokens, tokens_after, token_at, through, before_first, ended_token, tag_at, token_of_tag, dollar_at, is_special, effect_of, ending_of}
 use Rattle.gabc_text.specs.View.{is_space, is_open_kind}
 use Rattle.gabc_text.specs.Printed.{text_of_tokens}
-use Rattle.gabc_text.proofs.machine.TagNameByCharacter.{by_case}
+use Rattle.gabc_text.proofs.tokens.CasesOfCharacters.{by_case}
 use Rattle.gabc_text.proofs.tokens.TokensByCharacter.{drop_past}
 use Rattle.gabc_text.proofs.machine.KeptOfOpenToken.{single_uncut}
 use Rattle.gabc_text.proofs.printing.TokensAreReadAgain.{found}

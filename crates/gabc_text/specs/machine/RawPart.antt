@@ -11,7 +11,7 @@ abbrev pub stage_past : TextStage → List ℕ → TextStage
 stage_past s [] = s
 stage_past s (c ∷ cs) = stage_past (push_stage s c) cs
 
--- what it gives for them
+-- what it emits for them
 abbrev pub events_of_pushes : TextStage → List ℕ → List TextEvent
 events_of_pushes s [] = []
 events_of_pushes s (c ∷ cs) = events_of_push s c ++ events_of_pushes (push_stage s c) cs

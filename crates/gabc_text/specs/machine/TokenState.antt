@@ -1,26 +1,20 @@
 -- A text is cut into tokens as its characters come.
-use Rattle.std.specs.Prelude.{ℕ, ◌+◌, Bool, true, false, cond, ◌||◌, ◌==◌, nat_lt, Option, Some, None}
+use Rattle.std.specs.Prelude.{ℕ, ◌+◌, [], ◌∷◌, ◌++◌, Bool, true, false, cond, ◌||◌, ◌==◌, nat_lt, Option, Some, None}
 use Rattle.gabc_text.specs.declared.token.TokenKind.{TokenKind}
 use Rattle.gabc_text.specs.declared.token.TokenKind.TheVariants as kind
 use Rattle.gabc_text.specs.declared.token.TagEffect.{TagEffect}
 use Rattle.gabc_text.specs.declared.token.TagEffect.TheVariants.{Begins, Other}
 use Rattle.gabc_text.specs.declared.token.RawKind.{RawKind}
 use Rattle.gabc_text.specs.declared.token.RawKind.TheVariants.{V, Sp, Alt}
-use Rattle.gabc_text.specs.declared.tag_name.TagWord.TheVariants as word
 use Rattle.gabc_text.specs.declared.token_state.TokenState.{TokenState}
 use Rattle.gabc_text.specs.declared.token_state.TokenState.TheVariants.{Plain, Dollar, Comment, Tag, Raw, Translation}
 use Rattle.gabc_text.specs.declared.token_state.Step.{Step}
 use Rattle.gabc_text.specs.declared.token_state.Step.TheVariants.{Stays, Ends}
-use Rattle.gabc_text.specs.Token.{is_special, single}
+use Rattle.gabc_text.specs.Token.{is_special, single, effect_of}
 use Rattle.gabc_text.specs.declared.text_facts.TextFacts.{TextFacts}
-use Rattle.gabc_text.specs.machine.TextFacts.{is_left_out_by}
-use Rattle.gabc_text.specs.machine.TagPrefix.{next_name, effect_named}
-
-abbrev pub is_special_char : ℕ → Bool
-is_special_char c = is_special c
-
-abbrev pub single_kind : ℕ → TokenKind
-single_kind c = single c
+use Rattle.gabc_text.specs.View.{kept_as}
+use Rattle.gabc_text.specs.FactsPast.{leaves_out}
+use Rattle.gabc_text.specs.machine.TagPrefix.{next_name}
 
 abbrev pub settled_kind : TokenState → ℕ → Option TokenKind
 settled_kind Dollar c = cond (is_special c) None (Some kind.Letter)
@@ -46,7 +40,7 @@ abbrev pub first_step : ℕ → Step
 first_step c =
     cond (c == 36) (Stays Dollar)
     (cond (c == 37) (Stays Comment)
-    (cond (c == 60) (Stays (Tag (record { closing = false; word = word.Start })))
+    (cond (c == 60) (Stays (Tag []))
     (cond (c == 91) (Stays Translation)
     (Ends (single c) Other))))
 
@@ -54,7 +48,7 @@ abbrev pub next_step : TokenState → ℕ → Step
 next_step Plain c = first_step c
 next_step Dollar c = Ends kind.Letter Other
 next_step Comment c = Stays Comment
-next_step (Tag name) c = cond (c == 62) (step_at_tag_end (effect_named name.closing name.word)) (Stays (Tag (next_name name c)))
+next_step (Tag name) c = cond (c == 62) (step_at_tag_end (effect_of (60 ∷ name ++ 62 ∷ []))) (Stays (Tag (next_name name c)))
 next_step (Raw raw m) c = step_in_raw raw m c
 next_step Translation c = cond (c == 93) (Ends kind.Translation Other) (Stays Translation)
 
@@ -66,16 +60,9 @@ kind_at_end (Tag name) = Some kind.OpenTag
 kind_at_end (Raw raw m) = Some kind.OpenTag
 kind_at_end Translation = Some kind.OpenTranslation
 
-abbrev pub is_blank_kind : TokenKind → Bool
-is_blank_kind kind.Blank = true
-is_blank_kind _ = false
-
 -- what is kept of a character between tokens
 abbrev pub keep_first : TextFacts → ℕ → TokenKind → Option ℕ
-keep_first facts c k =
-    cond (c == 37 || is_left_out_by facts k) None
-    (cond (is_blank_kind k) (cond facts.space None (Some 32))
-    (Some c))
+keep_first facts c k = kept_as (c == 37 || leaves_out facts k) facts.space k None (Some 32) (Some c)
 
 -- what is kept of a character
 abbrev pub keep : TextFacts → TokenState → ℕ → Option ℕ

@@ -1,0 +1,173 @@
+//! Where in a text the machine stands, and what it has counted.
+
+ghost use Rattle.std.specs.Prelude.{◌≡◌};
+ghost use Rattle.gabc_text.specs.TextStage.{count_plus, place_after_char};
+ghost use Rattle.gabc_text.specs.View.{centre_by};
+ghost use Rattle.gabc_text.specs.Events.{count_by};
+ghost use Rattle.gabc_text.specs.EventsLeft.{piece_by, piece_there, waiting_behind};
+ghost use Rattle.gabc_text.specs.machine.TextStage.{progress_after, progress_past};
+
+use crate::text_facts::{TextFacts, piece_at};
+use crate::token::{TagEffect, TokenKind};
+use crate::view::{Piece, PieceKind};
+use gabc_places::{Place, Span};
+
+/// Where in the text and in what was kept of it the machine stands. A count that has reached its last value stays there.
+#[derive(Clone, Copy)]
+pub(crate) struct Progress {
+    /// Where the token that is read begins: its place, and the bytes kept before it.
+    pub(crate) place: Place,
+    pub(crate) start: usize,
+    /// The place of the character to come, and the bytes kept before it.
+    pub(crate) next: Place,
+    pub(crate) kept: usize,
+    /// How many pieces there are, with a blank that is not emitted yet.
+    pub(crate) pieces: usize,
+    /// A blank that is a piece if another piece follows.
+    pub(crate) blank: Option<Piece>,
+    /// How many pieces stand before the centre, and before its end.
+    pub(crate) begin: Option<usize>,
+    pub(crate) end: Option<usize>,
+}
+
+/// The sum, or the last value where it is larger.
+pub(crate) fn plus(n: usize, more: usize) -> usize
+    ensures { result ≡ count_plus n more }
+{
+    n.saturating_add(more)
+}
+
+/// The place behind a character that stands here.
+fn after_place(place: Place, c: char) -> Place
+    ensures { result ≡ place_after_char place c }
+{
+    if c == '\n' {
+        Place {
+            line: place.line.saturating_add(1),
+            column: 1,
+        }
+    } else {
+        Place {
+            line: place.line,
+            column: place.column.saturating_add(1),
+        }
+    }
+}
+
+/// The piece of this kind that a token is: of a character without its `$`. Before its last character, `last` bytes were kept.
+pub(crate) fn piece_there(
+    facts: TextFacts,
+    progress: Progress,
+    kind: PieceKind,
+    last: usize,
+) -> Piece
+    ensures { result ≡ piece_there facts progress kind last progress.kept }
+{
+    let from = match kind {
+        PieceKind::Char => last,
+        _ => progress.start,
+    };
+    Piece {
+        kind,
+        styles: facts.styles,
+        span: Span {
+            from,
+            to: progress.kept,
+        },
+    }
+}
+
+/// The blank that waits after a token.
+pub(crate) fn waiting_piece(
+    facts: TextFacts,
+    progress: Progress,
+    kind: TokenKind,
+    effect: TagEffect,
+) -> Option<Piece>
+    ensures { let blank = piece_there facts progress PieceKind.Blank progress.start progress.kept in
+        result ≡ waiting_behind blank progress.blank (piece_by facts kind effect) }
+{
+    match piece_at(facts, kind, effect) {
+        Some(PieceKind::Blank) => Some(piece_there(
+            facts,
+            progress,
+            PieceKind::Blank,
+            progress.start,
+        )),
+        Some(_) => None,
+        None => progress.blank,
+    }
+}
+
+/// Where the machine stands after a token, which ends before this place.
+pub(crate) fn progress_after(
+    facts: TextFacts,
+    progress: Progress,
+    kind: TokenKind,
+    effect: TagEffect,
+    place: Place,
+) -> Progress
+    ensures { result ≡ progress_after facts progress kind effect place }
+{
+    let pieces = match piece_at(facts, kind, effect) {
+        Some(_) => plus(progress.pieces, 1),
+        None => progress.pieces,
+    };
+    let begin = match kind {
+        TokenKind::Begin if !facts.begun => Some(progress.pieces),
+        _ => progress.begin,
+    };
+    let end = match kind {
+        TokenKind::End if facts.begun && !facts.ended => Some(progress.pieces),
+        _ => progress.end,
+    };
+    Progress {
+        place,
+        start: progress.kept,
+        next: progress.next,
+        kept: progress.kept,
+        pieces,
+        blank: waiting_piece(facts, progress, kind, effect),
+        begin,
+        end,
+    }
+}
+
+/// The centre of a text that ends here. No position is past the last piece that is emitted.
+pub(crate) fn centre(progress: Progress) -> Option<Span>
+    ensures { result ≡ centre_by (count_by progress.pieces progress.blank)
+        progress.begin progress.end }
+{
+    let count = match progress.blank {
+        Some(_) => progress.pieces.saturating_sub(1),
+        None => progress.pieces,
+    };
+    match progress.begin {
+        Some(begin) => match progress.end {
+            Some(end) => Some(Span {
+                from: begin.min(count),
+                to: end.min(count),
+            }),
+            None => Some(Span {
+                from: begin.min(count),
+                to: count,
+            }),
+        },
+        None => None,
+    }
+}
+
+/// Where the machine stands after a character, of which this was kept.
+pub(crate) fn progress_past(progress: Progress, c: char, kept: Option<char>) -> Progress
+    ensures { result ≡ progress_past progress c kept }
+{
+    let bytes = match kept {
+        Some(kept) => plus(progress.kept, kept.len_utf8()),
+        None => progress.kept,
+    };
+    Progress {
+        next: after_place(progress.next, c),
+        kept: bytes,
+        ..progress
+    }
+}

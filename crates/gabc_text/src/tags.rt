@@ -1,0 +1,33 @@
+//! The table of the tags' names. Code and definitions read this one.
+
+use crate::styles::Style;
+use crate::token::{RawKind, TagEffect};
+
+/// The tags that are known: what stands between the `<` and the `>`, in ASCII, and what the tag does.
+#[rattlefmt::skip]
+pub(crate) const TAGS: [(&str, TagEffect); 21] = [
+    ("b", TagEffect::Opens(Style::B)),
+    ("/b", TagEffect::Closes(Style::B)),
+    ("c", TagEffect::Opens(Style::C)),
+    ("/c", TagEffect::Closes(Style::C)),
+    ("e", TagEffect::Opens(Style::E)),
+    ("/e", TagEffect::Closes(Style::E)),
+    ("i", TagEffect::Opens(Style::I)),
+    ("/i", TagEffect::Closes(Style::I)),
+    ("sc", TagEffect::Opens(Style::Sc)),
+    ("/sc", TagEffect::Closes(Style::Sc)),
+    ("tt", TagEffect::Opens(Style::Tt)),
+    ("/tt", TagEffect::Closes(Style::Tt)),
+    ("ul", TagEffect::Opens(Style::Ul)),
+    ("/ul", TagEffect::Closes(Style::Ul)),
+    ("eu", TagEffect::Mark),
+    ("/eu", TagEffect::Mark),
+    ("nlba", TagEffect::Mark),
+    ("/nlba", TagEffect::Mark),
+    ("v", TagEffect::Begins(RawKind::V)),
+    ("sp", TagEffect::Begins(RawKind::Sp)),
+    ("alt", TagEffect::Begins(RawKind::Alt)),
+];
+
+/// How many characters of a tag's name are kept: more than any name in the table has.
+pub(crate) const KEPT: usize = 6;
