@@ -5,4 +5,5 @@ pub mod MapIsReadByEntry
 pub mod NextEntryIsFirstAhead
 pub mod PushedEntryIsShown
 pub mod PutEntriesStand
+pub mod PutIsFound
 pub mod TextsAsBytes

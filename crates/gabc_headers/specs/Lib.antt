@@ -4,6 +4,7 @@ pub mod BookText
 pub mod Canonical
 pub mod EntryMap
 pub mod Groups
+pub mod HeadEvents
 pub mod Heads
 pub mod Lines
 pub mod Parts

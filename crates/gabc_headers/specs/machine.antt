@@ -4,4 +4,6 @@ pub mod EntryMap
 pub mod Events
 pub mod Groups
 pub mod HeaderMachine
+pub mod NameTree
 pub mod PartMachine
+pub mod Shown

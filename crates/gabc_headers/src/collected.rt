@@ -1,11 +1,13 @@
 //! The headers that count, and what is found at them.
 
-ghost use Rattle.std.specs.Prelude.{◌≡◌, ◌≤◌, [], ◌∷◌, length, OnOk, IfOk, cond, nat_lt};
+ghost use Rattle.std.specs.Prelude.{◌≡◌, ◌≤◌, [], ◌∷◌, length, OnOk, IfOk};
+ghost use Rattle.gabc_places.specs.BoundedList.{Fits};
 ghost use Rattle.std.specs.Str.{chars};
 ghost use Rattle.gabc_headers.specs.declared.events.HeaderEvent.TheVariants.{Header};
 ghost use Rattle.gabc_headers.specs.Book as book;
 ghost use Rattle.gabc_headers.specs.machine.Collected as spec;
 ghost use Rattle.gabc_headers.specs.machine.Collected.{IsGoodEvent, AreGoodEvents, collected_with, collected_with_all};
+ghost use Rattle.gabc_headers.specs.machine.Shown.{shown};
 
 use crate::entry_map::EntryMap;
 use crate::events::HeaderEvent;
@@ -41,12 +43,21 @@ fn finding_at(line: u64, code: Code) -> Finding
 impl Collected {
     /// Takes what an event tells of the text.
     fn take(&mut self, text: &str, event: HeaderEvent) -> Result<(), AllocError>
-        requires { IsGoodEvent text.now event }
-        ensures { OnOk result (self.new ≡ collected_with text.now event self.old) }
+        requires good { IsGoodEvent text.now event }
+        requires room { Fits self.old.headers 1 }
+        ensures taken { OnOk result (shown self.new ≡ collected_with text.now event (shown self.old)) }
+        ensures limit { self.new.headers.limit ≡ self.old.headers.limit }
     {
         match event {
-            HeaderEvent::LeftOut(line, _) => self.findings.push(finding_at(line, Code::E4)),
-            HeaderEvent::Header(line, name, value, _) => self.take_header(text, line, name, value),
+            HeaderEvent::LeftOut { line, point: _ } => {
+                self.findings.push(finding_at(line, Code::E4))
+            }
+            HeaderEvent::Header {
+                line,
+                name,
+                value,
+                point: _,
+            } => self.take_header(text, line, name, value),
         }
     }
 
@@ -58,15 +69,17 @@ impl Collected {
         name: Span,
         value: Span,
     ) -> Result<(), AllocError>
-        requires { IsGoodEvent text.now (Header line name value 0) }
-        ensures { OnOk result (self.new
-            ≡ collected_with text.now (Header line name value 0) self.old) }
+        requires good { IsGoodEvent text.now (Header line name value 0) }
+        requires room { Fits self.old.headers 1 }
+        ensures taken { OnOk result (shown self.new
+            ≡ collected_with text.now (Header line name value 0) (shown self.old)) }
+        ensures limit { self.new.headers.limit ≡ self.old.headers.limit }
     {
         let written = &text[name.from..name.to];
         if !is_kept(written, &text[value.from..value.to]) {
             return self.findings.push(finding_at(line, Code::E5));
         }
-        if self.headers.put(written, value)? {
+        if self.headers.put(written, value) {
             self.findings.push(finding_at(line, Code::W2))?;
         }
         Ok(())
@@ -80,11 +93,11 @@ pub(crate) fn collect(
     events: &[HeaderEvent],
 ) -> Result<Collected, AllocError>
     requires { AreGoodEvents text.now events.now }
-    ensures { IfOk result (λ collected. collected
+    ensures { IfOk result (λ collected. shown collected
         ≡ collected_with_all text.now events.now (record { headers = []; findings = [] })) }
 {
     let mut collected = Collected {
-        headers: EntryMap::new(alloc),
+        headers: EntryMap::with_limit(alloc, events.len())?,
         findings: Findings::new(alloc),
     };
     for event in events {

@@ -1,122 +1,111 @@
 //! The headers in the order of their first lines.
 
-ghost use Rattle.std.specs.Prelude.{◌≡◌, ◌≤◌, ◌<◌, ◌-◌, ◌^◌, [], length, min, slice_get, OnOk, IfOk, IsSomeAnd};
+ghost use Rattle.std.specs.Prelude.{◌≡◌, ◌≤◌, ◌<◌, ◌-◌, ◌^◌, [], length, min, slice_get, IfOk, IsSomeAnd};
+ghost use Rattle.gabc_places.specs.BoundedList.{Fits};
 ghost use Rattle.std.specs.Str.{chars};
 ghost use Rattle.gabc_headers.specs.Canonical.{header_lines, canonical_heads};
-ghost use Rattle.gabc_headers.specs.machine.EntryMap.{key_name, comes_again, spelled_entries, AreWithin};
+ghost use Rattle.gabc_headers.specs.machine.EntryMap.{comes_again, spelled_entries, AreWithin};
 ghost use Rattle.gabc_headers.specs.EntryMap.{put_entry};
 ghost use Rattle.gabc_headers.specs.Lines.{bytes_len};
 
 use crate::book::HeaderBook;
 use crate::canonical::line_len;
+use crate::name_tree::NameTree;
+use crate::named_value::NamedValue;
 use arrayvec::ArrayString;
 use gabc_places::Span;
-use indexmap::IndexMap;
 use std::alloc::{AllocError, Global};
 use std::marker::Model;
-
-/// What a header is found by: its name, or for an annotation the number of headers before it.
-#[derive(Clone, Copy, PartialEq, Eq, Hash)]
-pub(crate) enum Key {
-    Name(ArrayString<64>),
-    Annotation(usize),
-}
-
-impl Key {
-    /// The name that it stands for.
-    fn name(&self) -> &str
-        ensures { chars result.now ≡ key_name self.now }
-    {
-        match self {
-            Key::Name(name) => name.as_str(),
-            Key::Annotation(_) => "annotation",
-        }
-    }
-}
 
 /// Headers with the spans of their values, each name at the place of its first and with the value of its last;
 /// annotations stand by themselves.
 #[derive(Drop)]
 pub(crate) struct EntryMap {
-    map: IndexMap<Key, Span>,
+    headers: Vec<NamedValue>,
+    tree: NameTree,
+    limit: usize,
 }
 
 impl Model for EntryMap {
-    ghost use Rattle.std.specs.Prelude.{ℕ, List, length};
+    ghost use Rattle.std.specs.Prelude.{ℕ, List, vec_capacity};
     ghost use Rattle.gabc_places.specs.declared.place.Span.{Span};
+    ghost use Rattle.gabc_places.specs.BoundedList.{BoundedList};
 
-    ghost Value = { List (List ℕ × Span) };
+    ghost Value = { BoundedList (List ℕ × Span) };
 
-    ghost use Rattle.gabc_headers.specs.machine.EntryMap.{named_entries, AreKeysBelow};
+    ghost use Rattle.gabc_headers.specs.machine.EntryMap.{named_entries, IsEntryRoom};
 
-    ghost view = { λ g. named_entries g.map.entries };
+    ghost view = { λ g. record { items = named_entries g.headers.items; limit = g.limit } };
 
-    ghost invariant = { λ g. AreKeysBelow (length g.map.entries) g.map.entries };
+    ghost invariant = { λ g. IsEntryRoom g.limit (vec_capacity g.headers) (vec_capacity g.tree.nodes)
+        g.tree.nodes.items g.headers.items };
 }
 
 impl EntryMap {
-    /// No headers.
-    pub(crate) fn new(alloc: Global) -> Self
-        ensures { result ≡ [] }
+    /// No headers, with room for so many.
+    pub(crate) fn with_limit(alloc: Global, limit: usize) -> Result<EntryMap, AllocError>
+        ensures { IfOk result (λ map. map ≡ record { items = []; limit = limit }) }
     {
-        EntryMap {
-            map: IndexMap::new(alloc),
-        }
+        Ok(EntryMap {
+            headers: Vec::with_capacity(alloc, limit)?,
+            tree: NameTree::with_limit(alloc, limit)?,
+            limit,
+        })
     }
 
-    /// Puts a header, and answers whether its name comes again. An annotation never does.
-    pub(crate) fn put(&mut self, name: &str, value: Span) -> Result<bool, AllocError>
-        requires { length name.now ≤ 64 }
-        ensures put { OnOk result (self.new ≡ put_entry self.old (chars name.now) value) }
-        ensures again { IfOk result (λ again. again ≡ comes_again self.old (chars name.now)) }
+    /// Puts a header, and answers whether its name comes again. An annotation never does. It asks for no memory.
+    pub(crate) fn put(&mut self, name: &str, value: Span) -> bool
+        requires short { length name.now ≤ 64 }
+        requires room { Fits self.old 1 }
+        ensures put { self.new ≡ record self.old {
+          items = put_entry self.old.items (chars name.now) value;
+        } }
+        ensures again { result ≡ comes_again self.old.items (chars name.now) }
     {
-        let key = if name == "annotation" {
-            Key::Annotation(self.map.len())
-        } else {
-            let Ok(text) = ArrayString::from(name) else {
-                unreachable!()
-            };
-            Key::Name(text)
+        let Ok(text) = ArrayString::from(name) else {
+            unreachable!()
         };
-        match self.map.insert(key, value) {
-            Ok(old) => Ok(old.is_some()),
-            Err(_) => Err(AllocError),
+        let header = NamedValue { name: text, value };
+        if name != "annotation" {
+            match self.tree.find(&self.headers, name) {
+                Ok(index) => {
+                    self.headers[index].value = value;
+                    return true;
+                }
+                Err(spot) => self.tree.put(spot, self.headers.len()),
+            }
         }
+        self.headers.push_reserved(header);
+        false
     }
 
     /// The number of headers.
     fn len(&self) -> usize
-        ensures { result ≡ length self.now }
+        ensures { result ≡ length self.now.items }
     {
-        self.map.len()
+        self.headers.len()
     }
 
     /// The name of a header, by its index.
     fn name(&self, index: usize) -> &str
-        requires { index < length self.now }
-        ensures { IsSomeAnd (slice_get self.now index) (λ entry. chars result.now ≡ entry.0) }
+        requires { index < length self.now.items }
+        ensures { IsSomeAnd (slice_get self.now.items index) (λ entry. chars result.now ≡ entry.0) }
     {
-        match self.map.get_index(index) {
-            Some((key, _)) => key.name(),
-            None => "",
-        }
+        self.headers[index].name.as_str()
     }
 
     /// The value of a header, by its index.
     fn value(&self, index: usize) -> Span
-        requires { index < length self.now }
-        ensures { IsSomeAnd (slice_get self.now index) (λ entry. entry.1 ≡ result) }
+        requires { index < length self.now.items }
+        ensures { IsSomeAnd (slice_get self.now.items index) (λ entry. entry.1 ≡ result) }
     {
-        match self.map.get_index(index) {
-            Some((_, value)) => *value,
-            None => Span { from: 0, to: 0 },
-        }
+        self.headers[index].value
     }
 
     /// The number of bytes of the canonical lines of these headers of a text, or the largest number if there are more.
     pub(crate) fn canonical_len(&self, text: &str) -> usize
-        requires { AreWithin text.now self.now }
-        ensures { result ≡ min (bytes_len (header_lines (spelled_entries text.now self.now)))
+        requires { AreWithin text.now self.now.items }
+        ensures { result ≡ min (bytes_len (header_lines (spelled_entries text.now self.now.items)))
             (2 ^ 64 - 1) }
     {
         let mut len = 0usize;
@@ -129,9 +118,9 @@ impl EntryMap {
 
     /// The book of these headers of a text.
     pub(crate) fn book(&self, alloc: Global, text: &str) -> Result<HeaderBook, AllocError>
-        requires within { AreWithin text.now self.now }
-        requires small { bytes_len (canonical_heads (spelled_entries text.now self.now)) < 2 ^ 32 }
-        ensures { IfOk result (λ book. book ≡ spelled_entries text.now self.now) }
+        requires within { AreWithin text.now self.now.items }
+        requires small { bytes_len (canonical_heads (spelled_entries text.now self.now.items)) < 2 ^ 32 }
+        ensures { IfOk result (λ book. book ≡ spelled_entries text.now self.now.items) }
     {
         let mut book = HeaderBook::new(alloc);
         for index in 0..self.len() {

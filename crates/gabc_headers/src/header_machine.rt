@@ -73,11 +73,11 @@ impl HeaderMachine {
     {
         if self.held {
             if c == '%' {
-                return HeaderStep::Ended(HeaderEnding::Score(
-                    self.place,
-                    self.bytes + 2,
-                    self.parts.open_line(),
-                ));
+                return HeaderStep::Ended(HeaderEnding::Score {
+                    place: self.place,
+                    body: self.bytes + 2,
+                    open_line: self.parts.open_line(),
+                });
             }
             self.held = false;
             return match self.take('%') {
@@ -102,6 +102,9 @@ impl HeaderMachine {
         } else {
             self.place
         };
-        HeaderEnding::Text(place, self.parts.open_line())
+        HeaderEnding::Text {
+            place,
+            open_line: self.parts.open_line(),
+        }
     }
 }

@@ -1,14 +1,17 @@
 //! Laws of the definitions alone. Each function's contract is a law, and its body does nothing.
 
-ghost use Rattle.std.specs.Prelude.{◌≡◌, ◌+◌, ◌≤◌, ℕ, List, [], ◌++◌, length, take, Ok};
+ghost use Rattle.std.specs.Prelude.{◌≡◌, ◌+◌, ◌≤◌, ℕ, List, [], ◌++◌, length, take, Ok, IsUtf8};
+ghost use Rattle.std.specs.Str.{chars};
 ghost use Rattle.gabc_places.specs.declared.limits.Limits.{Limits};
 ghost use Rattle.gabc_places.specs.Findings.{AreInOrder, LieBetween};
 ghost use Rattle.gabc_places.specs.Place.{place_after};
+ghost use Rattle.gabc_places.specs.StageLaw.{concat_of};
 ghost use Rattle.gabc_headers.specs.declared.heads.Heads.{Heads};
 ghost use Rattle.gabc_headers.specs.Heads.{head_len, heads_of, findings_of, line_place};
 ghost use Rattle.gabc_headers.specs.Book.{standing_entries};
 ghost use Rattle.gabc_headers.specs.EntryMap.{put_all};
 ghost use Rattle.gabc_headers.specs.Groups.{Group, AreGroups, parts_of_groups};
+ghost use Rattle.gabc_headers.specs.HeadEvents.{events_left, events_of_heads, given_behind, reading};
 ghost use Rattle.gabc_headers.specs.Parts.{outside, parts};
 
 /// The lines of the headers, whatever they are, can be cut into groups.
@@ -60,4 +63,12 @@ pub fn the_headers_end_at_their_mark()
         → heads_of limits t ≡ Ok heads → head_len (take (head_len t + 2) t ++ more) ≡ head_len t }
     ensures book { (limits : Limits) (t more : List ℕ) (heads : Heads) → heads_of limits t ≡ Ok heads
         → (other : Heads) × (heads_of limits (take (head_len t + 2) t ++ more) ≡ Ok other) × (other.book ≡ heads.book) }
+{}
+
+/// Told character by character, the headers of a text are what they are when they are read whole, followed by the characters
+/// of its body and its end: no finding, stop or character comes twice, and none is left out.
+pub fn events_make_the_headers()
+    ensures { (limits : Limits) (bytes : List ℕ) → IsUtf8 bytes → let t = chars bytes in
+        concat_of (events_left limits (reading []) (given_behind [] t))
+        ≡ events_of_heads t (heads_of limits t) }
 {}

@@ -21,18 +21,19 @@ mod collected;
 mod entry_map;
 mod event_list;
 mod events;
+mod head_event;
 mod header_machine;
 mod headers;
 mod heads;
 pub mod laws;
+mod name_tree;
+mod named_value;
 mod part_machine;
 mod whole;
 
 pub use book::HeaderBook;
 pub use canonical::wants_own_lines;
+pub use head_event::HeadEvent;
 pub use headers::Headers;
 pub use heads::{HeadFault, Heads};
 pub use whole::headers_whole;
-
-#[cfg(test)]
-mod tests;

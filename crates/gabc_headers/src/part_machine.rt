@@ -60,12 +60,12 @@ impl Trim {
 }
 
 /// Where the reader stands: in a line that begins no header yet or in its name; in the rest of a line that is skipped;
-/// or in a value, on the header's own line (false) or a later one.
+/// or in a value, on the header's own line or a later one (`long`).
 #[derive(Clone, Copy)]
 pub(crate) enum PartState {
     Name,
     Skip,
-    Value(bool, Run),
+    Value { long: bool, run: Run },
 }
 
 /// A reader of lines. `line` is the current one, from 1; `header` and `name` are those of the value in which it stands,
@@ -122,7 +122,12 @@ impl PartMachine {
         ensures { result ≡ event_at_end self point }
     {
         match self.name {
-            Some(name) => Some(HeaderEvent::Header(self.header, name, self.trim.span(), point)),
+            Some(name) => Some(HeaderEvent::Header {
+                line: self.header,
+                name,
+                value: self.trim.span(),
+                point,
+            }),
             None => None,
         }
     }
@@ -134,7 +139,10 @@ impl PartMachine {
         let name = self.trim.span();
         let good = is_good(name);
         let value = PartMachine {
-            state: PartState::Value(false, Run::Text),
+            state: PartState::Value {
+                long: false,
+                run: Run::Text,
+            },
             line: self.line,
             trim: Trim::at(next),
             header: self.line,
@@ -143,7 +151,8 @@ impl PartMachine {
         if good {
             (value, None)
         } else {
-            (value, Some(HeaderEvent::LeftOut(self.line, point)))
+            let line = self.line;
+            (value, Some(HeaderEvent::LeftOut { line, point }))
         }
     }
 
@@ -161,7 +170,10 @@ impl PartMachine {
         match kind {
             HeaderChar::LineEnd if bare => (PartMachine::fresh(self.line + 1, next), None),
             HeaderChar::LineEnd => {
-                let left_out = HeaderEvent::LeftOut(self.line, point);
+                let left_out = HeaderEvent::LeftOut {
+                    line: self.line,
+                    point,
+                };
                 (PartMachine::fresh(self.line + 1, next), Some(left_out))
             }
             HeaderChar::Percent if bare => (self.in_state(PartState::Skip), None),
@@ -184,7 +196,10 @@ impl PartMachine {
         ensures { result ≡ value_step self long run kind point next }
     {
         let ends = run.closes();
-        let on = self.in_state(PartState::Value(long, run.after(long, kind)));
+        let on = self.in_state(PartState::Value {
+            long,
+            run: run.after(long, kind),
+        });
         match kind {
             HeaderChar::LineEnd if ends => (
                 PartMachine::fresh(self.line + 1, next),
@@ -192,7 +207,10 @@ impl PartMachine {
             ),
             HeaderChar::LineEnd => {
                 let below = PartMachine {
-                    state: PartState::Value(true, Run::Text),
+                    state: PartState::Value {
+                        long: true,
+                        run: Run::Text,
+                    },
                     line: self.line + 1,
                     ..self
                 };
@@ -222,7 +240,7 @@ impl PartMachine {
                 HeaderChar::LineEnd => (PartMachine::fresh(self.line + 1, next), None),
                 _ => (self, None),
             },
-            PartState::Value(long, run) => self.step_in_value(long, run, kind, point, next),
+            PartState::Value { long, run } => self.step_in_value(long, run, kind, point, next),
         }
     }
 
@@ -231,7 +249,7 @@ impl PartMachine {
         ensures { result ≡ open_in self.state self.header }
     {
         match self.state {
-            PartState::Value(_, run) => if run.closes() {
+            PartState::Value { long: _, run } => if run.closes() {
                 None
             } else {
                 Some(self.header)

@@ -28,16 +28,20 @@ pub fn headers_whole(
     let written = text.as_str();
     let collected = collect(alloc, written, &read.events)?;
     match read.end {
-        HeaderEnding::Score(place, body, line) => {
-            at_score(alloc, written, limits, place, body, line, collected)
-        }
+        HeaderEnding::Score {
+            place,
+            body,
+            open_line,
+        } => at_score(alloc, written, limits, place, body, open_line, collected),
         HeaderEnding::Limit(place) => Ok(Err(head_fault(
             place,
             Code::F4,
             collected.findings,
             false,
         ))),
-        HeaderEnding::Text(place, line) => Ok(Err(at_text(place, line, collected.findings))),
+        HeaderEnding::Text { place, open_line } => {
+            Ok(Err(at_text(place, open_line, collected.findings)))
+        }
     }
 }
 
@@ -51,9 +55,9 @@ fn at_score(
     open_line: Option<u64>,
     collected: Collected,
 ) -> Result<Result<Heads, HeadFault>, AllocError>
-    requires { AreWithin text.now collected.headers }
+    requires { AreWithin text.now collected.headers.items }
     ensures { IfOk result (λ read. read
-        ≡ heads_at_score limits place body open_line (spelled_entries text.now collected.headers) collected.findings) }
+        ≡ heads_at_score limits place body open_line (spelled_entries text.now collected.headers.items) collected.findings) }
 {
     match open_line {
         None => finish(alloc, text, limits, place, body, collected),
@@ -103,9 +107,9 @@ fn finish(
     body: usize,
     collected: Collected,
 ) -> Result<Result<Heads, HeadFault>, AllocError>
-    requires { AreWithin text.now collected.headers }
+    requires { AreWithin text.now collected.headers.items }
     ensures { IfOk result (λ read. read
-        ≡ heads_at_body limits place body (spelled_entries text.now collected.headers) collected.findings) }
+        ≡ heads_at_body limits place body (spelled_entries text.now collected.headers.items) collected.findings) }
 {
     let Collected {
         headers,

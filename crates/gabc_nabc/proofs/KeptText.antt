@@ -12,7 +12,6 @@ use Rattle.gabc_patterns.specs.Function.{trim}
 use Rattle.gabc_patterns.proofs.FunctionsMeetRelations.{trim_trims}
 use Rattle.gabc_notes.specs.SnippetRead.{kept_of as kept_in, kept_chars_of}
 use Rattle.gabc_notes.specs.declared.stage.NoteEvent.{NoteEvent}
-use Rattle.gabc_notes.proofs.KeptChars.{kept_chars-kept}
 use Rattle.gabc_nabc.specs.Table.{nabc}
 use Rattle.gabc_nabc.specs.Events.{kept_of, nabc_events}
 use Rattle.gabc_nabc.specs.SnippetRead.{before_end, from_end, kept_before, kept_chars_in}
@@ -30,12 +29,16 @@ prefix_is prefix (c ∷ cs) =
     let t = trim_trims nabc refl (kept_of prefix) in
     ap (take (length (trim nabc (kept_of prefix)))) t.cut ∙ take-append_seam (trim nabc (kept_of prefix)) t.rest
 
-pub text_is : (at : Place) (t : List ℕ) → map (λ (x : Char). x.c) (kept_chars_in at t) ≡ kept_before (before_end t) (from_end t)
-text_is at t =
+-- the characters that are emitted as kept, without their places, are the kept text
+abbrev pub AreText : Type 0
+AreText = (events : List NoteEvent) → map (λ (x : Char). x.c) (kept_chars_of events) ≡ kept_in events
+
+text_is : AreText → (at : Place) (t : List ℕ) → map (λ (x : Char). x.c) (kept_chars_in at t) ≡ kept_before (before_end t) (from_end t)
+text_is are_text at t =
     let n : ℕ = length (kept_before (before_end t) (from_end t)) in
     let events : List NoteEvent = concat_of (nabc_events (placed_characters_from at t)) in
     let kept : kept_in events ≡ kept_of (before_end t) = emitted_kept (placed_characters_from at t) ∙ ap (λ (u : List ℕ). kept_of (before_end u)) (text_placed at t) in
-    sym (take-map (λ (x : Char). x.c) n (kept_chars_of events)) ∙ (ap (take n) (kept_chars-kept events ∙ kept) ∙ prefix_is (before_end t) (from_end t))
+    sym (take-map (λ (x : Char). x.c) n (kept_chars_of events)) ∙ (ap (take n) (are_text events ∙ kept) ∙ prefix_is (before_end t) (from_end t))
 
 -- a driver's answer, where `text` is the kept text and `rest` what is emitted of the characters
 pub chars_returned : {E : Type 0} (r : Result (List Char) E) (at : Place) (t : List ℕ) (rest : List (List NoteEvent)) (text : List ℕ)
@@ -47,8 +50,8 @@ chars_returned r at t rest text e f =
     ∙ ap (λ (o : List (List NoteEvent)). take (length (kept_before (before_end t) (from_end t))) (kept_chars_of (concat_of o))) f in
     IfOk-weaker r (λ cs. cs ≡ take (length text) (kept_chars_of (concat_of rest))) (λ cs. cs ≡ kept_chars_in at t) (λ cs g. g ∙ same)
 
-pub text_returned : {E : Type 0} (r : Result (List Char) E) (at : Place) (t : List ℕ) → IfOk r (λ cs. cs ≡ kept_chars_in at t)
+pub text_returned : {E : Type 0} → AreText → (r : Result (List Char) E) (at : Place) (t : List ℕ) → IfOk r (λ cs. cs ≡ kept_chars_in at t)
     → IfOk r (λ cs. map (λ (x : Char). x.c) cs ≡ kept_before (before_end t) (from_end t))
-text_returned r at t =
+text_returned are_text r at t =
     IfOk-weaker r (λ cs. cs ≡ kept_chars_in at t) (λ cs. map (λ (x : Char). x.c) cs ≡ kept_before (before_end t) (from_end t))
-    (λ cs e. ap (map (λ (x : Char). x.c)) e ∙ text_is at t)
+    (λ cs e. ap (map (λ (x : Char). x.c)) e ∙ text_is are_text at t)

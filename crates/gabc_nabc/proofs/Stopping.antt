@@ -4,7 +4,7 @@ use Rattle.std.specs.List.{list_any}
 use Rattle.gabc_places.specs.declared.code.Code.TheVariants.{E6, W7}
 use Rattle.gabc_places.specs.declared.place.Char.{Char}
 use Rattle.gabc_places.specs.BoundedList.{BoundedList, extended_by}
-use Rattle.gabc_places.specs.StageLaw.{concat_of, GivesNothing, StopsAtEnd}
+use Rattle.gabc_places.specs.StageLaw.{concat_of, EmitsNothing, StopsAtEnd}
 use Rattle.gabc_notes.specs.Ends.{is_ended}
 use Rattle.gabc_notes.specs.declared.stage.NoteEnd.TheVariants.{Cut}
 use Rattle.gabc_notes.specs.declared.stage.NoteEvent.{NoteEvent}
@@ -18,7 +18,7 @@ use Rattle.gabc_nabc.specs.declared.stage.NabcRole.TheVariants.{Silent, Ends, Ke
 use Rattle.gabc_nabc.specs.declared.stage.NabcFacts.{NabcFacts}
 
 -- a stage that has ended gives nothing
-pub ended-emits_nothing : (st : NabcStage) → st.ended ≡ true → GivesNothing (events_left st)
+pub ended-emits_nothing : (st : NabcStage) → st.ended ≡ true → EmitsNothing (events_left st)
 ended-emits_nothing st e [] = rw e refl
 ended-emits_nothing st e (x ∷ xs) =
     ap (λ (g : List NoteEvent). g ++ concat_of (events_left (stage_after st x.c) xs)) (same_events e)

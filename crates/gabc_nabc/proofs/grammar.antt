@@ -1,1 +1,2 @@
 pub mod LawsOfEvents
+pub mod SnippetIsReadAgain

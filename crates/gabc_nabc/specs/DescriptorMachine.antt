@@ -214,18 +214,18 @@ facts_at st c = facts_by_states st.state (next_at st c) st.letter c
 abbrev pub role_at : NabcStage → ℕ → NabcRole
 role_at st c = role_in st.comment (is_some (next_at st c)) c
 
--- what a character gives, and the stage behind it
+-- what a character emits, and the stage behind it
 abbrev pub stage_events_at : NabcStage → Char → List NoteEvent
 stage_events_at st x = if st.ended then [] else event_list (events_in (role_at st x.c) (facts_at st x.c) st.whole x)
 
 abbrev pub stage_after : NabcStage → ℕ → NabcStage
 stage_after st c = if st.ended then st else stage_moved_on st (role_at st c) (facts_at st c) (next_at st c) c
 
--- what the end gives
+-- what the end emits
 abbrev pub events_of_cut : NabcStage → List NoteEvent
 events_of_cut st = if st.ended then [] else Ended (Cut (record { line = 0; column = 0 })) st.kept ∷ []
 
--- What a stage will still give for these characters and then the end.
+-- What a stage will still emit for these characters and then the end.
 abbrev pub events_left : NabcStage → List Char → List (List NoteEvent)
 events_left st [] = events_of_cut st ∷ []
 events_left st (x ∷ xs) = stage_events_at st x ∷ events_left (stage_after st x.c) xs

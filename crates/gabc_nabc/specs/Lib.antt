@@ -5,5 +5,6 @@ pub mod DescriptorMachine
 pub mod Events
 pub mod Names
 pub mod Parts
+pub mod ReadAgain
 pub mod SnippetRead
 pub mod Table

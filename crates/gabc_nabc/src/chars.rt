@@ -7,6 +7,7 @@ ghost use Rattle.gabc_nabc.specs.SnippetRead.{before_end, from_end, kept_before,
 use crate::stage::NabcStage;
 use crate::whole::nabc_whole;
 use gabc_notes::kept_chars_by;
+use gabc_notes::laws::kept_characters_are_the_kept_text;
 use gabc_places::{Char, Place, Sequence};
 use std::alloc::{AllocError, Global};
 
@@ -19,6 +20,7 @@ pub fn kept_chars(alloc: Global, body: &str, at: Place) -> Result<Sequence<Char>
     ensures text { let t = chars body.now in
         IfOk result (λ cs. map (λ x. x.c) cs ≡ kept_before (before_end t) (from_end t)) }
 {
+    kept_characters_are_the_kept_text();
     let read = nabc_whole(alloc, body, at)?;
     let mut stage = NabcStage::new();
     kept_chars_by(alloc, &mut stage, body, at, &read.kept)

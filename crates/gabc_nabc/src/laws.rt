@@ -13,15 +13,17 @@ ghost use Rattle.gabc_nabc.specs.Table.{nabc, code, descriptor};
 ghost use Rattle.gabc_nabc.specs.Codes.{HasCodesOfGlyphs};
 ghost use Rattle.gabc_nabc.specs.Events.{bytes_in, has_end, is_code, kept_of, nabc_events, events_at, nabc_events_behind, cut_events};
 ghost use Rattle.gabc_notes.specs.SnippetRead.{ends_of, findings_of, kept_of as kept_in};
-ghost use Rattle.gabc_notes.specs.Ends.{EndAtMost, AreCutAtMost};
+ghost use Rattle.gabc_notes.specs.Ends.{IsMarkOf, EndAtMost, AreCutAtMost};
+ghost use Rattle.gabc_notes.specs.declared.stage.NoteEnd.{NoteEnd};
 ghost use Rattle.gabc_places.specs.Place.{place_past, placed_characters_from};
+ghost use Rattle.gabc_nabc.specs.ReadAgain.{IsNabcReadAgain};
 ghost use Rattle.gabc_nabc.specs.SnippetRead.{before_end, from_end, kept_before, end_before, AreAtMostOne};
 
 use crate::stage::NabcStage;
 use gabc_notes::NoteEvent;
 use gabc_places::{Char, Room, drive};
 
-/// A fresh stage, driven over all characters and then ended, gives what is emitted of them.
+/// A fresh stage, driven over all characters and then ended, emits the events of the definition.
 pub fn a_fresh_stage_emits(inputs: Vec<Char>, out: &mut Room<NoteEvent>)
     requires { Fits out.old (3 * (length inputs.items + 1)) }
     ensures { out.new ≡ extended_by out.old (concat_of (nabc_events inputs.items)) }
@@ -73,7 +75,8 @@ pub fn the_kept_text_is_emitted()
 
 /// One end is emitted, with the bytes of the kept text: at most those of the characters that are emitted as kept.
 pub fn one_end_is_emitted()
-    ensures end { (xs : List Char) → (let t = map (λ x. x.c) xs in ends_of (concat_of (nabc_events xs))
+    ensures end { (xs : List Char) → (let t = map (λ x. x.c) xs in
+        ends_of (concat_of (nabc_events xs))
         ≡ (end_before (from_end t), bytes_in (kept_before (before_end t) (from_end t))) ∷ []) }
     ensures bytes { (xs : List Char) → (let t = map (λ x. x.c) xs in
         bytes_in (kept_before (before_end t) (from_end t))
@@ -100,7 +103,8 @@ pub fn codes_are_of_glyphs()
 /// than that character.
 pub fn findings_lie_within()
     ensures { (at : Place) (prefix rest : List ℕ) →
-        let events = concat_of (take (length prefix + 1) (nabc_events (placed_characters_from at (prefix ++ rest)))) in
+        let events = concat_of (take (length prefix + 1)
+        (nabc_events (placed_characters_from at (prefix ++ rest)))) in
         LieBetween at (place_past at prefix) (findings_of events) }
 {}
 
@@ -109,4 +113,13 @@ pub fn findings_lie_within()
 pub fn a_snippet_ends_at_its_mark()
     ensures mark { (t : List ℕ) (x : Char) → EndAtMost true x.c (events_at t x) }
     ensures last { (t : List ℕ) → AreCutAtMost (cut_events t) }
+{}
+
+/// A snippet of the table in front of its mark, whatever follows, is read again as exactly that snippet: it ends at that mark, each
+/// character is kept at its place, and no error is found. The kept text of each snippet that has ended is one.
+pub fn kept_again()
+    ensures snippet { (at : Place) (how : NoteEnd) (t rest : List ℕ) (mark : ℕ) →
+        IsSnippet nabc t → IsMarkOf true how mark → IsNabcReadAgain at t mark rest }
+    ensures kept { (prefix : List ℕ) (mark : ℕ) (rest : List ℕ) →
+        IsSnippet nabc (kept_before prefix (mark ∷ rest)) }
 {}

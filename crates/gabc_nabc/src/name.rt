@@ -14,7 +14,8 @@ fn find_name(
 ) -> Option<&'static str>
     ensures { let rows = map (λ row. (row.0, row.1, row.2.now)) names.now in
         MatchOption result
-        (name_among first second rows ≡ None) (λ name. name_among first second rows ≡ Some name.now) }
+        (name_among first second rows ≡ None) (λ name. name_among first second rows
+        ≡ Some name.now) }
 {
     for (a, b, name) in names {
         if *a == first && *b == second {

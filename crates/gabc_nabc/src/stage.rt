@@ -121,7 +121,7 @@ fn end_of(c: char) -> NoteEnd
     }
 }
 
-/// Returns what a character gives. The longest prefix of the kept text that is an NABC snippet has `whole` bytes.
+/// Returns what is emitted at a character. The longest prefix of the kept text that is an NABC snippet has `whole` bytes.
 fn events_by(role: NabcRole, facts: NabcFacts, whole: usize, x: Char) -> NabcEvents
     ensures { result ≡ events_in role facts whole x }
 {
@@ -167,7 +167,7 @@ fn send(events: NabcEvents, out: &mut Room<NoteEvent>)
     }
 }
 
-/// Reads an NABC snippet: gives each character that is kept, the findings as they become known, and the end. It asks for no
+/// Reads an NABC snippet: emits each character that is kept, the findings as they become known, and the end. It asks for no
 /// memory.
 #[derive(Drop)]
 pub struct NabcStage {
@@ -216,7 +216,7 @@ impl NabcStage {
         }
     }
 
-    /// Takes a character, and adds what it gives.
+    /// Takes a character, and adds what is emitted at it.
     pub(crate) fn take(&mut self, x: Char, out: &mut Room<NoteEvent>)
         requires { Fits out.old 3 }
         ensures stage { self.new ≡ stage_after self.old x.c }
@@ -232,7 +232,7 @@ impl NabcStage {
         self.advance(role, facts, next, x.c);
     }
 
-    /// Ends the characters, and adds what that gives.
+    /// Ends the characters, and adds what is emitted then.
     pub(crate) fn stop(&self, out: &mut Room<NoteEvent>)
         requires { Fits out.old 3 }
         ensures { out.new ≡ extended_by out.old (events_of_cut self.now) }

@@ -32,7 +32,7 @@ impl NabcBuilder {
         }
     }
 
-    /// Adds what the stage gave.
+    /// Adds what the stage emitted.
     fn add(&mut self, output: NoteEvent) -> Result<(), AllocError>
         ensures { OnOk result (built_nabc_of self.new
             ≡ with_event (built_nabc_of self.old) output) }
@@ -45,7 +45,7 @@ impl NabcBuilder {
         Ok(())
     }
 
-    /// Adds all that the stage gave.
+    /// Adds all that the stage emitted.
     fn add_all(&mut self, events: &[NoteEvent]) -> Result<(), AllocError>
         ensures { OnOk result (built_nabc_of self.new ≡
             with_events (built_nabc_of self.old) events.now) }
@@ -63,7 +63,7 @@ impl NabcBuilder {
         self.end
     }
 
-    /// Passes a character to the stage, and adds what it gives. Nothing stays in the room.
+    /// Passes a character to the stage, and adds what it emits. Nothing stays in the room.
     fn feed(
         &mut self,
         stage: &mut NabcStage,
@@ -72,7 +72,8 @@ impl NabcBuilder {
     ) -> Result<(), AllocError>
         requires { room.old ≡ record { items = []; limit = 3 } }
         ensures stage { stage.new ≡ stage_after stage.old x.c }
-        ensures gathered { let now = with_events (built_nabc_of self.old) (stage_events_at stage.old x) in
+        ensures gathered { let now = with_events (built_nabc_of self.old)
+            (stage_events_at stage.old x) in
             OnOk result (built_nabc_of self.new ≡ now) }
         ensures room { OnOk result (room.new ≡ record { items = []; limit = 3 }) }
     {
@@ -82,7 +83,7 @@ impl NabcBuilder {
         Ok(())
     }
 
-    /// Ends the stage, and adds what it gives.
+    /// Ends the stage, and adds what it emits.
     fn close(&mut self, stage: &NabcStage, room: &mut Room<NoteEvent>) -> Result<(), AllocError>
         requires { room.old ≡ record { items = []; limit = 3 } }
         ensures { let now = with_events (built_nabc_of self.old) (events_of_cut stage.now) in

@@ -7,7 +7,7 @@ use Rattle.gabc_places.specs.declared.code.Code.TheVariants.{E6, W8, W10}
 use Rattle.gabc_places.specs.declared.place.Char.{Char}
 use Rattle.gabc_places.specs.declared.place.Place.{Place}
 use Rattle.gabc_places.specs.BoundedList.{BoundedList, extended_by}
-use Rattle.gabc_places.specs.StageLaw.{GivesNothing, StopsAtEnd}
+use Rattle.gabc_places.specs.StageLaw.{EmitsNothing, StopsAtEnd}
 use Rattle.gabc_places.proofs.PushesAreOne.{joined_silence}
 use Rattle.gabc_notes.specs.Ends.{is_ended}
 use Rattle.gabc_notes.specs.machine.ItemMachine.{stage_after}
@@ -26,7 +26,7 @@ use Rattle.gabc_notes.specs.declared.state.ItemState.{ItemState}
 use Rattle.gabc_places.proofs.NothingBehindAnEnd.{stops-endless, stops-last}
 
 -- a stage that has ended gives nothing
-pub ended-emits_nothing : (st : NoteStage) → st.ended ≡ true → GivesNothing (events_left st)
+pub ended-emits_nothing : (st : NoteStage) → st.ended ≡ true → EmitsNothing (events_left st)
 ended-emits_nothing st e = λ xs. rw e (joined_silence xs)
 
 found_is : (b : Bool) (place : Place) (code : Code) → list_any is_ended (option_to_list (cond b (Some (finding_event place code)) None)) ≡ false

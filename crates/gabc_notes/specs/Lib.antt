@@ -5,6 +5,7 @@ pub mod ItemMachine
 pub mod Items
 pub mod Notes
 pub mod Raw
+pub mod ReadAgain
 pub mod SnippetRead
 pub mod StageEvents
 pub mod Table

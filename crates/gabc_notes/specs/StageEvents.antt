@@ -87,7 +87,7 @@ before_in Keep b e x = record {
 }
 before_in _ b e x = b
 
--- What a character gives. At the end of the snippet an unfinished end is E6, and an open `@[` is W10.
+-- What a character emits. At the end of the snippet an unfinished end is E6, and an open `@[` is W10.
 abbrev pub events_in : CharRole → ℕ → Before → CharFacts → Char → CharEvents
 events_in Keep macros b e x = record { first = Some (Kept x); second = warning_in macros b e x; third = None }
 events_in LeaveOut macros b e x = record { first = Some (finding_event x.place E1); second = None; third = None }

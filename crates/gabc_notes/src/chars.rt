@@ -11,7 +11,7 @@ use crate::whole::snippet_whole;
 use gabc_places::{Char, Place, Room, Sequence, Stage};
 use std::alloc::{AllocError, Global};
 
-/// Adds the character that `event` tells as kept, if it tells one and `kept` has fewer than `count`.
+/// Adds the character that `event` keeps, if it keeps one and `kept` has fewer than `count`.
 fn add_kept(kept: &mut Sequence<Char>, event: NoteEvent, count: usize) -> Result<(), AllocError>
     requires { length kept.old ≤ count }
     ensures { OnOk result (kept.new ≡ take count (kept.old ++ kept_chars_of (event ∷ []))) }
@@ -28,7 +28,7 @@ fn add_kept(kept: &mut Sequence<Char>, event: NoteEvent, count: usize) -> Result
     Ok(())
 }
 
-/// Adds the characters that `events` tells as kept, while `kept` has fewer than `count`.
+/// Adds the characters that `events` keep, while `kept` has fewer than `count`.
 fn add_all_kept(
     kept: &mut Sequence<Char>,
     events: &[NoteEvent],
@@ -50,7 +50,7 @@ fn characters(text: &str) -> usize
     text.chars().count()
 }
 
-/// Returns the first of the characters that `stage` gives as kept, driven over `body` and then ended: as many as `kept` has, or all
+/// Returns the first of the characters that `stage` emits as kept, driven over `body` and then ended: as many as `kept` has, or all
 /// if there are fewer. The first character of `body` stands at `at`. It fails only for want of memory.
 pub fn kept_chars_by<S>(
     alloc: Global,

@@ -1,7 +1,7 @@
 //! Laws of the definitions that contracts speak of. Each function is there for its clauses: all but one do nothing, and that one
 //! drives a fresh stage.
 
-ghost use Rattle.std.specs.Prelude.{◌≡◌, ◌≤◌, ◌+◌, ◌*◌, ℕ, List, [], ◌∷◌, ◌++◌, Bool, true, length, take, sum_by, codes, Decides};
+ghost use Rattle.std.specs.Prelude.{◌≡◌, ◌≤◌, ◌+◌, ◌*◌, ℕ, List, [], ◌∷◌, ◌++◌, Bool, true, length, take, map, sum_by, codes, Some, Decides};
 ghost use Rattle.std.specs.Char.{len_utf8};
 ghost use Rattle.gabc_places.specs.declared.place.Char.{Char};
 ghost use Rattle.gabc_places.specs.declared.place.Place.{Place};
@@ -11,16 +11,19 @@ ghost use Rattle.gabc_places.specs.StageLaw.{concat_of};
 ghost use Rattle.gabc_patterns.specs.Reading.{Reads, IsItem, OneKind, IsSnippet, IsViable};
 ghost use Rattle.gabc_notes.specs.Table.{gabc};
 ghost use Rattle.gabc_notes.specs.Events.{in_raw, Point, is_comment, is_over, kept, bytes_of, events_at, cut_events, note_events};
-ghost use Rattle.gabc_notes.specs.SnippetRead.{kept_of, findings_of, ends_of, stop_after, kept_by, end_by};
+ghost use Rattle.gabc_notes.specs.SnippetRead.{kept_of, kept_chars_of, findings_of, ends_of, stop_after, kept_by, end_by};
 ghost use Rattle.gabc_places.specs.Place.{place_past, placed_characters_from};
-ghost use Rattle.gabc_notes.specs.Ends.{EndAtMost, AreCutAtMost};
+ghost use Rattle.gabc_notes.specs.Ends.{IsMarkOf, EndAtMost, AreCutAtMost};
 ghost use Rattle.gabc_notes.specs.Raw.{IsOpen, InComment, IsOpenedAt};
+ghost use Rattle.gabc_notes.specs.ReadAgain.{IsReadAgain};
 ghost use Rattle.gabc_notes.specs.declared.item.ItemKind.{ItemKind};
+ghost use Rattle.gabc_notes.specs.declared.stage.NoteEnd.{NoteEnd};
+ghost use Rattle.gabc_notes.specs.declared.stage.NoteEvent.{NoteEvent};
 
 use crate::stage::{NoteEvent, NoteStage};
 use gabc_places::{Char, Room, drive};
 
-/// A fresh stage, driven over all characters and then ended, gives what is said of them.
+/// A fresh stage, driven over all characters and then ended, emits the events of the definition.
 pub fn a_fresh_stage_emits(split: bool, macros: u16, inputs: Vec<Char>, out: &mut Room<NoteEvent>)
     requires { Fits out.old (3 * (length inputs.items + 1)) }
     ensures { out.new ≡ extended_by out.old (concat_of (note_events split macros inputs.items)) }
@@ -28,6 +31,12 @@ pub fn a_fresh_stage_emits(split: bool, macros: u16, inputs: Vec<Char>, out: &mu
     let mut stage = NoteStage::new(split, macros);
     drive(&mut stage, inputs, out);
 }
+
+/// The characters that a stage emits as kept, without their places, are the kept text.
+pub fn kept_characters_are_the_kept_text()
+    ensures { (events : List NoteEvent) →
+        map (λ x. x.c) (kept_chars_of events) ≡ kept_of events }
+{}
 
 /// No row of the table spells the empty text: what the laws of tables in `gabc_patterns` ask of a table.
 pub fn no_item_is_empty()
@@ -84,7 +93,8 @@ pub fn one_end_is_emitted()
     ensures end { (split : Bool) (macros : ℕ) (xs : List Char) → (let s = stop_after split [] xs in
         ends_of (concat_of (note_events split macros xs))
         ≡ (end_by s.mark s.back, bytes_of (kept_by s.mark s.back)) ∷ []) }
-    ensures bytes { (split : Bool) (macros : ℕ) (xs : List Char) → (let s = stop_after split [] xs in
+    ensures bytes { (split : Bool) (macros : ℕ) (xs : List Char) →
+        (let s = stop_after split [] xs in
         bytes_of (kept_by s.mark s.back)
         ≤ sum_by len_utf8 (kept_of (concat_of (note_events split macros xs)))) }
 {}
@@ -108,7 +118,8 @@ pub fn findings_are_in_order()
 /// than that character.
 pub fn findings_lie_within()
     ensures { (at : Place) (split : Bool) (macros : ℕ) (prefix rest : List ℕ) →
-        let events = concat_of (take (length prefix + 1) (note_events split macros (placed_characters_from at (prefix ++ rest)))) in
+        let events = concat_of (take (length prefix + 1)
+        (note_events split macros (placed_characters_from at (prefix ++ rest)))) in
         LieBetween at (place_past at prefix) (findings_of events) }
 {}
 
@@ -118,4 +129,13 @@ pub fn a_snippet_ends_at_its_mark()
     ensures mark { (split : Bool) (macros : ℕ) (p : Point) →
         EndAtMost split p.here.c (events_at split macros p) }
     ensures last { (split : Bool) (back : List Char) → AreCutAtMost (cut_events split back) }
+{}
+
+/// A snippet of the table in front of its mark, whatever follows, is read again as exactly that snippet: it ends at that mark, each
+/// character is kept at its place, and no error is found. The kept text of each snippet that has ended is one.
+pub fn kept_again()
+    ensures snippet { (split : Bool) (macros : ℕ) (at : Place) (how : NoteEnd) (t rest : List ℕ)
+        (mark : ℕ) → IsSnippet gabc t → IsMarkOf split how mark →
+        IsReadAgain split macros at t mark rest }
+    ensures kept { (mark : ℕ) (back : List Char) → IsSnippet gabc (kept_by (Some mark) back) }
 {}

@@ -24,7 +24,7 @@ pub enum NoteEnd {
     Cut(Place),
 }
 
-/// What a stage tells of a snippet: an event.
+/// An event: what a stage emits of a snippet.
 #[derive(Clone, Copy, Debug, PartialEq, Eq)]
 pub enum NoteEvent {
     /// A character that is kept.
@@ -245,7 +245,7 @@ fn end_of(c: char) -> NoteEnd
     }
 }
 
-/// Returns what a character gives.
+/// Returns what is emitted at a character.
 fn events_by(role: CharRole, macros: u16, before: Before, facts: CharFacts, x: Char) -> CharEvents
     ensures { result ≡ events_in role macros before facts x }
 {
@@ -322,7 +322,7 @@ fn prefix_after(facts: CharFacts, name: MacroPrefix, c: char) -> MacroPrefix
     }
 }
 
-/// Reads a snippet: gives each character that is kept, the findings as they become known, and the end. It asks for no memory.
+/// Reads a snippet: emits each character that is kept, the findings as they become known, and the end. It asks for no memory.
 #[derive(Drop)]
 pub struct NoteStage {
     split: bool,

@@ -32,7 +32,7 @@ impl SnippetBuilder {
         }
     }
 
-    /// Adds what the machine gave.
+    /// Adds what the machine emitted.
     fn add(&mut self, event: NoteEvent) -> Result<(), AllocError>
         ensures { OnOk result (built_snippet_of self.new
             ≡ with_event (built_snippet_of self.old) event) }
@@ -45,7 +45,7 @@ impl SnippetBuilder {
         Ok(())
     }
 
-    /// Adds all that the machine gave.
+    /// Adds all that the machine emitted.
     fn add_all(&mut self, events: &[NoteEvent]) -> Result<(), AllocError>
         ensures { OnOk result (built_snippet_of self.new
             ≡ with_events (built_snippet_of self.old) events.now) }
@@ -56,7 +56,7 @@ impl SnippetBuilder {
         Ok(())
     }
 
-    /// Passes a character to the machine, and adds what it gives. Nothing stays in the room.
+    /// Passes a character to the machine, and adds what is emitted. Nothing stays in the room.
     fn feed(
         &mut self,
         stage: &mut NoteStage,
@@ -74,7 +74,7 @@ impl SnippetBuilder {
         Ok(())
     }
 
-    /// Ends the machine, and adds what it gives.
+    /// Ends the machine, and adds what it emits.
     fn close(&mut self, stage: &mut NoteStage, room: &mut Room<NoteEvent>) -> Result<(), AllocError>
         requires { room.old ≡ record { items = []; limit = 3 } }
         ensures { OnOk result (EndIsAdded stage.old (built_snippet_of self.old)

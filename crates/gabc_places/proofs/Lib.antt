@@ -1,4 +1,6 @@
+pub mod decoding
 pub mod texts
+pub mod utf8
 pub mod AppendsAreJoined
 pub mod ChainKeepsEvents
 pub mod EarliestIsLeast

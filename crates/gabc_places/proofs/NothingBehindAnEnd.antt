@@ -3,7 +3,7 @@ use Rattle.std.proofs.Common.{ℕ, List, [], ◌∷◌, ◌++◌, ◌≡◌, ◌
 use Rattle.std.proofs.lemmas.List.{append_cancel_left}
 use Rattle.std.specs.List.{list_any}
 use Rattle.gabc_places.specs.BoundedList.{BoundedList, extended_by}
-use Rattle.gabc_places.specs.StageLaw.{concat_of, Pushes, Finishes, GivesNothing, StopsAtEnd}
+use Rattle.gabc_places.specs.StageLaw.{concat_of, Pushes, Finishes, EmitsNothing, StopsAtEnd}
 use Rattle.gabc_places.specs.machine.StageLaw.{PushesAll}
 
 -- an element of a list that is joined of two lies in the first or in the second
@@ -38,14 +38,14 @@ items_of r t e = ap (λ h. h.items) e
 
 -- a call, and then a call that adds nothing and leaves a stage that gives nothing where the first did
 stops-both : {I O : Type 0} (ends : O → Bool) (mid after : List I → List (List O)) (r s t : BoundedList O) (a b : List O)
-    → s ≡ extended_by r a → t ≡ extended_by s b → (GivesNothing mid → (b ≡ []) × GivesNothing after)
+    → s ≡ extended_by r a → t ≡ extended_by s b → (EmitsNothing mid → (b ≡ []) × EmitsNothing after)
     → StopsAtEnd ends mid r s → StopsAtEnd ends after s t → StopsAtEnd ends after r t
 stops-both {I} {O} ends mid after r s t a b se te over first second before behind x e is_end = by (where_it_lies a b before behind x split)
   where
     split : a ++ b ≡ before ++ x ∷ behind
     split = append_cancel_left r.items (a ++ b) (before ++ x ∷ behind) (sym (append_assoc r.items a b) ∙ sym (items_of _ _ te ∙ ap (λ (h : BoundedList O). h.items ++ b) se) ∙ items_of _ _ e)
 
-    by : InFirst a b before behind x ⊎ InSecond a b before behind x → (behind ≡ []) × GivesNothing after
+    by : InFirst a b before behind x ⊎ InSecond a b before behind x → (behind ≡ []) × EmitsNothing after
     by (inl i) =
         let k = first before i.left x (se ∙ ap (extended_by r) i.first_is) is_end in
         let o = over k.1 in
@@ -54,7 +54,7 @@ stops-both {I} {O} ends mid after r s t a b se te over first second before behin
 
 -- a stage that gives nothing adds nothing at a push, and gives nothing after it
 nothing-pushed : {I O : Type 0} (mid after : List I → List (List O)) (x : I) (most : ℕ) (s t : BoundedList O) (g : Pushes mid after x most s t)
-    → GivesNothing mid → (g.events ≡ []) × GivesNothing after
+    → EmitsNothing mid → (g.events ≡ []) × EmitsNothing after
 nothing-pushed mid after x most s t g none = (
   empty_prefix g.events (concat_of (after [])) (sym (ap concat_of (g.law [])) ∙ none (x ∷ [])),
   λ xs. empty_back g.events (concat_of (after xs)) (sym (ap concat_of (g.law xs)) ∙ none (x ∷ xs)),
@@ -62,7 +62,7 @@ nothing-pushed mid after x most s t g none = (
 
 -- and at its end
 nothing-ended : {I O : Type 0} (mid after : List I → List (List O)) (most : ℕ) (s t : BoundedList O) (g : Finishes mid most s t)
-    → GivesNothing after → GivesNothing mid → (g.events ≡ []) × GivesNothing after
+    → EmitsNothing after → EmitsNothing mid → (g.events ≡ []) × EmitsNothing after
 nothing-ended mid after most s t g over none = (empty_prefix g.events [] (sym (ap concat_of g.law) ∙ none []), over)
 
 -- pushes of all of some inputs, and then a push
@@ -74,7 +74,7 @@ stops-pushed {mid = mid} {after = after} {x = x} {more = more} {r = r} {s = s} {
 
 -- pushes of all of some inputs, and then the end
 pub stops-ended : {I O : Type 0} {before mid : List I → List (List O)} {xs : List I} {most more : ℕ} {r s t : BoundedList O} (ends : O → Bool) (after : List I → List (List O))
-    → PushesAll before mid xs most r s → Finishes mid more s t → GivesNothing after
+    → PushesAll before mid xs most r s → Finishes mid more s t → EmitsNothing after
     → StopsAtEnd ends mid r s → StopsAtEnd ends after s t → StopsAtEnd ends after r t
 stops-ended {mid = mid} {more = more} {r = r} {s = s} {t = t} ends after all g over first second =
     stops-both ends mid after r s t (concat_of all.events) g.events all.out g.out (nothing-ended mid after more s t g over) first second
@@ -106,10 +106,10 @@ stops-endless ends after old new events e none before behind x h is_end =
 
 -- a call that gives an end last, and leaves a stage that gives nothing
 pub stops-last : {I O : Type 0} (ends : O → Bool) (after : List I → List (List O)) (old new : BoundedList O) (xs : List O) (last : O)
-    → new ≡ extended_by old (xs ++ last ∷ []) → list_any ends xs ≡ false → GivesNothing after → StopsAtEnd ends after old new
+    → new ≡ extended_by old (xs ++ last ∷ []) → list_any ends xs ≡ false → EmitsNothing after → StopsAtEnd ends after old new
 stops-last ends after old new xs last e none over before behind x h is_end =
     by (where_it_lies xs (last ∷ []) before behind x (events_is old new (xs ++ last ∷ []) (before ++ x ∷ behind) e h))
   where
-    by : InFirst xs (last ∷ []) before behind x ⊎ InSecond xs (last ∷ []) before behind x → (behind ≡ []) × GivesNothing after
+    by : InFirst xs (last ∷ []) before behind x ⊎ InSecond xs (last ∷ []) before behind x → (behind ≡ []) × EmitsNothing after
     by (inl i) = let k : list_any ends xs ≡ true = ap (list_any ends) i.first_is ∙ has_end ends before i.left x is_end in absurd (cc)
     by (inr i) = (only_one i.left behind last x i.second_is, over)

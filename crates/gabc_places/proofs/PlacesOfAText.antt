@@ -1,12 +1,12 @@
 -- The places of a text, by the text before and by the place of its first character.
-use Rattle.std.proofs.Common.{◌≡◌, ℕ, ◌+◌, ◌≤◌, Bool, true, false, cond, List, [], ◌∷◌, ◌++◌, length, refl, sym, ap, ◌∙◌, arith, append_assoc, append-nil, length-append, encode_utf8}
+use Rattle.std.proofs.Common.{◌≡◌, ℕ, suc, ◌+◌, ◌≤◌, Bool, true, false, cond, List, [], ◌∷◌, ◌++◌, length, refl, sym, ap, ◌∙◌, arith, append_assoc, append-nil, length-append, encode_utf8}
 use Rattle.std.proofs.lemmas.Grind.{common_steps}
 use Rattle.std.proofs.lemmas.Str.{length-encode, len_utf8_bounds}
 use Rattle.gabc_places.specs.declared.place.Place.{Place}
 use Rattle.gabc_places.specs.declared.place.Char.{Char}
 use Rattle.gabc_places.specs.Place.{next_place, is_line_feed, place_after, placed_characters_behind, place_past, placed_characters_from}
 
-next_after : (f : List ℕ) (c : ℕ) → next_place (place_after f) c ≡ place_after (f ++ c ∷ [])
+pub next_after : (f : List ℕ) (c : ℕ) → next_place (place_after f) c ≡ place_after (f ++ c ∷ [])
 next_after f c = grind (arith, common_steps)
 
 pub placed_behind : (f cs : List ℕ) → placed_characters_from (place_after f) cs ≡ placed_characters_behind f cs
@@ -18,6 +18,11 @@ pub behind_after : (f cs : List ℕ) → place_past (place_after f) cs ≡ place
 behind_after f [] = ap place_after (sym (append-nil f))
 behind_after f (c ∷ cs) =
     ap (λ p. place_past p cs) (next_after f c) ∙ behind_after (f ++ c ∷ []) cs ∙ ap place_after (append_assoc f (c ∷ []) cs)
+
+-- as many characters with places as characters
+pub length_placed : (p : Place) (cs : List ℕ) → length (placed_characters_from p cs) ≡ length cs
+length_placed p [] = refl
+length_placed p (c ∷ cs) = ap (λ n. suc n) (length_placed (next_place p c) cs)
 
 -- no count of a place grows by more than the bytes that were read
 module _ (p : Place) (n m lines columns : ℕ) (less : m + 1 ≤ n) (line : p.line + n ≤ lines) (column : p.column + n ≤ columns) where

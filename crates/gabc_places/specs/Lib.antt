@@ -3,6 +3,8 @@ pub mod BoundedList
 pub mod Bytes
 pub mod Chain
 pub mod Code
+pub mod Decoder
+pub mod DecoderMachine
 pub mod Failures
 pub mod Findings
 pub mod GhostCount

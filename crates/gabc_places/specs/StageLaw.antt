@@ -1,4 +1,4 @@
--- What the calls of a stage do, where `before` and `after` are what it will still give: a list for each input to come, and
+-- What the calls of a stage do, where `before` and `after` are what it will still emit: a list for each input to come, and
 -- one for the end.
 use Rattle.std.specs.Prelude.{ℕ, List, [], ◌∷◌, ◌++◌, length, ◌≤◌, ◌≡◌, Bool, true}
 use Rattle.std.specs.List.{flat_map}
@@ -8,7 +8,7 @@ use Rattle.gabc_places.specs.BoundedList.{BoundedList, extended_by}
 abbrev pub concat_of : {T : Type 0} → List (List T) → List T
 concat_of lists = flat_map (λ xs. xs) lists
 
--- What a push of x did: it added at most `most` outputs, those that were still to come for x, and what the stage gives from
+-- What a push of x did: it added at most `most` outputs, those that were still to come for x, and what the stage emits from
 -- then on follows them.
 pub record Pushes {I O : Type 0} (before after : List I → List (List O)) (x : I) (most : ℕ) (old new : BoundedList O) : Type 0 where
   pub events : List O
@@ -28,11 +28,11 @@ abbrev pub silence : {I O : Type 0} → List I → List (List O)
 silence [] = [] ∷ []
 silence (x ∷ xs) = [] ∷ silence xs
 
--- whatever comes, it gives nothing
-abbrev pub GivesNothing : {I O : Type 0} → (List I → List (List O)) → Type 0
-GivesNothing after = (xs : _) → concat_of (after xs) ≡ []
+-- whatever comes, it emits nothing
+abbrev pub EmitsNothing : {I O : Type 0} → (List I → List (List O)) → Type 0
+EmitsNothing after = (xs : _) → concat_of (after xs) ≡ []
 
--- What a call did with outputs that end the stage: behind the first of them it added no other, and from then on it gives nothing.
+-- What a call did with outputs that end the stage: behind the first of them it added no other, and from then on it emits nothing.
 abbrev pub StopsAtEnd : {I O : Type 0} → (O → Bool) → (List I → List (List O)) → BoundedList O → BoundedList O → Type 0
 StopsAtEnd ends after old new =
-    (before behind : List _) (x : _) → new ≡ extended_by old (before ++ x ∷ behind) → ends x ≡ true → (behind ≡ []) × GivesNothing after
+    (before behind : List _) (x : _) → new ≡ extended_by old (before ++ x ∷ behind) → ends x ≡ true → (behind ≡ []) × EmitsNothing after

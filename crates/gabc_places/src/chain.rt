@@ -1,6 +1,6 @@
 //! Two stages as one.
 //!
-//! What the first stage gives for one input waits in a room between the two. The caller gives that room, so that no call of a chain asks for memory.
+//! What the first stage emits for one input waits in a room between the two. The caller gives that room, so that no call of a chain asks for memory.
 
 ghost use Rattle.std.specs.Prelude.{◌≡◌, ℕ, ◌+◌, ◌*◌, ◌^◌, ◌<◌, ◌≤◌, length};
 ghost use Rattle.gabc_places.specs.BoundedList.{Fits};
@@ -11,7 +11,7 @@ ghost use Rattle.gabc_places.specs.Chain.{chain_events};
 use crate::{Room, Stage};
 use std::marker::Model;
 
-/// Passes the outputs of the first stage to the second. It gives at most `(first.most() + 1) * second.most()` outputs a call.
+/// Passes the outputs of the first stage to the second. It emits at most `(first.most() + 1) * second.most()` outputs a call.
 #[derive(Drop)]
 pub struct Chain<A: Stage, B: Stage<Input = A::Output>> {
     first: A,
@@ -27,11 +27,12 @@ impl<A: Stage, B: Stage<Input = A::Output>> Model for Chain<A, B> {
 
     ghost view = { λ c. record { first = c.first; second = c.second } };
 
-    ghost invariant = { λ c. ((A.most_of c.first + 1) * B.most_of c.second < 2 ^ 64) × (A.most_of c.first ≤ c.between.limit) };
+    ghost invariant = { λ c. ((A.most_of c.first + 1) * B.most_of c.second < 2 ^ 64)
+        × (A.most_of c.first ≤ c.between.limit) };
 }
 
 impl<A: Stage, B: Stage<Input = A::Output>> Chain<A, B> {
-    /// Returns a chain of the two stages. `between` holds what the first gives in one call; items that it has are dropped.
+    /// Returns a chain of the two stages. `between` holds what the first emits in one call; items that it has are dropped.
     pub fn new(first: A, second: B, between: Room<A::Output>) -> Chain<A, B>
         requires fits { (A.most_of first + 1) * B.most_of second < 2 ^ 64 }
         requires room { A.most_of first ≤ between.limit }
@@ -94,7 +95,7 @@ impl<A: Stage, B: Stage<Input = A::Output>> Stage for Chain<A, B> {
 }
 
 /// Pushes each of the inputs.
-fn push_all<S: Stage>(stage: &mut S, inputs: &[S::Input], out: &mut Room<S::Output>)
+pub(crate) fn push_all<S: Stage>(stage: &mut S, inputs: &[S::Input], out: &mut Room<S::Output>)
 where
     S::Input: Copy,
     requires { Fits out.old (S.most_of stage.old * length inputs.now) }
@@ -107,6 +108,3 @@ where
         stage.push(*input, out);
     }
 }
-
-#[cfg(test)]
-mod tests;

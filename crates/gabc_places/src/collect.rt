@@ -1,14 +1,14 @@
-//! All that a stage gives of a text.
+//! All that a stage emits of a text.
 
 ghost use Rattle.std.specs.Prelude.{◌≡◌, ◌+◌, ◌^◌, ◌<◌, length, IfOk, OnOk};
 ghost use Rattle.std.specs.Str.{chars};
-ghost use Rattle.gabc_places.specs.StageLaw.{concat_of, GivesNothing};
+ghost use Rattle.gabc_places.specs.StageLaw.{concat_of, EmitsNothing};
 ghost use Rattle.gabc_places.specs.Place.{placed_characters_from};
 
 use crate::{Char, Place, Room, Sequence, Stage};
 use std::alloc::{AllocError, Global};
 
-/// Pushes the characters of `text` to `stage`, ends them, and returns all that it gave, in order. The first character stands at
+/// Pushes the characters of `text` to `stage`, ends them, and returns all that it emitted, in order. The first character stands at
 /// `at`.
 pub fn outputs_of<S: Stage<Input = Char>>(
     alloc: Global,
@@ -20,7 +20,7 @@ pub fn outputs_of<S: Stage<Input = Char>>(
     requires column { at.column + length text.now < 2 ^ 64 }
     ensures all { IfOk result (λ all. all
         ≡ concat_of (S.rest stage.old (placed_characters_from at (chars text.now)))) }
-    ensures over { OnOk result (GivesNothing (S.rest stage.new)) }
+    ensures over { OnOk result (EmitsNothing (S.rest stage.new)) }
 {
     let mut room = Room::with_limit(alloc, stage.most())?;
     let mut all = Sequence::new(alloc);

@@ -37,7 +37,7 @@ pub fn text_of(
 }
 
 /// The longest prefix that is UTF-8, and what follows it.
-fn prefix_and_tail(bytes: &[u8]) -> (&str, Tail)
+pub(crate) fn prefix_and_tail(bytes: &[u8]) -> (&str, Tail)
     ensures text { chars result.0.now ≡ utf8_prefix bytes.now }
     ensures tail { result.1 ≡ tail_of bytes.now }
 {

@@ -1,20 +1,38 @@
 //! Laws of the definitions that contracts speak of. The functions do nothing: each is there for its clauses.
 
-ghost use Rattle.std.specs.Prelude.{◌≡◌, ◌≢◌, ℕ, ◌<◌, List, [], ◌∷◌, ◌++◌, length, take, Some, IsSome, slice_index};
+ghost use Rattle.std.specs.Prelude.{◌≡◌, ◌≢◌, ℕ, ◌<◌, List, [], ◌∷◌, ◌++◌, length, take, Bool, ◌≤◌, Some, None, IsSome, slice_index, encode_utf8_all};
+ghost use Rattle.std.specs.Char.{IsScalar};
 ghost use Rattle.std.specs.List.{slice_get, Contains, All};
 ghost use Rattle.gabc_places.specs.Place.{place_after, placed_characters, placed_characters_behind};
-ghost use Rattle.gabc_places.specs.Text.{text_of_bytes};
+ghost use Rattle.gabc_places.specs.Text.{text_of_bytes, decoded_of};
 ghost use Rattle.gabc_places.specs.Findings.{Stop, earliest, IsNoLater};
 ghost use Rattle.std.specs.Prelude.{◌+◌};
+ghost use Rattle.gabc_places.specs.declared.limits.Limits.{Limits};
+ghost use Rattle.gabc_places.specs.BoundedList.{Fits, extended_by};
+ghost use Rattle.gabc_places.specs.Decoder.{known_of, known_at_end};
 ghost use Rattle.gabc_places.specs.StageLaw.{concat_of};
 ghost use Rattle.gabc_places.specs.Chain.{chain_events};
 
-use crate::place::Place;
+use crate::chain::push_all;
+use crate::code::Fault;
+use crate::decoder::Decoder;
+use crate::limits::Limits;
+use crate::place::{Char, Place};
+use crate::room::Room;
+use crate::stage::drive;
 
 /// The text of an input has no CR and no U+FEFF.
 pub fn texts_are_plain()
     ensures { (limit : ℕ) (bytes : List ℕ) →
         All (λ c. (c ≢ 13) × (c ≢ 0xFEFF)) (text_of_bytes limit bytes) }
+{}
+
+/// A text without CR and U+FEFF is read again from its own bytes, with no fault, if they are within the limit.
+pub fn text_again()
+    ensures { (limits : Limits) (ended : Bool) (text : List ℕ) → All IsScalar text →
+        All (λ c. (c ≢ 13) × (c ≢ 0xFEFF)) text →
+        length (encode_utf8_all text) ≤ limits.input →
+        decoded_of limits ended (encode_utf8_all text) ≡ record { text = text; fault = None } }
 {}
 
 /// The first character of a text stands at line 1 and column 1.
@@ -44,7 +62,7 @@ pub fn earliest_is_least()
         All (IsNoLater s) stops }
 {}
 
-/// What two stages in a row give in all is what the second gives for all that the first gives; there is a list for each
+/// What two stages in a row emit in all is what the second emits for all that the first emits; there is a list for each
 /// input and one for the end.
 pub fn a_chain_emits_what_its_second_emits<I, M, O>()
     ensures all { (first : List I → List (List M)) (second : List M → List (List O)) (xs : List I) →
@@ -52,3 +70,29 @@ pub fn a_chain_emits_what_its_second_emits<I, M, O>()
     ensures one_each { (first : List I → List (List M)) (second : List M → List (List O))
         (xs : List I) → length (chain_events first second xs) ≡ length xs + 1 }
 {}
+
+/// A fresh decoder, driven over all the bytes of an input that ended, emits the text and the fault that `text_of` returns.
+pub fn a_fresh_decoder_emits_the_text(
+    limits: Limits,
+    bytes: Vec<u8>,
+    out: &mut Room<Result<Char, Fault>>,
+)
+    requires { Fits out.old (length bytes.items + 1) }
+    ensures { out.new ≡ extended_by out.old (known_at_end limits bytes.items) }
+{
+    let mut decoder = Decoder::new(limits);
+    drive(&mut decoder, bytes, out);
+}
+
+/// A decoder has emitted all that is known of the bytes so far, whatever follows them. Nothing is held back, and nothing guessed.
+pub fn a_decoder_emits_what_is_known(
+    limits: Limits,
+    bytes: &[u8],
+    out: &mut Room<Result<Char, Fault>>,
+)
+    requires { Fits out.old (length bytes.now) }
+    ensures { out.new ≡ extended_by out.old (known_of limits bytes.now) }
+{
+    let mut decoder = Decoder::new(limits);
+    push_all(&mut decoder, bytes, out);
+}

@@ -18,6 +18,7 @@ mod codes;
 mod collect;
 mod decode;
 mod decoded;
+mod decoder;
 mod findings;
 mod ghost_count;
 pub mod laws;
@@ -40,6 +41,7 @@ pub use codes::CODES;
 pub use collect::outputs_of;
 pub use decode::text_of;
 pub use decoded::Decoded;
+pub use decoder::Decoder;
 pub use findings::Findings;
 pub use ghost_count::GhostCount;
 pub use limits::Limits;
@@ -52,6 +54,3 @@ pub use source::{FromReader, Source, SourceFault};
 pub use stage::{Stage, drive};
 pub use text::Text;
 pub use trial::{TrialSink, TrialSource};
-
-#[cfg(test)]
-mod tests;

@@ -83,6 +83,3 @@ impl<T: Copy> Room<T> {
         self.items.clear();
     }
 }
-
-#[cfg(test)]
-mod tests;

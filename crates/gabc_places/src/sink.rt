@@ -116,6 +116,3 @@ impl<W: Write + Drop> Sink for ToWriter<W> {
         }
     }
 }
-
-#[cfg(test)]
-mod tests;

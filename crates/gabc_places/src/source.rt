@@ -87,6 +87,3 @@ impl<R: Read + Drop> Source for FromReader<R> {
         }
     }
 }
-
-#[cfg(test)]
-mod tests;

@@ -2,26 +2,26 @@
 
 ghost use Rattle.std.specs.Prelude.{◌≡◌, ℕ, ◌+◌, ◌*◌, ◌≤◌, List, length, Bool};
 ghost use Rattle.gabc_places.specs.BoundedList.{Fits, extended_by};
-ghost use Rattle.gabc_places.specs.StageLaw.{concat_of, Pushes, Finishes, GivesNothing, StopsAtEnd};
+ghost use Rattle.gabc_places.specs.StageLaw.{concat_of, Pushes, Finishes, EmitsNothing, StopsAtEnd};
 
 use crate::Room;
 
-/// A machine that takes inputs one at a time, and gives at most a stated number of outputs for each and for the end.
+/// A machine that takes inputs one at a time, and emits at most a stated number of outputs for each and for the end.
 pub trait Stage {
     type Input;
 
     type Output: Copy;
 
-    // what it will still give for these inputs and then the end: a list for each of them, and one for the end
+    // what it will still emit for these inputs and then the end: a list for each of them, and one for the end
     ghost rest: { Self → List Self.Input → List (List Self.Output) };
 
-    // how many outputs one call gives at most
+    // how many outputs one call emits at most
     ghost most_of: { Self → ℕ };
 
-    // the outputs that end it: behind one of them it gives nothing more
+    // the outputs that end it: behind one of them it emits nothing more
     ghost is_end: { Self.Output → Bool };
 
-    /// Returns how many outputs one call gives at most.
+    /// Returns how many outputs one call emits at most.
     fn most(&self) -> usize
         ensures { result ≡ most_of self.now };
 
@@ -33,23 +33,23 @@ pub trait Stage {
             (rest self.new) input (most_of self.old) out.old out.new }
         ensures end { StopsAtEnd is_end (rest self.new) out.old out.new };
 
-    /// Ends the inputs, and adds to `out` what was still to come. From then on it gives nothing.
+    /// Ends the inputs, and adds to `out` what was still to come. From then on it emits nothing.
     fn finish(&mut self, out: &mut Room<Self::Output>)
         requires { Fits out.old (most_of self.old) }
         ensures most { most_of self.new ≡ most_of self.old }
         ensures ends { Finishes (rest self.old) (most_of self.old) out.old out.new }
         ensures end { StopsAtEnd is_end (rest self.new) out.old out.new }
-        ensures over { GivesNothing (rest self.new) };
+        ensures over { EmitsNothing (rest self.new) };
 }
 
-/// Pushes all `inputs`, and then ends them. From then on `stage` gives nothing.
+/// Pushes all `inputs`, and then ends them. From then on `stage` emits nothing.
 pub fn drive<S: Stage>(stage: &mut S, inputs: Vec<S::Input>, out: &mut Room<S::Output>)
 where
     S::Input: Drop,
     requires { Fits out.old (S.most_of stage.old * (length inputs.items + 1)) }
     ensures most { S.most_of stage.new ≡ S.most_of stage.old }
     ensures events { out.new ≡ extended_by out.old (concat_of (S.rest stage.old inputs.items)) }
-    ensures over { GivesNothing (S.rest stage.new) }
+    ensures over { EmitsNothing (S.rest stage.new) }
 {
     for input in inputs {
         stage.push(input, out);

@@ -30,7 +30,12 @@ impl<'a> Model for TrialSource<'a> {
 
     ghost Value = { SourceState };
 
-    ghost view = { λ s. record { rest = s.rest.now; most = s.most; fails_after = s.fails_after; failures = s.failures } };
+    ghost view = { λ s. record {
+      rest = s.rest.now;
+      most = s.most;
+      fails_after = s.fails_after;
+      failures = s.failures;
+    } };
 
     ghost invariant = { λ s. 0 < s.most };
 }
@@ -104,7 +109,12 @@ impl Model for TrialSink {
 
     ghost Value = { SinkState };
 
-    ghost view = { λ s. record { held = s.taken.items; most = s.most; fails_at = s.taken.limit; failures = s.failures } };
+    ghost view = { λ s. record {
+      held = s.taken.items;
+      most = s.most;
+      fails_at = s.taken.limit;
+      failures = s.failures;
+    } };
 
     ghost invariant = { λ s. 0 < s.most };
 }
@@ -163,6 +173,3 @@ impl Sink for TrialSink {
         Ok(count)
     }
 }
-
-#[cfg(test)]
-mod tests;

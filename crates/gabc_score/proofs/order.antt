@@ -1,3 +1,4 @@
+pub mod FindingsAreNoFaults
 pub mod FindingsOfCutParts
 pub mod FindingsOfLayers
 pub mod FindingsOfParts

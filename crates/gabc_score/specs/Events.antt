@@ -70,7 +70,7 @@ abbrev pub events_at_end : PartAhead → List BodyEvent
 events_at_end InComment = Text (text_out.Ended text_end.Finished) ∷ []
 events_at_end part = events_in part
 
--- what a text gives that begins at a place with these characters: a list for each of them, and one for the end
+-- what a text emits that begins at a place with these characters: a list for each of them, and one for the end
 abbrev pub Texts : Type 0
 Texts = Place → List Char → List (List TextEvent)
 

@@ -59,7 +59,12 @@ impl Model for BodyStage {
 
     ghost Value = { BodyStageState };
 
-    ghost view = { λ b. record { nabc_lines = b.nabc_lines; macros = b.macros; part = b.part; over = b.over } };
+    ghost view = { λ b. record {
+      nabc_lines = b.nabc_lines;
+      macros = b.macros;
+      part = b.part;
+      over = b.over;
+    } };
 
     ghost invariant = { λ b. (8 ≤ b.texts.limit) × (3 ≤ b.notes.limit) };
 }
@@ -98,7 +103,7 @@ fn is_close(out: NoteEvent) -> bool
     }
 }
 
-/// What a snippet of that line gave, told with the place of its innermost open bracket.
+/// What a snippet of that line emitted, told with the place of its innermost open bracket.
 fn note_event(line: u8, opened: Place, out: NoteEvent) -> BodyEvent
     ensures { result ≡ told_of_notes line opened out }
 {
@@ -115,7 +120,7 @@ fn note_event(line: u8, opened: Place, out: NoteEvent) -> BodyEvent
     BodyEvent::Notes { line, out }
 }
 
-/// Tells what a text gave.
+/// Tells what a text emitted.
 fn emit_text(events: &[TextEvent], out: &mut Room<BodyEvent>)
     requires { Fits out.old (length events.now) }
     ensures { out.new ≡ extended_by out.old (map (λ o. of_text o) events.now) }
@@ -125,7 +130,7 @@ fn emit_text(events: &[TextEvent], out: &mut Room<BodyEvent>)
     }
 }
 
-/// Tells what a snippet of that line gave.
+/// Tells what a snippet of that line emitted.
 fn emit_notes(line: u8, opened: Place, events: &[NoteEvent], out: &mut Room<BodyEvent>)
     requires { Fits out.old (length events.now) }
     ensures { out.new ≡ extended_by out.old (map (told_of_notes line opened) events.now) }
@@ -154,7 +159,7 @@ fn ends_at_close(events: &[NoteEvent]) -> bool
     events.iter().any(|out| is_close(*out))
 }
 
-/// Pushes a character to a text, tells what that gave, and answers whether the text ended at its `(`.
+/// Pushes a character to a text, tells what that emitted, and answers whether the text ended at its `(`.
 fn push_text(
     stage: &mut TextStage,
     x: Char,
@@ -174,7 +179,7 @@ fn push_text(
     ends_text(events.slice())
 }
 
-/// Pushes a character to a snippet of that line, tells what that gave, and answers how the snippet ended, if it did.
+/// Pushes a character to a snippet of that line, tells what that emitted, and answers how the snippet ended, if it did.
 fn push_notes<S: Stage<Input = Char, Output = NoteEvent>>(
     stage: &mut S,
     line: u8,
@@ -225,7 +230,7 @@ impl BodyStage {
             events_left stage (placed_characters_from at t)
             ≡ body_events nabc_lines macros (placed_characters_from at t)) }
     {
-        // Its clause says where the machine over a text gives what the definition says.
+        // Its clause says where the machine over a text emits what the definition says.
         a_fresh_stage_emits_the_events_by_point();
         let texts = Room::with_limit(alloc, 8)?;
         let notes = Room::with_limit(alloc, 3)?;
@@ -277,7 +282,8 @@ impl BodyStage {
             part_at texts_by_stage (part_with self.old.part (x ∷ xs)) x xs
             ≡ part_with self.old.part (x ∷ xs) }
         requires out { Fits out.old 8 }
-        ensures events { Pushes (running_events_left self.old) (running_events_left self.new) x 8 out.old out.new }
+        ensures events { Pushes (running_events_left self.old)
+            (running_events_left self.new) x 8 out.old out.new }
         ensures over { self.new.over ≡ self.old.over }
     {
         match &mut self.part {
@@ -362,7 +368,7 @@ impl Stage for BodyStage {
     }
 }
 
-/// Ends a text, and tells what that gave.
+/// Ends a text, and tells what that emitted.
 fn finish_text(stage: &mut TextStage, events: &mut Room<TextEvent>, out: &mut Room<BodyEvent>)
     requires events { 8 ≤ events.old.limit }
     requires out { Fits out.old 8 }
@@ -375,7 +381,7 @@ fn finish_text(stage: &mut TextStage, events: &mut Room<TextEvent>, out: &mut Ro
     emit_text(events.slice(), out);
 }
 
-/// Ends a snippet of that line, and tells what that gave.
+/// Ends a snippet of that line, and tells what that emitted.
 fn finish_notes<S: Stage<Input = Char, Output = NoteEvent>>(
     stage: &mut S,
     line: u8,

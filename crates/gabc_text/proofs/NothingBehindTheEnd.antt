@@ -7,7 +7,7 @@ use Rattle.gabc_places.specs.declared.place.Char.{Char}
 use Rattle.gabc_places.specs.declared.place.Place.{Place}
 use Rattle.gabc_places.specs.declared.place.Span.{Span}
 use Rattle.gabc_places.specs.BoundedList.{BoundedList, extended_by}
-use Rattle.gabc_places.specs.StageLaw.{concat_of, GivesNothing, StopsAtEnd}
+use Rattle.gabc_places.specs.StageLaw.{concat_of, EmitsNothing, StopsAtEnd}
 use Rattle.gabc_places.proofs.NothingBehindAnEnd.{stops-endless, stops-last}
 use Rattle.gabc_text.specs.declared.token_state.Step.{Step}
 use Rattle.gabc_text.specs.declared.token_state.Step.TheVariants.{Stays, Ends}
@@ -40,7 +40,7 @@ joined_nothing : (t : List ℕ) → concat_of (no_events_each t) ≡ []
 joined_nothing [] = refl
 joined_nothing (c ∷ t) = joined_nothing t
 
-pub done_emits_nothing : (s : TextStage) → s.done ≡ true → GivesNothing (λ (cs : List Char). events_left s (codes_of cs))
+pub done_emits_nothing : (s : TextStage) → s.done ≡ true → EmitsNothing (λ (cs : List Char). events_left s (codes_of cs))
 done_emits_nothing s e cs =
     ap concat_of (rest_by s (codes_of cs) ∙ ap (λ (b : Bool). cond b ([] ∷ no_events_each (codes_of cs)) (lists_ahead (stands_for s.mode) s (stands_for s.mode ++ codes_of cs))) e)
     ∙ joined_nothing (codes_of cs)
@@ -145,7 +145,7 @@ is_done t = by t.done refl
     by true e = e
     by false e = ended (kind_at_end t.mode)
 
-pub finish_is_over : (t next : TextStage) → next ≡ finish_stage t → GivesNothing (λ (cs : List Char). events_left next (codes_of cs))
+pub finish_is_over : (t next : TextStage) → next ≡ finish_stage t → EmitsNothing (λ (cs : List Char). events_left next (codes_of cs))
 finish_is_over t next e = done_emits_nothing next (ap (λ (x : TextStage). x.done) e ∙ is_done t)
 
 pub finish_stops : (t next : TextStage) (old new : BoundedList TextEvent) → next ≡ finish_stage t → new ≡ extended_by old (events_of_finish t)

@@ -28,7 +28,7 @@ effect_as _ s = Other
 abbrev pub effect : Token → TagEffect
 effect k = effect_as k.kind (spelling k)
 
--- What the tokens ks give, each after those before it: the first of ks stands after `before`.
+-- What the tokens ks emit, each after those before it: the first of ks stands after `before`.
 abbrev pub along : {X : Type 0} → (List Token → Token → List X) → List Token → List Token → List X
 along at before [] = []
 along at before (k ∷ ks) = at before k ++ along at (k ∷ before) ks

@@ -38,6 +38,13 @@ pub struct Job {
     pub all_warnings: bool,
 }
 
+/// What the words of a command line want: the help line, or a run.
+#[derive(Debug, Drop)]
+pub enum Plan {
+    Help,
+    Run(Job),
+}
+
 /// How a run ended.
 #[derive(Clone, Copy, Debug, PartialEq, Eq)]
 pub enum Status {

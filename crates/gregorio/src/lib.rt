@@ -1,4 +1,5 @@
-//! Reads a score of Gregorian chant in GABC, and writes it in canonical form.
+//! Reads the words of a command line. Reads a score of Gregorian chant in GABC, and writes it in
+//! canonical form.
 //!
 //! Any `Source` and any two `Sink`s serve; `FromReader` and `ToWriter` of `gabc_places` make them of readers and writers:
 //!
@@ -12,16 +13,23 @@
 //! ```
 #![tactic(auto)]
 
+mod arguments;
 mod canonical;
 mod findings;
 mod job;
 mod name;
 mod outcome;
 mod read_all;
+mod refusal;
 mod run;
 mod source_bytes;
+mod wanted;
+mod words;
 
-pub use job::{Format, Input, Job, Output, Status};
+pub use job::{Format, Input, Job, Output, Plan, Status};
 pub use name::Name;
+pub use refusal::Refusal;
 pub use run::compile;
 pub use source_bytes::SourceEnding;
+pub use wanted::plan;
+pub use words::Words;

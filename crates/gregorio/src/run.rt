@@ -93,9 +93,24 @@ pub fn compile<S: Source, O: Sink, M: Sink>(
     messages: &mut M,
 ) -> Status
     ensures runs { Compiles job.now limits
-        (record { old = S.remaining source.old; new = S.remaining source.new; failed_old = S.failures source.old; failed_new = S.failures source.new })
-        (record { old = O.written out.old; new = O.written out.new; failed_old = O.failures out.old; failed_new = O.failures out.new })
-        (record { old = M.written messages.old; new = M.written messages.new; failed_old = M.failures messages.old; failed_new = M.failures messages.new }) result }
+        (record {
+          old = S.remaining source.old;
+          new = S.remaining source.new;
+          failed_old = S.failures source.old;
+          failed_new = S.failures source.new;
+        })
+        (record {
+          old = O.written out.old;
+          new = O.written out.new;
+          failed_old = O.failures out.old;
+          failed_new = O.failures out.new;
+        })
+        (record {
+          old = M.written messages.old;
+          new = M.written messages.new;
+          failed_old = M.failures messages.old;
+          failed_new = M.failures messages.new;
+        }) result }
     ensures read_fault { result ≡ ReadFault → S.failures source.old < S.failures source.new }
     ensures write_fault { result ≡ WriteFault →
         (O.failures out.old < O.failures out.new)

@@ -1,92 +1,128 @@
-//! The program `gregorio`: reads a score of Gregorian chant from standard input, and writes it in canonical form.
+//! The program `gregorio`: reads a score of Gregorian chant, and writes it in canonical form, as its
+//! words want.
 #![tactic(auto)]
 
+mod ends;
+
+use ends::{Reader, Writer, closed_streams};
 use gabc_places::{FromReader, Limits, ToWriter};
-use gregorio::{Format, Input, Job, Output, Status, compile};
+use gregorio::{Input, Job, Name, Output, Plan, Refusal, Status, Words, compile, plan};
 use std::process::ExitCode;
-use std::{env, io};
+use std::{env, fs, io};
 
-/// The exit status where the arguments are refused.
-const REFUSED: u8 = 3;
+/// What `-h` writes.
+const HELP: &str = "usage: gregorio -F gabc|dump [-W] [-l FILE] [-o FILE | -S] (-s | FILE)";
 
-/// What the words behind the program's name ask for, if they are understood: canonical form from standard input to
-/// standard output, with all warnings or not.
-fn job_of(words: &[String]) -> Option<Job> {
-    let (first, last) = words.split_at(words.len().min(4));
-    let wanted = ["-s", "-S", "-F", "gabc"];
-    if first.len() != wanted.len() || !first.iter().zip(wanted).all(|(w, x)| w.as_str() == x) {
-        return None;
-    }
-    let all_warnings = match last {
-        [] => false,
-        [word] if word.as_str() == "-W" => true,
-        _ => return None,
+/// The words behind the program's name. A word that is not UTF-8 is none that the command takes.
+fn words_of(rt: &HostRuntime) -> Result<Words, Refusal> {
+    let all = match env::args(rt) {
+        Ok(all) => all,
+        Err(error) if error.kind() == io::ErrorKind::OutOfMemory => return Err(Refusal::O0),
+        Err(_) => return Err(Refusal::O1),
     };
-    Some(Job {
-        format: Format::Gabc,
-        input: Input::Stdin,
-        output: Output::Stdout,
-        messages: None,
-        all_warnings,
-    })
-}
-
-/// The words behind the program's name.
-fn words_of(rt: &HostRuntime) -> io::Result<Vec<String>> {
-    let mut words = env::args(rt)?;
-    let _program = words.next();
-    let mut rest = Vec::new(rt.alloc());
-    for word in words {
-        rest.push(word)?;
+    let mut words = Words::new(rt.alloc());
+    for word in all.skip(1) {
+        words.push(word.as_str())?;
     }
-    Ok(rest)
+    Ok(words)
 }
 
-/// Runs a job on the standard streams with the default limits.
-fn run(rt: &HostRuntime, job: &Job) -> Status {
-    let mut source = FromReader::new(rt.stdin());
-    let mut out = ToWriter::new(rt.stdout());
-    let mut messages = ToWriter::new(rt.stderr());
-    compile(
+/// What the words behind the program's name want.
+fn planned(rt: &HostRuntime) -> Result<Plan, Refusal> {
+    plan(rt.alloc(), &words_of(rt)?)
+}
+
+/// Why no job was run: the file with this name could not be opened, or there was no memory.
+enum Unopened<'j> {
+    File(&'j str),
+    NoMemory,
+}
+
+/// Why the file with this name was not opened.
+fn why_unopened<'j>(name: &'j Name, error: &io::Error) -> Unopened<'j> {
+    match error.kind() {
+        io::ErrorKind::OutOfMemory => Unopened::NoMemory,
+        _ => Unopened::File(name.as_str()),
+    }
+}
+
+/// Opens a file to be read.
+fn open<'j>(rt: &HostRuntime, name: &'j Name) -> Result<fs::File, Unopened<'j>> {
+    fs::open(rt, name.as_str()).map_err(|error| why_unopened(name, &error))
+}
+
+/// Opens a file to be written. It is made, or emptied where it is there.
+fn create<'j>(rt: &HostRuntime, name: &'j Name) -> Result<fs::File, Unopened<'j>> {
+    fs::create(rt, name.as_str()).map_err(|error| why_unopened(name, &error))
+}
+
+/// Opens the ends of a job, first the input, then the output, then the messages, and runs it with
+/// the usual limits. Nothing is made where the input cannot be opened.
+fn run<'j>(rt: &HostRuntime, job: &'j Job) -> Result<Status, Unopened<'j>> {
+    let _streams = closed_streams(rt);
+    let input = match &job.input {
+        Input::Stdin => Reader::Stdin(rt.stdin()),
+        Input::File(name) => Reader::File(open(rt, name)?),
+    };
+    let output = match &job.output {
+        Output::Stdout => Writer::Stdout(rt.stdout()),
+        Output::File(name) => Writer::File(create(rt, name)?),
+    };
+    let messages = match &job.messages {
+        None => Writer::Stderr(rt.stderr()),
+        Some(name) => Writer::File(create(rt, name)?),
+    };
+    Ok(compile(
         rt.alloc(),
         job,
         Limits::DEFAULT,
-        &mut source,
-        &mut out,
-        &mut messages,
-    )
+        &mut FromReader::new(input),
+        &mut ToWriter::new(output),
+        &mut ToWriter::new(messages),
+    ))
 }
 
-/// Tells what a status says beside the messages of the run.
-fn tell(rt: &HostRuntime, status: Status) -> io::Result<()> {
-    match status {
+/// Tells what a status says beside the messages of the run, and ends with it.
+fn finish(rt: &HostRuntime, status: Status) -> ExitCode {
+    let _ = match status {
         Status::ReadFault => eprintln!(rt; "gregorio: cannot read"),
         Status::WriteFault => eprintln!(rt; "gregorio: cannot write"),
         Status::NoMemory => eprintln!(rt; "gregorio: no memory"),
         Status::Whole | Status::Errors | Status::Fatal => Ok(()),
+    };
+    ExitCode::from(status.code())
+}
+
+/// Runs a job, tells how it went, and ends with its status.
+fn run_and_finish(rt: &HostRuntime, job: &Job) -> ExitCode {
+    match run(rt, job) {
+        Ok(status) => finish(rt, status),
+        Err(Unopened::NoMemory) => finish(rt, Status::NoMemory),
+        Err(Unopened::File(name)) => {
+            let _ = eprintln!(rt; "gregorio: cannot open {name}");
+            ExitCode::from(Status::ReadFault.code())
+        }
     }
 }
 
-/// Refuses the arguments.
-fn refuse(rt: &HostRuntime) -> ExitCode {
-    let _ = eprintln!(rt; "gregorio: O1: arguments not understood");
-    ExitCode::from(REFUSED)
+/// Writes the help line.
+fn help(rt: &HostRuntime) -> ExitCode {
+    match println!(rt; "{HELP}") {
+        Ok(()) => ExitCode::SUCCESS,
+        Err(_) => finish(rt, Status::WriteFault),
+    }
+}
+
+/// Tells why the words are refused.
+fn refuse(rt: &HostRuntime, refusal: Refusal) -> ExitCode {
+    let _ = eprintln!(rt; "gregorio: {refusal}");
+    ExitCode::from(refusal.code())
 }
 
 fn main(rt: HostRuntime) -> ExitCode {
-    match words_of(&rt) {
-        Ok(words) => match job_of(words.as_slice()) {
-            Some(job) => {
-                let status = run(&rt, &job);
-                let _ = tell(&rt, status);
-                ExitCode::from(status.code())
-            }
-            None => refuse(&rt),
-        },
-        Err(error) if error.kind() == io::ErrorKind::OutOfMemory => {
-            let _ = eprintln!(rt; "gregorio: O0: no memory");
-            ExitCode::from(Status::NoMemory.code())
-        }
-        Err(_) => refuse(&rt),
+    match planned(&rt) {
+        Ok(Plan::Help) => help(&rt),
+        Ok(Plan::Run(job)) => run_and_finish(&rt, &job),
+        Err(refusal) => refuse(&rt, refusal),
     }
 }

@@ -1,7 +1,7 @@
 //! Rows of calls.
 
 use crate::row::{limits_of, unescaped};
-use crate::{nabc, notes, scores, texts, writes};
+use crate::{nabc, neumes, notes, scores, texts, writes};
 use gabc_places::{Code, Fault, Limits, Place};
 use gabc_score::InputEnding;
 use std::alloc::{AllocError, Global};
@@ -82,6 +82,7 @@ fn answer(
     Ok(
         texts::answer(alloc, call, input, out)?
             || notes::answer(alloc, call, first, second, input, out)?
+            || neumes::answer(alloc, call, input, out)?
             || nabc::answer(alloc, call, first, input, out)?
             || scores::answer(alloc, call, input, out)?
             || answer_with(alloc, call, first, second, input, out)?,

@@ -5,6 +5,7 @@
 
 mod call;
 mod nabc;
+mod neumes;
 mod notes;
 mod row;
 mod run;
@@ -33,9 +34,10 @@ const SCORES: [&str; 8] = [
 ];
 
 /// The files of rows of calls of the crates below.
-const CALLS: [&str; 5] = [
+const CALLS: [&str; 6] = [
     "texts.tsv",
     "notes.tsv",
+    "neumes.tsv",
     "nabc.tsv",
     "scores.tsv",
     "writes.tsv",

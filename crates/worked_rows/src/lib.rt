@@ -1,10 +1,14 @@
-//! Tests of what rows of data cannot tell: the examples that the documents of the crates show; a source that fails in mid-stream,
+//! Tests of what rows of data cannot tell: the examples that the documents of the crates show; what words want; a source that fails in mid-stream,
 //! and sinks that take little and then fail. Rows of calls and of runs are the data of the program `vectors`.
 #![tactic(auto)]
 
 #[cfg(test)]
 mod examples;
 #[cfg(test)]
+mod examples_neumes;
+#[cfg(test)]
 mod examples_notes;
+#[cfg(test)]
+mod plans;
 #[cfg(test)]
 mod run;

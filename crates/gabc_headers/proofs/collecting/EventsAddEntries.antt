@@ -1,5 +1,5 @@
 -- What the events of a text's parts add.
-use Rattle.std.proofs.Common.{◌≡◌, ℕ, ◌≤◌, ◌-◌, ◌&&◌, List, [], ◌∷◌, ◌++◌, Bool, true, false, cond, refl, sym, ap, ◌∙◌, subst, arith, length, take, drop, slice_range, IsUtf8, IsCharBoundary, append_assoc, bytes_eq, length-append}
+use Rattle.std.proofs.Common.{◌≡◌, ℕ, ◌≤◌, ◌+◌, ◌-◌, ◌&&◌, List, [], ◌∷◌, ◌++◌, Bool, true, false, cond, refl, sym, ap, ◌∙◌, subst, arith, length, take, drop, slice_range, IsUtf8, IsCharBoundary, append_assoc, bytes_eq, length-append}
 use Rattle.std.specs.Str.{chars}
 use Rattle.std.proofs.lemmas.Str.{chars-encodes, encodes-append, IsCharBoundary-at_seam}
 use Rattle.std.proofs.Math.Seq.{drop-append_seam, take-append_seam}
@@ -12,7 +12,10 @@ use Rattle.gabc_headers.specs.Parts.{HeaderPart, left_out, header, unended}
 use Rattle.gabc_headers.specs.EntryMap.{is_annotation, put_entry, with_value}
 use Rattle.gabc_headers.specs.machine.EntryMap.{spelled_entries, AreWithin}
 use Rattle.gabc_headers.specs.BookText.{IsWithin, text_at}
-use Rattle.gabc_headers.specs.machine.Collected.{AreGoodEvents}
+use Rattle.gabc_headers.specs.machine.Collected.{AreGoodEvents, Collected, collected_with, finding_at}
+use Rattle.gabc_headers.specs.Book.{is_kept}
+use Rattle.gabc_places.specs.declared.code.Code.TheVariants.{E5, W2}
+use Rattle.gabc_headers.specs.machine.EntryMap.{comes_again}
 use Rattle.gabc_headers.specs.machine.Events.{SpanHolds, AreEventsOf}
 use Rattle.gabc_headers.proofs.entries.TextsAsBytes.{length-encodes}
 
@@ -24,7 +27,7 @@ and_right : (a b : Bool) → (a && b) ≡ true → b ≡ true
 and_right true b h = h
 and_right false b h = absurd (cc)
 
-scalars_left : (a b : List ℕ) → scalars (a ++ b) ≡ true → scalars a ≡ true
+pub scalars_left : (a b : List ℕ) → scalars (a ++ b) ≡ true → scalars a ≡ true
 scalars_left [] b h = refl
 scalars_left (c ∷ a) b h = rw (and_left (scalar c) (scalars (a ++ b)) h) (scalars_left a b (and_right (scalar c) (scalars (a ++ b)) h))
 
@@ -134,3 +137,28 @@ within-put text es name s h w = by (is_annotation name)
     by : (b : Bool) → AreWithin text (cond b (es ++ (name, s) ∷ []) (with_value es name s))
     by true = pushed es h
     by false = replaced es h
+
+-- an event adds a header at most
+pub length-put : (es : List (List ℕ × Span)) (name : List ℕ) (s : Span) → length (put_entry es name s) ≤ length es + 1
+length-put es name s = by (is_annotation name)
+  where
+    branch : (b : Bool) (e : List ℕ × Span) (es r : List (List ℕ × Span)) → length r ≤ length es + 1 → length (cond b ((e.0, s) ∷ es) (e ∷ r)) ≤ length (e ∷ es) + 1
+    branch true e es r h = omega arith
+    branch false e es r h = omega arith
+
+    replaced : (es : List (List ℕ × Span)) → length (with_value es name s) ≤ length es + 1
+    replaced [] = omega arith
+    replaced (e ∷ es) = branch (bytes_eq name e.0) e es (with_value es name s) (replaced es)
+
+    by : (b : Bool) → length (cond b (es ++ (name, s) ∷ []) (with_value es name s)) ≤ length es + 1
+    by true = let l = length-append es ((name, s) ∷ []) in omega arith
+    by false = replaced es
+
+pub length-collected : (text : List ℕ) (e : HeaderEvent) (c : Collected) → length (collected_with text e c).headers ≤ length c.headers + 1
+length-collected text (LeftOut k p) c = omega arith
+length-collected text (Header k n v p) c = by (is_kept (text_at text n) (text_at text v)) (length-put c.headers (text_at text n) v)
+  where
+    by : (b : Bool) → length (put_entry c.headers (text_at text n) v) ≤ length c.headers + 1
+        → length (cond {A = Collected} b (record { headers = put_entry c.headers (text_at text n) v; findings = cond (comes_again c.headers (text_at text n)) (c.findings ++ finding_at k W2 ∷ []) c.findings }) (record { headers = c.headers; findings = c.findings ++ finding_at k E5 ∷ [] })).headers ≤ length c.headers + 1
+    by true l = l
+    by false l = omega arith

@@ -24,7 +24,7 @@ within-append text more s u v w = record {
   last = boundary-append text more s.to u v w.last;
 }
 
-shown_at-append : (text more : List ℕ) (s : Span) → IsWithin text s → text_at (text ++ more) s ≡ text_at text s
+pub shown_at-append : (text more : List ℕ) (s : Span) → IsWithin text s → text_at (text ++ more) s ≡ text_at text s
 shown_at-append text more s w =
     let o : s.from ≤ s.to = w.order in
     let l : s.to ≤ length text = w.last.0 in

@@ -1,13 +1,13 @@
 -- What the events add to the headers and the findings.
 use Rattle.std.specs.Prelude.{ℕ, ◌+◌, ◌≤◌, List, [], ◌∷◌, ◌++◌, Bool, false, true, cond, codes, length, nat_lt, slice_range, Result, Ok, Err, Option, Some, None}
 use Rattle.gabc_places.specs.declared.place.Place.{Place}
+use Rattle.gabc_places.specs.declared.place.Span.{Span}
 use Rattle.gabc_places.specs.declared.limits.Limits.{Limits}
 use Rattle.gabc_places.specs.declared.code.Code.{Code}
 use Rattle.gabc_places.specs.declared.code.Code.TheVariants.{E4, E5, W1, W2, F2, F3, F4, F7}
 use Rattle.gabc_places.specs.declared.code.Finding.{Finding}
 use Rattle.gabc_headers.specs.declared.events.HeaderEvent.{HeaderEvent}
 use Rattle.gabc_headers.specs.declared.events.HeaderEvent.TheVariants.{LeftOut, Header}
-use Rattle.gabc_headers.specs.declared.collected.Collected.{Collected}
 use Rattle.gabc_headers.specs.declared.heads.Heads.{Heads}
 use Rattle.gabc_headers.specs.declared.heads.HeadFault.{HeadFault}
 use Rattle.gabc_headers.specs.Book.{is_kept, has_header}
@@ -17,6 +17,11 @@ use Rattle.gabc_headers.specs.machine.EntryMap.{comes_again}
 use Rattle.gabc_headers.specs.Heads.{line_place}
 use Rattle.gabc_headers.specs.Lines.{bytes_len}
 use Rattle.gabc_headers.specs.BookText.{IsWithin, text_at}
+
+-- the headers that count, with the spans of their values, and what was found
+pub record Collected : Type 0 where
+  pub headers : List (List ℕ × Span)
+  pub findings : List Finding
 
 -- a header's spans lie in the text, and its name is no longer than a name may be
 abbrev pub IsGoodEvent : List ℕ → HeaderEvent → Type 0
@@ -41,6 +46,14 @@ collected_with text (Header k name value p) c =
       findings = cond (comes_again c.headers (text_at text name)) (c.findings ++ finding_at k W2 ∷ []) c.findings;
     })
     (record { headers = c.headers; findings = c.findings ++ finding_at k E5 ∷ [] })
+
+-- what is found at an event
+abbrev pub found_with : List ℕ → HeaderEvent → Collected → List Finding
+found_with text (LeftOut k p) c = finding_at k E4 ∷ []
+found_with text (Header k name value p) c =
+    cond (is_kept (text_at text name) (text_at text value))
+    (cond (comes_again c.headers (text_at text name)) (finding_at k W2 ∷ []) [])
+    (finding_at k E5 ∷ [])
 
 -- after all of them
 abbrev pub collected_with_all : List ℕ → List HeaderEvent → Collected → Collected

@@ -213,14 +213,14 @@ emitted_kept xs = all_kept xs [] refl
 
 -- ---- the end
 
-ends_append : (xs ys : List NoteEvent) → ends_of (xs ++ ys) ≡ ends_of xs ++ ends_of ys
+pub ends_append : (xs ys : List NoteEvent) → ends_of (xs ++ ys) ≡ ends_of xs ++ ends_of ys
 ends_append [] ys = refl
 ends_append (Kept x ∷ xs) ys = ends_append xs ys
 ends_append (Found f ∷ xs) ys = ends_append xs ys
 ends_append (Ended e n ∷ xs) ys = ap (λ (l : List (NoteEnd × ℕ)). (e, n) ∷ l) (ends_append xs ys)
 
 -- at the end
-one_end : (t : List ℕ) (x : Char) → has_end t ≡ false → is_end t x.c ≡ true → ends_of (events_at t x) ≡ (end_by_mark x.c, bytes_in (trim nabc (kept_of t))) ∷ []
+pub one_end : (t : List ℕ) (x : Char) → has_end t ≡ false → is_end t x.c ≡ true → ends_of (events_at t x) ≡ (end_by_mark x.c, bytes_in (trim nabc (kept_of t))) ∷ []
 one_end t x e f = rw (e, f) (go (is_snippet nabc (kept_of t)))
   where
     go : (b : Bool) → ends_of (cond b [] (finding_event x.place E6 ∷ []) ++ Ended (end_by_mark x.c) (bytes_in (trim nabc (kept_of t))) ∷ []) ≡ (end_by_mark x.c, bytes_in (trim nabc (kept_of t))) ∷ []

@@ -97,7 +97,7 @@ kept_append (Kept x ∷ a) b = ap (λ (l : List ℕ). x.c ∷ l) (kept_append a 
 kept_append (Found f ∷ a) b = kept_append a b
 kept_append (Ended h n ∷ a) b = kept_append a b
 
-ends_append : (a b : List NoteEvent) → ends_of (a ++ b) ≡ ends_of a ++ ends_of b
+pub ends_append : (a b : List NoteEvent) → ends_of (a ++ b) ≡ ends_of a ++ ends_of b
 ends_append [] b = refl
 ends_append (Ended h n ∷ a) b = ap (λ (l : List (NoteEnd × ℕ)). (h, n) ∷ l) (ends_append a b)
 ends_append (Found f ∷ a) b = ends_append a b

@@ -7,6 +7,7 @@ use Rattle.gabc_places.specs.declared.code.Finding.{Finding}
 use Rattle.gabc_places.specs.Findings.{AreInOrder, LieBetween}
 use Rattle.gabc_places.specs.StageLaw.{concat_of}
 use Rattle.gabc_places.specs.Place.{next_place, place_past, placed_characters_from}
+use Rattle.gabc_places.proofs.PlacesOfAText.{length_placed}
 use Rattle.gabc_text.specs.declared.stage.TextEvent.{TextEvent}
 use Rattle.gabc_text.specs.declared.stage.TextEvent.TheVariants as text
 use Rattle.gabc_text.specs.Events.{codes_of, events_by_point}
@@ -169,10 +170,6 @@ pub record LieLast (p q : Place) (fs : List Finding) : Type 0 where
 pub codes_placed : (p : Place) (cs : List ℕ) → codes_of (placed_characters_from p cs) ≡ cs
 codes_placed p [] = refl
 codes_placed p (c ∷ cs) = ap (λ ds. c ∷ ds) (codes_placed (next_place p c) cs)
-
-pub length_placed : (p : Place) (cs : List ℕ) → length (placed_characters_from p cs) ≡ length cs
-length_placed p [] = refl
-length_placed p (c ∷ cs) = ap suc (length_placed (next_place p c) cs)
 
 through_is : (n m : ℕ) → n ≡ m → suc n ≡ m + 1
 through_is n m e = omega (arith, e)

@@ -1,9 +1,12 @@
-use Rattle.std.proofs.Common.{◌≡◌, [], drop}
+use Rattle.std.proofs.Common.{◌≡◌, ◌≤◌, [], drop, length}
 use Rattle.gabc_headers.specs.machine.Collected.{AreGoodEvents, collected_with_all}
+use Rattle.gabc_headers.specs.machine.Shown.{shown}
 use Rattle.gabc_headers.proofs.collected.collect.Given as goal
 
 abbrev pub invariant-loop-event : goal.invariant-loop-event
 invariant-loop-event l = record {
   good : AreGoodEvents l.text (drop l.event-index l.events);
-  same : collected_with_all l.text (drop l.event-index l.events) l.collected ≡ collected_with_all l.text l.events (record { headers = []; findings = [] });
+  same : collected_with_all l.text (drop l.event-index l.events) (shown l.collected) ≡ collected_with_all l.text l.events (record { headers = []; findings = [] });
+  limit : l.collected.headers.limit ≡ length l.events;
+  few : length l.collected.headers.items ≤ l.event-index;
 }

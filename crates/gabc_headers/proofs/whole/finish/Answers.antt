@@ -9,7 +9,7 @@ use Rattle.gabc_headers.proofs.whole.finish.Goals.{then-is_none+in_ok-push, else
 
 pub returns : goal.returns
 returns c =
-    let book = spelled_entries c.args.text.now c.args.collected.headers in
+    let book = spelled_entries c.args.text.now c.args.collected.headers.items in
     let range = c.args.limits.in_range in
     let named = found_same c.get.result (value_named (codes "name") book) (rw (← c.in_ok-book.ensures, ← chars-name) c.get.ensures) in
     let events : c.if-is_none.findings ≡ cond (has_header (codes "name") book) c.args.collected.findings (c.args.collected.findings ++ record { place = c.args.place; code = W1 } ∷ [])

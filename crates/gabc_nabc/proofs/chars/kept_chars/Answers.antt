@@ -14,4 +14,4 @@ returns-clause-chars c =
     chars_returned c.kept_chars_by.result c.args.at t (events_left c.new-stage.result xs) (chars c.deref.result.now) (sym kept) (c.new-stage.ensures xs) c.kept_chars_by.ensures
 
 pub returns-clause-text : goal.returns-clause-text
-returns-clause-text c = text_returned c.kept_chars_by.result c.args.at (chars c.args.body.now) (returns-clause-chars c)
+returns-clause-text c = text_returned c.kept_characters_are_the_kept_text.ensures c.kept_chars_by.result c.args.at (chars c.args.body.now) (returns-clause-chars c)

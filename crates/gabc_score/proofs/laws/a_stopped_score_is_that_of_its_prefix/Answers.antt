@@ -1,4 +1,4 @@
-use Rattle.gabc_score.proofs.ScoreOfThePrefix.{prefix_again}
+use Rattle.gabc_score.proofs.stopped_scores.ScoreOfThePrefix.{prefix_again}
 use Rattle.gabc_score.proofs.laws.a_stopped_score_is_that_of_its_prefix.Goals as goal
 
 pub returns : goal.returns

@@ -1,4 +1,4 @@
-use Rattle.gabc_score.proofs.FindingsAreNoFaults.{none_is_a_fault}
+use Rattle.gabc_score.proofs.order.FindingsAreNoFaults.{none_is_a_fault}
 use Rattle.gabc_score.proofs.laws.findings_are_no_faults.Goals as goal
 
 pub returns : goal.returns

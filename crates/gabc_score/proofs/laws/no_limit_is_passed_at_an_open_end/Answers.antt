@@ -1,4 +1,4 @@
-use Rattle.gabc_score.proofs.NothingIsKeptAtTheEnd.{none_at_end}
+use Rattle.gabc_score.proofs.stopped_scores.NothingIsKeptAtTheEnd.{none_at_end}
 use Rattle.gabc_score.proofs.laws.no_limit_is_passed_at_an_open_end.Goals as goal
 
 pub returns : goal.returns

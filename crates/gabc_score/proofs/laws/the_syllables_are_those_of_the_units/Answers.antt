@@ -1,6 +1,6 @@
-use Rattle.gabc_score.proofs.UnitsGiveSyllables.{body_is_units}
-use Rattle.gabc_score.proofs.StoppedScores.{stopped_syllables, stop_stands}
-use Rattle.gabc_score.proofs.WholeScores.{whole_syllables}
+use Rattle.gabc_score.proofs.syllables_of_units.UnitsGiveSyllables.{body_is_units}
+use Rattle.gabc_score.proofs.stopped_scores.StoppedScores.{stopped_syllables, stop_stands}
+use Rattle.gabc_score.proofs.stopped_scores.WholeScores.{whole_syllables}
 use Rattle.gabc_score.proofs.laws.the_syllables_are_those_of_the_units.Goals as goal
 
 pub returns-clause-characters : goal.returns-clause-characters

@@ -19,21 +19,21 @@ fits done rest all e h l =
 
 pub range-requires : goal.range-requires
 range-requires c =
-    let w = within_get c.args.text.now c.args.self.now c.loop-index.index c.value-value.result c.requires.within c.value-value.ensures in
+    let w = within_get c.args.text.now c.args.self.now.items c.loop-index.index c.value-value.result c.requires.within c.value-value.ensures in
     record { start_le_end = w.order; start_boundary = λ _. w.first; end_boundary = w.last }
 
 pub push-requires : goal.push-requires
 push-requires c =
-    let rest = spelled_entries c.args.text.now (drop (suc c.loop-index.index) c.args.self.now) in
-    let here : spelled_entries c.args.text.now (drop c.loop-index.index c.args.self.now) ≡ (chars c.name.result.now, chars c.range.result.now) ∷ rest
-    = rw (c.range.ensures.value) (spelled_here c.args.text.now c.args.self.now c.loop-index.index c.name.result.now c.value-value.result c.name.ensures c.value-value.ensures) in
-    fits c.loop-index.book rest (spelled_entries c.args.text.now c.args.self.now) (chars c.name.result.now, chars c.range.result.now)
+    let rest = spelled_entries c.args.text.now (drop (suc c.loop-index.index) c.args.self.now.items) in
+    let here : spelled_entries c.args.text.now (drop c.loop-index.index c.args.self.now.items) ≡ (chars c.name.result.now, chars c.range.result.now) ∷ rest
+    = rw (c.range.ensures.value) (spelled_here c.args.text.now c.args.self.now.items c.loop-index.index c.name.result.now c.value-value.result c.name.ensures c.value-value.ensures) in
+    fits c.loop-index.book rest (spelled_entries c.args.text.now c.args.self.now.items) (chars c.name.result.now, chars c.range.result.now)
     (sym (ap (λ (x : List (List ℕ × List ℕ)). c.loop-index.book ++ x) here) ∙ c.loop-index.invariant) c.requires.small
 
 pub loop-index-preserved : goal.loop-index-preserved
 loop-index-preserved c =
-    let rest = spelled_entries c.args.text.now (drop (suc c.loop-index.index) c.args.self.now) in
-    let here : spelled_entries c.args.text.now (drop c.loop-index.index c.args.self.now) ≡ (chars c.name.result.now, chars c.range.result.now) ∷ rest
-    = rw (c.range.ensures.value) (spelled_here c.args.text.now c.args.self.now c.loop-index.index c.name.result.now c.value-value.result c.name.ensures c.value-value.ensures) in
-    rw (add-one, c.in_ok-push.ensures) (moved c.loop-index.book rest (spelled_entries c.args.text.now c.args.self.now) (chars c.name.result.now, chars c.range.result.now)
+    let rest = spelled_entries c.args.text.now (drop (suc c.loop-index.index) c.args.self.now.items) in
+    let here : spelled_entries c.args.text.now (drop c.loop-index.index c.args.self.now.items) ≡ (chars c.name.result.now, chars c.range.result.now) ∷ rest
+    = rw (c.range.ensures.value) (spelled_here c.args.text.now c.args.self.now.items c.loop-index.index c.name.result.now c.value-value.result c.name.ensures c.value-value.ensures) in
+    rw (add-one, c.in_ok-push.ensures) (moved c.loop-index.book rest (spelled_entries c.args.text.now c.args.self.now.items) (chars c.name.result.now, chars c.range.result.now)
     (sym (ap (λ (x : List (List ℕ × List ℕ)). c.loop-index.book ++ x) here) ∙ c.loop-index.invariant))

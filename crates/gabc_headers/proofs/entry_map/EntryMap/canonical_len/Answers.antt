@@ -8,26 +8,26 @@ use Rattle.gabc_headers.proofs.entry_map.EntryMap.canonical_len.Goals as goal
 
 pub range-requires : goal.range-requires
 range-requires c =
-    let w = within_get c.args.text.now c.args.self.now c.loop-index.index c.value-value.result c.requires c.value-value.ensures in
+    let w = within_get c.args.text.now c.args.self.now.items c.loop-index.index c.value-value.result c.requires c.value-value.ensures in
     record { start_le_end = w.order; start_boundary = λ _. w.first; end_boundary = w.last }
 
 pub loop-index-preserved : goal.loop-index-preserved
 loop-index-preserved c =
-    let rest = spelled_entries c.args.text.now (drop (suc c.loop-index.index) c.args.self.now) in
+    let rest = spelled_entries c.args.text.now (drop (suc c.loop-index.index) c.args.self.now.items) in
     let line : List ℕ × List ℕ = (chars c.name.result.now, chars c.range.result.now) in
-    let here : spelled_entries c.args.text.now (drop c.loop-index.index c.args.self.now) ≡ line ∷ rest
-    = rw (c.range.ensures.value) (spelled_here c.args.text.now c.args.self.now c.loop-index.index c.name.result.now c.value-value.result c.name.ensures c.value-value.ensures) in
+    let here : spelled_entries c.args.text.now (drop c.loop-index.index c.args.self.now.items) ≡ line ∷ rest
+    = rw (c.range.ensures.value) (spelled_here c.args.text.now c.args.self.now.items c.loop-index.index c.name.result.now c.value-value.result c.name.ensures c.value-value.ensures) in
     let sum = ap (λ (x : List (List ℕ × List ℕ)). bytes_len (header_lines x)) here ∙ lines_cons line rest in
     record {
       fits = c.saturating_add-len.type_inv;
-      sum = rw add-one (sum_next c.loop-index.len (bytes_len (header_line line)) (bytes_len (header_lines rest)) (min (bytes_len (header_lines (spelled_entries c.args.text.now c.args.self.now))) (2 ^ 64 - 1))
+      sum = rw add-one (sum_next c.loop-index.len (bytes_len (header_line line)) (bytes_len (header_lines rest)) (min (bytes_len (header_lines (spelled_entries c.args.text.now c.args.self.now.items))) (2 ^ 64 - 1))
           c.line_len.result c.saturating_add-len.result (sym (ap (λ (n : ℕ). min (c.loop-index.len + n) (2 ^ 64 - 1)) sum) ∙ c.loop-index.invariant.sum) c.line_len.ensures c.saturating_add-len.ensures);
     }
 
 pub returns : goal.returns
 returns c =
-    let l : length c.args.self.now ≤ c.loop-index.index = omega arith in
-    let none = ap (λ (x : List (List ℕ × List ℕ)). bytes_len (header_lines x)) (spelled_none c.args.text.now c.args.self.now c.loop-index.index l) in
+    let l : length c.args.self.now.items ≤ c.loop-index.index = omega arith in
+    let none = ap (λ (x : List (List ℕ × List ℕ)). bytes_len (header_lines x)) (spelled_none c.args.text.now c.args.self.now.items c.loop-index.index l) in
     let e = c.loop-index.invariant.sum in
     let f = c.loop-index.invariant.fits in
     omega (arith, none, e, f)

@@ -1,48 +1,98 @@
-use Rattle.std.proofs.Common.{◌≡◌, length, refl, sym, codes, ap, ◌∙◌, bytes_eq, IsUtf8}
-use Rattle.std.specs.Cmp.Lexicographic.{same_text}
-use Rattle.std.specs.Str.{chars}
-use Rattle.arrayvec.specs.ArrayString.{ArrayString}
-use Rattle.gabc_headers.specs.contracts.entry_map.KeyPartialEq.TheImpl.{eq-value}
-use Rattle.gabc_headers.specs.declared.entry_map.Key.TheVariants.{Name}
-use Rattle.gabc_headers.proofs.entries.TextsAsBytes.{bytes_eq-chars, chars-annotation, annotation-chars}
-use Rattle.gabc_headers.proofs.entries.InsertPutsEntry.{put_number, put_name, name_below, number_below, number_new, name_again}
+use Rattle.std.proofs.Common.{◌≡◌, ◌≤◌, ◌+◌, ◌++◌, length, arith, refl, sym, ap, ◌∙◌, List, ℕ, length-append, ◌∷◌, []}
+use Rattle.std.proofs.Math.ListN.{length-set}
+use Rattle.gabc_places.specs.declared.place.Span.{Span}
+use Rattle.gabc_headers.specs.machine.NameTree.{IsListed}
+use Rattle.gabc_headers.proofs.names.LinksAreKept.{length-nodes_with}
+use Rattle.gabc_headers.proofs.entries.MapIsReadByEntry.{fits_inside}
+use Rattle.gabc_headers.proofs.entries.PutIsFound.{not_so, so, held_within, held_found, held_put, held_again, room_added, new_found, new_put, new_again, annotation_found, annotation_put, annotation_again}
 use Rattle.gabc_headers.proofs.entry_map.EntryMap.put.Goals as goal
-use Rattle.gabc_headers.proofs.entry_map.EntryMap.put.Goals.{then-eq, else-eq+in-Ok, in-Ok-insert, in-Err}
+use Rattle.gabc_headers.proofs.entry_map.EntryMap.put.Goals.{then-ne+in-Err, else-ne}
 
--- keys that are names compare by their characters
-same : (s t : ArrayString) → IsUtf8 s.bytes → IsUtf8 t.bytes → (eq-value).it (Name s) (Name t) ≡ bytes_eq (chars s.bytes) (chars t.bytes)
-same s t u v = sym (bytes_eq-chars s.bytes t.bytes u v)
-
-pub returns : goal.returns
-returns c = elim c.match-insert.branch [
-  | in-Ok-insert w ↦ elim c.if-eq.branch [
-    | then-eq v ↦ record {
-      put = rw (w.result-is, w.in-Ok-insert.ensures.entries, v.key-is, v.len.ensures.len, ← c.self.view_is)
-          (put_number (eq-value).it same (λ i j. refl) (λ s i. refl) (λ s i. refl) (length c.self.inside.map.entries) (chars c.args.name.now) c.args.value c.self.inside.map.entries c.self.invariant
-          (annotation-chars c.args.name.now c.utf8.name ∙ sym v.if-eq.ensures) (ap chars (same_text c.args.name.now (codes "annotation") v.if-eq.ensures) ∙ chars-annotation));
-      again = rw (w.result-is, w.is_some.ensures, w.in-Ok-insert.ensures.old, v.key-is, v.len.ensures.len, ← c.self.view_is, annotation-chars c.args.name.now c.utf8.name, ← v.if-eq.ensures)
-          (number_new (eq-value).it same (λ i j. refl) (λ s i. refl) (λ s i. refl) (length c.self.inside.map.entries) c.self.inside.map.entries c.self.invariant);
-    }
-    | else-eq+in-Ok v ↦ record {
-      put = rw (w.result-is, w.in-Ok-insert.ensures.entries, v.key-is, ← c.self.view_is)
-          (put_name (eq-value).it same (λ i j. refl) (λ s i. refl) (λ s i. refl) (length c.self.inside.map.entries) v.in-Ok.text c.args.name.now c.args.value c.self.inside.map.entries v.in-Ok.ensures.ok
-          (annotation-chars c.args.name.now c.utf8.name ∙ sym v.if-eq.ensures) c.utf8.name c.self.invariant);
-      again = rw (w.result-is, w.is_some.ensures, w.in-Ok-insert.ensures.old, v.key-is, ← c.self.view_is)
-          (name_again (eq-value).it same (λ i j. refl) (λ s i. refl) (λ s i. refl) (length c.self.inside.map.entries) v.in-Ok.text c.args.name.now c.self.inside.map.entries v.in-Ok.ensures.ok
-          (annotation-chars c.args.name.now c.utf8.name ∙ sym v.if-eq.ensures) c.utf8.name c.self.invariant);
-    }
-  ]
-  | in-Err w ↦ rw (w.result-is) (record { put = tt; again = tt })
-]
+pub index_mut-requires : goal.index_mut-requires
+index_mut-requires c =
+    let listed : IsListed c.args.name.now = not_so _ (sym c.ne.ensures ∙ c.if-ne.true) in
+    let l = held_within c.self.inside.tree.nodes.items c.self.inside.headers.items c.self.inside.headers.items c.deref.result.now c.in-Ok-find.index c.args.name.now c.args.value c.self.invariant.found refl c.deref.ensures.value c.utf8.name listed c.in-Ok-find.ensures in
+    omega (arith, l, c.self.inside.headers.ok.0)
 
 pub invariant_of-self : goal.invariant_of-self
-invariant_of-self c = elim c.match-insert.branch [
-  | in-Ok-insert w ↦ elim c.if-eq.branch [
-    | then-eq v ↦ rw (w.in-Ok-insert.ensures.entries, v.key-is, v.len.ensures.len)
-        (number_below (eq-value).it same (λ i j. refl) (λ s i. refl) (λ s i. refl) c.args.value c.self.inside.map.entries c.self.invariant)
-    | else-eq+in-Ok v ↦ rw (w.in-Ok-insert.ensures.entries, v.key-is)
-        (name_below (eq-value).it same (λ i j. refl) (λ s i. refl) (λ s i. refl) v.in-Ok.text c.args.name.now c.args.value c.self.inside.map.entries v.in-Ok.ensures.ok
-        (annotation-chars c.args.name.now c.utf8.name ∙ sym v.if-eq.ensures) c.utf8.name c.self.invariant)
-  ]
-  | in-Err w ↦ rw (w.in-Err.ensures.err) c.self.invariant
+invariant_of-self c =
+    let listed : IsListed c.args.name.now = not_so _ (sym c.ne.ensures ∙ c.if-ne.true) in
+    let n = length-set c.self.inside.headers.items c.in-Ok-find.index (record { name = c.index_mut.result.now.name; value = c.args.value }) in
+    record {
+      found = held_found c.self.inside.tree.nodes.items c.self.inside.headers.items c.self.inside.headers.items c.deref.result.now c.in-Ok-find.index c.args.name.now c.args.value c.self.invariant.found refl c.deref.ensures.value c.utf8.name listed c.in-Ok-find.ensures c.index_mut.result.now c.index_mut.ensures.value;
+      few = (let f = c.self.invariant.few in omega arith);
+      fewer = (let f = c.self.invariant.fewer in omega arith);
+      headers_fit = c.self.invariant.headers_fit;
+      nodes_fit = c.self.invariant.nodes_fit;
+    }
+
+pub returns-in-Ok-find-clause-put : goal.returns-in-Ok-find-clause-put
+returns-in-Ok-find-clause-put c =
+    let listed : IsListed c.args.name.now = not_so _ (sym c.ne.ensures ∙ c.if-ne.true) in
+    rw (← c.self.view_is)
+    (ap (λ (x : List (List ℕ × Span)). record { items = x; limit = c.self.inside.limit })
+    (held_put c.self.inside.tree.nodes.items c.self.inside.headers.items c.self.inside.headers.items c.deref.result.now c.in-Ok-find.index c.args.name.now c.args.value c.self.invariant.found refl c.deref.ensures.value c.utf8.name listed c.in-Ok-find.ensures c.index_mut.result.now c.index_mut.ensures.value))
+
+pub returns-in-Ok-find-clause-again : goal.returns-in-Ok-find-clause-again
+returns-in-Ok-find-clause-again c =
+    let listed : IsListed c.args.name.now = not_so _ (sym c.ne.ensures ∙ c.if-ne.true) in
+    rw (← c.self.view_is) (held_again c.self.inside.tree.nodes.items c.self.inside.headers.items c.self.inside.headers.items c.deref.result.now c.in-Ok-find.index c.args.name.now c.args.value c.self.invariant.found refl c.deref.ensures.value c.utf8.name listed c.in-Ok-find.ensures)
+
+pub put-requires-clause-room : goal.put-requires-clause-room
+put-requires-clause-room c =
+    let room = fits_inside c.self.inside.headers.items c.self.inside.limit c.args.self.now c.self.view_is c.requires.room in
+    let a = c.self.invariant.fewer in
+    let b = c.self.invariant.nodes_fit in
+    omega (arith, c.self.inside.tree.nodes.ok.0)
+
+pub push_reserved-requires : goal.push_reserved-requires
+push_reserved-requires c =
+    let room = fits_inside c.self.inside.headers.items c.self.inside.limit c.args.self.now c.self.view_is c.requires.room in
+    let a = c.self.invariant.headers_fit in
+    elim c.if-ne.branch [
+      | then-ne+in-Err w ↦ rw (w.self-inside-is) (omega (arith, c.self.inside.headers.ok.0))
+      | else-ne w ↦ rw (w.self-inside-is) (omega (arith, c.self.inside.headers.ok.0))
+    ]
+
+pub invariant_of-self-2 : goal.invariant_of-self-2
+invariant_of-self-2 c =
+    let room = fits_inside c.self.inside.headers.items c.self.inside.limit c.args.self.now c.self.view_is c.requires.room in
+    let more : length (c.self.inside.headers.items ++ record { name = c.in-Ok.text; value = c.args.value } ∷ []) ≡ length c.self.inside.headers.items + 1
+    = (let l = length-append c.self.inside.headers.items (record { name = c.in-Ok.text; value = c.args.value } ∷ []) in omega arith) in
+    elim c.if-ne.branch [
+      | then-ne+in-Err w ↦
+          let count : w.len.result ≡ length c.self.inside.headers.items = w.len.ensures ∙ c.self.inside.headers.ok.0 in
+          let nodes : length w.put.new.self.nodes.items ≤ length c.self.inside.tree.nodes.items + 1
+          = (let l = ap length w.put.ensures.nodes in let m = length-nodes_with c.self.inside.tree.nodes.items w.in-Err.spot w.len.result in omega arith) in
+          rw (c.push_reserved.ensures.items, c.push_reserved.ensures.capacity, w.self-inside-is)
+          (room_added c.self.inside.limit _ _ _ _ c.self.inside.tree.nodes.items w.put.new.self.nodes.items c.self.inside.headers.items _ c.self.invariant room
+          (rw w.put.ensures.nodes (new_found c.self.inside.tree.nodes.items c.self.inside.headers.items c.self.inside.headers.items c.args.name.now c.in-Ok.text c.args.value c.self.invariant.found refl c.utf8.name c.in-Ok.ensures.ok
+          w.deref.result.now w.in-Err.spot w.len.result w.deref.ensures.value count w.in-Err.ensures.0 w.in-Err.ensures.1))
+          more nodes refl w.put.ensures.room)
+      | else-ne w ↦ rw (c.push_reserved.ensures.items, c.push_reserved.ensures.capacity, w.self-inside-is)
+          (room_added c.self.inside.limit _ _ _ _ c.self.inside.tree.nodes.items c.self.inside.tree.nodes.items c.self.inside.headers.items _ c.self.invariant room
+          (annotation_found c.self.inside.tree.nodes.items c.self.inside.headers.items c.self.inside.headers.items c.args.name.now c.in-Ok.text c.args.value c.self.invariant.found refl c.utf8.name c.in-Ok.ensures.ok
+          (so _ (sym c.ne.ensures ∙ w.if-ne.false))) more (omega arith) refl refl)
+    ]
+
+pub returns-clause-put : goal.returns-clause-put
+returns-clause-put c = elim c.if-ne.branch [
+  | then-ne+in-Err w ↦ rw (← c.self.view_is, c.push_reserved.ensures.items, w.self-inside-is)
+      (ap (λ (x : List (List ℕ × Span)). record { items = x; limit = c.self.inside.limit })
+      (new_put c.self.inside.tree.nodes.items c.self.inside.headers.items c.self.inside.headers.items c.args.name.now c.in-Ok.text c.args.value c.self.invariant.found refl c.utf8.name c.in-Ok.ensures.ok
+      w.deref.result.now w.deref.ensures.value (not_so _ (sym c.ne.ensures ∙ w.if-ne.true)) w.in-Err.ensures.0))
+  | else-ne w ↦ rw (← c.self.view_is, c.push_reserved.ensures.items, w.self-inside-is)
+      (ap (λ (x : List (List ℕ × Span)). record { items = x; limit = c.self.inside.limit })
+      (annotation_put c.self.inside.tree.nodes.items c.self.inside.headers.items c.self.inside.headers.items c.args.name.now c.in-Ok.text c.args.value c.self.invariant.found refl c.utf8.name c.in-Ok.ensures.ok
+      (so _ (sym c.ne.ensures ∙ w.if-ne.false))))
+]
+
+pub returns-clause-again : goal.returns-clause-again
+returns-clause-again c = elim c.if-ne.branch [
+  | then-ne+in-Err w ↦ rw (← c.self.view_is)
+      (new_again c.self.inside.tree.nodes.items c.self.inside.headers.items c.self.inside.headers.items c.args.name.now c.in-Ok.text c.args.value c.self.invariant.found refl c.utf8.name c.in-Ok.ensures.ok
+      w.deref.result.now w.deref.ensures.value (not_so _ (sym c.ne.ensures ∙ w.if-ne.true)) w.in-Err.ensures.0)
+  | else-ne w ↦ rw (← c.self.view_is)
+      (annotation_again c.self.inside.tree.nodes.items c.self.inside.headers.items c.self.inside.headers.items c.args.name.now c.in-Ok.text c.args.value c.self.invariant.found refl c.utf8.name c.in-Ok.ensures.ok
+      (so _ (sym c.ne.ensures ∙ w.if-ne.false)))
 ]

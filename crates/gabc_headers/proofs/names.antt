@@ -1,0 +1,4 @@
+pub mod LinksAreKept
+pub mod NamesOfHeaders
+pub mod NewNameIsFound
+pub mod TurnsLeadToName

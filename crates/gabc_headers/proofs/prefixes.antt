@@ -1,0 +1,3 @@
+pub mod EventsGrow
+pub mod EventsMakeHeads
+pub mod HeadsSoFar

@@ -1,0 +1,82 @@
+-- What a header stage gives: for each character what the text with it tells more than the text before it.
+use Rattle.std.specs.Prelude.{ℕ, ◌+◌, ◌*◌, List, [], ◌∷◌, ◌++◌, if◌then◌else◌, length, drop, map, Result, Ok, Err, zero, suc}
+use Rattle.gabc_places.specs.declared.place.Char.{Char}
+use Rattle.gabc_places.specs.declared.code.Fault.{Fault}
+use Rattle.gabc_places.specs.declared.code.Finding.{Finding}
+use Rattle.gabc_places.specs.declared.limits.Limits.{Limits}
+use Rattle.gabc_places.specs.StageLaw.{silence}
+use Rattle.gabc_headers.specs.declared.heads.Heads.{Heads}
+use Rattle.gabc_headers.specs.declared.heads.HeadFault.{HeadFault}
+use Rattle.gabc_headers.specs.declared.head_event.HeadEvent.{HeadEvent}
+use Rattle.gabc_headers.specs.declared.head_event.HeadEvent.TheVariants.{Found, Stop, Heads as heads_event, Body, End}
+use Rattle.gabc_headers.specs.Book.{nabc_lines_of, has_header, macro_name}
+use Rattle.gabc_headers.specs.Canonical.{canonical_heads}
+use Rattle.gabc_headers.specs.Heads.{heads_of, findings_of, head_len}
+use Rattle.gabc_places.specs.Place.{placed_characters, placed_characters_behind}
+use Rattle.gabc_headers.specs.Lines.{bytes_len}
+
+-- where a header stage stands
+pub data HeadProgress : Type 0 where
+  -- in the headers, of which this text is read
+  reading : List ℕ → HeadProgress
+  -- behind them, with this book
+  behind : List (List ℕ × List ℕ) → HeadProgress
+  -- behind its last event
+  over : HeadProgress
+
+-- the macros of the digits from d on, the first of these as the bit of this value
+abbrev pub macros_from : ℕ → ℕ → ℕ → List (List ℕ × List ℕ) → ℕ
+macros_from zero d bit book = 0
+macros_from (suc count) d bit book = (if has_header (macro_name d) book then bit else 0) + macros_from count (d + 1) (2 * bit) book
+
+-- the bit d tells that the macro of the digit d is defined
+abbrev pub macros_of : List (List ℕ × List ℕ) → ℕ
+macros_of book = macros_from 10 0 1 book
+
+-- what the line `%%` gives
+abbrev pub heads_told : List (List ℕ × List ℕ) → HeadEvent
+heads_told book = heads_event (nabc_lines_of book) (macros_of book) (bytes_len (canonical_heads book))
+
+-- the findings of the longer text that the shorter one has not
+abbrev pub new_findings : Limits → List ℕ → List ℕ → List Finding
+new_findings limits before after = drop (length (findings_of (heads_of limits before))) (findings_of (heads_of limits after))
+
+-- Of a character: the text with it is stopped, by something else than its end; or what is found more, and the headers if they are whole.
+abbrev pub events_by : List Finding → Result Heads HeadFault → List HeadEvent
+events_by found (Ok heads) = map (λ f. Found f) found ++ heads_told heads.book ∷ []
+events_by found (Err stopped) = if stopped.at_end then map (λ f. Found f) found else Stop stopped.fault ∷ []
+
+abbrev pub events_at : Limits → List ℕ → ℕ → List HeadEvent
+events_at limits t c = events_by (new_findings limits t (t ++ c ∷ [])) (heads_of limits (t ++ c ∷ []))
+
+abbrev pub progress_by : List ℕ → Result Heads HeadFault → HeadProgress
+progress_by t (Ok heads) = behind heads.book
+progress_by t (Err stopped) = if stopped.at_end then reading t else over
+
+-- what stops the headers at the end of their text
+abbrev pub events_at_end : Result Heads HeadFault → List HeadEvent
+events_at_end (Ok heads) = []
+events_at_end (Err stopped) = Stop stopped.fault ∷ []
+
+-- a list for each input to come, and one for the end
+abbrev pub events_left : Limits → HeadProgress → List (Result Char Fault) → List (List HeadEvent)
+events_left limits over xs = silence xs
+events_left limits (behind book) [] = (End ∷ []) ∷ []
+events_left limits (behind book) (Ok c ∷ xs) = (Body c ∷ []) ∷ events_left limits (behind book) xs
+events_left limits (behind book) (Err fault ∷ xs) = (Stop fault ∷ []) ∷ silence xs
+events_left limits (reading t) [] = events_at_end (heads_of limits t) ∷ []
+events_left limits (reading t) (Ok c ∷ xs) = events_at limits t c.c ∷ events_left limits (progress_by (t ++ c.c ∷ []) (heads_of limits (t ++ c.c ∷ []))) xs
+events_left limits (reading t) (Err fault ∷ xs) = (Stop fault ∷ []) ∷ silence xs
+
+-- the characters of a text as they come in, behind this prefix
+abbrev pub given_behind : List ℕ → List ℕ → List (Result Char Fault)
+given_behind prefix t = map (λ c. Ok c) (placed_characters_behind prefix t)
+
+-- the characters behind the `%%`
+abbrev pub body_characters : List ℕ → List Char
+body_characters t = drop (head_len t + 2) (placed_characters t)
+
+-- What headers that are read whole tell, and the characters behind them; or what is found before their stop, and the stop.
+abbrev pub events_of_heads : List ℕ → Result Heads HeadFault → List HeadEvent
+events_of_heads t (Ok heads) = map (λ f. Found f) heads.findings ++ heads_told heads.book ∷ (map (λ c. Body c) (body_characters t) ++ End ∷ [])
+events_of_heads t (Err stopped) = map (λ f. Found f) stopped.findings ++ Stop stopped.fault ∷ []

@@ -1,0 +1,24 @@
+//! What a header stage gives.
+
+use gabc_places::{Char, Fault, Finding};
+
+/// What is given of the headers of a text, and of what stands behind them.
+#[derive(Clone, Copy, Debug, PartialEq, Eq)]
+pub enum HeadEvent {
+    Found(Finding),
+    /// The text is stopped here. Nothing follows.
+    Stop(Fault),
+    /// The line `%%` ended the headers.
+    Heads {
+        /// The number of lines of NABC under each snippet of notes, 0 or 1.
+        nabc_lines: u8,
+        /// The bit `d` tells that the macro of the digit `d` is defined.
+        macros: u16,
+        /// The number of bytes of the canonical header lines and `%%`.
+        canonical: u32,
+    },
+    /// A character behind the line's `%%`.
+    Body(Char),
+    /// The text has ended behind its headers. Nothing follows.
+    End,
+}

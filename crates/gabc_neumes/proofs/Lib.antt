@@ -1,0 +1,3 @@
+pub mod glyphs_of_notes
+pub mod runs_of_items
+pub mod RoomsGrow

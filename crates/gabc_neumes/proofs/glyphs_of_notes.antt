@@ -1,0 +1,7 @@
+pub mod FirstGlyphByStates
+pub mod GlyphsAreOne
+pub mod GlyphsOneByOne
+pub mod KindByStates
+pub mod LettersOfNotes
+pub mod MachineReadsNeumes
+pub mod OneNoteMore

@@ -1,0 +1,108 @@
+-- The letters of notes one after the other.
+use Rattle.std.proofs.Common.{◌≡◌, ℕ, zero, suc, List, [], ◌∷◌, ◌++◌, refl, ap, Bool, true, false, if◌then◌else◌, Option, Some, None, take, length, get_or, ◌<◌, ◌+◌, nat_lt, arith, sym, ◌∙◌}
+use Rattle.std.proofs.lemmas.List.{take_more}
+use Rattle.gabc_notes.specs.declared.note.Note.{Note}
+use Rattle.gabc_notes.specs.declared.note.Shape.{Shape}
+use Rattle.gabc_notes.specs.declared.note.Shape.TheVariants as shape
+use Rattle.gabc_patterns.proofs.ItemsByLetters.{AreLetters}
+use Rattle.gabc_neumes.specs.Letters.{letters, letters_from, letter_of, shape_letter, step_letter}
+use Rattle.gabc_neumes.specs.machine.GlyphMachine.{class_of_letter, class_at, step_class}
+use Rattle.gabc_neumes.specs.declared.state.NoteClass.TheVariants.{First, Up, Down, Level, PointUp, PointDown, PointLevel}
+
+-- ---- as many as notes, and a prefix of them for a prefix of the notes
+
+many : (b : Option ℕ) (ns : List Note) → length (letters_from b ns) ≡ length ns
+many b [] = refl
+many b (n ∷ ns) = ap suc (many (Some n.height) ns)
+
+prefix : (b : Option ℕ) (m : ℕ) (ns : List Note) → letters_from b (take m ns) ≡ take m (letters_from b ns)
+prefix b zero ns = refl
+prefix b (suc m) [] = refl
+prefix b (suc m) (n ∷ ns) = ap (λ (u : List ℕ). letter_of b n ∷ u) (prefix (Some n.height) m ns)
+
+pub are_letters : AreLetters letters
+are_letters = record { as_many = many None; prefix = prefix None }
+
+-- ---- the letter of a note more
+
+-- the height of the last note, where that before them is b
+abbrev pub last_from : Option ℕ → List Note → Option ℕ
+last_from b [] = b
+last_from b (n ∷ ns) = last_from (Some n.height) ns
+
+-- the height of the last note
+abbrev pub last_height : List Note → Option ℕ
+last_height ns = last_from None ns
+
+pub letters-snoc : (b : Option ℕ) (ns : List Note) (n : Note) → letters_from b (ns ++ n ∷ []) ≡ letters_from b ns ++ letter_of (last_from b ns) n ∷ []
+letters-snoc b [] n = refl
+letters-snoc b (m ∷ ns) n = ap (λ (u : List ℕ). letter_of b m ∷ u) (letters-snoc (Some m.height) ns n)
+
+pub last-snoc : (b : Option ℕ) (ns : List Note) (n : Note) → last_from b (ns ++ n ∷ []) ≡ Some n.height
+last-snoc b [] n = refl
+last-snoc b (m ∷ ns) n = last-snoc (Some m.height) ns n
+
+-- the height of the last note up to a place
+pub last_next : (ns : List Note) (i : ℕ) (d : Note) → i < length ns → Some (get_or ns i d).height ≡ last_height (take (i + 1) ns)
+last_next ns i d l = sym (ap last_height (take_more ns i d l) ∙ last-snoc None (take i ns) (get_or ns i d))
+
+-- the letter of the note at a place
+pub letter_at : (b : Option ℕ) (ns : List Note) (i : ℕ) (d : Note) (e : ℕ) → i < length ns
+    → letter_of (last_from b (take i ns)) (get_or ns i d) ≡ get_or (letters_from b ns) i e
+letter_at b [] i d e l = absurd (omega arith)
+letter_at b (n ∷ ns) zero d e l = refl
+letter_at b (n ∷ ns) (suc i) d e l = letter_at (Some n.height) ns i d e (omega arith)
+
+-- ---- the class of a note's letter is the note's
+
+of_first : (s : Shape) → class_of_letter (shape_letter s) ≡ First s
+of_first shape.Punctum = refl
+of_first shape.Inclinatum = refl
+of_first shape.Virga = refl
+of_first shape.Bivirga = refl
+of_first shape.Trivirga = refl
+of_first shape.VirgaReversa = refl
+of_first shape.Stropha = refl
+of_first shape.Distropha = refl
+of_first shape.Tristropha = refl
+of_first shape.Oriscus = refl
+of_first shape.OriscusScapus = refl
+of_first shape.Quilisma = refl
+of_first shape.QuilismaQuadratum = refl
+of_first shape.Quadratum = refl
+of_first shape.Cavum = refl
+of_first shape.Lined = refl
+of_first shape.Linea = refl
+
+of_joinable : (l h : Bool) → class_of_letter (if l then 68 else if h then 85 else 69) ≡ (if l then Down else if h then Up else Level)
+of_joinable true h = refl
+of_joinable false true = refl
+of_joinable false false = refl
+
+of_point : (l h : Bool) → class_of_letter (if l then 100 else if h then 117 else 101) ≡ (if l then PointDown else if h then PointUp else PointLevel)
+of_point true h = refl
+of_point false true = refl
+of_point false false = refl
+
+of_step : (s : Shape) (a b : ℕ) → class_of_letter (step_letter s a b) ≡ step_class s a b
+of_step shape.Inclinatum a b = of_point (nat_lt b a) (nat_lt a b)
+of_step shape.Punctum a b = of_joinable (nat_lt b a) (nat_lt a b)
+of_step shape.Oriscus a b = of_joinable (nat_lt b a) (nat_lt a b)
+of_step shape.OriscusScapus a b = of_joinable (nat_lt b a) (nat_lt a b)
+of_step shape.Quilisma a b = of_joinable (nat_lt b a) (nat_lt a b)
+of_step shape.QuilismaQuadratum a b = of_joinable (nat_lt b a) (nat_lt a b)
+of_step shape.Quadratum a b = of_joinable (nat_lt b a) (nat_lt a b)
+of_step shape.Virga a b = refl
+of_step shape.Bivirga a b = refl
+of_step shape.Trivirga a b = refl
+of_step shape.VirgaReversa a b = refl
+of_step shape.Stropha a b = refl
+of_step shape.Distropha a b = refl
+of_step shape.Tristropha a b = refl
+of_step shape.Cavum a b = refl
+of_step shape.Lined a b = refl
+of_step shape.Linea a b = refl
+
+pub class_of_letter_of : (b : Option ℕ) (n : Note) → class_of_letter (letter_of b n) ≡ class_at b n
+class_of_letter_of None n = of_first n.shape
+class_of_letter_of (Some h) n = of_step n.shape h n.height

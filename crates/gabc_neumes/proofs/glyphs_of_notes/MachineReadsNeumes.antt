@@ -1,0 +1,199 @@
+-- The machine reads the table of neumes.
+use Rattle.std.proofs.Common.{◌≡◌, ℕ, ◌≤◌, Bool, true, false, ◌&&◌, refl, arith, ap, ◌∙◌}
+use Rattle.std.proofs.lemmas.Bool.Decides.{nat_tests}
+use Rattle.gabc_notes.specs.declared.note.Shape.{Shape}
+use Rattle.gabc_notes.specs.declared.note.Shape.TheVariants as shape
+use Rattle.gabc_neumes.specs.Table.{neumes}
+use Rattle.gabc_neumes.specs.machine.GlyphMachine.{class_of_letter, next_state, kind_at_end, example}
+use Rattle.gabc_neumes.specs.declared.glyph.Base.{Base}
+use Rattle.gabc_neumes.specs.declared.glyph.Base.TheVariants as base
+use Rattle.gabc_neumes.specs.declared.glyph.Tail.{Tail}
+use Rattle.gabc_neumes.specs.declared.glyph.Tail.TheVariants as tail
+use Rattle.gabc_neumes.specs.declared.glyph.GlyphKind.{GlyphKind}
+use Rattle.gabc_neumes.specs.declared.state.NoteClass.{NoteClass}
+use Rattle.gabc_neumes.specs.declared.state.JoinedBase.TheVariants as joined
+use Rattle.gabc_neumes.specs.declared.state.GlyphState.{GlyphState}
+use Rattle.gabc_neumes.specs.declared.state.GlyphState.TheVariants.{Start, One, Plain, Falling, Half, Climacus, Resumed, ResumedClimacus}
+use Rattle.gabc_patterns.specs.Reading.{OneKind}
+use Rattle.gabc_patterns.proofs.BothOfTwoTests.{and_true}
+use Rattle.gabc_patterns.proofs.AutomatonsByTests.{Automaton, ReadsItems, rows_of, test_items}
+use Rattle.gabc_patterns.proofs.RowsRun.{ends_once}
+use Rattle.gabc_patterns.proofs.ItemSoFar.{one_kind}
+use Rattle.gabc_patterns.proofs.TestedAutomatonReads.{reads_items}
+
+-- the machine as an automaton
+abbrev pub machine : Automaton GlyphKind GlyphState NoteClass
+machine = record {
+  class_of = class_of_letter;
+  first = Start;
+  example = example;
+  goes_on = next_state;
+  next = next_state;
+  ends = kind_at_end;
+  whole = λ _. true;
+}
+
+-- tests of two kinds, part by part, and that what tests alike is equal
+abbrev pub same_shape : Shape → Shape → Bool
+same_shape shape.Inclinatum shape.Inclinatum = true
+same_shape shape.Punctum shape.Punctum = true
+same_shape shape.Virga shape.Virga = true
+same_shape shape.Bivirga shape.Bivirga = true
+same_shape shape.Trivirga shape.Trivirga = true
+same_shape shape.VirgaReversa shape.VirgaReversa = true
+same_shape shape.Stropha shape.Stropha = true
+same_shape shape.Distropha shape.Distropha = true
+same_shape shape.Tristropha shape.Tristropha = true
+same_shape shape.Oriscus shape.Oriscus = true
+same_shape shape.OriscusScapus shape.OriscusScapus = true
+same_shape shape.Quilisma shape.Quilisma = true
+same_shape shape.QuilismaQuadratum shape.QuilismaQuadratum = true
+same_shape shape.Quadratum shape.Quadratum = true
+same_shape shape.Cavum shape.Cavum = true
+same_shape shape.Lined shape.Lined = true
+same_shape shape.Linea shape.Linea = true
+same_shape _ _ = false
+
+pub same_shape_equal : (k j : Shape) → same_shape k j ≡ true → k ≡ j
+same_shape_equal shape.Inclinatum shape.Inclinatum e = refl
+same_shape_equal shape.Punctum shape.Punctum e = refl
+same_shape_equal shape.Virga shape.Virga e = refl
+same_shape_equal shape.Bivirga shape.Bivirga e = refl
+same_shape_equal shape.Trivirga shape.Trivirga e = refl
+same_shape_equal shape.VirgaReversa shape.VirgaReversa e = refl
+same_shape_equal shape.Stropha shape.Stropha e = refl
+same_shape_equal shape.Distropha shape.Distropha e = refl
+same_shape_equal shape.Tristropha shape.Tristropha e = refl
+same_shape_equal shape.Oriscus shape.Oriscus e = refl
+same_shape_equal shape.OriscusScapus shape.OriscusScapus e = refl
+same_shape_equal shape.Quilisma shape.Quilisma e = refl
+same_shape_equal shape.QuilismaQuadratum shape.QuilismaQuadratum e = refl
+same_shape_equal shape.Quadratum shape.Quadratum e = refl
+same_shape_equal shape.Cavum shape.Cavum e = refl
+same_shape_equal shape.Lined shape.Lined e = refl
+same_shape_equal shape.Linea shape.Linea e = refl
+same_shape_equal _ _ e = absurd (cc)
+
+abbrev pub same_base : Base → Base → Bool
+same_base base.Pes base.Pes = true
+same_base base.Clivis base.Clivis = true
+same_base base.Torculus base.Torculus = true
+same_base base.Porrectus base.Porrectus = true
+same_base base.Scandicus base.Scandicus = true
+same_base base.ScandicusFlexus base.ScandicusFlexus = true
+same_base base.TorculusResupinus base.TorculusResupinus = true
+same_base base.PorrectusFlexus base.PorrectusFlexus = true
+same_base base.TorculusResupinusFlexus base.TorculusResupinusFlexus = true
+same_base base.Climacus base.Climacus = true
+same_base base.Inclinata base.Inclinata = true
+same_base (base.One s) (base.One r) = same_shape s r
+same_base _ _ = false
+
+pub same_base_equal : (k j : Base) → same_base k j ≡ true → k ≡ j
+same_base_equal base.Pes base.Pes e = refl
+same_base_equal base.Clivis base.Clivis e = refl
+same_base_equal base.Torculus base.Torculus e = refl
+same_base_equal base.Porrectus base.Porrectus e = refl
+same_base_equal base.Scandicus base.Scandicus e = refl
+same_base_equal base.ScandicusFlexus base.ScandicusFlexus e = refl
+same_base_equal base.TorculusResupinus base.TorculusResupinus e = refl
+same_base_equal base.PorrectusFlexus base.PorrectusFlexus e = refl
+same_base_equal base.TorculusResupinusFlexus base.TorculusResupinusFlexus e = refl
+same_base_equal base.Climacus base.Climacus e = refl
+same_base_equal base.Inclinata base.Inclinata e = refl
+same_base_equal (base.One s) (base.One r) e = (let f = same_shape_equal s r e in cc)
+same_base_equal _ _ e = absurd (cc)
+
+abbrev pub same_tail : Tail → Tail → Bool
+same_tail tail.Plain tail.Plain = true
+same_tail tail.Subpunctis tail.Subpunctis = true
+same_tail tail.Resupinus tail.Resupinus = true
+same_tail _ _ = false
+
+pub same_tail_equal : (k j : Tail) → same_tail k j ≡ true → k ≡ j
+same_tail_equal tail.Plain tail.Plain e = refl
+same_tail_equal tail.Subpunctis tail.Subpunctis e = refl
+same_tail_equal tail.Resupinus tail.Resupinus e = refl
+same_tail_equal _ _ e = absurd (cc)
+
+abbrev pub same_kind : GlyphKind → GlyphKind → Bool
+same_kind k j = same_base k.base j.base && same_tail k.tail j.tail
+
+pub same_kind_equal : (k j : GlyphKind) → same_kind k j ≡ true → k ≡ j
+same_kind_equal k j e =
+    let h = and_true (same_base k.base j.base) (same_tail k.tail j.tail) e in
+    ap (λ (b : Base). record { base = b; tail = k.tail }) (same_base_equal k.base j.base h.0)
+    ∙ ap (λ (t : Tail). record { base = j.base; tail = t }) (same_tail_equal k.tail j.tail h.1)
+
+-- a letter from 128 on is of the class of 128
+pub far : (c : ℕ) → 128 ≤ c → class_of_letter c ≡ class_of_letter 128
+far c h = grind (arith, nat_tests)
+
+-- the machine goes on and ends as the rows do, and at most one row ends at a time
+abbrev tests : GlyphState → Bool
+tests s = test_items same_kind neumes machine s && ends_once (rows_of neumes machine s)
+
+-- the tests come out
+checked : (s : GlyphState) → tests s ≡ true
+checked Start = refl
+checked (One shape.Inclinatum) = refl
+checked (One shape.Punctum) = refl
+checked (One shape.Virga) = refl
+checked (One shape.Bivirga) = refl
+checked (One shape.Trivirga) = refl
+checked (One shape.VirgaReversa) = refl
+checked (One shape.Stropha) = refl
+checked (One shape.Distropha) = refl
+checked (One shape.Tristropha) = refl
+checked (One shape.Oriscus) = refl
+checked (One shape.OriscusScapus) = refl
+checked (One shape.Quilisma) = refl
+checked (One shape.QuilismaQuadratum) = refl
+checked (One shape.Quadratum) = refl
+checked (One shape.Cavum) = refl
+checked (One shape.Lined) = refl
+checked (One shape.Linea) = refl
+checked (Plain joined.Pes) = refl
+checked (Plain joined.Clivis) = refl
+checked (Plain joined.Torculus) = refl
+checked (Plain joined.Porrectus) = refl
+checked (Plain joined.Scandicus) = refl
+checked (Plain joined.ScandicusFlexus) = refl
+checked (Plain joined.TorculusResupinus) = refl
+checked (Plain joined.PorrectusFlexus) = refl
+checked (Plain joined.TorculusResupinusFlexus) = refl
+checked (Falling joined.Pes) = refl
+checked (Falling joined.Clivis) = refl
+checked (Falling joined.Torculus) = refl
+checked (Falling joined.Porrectus) = refl
+checked (Falling joined.Scandicus) = refl
+checked (Falling joined.ScandicusFlexus) = refl
+checked (Falling joined.TorculusResupinus) = refl
+checked (Falling joined.PorrectusFlexus) = refl
+checked (Falling joined.TorculusResupinusFlexus) = refl
+checked (Resumed joined.Pes) = refl
+checked (Resumed joined.Clivis) = refl
+checked (Resumed joined.Torculus) = refl
+checked (Resumed joined.Porrectus) = refl
+checked (Resumed joined.Scandicus) = refl
+checked (Resumed joined.ScandicusFlexus) = refl
+checked (Resumed joined.TorculusResupinus) = refl
+checked (Resumed joined.PorrectusFlexus) = refl
+checked (Resumed joined.TorculusResupinusFlexus) = refl
+checked Half = refl
+checked Climacus = refl
+checked ResumedClimacus = refl
+
+items_checked : (s : GlyphState) → test_items same_kind neumes machine s ≡ true
+items_checked s = (and_true (test_items same_kind neumes machine s) (ends_once (rows_of neumes machine s)) (checked s)).0
+
+once : (s : GlyphState) → ends_once (rows_of neumes machine s) ≡ true
+once s = (and_true (test_items same_kind neumes machine s) (ends_once (rows_of neumes machine s)) (checked s)).1
+
+-- the machine reads the neumes of the table
+pub items_read : ReadsItems neumes machine
+items_read = reads_items same_kind same_kind_equal neumes machine far refl items_checked
+
+-- notes are of one kind
+pub kinds_are_one : OneKind neumes
+kinds_are_one = one_kind neumes machine items_read once

@@ -1,0 +1,6 @@
+pub mod InnerSpacings
+pub mod ItemsLieWithin
+pub mod NotesAmongItems
+pub mod RunsAreOne
+pub mod RunsHoldWhatPasses
+pub mod RunsOneByOne

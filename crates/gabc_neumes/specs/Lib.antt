@@ -1,0 +1,7 @@
+pub mod machine
+pub mod Elements
+pub mod Glyphs
+pub mod Letters
+pub mod Runs
+pub mod Table
+pub mod Words

@@ -1,0 +1,3 @@
+pub mod GlyphMachine
+pub mod Glyphs
+pub mod Runs

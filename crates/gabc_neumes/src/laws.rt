@@ -1,0 +1,57 @@
+//! Laws of the definitions that contracts speak of. Each function is there for its clauses, and does nothing.
+
+ghost use Rattle.std.specs.Prelude.{◌≡◌, ◌≤◌, ◌<◌, ℕ, ◌⊎◌, List, [], ◌∷◌, ◌++◌, Bool, true, false};
+ghost use Rattle.gabc_patterns.specs.Reading.{HasSome};
+ghost use Rattle.gabc_places.specs.declared.place.Span.{Span};
+ghost use Rattle.gabc_notes.specs.Items.{AreItemsOf};
+ghost use Rattle.gabc_notes.specs.declared.item.Item.{Item};
+ghost use Rattle.gabc_notes.specs.declared.note.Note.{Note};
+ghost use Rattle.gabc_neumes.specs.Elements.{AreWithin, AreElementsOf, AreSegmentsOf, is_in_element, is_in_segment, divides, joins_segment};
+ghost use Rattle.gabc_neumes.specs.Glyphs.{HasKind, AreGlyphsOf};
+ghost use Rattle.gabc_neumes.specs.Runs.{passes_at, IsRun};
+ghost use Rattle.gabc_neumes.specs.declared.glyph.Glyph.{Glyph};
+ghost use Rattle.gabc_neumes.specs.declared.glyph.GlyphKind.{GlyphKind};
+
+/// A list of notes is of one kind at most, and no notes are of none.
+pub fn a_glyph_has_one_kind()
+    ensures one { (k j : GlyphKind) (notes : List Note) → HasKind k notes → HasKind j notes → k ≡ j }
+    ensures some { (k : GlyphKind) → ¬ HasKind k [] }
+{}
+
+/// A segment is cut into glyphs in one way.
+pub fn glyphs_are_one()
+    ensures one { (notes : List Note) (gs hs : List Glyph) →
+        AreGlyphsOf notes gs → AreGlyphsOf notes hs → gs ≡ hs }
+    ensures some { (notes : List Note) → (glyphs : List Glyph) × AreGlyphsOf notes glyphs }
+{}
+
+/// Where a glyph begins with some notes, all of them are a glyph, or all but the last: whoever reads on as long as a glyph may go
+/// on has read at most one note behind the longest glyph.
+pub fn an_open_glyph_has_one_note_more()
+    ensures { (k : GlyphKind) (notes more : List Note) (n : Note) → HasKind k (notes ++ n ∷ more) →
+        HasSome HasKind (notes ++ n ∷ []) ⊎ HasSome HasKind notes }
+{}
+
+/// Items have one list of elements, and one of segments.
+pub fn elements_are_one()
+    ensures elements { (kept : List ℕ) (items : List Item) (ss ts : List Span) →
+        AreElementsOf kept items ss → AreElementsOf kept items ts → ss ≡ ts }
+    ensures segments { (items : List Item) (ss ts : List Span) →
+        AreSegmentsOf items ss → AreSegmentsOf items ts → ss ≡ ts }
+{}
+
+/// What passes a test stands in a run: each item but a divider in an element, and each note in a segment.
+pub fn what_passes_stands_in_a_run()
+    ensures { (p : Item → Bool) (items : List Item) (i : ℕ) → passes_at p items i ≡ true →
+        (s : Span) × IsRun p items s × (s.from ≤ i) × (i < s.to) }
+{}
+
+/// What is part of a segment is part of an element.
+pub fn segments_stand_in_elements()
+    ensures { (kept : List ℕ) (i : Item) → is_in_segment i ≡ true → is_in_element kept i ≡ true }
+{}
+
+/// The items of a kept text lie in it, as the calls on items ask.
+pub fn items_lie_in_their_text()
+    ensures { (kept : List ℕ) (items : List Item) → AreItemsOf kept items → AreWithin kept items }
+{}

@@ -1,0 +1,50 @@
+//! The neumes of a snippet of notes: the elements and segments into which its items fall, and the glyphs into which the notes of a
+//! segment are cut.
+//!
+//! - Dividers are blanks, `/`, `//`, `/[..]`, bars, clefs, custodes and breaks; `!`, `/0` and `/!` are none. `elements` adds the
+//!   elements of a snippet: as many items in a row as have no divider among them.
+//! - `segments` adds the segments: as many notes, attributes and fusion marks in a row as there are. Each lies in one element.
+//!   `notes_into` adds the notes among the items of one.
+//! - `kind_of` tells which neume some notes are, if they are one. The neumes are the rows of one table (`specs/Table.antt`), which
+//!   reads like the printed one. `cut` adds the glyphs of a segment: each is the longest neume that begins where the one before it
+//!   ends.
+//! - A `GlyphKind` is printed as its word, such as `pes-subpunctis-resupinus`; `word_of_shape` is the word of one note's shape.
+//! - `laws` has what follows of the definitions.
+//!
+//! Spans count items from 0, and glyphs count notes from 0. No call asks for memory.
+//!
+//! ```
+//! let items = items_whole(alloc, kept)?; // of `hG/fgf!g`
+//! laws::items_lie_in_their_text(); // so the items lie in `kept`, as the calls ask
+//! elements(kept, items.as_slice(), &mut spans);
+//! assert_eq!(rt; spans.slice(), [first, second].as_slice()); // items 0 to 2, and 3 to 8
+//! let part = items.as_slice().get(3..6).ok_or("no such items")?;
+//! notes_into(kept, part, &mut notes);
+//! cut(notes.slice(), &mut glyphs);
+//! assert_eq!(rt; glyphs.slice(), [glyph].as_slice()); // a torculus: 3 notes from note 0 on
+//! ```
+//!
+//! The rules are those of GregorioRef, chapter Notation, sections Complex Neumes and Neume Spacing; the kinds are those of
+//! `docs/LANGUAGE.md`.
+//!
+//! Notes are read as letters (`specs/Letters.antt`), one for each: by the shape of the first, and of another by whether it is
+//! joinable and whether it is higher or lower than the note before it. The machine of `state.rt` is proved to read the table
+//! (`proofs/glyphs_of_notes/MachineReadsNeumes.antt`): each state stands for letters that end in it, and what may follow these in
+//! the table is compared with the machine's next state, for each letter.
+#![tactic(auto)]
+
+mod glyph;
+mod glyphs;
+mod kind;
+pub mod laws;
+mod notes;
+mod runs;
+mod state;
+mod words;
+
+pub use glyph::{Base, Glyph, GlyphKind, Tail};
+pub use glyphs::cut;
+pub use kind::kind_of;
+pub use notes::notes_into;
+pub use runs::{elements, segments};
+pub use words::word_of_shape;

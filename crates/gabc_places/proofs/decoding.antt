@@ -1,0 +1,4 @@
+pub mod ADecoderStops
+pub mod AByteIsTaken
+pub mod BytesAreDecoded
+pub mod PlainTextsAreReadAgain

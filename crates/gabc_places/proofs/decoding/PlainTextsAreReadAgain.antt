@@ -1,0 +1,58 @@
+-- The bytes of a text without CR and U+FEFF are read as that text.
+use Rattle.std.proofs.Common.{◌≡◌, ◌≢◌, ℕ, not, ◌≤◌, ◌&&◌, Bool, true, false, cond, List, [], ◌∷◌, ◌++◌, length, map, filter, None, refl, ap, ap₂, sym, ◌∙◌, arith, append-nil}
+use Rattle.std.proofs.lemmas.Bool.Decides.{nat_tests}
+use Rattle.std.specs.Char.{IsScalar}
+use Rattle.std.specs.List.{zip, All}
+use Rattle.std.proofs.lemmas.List.Elements.{All-head, All-tail}
+use lib.Utf8.{encodes, scalars}
+use Rattle.gabc_places.specs.declared.limits.Limits.{Limits}
+use Rattle.gabc_places.specs.declared.decoded.Tail.TheVariants.{Nothing}
+use Rattle.gabc_places.specs.Text.{is_left_out, read_as, utf8_prefix_of, tail_of, decoded_of, stop_code_of}
+use Rattle.gabc_places.proofs.decoding.BytesAreDecoded.{reads-past, tail-past, decoded_by, decoded_within}
+use Rattle.gabc_places.proofs.utf8.CharacterByCharacter.{utf8_prefix_of-none, tail_of-none}
+use Rattle.gabc_places.proofs.utf8.PartOfACharacter.{nothing_is_partial}
+
+-- characters that a text of an input can have
+abbrev pub IsPlain : ℕ → Type 0
+IsPlain c = (c ≢ 13) × (c ≢ 0xFEFF)
+
+all_scalars : (cs : List ℕ) → All IsScalar cs → scalars cs ≡ true
+all_scalars [] h = refl
+all_scalars (c ∷ cs) h = both (All-head IsScalar c cs h) (all_scalars cs (All-tail IsScalar c cs h))
+  where
+    both : {a b : Bool} → a ≡ true → b ≡ true → (a && b) ≡ true
+    both e f = rw (e, f) refl
+
+-- nothing is left out or changed
+kept : (p c : ℕ) → p ≢ 13 → IsPlain c → (not (is_left_out (p, c)) ≡ true) × (read_as c ≡ c)
+kept p c before plain = (grind (arith, nat_tests), grind (arith, nat_tests))
+
+abbrev read_one : ℕ × ℕ → ℕ
+read_one q = read_as q.1
+
+abbrev is_read : ℕ × ℕ → Bool
+is_read q = not (is_left_out q)
+
+plain_behind : (p : ℕ) (cs : List ℕ) → p ≢ 13 → All IsPlain cs → map read_one (filter is_read (zip (p ∷ cs) cs)) ≡ cs
+plain_behind p [] before h = refl
+plain_behind p (c ∷ cs) before h =
+    let plain = All-head IsPlain c cs h in
+    let k = kept p c before plain in
+    by (is_read (p, c)) k.0 k.1 (plain_behind c cs plain.0 (All-tail IsPlain c cs h))
+  where
+    by : (b : Bool) → b ≡ true → read_as c ≡ c → map read_one (filter is_read (zip (c ∷ cs) cs)) ≡ cs
+        → map read_one (cond b ((p, c) ∷ filter is_read (zip (c ∷ cs) cs)) (filter is_read (zip (c ∷ cs) cs))) ≡ c ∷ cs
+    by true e same rest = ap₂ (λ x (xs : List ℕ). x ∷ xs) same rest
+    by false e same rest = absurd (cc)
+
+pub read_again : (limits : Limits) (ended : Bool) (text : List ℕ) → All IsScalar text → All IsPlain text → length (encodes text) ≤ limits.input
+    → decoded_of limits ended (encodes text) ≡ record { text = text; fault = None }
+read_again limits ended text scalar plain within =
+    let ok = all_scalars text scalar in
+    let characters : utf8_prefix_of (encodes text) ≡ text =
+    ap utf8_prefix_of (sym (append-nil (encodes text))) ∙ reads-past text [] ok ∙ ap (λ l. text ++ l) (utf8_prefix_of-none [] nothing_is_partial.none) ∙ append-nil text in
+    let tail : tail_of (encodes text) ≡ Nothing =
+    ap tail_of (sym (append-nil (encodes text))) ∙ tail-past text [] ok ∙ tail_of-none [] nothing_is_partial.none in
+    decoded_within limits ended (encodes text) within
+    ∙ ap₂ (λ cs t. decoded_by cs (stop_code_of false ended t)) characters tail
+    ∙ ap (λ (t : List ℕ). record { text = t; fault = None }) (plain_behind 0 text (λ e. absurd (omega (arith, e))) plain)

@@ -1,0 +1,4 @@
+pub mod LastTagOpensTheSpan
+pub mod SyllablesAreThoseOfUnits
+mod SyllablesOfUnitsExamples
+pub mod UnitsGiveSyllables

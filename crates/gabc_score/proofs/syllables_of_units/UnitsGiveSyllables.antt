@@ -1,0 +1,397 @@
+-- Each unit of a body gives a syllable that holds it.
+use Rattle.std.proofs.Common.{Option, option_map, Some, None, ◌≡◌, ℕ, ◌<◌, ◌^◌, Bool, List, [], ◌∷◌, ◌++◌, map, refl, sym, ap, subst, ◌∙◌, append_assoc, append-nil, codes}
+use Rattle.std.proofs.lemmas.List.{map-append}
+use Rattle.std.proofs.lemmas.Grind.{flat_map-append}
+use Rattle.gabc_places.specs.StageLaw.{concat_of}
+use Rattle.gabc_places.specs.declared.place.Place.{Place}
+use Rattle.gabc_places.specs.declared.place.Char.{Char}
+use Rattle.gabc_text.specs.BuiltText.{with_events, empty_text, text_built_at}
+use Rattle.gabc_text.specs.Ends.{EndsOnce}
+use Rattle.gabc_text.specs.Events.{codes_of, events_of, events_by_point}
+use Rattle.gabc_text.specs.ViewFacts.{StandsForView}
+use Rattle.gabc_text.specs.View.{kept}
+use Rattle.gabc_text.specs.TextRead.{view_in}
+use Rattle.gabc_notes.specs.declared.stage.NoteEnd.{NoteEnd}
+use Rattle.gabc_notes.specs.declared.stage.NoteEnd.TheVariants as note_end
+use Rattle.gabc_notes.specs.declared.stage.NoteEvent.{NoteEvent}
+use Rattle.gabc_notes.specs.declared.stage.NoteEvent.TheVariants as note
+use Rattle.gabc_notes.specs.SnippetRead.{ends_of}
+use Rattle.gabc_text.specs.Ends.{ends_in}
+use Rattle.gabc_text.specs.declared.stage.TextEnd.TheVariants as text_end
+use Rattle.gabc_text.specs.declared.stage.TextEvent.{TextEvent}
+use Rattle.gabc_text.specs.declared.stage.TextEvent.TheVariants as text_out
+use Rattle.gabc_score.specs.declared.events.BodyEvent.{BodyEvent}
+use Rattle.gabc_score.specs.declared.events.BodyEvent.TheVariants.{Text, Notes}
+use Rattle.gabc_score.specs.Syllable.{UnplacedSyllable, since_close, all_syllables, is_eu, is_nlba, is_open}
+use Rattle.gabc_score.specs.Body.{events_onto, cut_of}
+use Rattle.gabc_score.specs.Events.{Texts, PartAhead, InText, note_event, texts_by_definition, text_from, snippet_from, next_line, behind_mark}
+use Rattle.gabc_score.specs.Units.{Mark, Opens, Next, Closes, CutPart, EndedPart, BodyUnit, LastUnit, JustText, OpenNotes, cut_part, whole, events_through, snippets_with, last_pieces, units_pieces, last_characters, EndsBehind, Cuts, events_of_cutting, Units, BodyCutting, cutting_of, IsCutFrom, IsCut}
+use Rattle.gabc_score.specs.Holding.{ReadSnippet, bracket_with}
+use Rattle.gabc_score.specs.SyllablesOfUnits.{with_ends, snippets_in, characters_in, last_in, characters_from, unit_characters, ScoreUnit, score_unit, closed_units, span_tags, tags_in, HoldsUnit}
+use Rattle.gabc_score.proofs.texts_of_body.SeamsOfCharacters.{size}
+use Rattle.gabc_score.proofs.building.EventsOfSyllableParts.{onto_append, text_emitted}
+use Rattle.gabc_score.proofs.texts_of_body.TextEmitsThroughEnd.{TextEmitted, codes_append, text_mark, text_ended, ended_tells}
+use Rattle.gabc_score.proofs.snippets_of_body.SnippetsEndAlike.{IsMark}
+use Rattle.gabc_score.proofs.snippets_of_body.SnippetEmitsThroughEnd.{LineEmitted, line_emitted}
+use Rattle.gabc_score.proofs.holding.SyllableHoldsPartByPart.{IsBack, codes_in, SoFar, text_opens, text_opens_is, new, close_unit, next_far, next_far_is, next_made}
+use Rattle.gabc_score.proofs.holding.SyllablesHoldParts.{fits_prefix, fits_back}
+use Rattle.gabc_score.proofs.syllables_of_units.LastTagOpensTheSpan.{behind_tags, behind_append, text_opens_span}
+
+abbrev pub eu_behind : Bool → List (List ℕ) → Bool
+eu_behind was tags = behind_tags (codes "<eu>") (codes "</eu>") was tags
+
+abbrev pub nlba_behind : Bool → List (List ℕ) → Bool
+nlba_behind was tags = behind_tags (codes "<nlba>") (codes "</nlba>") was tags
+
+-- ---- characters
+
+with_ends_append : (xs ys : List EndedPart) → with_ends (xs ++ ys) ≡ with_ends xs ++ with_ends ys
+with_ends_append [] ys = refl
+with_ends_append (e ∷ xs) ys =
+    ap (λ cs. e.characters ++ e.end ∷ cs) (with_ends_append xs ys) ∙ sym (append_assoc e.characters (e.end ∷ with_ends xs) (with_ends ys))
+
+module _ (lines : ℕ) where
+  snippets_whole : (line : ℕ) (opened_at : Place) (nexts : List EndedPart) (final : EndedPart) (more : List CutPart) (last : List Char)
+      → whole (snippets_with lines line opened_at nexts (cut_part final Closes ∷ more)) last ≡ with_ends (nexts ++ final ∷ []) ++ whole more last
+  snippets_whole line opened_at [] final more last = sym (append_assoc final.characters (final.end ∷ []) (whole more last))
+  snippets_whole line opened_at (e ∷ nexts) final more last =
+      ap (λ cs. e.characters ++ e.end ∷ cs) (snippets_whole (next_line lines line) opened_at nexts final more last)
+      ∙ sym (append_assoc e.characters (e.end ∷ with_ends (nexts ++ final ∷ [])) (whole more last))
+
+  unit_whole : (u : BodyUnit) (more : List CutPart) (last : List Char)
+      → whole (cut_part u.text Opens ∷ snippets_with lines 0 u.text.end.place u.nexts (cut_part u.final Closes ∷ more)) last ≡ characters_in u ++ whole more last
+  unit_whole u more last =
+      ap (λ cs. u.text.characters ++ u.text.end ∷ cs) (snippets_whole 0 u.text.end.place u.nexts u.final more last)
+      ∙ sym (append_assoc u.text.characters (u.text.end ∷ with_ends (snippets_in u)) (whole more last))
+
+  open_whole : (line : ℕ) (opened_at : Place) (nexts : List EndedPart) (last : List Char) → whole (snippets_with lines line opened_at nexts []) last ≡ with_ends nexts ++ last
+  open_whole line opened_at [] last = refl
+  open_whole line opened_at (e ∷ nexts) last =
+      ap (λ cs. e.characters ++ e.end ∷ cs) (open_whole (next_line lines line) opened_at nexts last)
+      ∙ sym (append_assoc e.characters (e.end ∷ with_ends nexts) last)
+
+  last_whole : (last : LastUnit) → whole (last_pieces lines last) (last_characters last) ≡ last_in last
+  last_whole (JustText xs) = refl
+  last_whole (OpenNotes text nexts xs) =
+      ap (λ cs. text.characters ++ text.end ∷ cs) (open_whole 0 text.end.place nexts xs)
+      ∙ sym (append_assoc text.characters (text.end ∷ with_ends nexts) xs)
+
+  pub units_whole : (units : List BodyUnit) (last : LastUnit) → whole (units_pieces lines units last) (last_characters last) ≡ characters_from units last
+  units_whole [] last = last_whole last
+  units_whole (u ∷ units) last = unit_whole u (units_pieces lines units last) (last_characters last) ∙ ap (λ cs. characters_in u ++ cs) (units_whole units last)
+
+-- a body is its comment and its units, one after the other
+pub body_is_units : (texts : Texts) (lines macros : ℕ) (xs : List Char) (cut : BodyCutting) → IsCut texts lines macros xs cut → xs ≡ cut.comment ++ unit_characters cut.units
+body_is_units texts lines macros xs cut h = by cut.units h
+  where
+    by : (o : Option Units) → IsCutFrom texts lines macros xs cut.comment (option_map (cutting_of lines) o) → xs ≡ cut.comment ++ unit_characters o
+    by None k = k.0 ∙ sym (append-nil cut.comment)
+    by (Some u) k = k.0 ∙ ap (λ ys. cut.comment ++ ys) (units_whole lines u.closed u.last)
+
+-- ---- notes open and close no span
+
+module _ (opening closing : List ℕ) where
+  notes_still : (line : ℕ) (opened_at : Place) (os : List NoteEvent) (before : List BodyEvent) → is_open opening closing (events_onto (map (note_event line opened_at) os) before) ≡ is_open opening closing before
+  notes_still line opened_at [] before = refl
+  notes_still line opened_at (note.Kept x ∷ os) before = notes_still line opened_at os (Notes line (note.Kept x) ∷ before)
+  notes_still line opened_at (note.Found f ∷ os) before = notes_still line opened_at os (Notes line (note.Found f) ∷ before)
+  notes_still line opened_at (note.Ended how n ∷ os) before = notes_still line opened_at os (note_event line opened_at (note.Ended how n) ∷ before)
+
+  line_still : (lines line : ℕ) (opened_at : Place) (prefix : List Char) (end : Char) (mark : Mark) (events : List BodyEvent) (l : LineEmitted lines line opened_at prefix end mark events) (before : List BodyEvent)
+      → is_open opening closing (events_onto events before) ≡ is_open opening closing before
+  line_still lines line opened_at prefix end mark events l before =
+      ap (λ ts. is_open opening closing (events_onto ts before)) l.told_are
+      ∙ ap (is_open opening closing) (onto_append (map (note_event line opened_at) l.mids) (Notes line (note.Ended l.how (size l.kept)) ∷ []) before)
+      ∙ notes_still line opened_at l.mids before
+
+-- a mark leaves nothing open
+notes_uncut : (line : ℕ) (opened_at : Place) (os : List NoteEvent) (before : List BodyEvent) → ends_of os ≡ [] → cut_of (events_onto (map (note_event line opened_at) os) before) ≡ cut_of before
+notes_uncut line opened_at [] before h = refl
+notes_uncut line opened_at (note.Kept x ∷ os) before h = notes_uncut line opened_at os (Notes line (note.Kept x) ∷ before) h
+notes_uncut line opened_at (note.Found f ∷ os) before h = notes_uncut line opened_at os (Notes line (note.Found f) ∷ before) h
+notes_uncut line opened_at (note.Ended how n ∷ os) before h = absurd (cc)
+
+line_uncut : (lines line : ℕ) (opened_at : Place) (prefix : List Char) (end : Char) (mark : Mark) (events : List BodyEvent) (l : LineEmitted lines line opened_at prefix end mark events) (before : List BodyEvent)
+    → cut_of (events_onto events before) ≡ cut_of before
+line_uncut lines line opened_at prefix end mark events l before =
+    ap (λ ts. cut_of (events_onto ts before)) l.told_are
+    ∙ ap cut_of (onto_append (map (note_event line opened_at) l.mids) (Notes line (note.Ended l.how (size l.kept)) ∷ []) before)
+    ∙ by l.how l.is_mark
+    ∙ notes_uncut line opened_at l.mids before l.silent
+  where
+    by : (how : NoteEnd) → IsMark end.c how → cut_of (Notes line (note.Ended how (size l.kept)) ∷ events_onto (map (note_event line opened_at) l.mids) before) ≡ cut_of (events_onto (map (note_event line opened_at) l.mids) before)
+    by note_end.Next h = refl
+    by note_end.Close h = refl
+    by (note_end.Cut place) h = absurd h
+
+text_uncut : (os : List TextEvent) (before : List BodyEvent) → ends_in os ≡ [] → cut_of (events_onto (text_emitted os) before) ≡ cut_of before
+text_uncut [] before h = refl
+text_uncut (text_out.Kept x ∷ os) before h = text_uncut os (Text (text_out.Kept x) ∷ before) h
+text_uncut (text_out.Part p ∷ os) before h = text_uncut os (Text (text_out.Part p) ∷ before) h
+text_uncut (text_out.Found f ∷ os) before h = text_uncut os (Text (text_out.Found f) ∷ before) h
+text_uncut (text_out.Ended how ∷ os) before h = absurd (cc)
+
+opened_uncut : (t : List ℕ) (events : List BodyEvent) (g : TextEmitted t text_end.Notes events) (before : List BodyEvent) → cut_of (events_onto events before) ≡ cut_of before
+opened_uncut t events g before =
+    ap (λ ts. cut_of (events_onto ts before)) g.told_are
+    ∙ ap cut_of (onto_append (text_emitted g.mids) (Text (text_out.Ended text_end.Notes) ∷ []) before)
+    ∙ text_uncut g.mids before g.silent
+
+-- ---- a unit
+
+-- from `before` on, what is events gives one syllable, which holds the unit, and these tags
+pub record UnitGives (lines : ℕ) (u : ScoreUnit) (tags : List (List ℕ)) (before after : List BodyEvent) : Type 0 where
+  pub made : UnplacedSyllable
+  pub made_is : all_syllables after ≡ all_syllables before ++ made ∷ []
+  pub holds : HoldsUnit lines u made
+  pub made_eu : made.eu ≡ eu_behind (is_eu before) tags
+  pub made_nlba : made.nlba ≡ nlba_behind (is_nlba before) tags
+  pub eu : is_eu after ≡ eu_behind (is_eu before) tags
+  pub nlba : is_nlba after ≡ nlba_behind (is_nlba before) tags
+  pub uncut : cut_of after ≡ cut_of before
+  pub since : since_close after ≡ []
+
+pub through_more : (xs ys : List (List BodyEvent)) (before : List BodyEvent) → events_onto (concat_of (xs ++ ys)) before ≡ events_onto (concat_of ys) (events_onto (concat_of xs) before)
+through_more xs ys before = ap (λ ts. events_onto ts before) (flat_map-append (λ (ts : List BodyEvent). ts) xs ys) ∙ onto_append (concat_of xs) (concat_of ys) before
+
+abbrev characters_of : List EndedPart → List (List Char)
+characters_of es = map (λ (e : EndedPart). e.characters) es
+
+-- ---- units
+
+module _ (lines : ℕ) where
+  -- the syllables of units, where spans were open or not before them
+  abbrev pub AreMade : Bool → Bool → List ScoreUnit → List UnplacedSyllable → Type 0
+  AreMade eu nlba [] [] = Unit {0}
+  AreMade eu nlba (u ∷ us) (m ∷ ms) =
+      (HoldsUnit lines u m × ((m.eu ≡ eu_behind eu (span_tags u.text)) × (m.nlba ≡ nlba_behind nlba (span_tags u.text))))
+      × AreMade (eu_behind eu (span_tags u.text)) (nlba_behind nlba (span_tags u.text)) us ms
+  AreMade eu nlba _ _ = ⊥
+
+  pub record UnitsGive (us : List ScoreUnit) (before after : List BodyEvent) : Type 0 where
+    pub made : List UnplacedSyllable
+    pub made_is : all_syllables after ≡ all_syllables before ++ made
+    pub are : AreMade (is_eu before) (is_nlba before) us made
+    pub eu : is_eu after ≡ eu_behind (is_eu before) (tags_in us)
+    pub nlba : is_nlba after ≡ nlba_behind (is_nlba before) (tags_in us)
+    pub uncut : cut_of after ≡ cut_of before
+    pub since : since_close after ≡ []
+
+module _ (lines macros : ℕ) where
+  abbrev pub all_events : PartAhead → List CutPart → List Char → List BodyEvent → List BodyEvent
+  all_events part pieces last before = events_onto (concat_of (events_of_cutting texts_by_definition lines macros part pieces last)) before
+
+  -- behind the unit the text goes on with `more`
+  pub record Continues (u : ScoreUnit) (tags : List (List ℕ)) (part : PartAhead) (pieces more : List CutPart) (last : List Char) (at : Place) (before : List BodyEvent) : Type 0 where
+    pub mid : List BodyEvent
+    pub gives : UnitGives lines u tags before mid
+    pub events_are : all_events part pieces last before ≡ all_events (text_from texts_by_definition at (whole more last)) more last mid
+    pub cuts : Cuts texts_by_definition lines macros (text_from texts_by_definition at (whole more last)) more last
+
+  -- behind the units stands what is behind the last `)`
+  pub record GoesOn (us : List ScoreUnit) (part : PartAhead) (pieces : List CutPart) (last : LastUnit) (before : List BodyEvent) : Type 0 where
+    pub at : Place
+    pub mid : List BodyEvent
+    pub gives : UnitsGive lines us before mid
+    pub events_are : all_events part pieces (last_characters last) before
+        ≡ all_events (text_from texts_by_definition at (whole (last_pieces lines last) (last_characters last))) (last_pieces lines last) (last_characters last) mid
+    pub cuts : Cuts texts_by_definition lines macros (text_from texts_by_definition at (whole (last_pieces lines last) (last_characters last))) (last_pieces lines last) (last_characters last)
+
+-- ---- the parts of units
+
+module _ (ends : (at : Place) (t : List ℕ) → EndsOnce at t) (tells : (at : Place) (t : List ℕ) → with_events empty_text (concat_of (events_by_point at t)) ≡ text_built_at at t)
+    (spans : (t : List ℕ) → StandsForView (kept t) (view_in t) t) (in_order : (at : Place) (t : List ℕ) → concat_of (events_by_point at t) ≡ events_of at t) (lines macros : ℕ) where
+  notes_give : (u : ScoreUnit) (o : Char) (text : List ℕ) (done nexts : List EndedPart) (final : EndedPart) (more : List CutPart) (last : List Char) (line : ℕ) (opened_at : Place) (before : List BodyEvent)
+      → (let pieces = snippets_with lines line opened_at nexts (cut_part final Closes ∷ more) in let xs = whole pieces last in let part = snippet_from lines macros line opened_at xs in
+      (far : SoFar text lines line xs (since_close before)) → u.text ≡ far.text → map (λ (s : ReadSnippet). s.characters) far.earlier ≡ characters_of done
+      → bracket_with codes_in far.earlier ≡ codes_of (o ∷ with_ends done) → u.notes ≡ codes_of (o ∷ with_ends (done ++ (nexts ++ final ∷ []))) → u.snippets ≡ characters_of (done ++ (nexts ++ final ∷ []))
+      → (ys : List Char) (yss : List (List Char)) → u.snippets ≡ ys ∷ yss
+      → size (codes_of xs) < 2 ^ 63 → Cuts texts_by_definition lines macros part pieces last → Continues lines macros u [] part pieces more last (behind_mark final.end.place) before)
+  notes_give u o text done [] final more last line opened_at before far t d od n s ys yss some fits h =
+      let rest = whole more last in
+      let part = snippet_from lines macros line opened_at (final.characters ++ final.end ∷ rest) in
+      let events = concat_of (events_through part final.characters) in
+      let l = line_emitted lines macros opened_at line final.characters final.end rest Closes (fits_prefix final.characters (final.end ∷ rest) fits) h.0 in
+      let closes : final.end.c ≡ 41 = subst (IsMark final.end.c) l.marks l.is_mark in
+      let one = new text lines line opened_at final.characters final.end rest Closes events l before far (spans far.text) in
+      let notes_are : u.notes ≡ bracket_with codes_in far.earlier ++ (codes_of final.characters ++ codes ")") =
+      n ∙ ap (λ cs. codes_of (o ∷ cs)) (with_ends_append done (final ∷ []))
+      ∙ codes_append (o ∷ with_ends done) (final.characters ++ final.end ∷ [])
+      ∙ ap (λ cs. codes_of (o ∷ with_ends done) ++ cs) (codes_append final.characters (final.end ∷ []) ∙ ap (λ c. codes_of final.characters ++ c ∷ []) closes)
+      ∙ ap (λ cs. cs ++ (codes_of final.characters ++ codes ")")) (sym od) in
+      let characters_are : map (λ (s : ReadSnippet). s.characters) (far.earlier ++ one ∷ []) ≡ u.snippets =
+      map-append (λ (s : ReadSnippet). s.characters) far.earlier (one ∷ []) ∙ ap (λ cs. cs ++ final.characters ∷ []) d
+      ∙ sym (map-append (λ (e : EndedPart). e.characters) done (final ∷ [])) ∙ sym s in
+      let c = close_unit text lines line opened_at final.characters final.end rest Closes events l before far (spans far.text) l.marks closes u t notes_are ys yss some characters_are in
+      record {
+        mid = events_onto events before;
+        gives = record {
+          made = c.0;
+          made_is = c.1;
+          holds = c.2;
+          made_eu = c.3.0 ∙ notes_still (codes "<eu>") (codes "</eu>") line opened_at l.mids before;
+          made_nlba = c.3.1 ∙ notes_still (codes "<nlba>") (codes "</nlba>") line opened_at l.mids before;
+          eu = line_still (codes "<eu>") (codes "</eu>") lines line opened_at final.characters final.end Closes events l before;
+          nlba = line_still (codes "<nlba>") (codes "</nlba>") lines line opened_at final.characters final.end Closes events l before;
+          uncut = line_uncut lines line opened_at final.characters final.end Closes events l before;
+          since = c.4;
+        };
+        events_are = through_more (events_through part final.characters) (events_of_cutting texts_by_definition lines macros (text_from texts_by_definition (behind_mark final.end.place) rest) more last) before;
+        cuts = h.1;
+      }
+  notes_give u o text done (e ∷ nexts) final more last line opened_at before far t d od n s ys yss some fits h =
+      let next = next_line lines line in
+      let pieces = snippets_with lines next opened_at nexts (cut_part final Closes ∷ more) in
+      let rest = whole pieces last in
+      let part = snippet_from lines macros line opened_at (e.characters ++ e.end ∷ rest) in
+      let events = concat_of (events_through part e.characters) in
+      let mark = Next next opened_at in
+      let l = line_emitted lines macros opened_at line e.characters e.end rest mark (fits_prefix e.characters (e.end ∷ rest) fits) h.0 in
+      let bar : e.end.c ≡ 124 = subst (IsMark e.end.c) l.marks.0 l.is_mark in
+      let one = new text lines line opened_at e.characters e.end rest mark events l before far (spans far.text) in
+      let on = next_far text lines line opened_at e.characters e.end rest mark events l before far (spans far.text) l.marks.0 bar in
+      let is = next_far_is text lines line opened_at e.characters e.end rest mark events l before far (spans far.text) l.marks.0 bar in
+      let after = events_onto events before in
+      let regroup : done ++ ((e ∷ nexts) ++ final ∷ []) ≡ (done ++ e ∷ []) ++ (nexts ++ final ∷ []) = sym (append_assoc done (e ∷ []) (nexts ++ final ∷ [])) in
+      let characters_are : map (λ (s : ReadSnippet). s.characters) on.earlier ≡ characters_of (done ++ e ∷ []) =
+      ap (map (λ (s : ReadSnippet). s.characters)) is.2
+      ∙ map-append (λ (s : ReadSnippet). s.characters) far.earlier (one ∷ []) ∙ ap (λ cs. cs ++ e.characters ∷ []) d
+      ∙ sym (map-append (λ (e : EndedPart). e.characters) done (e ∷ [])) in
+      let opened_is : bracket_with codes_in on.earlier ≡ codes_of (o ∷ with_ends (done ++ e ∷ [])) =
+      ap (bracket_with codes_in) is.2
+      ∙ ap (λ cs. codes "(" ++ cs) (flat_map-append (λ (s : ReadSnippet). codes_in s ++ codes "|") far.earlier (one ∷ []))
+      ∙ ap (λ cs. bracket_with codes_in far.earlier ++ cs) (append-nil (codes_of e.characters ++ codes "|"))
+      ∙ ap (λ cs. cs ++ (codes_of e.characters ++ codes "|")) od
+      ∙ ap (λ cs. codes_of (o ∷ with_ends done) ++ cs) (sym (codes_append e.characters (e.end ∷ []) ∙ ap (λ c. codes_of e.characters ++ c ∷ []) bar))
+      ∙ sym (codes_append (o ∷ with_ends done) (e.characters ++ e.end ∷ []))
+      ∙ ap (λ cs. codes_of (o ∷ cs)) (sym (with_ends_append done (e ∷ []))) in
+      let r = notes_give u o text (done ++ e ∷ []) nexts final more last next opened_at after on (t ∙ sym is.0) characters_are opened_is
+      (n ∙ ap (λ es. codes_of (o ∷ with_ends es)) regroup) (s ∙ ap characters_of regroup) ys yss some (fits_back (e.end ∷ []) rest (fits_back e.characters (e.end ∷ rest) fits)) h.1 in
+      let eu_same = line_still (codes "<eu>") (codes "</eu>") lines line opened_at e.characters e.end mark events l before in
+      let nlba_same = line_still (codes "<nlba>") (codes "</nlba>") lines line opened_at e.characters e.end mark events l before in
+      let made_same = next_made text lines line opened_at e.characters e.end rest mark events l before far (spans far.text) l.marks.0 in
+      record {
+        mid = r.mid;
+        gives = record {
+          made = r.gives.made;
+          made_is = r.gives.made_is ∙ ap (λ (ms : List UnplacedSyllable). ms ++ r.gives.made ∷ []) made_same;
+          holds = r.gives.holds;
+          made_eu = r.gives.made_eu ∙ eu_same;
+          made_nlba = r.gives.made_nlba ∙ nlba_same;
+          eu = r.gives.eu ∙ eu_same;
+          nlba = r.gives.nlba ∙ nlba_same;
+          uncut = r.gives.uncut ∙ line_uncut lines line opened_at e.characters e.end mark events l before;
+          since = r.gives.since;
+        };
+        events_are = through_more (events_through part e.characters) (events_of_cutting texts_by_definition lines macros (snippet_from lines macros next opened_at rest) pieces last) before ∙ r.events_are;
+        cuts = r.cuts;
+      }
+
+  -- the snippets of a unit are at least one
+  some_snippet : (nexts : List EndedPart) (final : EndedPart) → (ys : List Char) × (yss : List (List Char)) × (characters_of (nexts ++ final ∷ []) ≡ ys ∷ yss)
+  some_snippet [] final = (final.characters, [], refl)
+  some_snippet (e ∷ nexts) final = (e.characters, characters_of (nexts ++ final ∷ []), refl)
+
+  module _ (opening closing : List ℕ) where
+    -- a text opens and closes spans by its tags
+    text_spans : (at : Place) (prefix : List Char) (end : Char) (rest : List Char) (mark : Mark) (before : List BodyEvent) → since_close before ≡ []
+        → (let xs = prefix ++ end ∷ rest in let part = InText (texts_by_definition at xs) in EndsBehind lines part prefix mark
+        → is_open opening closing (events_onto (concat_of (events_through part prefix)) before) ≡ behind_tags opening closing (is_open opening closing before) (span_tags (codes_of xs)))
+    text_spans at prefix end rest mark before since h =
+        let xs = prefix ++ end ∷ rest in
+        ap (λ ts. is_open opening closing (events_onto ts before)) (ended_tells ends tells lines at prefix end rest mark h ∙ ap text_emitted (in_order at (codes_of xs)))
+        ∙ text_opens_span opening closing at (codes_of xs) before since
+
+  -- a unit
+  pub unit_emits : (at : Place) (u : BodyUnit) (more : List CutPart) (last : List Char) (before : List BodyEvent) → since_close before ≡ []
+      → (let pieces = cut_part u.text Opens ∷ snippets_with lines 0 u.text.end.place u.nexts (cut_part u.final Closes ∷ more) in let xs = whole pieces last in
+      let v = score_unit u (whole more last) in
+      size (codes_of xs) < 2 ^ 63 → Cuts texts_by_definition lines macros (text_from texts_by_definition at xs) pieces last
+      → Continues lines macros v (span_tags v.text) (text_from texts_by_definition at xs) pieces more last (behind_mark u.final.end.place) before)
+  unit_emits at u more last before since fits h =
+      let prefix = u.text.characters in
+      let end = u.text.end in
+      let pieces = snippets_with lines 0 end.place u.nexts (cut_part u.final Closes ∷ more) in
+      let rest = whole pieces last in
+      let xs = prefix ++ end ∷ rest in
+      let part = InText (texts_by_definition at xs) in
+      let events = concat_of (events_through part prefix) in
+      let after = events_onto events before in
+      let v = score_unit u (whole more last) in
+      let text_is : v.text ≡ codes_of xs = ap codes_of (sym (unit_whole lines u more last)) in
+      let e = text_ended ends tells lines at prefix end rest Opens h.0 in
+      let bracket = text_mark ends tells lines at prefix end rest Opens h.0 in
+      let back : IsBack (codes_of xs) (codes_of xs) = ([], refl) in
+      let o = text_opens (codes_of xs) lines prefix end rest events back bracket e.0 before since in
+      let is = text_opens_is (codes_of xs) lines prefix end rest events back bracket e.0 before since in
+      let some = some_snippet u.nexts u.final in
+      let r = notes_give v end (codes_of xs) [] u.nexts u.final more last 0 end.place after o.0 (text_is ∙ sym is.0)
+      (ap (map (λ (s : ReadSnippet). s.characters)) is.2) (ap (bracket_with codes_in) is.2 ∙ ap (λ c. c ∷ []) (sym bracket)) refl refl some.0 some.1 some.2
+      (fits_back (end ∷ []) rest (fits_back prefix (end ∷ rest) fits)) h.1 in
+      let eu_is : is_eu after ≡ eu_behind (is_eu before) (span_tags v.text) =
+      text_spans (codes "<eu>") (codes "</eu>") at prefix end rest Opens before since h.0 ∙ ap (λ t. eu_behind (is_eu before) (span_tags t)) (sym text_is) in
+      let nlba_is : is_nlba after ≡ nlba_behind (is_nlba before) (span_tags v.text) =
+      text_spans (codes "<nlba>") (codes "</nlba>") at prefix end rest Opens before since h.0 ∙ ap (λ t. nlba_behind (is_nlba before) (span_tags t)) (sym text_is) in
+      record {
+        mid = r.mid;
+        gives = record {
+          made = r.gives.made;
+          made_is = r.gives.made_is ∙ ap (λ (ms : List UnplacedSyllable). ms ++ r.gives.made ∷ []) o.1;
+          holds = r.gives.holds;
+          made_eu = r.gives.made_eu ∙ eu_is;
+          made_nlba = r.gives.made_nlba ∙ nlba_is;
+          eu = r.gives.eu ∙ eu_is;
+          nlba = r.gives.nlba ∙ nlba_is;
+          uncut = r.gives.uncut ∙ opened_uncut (codes_of xs) events e.0 before;
+          since = r.gives.since;
+        };
+        events_are = through_more (events_through part prefix) (events_of_cutting texts_by_definition lines macros (snippet_from lines macros 0 end.place rest) pieces last) before ∙ r.events_are;
+        cuts = r.cuts;
+      }
+
+  pub units_give : (units : List BodyUnit) (last : LastUnit) (at : Place) (before : List BodyEvent) → since_close before ≡ []
+      → (let pieces = units_pieces lines units last in let xs = whole pieces (last_characters last) in size (codes_of xs) < 2 ^ 63
+      → Cuts texts_by_definition lines macros (text_from texts_by_definition at xs) pieces (last_characters last)
+      → GoesOn lines macros (closed_units units last) (text_from texts_by_definition at xs) pieces last before)
+  units_give [] last at before since fits h = record {
+    at = at;
+    mid = before;
+    gives = record { made = []; made_is = sym (append-nil (all_syllables before)); are = tt; eu = refl; nlba = refl; uncut = refl; since = since };
+    events_are = refl;
+    cuts = h;
+  }
+  units_give (u ∷ units) last at before since fits h =
+      let more = units_pieces lines units last in
+      let ends_with = last_characters last in
+      let one = unit_emits at u more ends_with before since fits h in
+      let g = one.gives in
+      let v = score_unit u (characters_from units last) in
+      let same : score_unit u (whole more ends_with) ≡ v = ap (score_unit u) (units_whole lines units last) in
+      let holds : HoldsUnit lines v g.made = subst (λ w. HoldsUnit lines w g.made) same g.holds in
+      let tags : span_tags (score_unit u (whole more ends_with)).text ≡ span_tags v.text = ap (λ (w : ScoreUnit). span_tags w.text) same in
+      let eu_is : is_eu one.mid ≡ eu_behind (is_eu before) (span_tags v.text) = g.eu ∙ ap (eu_behind (is_eu before)) tags in
+      let nlba_is : is_nlba one.mid ≡ nlba_behind (is_nlba before) (span_tags v.text) = g.nlba ∙ ap (nlba_behind (is_nlba before)) tags in
+      let behind_fits : size (codes_of (whole more ends_with)) < 2 ^ 63 =
+      fits_back (characters_in u) (whole more ends_with) (subst (λ cs. size (codes_of cs) < 2 ^ 63) (unit_whole lines u more ends_with) fits) in
+      let r = units_give units last (behind_mark u.final.end.place) one.mid g.since behind_fits one.cuts in
+      record {
+        at = r.at;
+        mid = r.mid;
+        gives = record {
+          made = g.made ∷ r.gives.made;
+          made_is = r.gives.made_is ∙ ap (λ (ms : List UnplacedSyllable). ms ++ r.gives.made) g.made_is ∙ append_assoc (all_syllables before) (g.made ∷ []) r.gives.made;
+          are = (
+            (holds, (g.made_eu ∙ ap (eu_behind (is_eu before)) tags, g.made_nlba ∙ ap (nlba_behind (is_nlba before)) tags)),
+            subst (λ b. AreMade lines (eu_behind (is_eu before) (span_tags v.text)) b (closed_units units last) r.gives.made) nlba_is
+                (subst (λ b. AreMade lines b (is_nlba one.mid) (closed_units units last) r.gives.made) eu_is r.gives.are),
+          );
+          eu = r.gives.eu ∙ ap (λ b. eu_behind b (tags_in (closed_units units last))) eu_is
+              ∙ sym (behind_append (codes "<eu>") (codes "</eu>") (is_eu before) (span_tags v.text) (tags_in (closed_units units last)));
+          nlba = r.gives.nlba ∙ ap (λ b. nlba_behind b (tags_in (closed_units units last))) nlba_is
+              ∙ sym (behind_append (codes "<nlba>") (codes "</nlba>") (is_nlba before) (span_tags v.text) (tags_in (closed_units units last)));
+          uncut = r.gives.uncut ∙ g.uncut;
+          since = r.gives.since;
+        };
+        events_are = one.events_are ∙ r.events_are;
+        cuts = r.cuts;
+      }

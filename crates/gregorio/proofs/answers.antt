@@ -1,0 +1,5 @@
+pub mod AnswersByStep
+pub mod ArgumentsByRows
+pub mod PlanByMatches
+pub mod Told
+mod WordsByRow

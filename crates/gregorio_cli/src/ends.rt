@@ -1,0 +1,66 @@
+//! The ends of a run: standard streams and files.
+
+use std::fs::File;
+use std::io::{Read, Stderr, Stdin, Stdout, Write};
+use std::os::fd::AsRawFd;
+use std::{fs, io};
+
+/// The greatest descriptor of a standard stream.
+const LAST_STREAM: i32 = 2;
+
+/// Where a score comes from.
+#[derive(Drop)]
+pub(crate) enum Reader {
+    Stdin(Stdin),
+    File(File),
+}
+
+impl Read for Reader {
+    fn read(&mut self, buf: &mut [u8]) -> io::Result<usize> {
+        match self {
+            Reader::Stdin(stdin) => stdin.read(buf),
+            Reader::File(file) => file.read(buf),
+        }
+    }
+}
+
+/// Where output or messages go.
+#[derive(Drop)]
+pub(crate) enum Writer {
+    Stdout(Stdout),
+    Stderr(Stderr),
+    File(File),
+}
+
+impl Write for Writer {
+    fn write(&mut self, buf: &[u8]) -> io::Result<usize> {
+        match self {
+            Writer::Stdout(stdout) => stdout.write(buf),
+            Writer::Stderr(stderr) => stderr.write(buf),
+            Writer::File(file) => file.write(buf),
+        }
+    }
+
+    fn flush(&mut self) -> io::Result<()> {
+        match self {
+            Writer::Stdout(stdout) => stdout.flush(),
+            Writer::Stderr(stderr) => stderr.flush(),
+            Writer::File(file) => file.flush(),
+        }
+    }
+}
+
+/// Takes the place of a standard stream that is closed, if one is. A folder can be neither read nor
+/// written.
+fn closed_stream(rt: &HostRuntime) -> Option<File> {
+    match fs::open(rt, "/") {
+        Ok(folder) if folder.as_raw_fd() <= LAST_STREAM => Some(folder),
+        _ => None,
+    }
+}
+
+/// Takes the places of the standard streams that are closed. While the result lives, no file that is
+/// opened comes to stand there: else messages could be written into the output.
+pub(crate) fn closed_streams(rt: &HostRuntime) -> [Option<File>; 3] {
+    [closed_stream(rt), closed_stream(rt), closed_stream(rt)]
+}

@@ -1,0 +1,116 @@
+//! Rows of elements, segments and glyphs.
+
+ghost use Rattle.gabc_neumes.specs.Elements.{AreWithin};
+
+use crate::show::{show, show_span};
+use gabc_neumes::{cut, elements, kind_of, laws, notes_into, segments};
+use gabc_notes::{Item, Note, is_snippet, items_whole};
+use gabc_places::{Room, Span};
+use std::alloc::{AllocError, Global};
+
+/// Prints the number of the spans and the spans.
+fn show_spans(spans: &[Span], out: &mut String) -> Result<(), AllocError> {
+    show(&spans.len(), out)?;
+    for span in spans {
+        out.push('\t')?;
+        show_span(*span, out)?;
+    }
+    Ok(())
+}
+
+/// Prints the kind of the notes, or `none`.
+fn show_kind(notes: &[Note], out: &mut String) -> Result<(), AllocError> {
+    match kind_of(notes) {
+        Some(kind) => show(&kind, out),
+        None => out.push_str("none"),
+    }
+}
+
+/// Prints the glyphs of a segment with these notes: `KIND COUNT` of each, split by `, `.
+fn show_glyphs(alloc: Global, notes: &[Note], out: &mut String) -> Result<(), AllocError> {
+    let mut glyphs = Room::with_limit(alloc, notes.len())?;
+    cut(notes, &mut glyphs);
+    for glyph in glyphs.slice() {
+        if glyph.first > 0 {
+            out.push_str(", ")?;
+        }
+        show(&glyph.kind, out)?;
+        out.push(' ')?;
+        show(&glyph.count, out)?;
+    }
+    Ok(())
+}
+
+/// Prints the number of the segments, and the glyphs of each.
+fn show_segments(
+    alloc: Global,
+    kept: &str,
+    items: &[Item],
+    spans: &[Span],
+    out: &mut String,
+) -> Result<(), AllocError>
+    requires { AreWithin kept.now items.now }
+{
+    show(&spans.len(), out)?;
+    for span in spans {
+        out.push('\t')?;
+        if let Some(part) = items.get(span.from..span.to) {
+            let mut notes = Room::with_limit(alloc, part.len())?;
+            notes_into(kept, part, &mut notes);
+            show_glyphs(alloc, notes.slice(), out)?;
+        }
+    }
+    Ok(())
+}
+
+/// Prints the answer of a call on the items of a snippet of notes.
+fn answer_items(
+    alloc: Global,
+    call: &str,
+    kept: &str,
+    items: &[Item],
+    out: &mut String,
+) -> Result<(), AllocError>
+    requires { AreWithin kept.now items.now }
+{
+    let mut spans = Room::with_limit(alloc, items.len())?;
+    match call {
+        "elements" => {
+            elements(kept, items, &mut spans);
+            show_spans(spans.slice(), out)
+        }
+        "segments" => {
+            segments(kept, items, &mut spans);
+            show_spans(spans.slice(), out)
+        }
+        "glyphs" => {
+            segments(kept, items, &mut spans);
+            show_segments(alloc, kept, items, spans.slice(), out)
+        }
+        _ => {
+            let mut notes = Room::with_limit(alloc, items.len())?;
+            notes_into(kept, items, &mut notes);
+            show_kind(notes.slice(), out)
+        }
+    }
+}
+
+/// Prints the answer of a call on a snippet of notes, and returns whether there is such a call.
+pub(crate) fn answer(
+    alloc: Global,
+    call: &str,
+    input: &str,
+    out: &mut String,
+) -> Result<bool, AllocError> {
+    match call {
+        "elements" | "segments" | "glyphs" | "kind_of" => {}
+        _ => return Ok(false),
+    }
+    if !is_snippet(input) {
+        return Ok(false);
+    }
+    let items = items_whole(alloc, input)?;
+    laws::items_lie_in_their_text();
+    answer_items(alloc, call, input, items.as_slice(), out)?;
+    Ok(true)
+}

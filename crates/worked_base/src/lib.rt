@@ -1,0 +1,22 @@
+//! Tests of `gabc_places`, `gabc_patterns` and `gabc_headers` through their public surface: values from outside; stages, sources and
+//! sinks as other crates make them.
+//!
+//! They stand in a crate of their own, since a crate with tests is proved twice.
+#![tactic(auto)]
+
+#[cfg(test)]
+mod chain;
+#[cfg(test)]
+mod headers;
+#[cfg(test)]
+mod patterns;
+#[cfg(test)]
+mod room;
+#[cfg(test)]
+mod sink;
+#[cfg(test)]
+mod source;
+#[cfg(test)]
+mod text;
+#[cfg(test)]
+mod trial;

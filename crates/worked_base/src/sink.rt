@@ -1,0 +1,129 @@
+//! Sinks that take little and sinks that fail.
+
+ghost use Rattle.std.specs.Prelude.{◌≡◌, ℕ, ◌+◌, ◌<◌, ◌≤◌, Some};
+
+use gabc_places::{GhostCount, Sink, SinkFault, ToWriter, Unsent, send_all};
+use std::io::Write;
+use std::test::Fail;
+
+/// Takes one byte a call, and fails once it has `limit`.
+#[derive(Drop)]
+struct OneByOne {
+    taken: Vec<u8>,
+    limit: usize,
+    failures: GhostCount,
+}
+
+impl Sink for OneByOne {
+    ghost written = { λ s. Some s.taken.items };
+
+    ghost failures = { λ s. s.failures };
+
+    fn write(&mut self, bytes: &[u8]) -> Result<usize, SinkFault> {
+        if bytes.is_empty() {
+            return Ok(0);
+        }
+        if self.taken.len() < self.limit && self.taken.push(bytes[0]).is_ok() {
+            return Ok(1);
+        }
+        self.failures.add_one();
+        Err(SinkFault)
+    }
+}
+
+#[test]
+fn sends_byte_by_byte(rt: HostRuntime) {
+    for (limit, want, taken) in [
+        (9, Ok(()), "Alleluia"),
+        (8, Ok(()), "Alleluia"),
+        (7, Err(Unsent { sent: 7 }), "Allelui"),
+        (0, Err(Unsent { sent: 0 }), ""),
+    ] {
+        let mut sink = OneByOne {
+            taken: Vec::new(rt.alloc()),
+            limit,
+            failures: GhostCount::zero(),
+        };
+        assert_eq!(rt; send_all(&mut sink, b"Alleluia"), want, "at {limit}");
+        assert_eq!(rt; sink.taken.as_slice(), taken.as_bytes(), "at {limit}");
+    }
+}
+
+#[test]
+fn writes_to_a_writer(rt: HostRuntime) {
+    let mut sink = ToWriter::new(Vec::new(rt.alloc()));
+    assert_eq!(rt; sink.write(b""), Ok(0));
+    assert_eq!(rt; send_all(&mut sink, b"Gloria "), Ok(()));
+    assert_eq!(rt; send_all(&mut sink, b"in excelsis"), Ok(()));
+    assert_eq!(rt; sink.inner().as_slice(), b"Gloria in excelsis".as_slice());
+}
+
+/// A writer whose writes take no byte.
+#[derive(Drop)]
+struct Full;
+
+impl Write for Full {
+    fn write(&mut self, _buf: &[u8]) -> std::io::Result<usize> {
+        Ok(0)
+    }
+
+    fn flush(&mut self) -> std::io::Result<()> {
+        Ok(())
+    }
+}
+
+#[test]
+fn takes_a_write_of_none_for_a_failure(rt: HostRuntime) {
+    let mut sink = ToWriter::new(Full);
+    assert_eq!(rt; sink.write(b"x"), Err(SinkFault));
+    assert_eq!(rt; sink.write(b""), Ok(0));
+    assert_eq!(rt; send_all(&mut sink, b"x"), Err(Unsent { sent: 0 }));
+}
+
+/// A writer that counts its calls. The second one fails, each other takes one byte.
+#[derive(Drop)]
+struct Counting {
+    calls: u8,
+}
+
+impl Write for Counting {
+    fn write(&mut self, buf: &[u8]) -> std::io::Result<usize> {
+        self.calls = self.calls.saturating_add(1);
+        if self.calls == 2 {
+            return Err(std::io::Error::from(std::io::ErrorKind::BrokenPipe));
+        }
+        Ok(buf.len().min(1))
+    }
+
+    fn flush(&mut self) -> std::io::Result<()> {
+        Ok(())
+    }
+}
+
+#[test]
+fn writes_once_for_each_call(rt: HostRuntime) {
+    let mut sink = ToWriter::new(Counting { calls: 0 });
+    assert_eq!(rt; sink.write(b"ab"), Ok(1));
+    assert_eq!(rt; sink.inner().calls, 1);
+    assert_eq!(rt; sink.write(b"b"), Err(SinkFault));
+    assert_eq!(rt; sink.inner().calls, 2);
+    assert_eq!(rt; sink.write(b"b"), Ok(1));
+    assert_eq!(rt; sink.inner().calls, 3);
+}
+
+#[test]
+fn stops_at_the_first_failure(rt: HostRuntime) {
+    let mut sink = ToWriter::new(Counting { calls: 0 });
+    assert_eq!(rt; send_all(&mut sink, b"abc"), Err(Unsent { sent: 1 }));
+    assert_eq!(rt; sink.inner().calls, 2);
+}
+
+#[test]
+fn emits_how_much_was_sent(rt: HostRuntime) -> Result<(), Fail> {
+    let told = format!(in rt.alloc(); "{SinkFault}, {}", Unsent { sent: 7 })?;
+    assert_eq!(rt;
+        told.as_str(),
+        "the sink failed, the sink failed after 7 bytes"
+    );
+    Ok(())
+}
