@@ -131,7 +131,7 @@ module _ (limits : Limits) (t more : List ℕ) (heads : Heads) (ok : heads_of li
   abbrev behind_line : List ℕ → List Stop
   behind_line u = open_stops (head_len u + 1) (open_line (head_parts u)) ++ score_stops limits u
 
-  none_apart : (text_stops limits.header t ≡ []) × (behind_line t ≡ [])
+  pub none_apart : (text_stops limits.header t ≡ []) × (behind_line t ≡ [])
   none_apart =
       let all = ap (λ b. text_stops limits.header t ++ cond b (behind_line t) (open_stops (length t) (open_line (head_parts t)) ++ missing_score (open_line (head_parts t)) t)) (sym (has_score_line limits t heads ok)) ∙ none_stops in
       nothing_both (text_stops limits.header t) (behind_line t) all

@@ -7,5 +7,7 @@ pub mod marks_of_lines
 pub mod names
 pub mod order
 pub mod prefixes
+pub mod printing
+pub mod stages
 pub mod stops
 pub mod FrontHasTheSameHeaders

@@ -1,2 +1,4 @@
-pub mod LengthOfHeaderLines
+pub mod HeaderBytes
+pub mod HeadersEndInTwoPercents
+pub mod NameAndValueFitTheirLine
 pub mod WantsLinesLeftToRight

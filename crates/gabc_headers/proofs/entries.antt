@@ -4,6 +4,7 @@ pub mod InsertPutsEntry
 pub mod MapIsReadByEntry
 pub mod NextEntryIsFirstAhead
 pub mod PushedEntryIsShown
+pub mod RoomIsFilled
 pub mod PutEntriesStand
 pub mod PutIsFound
 pub mod TextsAsBytes

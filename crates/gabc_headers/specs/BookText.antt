@@ -2,7 +2,7 @@
 use Rattle.std.specs.Prelude.{ℕ, ◌≤◌, ◌<◌, ◌^◌, List, [], ◌∷◌, slice_range, IsCharBoundary}
 use Rattle.std.specs.Str.{chars}
 use Rattle.gabc_places.specs.declared.place.Span.{Span}
-use Rattle.gabc_headers.specs.declared.book.Entry.{Entry}
+use Rattle.gabc_headers.specs.declared.book_room.Entry.{Entry}
 use Rattle.gabc_headers.specs.Lines.{bytes_len}
 use Rattle.gabc_headers.specs.Canonical.{canonical_heads}
 

@@ -6,6 +6,7 @@ pub mod EntryMap
 pub mod Groups
 pub mod HeadEvents
 pub mod Heads
+pub mod HeadsAgain
 pub mod Lines
 pub mod Parts
 pub mod NextHeader

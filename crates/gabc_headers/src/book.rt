@@ -1,23 +1,20 @@
 //! The book of headers.
 
-ghost use Rattle.std.specs.Prelude.{◌≡◌, ◌<◌, ◌^◌, ◌==◌, [], ◌∷◌, ◌++◌, None, Some, length, slice_get, OnOk, MatchOption, IsSomeAnd, encode_utf8_all};
+ghost use Rattle.std.specs.Prelude.{◌≡◌, ◌<◌, ◌==◌, [], None, Some, length, slice_get, MatchOption, IsSomeAnd, encode_utf8_all, string_bytes};
 ghost use Rattle.std.specs.Str.{chars};
 ghost use Rattle.gabc_headers.specs.Book.{lines_by, value_named, has_header, macro_name, nabc_lines_of};
 ghost use Rattle.gabc_headers.specs.Canonical.{canonical_heads};
 ghost use Rattle.gabc_headers.specs.Lines.{bytes_len};
+ghost use Rattle.gabc_headers.specs.BookText.{shown_entries, IsBook};
+ghost use Rattle.gabc_headers.specs.HeadEvents.{macros_of};
 
-use crate::canonical::line_len;
+use crate::book_room::{BookRoom, Entry};
+use crate::canonical::canon_header;
 use crate::headers::Headers;
-use gabc_places::Span;
-use std::alloc::{AllocError, Global};
+use gabc_places::ByteCounter;
+use std::alloc::Global;
 use std::marker::Model;
-
-/// A header's name and value, as bytes of the book's text.
-#[derive(Clone, Copy, Debug)]
-pub(crate) struct Entry {
-    pub name: Span,
-    pub value: Span,
-}
+use std::mem;
 
 /// The headers of a text, in order. Contracts see the list of names and values, each the list of its characters.
 #[derive(Debug, Drop)]
@@ -28,10 +25,9 @@ pub struct HeaderBook {
 
 impl Model for HeaderBook {
     ghost use Rattle.std.specs.Prelude.{ℕ, List, string_bytes};
+    ghost use Rattle.gabc_headers.specs.BookText.{shown_entries, IsBook};
 
     ghost Value = { List (List ℕ × List ℕ) };
-
-    ghost use Rattle.gabc_headers.specs.BookText.{shown_entries, IsBook};
 
     ghost view = { λ b. shown_entries (string_bytes b.text) b.entries.items };
 
@@ -75,21 +71,13 @@ impl HeaderBook {
         }
     }
 
-    /// Adds a header at the end.
-    pub(crate) fn push(&mut self, name: &str, value: &str) -> Result<(), AllocError>
-        requires { bytes_len (canonical_heads (self.old ++ (chars name.now, chars value.now) ∷ []))
-            < 2 ^ 32 }
-        ensures { OnOk result (self.new ≡ self.old ++ (chars name.now, chars value.now) ∷ []) }
+    /// Takes the headers of `room`, and leaves there what the book had. It asks for no memory.
+    pub(crate) fn take(&mut self, room: &mut BookRoom)
+        requires { IsBook (string_bytes room.old.text) room.old.entries.items }
+        ensures { self.new ≡ shown_entries (string_bytes room.old.text) room.old.entries.items }
     {
-        let from = self.text.len();
-        self.text.push_str(name)?;
-        let middle = self.text.len();
-        self.text.push_str(value)?;
-        let to = self.text.len();
-        let name = Span { from, to: middle };
-        let value = Span { from: middle, to };
-        self.entries.push(Entry { name, value })?;
-        Ok(())
+        mem::swap(&mut self.text, &mut room.text);
+        mem::swap(&mut self.entries, &mut room.entries);
     }
 
     /// Returns the number of headers.
@@ -162,16 +150,31 @@ impl HeaderBook {
         self.get(macro_header(digit)).is_some()
     }
 
+    /// Returns the macros that are defined: the bit `d` tells it of the macro of the digit `d`.
+    pub fn macros(&self) -> u16
+        ensures { result ≡ macros_of self.now }
+    {
+        let mut macros = 0;
+        let mut bit = 1;
+        for digit in 0..10 {
+            if self.is_macro(digit) {
+                macros += bit;
+            }
+            bit *= 2;
+        }
+        macros
+    }
+
     /// Returns the number of bytes of the canonical header lines and `%%`.
     pub fn canonical_len(&self) -> usize
         ensures len { result ≡ bytes_len (canonical_heads self.now) }
         ensures bytes { result ≡ length (encode_utf8_all (canonical_heads self.now)) }
     {
-        let mut len = 2;
-        for index in 0..self.entries.len() {
-            len += line_len(self.name(index), self.value(index));
-        }
-        len
+        // what a book holds is known where a field is used
+        let _ = &self.entries;
+        let mut counter = ByteCounter::new();
+        canon_header(self, &mut counter);
+        counter.count()
     }
 }
 

@@ -1,9 +1,13 @@
 //! The canonical header lines.
 
-ghost use Rattle.std.specs.Prelude.{◌≡◌, ◌-◌, ◌^◌, min};
+ghost use Rattle.std.specs.Prelude.{◌≡◌, ◌++◌, encode_utf8_all};
 ghost use Rattle.std.specs.Str.{chars};
-ghost use Rattle.gabc_headers.specs.Canonical.{header_line, wants_lines};
-ghost use Rattle.gabc_headers.specs.Lines.{bytes_len, lines};
+ghost use Rattle.gabc_headers.specs.Canonical.{canonical_heads, header_line, wants_lines};
+ghost use Rattle.gabc_headers.specs.Lines.{lines};
+ghost use Rattle.gabc_headers.specs.machine.HeaderText.{before_value, after_value};
+
+use crate::book::HeaderBook;
+use gabc_places::Put;
 
 /// Returns whether `value` is written on lines of its own: it has several lines, or would end too early on its header's line.
 pub fn wants_own_lines(value: &str) -> bool
@@ -23,19 +27,64 @@ pub fn wants_own_lines(value: &str) -> bool
     wants || at_mark
 }
 
-/// The number of bytes of a header's canonical lines, or the largest number if there are more.
-pub(crate) fn line_len(name: &str, value: &str) -> usize
-    ensures { result ≡ min (bytes_len (header_line (chars name.now, chars value.now)))
-        (2 ^ 64 - 1) }
+/// What stands round the value of a header.
+#[derive(Clone, Copy)]
+struct Frame {
+    before: &'static str,
+    after: &'static str,
+}
+
+/// Returns what stands round `value`: an empty one has no blank before it, and one on its own lines ends with two `;`.
+fn frame_of(value: &str) -> Frame
+    ensures before { result.before.now
+        ≡ before_value (wants_lines (lines (chars value.now))) (chars value.now) }
+    ensures after { result.after.now
+        ≡ after_value (wants_lines (lines (chars value.now))) (chars value.now) }
 {
-    let around = if value.is_empty() {
-        3
+    if value.is_empty() {
+        Frame {
+            before: ":",
+            after: ";\n",
+        }
     } else if wants_own_lines(value) {
-        6
+        Frame {
+            before: ":\n ",
+            after: ";;\n",
+        }
     } else {
-        4
-    };
-    name.len()
-        .saturating_add(value.len())
-        .saturating_add(around)
+        Frame {
+            before: ": ",
+            after: ";\n",
+        }
+    }
+}
+
+/// Puts `name`, and `value` in its `frame`.
+fn put_framed<S: Put>(name: &str, value: &str, frame: Frame, out: &mut S)
+    ensures { out.new
+        ≡ S.taken out.old (name.now ++ (frame.before.now ++ (value.now ++ frame.after.now))) }
+{
+    out.put(name.as_bytes());
+    out.put(frame.before.as_bytes());
+    out.put(value.as_bytes());
+    out.put(frame.after.as_bytes());
+}
+
+/// Puts the canonical line, or lines, of the header with this `name` and `value`.
+pub(crate) fn put_header<S: Put>(name: &str, value: &str, out: &mut S)
+    ensures { out.new
+        ≡ S.taken out.old (encode_utf8_all (header_line (chars name.now, chars value.now))) }
+{
+    put_framed(name, value, frame_of(value), out);
+}
+
+/// Puts the canonical header lines of `book` and `%%`, as many bytes as `HeaderBook::canonical_len` tells. A room without that
+/// many bytes left gets as many of them as fit.
+pub fn canon_header<S: Put>(book: &HeaderBook, out: &mut S)
+    ensures { out.new ≡ S.taken out.old (encode_utf8_all (canonical_heads book.now)) }
+{
+    for index in 0..book.len() {
+        put_header(book.name(index), book.value(index), out);
+    }
+    out.put(b"%%");
 }

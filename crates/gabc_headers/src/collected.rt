@@ -3,15 +3,14 @@
 ghost use Rattle.std.specs.Prelude.{◌≡◌, ◌≤◌, [], ◌∷◌, length, OnOk, IfOk};
 ghost use Rattle.gabc_places.specs.BoundedList.{Fits};
 ghost use Rattle.std.specs.Str.{chars};
-ghost use Rattle.gabc_headers.specs.declared.events.HeaderEvent.TheVariants.{Header};
 ghost use Rattle.gabc_headers.specs.Book as book;
 ghost use Rattle.gabc_headers.specs.machine.Collected as spec;
-ghost use Rattle.gabc_headers.specs.machine.Collected.{IsGoodEvent, AreGoodEvents, collected_with, collected_with_all};
+ghost use Rattle.gabc_headers.specs.machine.Collected.{IsGoodEvent, AreGoodEvents, collected_with, collected_with_all, found_with, found_list, of_headers};
 ghost use Rattle.gabc_headers.specs.machine.Shown.{shown};
 
 use crate::entry_map::EntryMap;
 use crate::events::HeaderEvent;
-use gabc_places::{Code, Finding, Findings, Place, Span};
+use gabc_places::{Code, Finding, Findings, Place};
 use std::alloc::{AllocError, Global};
 
 /// The headers so far that count, and what was found.
@@ -40,6 +39,36 @@ fn finding_at(line: u64, code: Code) -> Finding
     Finding { place, code }
 }
 
+/// Takes what an event tells of the text to the headers, and answers what is found at it. It asks for no memory.
+pub(crate) fn take_event(headers: &mut EntryMap, text: &str, event: HeaderEvent) -> Option<Finding>
+    requires good { IsGoodEvent text.now event }
+    requires room { Fits headers.old 1 }
+    ensures headers { headers.new.items
+        ≡ (collected_with text.now event (of_headers headers.old.items)).headers }
+    ensures limit { headers.new.limit ≡ headers.old.limit }
+    ensures found { found_list result
+        ≡ found_with text.now event (of_headers headers.old.items) }
+{
+    match event {
+        HeaderEvent::LeftOut { line, point: _ } => Some(finding_at(line, Code::E4)),
+        HeaderEvent::Header {
+            line,
+            name,
+            value,
+            point: _,
+        } => {
+            let written = &text[name.from..name.to];
+            if !is_kept(written, &text[value.from..value.to]) {
+                return Some(finding_at(line, Code::E5));
+            }
+            if headers.put(written, value) {
+                return Some(finding_at(line, Code::W2));
+            }
+            None
+        }
+    }
+}
+
 impl Collected {
     /// Takes what an event tells of the text.
     fn take(&mut self, text: &str, event: HeaderEvent) -> Result<(), AllocError>
@@ -48,39 +77,8 @@ impl Collected {
         ensures taken { OnOk result (shown self.new ≡ collected_with text.now event (shown self.old)) }
         ensures limit { self.new.headers.limit ≡ self.old.headers.limit }
     {
-        match event {
-            HeaderEvent::LeftOut { line, point: _ } => {
-                self.findings.push(finding_at(line, Code::E4))
-            }
-            HeaderEvent::Header {
-                line,
-                name,
-                value,
-                point: _,
-            } => self.take_header(text, line, name, value),
-        }
-    }
-
-    /// Takes a header.
-    fn take_header(
-        &mut self,
-        text: &str,
-        line: u64,
-        name: Span,
-        value: Span,
-    ) -> Result<(), AllocError>
-        requires good { IsGoodEvent text.now (Header line name value 0) }
-        requires room { Fits self.old.headers 1 }
-        ensures taken { OnOk result (shown self.new
-            ≡ collected_with text.now (Header line name value 0) (shown self.old)) }
-        ensures limit { self.new.headers.limit ≡ self.old.headers.limit }
-    {
-        let written = &text[name.from..name.to];
-        if !is_kept(written, &text[value.from..value.to]) {
-            return self.findings.push(finding_at(line, Code::E5));
-        }
-        if self.headers.put(written, value) {
-            self.findings.push(finding_at(line, Code::W2))?;
+        if let Some(finding) = take_event(&mut self.headers, text, event) {
+            self.findings.push(finding)?;
         }
         Ok(())
     }

@@ -1,19 +1,22 @@
 //! The headers in the order of their first lines.
 
-ghost use Rattle.std.specs.Prelude.{◌≡◌, ◌≤◌, ◌<◌, ◌-◌, ◌^◌, [], length, min, slice_get, IfOk, IsSomeAnd};
+ghost use Rattle.std.specs.Prelude.{◌≡◌, ◌≤◌, ◌<◌, ◌-◌, ◌^◌, [], length, min, slice_get, string_bytes, IfOk, IsSomeAnd};
 ghost use Rattle.gabc_places.specs.BoundedList.{Fits};
 ghost use Rattle.std.specs.Str.{chars};
 ghost use Rattle.gabc_headers.specs.Canonical.{header_lines, canonical_heads};
 ghost use Rattle.gabc_headers.specs.machine.EntryMap.{comes_again, spelled_entries, AreWithin};
 ghost use Rattle.gabc_headers.specs.EntryMap.{put_entry};
 ghost use Rattle.gabc_headers.specs.Lines.{bytes_len};
+ghost use Rattle.gabc_headers.specs.BookText.{AreEntries, shown_entries};
+ghost use Rattle.gabc_headers.specs.machine.HeaderStage.{HasRoomFor};
 
 use crate::book::HeaderBook;
-use crate::canonical::line_len;
+use crate::book_room::BookRoom;
+use crate::canonical::put_header;
 use crate::name_tree::NameTree;
 use crate::named_value::NamedValue;
 use arrayvec::ArrayString;
-use gabc_places::Span;
+use gabc_places::{ByteCounter, Span};
 use std::alloc::{AllocError, Global};
 use std::marker::Model;
 
@@ -108,25 +111,45 @@ impl EntryMap {
         ensures { result ≡ min (bytes_len (header_lines (spelled_entries text.now self.now.items)))
             (2 ^ 64 - 1) }
     {
-        let mut len = 0usize;
+        let mut counter = ByteCounter::new();
         for index in 0..self.len() {
             let value = self.value(index);
-            len = len.saturating_add(line_len(self.name(index), &text[value.from..value.to]));
+            put_header(self.name(index), &text[value.from..value.to], &mut counter);
         }
-        len
+        counter.count()
     }
 
-    /// The book of these headers of a text.
-    pub(crate) fn book(&self, alloc: Global, text: &str) -> Result<HeaderBook, AllocError>
+    /// Adds these headers of a text to an empty room. It asks for no memory.
+    pub(crate) fn fill(&self, text: &str, room: &mut BookRoom)
         requires within { AreWithin text.now self.now.items }
+        requires room { HasRoomFor (bytes_len (header_lines
+            (spelled_entries text.now self.now.items))) (length self.now.items) room.old }
+        ensures within { AreEntries (string_bytes room.new.text) room.new.entries.items }
+        ensures shown { shown_entries (string_bytes room.new.text) room.new.entries.items
+            ≡ spelled_entries text.now self.now.items }
+    {
+        for index in 0..self.len() {
+            let value = self.value(index);
+            room.push(self.name(index), &text[value.from..value.to]);
+        }
+    }
+
+    /// The book of these headers of a text, whose canonical lines have at most so many bytes.
+    pub(crate) fn book(
+        &self,
+        alloc: Global,
+        text: &str,
+        bytes: usize,
+    ) -> Result<HeaderBook, AllocError>
+        requires within { AreWithin text.now self.now.items }
+        requires bytes { bytes_len (header_lines (spelled_entries text.now self.now.items)) ≤ bytes }
         requires small { bytes_len (canonical_heads (spelled_entries text.now self.now.items)) < 2 ^ 32 }
         ensures { IfOk result (λ book. book ≡ spelled_entries text.now self.now.items) }
     {
+        let mut room = BookRoom::with_limits(alloc, bytes, self.len())?;
+        self.fill(text, &mut room);
         let mut book = HeaderBook::new(alloc);
-        for index in 0..self.len() {
-            let value = self.value(index);
-            book.push(self.name(index), &text[value.from..value.to])?;
-        }
+        book.take(&mut room);
         Ok(book)
     }
 }

@@ -9,6 +9,8 @@ ghost use Rattle.gabc_places.specs.StageLaw.{concat_of};
 ghost use Rattle.gabc_headers.specs.declared.heads.Heads.{Heads};
 ghost use Rattle.gabc_headers.specs.Heads.{head_len, heads_of, findings_of, line_place};
 ghost use Rattle.gabc_headers.specs.Book.{standing_entries};
+ghost use Rattle.gabc_headers.specs.Canonical.{canonical_heads, header_lines};
+ghost use Rattle.gabc_headers.specs.HeadsAgain.{heads_again};
 ghost use Rattle.gabc_headers.specs.EntryMap.{put_all};
 ghost use Rattle.gabc_headers.specs.Groups.{Group, AreGroups, parts_of_groups};
 ghost use Rattle.gabc_headers.specs.HeadEvents.{events_left, events_of_heads, given_behind, reading};
@@ -63,6 +65,18 @@ pub fn the_headers_end_at_their_mark()
         → heads_of limits t ≡ Ok heads → head_len (take (head_len t + 2) t ++ more) ≡ head_len t }
     ensures book { (limits : Limits) (t more : List ℕ) (heads : Heads) → heads_of limits t ≡ Ok heads
         → (other : Heads) × (heads_of limits (take (head_len t + 2) t ++ more) ≡ Ok other) × (other.book ≡ heads.book) }
+{}
+
+/// The canonical lines of a book, with whatever follows their `%%`, are read as that book under the same limits: no header is
+/// left out, none comes twice, and nothing stops them. They end at this `%%`. All that can be found is that there is no header
+/// `name`.
+pub fn book_again()
+    ensures read { (limits : Limits) (t more : List ℕ) (heads : Heads)
+        → heads_of limits t ≡ Ok heads
+        → heads_of limits (canonical_heads heads.book ++ more) ≡ Ok (heads_again heads.book) }
+    ensures ends { (limits : Limits) (t more : List ℕ) (heads : Heads)
+        → heads_of limits t ≡ Ok heads
+        → head_len (canonical_heads heads.book ++ more) ≡ length (header_lines heads.book) }
 {}
 
 /// Told character by character, the headers of a text are what they are when they are read whole, followed by the characters

@@ -15,6 +15,7 @@
 #![tactic(auto)]
 
 mod book;
+mod book_room;
 mod canonical;
 mod characters;
 mod collected;
@@ -23,17 +24,21 @@ mod event_list;
 mod events;
 mod head_event;
 mod header_machine;
+mod header_stage;
 mod headers;
 mod heads;
 pub mod laws;
 mod name_tree;
 mod named_value;
 mod part_machine;
+mod score_line;
+pub mod stage_laws;
 mod whole;
 
 pub use book::HeaderBook;
-pub use canonical::wants_own_lines;
+pub use canonical::{canon_header, wants_own_lines};
 pub use head_event::HeadEvent;
+pub use header_stage::HeaderStage;
 pub use headers::Headers;
 pub use heads::{HeadFault, Heads};
 pub use whole::headers_whole;

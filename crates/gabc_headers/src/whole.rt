@@ -4,12 +4,13 @@ ghost use Rattle.std.specs.Prelude.{◌≡◌, IfOk};
 ghost use Rattle.gabc_places.specs.Findings.{AreInOrder};
 ghost use Rattle.gabc_headers.specs.machine.EntryMap.{AreWithin, spelled_entries};
 ghost use Rattle.gabc_headers.specs.Heads.{heads_of, findings_of};
-ghost use Rattle.gabc_headers.specs.machine.Collected.{heads_at_body, heads_at_score, fault_at_end, fault_in_value};
+ghost use Rattle.gabc_headers.specs.machine.Collected.{heads_at_score};
 
 use crate::collected::{Collected, collect};
 use crate::event_list::events_of_headers;
 use crate::events::HeaderEnding;
 use crate::heads::{HeadFault, Heads};
+use crate::score_line::{end_fault, score_len};
 use gabc_places::{Code, Fault, Finding, Findings, Limits, Place, Text};
 use std::alloc::{AllocError, Global};
 
@@ -33,14 +34,13 @@ pub fn headers_whole(
             body,
             open_line,
         } => at_score(alloc, written, limits, place, body, open_line, collected),
-        HeaderEnding::Limit(place) => Ok(Err(head_fault(
-            place,
-            Code::F4,
-            collected.findings,
-            false,
-        ))),
+        HeaderEnding::Limit(place) => {
+            let code = Code::F4;
+            Ok(Err(head_fault(Fault { place, code }, collected.findings, false)))
+        }
         HeaderEnding::Text { place, open_line } => {
-            Ok(Err(at_text(place, open_line, collected.findings)))
+            let fault = end_fault(place, open_line);
+            Ok(Err(head_fault(fault, collected.findings, true)))
         }
     }
 }
@@ -59,70 +59,15 @@ fn at_score(
     ensures { IfOk result (λ read. read
         ≡ heads_at_score limits place body open_line (spelled_entries text.now collected.headers.items) collected.findings) }
 {
-    match open_line {
-        None => finish(alloc, text, limits, place, body, collected),
-        Some(line) => Ok(Err(open_value(line, collected.findings, false))),
-    }
-}
-
-/// The headers at the end of the text, where a value may be open.
-fn at_text(place: Place, open_line: Option<u64>, findings: Findings) -> HeadFault
-    ensures { result ≡ fault_at_end place open_line findings }
-{
-    match open_line {
-        None => head_fault(place, Code::F2, findings, true),
-        Some(line) => open_value(line, findings, true),
-    }
-}
-
-/// The headers are stopped at a place.
-fn head_fault(place: Place, code: Code, findings: Findings, at_end: bool) -> HeadFault
-    ensures { result ≡ record {
-      fault = record { place = place; code = code };
-      findings = findings;
-      at_end = at_end;
-    } }
-{
-    HeadFault {
-        fault: Fault { place, code },
-        findings,
-        at_end,
-    }
-}
-
-/// The headers end in a value, whose header begins on this line.
-fn open_value(line: u64, findings: Findings, at_end: bool) -> HeadFault
-    ensures { result ≡ fault_in_value line at_end findings }
-{
-    let place = Place { line, column: 1 };
-    head_fault(place, Code::F3, findings, at_end)
-}
-
-/// The headers at the line `%%` at this place, behind which the text goes on at the byte `body`.
-fn finish(
-    alloc: Global,
-    text: &str,
-    limits: Limits,
-    place: Place,
-    body: usize,
-    collected: Collected,
-) -> Result<Result<Heads, HeadFault>, AllocError>
-    requires { AreWithin text.now collected.headers.items }
-    ensures { IfOk result (λ read. read
-        ≡ heads_at_body limits place body (spelled_entries text.now collected.headers.items) collected.findings) }
-{
+    let size = match score_len(limits, text, &collected.headers, place, open_line) {
+        Ok(size) => size,
+        Err(fault) => return Ok(Err(head_fault(fault, collected.findings, false))),
+    };
     let Collected {
         headers,
         mut findings,
     } = collected;
-    let size = headers.canonical_len(text);
-    if size > limits.header as usize {
-        return Ok(Err(head_fault(place, Code::F4, findings, false)));
-    }
-    if size + 3 > limits.input as usize {
-        return Ok(Err(head_fault(place, Code::F7, findings, false)));
-    }
-    let book = headers.book(alloc, text)?;
+    let book = headers.book(alloc, text, size)?;
     if book.get("name").is_none() {
         findings.push(Finding {
             place,
@@ -134,4 +79,15 @@ fn finish(
         body,
         findings,
     }))
+}
+
+/// The headers are stopped.
+fn head_fault(fault: Fault, findings: Findings, at_end: bool) -> HeadFault
+    ensures { result ≡ record { fault = fault; findings = findings; at_end = at_end } }
+{
+    HeadFault {
+        fault,
+        findings,
+        at_end,
+    }
 }

@@ -3,6 +3,7 @@ pub mod EventsDependOnState
 pub mod FreshStageEmitsEventsByPoint
 pub mod LoopOverBody
 pub mod MachineReadsTable
+pub mod OneCharacterMore
 pub mod SnippetsByState
 pub mod StageEmitsItsEvents
 pub mod TextIsReadByCharacter

@@ -6,12 +6,14 @@ pub mod Code
 pub mod Decoder
 pub mod DecoderMachine
 pub mod Failures
+pub mod FilledPieceByPiece
 pub mod Findings
 pub mod GhostCount
 pub mod GhostCountDepth
 pub mod Limits
 pub mod Message
 pub mod Place
+pub mod Put
 pub mod StageLaw
 pub mod Text
 pub mod Trial

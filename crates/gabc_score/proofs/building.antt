@@ -3,7 +3,8 @@ pub mod EndOfBody
 pub mod EventsOfOnePoint
 pub mod EventsOfSyllableParts
 pub mod GathererHoldsDefinition
-pub mod LengthOfCanonicalText
 pub mod OneListEachCharacter
 pub mod PositionsFromTheLast
+pub mod SnippetsWithBars
 pub mod StopIsFirst
+pub mod SyllableEndsLast

@@ -3,5 +3,4 @@ pub mod SeamsOfCharacters
 pub mod SlicesOfTexts
 pub mod StageAndDefinitionAgree
 pub mod TextEmitsThroughEnd
-pub mod TextEventsOfBody
 pub mod ViewStandsInLongerText

@@ -1,6 +1,6 @@
 -- What the machine over a body will still tell. It is no promise: that it tells what a body tells is proved, where no count of
 -- the body reaches its last value.
-use Rattle.std.specs.Prelude.{ℕ, List, Bool, if◌then◌else◌}
+use Rattle.std.specs.Prelude.{ℕ, List, [], map, Bool, if◌then◌else◌}
 use Rattle.gabc_places.specs.StageLaw.{silence}
 use Rattle.gabc_places.specs.declared.place.Char.{Char}
 use Rattle.gabc_text.specs.Events.{codes_of}
@@ -8,16 +8,28 @@ use Rattle.gabc_text.specs.EventsLeft as text
 use Rattle.gabc_text.specs.TextStage.{fresh_stage}
 use Rattle.gabc_notes.specs.ItemMachine as notes
 use Rattle.gabc_nabc.specs.DescriptorMachine as nabc
+use Rattle.gabc_text.specs.declared.stage.TextEvent.{TextEvent}
+use Rattle.gabc_notes.specs.declared.stage.NoteEvent.{NoteEvent}
 use Rattle.gabc_score.specs.declared.events.BodyEvent.{BodyEvent}
+use Rattle.gabc_score.specs.declared.events.BodyEvent.TheVariants.{Text}
+use Rattle.gabc_score.specs.declared.body_stage.Emitter.{Emitter}
+use Rattle.gabc_score.specs.declared.body_stage.Emitter.TheVariants as emitter
 use Rattle.gabc_score.specs.declared.body_stage.BodyPart as rust
 use Rattle.gabc_score.specs.declared.body_stage.BodyPart.TheVariants as part
-use Rattle.gabc_score.specs.Events.{PartAhead, InComment, InText, InNotes, Texts, events_from}
+use Rattle.gabc_score.specs.Events.{PartAhead, InComment, InText, InNotes, Texts, note_event, events_from}
+
+-- the events of the last point, in the room of the part that emitted them
+abbrev pub events_in_rooms : Emitter → List TextEvent → List NoteEvent → List BodyEvent
+events_in_rooms emitter.Nothing texts notes = []
+events_in_rooms emitter.Text texts notes = map (λ (o : TextEvent). Text o) texts
+events_in_rooms (emitter.Notes line opened) texts notes = map (note_event line opened) notes
 
 pub record BodyStageState : Type 0 where
   pub nabc_lines : ℕ
   pub macros : ℕ
   pub part : rust.BodyPart
   pub over : Bool
+  pub events : List BodyEvent
 
 -- the part, with the lists that it will still tell of these characters and the end
 abbrev pub part_with : rust.BodyPart → List Char → PartAhead

@@ -6,6 +6,7 @@ pub mod Events
 pub mod Holding
 pub mod Marks
 pub mod Score
+pub mod ScoreEvents
 pub mod Stops
 pub mod Syllable
 pub mod SyllablesOfUnits

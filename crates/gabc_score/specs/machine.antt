@@ -1,5 +1,6 @@
 pub mod BodyBuilder
 pub mod Gatherer
-pub mod Lengths
 pub mod PartPushes
+pub mod ScoreStage
 pub mod SyllableBuilder
+pub mod SyllableText

@@ -1,72 +1,70 @@
-//! The reading of a body, one character at a time.
+//! What is read of a body, point by point.
 
 use crate::body_result::BodyResult;
-use crate::events::BodyEvent;
+use crate::body_stage::BodyStage;
 use crate::gatherer::Gatherer;
 use crate::syllables::Syllables;
-use gabc_notes::NoteEvent;
 use gabc_places::{Code, Fault, Finding, Findings, Limits, Place, Room};
-use gabc_text::TextEvent;
 use std::alloc::{AllocError, Global};
 
 /// What was read of a body.
 #[derive(Drop)]
 pub(crate) struct BodyBuilder {
-    /// What is emitted at the point that is being read.
-    pub(crate) room: Room<BodyEvent>,
     pub(crate) gatherer: Gatherer,
     /// What was found at the points before.
     pub(crate) findings: Findings,
+    /// What is found at the point that is being read.
+    pub(crate) found: Room<Finding>,
 }
 
 impl BodyBuilder {
-    ghost use Rattle.std.specs.Prelude.{◌≡◌, ◌<◌, ◌^◌, [], OnOk, IfOk};
+    ghost use Rattle.gabc_places.specs.BoundedList.{Fits};
+    ghost use Rattle.std.specs.Prelude.{◌≡◌, ◌<◌, ◌^◌, [], length, OnOk, IfOk};
     ghost use Rattle.gabc_score.specs.machine.Gatherer.{nothing_gathered, with_last};
-    ghost use Rattle.gabc_score.specs.machine.BodyBuilder.{BuiltBody, built_body_of, gathered_with_room, code_in, past_point, past_end, end_fault, result_at, end_of};
+    ghost use Rattle.gabc_score.specs.machine.BodyBuilder.{BuiltBody, built_body_of, with_all, code_in, past_point, past_end, end_fault, result_at, end_of};
 
-    /// Nothing was read of a body whose canonical headers have `head` bytes, and in whose headers this was found. At most
-    /// `most` things are emitted at a point.
+    /// Nothing was read of a body whose canonical headers have `head` bytes, and in whose headers this was found.
     pub(crate) fn new(
         alloc: Global,
-        most: usize,
         limits: Limits,
         head: usize,
         findings: Findings,
     ) -> Result<BodyBuilder, AllocError>
-        ensures { IfOk result (λ reader. built_body_of reader
-            ≡ record {
-              room = record { items = []; limit = most };
-              gathered = nothing_gathered limits.syllable head;
-              found = findings;
-            }) }
+        ensures { IfOk result (λ builder. built_body_of builder ≡ record {
+          gathered = nothing_gathered limits.syllable head;
+          found = findings;
+          room = record { items = []; limit = 8 };
+        }) }
     {
         Ok(BodyBuilder {
-            room: Room::with_limit(alloc, most)?,
             gatherer: Gatherer::new(alloc, limits.syllable as usize, head),
             findings,
+            found: Room::with_limit(alloc, 8)?,
         })
     }
 
-    /// Adds what is emitted at a point. Where a limit is passed, which is then answered, nothing of the point counts.
+    /// Adds what the stage emitted at a point. Where a limit is passed, which is then answered, nothing of the point counts.
     pub(crate) fn pass_point(
         &mut self,
         alloc: Global,
         limits: Limits,
+        stage: &BodyStage,
     ) -> Result<Option<Code>, AllocError>
+        requires { Fits self.old.found (length stage.now.events) }
         ensures fits { OnOk result (limits.input < 2 ^ 32) }
         ensures code { IfOk result (λ code. code
-            ≡ code_in limits (gathered_with_room (built_body_of self.old))) }
+            ≡ code_in limits (with_all (built_body_of self.old).gathered stage.now.events)) }
         ensures state { IfOk result (λ code. built_body_of self.new
-            ≡ past_point (built_body_of self.old) code) }
+            ≡ past_point (built_body_of self.old) stage.now.events code) }
     {
         let whole = self.gatherer.made.len();
-        self.gatherer.add_all(alloc, self.room.slice())?;
+        stage.gather(alloc, &mut self.gatherer, &mut self.found)?;
         let code = self.gatherer.code(limits);
         match code {
             Some(_) => self.gatherer.keep_made(whole),
             None => {
-                add_found(&mut self.findings, self.room.slice())?;
-                self.room.clear();
+                self.findings.append(self.found.slice())?;
+                self.found.clear();
             }
         }
         Ok(code)
@@ -77,9 +75,9 @@ impl BodyBuilder {
         ensures { result ≡ result_at (built_body_of self) fault }
     {
         let BodyBuilder {
-            room: _,
             gatherer,
             findings,
+            found: _,
         } = self;
         BodyResult {
             syllables: Syllables::with_positions(gatherer.made),
@@ -88,78 +86,57 @@ impl BodyBuilder {
         }
     }
 
-    /// Adds what is emitted at the end, which is at this place, and closes the last text. Where there is a fault, which is then
-    /// answered, nothing of the end counts.
+    /// Adds what the stage emitted at the end, which is at this place, and closes the last text. Where there is a fault, which is
+    /// then answered, nothing of the end counts.
     fn pass_end(
         &mut self,
         alloc: Global,
         limits: Limits,
         at: Place,
+        stage: &BodyStage,
     ) -> Result<Option<Fault>, AllocError>
+        requires { Fits self.old.found (length stage.now.events) }
         ensures fits { OnOk result (limits.input < 2 ^ 32) }
         ensures fault { IfOk result (λ fault. fault
-            ≡ end_fault limits at (with_last (gathered_with_room (built_body_of self.old)))) }
+            ≡ end_fault limits at (with_last (with_all (built_body_of self.old).gathered stage.now.events))) }
         ensures state { IfOk result (λ fault. built_body_of self.new
-            ≡ past_end at (built_body_of self.old) fault) }
+            ≡ past_end at (built_body_of self.old) stage.now.events fault) }
     {
         let whole = self.gatherer.made.len();
-        self.gatherer.add_all(alloc, self.room.slice())?;
+        stage.gather(alloc, &mut self.gatherer, &mut self.found)?;
         let has_last = self.gatherer.close_last(alloc)?;
         let fault = self.gatherer.end_fault(limits, at);
         match fault {
             Some(_) => self.gatherer.keep_made(whole),
             None => {
                 let is_open = self.gatherer.has_open();
-                add_found(&mut self.findings, self.room.slice())?;
+                self.findings.append(self.found.slice())?;
                 add_found_at_end(&mut self.findings, at, has_last, is_open)?;
             }
         }
         Ok(fault)
     }
 
-    /// What was read, to the end, which is at this place. What is emitted there is still to be added.
+    /// What was read, to the end, which is at this place. What the stage emitted there is still to be added.
     pub(crate) fn end(
         mut self,
         alloc: Global,
         limits: Limits,
         at: Place,
+        stage: &BodyStage,
     ) -> Result<BodyResult, AllocError>
+        requires { Fits self.found (length stage.now.events) }
         ensures fits { OnOk result (limits.input < 2 ^ 32) }
-        ensures read { IfOk result (λ read. read ≡ end_of limits at (built_body_of self)) }
+        ensures read { IfOk result (λ read. read
+            ≡ end_of limits at (built_body_of self) stage.now.events) }
     {
-        let fault = self.pass_end(alloc, limits, at)?;
+        let fault = self.pass_end(alloc, limits, at, stage)?;
         Ok(self.result_with(fault))
     }
 }
 
 ghost use Rattle.std.specs.Prelude.{◌≡◌, ◌++◌, OnOk};
-ghost use Rattle.gabc_score.specs.Body.{findings_with};
-ghost use Rattle.gabc_score.specs.machine.BodyBuilder.{findings_after, end_findings};
-
-/// The finding that is emitted, if one is.
-fn add_finding(findings: &mut Findings, event: BodyEvent) -> Result<(), AllocError>
-    ensures { OnOk result (findings.new ≡ findings_with findings.old event) }
-{
-    match event {
-        BodyEvent::Text(TextEvent::Found(finding)) => findings.push(finding)?,
-        BodyEvent::Notes {
-            line: _,
-            out: NoteEvent::Found(finding),
-        } => findings.push(finding)?,
-        _ => {}
-    }
-    Ok(())
-}
-
-/// Adds what is found of what is emitted.
-fn add_found(findings: &mut Findings, events: &[BodyEvent]) -> Result<(), AllocError>
-    ensures { OnOk result (findings.new ≡ findings_after findings.old events.now) }
-{
-    for event in events {
-        add_finding(findings, *event)?;
-    }
-    Ok(())
-}
+ghost use Rattle.gabc_score.specs.machine.BodyBuilder.{end_findings};
 
 /// Adds what is found at the end, at this place: a last text without notes, and a span that is open.
 fn add_found_at_end(

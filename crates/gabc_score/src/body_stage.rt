@@ -1,23 +1,30 @@
 //! A machine over the texts and notes of a body, one part after the other.
 
-ghost use Rattle.std.specs.Prelude.{◌≡◌, ◌+◌, ◌∷◌, ℕ, List, [], map, length, ◌≤◌, OnOk, IfOk, option_map, false, if◌then◌else◌};
+ghost use Rattle.std.specs.Prelude.{◌≡◌, ◌+◌, ◌∷◌, ℕ, List, [], map, length, ◌≤◌, OnOk, IfOk, option_map, true, false, if◌then◌else◌};
 ghost use Rattle.gabc_places.specs.declared.place.Char.{Char};
+ghost use Rattle.gabc_notes.specs.declared.stage.NoteEvent.{NoteEvent};
+ghost use Rattle.gabc_score.specs.machine.PartPushes.{NoteClosesLast, ClosesLast};
 ghost use Rattle.gabc_places.specs.declared.place.Place.{Place};
 ghost use Rattle.gabc_places.specs.BoundedList.{Fits, extended_by};
-ghost use Rattle.gabc_places.specs.StageLaw.{Pushes};
+ghost use Rattle.gabc_score.specs.machine.PartPushes.{Emits, EmitsLast};
 ghost use Rattle.std.specs.List.{list_any};
 ghost use Rattle.gabc_score.specs.Events.{InComment, events_from, body_events, behind_mark, is_text_end as text_end, is_next as note_next, is_close as note_close, note_event as told_of_notes, next_line as line_after, snippet_from, text_from, part_at};
 ghost use Rattle.gabc_text.specs.EventsLeft.{events_left as text_rest};
 ghost use Rattle.gabc_text.specs.Events.{codes_of, CountsFit};
-ghost use Rattle.gabc_score.specs.machine.PartPushes.{PushesPart, FinishesPart};
+ghost use Rattle.gabc_score.specs.machine.PartPushes.{PushesPart};
+ghost use Rattle.gabc_score.specs.Body.{findings_with};
+ghost use Rattle.gabc_score.specs.machine.Gatherer.{gathered_of};
+ghost use Rattle.gabc_score.specs.machine.BodyBuilder.{with_all, with_found};
 ghost use Rattle.gabc_places.specs.Place.{placed_characters_from};
 ghost use Rattle.gabc_score.specs.BodyStage.{part_with, events_left, running_events_left, texts_by_stage};
 ghost use Rattle.gabc_score.specs.declared.events.BodyEvent.TheVariants.{Text as of_text};
 
 use crate::BodyEvent;
+use crate::gatherer::Gatherer;
+use crate::part_events::{emit_notes, emit_text, gather_notes, gather_text};
 use gabc_nabc::NabcStage;
 use gabc_notes::{NoteEnd, NoteEvent, NoteStage};
-use gabc_places::{Char, Place, Room, Stage};
+use gabc_places::{Char, Finding, Place, Room, Stage};
 use gabc_text::laws::a_fresh_stage_emits_the_events_by_point;
 use gabc_text::{TextEnd, TextEvent, TextStage};
 use std::alloc::{AllocError, Global};
@@ -41,6 +48,15 @@ pub(crate) enum BodyPart {
     },
 }
 
+/// Which part emitted the events of the last point. They stand in its room.
+#[derive(Clone, Copy)]
+pub(crate) enum Emitter {
+    Nothing,
+    Text,
+    /// A snippet of that line, whose `(` stands there.
+    Notes { line: u8, opened: Place },
+}
+
 /// Reads the body of a score a character at a time, and tells what its texts and notes tell. It asks for no memory once made.
 #[derive(Drop)]
 pub struct BodyStage {
@@ -49,13 +65,14 @@ pub struct BodyStage {
     part: BodyPart,
     /// Whether the input has ended.
     over: bool,
+    emitter: Emitter,
     texts: Room<TextEvent>,
     notes: Room<NoteEvent>,
 }
 
 impl Model for BodyStage {
     ghost use Rattle.std.specs.Prelude.{◌≤◌};
-    ghost use Rattle.gabc_score.specs.BodyStage.{BodyStageState};
+    ghost use Rattle.gabc_score.specs.BodyStage.{BodyStageState, events_in_rooms};
 
     ghost Value = { BodyStageState };
 
@@ -64,6 +81,7 @@ impl Model for BodyStage {
       macros = b.macros;
       part = b.part;
       over = b.over;
+      events = events_in_rooms b.emitter b.texts.items b.notes.items;
     } };
 
     ghost invariant = { λ b. (8 ≤ b.texts.limit) × (3 ≤ b.notes.limit) };
@@ -103,43 +121,6 @@ fn is_close(out: NoteEvent) -> bool
     }
 }
 
-/// What a snippet of that line emitted, told with the place of its innermost open bracket.
-fn note_event(line: u8, opened: Place, out: NoteEvent) -> BodyEvent
-    ensures { result ≡ told_of_notes line opened out }
-{
-    let out = match out {
-        NoteEvent::Ended {
-            how: NoteEnd::Cut(place),
-            kept,
-        } if place.line == 0 => NoteEvent::Ended {
-            how: NoteEnd::Cut(opened),
-            kept,
-        },
-        out => out,
-    };
-    BodyEvent::Notes { line, out }
-}
-
-/// Tells what a text emitted.
-fn emit_text(events: &[TextEvent], out: &mut Room<BodyEvent>)
-    requires { Fits out.old (length events.now) }
-    ensures { out.new ≡ extended_by out.old (map (λ o. of_text o) events.now) }
-{
-    for item in events {
-        out.push(BodyEvent::Text(*item));
-    }
-}
-
-/// Tells what a snippet of that line emitted.
-fn emit_notes(line: u8, opened: Place, events: &[NoteEvent], out: &mut Room<BodyEvent>)
-    requires { Fits out.old (length events.now) }
-    ensures { out.new ≡ extended_by out.old (map (told_of_notes line opened) events.now) }
-{
-    for item in events {
-        out.push(note_event(line, opened, *item));
-    }
-}
-
 /// Whether a text ended at its `(` among these.
 fn ends_text(events: &[TextEvent]) -> bool
     ensures { result ≡ list_any text_end events.now }
@@ -159,46 +140,36 @@ fn ends_at_close(events: &[NoteEvent]) -> bool
     events.iter().any(|out| is_close(*out))
 }
 
-/// Pushes a character to a text, tells what that emitted, and answers whether the text ended at its `(`.
-fn push_text(
-    stage: &mut TextStage,
-    x: Char,
-    events: &mut Room<TextEvent>,
-    out: &mut Room<BodyEvent>,
-) -> bool
+/// Pushes a character to a text, whose events are then in its room, and answers whether the text ended at its `(`.
+fn push_text(stage: &mut TextStage, x: Char, events: &mut Room<TextEvent>) -> bool
     requires events { 8 ≤ events.old.limit }
-    requires out { Fits out.old 8 }
     ensures events { events.new.limit ≡ events.old.limit }
     ensures pushes { PushesPart (λ xs. text_rest stage.old (codes_of xs))
-        (λ xs. text_rest stage.new (codes_of xs)) x (λ o. of_text o)
-        (list_any text_end) 8 out.old out.new result }
+        (λ xs. text_rest stage.new (codes_of xs)) x
+        (list_any text_end) 8 events.new.items result }
 {
     events.clear();
     stage.push(x, events);
-    emit_text(events.slice(), out);
     ends_text(events.slice())
 }
 
-/// Pushes a character to a snippet of that line, tells what that emitted, and answers how the snippet ended, if it did.
+/// Pushes a character to a snippet, whose events are then in its room, and answers how the snippet ended, if it did.
 fn push_notes<S: Stage<Input = Char, Output = NoteEvent>>(
     stage: &mut S,
-    line: u8,
-    opened: Place,
     x: Char,
     events: &mut Room<NoteEvent>,
-    out: &mut Room<BodyEvent>,
 ) -> (bool, bool)
     requires most { S.most_of stage.old ≡ 3 }
+    requires ends { (x : NoteEvent) → note_close x ≡ true → S.is_end x ≡ true }
     requires events { 3 ≤ events.old.limit }
-    requires out { Fits out.old 3 }
+    ensures once { NoteClosesLast events.new.items }
     ensures most { S.most_of stage.new ≡ 3 }
     ensures events { events.new.limit ≡ events.old.limit }
-    ensures pushes { PushesPart (S.rest stage.old) (S.rest stage.new) x (told_of_notes line opened)
-        (λ os. (list_any note_next os, list_any note_close os)) 3 out.old out.new result }
+    ensures pushes { PushesPart (S.rest stage.old) (S.rest stage.new) x
+        (λ os. (list_any note_next os, list_any note_close os)) 3 events.new.items result }
 {
     events.clear();
     stage.push(x, events);
-    emit_notes(line, opened, events.slice(), out);
     (ends_at_next(events.slice()), ends_at_close(events.slice()))
 }
 
@@ -226,6 +197,7 @@ impl BodyStage {
     pub fn new(alloc: Global, nabc_lines: u8, macros: u16) -> Result<BodyStage, AllocError>
         ensures run { IfOk result (λ stage. (xs : List Char) →
             events_left stage xs ≡ events_from texts_by_stage nabc_lines macros InComment xs) }
+        ensures open { IfOk result (λ stage. stage.over ≡ false) }
         ensures facts { IfOk result (λ stage. (at : Place) (t : List ℕ) → CountsFit at t →
             events_left stage (placed_characters_from at t)
             ≡ body_events nabc_lines macros (placed_characters_from at t)) }
@@ -239,6 +211,7 @@ impl BodyStage {
             macros,
             part: BodyPart::Comment,
             over: false,
+            emitter: Emitter::Nothing,
             texts,
             notes,
         })
@@ -277,25 +250,28 @@ impl BodyStage {
     }
 
     /// Pushes a character to the part that it stands in, which is no comment.
-    fn push_part(&mut self, x: Char, out: &mut Room<BodyEvent>)
+    fn push_part(&mut self, x: Char)
         requires part { (xs : List Char) →
             part_at texts_by_stage (part_with self.old.part (x ∷ xs)) x xs
             ≡ part_with self.old.part (x ∷ xs) }
-        requires out { Fits out.old 8 }
-        ensures events { Pushes (running_events_left self.old)
-            (running_events_left self.new) x 8 out.old out.new }
+        ensures events { Emits (running_events_left self.old)
+            (running_events_left self.new) x 8 self.new.events }
+        ensures once { ClosesLast self.new.events }
         ensures over { self.new.over ≡ self.old.over }
     {
         match &mut self.part {
-            BodyPart::Comment => {}
+            BodyPart::Comment => self.emitter = Emitter::Nothing,
             BodyPart::Text(stage) => {
-                if push_text(stage, x, &mut self.texts, out) {
+                let ended = push_text(stage, x, &mut self.texts);
+                self.emitter = Emitter::Text;
+                if ended {
                     self.part = self.snippet(0, x.place);
                 }
             }
             BodyPart::Notes { opened, stage } => {
                 let opened = *opened;
-                let (next, close) = push_notes(stage, 0, opened, x, &mut self.notes, out);
+                let (next, close) = push_notes(stage, x, &mut self.notes);
+                self.emitter = Emitter::Notes { line: 0, opened };
                 if next || close {
                     self.part = self.after_snippet(0, opened, x.place, next);
                 }
@@ -306,10 +282,94 @@ impl BodyStage {
                 stage,
             } => {
                 let (line, opened) = (*line, *opened);
-                let (next, close) = push_notes(stage, line, opened, x, &mut self.notes, out);
+                let (next, close) = push_notes(stage, x, &mut self.notes);
+                self.emitter = Emitter::Notes { line, opened };
                 if next || close {
                     self.part = self.after_snippet(line, opened, x.place, next);
                 }
+            }
+        }
+    }
+
+    /// Takes a character. What it emits stands in the part's room until the next call.
+    pub(crate) fn take(&mut self, x: Char)
+        ensures events { Emits (running_events_left self.old)
+            (running_events_left self.new) x 8 self.new.events }
+        ensures once { ClosesLast self.new.events }
+        ensures over { self.new.over ≡ self.old.over }
+    {
+        if let BodyPart::Comment = self.part {
+            if x.c != '\n' {
+                self.emitter = Emitter::Nothing;
+                return;
+            }
+            self.part = BodyPart::Text(TextStage::new(x.place));
+        }
+        self.push_part(x);
+    }
+
+    /// Ends the input. What that emits stands in the part's room.
+    pub(crate) fn close(&mut self)
+        ensures events { EmitsLast (running_events_left self.old) 8 self.new.events }
+        ensures over { self.new.over ≡ true }
+    {
+        self.over = true;
+        match &mut self.part {
+            BodyPart::Comment => {
+                self.texts.clear();
+                self.texts.push(TextEvent::Ended(TextEnd::Finished));
+                self.emitter = Emitter::Text;
+            }
+            BodyPart::Text(stage) => {
+                finish_part(stage, &mut self.texts);
+                self.emitter = Emitter::Text;
+            }
+            BodyPart::Notes { opened, stage } => {
+                let opened = *opened;
+                finish_part(stage, &mut self.notes);
+                self.emitter = Emitter::Notes { line: 0, opened };
+            }
+            BodyPart::Nabc {
+                line,
+                opened,
+                stage,
+            } => {
+                let (line, opened) = (*line, *opened);
+                finish_part(stage, &mut self.notes);
+                self.emitter = Emitter::Notes { line, opened };
+            }
+        }
+    }
+
+    /// Adds the events of the last point to `out`.
+    fn emit(&self, out: &mut Room<BodyEvent>)
+        requires { Fits out.old (length self.now.events) }
+        ensures { out.new ≡ extended_by out.old self.now.events }
+    {
+        match self.emitter {
+            Emitter::Nothing => {}
+            Emitter::Text => emit_text(self.texts.slice(), out),
+            Emitter::Notes { line, opened } => emit_notes(line, opened, self.notes.slice(), out),
+        }
+    }
+
+    /// Adds the events of the last point to what was gathered, and what is found among them to `found`.
+    pub(crate) fn gather(
+        &self,
+        alloc: Global,
+        gatherer: &mut Gatherer,
+        found: &mut Room<Finding>,
+    ) -> Result<(), AllocError>
+        requires { Fits found.old (length self.now.events) }
+        ensures gathered { OnOk result (gathered_of gatherer.new
+            ≡ with_all (gathered_of gatherer.old) self.now.events) }
+        ensures found { OnOk result (found.new ≡ with_found found.old self.now.events) }
+    {
+        match self.emitter {
+            Emitter::Nothing => Ok(()),
+            Emitter::Text => gather_text(self.texts.slice(), gatherer, found),
+            Emitter::Notes { line, opened } => {
+                gather_notes(alloc, line, opened, self.notes.slice(), gatherer, found)
             }
         }
     }
@@ -334,13 +394,8 @@ impl Stage for BodyStage {
         if self.over {
             return;
         }
-        if let BodyPart::Comment = self.part {
-            if x.c != '\n' {
-                return;
-            }
-            self.part = BodyPart::Text(TextStage::new(x.place));
-        }
-        self.push_part(x, out);
+        self.take(x);
+        self.emit(out);
     }
 
     #[tactic(auto, using(gabc_places::proofs::PushesAreOne::joined_silence))]
@@ -348,55 +403,17 @@ impl Stage for BodyStage {
         if self.over {
             return;
         }
-        self.over = true;
-        match &mut self.part {
-            BodyPart::Comment => out.push(BodyEvent::Text(TextEvent::Ended(TextEnd::Finished))),
-            BodyPart::Text(stage) => finish_text(stage, &mut self.texts, out),
-            BodyPart::Notes { opened, stage } => finish_notes(
-                stage,
-                0,
-                *opened,
-                &mut self.notes,
-                out,
-            ),
-            BodyPart::Nabc {
-                line,
-                opened,
-                stage,
-            } => finish_notes(stage, *line, *opened, &mut self.notes, out),
-        }
+        self.close();
+        self.emit(out);
     }
 }
 
-/// Ends a text, and tells what that emitted.
-fn finish_text(stage: &mut TextStage, events: &mut Room<TextEvent>, out: &mut Room<BodyEvent>)
-    requires events { 8 ≤ events.old.limit }
-    requires out { Fits out.old 8 }
+/// Ends a text or a snippet, whose last events are then in its room.
+fn finish_part<S: Stage<Input = Char>>(stage: &mut S, events: &mut Room<S::Output>)
+    requires { S.most_of stage.old ≤ events.old.limit }
     ensures events { events.new.limit ≡ events.old.limit }
-    ensures finishes { FinishesPart (λ xs. text_rest stage.old (codes_of xs))
-        (λ o. of_text o) 8 out.old out.new }
+    ensures finishes { EmitsLast (S.rest stage.old) (S.most_of stage.old) events.new.items }
 {
     events.clear();
     stage.finish(events);
-    emit_text(events.slice(), out);
-}
-
-/// Ends a snippet of that line, and tells what that emitted.
-fn finish_notes<S: Stage<Input = Char, Output = NoteEvent>>(
-    stage: &mut S,
-    line: u8,
-    opened: Place,
-    events: &mut Room<NoteEvent>,
-    out: &mut Room<BodyEvent>,
-)
-    requires most { S.most_of stage.old ≡ 3 }
-    requires events { 3 ≤ events.old.limit }
-    requires out { Fits out.old 3 }
-    ensures events { events.new.limit ≡ events.old.limit }
-    ensures finishes { FinishesPart (S.rest stage.old)
-        (told_of_notes line opened) 3 out.old out.new }
-{
-    events.clear();
-    stage.finish(events);
-    emit_notes(line, opened, events.slice(), out);
 }

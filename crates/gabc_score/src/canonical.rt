@@ -1,62 +1,102 @@
-//! The length of a syllable's canonical text.
+//! The canonical text of a syllable.
 
-ghost use Rattle.std.specs.Prelude.{◌≡◌, ◌+◌, ◌-◌, ◌^◌, cond, min, length};
+ghost use Rattle.std.specs.Prelude.{◌≡◌, ◌-◌, ◌^◌, ◌++◌, [], ◌∷◌, codes, cond, min, length, string_bytes};
 ghost use Rattle.gabc_score.specs.Syllable.{unplaced_of};
-ghost use Rattle.gabc_score.specs.Canonical.{canonical};
-ghost use Rattle.gabc_score.specs.machine.Lengths.{span_length, translation_length, sliced_length};
+ghost use Rattle.gabc_score.specs.Canonical.{canonical, starts_word, translation_text, with_bars};
+ghost use Rattle.gabc_score.specs.machine.SyllableText.{snippets_behind_bars};
 
 use crate::snippets::Snippet;
 use crate::syllable::Syllable;
-use gabc_places::Span;
-use gabc_text::text_len;
+use gabc_places::{ByteCounter, Put};
+use gabc_text::write_text;
 
-/// How many bytes of a text of this length a span has.
-fn span_len(span: Span, len: usize) -> usize
-    ensures { result ≡ span_length span len }
+/// Puts the LF that a word begins with, if it `starts` one.
+fn put_start<S: Put>(starts: bool, out: &mut S)
+    ensures { out.new ≡ S.taken out.old (cond starts (10 ∷ []) []) }
 {
-    let room = len.saturating_sub(span.from);
-    span.to.saturating_sub(span.from).min(room)
-}
-
-/// How many bytes the translation of a text of this length has, with its brackets.
-fn translation_len(translation: Option<Span>, len: usize) -> usize
-    ensures { result ≡ min (translation_length translation len) (2 ^ 64 - 1) }
-{
-    match translation {
-        Some(span) => span_len(span, len).saturating_add(2),
-        None => 0,
+    if starts {
+        out.put(b"\n");
     }
 }
 
-/// How many bytes the snippets of a text of this length have together, without the marks between them.
-fn sliced_len(snippets: &[Snippet], len: usize) -> usize
-    ensures { result ≡ min (sliced_length len snippets.now) (2 ^ 64 - 1) }
+/// Puts the translation of `syllable` in its brackets, if there is one.
+fn put_translation<S: Put>(syllable: &Syllable, out: &mut S)
+    ensures { out.new
+        ≡ S.taken out.old (translation_text (string_bytes syllable.now.kept) syllable.now.text.translation) }
 {
-    let mut sum: usize = 0;
+    if let Some(span) = syllable.text.translation {
+        out.put(b"[");
+        out.put(syllable.slice(span));
+        out.put(b"]");
+    }
+}
+
+/// Puts `snippets` of `syllable`, each with a `|` before it.
+fn put_barred<S: Put>(syllable: &Syllable, snippets: &[Snippet], out: &mut S)
+    ensures { out.new
+        ≡ S.taken out.old (snippets_behind_bars (string_bytes syllable.now.kept) snippets.now) }
+{
     for snippet in snippets {
-        sum = sum.saturating_add(span_len(snippet.span, len));
+        out.put(b"|");
+        out.put(syllable.slice(snippet.span));
     }
-    sum
 }
 
-/// How many bytes the two brackets have, with the LF before a word.
-fn edges_len(starts: bool) -> usize
-    ensures { result ≡ 2 + cond starts 1 0 }
+/// Puts `snippets` of `syllable`, with a `|` between them.
+#[tactic(auto, using(crate::proofs::building::SnippetsWithBars::bars_behind_first))]
+fn put_snippets<S: Put>(syllable: &Syllable, snippets: &[Snippet], out: &mut S)
+    ensures { out.new
+        ≡ S.taken out.old (with_bars (string_bytes syllable.now.kept) snippets.now) }
 {
-    if starts { 3 } else { 2 }
+    if let Some((first, others)) = snippets.split_first() {
+        out.put(syllable.slice(first.span));
+        put_barred(syllable, others, out);
+    }
 }
 
-/// The number of bytes of a syllable's canonical text, where it begins a word or not; or the last value, if that is less.
+/// Puts the notes of `syllable` in their brackets.
+fn put_notes<S: Put>(syllable: &Syllable, out: &mut S)
+    ensures { out.new
+        ≡ S.taken out.old (codes "(" ++ (with_bars (string_bytes syllable.now.kept) syllable.now.snippets ++ codes ")")) }
+{
+    out.put(b"(");
+    put_snippets(syllable, syllable.snippets.as_slice(), out);
+    out.put(b")");
+}
+
+/// Puts the canonical text of `syllable`, if it `starts` a word or not: an LF before a word, the text, the translation, and the notes.
+pub(crate) fn put_syllable<S: Put>(syllable: &Syllable, starts: bool, out: &mut S)
+    ensures { out.new ≡ S.taken out.old (canonical starts (unplaced_of syllable.now)) }
+{
+    put_start(starts, out);
+    write_text(&syllable.text, syllable.kept.as_str(), out);
+    put_translation(syllable, out);
+    put_notes(syllable, out);
+}
+
+/// Returns the number of bytes of the canonical text of `syllable`, if it `starts` a word or not; it saturates at the last value
+/// of a `usize`.
 pub(crate) fn canonical_len(syllable: &Syllable, starts: bool) -> usize
     ensures { result ≡ min (length (canonical starts (unplaced_of syllable.now))) (2 ^ 64 - 1) }
 {
-    let kept = syllable.kept.as_str();
-    let snippets = syllable.snippets.as_slice();
-    let bars = snippets.len().saturating_sub(1);
-    let translation = translation_len(syllable.text.translation, kept.len());
-    let notes = sliced_len(snippets, kept.len()).saturating_add(bars);
-    text_len(&syllable.text, kept)
-        .saturating_add(translation)
-        .saturating_add(notes)
-        .saturating_add(edges_len(starts))
+    let mut counter = ByteCounter::new();
+    put_syllable(syllable, starts, &mut counter);
+    counter.count()
+}
+
+/// Puts the canonical text of `syllable`, as many bytes as `canon_len` tells: an LF before a word, the text, the translation, and
+/// the notes. A room without that many bytes left gets as many of them as fit.
+pub fn canon_syllable<S: Put>(syllable: &Syllable, out: &mut S)
+    ensures { out.new
+        ≡ S.taken out.old (canonical (starts_word syllable.now.position) (unplaced_of syllable.now)) }
+{
+    put_syllable(syllable, syllable.starts_word(), out);
+}
+
+/// Returns the number of bytes of the canonical text of `syllable`; it saturates at the last value of a `usize`.
+pub fn canon_len(syllable: &Syllable) -> usize
+    ensures { result ≡ min (length (canonical (starts_word syllable.now.position)
+        (unplaced_of syllable.now))) (2 ^ 64 - 1) }
+{
+    syllable.canonical_len()
 }

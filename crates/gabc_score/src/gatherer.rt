@@ -62,16 +62,6 @@ impl Gatherer {
         }
     }
 
-    /// Adds all that is emitted at a point.
-    pub(crate) fn add_all(&mut self, alloc: Global, events: &[BodyEvent]) -> Result<(), AllocError>
-        ensures { OnOk result (gathered_of self.new ≡ with_all (gathered_of self.old) events.now) }
-    {
-        for event in events {
-            self.add(alloc, *event)?;
-        }
-        Ok(())
-    }
-
     /// Which limit is passed, if one is: at one point the one with the lower number.
     pub(crate) fn code(&self, limits: Limits) -> Option<Code>
         ensures code { result ≡ code_in limits (gathered_of self.now) }
@@ -134,7 +124,8 @@ impl Gatherer {
         self.made.truncate(count);
     }
 
-    fn add_text(&mut self, out: TextEvent) -> Result<(), AllocError>
+    /// Adds what a text emits next.
+    pub(crate) fn add_text(&mut self, out: TextEvent) -> Result<(), AllocError>
         ensures { OnOk result (gathered_of self.new ≡ with_text (gathered_of self.old) out) }
     {
         match out {

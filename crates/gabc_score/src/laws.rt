@@ -1,7 +1,7 @@
 //! Laws of the definitions that contracts speak of. The functions do nothing, or call the laws below that they stand on: each is
 //! there for its clauses.
 
-ghost use Rattle.std.specs.Prelude.{◌≡◌, ◌≢◌, ◌+◌, ◌-◌, ◌<◌, ◌^◌, ℕ, List, [], ◌∷◌, ◌++◌, length, ◌⊎◌, encode_utf8_all, Some, None};
+ghost use Rattle.std.specs.Prelude.{◌≡◌, ◌≢◌, ◌+◌, ◌-◌, ◌<◌, ◌≤◌, ◌^◌, ℕ, List, [], ◌∷◌, ◌++◌, length, ◌⊎◌, encode_utf8_all, Some, None, true, IsUtf8};
 ghost use Rattle.std.specs.List.{All};
 ghost use Rattle.gabc_places.specs.Findings.{AreInOrder};
 ghost use Rattle.gabc_places.specs.Code.{severity_of};
@@ -17,13 +17,18 @@ ghost use Rattle.gabc_score.specs.Holding.{HoldsParts, HoldsWithNotes, lines_of}
 ghost use Rattle.gabc_headers.specs.Book.{nabc_lines_of};
 ghost use Rattle.gabc_score.specs.declared.ending.InputEnding.TheVariants.{Whole};
 ghost use Rattle.gabc_score.specs.Score.{score_of};
-ghost use Rattle.gabc_score.specs.SyllablesOfUnits.{unit_characters, score_units, units_within, whole_prefix, AreSyllablesOf, IsBodyCut, StandBeforeBodyStop};
+ghost use Rattle.gabc_score.specs.SyllablesOfUnits.{ScoreUnit, unit_characters, score_units, units_within, whole_prefix, AreSyllablesOf, IsBodyCut, StandBeforeBodyStop};
 ghost use Rattle.gabc_score.specs.Body.{events_to_stop, events_onto, code_at};
 ghost use Rattle.gabc_score.specs.Stops.{StopsAt, NeverStops};
 ghost use Rattle.gabc_score.specs.declared.events.BodyEvent.{BodyEvent};
 ghost use Rattle.gabc_score.specs.Events.{Texts, texts_by_definition, body_events};
 ghost use Rattle.gabc_score.specs.Marks.{AllEndAtTheirMarks};
 ghost use Rattle.gabc_score.specs.Units.{BodyCutting, IsCut, events_of_body_cutting};
+ghost use Rattle.gabc_score.specs.ScoreEvents.{ScoreOutput, score_outputs, head_events, outputs_of_text, findings_in, syllables_in, fault_in, has_end, is_whole, is_last};
+ghost use Rattle.gabc_headers.specs.declared.head_event.HeadEvent.{HeadEvent};
+ghost use Rattle.gabc_headers.specs.HeadEvents.{events_left, given_behind, reading};
+ghost use Rattle.gabc_places.specs.StageLaw.{concat_of};
+ghost use Rattle.std.specs.Str.{chars};
 
 /// Each body has one cutting into a comment, units and what stands behind the last `)`, however its texts are read.
 pub fn a_body_has_one_cutting()
@@ -47,10 +52,14 @@ pub fn a_body_emits_the_events_of_its_units()
         body_events lines macros xs ≡ events_of_body_cutting texts_by_definition lines macros cut }
 {}
 
-/// Each text of a body ends at a `(`, the last snippet of its notes at a `)`, and each other snippet at a `|`.
+/// Each text of a body ends at a `(`, the last snippet of its notes at a `)`, and each other snippet at a `|`. Without NABC lines
+/// no unit has more than one snippet.
 pub fn units_end_at_their_marks()
-    ensures { (lines macros : ℕ) (xs : List Char) (cut : BodyCutting) →
+    ensures marks { (lines macros : ℕ) (xs : List Char) (cut : BodyCutting) →
         IsCut texts_by_definition lines macros xs cut → AllEndAtTheirMarks cut.units }
+    ensures single { (macros : ℕ) (xs : List Char) (cut : BodyCutting) →
+        IsCut texts_by_definition 0 macros xs cut →
+        All (λ (u : ScoreUnit). length u.snippets ≤ 1) (score_units cut.units) }
 {
     gabc_text::laws::a_text_ends_once();
     gabc_notes::laws::a_snippet_ends_at_its_mark();
@@ -179,3 +188,31 @@ pub fn a_stopped_score_is_that_of_its_prefix()
     gabc_notes::laws::what_follows_emits_nothing();
     gabc_nabc::laws::what_follows_emits_nothing();
 }
+
+/// What a score emits, character by character, is what the score says: no finding and no syllable comes twice or is left out,
+/// the syllables have their positions, and a stop is the fault. The end is emitted where the input has ended and nothing
+/// stopped the reading. What a score is given is what a stage of headers gives of a text that has ended.
+pub fn a_score_says_what_it_emits()
+    ensures findings { (limits : Limits) (ending : InputEnding) (t : List ℕ) →
+        findings_in (outputs_of_text limits ending t) ≡ (score_of limits ending t).findings }
+    ensures syllables { (limits : Limits) (ending : InputEnding) (t : List ℕ) →
+        syllables_in (outputs_of_text limits ending t) ≡ (score_of limits ending t).syllables }
+    ensures fault { (limits : Limits) (ending : InputEnding) (t : List ℕ) →
+        fault_in (outputs_of_text limits ending t) ≡ (score_of limits ending t).fault }
+    ensures end { (limits : Limits) (ending : InputEnding) (t : List ℕ) →
+        has_end (outputs_of_text limits ending t)
+        ≡ is_whole ending (score_of limits ending t).fault }
+    ensures given { (limits : Limits) (bytes : List ℕ) → IsUtf8 bytes → let t = chars bytes in
+        head_events limits Whole t
+        ≡ concat_of (events_left limits (reading []) (given_behind [] t)) }
+{
+    gabc_headers::laws::events_make_the_headers();
+}
+
+/// Behind a stop or the end a score emits nothing, whatever it is given.
+pub fn nothing_follows_the_end()
+    ensures { (texts : Texts) (limits : Limits) (given : List HeadEvent)
+        (before behind : List ScoreOutput) (o : ScoreOutput)
+        → concat_of (score_outputs texts limits given) ≡ before ++ o ∷ behind
+        → is_last o ≡ true → behind ≡ [] }
+{}

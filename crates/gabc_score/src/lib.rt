@@ -24,6 +24,7 @@ mod ending;
 mod events;
 mod gatherer;
 pub mod laws;
+mod part_events;
 mod score;
 mod slice;
 mod snippets;
@@ -33,6 +34,7 @@ mod syllables;
 mod whole;
 
 pub use body_stage::BodyStage;
+pub use canonical::{canon_len, canon_syllable};
 pub use ending::InputEnding;
 pub use events::BodyEvent;
 pub use score::Score;

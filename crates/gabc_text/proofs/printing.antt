@@ -11,7 +11,7 @@ pub mod PrintedTextEndsBeforeNotes
 pub mod PrintedTextHasNoErrors
 pub mod PrintedTextIsKept
 pub mod PrintedTextIsReadAgain
-pub mod RoomsOfTwoTexts
+pub mod PrintedViewIsReadAgain
 pub mod TagsOfStyleSets
 pub mod TokensAreReadAgain
 pub mod TokensOfKeptText

@@ -6,7 +6,7 @@ use Rattle.gabc_text.specs.declared.stage.TextEnd.{TextEnd}
 use Rattle.gabc_text.specs.declared.stage.TextEnd.TheVariants as ending
 use Rattle.gabc_text.specs.declared.stage.TextEvent.{TextEvent}
 use Rattle.gabc_text.specs.declared.stage.TextEvent.TheVariants as out
-use Rattle.gabc_text.specs.Events.{events_by_point, no_events_each}
+use Rattle.gabc_text.specs.Events.{events_by_point, no_events_each, after_tokens}
 
 -- the ends among the events
 abbrev pub ends_in : List TextEvent → List TextEnd
@@ -19,8 +19,8 @@ abbrev pub Leaves : TextEnd → List ℕ → Type 0
 Leaves ending.Notes rest = rest ≡ 40 ∷ drop 1 rest
 Leaves _ rest = rest ≡ []
 
--- Behind the prefix of a text its end is emitted, as the last of what is emitted there. Nothing before it is an end, and for
--- the characters from there on nothing more is emitted.
+-- Behind the prefix of a text its end is emitted, as the last of what is emitted there: in front of what its tokens leave.
+-- Nothing before it is an end, and for the characters from there on nothing more is emitted.
 pub record EndsOnce (at : Place) (t : List ℕ) : Type 0 where
   pub prefix : List ℕ
   pub rest : List ℕ
@@ -28,6 +28,7 @@ pub record EndsOnce (at : Place) (t : List ℕ) : Type 0 where
   pub last : List TextEvent
   pub how : TextEnd
   pub text_is : t ≡ prefix ++ rest
+  pub rest_is : rest ≡ after_tokens t
   pub events_are : events_by_point at t ≡ before ++ (last ++ out.Ended how ∷ []) ∷ no_events_each rest
   pub one_each : length before ≡ length prefix
   pub none_before : ends_in (concat_of before) ≡ []

@@ -8,6 +8,7 @@ pub mod EventsLeft
 pub mod ExampleTexts
 pub mod FactsPast
 pub mod Printed
+pub mod PrintedView
 pub mod TextFacts
 pub mod TextRead
 pub mod TextStage

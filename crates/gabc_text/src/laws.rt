@@ -15,6 +15,7 @@ ghost use Rattle.gabc_text.specs.View.{kept, findings};
 ghost use Rattle.gabc_text.specs.TextRead.{view_in};
 ghost use Rattle.gabc_text.specs.ViewFacts.{StandsForView, StandsFor, view_facts, has_error};
 ghost use Rattle.gabc_text.specs.Printed.{print, text_tokens, translation_tokens, text_of_tokens};
+ghost use Rattle.gabc_text.specs.PrintedView.{printed_view};
 ghost use Rattle.gabc_text.specs.Canonical.{span_bytes, canonical_text};
 ghost use Rattle.gabc_places.specs.declared.place.Span.{Span};
 ghost use Rattle.gabc_text.specs.BuiltText.{with_events, empty_text, text_built_at, kept_in, found_in};
@@ -99,9 +100,13 @@ pub fn canonical_is_printed()
         ≡ encode_utf8_all (text_of_tokens (text_tokens (view_facts t))) }
 {}
 
-/// What is printed of a text is read again, before a `(` and whatever follows, as what was said, without
-/// an error. All of it is kept, the LF before a word as a blank.
-pub fn a_printed_text_is_read_again()
+/// What is printed of a view is the printed form of what its text says, whatever whole text the view's spans count the bytes
+/// of: that of the text alone, or of a syllable. In front of a `(`, and whatever follows, it is read again as the same view: it
+/// ends at that `(`, says the same, and has no error. All of it is kept, the LF before a word as a blank. What is printed of the
+/// view that is read again, is the same.
+pub fn view_again()
+    ensures printed { (whole t : List ℕ) → StandsForView whole (view_in t) t →
+        printed_view (view_in t) (encode_utf8_all whole) ≡ encode_utf8_all (print (view_facts t)) }
     ensures facts { (t rest : List ℕ) →
         view_facts (print (view_facts t) ++ 40 ∷ rest) ≡ view_facts t }
     ensures errors { (at : Place) (t rest : List ℕ) →
@@ -112,6 +117,11 @@ pub fn a_printed_text_is_read_again()
         kept (print (view_facts t) ++ 40 ∷ rest) ≡ cond (view_facts t).word_start (codes " ") []
         ++ text_of_tokens (text_tokens (view_facts t)
         ++ translation_tokens (view_facts t).translation) }
+    ensures same { (whole other t rest : List ℕ) → StandsForView whole (view_in t) t →
+        let again = print (view_facts t) ++ 40 ∷ rest in
+        StandsForView other (view_in again) again →
+        printed_view (view_in again) (encode_utf8_all other)
+        ≡ printed_view (view_in t) (encode_utf8_all whole) }
 {}
 
 /// The kept text of a text is read again as itself, and says the same.

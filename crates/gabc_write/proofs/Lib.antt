@@ -1,3 +1,4 @@
-pub mod HeaderBytes
-pub mod RoomsFilledInParts
-pub mod SnippetsWithBars
+pub mod DumpOfHeadersIsShort
+pub mod HeadersLineByLine
+pub mod plain
+pub mod reading_again

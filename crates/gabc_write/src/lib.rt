@@ -1,4 +1,5 @@
-//! What a run writes: canonical GABC and message lines, into rooms that the caller made. No call asks for memory.
+//! What a run writes: canonical GABC and message lines, and the first and last lines of a dump. Each call puts its text into a room
+//! that the caller made, or into a counter. No call asks for memory.
 //!
 //! The caller makes room for what the calls of lengths tell:
 //!
@@ -10,11 +11,12 @@
 //! ```
 #![tactic(auto)]
 
-mod both;
-mod header;
+mod dump;
+mod escape;
+pub mod laws;
 mod message;
-mod syllable;
 
-pub use header::canon_header;
+pub use dump::{dump_end, dump_header};
+pub use gabc_headers::canon_header;
+pub use gabc_score::{canon_len, canon_syllable};
 pub use message::{message_len, message_line};
-pub use syllable::{canon_len, canon_syllable};

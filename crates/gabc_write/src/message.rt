@@ -3,45 +3,67 @@
 ghost use Rattle.std.specs.Prelude.{◌≡◌, ◌++◌, ◌+◌, ◌≤◌, length, codes};
 ghost use Rattle.std.specs.Fmt.{decimal};
 ghost use Rattle.gabc_places.specs.Code.{name_of, text_of};
-ghost use Rattle.gabc_places.specs.BoundedList.{Fits, extended_by};
 ghost use Rattle.gabc_places.specs.Message.{place_text, code_text};
 ghost use Rattle.gabc_write.specs.Message.{line_of};
 
-use crate::both::add_both;
-use gabc_places::{Code, Place, Room};
+use gabc_places::{ByteCounter, Code, Place, Put};
 use itoa::Buffer;
 
-/// Returns the number of decimal digits of `number`.
-fn digits_len(number: u64) -> usize
-    ensures len { result ≡ length (decimal number) }
-    ensures short { result ≤ 20 }
+/// Puts `number` in decimal digits, and `behind`.
+fn put_number<S: Put>(number: u64, behind: &str, out: &mut S)
+    ensures put { out.new ≡ S.taken out.old (decimal number ++ behind.now) }
+    ensures short { length (decimal number) ≤ 20 }
 {
-    Buffer::new().format(number).len()
+    out.put(Buffer::new().format(number).as_bytes());
+    out.put(behind.as_bytes());
 }
 
-/// Appends `number` in decimal digits, and `behind`.
-fn add_number(number: u64, behind: &str, out: &mut Room<u8>)
-    requires { Fits out.old (length (decimal number ++ behind.now)) }
-    ensures { out.new ≡ extended_by out.old (decimal number ++ behind.now) }
+/// Puts `LINE:COLUMN: `.
+fn put_place<S: Put>(place: Place, out: &mut S)
+    ensures put { out.new ≡ S.taken out.old (place_text place ++ codes ": ") }
+    ensures short { length (place_text place) ≤ 41 }
 {
-    out.append(Buffer::new().format(number).as_bytes());
-    out.append(behind.as_bytes());
+    put_number(place.line, ":", out);
+    put_number(place.column, ": ", out);
 }
 
-/// Returns the number of bytes of the code's name.
-fn name_len(code: Code) -> usize
-    ensures len { result ≡ length (name_of code) }
-    ensures short { result ≤ 3 }
+/// Puts `text` and `behind`.
+fn put_both<S: Put>(text: &str, behind: &str, out: &mut S)
+    ensures { out.new ≡ S.taken out.old (text.now ++ behind.now) }
 {
-    code.name().len()
+    out.put(text.as_bytes());
+    out.put(behind.as_bytes());
 }
 
-/// Returns the number of bytes of what a message says of the code.
-fn text_len(code: Code) -> usize
-    ensures len { result ≡ length (text_of code) }
-    ensures short { result ≤ 64 }
+/// Puts `CODE: TEXT` and LF.
+fn put_code<S: Put>(code: Code, out: &mut S)
+    ensures put { out.new
+        ≡ S.taken out.old (name_of code ++ (codes ": " ++ (text_of code ++ codes "\n"))) }
+    ensures name { length (name_of code) ≤ 3 }
+    ensures text { length (text_of code) ≤ 64 }
 {
-    code.text().len()
+    put_both(code.name(), ": ", out);
+    put_both(code.text(), "\n", out);
+}
+
+/// Puts `KIND: CODE: TEXT` and LF.
+fn put_words<S: Put>(code: Code, out: &mut S)
+    ensures put { out.new ≡ S.taken out.old (code_text code ++ codes "\n") }
+    ensures short { length (code_text code) ≤ 78 }
+{
+    put_both(code.severity().as_str(), ": ", out);
+    put_code(code, out);
+}
+
+/// Puts the line that tells `code` at `place` of the input `name`: `NAME:LINE:COLUMN: KIND: CODE: TEXT` and LF, as many bytes as
+/// `message_len` tells. A room without that many bytes left gets as many of them as fit.
+pub fn message_line<S: Put>(name: &str, place: Place, code: Code, out: &mut S)
+    ensures put { out.new ≡ S.taken out.old (line_of name.now place code) }
+    ensures short { length (line_of name.now place code) ≤ length name.now + 128 }
+{
+    put_both(name, ":", out);
+    put_place(place, out);
+    put_words(code, out);
 }
 
 /// Returns the number of bytes of the line that tells `code` at `place` of the input `name`, with its LF. It is at most the
@@ -50,36 +72,7 @@ pub fn message_len(name: &str, place: Place, code: Code) -> usize
     ensures len { result ≡ length (line_of name.now place code) }
     ensures short { result ≤ length name.now + 128 }
 {
-    let numbers = digits_len(place.line) + digits_len(place.column);
-    let words = code.severity().as_str().len() + name_len(code) + text_len(code);
-    name.len() + numbers + words + 9
-}
-
-/// Appends `LINE:COLUMN: `.
-fn add_place(place: Place, out: &mut Room<u8>)
-    requires { Fits out.old (length (place_text place ++ codes ": ")) }
-    ensures { out.new ≡ extended_by out.old (place_text place ++ codes ": ") }
-{
-    add_number(place.line, ":", out);
-    add_number(place.column, ": ", out);
-}
-
-/// Appends `KIND: CODE: TEXT` and LF.
-fn add_words(code: Code, out: &mut Room<u8>)
-    requires { Fits out.old (length (code_text code ++ codes "\n")) }
-    ensures { out.new ≡ extended_by out.old (code_text code ++ codes "\n") }
-{
-    add_both(code.severity().as_str(), ": ", out);
-    add_both(code.name(), ": ", out);
-    add_both(code.text(), "\n", out);
-}
-
-/// Appends the line that tells `code` at `place` of the input `name`: `NAME:LINE:COLUMN: KIND: CODE: TEXT` and LF.
-pub fn message_line(name: &str, place: Place, code: Code, out: &mut Room<u8>)
-    requires { Fits out.old (length (line_of name.now place code)) }
-    ensures { out.new ≡ extended_by out.old (line_of name.now place code) }
-{
-    add_both(name, ":", out);
-    add_place(place, out);
-    add_words(code, out);
+    let mut counter = ByteCounter::new();
+    message_line(name, place, code, &mut counter);
+    counter.count()
 }

@@ -11,9 +11,9 @@ use Rattle.gabc_score.specs.Score.{score_of}
 use Rattle.gabc_places.specs.Text.{decoded_of}
 use Rattle.gregorio.specs.declared.source_bytes.SourceEnding.{SourceEnding}
 use Rattle.gregorio.specs.declared.source_bytes.SourceEnding.TheVariants.{Whole as Ended, Broken}
-use Rattle.gregorio.specs.declared.job.Job.{Job}
-use Rattle.gregorio.specs.declared.job.Status.{Status}
-use Rattle.gregorio.specs.declared.job.Status.TheVariants.{ReadFault}
+use Rattle.gregorio_jobs.specs.declared.job.Job.{Job}
+use Rattle.gregorio_jobs.specs.declared.job.Status.{Status}
+use Rattle.gregorio_jobs.specs.declared.job.Status.TheVariants.{ReadFault}
 use Rattle.gregorio.specs.declared.outcome.Outcome.{Outcome}
 use Rattle.gregorio.specs.Run.{Use, Done, Taken, SinkCut, Compiles}
 use Rattle.gregorio.specs.Outcome.{is_whole, ending_by, is_cut_short, outcome_of, output_of, messages_of, status_by, status_of, is_error_finding}

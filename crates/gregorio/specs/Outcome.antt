@@ -1,5 +1,5 @@
 -- What a run makes of its input, and what it writes: functions of the job, the limits, the bytes that the source gave and how it stopped.
-use Rattle.std.specs.Prelude.{ℕ, List, [], ◌++◌, Bool, true, false, ◌||◌, not, Option, Some, None, codes, encode_utf8_all, if◌then◌else◌}
+use Rattle.std.specs.Prelude.{ℕ, List, [], ◌++◌, Bool, true, false, ◌||◌, not, Option, Some, None, codes, if◌then◌else◌}
 use Rattle.std.specs.List.{flat_map, list_any}
 use Rattle.gabc_places.specs.declared.limits.Limits.{Limits}
 use Rattle.gabc_places.specs.declared.severity.Severity.{Severity}
@@ -8,20 +8,19 @@ use Rattle.gabc_places.specs.declared.code.Finding.{Finding}
 use Rattle.gabc_places.specs.declared.code.Fault.{Fault}
 use Rattle.gabc_places.specs.Code.{severity_of}
 use Rattle.gabc_places.specs.Text.{decoded_of}
-use Rattle.gabc_headers.specs.Canonical.{canonical_heads}
 use Rattle.gabc_score.specs.declared.ending.InputEnding as score
 use Rattle.gabc_score.specs.declared.ending.InputEnding.TheVariants as score_ending
 use Rattle.gabc_score.specs.Syllable.{PlacedSyllable}
-use Rattle.gabc_score.specs.Canonical.{canonical, starts_word}
 use Rattle.gabc_score.specs.Score.{score_of}
 use Rattle.gregorio.specs.declared.source_bytes.SourceEnding.{SourceEnding}
 use Rattle.gregorio.specs.declared.source_bytes.SourceEnding.TheVariants.{Whole as Ended, Broken}
-use Rattle.gregorio.specs.declared.job.Input.{Input}
-use Rattle.gregorio.specs.declared.job.Input.TheVariants.{Stdin, File}
-use Rattle.gregorio.specs.declared.job.Job.{Job}
-use Rattle.gregorio.specs.declared.job.Status.{Status}
-use Rattle.gregorio.specs.declared.job.Status.TheVariants.{Whole, Errors, Fatal as FatalFault, ReadFault}
+use Rattle.gregorio_jobs.specs.declared.job.Input.{Input}
+use Rattle.gregorio_jobs.specs.declared.job.Input.TheVariants.{Stdin, File}
+use Rattle.gregorio_jobs.specs.declared.job.Job.{Job}
+use Rattle.gregorio_jobs.specs.declared.job.Status.{Status}
+use Rattle.gregorio_jobs.specs.declared.job.Status.TheVariants.{Whole, Errors, Fatal as FatalFault, ReadFault}
 use Rattle.gregorio.specs.declared.outcome.Outcome.{Outcome}
+use Rattle.gabc_write.specs.CanonicalFile.{score_text}
 use Rattle.gabc_write.specs.Message.{line_of}
 
 -- ---- the outcome
@@ -48,14 +47,6 @@ outcome_of limits ending bytes =
     record { score = score; broken = is_cut_short ending score.fault }
 
 -- ---- what is written
-
--- the canonical texts of the syllables
-abbrev pub canonical_text_of : List PlacedSyllable → List ℕ
-canonical_text_of syllables = flat_map (λ (s : PlacedSyllable). canonical (starts_word s.position) s.made) syllables
-
--- the header lines, `%%`, the syllables and LF
-abbrev pub score_text : List (List ℕ × List ℕ) → List PlacedSyllable → List ℕ
-score_text book syllables = encode_utf8_all (canonical_heads book) ++ (canonical_text_of syllables ++ codes "\n")
 
 -- the canonical file; nothing, where the headers are not whole
 abbrev pub canonical_file : Option (List (List ℕ × List ℕ)) → List PlacedSyllable → List ℕ

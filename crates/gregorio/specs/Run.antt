@@ -4,9 +4,9 @@ use Rattle.std.specs.Io.KnownBytes.{Appends, Consumes, IsAtEnd, Keeps}
 use Rattle.gabc_places.specs.declared.limits.Limits.{Limits}
 use Rattle.gregorio.specs.declared.source_bytes.SourceEnding.{SourceEnding}
 use Rattle.gregorio.specs.declared.source_bytes.SourceEnding.TheVariants.{Whole}
-use Rattle.gregorio.specs.declared.job.Job.{Job}
-use Rattle.gregorio.specs.declared.job.Status.{Status}
-use Rattle.gregorio.specs.declared.job.Status.TheVariants.{NoMemory, WriteFault}
+use Rattle.gregorio_jobs.specs.declared.job.Job.{Job}
+use Rattle.gregorio_jobs.specs.declared.job.Status.{Status}
+use Rattle.gregorio_jobs.specs.declared.job.Status.TheVariants.{NoMemory, WriteFault}
 use Rattle.gregorio.specs.Outcome.{outcome_of, output_of, messages_of, status_of}
 use Rattle.gregorio.specs.SourceBytes.{ReadsSource, TakesSource}
 

@@ -1,5 +1,5 @@
-//! Reads the words of a command line. Reads a score of Gregorian chant in GABC, and writes it in
-//! canonical form.
+//! Reads a score of Gregorian chant in GABC, and writes it in canonical form. Gives on what `gregorio_jobs` has: words, plans, jobs
+//! and statuses.
 //!
 //! Any `Source` and any two `Sink`s serve; `FromReader` and `ToWriter` of `gabc_places` make them of readers and writers:
 //!
@@ -13,23 +13,13 @@
 //! ```
 #![tactic(auto)]
 
-mod arguments;
 mod canonical;
 mod findings;
-mod job;
-mod name;
 mod outcome;
 mod read_all;
-mod refusal;
 mod run;
 mod source_bytes;
-mod wanted;
-mod words;
 
-pub use job::{Format, Input, Job, Output, Plan, Status};
-pub use name::Name;
-pub use refusal::Refusal;
+pub use gregorio_jobs::{Format, Input, Job, Name, Output, Plan, Refusal, Status, Words, plan};
 pub use run::compile;
 pub use source_bytes::SourceEnding;
-pub use wanted::plan;
-pub use words::Words;

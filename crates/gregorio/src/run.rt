@@ -1,18 +1,18 @@
 //! A run from its source to its sinks.
 
 ghost use Rattle.std.specs.Prelude.{◌≡◌, ◌≢◌, ◌-◌, ◌^◌, ◌<◌, ◌⊎◌, [], IfOk};
-ghost use Rattle.gregorio.specs.declared.job.Status.TheVariants.{ReadFault, WriteFault};
+ghost use Rattle.gregorio_jobs.specs.declared.job.Status.TheVariants.{ReadFault, WriteFault};
 ghost use Rattle.gregorio.specs.Run.{Compiles, Use};
 ghost use Rattle.gregorio.specs.Outcome.{outcome_of as outcome_of_bytes, ending_by, is_cut_short as cut_short, canonical_file, messages_of};
 
-use crate::canonical::{add_file, file_len};
-use crate::findings::{add_messages, messages_len, status_of};
-use crate::job::{Job, Status};
+use crate::canonical::put_file;
+use crate::findings::{put_messages, status_of};
 use crate::outcome::Outcome;
 use crate::read_all::read_all;
 use crate::source_bytes::{SourceBytes, SourceEnding};
-use gabc_places::{Fault, Limits, Room, Sink, Source, send_all, text_of};
+use gabc_places::{ByteCounter, Fault, Limits, Put, Room, Sink, Source, send_all, text_of};
 use gabc_score::{Score, score_whole};
+use gregorio_jobs::{Job, Status};
 use std::alloc::{AllocError, Global};
 
 /// How a text ended: at the fault that stopped it, or else as the source did.
@@ -49,36 +49,46 @@ fn outcome_of(alloc: Global, source: &SourceBytes, limits: Limits) -> Result<Out
     Ok(Outcome { score, broken })
 }
 
-/// Room for so many bytes. No memory has as many as the largest number tells.
-fn room_for(alloc: Global, len: usize) -> Result<Room<u8>, AllocError>
-    ensures { IfOk result (λ room. (room ≡ record { items = []; limit = len }) ×
-        (len < 2 ^ 64 - 1)) }
+/// Returns an empty room for as many bytes as `counter` has taken. Where that has saturated there is no memory.
+fn room_for(alloc: Global, counter: &ByteCounter) -> Result<Room<u8>, AllocError>
+    ensures { IfOk result (λ room. (room ≡ record { items = []; limit = counter.now }) ×
+        (counter.now < 2 ^ 64 - 1)) }
 {
+    let len = counter.count();
     if len == usize::MAX {
         return Err(AllocError);
     }
     Room::with_limit(alloc, len)
 }
 
-/// The output of a run with this outcome.
+/// Puts the output of a run with this `score`: nothing, if its headers were not whole.
+fn put_output<S: Put>(score: &Score, out: &mut S)
+    ensures { out.new ≡ S.taken out.old (canonical_file score.now.book score.now.syllables) }
+{
+    if let Some(book) = &score.book {
+        put_file(book, score.syllables.as_slice(), out);
+    }
+}
+
+/// Returns the output of a run with this `score`.
 fn output_room(alloc: Global, score: &Score) -> Result<Room<u8>, AllocError>
     ensures { IfOk result (λ room. room.items ≡ canonical_file score.now.book score.now.syllables) }
 {
-    let Some(book) = &score.book else {
-        return room_for(alloc, 0);
-    };
-    let syllables = score.syllables.as_slice();
-    let mut room = room_for(alloc, file_len(book, syllables))?;
-    add_file(book, syllables, &mut room);
+    let mut counter = ByteCounter::new();
+    put_output(score, &mut counter);
+    let mut room = room_for(alloc, &counter)?;
+    put_output(score, &mut room);
     Ok(room)
 }
 
-/// The messages of a run with this outcome.
+/// Returns the messages of a run with this `outcome`.
 fn messages_room(alloc: Global, job: &Job, outcome: &Outcome) -> Result<Room<u8>, AllocError>
     ensures { IfOk result (λ room. room.items ≡ messages_of job.now outcome.now) }
 {
-    let mut room = room_for(alloc, messages_len(job, outcome))?;
-    add_messages(job, outcome, &mut room);
+    let mut counter = ByteCounter::new();
+    put_messages(job, outcome, &mut counter);
+    let mut room = room_for(alloc, &counter)?;
+    put_messages(job, outcome, &mut room);
     Ok(room)
 }
 

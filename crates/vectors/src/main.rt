@@ -60,6 +60,40 @@ fn agrees(alloc: Global, row: &Row) -> bool {
         && ran.status == row.status
 }
 
+/// Whether a run on this canonical form writes it again, with no error, under these limits.
+fn gives_itself(alloc: Global, canonical: &[u8], limits: Limits) -> bool {
+    let again = run(alloc, canonical, false, limits, false);
+    again.output.inner().as_slice() == canonical && again.status == 0
+}
+
+/// Whether the output of the row, where there is any, is read again as itself, and the output of that run too.
+fn is_kept(alloc: Global, row: &Row) -> bool {
+    let Some(limits) = Limits::new(row.header, row.syllable, row.input) else {
+        return false;
+    };
+    if row.output.is_empty() {
+        return true;
+    }
+    let again = run(alloc, row.output.as_slice(), false, limits, true);
+    again.output.inner().as_slice() == row.output.as_slice()
+        && gives_itself(alloc, again.output.inner().as_slice(), limits)
+}
+
+/// Whether the run on this line of a file gives what its row says. Tells where it does not.
+fn row_agrees(rt: &HostRuntime, path: &str, number: usize, line: &str) -> io::Result<bool> {
+    match row_of(rt.alloc(), line)? {
+        Some(row) if !agrees(rt.alloc(), &row) => {
+            println!(rt; "{path}: the run on line {number} differs")?;
+        }
+        Some(row) if !is_kept(rt.alloc(), &row) => {
+            println!(rt; "{path}: the output of line {number} is not read again as itself")?;
+        }
+        Some(_) => return Ok(true),
+        None => println!(rt; "{path}: line {number} is no row")?,
+    }
+    Ok(false)
+}
+
 /// Runs the rows of a file. The first line of the file is its head.
 fn check_rows(rt: &HostRuntime, path: &str) -> io::Result<()> {
     let text = fs::read_to_string(rt, path)?;
@@ -70,10 +104,8 @@ fn check_rows(rt: &HostRuntime, path: &str) -> io::Result<()> {
             continue;
         }
         rows = rows.saturating_add(1);
-        match row_of(rt.alloc(), line)? {
-            Some(row) if agrees(rt.alloc(), &row) => agreed = agreed.saturating_add(1),
-            Some(_) => println!(rt; "{path}: the run on line {number} differs")?,
-            None => println!(rt; "{path}: line {number} is no row")?,
+        if row_agrees(rt, path, number, line)? {
+            agreed = agreed.saturating_add(1);
         }
     }
     println!(rt; "{path}: {agreed} of {rows} rows agree")
@@ -85,19 +117,21 @@ fn read_file(rt: &HostRuntime, name: &str, ending: &str) -> io::Result<String> {
     fs::read_to_string(rt, path.as_str())
 }
 
+/// Whether a score gives this canonical form and these messages.
+fn gives(alloc: Global, score: &[u8], canonical: &[u8], messages: &[u8]) -> bool {
+    let ran = run(alloc, score, false, Limits::DEFAULT, true);
+    ran.output.inner().as_slice() == canonical && ran.messages.inner().as_slice() == messages
+}
+
 /// Whether a score gives its canonical form and its messages, and the canonical form itself.
 fn is_canonical(rt: &HostRuntime, name: &str) -> io::Result<bool> {
     let score = read_file(rt, name, "gabc")?;
     let canonical = read_file(rt, name, "canonical")?;
     let messages = read_file(rt, name, "messages")?;
-    let limits = Limits::DEFAULT;
-    let ran = run(rt.alloc(), score.as_bytes(), false, limits, true);
-    let again = run(rt.alloc(), canonical.as_bytes(), false, limits, false);
+    let (form, alloc) = (canonical.as_bytes(), rt.alloc());
     Ok(
-        ran.output.inner().as_slice() == canonical.as_bytes()
-            && ran.messages.inner().as_slice() == messages.as_bytes()
-            && again.output.inner().as_slice() == canonical.as_bytes()
-            && again.status == 0,
+        gives(alloc, score.as_bytes(), form, messages.as_bytes())
+            && gives_itself(alloc, form, Limits::DEFAULT),
     )
 }
 

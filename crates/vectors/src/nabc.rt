@@ -1,9 +1,10 @@
 //! Rows of NABC snippets.
 
-use crate::show::{show, show_findings, show_note_event, show_snippet_how, show_spelled};
+use crate::notes::{show_events, show_snippet};
+use crate::show::{show, show_spelled};
 use gabc_nabc::{
-    Descriptor, NabcStage, codes_into, descriptors_into, descriptors_whole, is_nabc, nabc_whole,
-    name_of,
+    Descriptor, GlyphCode, NabcStage, codes_into, descriptors_into, descriptors_whole, is_nabc,
+    nabc_whole, name_of,
 };
 use gabc_places::{Place, Room, Span, Stage, outputs_of};
 use std::alloc::{AllocError, Global};
@@ -11,11 +12,21 @@ use std::alloc::{AllocError, Global};
 /// Prints the kept text, the end and the findings of a snippet.
 fn answer_snippet(alloc: Global, input: &str, out: &mut String) -> Result<(), AllocError> {
     let read = nabc_whole(alloc, input, Place::START)?;
-    out.push_str(read.kept.as_str())?;
-    out.push('\t')?;
-    show_snippet_how(read.how, out)?;
-    out.push('\t')?;
-    show_findings(read.findings.as_slice(), out)
+    show_snippet(&read, out)
+}
+
+/// Prints the number of the parts of a snippet, and the parts.
+fn show_parts(kept: &str, parts: &[Descriptor], out: &mut String) -> Result<(), AllocError> {
+    show(&parts.len(), out)?;
+    for part in parts {
+        out.push_str(if part.space {
+            "\tspace "
+        } else {
+            "\tdescriptor "
+        })?;
+        show_spelled(kept, part.span, out)?;
+    }
+    Ok(())
 }
 
 /// Prints the number of the parts and the parts, which both calls have to give; or that the text is no NABC.
@@ -29,14 +40,18 @@ fn answer_descriptors(alloc: Global, input: &str, out: &mut String) -> Result<()
     if room.slice() != parts.as_slice() {
         return out.push_str("the calls differ");
     }
-    show(&parts.len(), out)?;
-    for part in parts.as_slice() {
-        out.push_str(if part.space {
-            "\tspace "
-        } else {
-            "\tdescriptor "
-        })?;
-        show_spelled(input, part.span, out)?;
+    show_parts(input, parts.as_slice(), out)
+}
+
+/// Prints the number of codes, and each code with its name.
+fn show_codes(codes: &[GlyphCode], out: &mut String) -> Result<(), AllocError> {
+    show(&codes.len(), out)?;
+    for code in codes {
+        out.push('\t')?;
+        out.push(code.first)?;
+        out.push(code.second)?;
+        out.push(' ')?;
+        out.push_str(code.name().unwrap_or("none"))?;
     }
     Ok(())
 }
@@ -54,27 +69,14 @@ fn answer_codes(
     let mut room = Room::with_limit(alloc, span.to - span.from)?;
     let space = false;
     codes_into(input, Descriptor { space, span }, &mut room);
-    show(&room.slice().len(), out)?;
-    for code in room.slice() {
-        out.push('\t')?;
-        out.push(code.first)?;
-        out.push(code.second)?;
-        out.push(' ')?;
-        out.push_str(code.name().unwrap_or("none"))?;
-    }
-    Ok(())
+    show_codes(room.slice(), out)
 }
 
 /// Prints how many events a stage gives for a character at most, and those that it gives of the snippet.
 fn answer_events(alloc: Global, input: &str, out: &mut String) -> Result<(), AllocError> {
     let mut stage = NabcStage::new();
-    show(&stage.most(), out)?;
     let events = outputs_of(alloc, &mut stage, input, Place::START)?;
-    for event in events.as_slice() {
-        out.push('\t')?;
-        show_note_event(*event, out)?;
-    }
-    Ok(())
+    show_events(stage.most(), events.as_slice(), out)
 }
 
 /// Returns the span of a column `FROM-TO`.

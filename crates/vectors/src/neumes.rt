@@ -3,7 +3,7 @@
 ghost use Rattle.gabc_neumes.specs.Elements.{AreWithin};
 
 use crate::show::{show, show_span};
-use gabc_neumes::{cut, elements, kind_of, laws, notes_into, segments};
+use gabc_neumes::{Glyph, cut, elements, kind_of, laws, notes_into, segments};
 use gabc_notes::{Item, Note, is_snippet, items_whole};
 use gabc_places::{Room, Span};
 use std::alloc::{AllocError, Global};
@@ -26,11 +26,9 @@ fn show_kind(notes: &[Note], out: &mut String) -> Result<(), AllocError> {
     }
 }
 
-/// Prints the glyphs of a segment with these notes: `KIND COUNT` of each, split by `, `.
-fn show_glyphs(alloc: Global, notes: &[Note], out: &mut String) -> Result<(), AllocError> {
-    let mut glyphs = Room::with_limit(alloc, notes.len())?;
-    cut(notes, &mut glyphs);
-    for glyph in glyphs.slice() {
+/// Prints glyphs: `KIND COUNT` of each, split by `, `.
+fn show_cut(glyphs: &[Glyph], out: &mut String) -> Result<(), AllocError> {
+    for glyph in glyphs {
         if glyph.first > 0 {
             out.push_str(", ")?;
         }
@@ -39,6 +37,27 @@ fn show_glyphs(alloc: Global, notes: &[Note], out: &mut String) -> Result<(), Al
         show(&glyph.count, out)?;
     }
     Ok(())
+}
+
+/// Prints the glyphs of a segment with these notes.
+fn show_glyphs(alloc: Global, notes: &[Note], out: &mut String) -> Result<(), AllocError> {
+    let mut glyphs = Room::with_limit(alloc, notes.len())?;
+    cut(notes, &mut glyphs);
+    show_cut(glyphs.slice(), out)
+}
+
+/// Prints the glyphs of the segment that has these items.
+fn show_segment(
+    alloc: Global,
+    kept: &str,
+    part: &[Item],
+    out: &mut String,
+) -> Result<(), AllocError>
+    requires { AreWithin kept.now part.now }
+{
+    let mut notes = Room::with_limit(alloc, part.len())?;
+    notes_into(kept, part, &mut notes);
+    show_glyphs(alloc, notes.slice(), out)
 }
 
 /// Prints the number of the segments, and the glyphs of each.
@@ -55,9 +74,7 @@ fn show_segments(
     for span in spans {
         out.push('\t')?;
         if let Some(part) = items.get(span.from..span.to) {
-            let mut notes = Room::with_limit(alloc, part.len())?;
-            notes_into(kept, part, &mut notes);
-            show_glyphs(alloc, notes.slice(), out)?;
+            show_segment(alloc, kept, part, out)?;
         }
     }
     Ok(())

@@ -4,10 +4,23 @@ use crate::show::{
     show, show_debug, show_findings, show_note_event, show_snippet_how, show_span, show_spelled,
 };
 use gabc_notes::{
-    Item, ItemKind, NoteStage, is_snippet, items_into, items_whole, note_of, snippet_whole,
+    Item, ItemKind, NoteEvent, NoteStage, SnippetRead, is_snippet, items_into, items_whole,
+    note_of, snippet_whole,
 };
 use gabc_places::{Place, Room, Span, Stage, outputs_of};
 use std::alloc::{AllocError, Global};
+
+/// Prints the number of the items of a snippet, and the items.
+fn show_items(kept: &str, items: &[Item], out: &mut String) -> Result<(), AllocError> {
+    show(&items.len(), out)?;
+    for item in items {
+        out.push('\t')?;
+        show_debug(&item.kind, out)?;
+        out.push(' ')?;
+        show_spelled(kept, item.span, out)?;
+    }
+    Ok(())
+}
 
 /// Prints the number of the items and the items, which both calls have to give; or that the text is no snippet.
 fn answer_items(alloc: Global, input: &str, out: &mut String) -> Result<(), AllocError> {
@@ -20,14 +33,7 @@ fn answer_items(alloc: Global, input: &str, out: &mut String) -> Result<(), Allo
     if room.slice() != items.as_slice() {
         return out.push_str("the calls differ");
     }
-    show(&items.len(), out)?;
-    for item in items.as_slice() {
-        out.push('\t')?;
-        show_debug(&item.kind, out)?;
-        out.push(' ')?;
-        show_spelled(input, item.span, out)?;
-    }
-    Ok(())
+    show_items(input, items.as_slice(), out)
 }
 
 /// Prints the note of an item of this kind that is the whole text: its height, shape, whether it is initio debilis, and its span.
@@ -54,6 +60,15 @@ fn answer_note(kind: ItemKind, input: &str, out: &mut String) -> Result<(), Allo
 }
 
 /// Prints the kept text, the end and the findings of a snippet.
+pub(crate) fn show_snippet(read: &SnippetRead, out: &mut String) -> Result<(), AllocError> {
+    out.push_str(read.kept.as_str())?;
+    out.push('\t')?;
+    show_snippet_how(read.how, out)?;
+    out.push('\t')?;
+    show_findings(read.findings.as_slice(), out)
+}
+
+/// Prints the kept text, the end and the findings of a snippet.
 fn answer_snippet(
     alloc: Global,
     split: bool,
@@ -62,11 +77,21 @@ fn answer_snippet(
     out: &mut String,
 ) -> Result<(), AllocError> {
     let read = snippet_whole(alloc, input, Place::START, split, macros)?;
-    out.push_str(read.kept.as_str())?;
-    out.push('\t')?;
-    show_snippet_how(read.how, out)?;
-    out.push('\t')?;
-    show_findings(read.findings.as_slice(), out)
+    show_snippet(&read, out)
+}
+
+/// Prints how many events a stage gives for a character at most, and these events.
+pub(crate) fn show_events(
+    most: usize,
+    events: &[NoteEvent],
+    out: &mut String,
+) -> Result<(), AllocError> {
+    show(&most, out)?;
+    for event in events {
+        out.push('\t')?;
+        show_note_event(*event, out)?;
+    }
+    Ok(())
 }
 
 /// Prints how many events a stage gives for a character at most, and those that it gives of the snippet.
@@ -78,13 +103,8 @@ fn answer_events(
     out: &mut String,
 ) -> Result<(), AllocError> {
     let mut stage = NoteStage::new(split, macros);
-    show(&stage.most(), out)?;
     let events = outputs_of(alloc, &mut stage, input, Place::START)?;
-    for event in events.as_slice() {
-        out.push('\t')?;
-        show_note_event(*event, out)?;
-    }
-    Ok(())
+    show_events(stage.most(), events.as_slice(), out)
 }
 
 /// Prints the answer of a call on a snippet, and returns whether there is such a call.

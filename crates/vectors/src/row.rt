@@ -75,6 +75,37 @@ pub(crate) fn limits_of(column: &str) -> Option<(u32, u32, u32)> {
     Some((header, syllable, input))
 }
 
+/// Whether a run has the option `-W`, its three limits in bytes, and whether its source fails.
+#[derive(Clone, Copy)]
+struct Settings {
+    all_warnings: bool,
+    limits: (u32, u32, u32),
+    broken: bool,
+    status: u8,
+}
+
+/// The row with these settings and these three columns of bytes.
+fn row_with(
+    alloc: Global,
+    settings: Settings,
+    bytes: &str,
+    output: &str,
+    messages: &str,
+) -> Result<Row, AllocError> {
+    let (header, syllable, input) = settings.limits;
+    Ok(Row {
+        all_warnings: settings.all_warnings,
+        header,
+        syllable,
+        input,
+        broken: settings.broken,
+        bytes: unescaped(alloc, bytes)?,
+        output: unescaped(alloc, output)?,
+        messages: unescaped(alloc, messages)?,
+        status: settings.status,
+    })
+}
+
 /// The row of a line: options, limits, ending, input, output, messages and status, split by tabs.
 pub(crate) fn row_of(alloc: Global, line: &str) -> Result<Option<Row>, AllocError> {
     let mut columns = line.split('\t');
@@ -93,19 +124,14 @@ pub(crate) fn row_of(alloc: Global, line: &str) -> Result<Option<Row>, AllocErro
     ) else {
         return Ok(None);
     };
-    let (Some((header, syllable, input)), Ok(status)) = (limits_of(limits), status.parse::<u8>())
-    else {
+    let (Some(limits), Ok(status)) = (limits_of(limits), status.parse::<u8>()) else {
         return Ok(None);
     };
-    Ok(Some(Row {
+    let settings = Settings {
         all_warnings: options.ends_with("-W"),
-        header,
-        syllable,
-        input,
+        limits,
         broken: ending == "broken",
-        bytes: unescaped(alloc, bytes)?,
-        output: unescaped(alloc, output)?,
-        messages: unescaped(alloc, messages)?,
         status,
-    }))
+    };
+    Ok(Some(row_with(alloc, settings, bytes, output, messages)?))
 }

@@ -113,16 +113,21 @@ fn show_body_event(event: BodyEvent, out: &mut String) -> Result<(), AllocError>
     }
 }
 
-/// Prints how many events a stage gives for a character at most, and those that it gives of the body.
-fn answer_body(alloc: Global, input: &str, out: &mut String) -> Result<(), AllocError> {
-    let mut stage = BodyStage::new(alloc, 0, 0)?;
-    show(&stage.most(), out)?;
-    let events = outputs_of(alloc, &mut stage, input, Place::START)?;
-    for event in events.as_slice() {
+/// Prints how many events a stage gives for a character at most, and these events.
+fn show_events(most: usize, events: &[BodyEvent], out: &mut String) -> Result<(), AllocError> {
+    show(&most, out)?;
+    for event in events {
         out.push('\t')?;
         show_body_event(*event, out)?;
     }
     Ok(())
+}
+
+/// Prints how many events a stage gives for a character at most, and those that it gives of the body.
+fn answer_body(alloc: Global, input: &str, out: &mut String) -> Result<(), AllocError> {
+    let mut stage = BodyStage::new(alloc, 0, 0)?;
+    let events = outputs_of(alloc, &mut stage, input, Place::START)?;
+    show_events(stage.most(), events.as_slice(), out)
 }
 
 /// Prints the answer of a call that needs no limits, and returns whether there is such a call.

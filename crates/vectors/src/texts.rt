@@ -3,31 +3,47 @@
 use crate::show::{
     show, show_bytes, show_char, show_findings, show_how, show_piece, show_span, show_text_event,
 };
-use gabc_places::{Place, Room, Span, Stage, outputs_of};
-use gabc_text::{TextStage, kept_chars, text_len, text_whole, write_text};
+use gabc_places::{Char, Finding, Place, Room, Span, Stage, outputs_of};
+use gabc_text::{
+    TextEnding, TextEvent, TextStage, TextView, kept_chars, text_len, text_whole, write_text,
+};
 use std::alloc::{AllocError, Global};
 
-/// Prints the kept text and the canonical text.
-fn answer_text(alloc: Global, input: &str, out: &mut String) -> Result<(), AllocError> {
-    let read = text_whole(alloc, input, Place::START)?;
-    let kept = read.kept.as_str();
-    let len = text_len(&read.view, kept);
+/// Prints the kept text and the canonical text of a view.
+fn show_texts(
+    alloc: Global,
+    view: &TextView,
+    kept: &str,
+    out: &mut String,
+) -> Result<(), AllocError> {
+    let len = text_len(view, kept);
     if len == usize::MAX {
         return Err(AllocError);
     }
     let mut room = Room::with_limit(alloc, len)?;
-    write_text(&read.view, kept, &mut room);
+    write_text(view, kept, &mut room);
     out.push_str(kept)?;
     out.push('\t')?;
     show_bytes(room.slice(), out)
 }
 
+/// Prints the kept text and the canonical text.
+fn answer_text(alloc: Global, input: &str, out: &mut String) -> Result<(), AllocError> {
+    let read = text_whole(alloc, input, Place::START)?;
+    show_texts(alloc, &read.view, read.kept.as_str(), out)
+}
+
+/// Prints how a text ends, and the findings.
+fn show_end(how: TextEnding, findings: &[Finding], out: &mut String) -> Result<(), AllocError> {
+    show_how(how, out)?;
+    out.push('\t')?;
+    show_findings(findings, out)
+}
+
 /// Prints how the text ends, and the findings.
 fn answer_end(alloc: Global, input: &str, out: &mut String) -> Result<(), AllocError> {
     let read = text_whole(alloc, input, Place::START)?;
-    show_how(read.how, out)?;
-    out.push('\t')?;
-    show_findings(read.findings.as_slice(), out)
+    show_end(read.how, read.findings.as_slice(), out)
 }
 
 /// Prints a span by its name, or that there is none.
@@ -45,9 +61,8 @@ fn show_part(name: &str, span: Option<Span>, out: &mut String) -> Result<(), All
     }
 }
 
-/// Prints whether the text begins a word, the centre, the translation and the pieces.
-fn answer_pieces(alloc: Global, input: &str, out: &mut String) -> Result<(), AllocError> {
-    let view = text_whole(alloc, input, Place::START)?.view;
+/// Prints whether a text begins a word, the centre, the translation and the pieces.
+fn show_view(view: &TextView, out: &mut String) -> Result<(), AllocError> {
     out.push_str(if view.word_start {
         "word\t"
     } else {
@@ -63,14 +78,34 @@ fn answer_pieces(alloc: Global, input: &str, out: &mut String) -> Result<(), All
     Ok(())
 }
 
+/// Prints the view of the text.
+fn answer_pieces(alloc: Global, input: &str, out: &mut String) -> Result<(), AllocError> {
+    let read = text_whole(alloc, input, Place::START)?;
+    show_view(&read.view, out)
+}
+
+/// Prints how many events a stage gives for a character at most, and these events.
+fn show_events(most: usize, events: &[TextEvent], out: &mut String) -> Result<(), AllocError> {
+    show(&most, out)?;
+    for event in events {
+        out.push('\t')?;
+        show_text_event(*event, out)?;
+    }
+    Ok(())
+}
+
 /// Prints how many events a stage gives for a character at most, and those that it gives of the text.
 fn answer_events(alloc: Global, input: &str, out: &mut String) -> Result<(), AllocError> {
     let mut stage = TextStage::new(Place::START);
-    show(&stage.most(), out)?;
     let events = outputs_of(alloc, &mut stage, input, Place::START)?;
-    for event in events.as_slice() {
-        out.push('\t')?;
-        show_text_event(*event, out)?;
+    show_events(stage.most(), events.as_slice(), out)
+}
+
+/// Prints characters, with their places.
+fn show_chars(chars: &[Char], out: &mut String) -> Result<(), AllocError> {
+    for (index, x) in chars.iter().enumerate() {
+        out.push_str(if index == 0 { "" } else { "\t" })?;
+        show_char(*x, out)?;
     }
     Ok(())
 }
@@ -78,11 +113,7 @@ fn answer_events(alloc: Global, input: &str, out: &mut String) -> Result<(), All
 /// Prints the characters that are kept, with their places.
 fn answer_kept_chars(alloc: Global, input: &str, out: &mut String) -> Result<(), AllocError> {
     let kept = kept_chars(alloc, input, Place::START)?;
-    for (index, x) in kept.as_slice().iter().enumerate() {
-        out.push_str(if index == 0 { "" } else { "\t" })?;
-        show_char(*x, out)?;
-    }
-    Ok(())
+    show_chars(kept.as_slice(), out)
 }
 
 /// Prints the answer of a call on a text, and returns whether there is such a call.

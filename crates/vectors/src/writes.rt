@@ -1,7 +1,7 @@
 //! Rows of what the writers add.
 
 use crate::show::{show, show_bytes};
-use gabc_headers::headers_whole;
+use gabc_headers::{HeaderBook, headers_whole};
 use gabc_places::{Code, Limits, Place, Room, Text};
 use gabc_score::{InputEnding, Syllable, score_whole};
 use gabc_write::{canon_header, canon_len, canon_syllable, message_len, message_line};
@@ -23,6 +23,19 @@ pub(crate) fn answer_message(
     show_bytes(room.slice(), out)
 }
 
+/// Prints the bytes of the canonical headers of a book, and these.
+fn show_header(alloc: Global, book: &HeaderBook, out: &mut String) -> Result<(), AllocError> {
+    let len = book.canonical_len();
+    if len == usize::MAX {
+        return Err(AllocError);
+    }
+    let mut room = Room::with_limit(alloc, len)?;
+    canon_header(book, &mut room);
+    show(&len, out)?;
+    out.push('\t')?;
+    show_bytes(room.slice(), out)
+}
+
 /// Prints the bytes of the canonical headers of a text, and these; or that there are none.
 fn answer_header(
     alloc: Global,
@@ -31,18 +44,10 @@ fn answer_header(
     out: &mut String,
 ) -> Result<(), AllocError> {
     let text = Text::from_str(alloc, input)?;
-    let Ok(heads) = headers_whole(alloc, &text, limits)? else {
-        return out.push_str("no headers");
-    };
-    let len = heads.book.canonical_len();
-    if len == usize::MAX {
-        return Err(AllocError);
+    match headers_whole(alloc, &text, limits)? {
+        Ok(heads) => show_header(alloc, &heads.book, out),
+        Err(_) => out.push_str("no headers"),
     }
-    let mut room = Room::with_limit(alloc, len)?;
-    canon_header(&heads.book, &mut room);
-    show(&len, out)?;
-    out.push('\t')?;
-    show_bytes(room.slice(), out)
 }
 
 /// Prints the bytes of the canonical text of a syllable, and this text.
@@ -59,6 +64,19 @@ fn show_syllable(alloc: Global, syllable: &Syllable, out: &mut String) -> Result
     show_bytes(room.slice(), out)
 }
 
+/// Prints the number of syllables, and their canonical texts.
+fn show_syllables(
+    alloc: Global,
+    syllables: &[Syllable],
+    out: &mut String,
+) -> Result<(), AllocError> {
+    show(&syllables.len(), out)?;
+    for syllable in syllables {
+        show_syllable(alloc, syllable, out)?;
+    }
+    Ok(())
+}
+
 /// Prints the number of syllables of a score, and their canonical texts.
 fn answer_syllables(
     alloc: Global,
@@ -68,11 +86,7 @@ fn answer_syllables(
 ) -> Result<(), AllocError> {
     let text = Text::from_str(alloc, input)?;
     let score = score_whole(alloc, &text, InputEnding::Whole, limits)?;
-    show(&score.syllables.len(), out)?;
-    for syllable in score.syllables.as_slice() {
-        show_syllable(alloc, syllable, out)?;
-    }
-    Ok(())
+    show_syllables(alloc, score.syllables.as_slice(), out)
 }
 
 /// Prints the answer of a call with these limits, and returns whether there is such a call.

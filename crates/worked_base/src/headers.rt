@@ -1,7 +1,7 @@
 //! Headers of whole texts, and each method of their book.
 
-use gabc_headers::{HeadFault, Heads, headers_whole, laws, wants_own_lines};
-use gabc_places::{Code, Finding, Limits, Place, Text};
+use gabc_headers::{HeadFault, HeaderBook, Heads, headers_whole, laws, wants_own_lines};
+use gabc_places::{Code, Fault, Finding, Limits, Place, Text};
 use std::alloc::Global;
 use std::test::Fail;
 
@@ -123,17 +123,40 @@ fn has_findings(heads: &Heads, found: &[(Code, u64, u64)]) -> bool {
     true
 }
 
+/// Returns whether a text has this book, this byte of its score, and these findings.
+fn is_read(rt: &HostRuntime, row: Row) -> Result<bool, Fail> {
+    let (text, book, body, found) = row;
+    Ok(match read(rt, text, 64, 1000)? {
+        Ok(heads) => heads.body == body && has_headers(&heads, book) && has_findings(&heads, found),
+        Err(_) => false,
+    })
+}
+
 #[test]
 fn reads_books(rt: HostRuntime) -> Result<(), Fail> {
-    for (text, book, body, found) in BOOKS {
-        let Ok(heads) = read(&rt, text, 64, 1000)? else {
-            return Err("a fault".into());
-        };
-        assert_eq!(rt; heads.body, body, "{text}");
-        assert!(rt; has_headers(&heads, book), "{text}");
-        assert!(rt; has_findings(&heads, found), "{text}");
+    for row in BOOKS {
+        assert!(rt; is_read(&rt, row)?, "{}", row.0);
     }
     Ok(())
+}
+
+/// Returns whether a text stops with this fault, there or at its end, behind so many findings.
+fn stops(
+    rt: &HostRuntime,
+    text: &str,
+    fault: (Code, u64, u64),
+    at_end: bool,
+    found: usize,
+) -> Result<bool, Fail> {
+    let Finding { place, code } = finding(fault);
+    Ok(match read(rt, text, 64, 64)? {
+        Ok(_) => false,
+        Err(stopped) => {
+            stopped.fault == Fault { place, code }
+                && stopped.at_end == at_end
+                && stopped.findings.as_slice().len() == found
+        }
+    })
 }
 
 #[test]
@@ -147,14 +170,7 @@ fn reads_faults(rt: HostRuntime) -> Result<(), Fail> {
         ("a:b\n;", (Code::F3, 1, 1), true, 0),
         ("a:b;", (Code::F2, 1, 5), true, 0),
     ] {
-        let Err(stopped) = read(&rt, text, 64, 64)? else {
-            return Err("no fault".into());
-        };
-        let place = finding(fault).place;
-        assert_eq!(rt; stopped.fault.place, place, "{text}");
-        assert_eq!(rt; stopped.fault.code, fault.0, "{text}");
-        assert_eq!(rt; stopped.at_end, at_end, "{text}");
-        assert_eq!(rt; stopped.findings.as_slice().len(), found, "{text}");
+        assert!(rt; stops(&rt, text, fault, at_end, found)?, "{text}");
     }
     Ok(())
 }
@@ -169,6 +185,19 @@ fn with_letters(rt: &HostRuntime, prefix: &str, letters: u32) -> Result<String, 
     Ok(text)
 }
 
+/// Returns the code, line and column of the fault of a text under these limits.
+fn stop_of(
+    rt: &HostRuntime,
+    text: &str,
+    header: u32,
+    input: u32,
+) -> Result<Option<(Code, u64, u64)>, Fail> {
+    Ok(match read(rt, text, header, input)? {
+        Ok(_) => None,
+        Err(HeadFault { fault, .. }) => Some((fault.code, fault.place.line, fault.place.column)),
+    })
+}
+
 #[test]
 fn keeps_to_the_limits(rt: HostRuntime) -> Result<(), Fail> {
     for (prefix, letters, header, input, fault) in [
@@ -178,17 +207,8 @@ fn keeps_to_the_limits(rt: HostRuntime) -> Result<(), Fail> {
         ("name:", 55, 64, 64, Some((Code::F7, 2, 1))),
     ] {
         let text = with_letters(&rt, prefix, letters)?;
-        match read(&rt, text.as_str(), header, input)? {
-            Ok(heads) => {
-                assert_eq!(rt; None, fault, "{text}");
-                assert_eq!(rt; heads.book.canonical_len(), 66);
-            }
-            Err(stopped) => {
-                let place = stopped.fault.place;
-                let code = stopped.fault.code;
-                assert_eq!(rt; Some((code, place.line, place.column)), fault, "{text}");
-            }
-        }
+        let stop = stop_of(&rt, text.as_str(), header, input)?;
+        assert_eq!(rt; stop, fault, "{text}");
     }
     Ok(())
 }
@@ -204,33 +224,30 @@ fn holds_a_percent_at_the_limit(rt: HostRuntime) -> Result<(), Fail> {
         ("%%", None),
     ] {
         let text = format!(in rt.alloc(); "{full}{more}")?;
-        let stop = match read(&rt, &text, 64, 1000)? {
-            Ok(_) => None,
-            Err(stopped) => Some(stopped.fault),
-        };
-        assert_eq!(rt;
-            stop.map(|found| (found.code, found.place.line, found.place.column)),
-            fault,
-            "{text}"
-        );
+        assert_eq!(rt; stop_of(&rt, &text, 64, 1000)?, fault, "{text}");
     }
     Ok(())
+}
+
+/// Returns whether each method answers what the text of `looks_into_books` says.
+fn is_looked_into(book: &HeaderBook) -> bool {
+    !book.is_empty()
+        && book.get("name") == Some("A")
+        && book.get("initial").is_none()
+        && book.nabc_lines() == 1
+        && book.is_macro(3)
+        && !book.is_macro(4)
+        && book.canonical_len() == 9 + 16 + 15 + 9 + 2
 }
 
 #[test]
 fn looks_into_books(rt: HostRuntime) -> Result<(), Fail> {
     let text = "name:A;\ndef-m3:[nv:x];\nnabc-lines:1;\nmode: 1;\n%%\n";
-    let Ok(heads) = read(&rt, text, 64, 1000)? else {
-        return Err("a fault".into());
+    let well = match read(&rt, text, 64, 1000)? {
+        Ok(heads) => is_looked_into(&heads.book),
+        Err(_) => false,
     };
-    let book = heads.book;
-    assert_eq!(rt; book.is_empty(), false);
-    assert_eq!(rt; book.get("name"), Some("A"));
-    assert_eq!(rt; book.get("initial").is_none(), true);
-    assert_eq!(rt; book.nabc_lines(), 1);
-    assert_eq!(rt; book.is_macro(3), true);
-    assert_eq!(rt; book.is_macro(4), false);
-    assert_eq!(rt; book.canonical_len(), 9 + 16 + 15 + 9 + 2);
+    assert!(rt; well);
     Ok(())
 }
 
@@ -256,5 +273,6 @@ fn laws_are_called() {
     laws::findings_in_order();
     laws::findings_lie_before_the_body();
     laws::the_body_follows_the_mark();
+    laws::book_again();
     laws::events_make_the_headers();
 }

@@ -1,6 +1,8 @@
-//! A room of bytes.
+//! A room of bytes, and a count of them.
 
-use gabc_places::Room;
+ghost use Rattle.std.specs.Prelude.{◌≡◌, ◌++◌};
+
+use gabc_places::{ByteCounter, Put, Room};
 use std::test::Fail;
 
 #[test]
@@ -15,5 +17,34 @@ fn has_room_for_its_limit(rt: HostRuntime) -> Result<(), Fail> {
     room.clear();
     assert_eq!(rt; room.left(), 3);
     assert!(rt; room.slice().is_empty());
+    Ok(())
+}
+
+/// Puts `bytes` two times.
+fn put_twice<S: Put>(bytes: &[u8], out: &mut S)
+    ensures { out.new ≡ S.taken out.old (bytes.now ++ bytes.now) }
+{
+    out.put(bytes);
+    out.put(bytes);
+}
+
+#[test]
+fn takes_the_bytes_that_fit(rt: HostRuntime) -> Result<(), Fail> {
+    let mut room = Room::with_limit(rt.alloc(), 5)?;
+    put_twice(&[1u8, 2], &mut room);
+    assert_eq!(rt; room.slice(), [1, 2, 1, 2].as_slice());
+    put_twice(&[3u8, 4], &mut room);
+    assert_eq!(rt; room.slice(), [1, 2, 1, 2, 3].as_slice());
+    Ok(())
+}
+
+#[test]
+fn counts_bytes(rt: HostRuntime) -> Result<(), Fail> {
+    let mut counter = ByteCounter::new();
+    assert_eq!(rt; counter.count(), 0);
+    put_twice(&[1u8, 2, 3], &mut counter);
+    counter.put(&[]);
+    counter.put(&[4]);
+    assert_eq!(rt; counter.count(), 7);
     Ok(())
 }

@@ -39,6 +39,20 @@ fn read_bytewise(
     Ok((text, fault))
 }
 
+/// Returns whether the text and fault of an input are these, by one call and by a decoder.
+fn gives(
+    rt: &HostRuntime,
+    bytes: &[u8],
+    ended: bool,
+    text: &str,
+    fault: Option<Fault>,
+) -> Result<bool, Fail> {
+    let decoded = read(rt, bytes, ended, SMALL)?;
+    let (bytewise, found) = read_bytewise(rt, bytes, ended, SMALL)?;
+    let agrees = decoded.text.as_str() == text && bytewise.as_str() == text;
+    Ok(agrees && decoded.fault == fault && found == fault)
+}
+
 fn fault(code: Code, line: u64, column: u64) -> Option<Fault> {
     Some(Fault {
         place: Place { line, column },
@@ -78,12 +92,7 @@ fn reads_texts(rt: HostRuntime) -> Result<(), Fail> {
         ),
     ];
     for (bytes, ended, text, fault) in table {
-        let decoded = read(&rt, bytes, ended, SMALL)?;
-        assert_eq!(rt; decoded.text.as_str(), text, "of {bytes:?}");
-        assert_eq!(rt; decoded.fault, fault, "of {bytes:?}");
-        let (text, fault) = read_bytewise(&rt, bytes, ended, SMALL)?;
-        assert_eq!(rt; text.as_str(), decoded.text.as_str(), "of {bytes:?}");
-        assert_eq!(rt; fault, decoded.fault, "of {bytes:?}");
+        assert!(rt; gives(&rt, bytes, ended, text, fault)?, "of {bytes:?}");
     }
     Ok(())
 }
@@ -98,6 +107,20 @@ fn padded(alloc: Global, letters: u32, tail: &[u8]) -> Result<Vec<u8>, AllocErro
     Ok(bytes)
 }
 
+/// Returns whether so many letters and these bytes give a text of so many bytes, with this fault.
+fn keeps(
+    rt: &HostRuntime,
+    letters: u32,
+    tail: &[u8],
+    limit: u32,
+    kept: usize,
+    fault: Option<Fault>,
+) -> Result<bool, Fail> {
+    let bytes = padded(rt.alloc(), letters, tail)?;
+    let decoded = read(rt, &bytes, true, limit)?;
+    Ok(decoded.text.as_str().len() == kept && decoded.fault == fault)
+}
+
 #[test]
 fn reads_up_to_the_limit(rt: HostRuntime) -> Result<(), Fail> {
     let table: [(u32, &[u8], u32, usize, Option<Fault>); 5] = [
@@ -108,14 +131,8 @@ fn reads_up_to_the_limit(rt: HostRuntime) -> Result<(), Fail> {
         (65, b"", 64, 64, fault(Code::F7, 1, 65)),
     ];
     for (letters, tail, limit, kept, fault) in table {
-        let bytes = padded(rt.alloc(), letters, tail)?;
-        let decoded = read(&rt, &bytes, true, limit)?;
-        assert_eq!(rt;
-            decoded.text.as_str().len(),
-            kept,
-            "of {letters} and {tail:?}"
-        );
-        assert_eq!(rt; decoded.fault, fault, "of {letters} and {tail:?}");
+        let well = keeps(&rt, letters, tail, limit, kept, fault)?;
+        assert!(rt; well, "of {letters} and {tail:?}");
     }
     Ok(())
 }

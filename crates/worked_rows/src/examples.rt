@@ -4,7 +4,7 @@ use gabc_headers::headers_whole;
 use gabc_places::{Code, FromReader, Limits, Place, Room, Text, ToWriter, place_of_byte, text_of};
 use gabc_score::{InputEnding, score_whole};
 use gabc_text::{kept_chars, text_len, text_whole};
-use gabc_write::{message_len, message_line};
+use gabc_write::{dump_end, dump_header, message_len, message_line};
 use gregorio::{Format, Input, Job, Output, Status, compile};
 use std::alloc::Global;
 use std::test::Fail;
@@ -46,6 +46,20 @@ fn reads_headers(rt: HostRuntime) -> Result<(), Fail> {
         lines.as_str(),
         "name=Kyrie\nmode=8\n3:1: warning: W2: header given again\n"
     );
+    Ok(())
+}
+
+#[test]
+fn dumps_headers(rt: HostRuntime) -> Result<(), Fail> {
+    let text = "name:\n a\\b\nc;;\nuser\\notes:;\n%%";
+    let text = Text::from_str(rt.alloc(), text)?;
+    let heads = headers_whole(rt.alloc(), &text, Limits::DEFAULT)?;
+    let heads = heads.ok().ok_or("a fault")?;
+    let mut out = Room::with_limit(rt.alloc(), 128)?;
+    dump_header(&heads.book, &mut out);
+    dump_end(4294967296, &mut out);
+    let dump = "dump 1\nheader name:a\\\\b\\nc\nheader user\\\\notes:\nend 4294967296\n";
+    assert_eq!(rt; out.slice(), dump.as_bytes());
     Ok(())
 }
 

@@ -67,6 +67,18 @@ fn example_of_nabc(rt: HostRuntime) -> Result<(), Fail> {
 }
 
 #[test]
+fn laws_of_what_is_read_again_are_called() {
+    gabc_text::laws::view_again();
+    gabc_notes::laws::kept_again();
+    gabc_nabc::laws::kept_again();
+    gabc_write::laws::syllable_again();
+    gabc_write::laws::body_again();
+    gabc_write::laws::file_again();
+    gabc_write::laws::score_is_printed();
+    gabc_write::laws::score_again();
+}
+
+#[test]
 fn laws_of_stages_and_tables_are_called(rt: HostRuntime) -> Result<(), Fail> {
     gabc_notes::laws::no_item_is_empty();
     gabc_notes::laws::an_item_has_one_kind();

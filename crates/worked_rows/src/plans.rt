@@ -1,6 +1,6 @@
 //! What words want, with memory enough.
 
-use gregorio::{Format, Input, Output, Plan, Refusal, Words, plan};
+use gregorio::{Format, Input, Job, Output, Plan, Refusal, Words, plan};
 use std::alloc::{AllocError, Global};
 use std::test::Fail;
 
@@ -11,6 +11,19 @@ fn words_of(alloc: Global, texts: &[&str]) -> Result<Words, AllocError> {
         words.push(text)?;
     }
     Ok(words)
+}
+
+/// Returns whether these words are refused for this reason, with this line and the status 3.
+fn is_refused(
+    alloc: Global,
+    texts: &[&str],
+    refusal: Refusal,
+    line: &str,
+) -> Result<bool, AllocError> {
+    let words = words_of(alloc, texts)?;
+    let told = format!(in alloc; "{refusal}")?;
+    let why = plan(alloc, &words).err();
+    Ok(why == Some(refusal) && told.as_str() == line && refusal.code() == 3)
 }
 
 #[test]
@@ -48,10 +61,7 @@ fn refuses_words(rt: HostRuntime) -> Result<(), Fail> {
         (&[], Refusal::O2, "O2: -F is needed"),
     ];
     for (texts, refusal, line) in rows.iter() {
-        let answer = plan(rt.alloc(), &words_of(rt.alloc(), texts)?);
-        assert!(rt; matches!(answer, Err(given) if given == *refusal));
-        assert!(rt; format!(in rt.alloc(); "{refusal}")?.as_str() == *line);
-        assert!(rt; refusal.code() == 3);
+        assert!(rt; is_refused(rt.alloc(), texts, *refusal, line)?);
     }
     assert!(rt; format!(in rt.alloc(); "{}", Refusal::O0)?.as_str() == "O0: no memory");
     Ok(())
@@ -64,30 +74,43 @@ fn helps_before_it_refuses(rt: HostRuntime) -> Result<(), Fail> {
     Ok(())
 }
 
+/// Returns whether a job writes the dump of standard input to standard output, without warnings.
+fn is_of_streams(job: &Job) -> bool {
+    job.format == Format::Dump
+        && matches!(job.input, Input::Stdin)
+        && matches!(job.output, Output::Stdout)
+        && job.messages.is_none()
+        && !job.all_warnings
+}
+
 #[test]
 fn plans_a_job_of_streams(rt: HostRuntime) -> Result<(), Fail> {
     let words = words_of(rt.alloc(), &["-F", "dump", "-s"])?;
-    let Ok(Plan::Run(job)) = plan(rt.alloc(), &words) else {
-        return Err(Fail::new("no job"));
+    let well = match plan(rt.alloc(), &words) {
+        Ok(Plan::Run(job)) => is_of_streams(&job),
+        _ => false,
     };
-    assert!(rt; job.format == Format::Dump);
-    assert!(rt; matches!(job.input, Input::Stdin) && matches!(job.output, Output::Stdout));
-    assert!(rt; job.messages.is_none() && !job.all_warnings);
+    assert!(rt; well);
     Ok(())
+}
+
+/// Returns whether a job writes the canonical form of the file `-x` to `y.gabc`, and all messages to `list`.
+fn is_of_files(job: &Job) -> bool {
+    job.format == Format::Gabc
+        && job.all_warnings
+        && matches!(&job.input, Input::File(name) if name.as_str() == "-x")
+        && matches!(&job.output, Output::File(name) if name.as_str() == "y.gabc")
+        && matches!(&job.messages, Some(name) if name.as_str() == "list")
 }
 
 #[test]
 fn plans_a_job_of_files(rt: HostRuntime) -> Result<(), Fail> {
-    let words = words_of(
-        rt.alloc(),
-        &["-WFgabc", "-o", "y.gabc", "-l", "list", "--", "-x"],
-    )?;
-    let Ok(Plan::Run(job)) = plan(rt.alloc(), &words) else {
-        return Err(Fail::new("no job"));
+    let texts = ["-WFgabc", "-o", "y.gabc", "-l", "list", "--", "-x"];
+    let words = words_of(rt.alloc(), &texts)?;
+    let well = match plan(rt.alloc(), &words) {
+        Ok(Plan::Run(job)) => is_of_files(&job),
+        _ => false,
     };
-    assert!(rt; job.format == Format::Gabc && job.all_warnings);
-    assert!(rt; matches!(&job.input, Input::File(name) if name.as_str() == "-x"));
-    assert!(rt; matches!(&job.output, Output::File(name) if name.as_str() == "y.gabc"));
-    assert!(rt; matches!(&job.messages, Some(name) if name.as_str() == "list"));
+    assert!(rt; well);
     Ok(())
 }

@@ -130,6 +130,12 @@ after_percent ys rest c w m e h =
     ap (λ (x : List ℕ). wants_lines (lines x)) (append_assoc ys (c ∷ []) rest)
     ∙ (h (c ∷ rest) ∙ (ap (λ (x : ℕ). w || wants_from m (x ∷ rest)) e ∙ step_percent w m rest))
 
+pub after_lf : (ys rest : List ℕ) (c : ℕ) (w m : Bool) → c ≡ 10 → ((r : List ℕ) → wants_lines (lines (ys ++ r)) ≡ (w || wants_from m r))
+    → wants_lines (lines ((ys ++ c ∷ []) ++ rest)) ≡ true
+after_lf ys rest c w m e h =
+    ap (λ (x : List ℕ). wants_lines (lines x)) (append_assoc ys (c ∷ []) rest)
+    ∙ (h (c ∷ rest) ∙ (ap (λ (x : ℕ). w || wants_from m (x ∷ rest)) e ∙ step_lf w m rest))
+
 -- at the end
 pub at_end : (v ys : List ℕ) (w m : Bool) → v ≡ ys → ((r : List ℕ) → wants_lines (lines (ys ++ r)) ≡ (w || wants_from m r)) → wants_lines (lines v) ≡ (w || m)
 at_end v ys w m e h = ap (λ (x : List ℕ). wants_lines (lines x)) (e ∙ sym (append-nil ys)) ∙ (h [] ∙ ap (λ (x : Bool). w || x) (by m))

@@ -16,7 +16,7 @@ use Rattle.gabc_headers.specs.Parts.{HeaderPart, outside}
 use Rattle.gabc_headers.specs.Book.{book_of, entries}
 use Rattle.gabc_headers.specs.machine.EntryMap.{spelled_entries, AreWithin}
 use Rattle.gabc_headers.specs.Heads.{head_parts, head_len, findings_behind, line_place, heads_of}
-use Rattle.gabc_headers.specs.machine.Collected.{AreGoodEvents, collected_with_all, heads_at_body, heads_at_score, fault_at_end}
+use Rattle.gabc_headers.specs.machine.Collected.{AreGoodEvents, collected_with_all, none, heads_at_body, heads_at_score, fault_at_end}
 use Rattle.gabc_headers.specs.machine.Events.{AreHeaderEvents, EndsAs, AreEarly, AreLate}
 use Rattle.gabc_headers.proofs.order.FoundBeforeAPoint.{all_known}
 use Rattle.gabc_headers.proofs.groups.NamesAreShort.{parts_short, names-prefix}
@@ -28,9 +28,6 @@ use Rattle.gabc_headers.proofs.stops.HeadsByEnding.{score_open, text_open, text_
 -- the characters of a text are characters
 pub scalars_of : (t bytes : List ℕ) → IsUtf8 bytes → bytes ≡ encodes t → scalars t ≡ true
 scalars_of t bytes u e = subst (λ (x : List ℕ). scalars x ≡ true) (encodes_same u.0 t (u.1.1 ∙ e)) u.1.0
-
-abbrev pub none : Collected
-none = record { headers = []; findings = [] }
 
 -- what the events of a text add
 abbrev pub collected_of : List ℕ → List HeaderEvent → Collected

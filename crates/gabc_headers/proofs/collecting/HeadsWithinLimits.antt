@@ -1,31 +1,58 @@
 -- The headers that are not too long.
-use Rattle.std.proofs.Common.{◌≡◌, ℕ, ◌+◌, ◌-◌, ◌^◌, ◌≤◌, min, List, [], ◌∷◌, ◌++◌, false, cond, codes, refl, sym, ap, arith, nat_lt, Ok, Option, None, Some, MatchOption, is_some, Bor}
+use Rattle.std.proofs.Common.{◌≡◌, ℕ, ◌+◌, ◌≤◌, List, [], ◌∷◌, ◌++◌, Bool, true, false, cond, codes, refl, sym, ap, arith, nat_lt, Result, Ok, Err, Option, None, Some, MatchOption, is_some, Bor}
 use Rattle.std.specs.Str.{chars}
 use Rattle.std.proofs.lemmas.Bool.Decides.{nat_tests}
 use Rattle.gabc_places.specs.declared.place.Place.{Place}
 use Rattle.gabc_places.specs.declared.limits.Limits.{Limits}
-use Rattle.gabc_places.specs.declared.code.Code.TheVariants.{W1}
+use Rattle.gabc_places.specs.declared.code.Code.TheVariants.{W1, F4, F7}
+use Rattle.gabc_places.specs.declared.code.Fault.{Fault}
 use Rattle.gabc_places.specs.declared.code.Finding.{Finding}
+use Rattle.gabc_headers.specs.declared.heads.Heads.{Heads}
+use Rattle.gabc_headers.specs.declared.heads.HeadFault.{HeadFault}
 use Rattle.gabc_headers.specs.Book.{has_header}
 use Rattle.gabc_headers.specs.Canonical.{header_lines}
 use Rattle.gabc_headers.specs.Lines.{bytes_len}
-use Rattle.gabc_headers.specs.machine.Collected.{heads_at_body}
+use Rattle.gabc_headers.specs.machine.Collected.{heads_at_score, len_at_score, fault_at_end, end_fault}
 
-le_false : (a b : ℕ) → b ≤ a → nat_lt a b ≡ false
-le_false a b h = grind (arith, nat_tests)
+-- the headers at their line `%%`, by what stops them there or by the length of their canonical lines
+abbrev pub heads_by_len : Place → ℕ → List (List ℕ × List ℕ) → List Finding → Result ℕ Fault → Result Heads HeadFault
+heads_by_len place body book found (Err fault) = Err (record { fault = fault; findings = found; at_end = false })
+heads_by_len place body book found (Ok size) = Ok (record { book = book; body = body; findings = cond (has_header (codes "name") book) found (found ++ record { place = place; code = W1 } ∷ []) })
 
-total : (size t header : ℕ) → size ≡ min t (2 ^ 64 - 1) → size ≤ header → header ≤ 16777216 → t ≡ size
-total size t header e l m = omega arith
+pub by_len : (limits : Limits) (place : Place) (body : ℕ) (line : Option ℕ) (book : List (List ℕ × List ℕ)) (found : List Finding)
+    → heads_at_score limits place body line book found ≡ heads_by_len place body book found (len_at_score limits place line book)
+by_len limits place body (Some k) book found = refl
+by_len limits place body None book found = by (nat_lt limits.header (bytes_len (header_lines book))) (nat_lt limits.input (bytes_len (header_lines book) + 3))
+  where
+    by : (x y : Bool) → cond x (Err (record { fault = record { place = place; code = F4 }; findings = found; at_end = false }))
+        (cond y (Err (record { fault = record { place = place; code = F7 }; findings = found; at_end = false }))
+        (Ok (record { book = book; body = body; findings = cond (has_header (codes "name") book) found (found ++ record { place = place; code = W1 } ∷ []) })))
+        ≡ heads_by_len place body book found (cond x (Err (record { place = place; code = F4 })) (cond y (Err (record { place = place; code = F7 })) (Ok (bytes_len (header_lines book)))))
+    by true y = refl
+    by false true = refl
+    by false false = refl
 
-pub finished_ok : (limits : Limits) (place : Place) (body : ℕ) (book : List (List ℕ × List ℕ)) (findings events : List Finding) (size : ℕ)
-    → size ≡ min (bytes_len (header_lines book)) (2 ^ 64 - 1) → size ≤ limits.header → limits.header ≤ 16777216 → size + 3 ≤ limits.input
-    → events ≡ cond (has_header (codes "name") book) findings (findings ++ record { place = place; code = W1 } ∷ [])
-    → Ok (record { book = book; body = body; findings = events }) ≡ heads_at_body limits place body book findings
-finished_ok limits place body book findings events size e l m n t =
-    let s : bytes_len (header_lines book) ≡ size = total size (bytes_len (header_lines book)) limits.header e l m in
-    let a : nat_lt limits.header (bytes_len (header_lines book)) ≡ false = le_false limits.header (bytes_len (header_lines book)) (omega arith) in
-    let b : nat_lt limits.input (bytes_len (header_lines book) + 3) ≡ false = le_false limits.input (bytes_len (header_lines book) + 3) (omega arith) in
-    rw (a, b, t) refl
+-- the length that is within the limits
+pub len_is : (limits : Limits) (place : Place) (line : Option ℕ) (book : List (List ℕ × List ℕ)) (size : ℕ) → len_at_score limits place line book ≡ Ok size
+    → (size ≡ bytes_len (header_lines book)) × (size ≤ limits.header)
+len_is limits place (Some k) book size e = absurd (cc)
+len_is limits place None book size e = by (nat_lt limits.header (bytes_len (header_lines book))) (nat_lt limits.input (bytes_len (header_lines book) + 3)) refl e
+  where
+    size_of : Result ℕ Fault → ℕ
+    size_of (Ok n) = n
+    size_of (Err f) = 0
+
+    by : (x y : Bool) → nat_lt limits.header (bytes_len (header_lines book)) ≡ x
+        → cond {A = Result ℕ Fault} x (Err (record { place = place; code = F4 })) (cond y (Err (record { place = place; code = F7 })) (Ok (bytes_len (header_lines book)))) ≡ Ok size
+        → (size ≡ bytes_len (header_lines book)) × (size ≤ limits.header)
+    by true y q f = absurd (cc)
+    by false true q f = absurd (cc)
+    by false false q f = let s : size ≡ bytes_len (header_lines book) = sym (ap size_of f) in let l : bytes_len (header_lines book) ≤ limits.header = grind (arith, nat_tests) in (s, omega (arith, s, l))
+
+-- at the end of the text
+pub at_text_end : (place : Place) (line : Option ℕ) (found : List Finding) → fault_at_end place line found ≡ record { fault = end_fault place line; findings = found; at_end = true }
+at_text_end place None found = refl
+at_text_end place (Some k) found = refl
 
 -- whether a header is found
 pub found_same : (o : Option (Bor (List ℕ))) (p : Option (List ℕ)) → MatchOption o (p ≡ None) (λ v. p ≡ Some (chars v.now)) → is_some o ≡ is_some p

@@ -1,10 +1,8 @@
 -- Reading a book entry by entry.
-use Rattle.std.proofs.Common.{◌≡◌, ℕ, ◌≤◌, ◌+◌, suc, zero, List, [], ◌∷◌, true, false, length, drop, arith, refl, bytes_eq, codes, Some, None, slice_get, IsSomeAnd, IsUtf8}
+use Rattle.std.proofs.Common.{◌≡◌, ℕ, ◌≤◌, suc, zero, List, [], ◌∷◌, true, false, length, drop, arith, refl, bytes_eq, Some, None, slice_get, IsSomeAnd, IsUtf8}
 use Rattle.std.specs.Str.{chars}
 use Rattle.gabc_headers.specs.Book.{value_named}
-use Rattle.gabc_headers.specs.Lines.{bytes_len}
-use Rattle.gabc_headers.specs.Canonical.{header_line, header_lines, canonical_heads}
-use Rattle.gabc_headers.proofs.entries.TextsAsBytes.{bytes_eq-chars, bytes_len-append}
+use Rattle.gabc_headers.proofs.entries.TextsAsBytes.{bytes_eq-chars}
 
 -- the entry at this index has the name
 pub named_here : (name b v : List ℕ) (es : List (List ℕ × List ℕ)) (i : ℕ) → IsUtf8 name → IsUtf8 b
@@ -28,21 +26,3 @@ named_none name [] zero l = refl
 named_none name [] (suc i) l = refl
 named_none name (d ∷ es) zero l = absurd (omega arith)
 named_none name (d ∷ es) (suc i) l = named_none name es i (omega arith)
-
--- the lines from this entry on
-pub lines_here : (name v : List ℕ) (es : List (List ℕ × List ℕ)) (i : ℕ)
-    → IsSomeAnd (slice_get es i) (λ e. chars name ≡ e.0) → IsSomeAnd (slice_get es i) (λ e. chars v ≡ e.1)
-    → bytes_len (header_lines (drop i es)) ≡ bytes_len (header_line (chars name, chars v)) + bytes_len (header_lines (drop (suc i) es))
-lines_here name v [] i h k = absurd h
-lines_here name v (d ∷ es) zero h k = rw (← h, ← k) (bytes_len-append (header_line (chars name, chars v)) (header_lines es))
-lines_here name v (d ∷ es) (suc i) h k = lines_here name v es i h k
-
-pub lines_none : (es : List (List ℕ × List ℕ)) (i : ℕ) → length es ≤ i → bytes_len (header_lines (drop i es)) ≡ 0
-lines_none [] zero l = refl
-lines_none [] (suc i) l = refl
-lines_none (d ∷ es) zero l = absurd (omega arith)
-lines_none (d ∷ es) (suc i) l = lines_none es i (omega arith)
-
--- the bytes of the lines and `%%`
-pub heads_len : (es : List (List ℕ × List ℕ)) → 2 + bytes_len (header_lines es) ≡ bytes_len (canonical_heads es)
-heads_len es = let e = bytes_len-append (header_lines es) (codes "%%") in let g : bytes_len (codes "%%") ≡ 2 = refl in omega (arith, e, g)

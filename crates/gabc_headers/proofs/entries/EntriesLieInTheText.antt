@@ -1,6 +1,6 @@
 -- The entries of a book, and what they show.
 use Rattle.std.proofs.Common.{◌≡◌, ℕ, ◌<◌, suc, zero, List, [], ◌∷◌, length, get_or, arith, refl, ap, Some, slice_get}
-use Rattle.gabc_headers.specs.declared.book.Entry.{Entry}
+use Rattle.gabc_headers.specs.declared.book_room.Entry.{Entry}
 use Rattle.gabc_headers.specs.BookText.{IsWithin, AreEntries, text_at, shown_entries}
 
 -- an entry's spans lie in the text

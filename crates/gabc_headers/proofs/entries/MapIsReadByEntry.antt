@@ -44,7 +44,7 @@ pub lines_cons : (e : List ℕ × List ℕ) (es : List (List ℕ × List ℕ)) �
 lines_cons e es = bytes_len-append (header_line e) (header_lines es)
 
 -- a sum that stops at the largest number
-pub sum_next : (n l r t b m : ℕ) → min (n + (l + r)) (2 ^ 64 - 1) ≡ t → b ≡ min l (2 ^ 64 - 1) → m ≡ min (n + b) (2 ^ 64 - 1) → min (m + r) (2 ^ 64 - 1) ≡ t
+pub sum_next : (n l r t b m : ℕ) → min (n + (l + r)) (2 ^ 64 - 1) ≡ t → b ≡ l → m ≡ n + min b (2 ^ 64 - 1 - n) → min (m + r) (2 ^ 64 - 1) ≡ t
 sum_next n l r t b m e f g = omega arith
 
 lines_append : (es fs : List (List ℕ × List ℕ)) → header_lines (es ++ fs) ≡ header_lines es ++ header_lines fs

@@ -5,7 +5,8 @@ use Rattle.std.proofs.lemmas.Str.{IsUtf8-append, IsUtf8-drop, IsCharBoundary-at_
 use Rattle.std.proofs.lemmas.List.{take-append-drop, take-append-le, drop-append-le}
 use Rattle.std.proofs.Math.Seq.{drop-append_seam}
 use Rattle.gabc_places.specs.declared.place.Span.{Span}
-use Rattle.gabc_headers.specs.declared.book.Entry.{Entry}
+use Rattle.gabc_headers.specs.declared.book_room.Entry.{Entry}
+use Rattle.gabc_headers.specs.machine.BookRoom.{entry_behind}
 use Rattle.gabc_headers.specs.BookText.{IsWithin, AreEntries, text_at, shown_entries}
 
 -- a place between characters stays one
@@ -58,13 +59,6 @@ last_within text more u v = record {
   order = omega (arith, length-append text more);
   first = IsCharBoundary-at_seam (text ++ more) text more refl v;
   last = IsCharBoundary-end (text ++ more);
-}
-
--- the entry of a name and a value that were pushed
-abbrev pub entry_behind : List ℕ → List ℕ → List ℕ → Entry
-entry_behind text name value = record {
-  name = record { from = length text; to = length (text ++ name) };
-  value = record { from = length (text ++ name); to = length ((text ++ name) ++ value) };
 }
 
 entries-push : (text : List ℕ) (es : List Entry) (e : Entry) → AreEntries text es → IsWithin text e.name → IsWithin text e.value → AreEntries text (es ++ e ∷ [])

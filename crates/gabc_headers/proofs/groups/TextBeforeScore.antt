@@ -32,7 +32,7 @@ percent_first (d ∷ r) = by (d == 10) refl
     by false e = refl
 
 -- a text begins with `%%` as its first line does
-score_first : (r : List ℕ) → is_score_line (first_line r) ≡ is_score_line r
+pub score_first : (r : List ℕ) → is_score_line (first_line r) ≡ is_score_line r
 score_first [] = refl
 score_first (c ∷ r) = by (c == 10) refl
   where

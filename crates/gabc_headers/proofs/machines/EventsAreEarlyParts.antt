@@ -4,16 +4,11 @@ use Rattle.gabc_headers.specs.Parts.{HeaderPart, left_out, header, unended}
 use Rattle.gabc_headers.specs.Heads.{open_line}
 use Rattle.gabc_headers.specs.declared.events.HeaderEvent.{HeaderEvent}
 use Rattle.gabc_headers.specs.declared.events.HeaderEvent.TheVariants.{LeftOut, Header}
-use Rattle.gabc_headers.specs.machine.Events.{IsEventOf, AreEventsOf, IsEarly, AreEarly, open_part}
+use Rattle.gabc_headers.specs.machine.Events.{IsEventOf, AreEventsOf, IsEarly, AreEarly, open_part, with_event}
 use Rattle.gabc_headers.proofs.machines.EventsAreParts.{seen}
 use Rattle.gabc_headers.proofs.machines.SpansOfBytes.{bytes_at, holds_at}
 use Rattle.gabc_headers.proofs.machines.PartMachineOfBytes.{moved_event}
 use Rattle.gabc_headers.proofs.machines.EventSpansLieInText.{EventAt}
-
--- the events with one more, if there is one
-abbrev pub with_event : List HeaderEvent → Option HeaderEvent → List HeaderEvent
-with_event es None = es
-with_event es (Some e) = es ++ e ∷ []
 
 -- one event more
 tell_push : (t : List ℕ) (es : List HeaderEvent) (ps : List HeaderPart) (e : HeaderEvent) (p : HeaderPart) → AreEventsOf t es ps → IsEventOf t e p → AreEventsOf t (es ++ e ∷ []) (ps ++ p ∷ [])

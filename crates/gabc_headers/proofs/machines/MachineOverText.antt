@@ -16,7 +16,7 @@ use Rattle.gabc_headers.specs.Heads.{head_parts}
 use Rattle.gabc_headers.specs.machine.Characters.{header_char_of}
 use Rattle.gabc_headers.specs.machine.PartMachine.{at_line_start, next_part_machine, span_of, is_good_span}
 use Rattle.gabc_headers.specs.machine.HeaderMachine.{fresh_machine, part_step, machine_with}
-use Rattle.gabc_headers.specs.machine.Events.{AreEventsOf, AreEarly}
+use Rattle.gabc_headers.specs.machine.Events.{AreEventsOf, AreEarly, with_event}
 use Rattle.gabc_headers.proofs.groups.TextBeforeScore.{head_text, Scan, begin_scan, scan_more, head_next, head_prefix, parts_head}
 use Rattle.gabc_headers.proofs.machines.PartsBehindState.{StandsIn, begin_line}
 use Rattle.gabc_headers.proofs.machines.OneStepByCharacter.{one_step}
@@ -25,7 +25,7 @@ use Rattle.gabc_headers.proofs.machines.PartMachineOfBytes.{moved, moved_both, s
 use Rattle.gabc_headers.proofs.machines.SpansOfBytes.{bytes_at, bytes-append, bytes_mono, good_span, span_order}
 use Rattle.gabc_headers.proofs.machines.EventSpansLieInText.{Near, near_fresh, near_step, drop_next, is_quiet, quiet_line}
 use Rattle.gabc_headers.proofs.stops.TextTooLong.{Begins, begins_push, place_push}
-use Rattle.gabc_headers.proofs.machines.EventsAreEarlyParts.{with_event, tell_step, early_step}
+use Rattle.gabc_headers.proofs.machines.EventsAreEarlyParts.{tell_step, early_step}
 
 -- The reader has read what is done, and stands before the rest. `rd` is its part reader, with spans in characters.
 pub record Reads (t : List ℕ) (limit : ℕ) (done rest : List ℕ) (r : HeaderMachine) (es : List HeaderEvent) : Type 0 where

@@ -16,12 +16,11 @@ use Rattle.gabc_headers.specs.declared.events.HeaderEnding.TheVariants.{Score, L
 use Rattle.gabc_headers.specs.Lines.{bytes_len, is_percent, is_score_line}
 use Rattle.gabc_headers.specs.machine.PartMachine.{open_in}
 use Rattle.gabc_headers.specs.machine.HeaderMachine.{fresh_machine, part_step, machine_with, take_one, then_take, held_push, push_one, end_here}
-use Rattle.gabc_headers.specs.machine.Events.{AreHeaderEvents}
+use Rattle.gabc_headers.specs.machine.Events.{AreHeaderEvents, with_event}
 use Rattle.gabc_headers.proofs.machines.EventSpansLieInText.{quiet_event}
 use Rattle.gabc_headers.proofs.machines.PartMachineOfBytes.{moved_event}
 use Rattle.gabc_headers.proofs.machines.SpansOfBytes.{bytes_at}
 use Rattle.gabc_headers.proofs.groups.TextBeforeScore.{head_text}
-use Rattle.gabc_headers.proofs.machines.EventsAreEarlyParts.{with_event}
 use Rattle.gabc_headers.proofs.machines.MachineOverText.{Reads, begin_reads, reads_more, step_is}
 use Rattle.gabc_headers.proofs.stops.MachineEndsAtStop.{limit_here, limit_held, score_here, text_here, text_held}
 

@@ -10,10 +10,10 @@ use Rattle.gabc_places.specs.declared.place.Place.{Place}
 use Rattle.gabc_places.specs.declared.place.Char.{Char}
 use Rattle.gabc_places.specs.declared.limits.Limits.{Limits}
 use Rattle.gabc_places.specs.declared.code.Code.TheVariants.{F4, F7, W1}
+use Rattle.gabc_places.specs.declared.code.Fault.{Fault}
 use Rattle.gabc_places.specs.declared.code.Finding.{Finding}
 use Rattle.gabc_places.specs.Place.{placed_characters, placed_characters_behind}
 use Rattle.gabc_places.specs.StageLaw.{concat_of}
-use Rattle.gabc_places.proofs.PushesAreOne.{joined_silence}
 use Rattle.gabc_places.proofs.texts.PlacesOfCharacters.{length-placed, placed-append}
 use Rattle.gabc_headers.specs.declared.heads.Heads.{Heads}
 use Rattle.gabc_headers.specs.declared.heads.HeadFault.{HeadFault}
@@ -31,7 +31,7 @@ use Rattle.gabc_headers.specs.HeadEvents.{HeadProgress, reading, behind, over, e
 use Rattle.gabc_headers.specs.machine.EntryMap.{spelled_entries, AreWithin}
 use Rattle.gabc_headers.specs.machine.Collected.{heads_at_score}
 use Rattle.gabc_headers.specs.machine.HeaderMachine.{push_one, take_one, then_take, held_push, fresh_machine}
-use Rattle.gabc_headers.proofs.machines.EventsAreEarlyParts.{with_event}
+use Rattle.gabc_headers.specs.machine.Events.{with_event}
 use Rattle.gabc_headers.proofs.collecting.HeadsFollowFromEvents.{collected_of, read_within}
 use Rattle.gabc_headers.proofs.collecting.EventsAddEntries.{scalars_left}
 use Rattle.gabc_headers.proofs.groups.BookNeedsScoreLine.{score_behind}
@@ -41,7 +41,7 @@ use Rattle.gabc_headers.proofs.prefixes.HeadsSoFar.{HasRead, begin_read, read_mo
 
 -- ---- a push never tells the end of the text
 
-abbrev IsNoText : HeaderStep → Type 0
+abbrev pub IsNoText : HeaderStep → Type 0
 IsNoText (Ended (Text place line)) = ⊥
 IsNoText step = Unit {0}
 
@@ -60,7 +60,7 @@ no_text_if : (b : Bool) (x y : HeaderMachine × HeaderStep) → IsNoText x.1 →
 no_text_if true x y h k = h
 no_text_if false x y h k = k
 
-no_text_push : (r : HeaderMachine) (c : ℕ) → IsNoText (push_one r c).1
+pub no_text_push : (r : HeaderMachine) (c : ℕ) → IsNoText (push_one r c).1
 no_text_push r c =
     let freed : HeaderMachine = record r { held = false } in
     no_text_if r.held (held_push r c) _ (no_text_if (c == 37) _ _ tt (no_text_then (take_one freed 37).0 (take_one freed 37).1 c (no_text_take freed 37)))
@@ -70,6 +70,11 @@ no_text_push r c =
 
 concat-cons : {T : Type 0} (a : List T) (rest : List (List T)) → concat_of (a ∷ rest) ≡ a ++ concat_of rest
 concat-cons a rest = flat_map-cons (λ xs. xs) a rest
+
+-- behind the last event
+pub nothing_left : (limits : Limits) (xs : List (Result Char Fault)) → concat_of (events_left limits over xs) ≡ []
+nothing_left limits [] = refl
+nothing_left limits (x ∷ xs) = nothing_left limits xs
 
 -- a prefix with more, and then what follows
 moved : (a new more : List Finding) (rest : List HeadEvent) → a ++ new ≡ more → map (λ f. Found f) a ++ (map (λ f. Found f) new ++ rest) ≡ map (λ f. Found f) more ++ rest
@@ -259,7 +264,7 @@ module _ (limits : Limits) (held xs : List ℕ) (c : ℕ) (r new : HeaderMachine
       let tells = stopped_tells f now e in
       ap (λ (x : List HeadEvent). map (λ f. Found f) (collected_of held es).findings ++ x)
       (split ∙ (ap (λ (x : List HeadEvent). x ++ rest (progress_by longer (heads_of limits longer))) tells.0
-      ∙ (ap (λ (x : HeadProgress). Stop f.fault ∷ rest x) tells.1 ∙ ap (λ (x : List HeadEvent). Stop f.fault ∷ x) (joined_silence (given_behind longer xs)))))
+      ∙ (ap (λ (x : HeadProgress). Stop f.fault ∷ rest x) tells.1 ∙ ap (λ (x : List HeadEvent). Stop f.fault ∷ x) (nothing_left limits (given_behind longer xs)))))
       ∙ (ap (λ (x : List Finding). map (λ f. Found f) x ++ Stop f.fault ∷ []) (sym g) ∙ ap (λ (x : Result Heads HeadFault). events_of_heads (held ++ c ∷ xs) x) (sym all))
 
   -- what the second `%` tells of whole headers

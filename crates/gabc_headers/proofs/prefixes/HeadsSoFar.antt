@@ -15,15 +15,14 @@ use Rattle.gabc_places.specs.Place.{next_place}
 use Rattle.gabc_headers.specs.declared.header_machine.HeaderMachine.{HeaderMachine}
 use Rattle.gabc_headers.specs.declared.header_machine.HeaderStep.{HeaderStep}
 use Rattle.gabc_headers.specs.declared.header_machine.HeaderStep.TheVariants.{Read, Ended}
-use Rattle.gabc_headers.specs.machine.Collected.{fault_at_end, heads_at_score, collected_with_all, found_with}
+use Rattle.gabc_headers.specs.machine.Collected.{fault_at_end, heads_at_score, collected_with_all, found_with, none}
 use Rattle.gabc_headers.specs.machine.EntryMap.{spelled_entries}
 use Rattle.gabc_headers.specs.machine.PartMachine.{open_in}
 use Rattle.gabc_headers.specs.machine.HeaderMachine.{push_one, end_here, fresh_machine}
-use Rattle.gabc_headers.specs.machine.Events.{AreHeaderEvents}
+use Rattle.gabc_headers.specs.machine.Events.{AreHeaderEvents, with_event}
 use Rattle.gabc_headers.specs.Heads.{heads_of}
-use Rattle.gabc_headers.proofs.machines.EventsAreEarlyParts.{with_event}
 use Rattle.gabc_headers.proofs.machines.OnePush.{Following, AfterPush, begin_following, pushes, ends}
-use Rattle.gabc_headers.proofs.collecting.HeadsFollowFromEvents.{collected_of, none, case_limit, case_score, case_text}
+use Rattle.gabc_headers.proofs.collecting.HeadsFollowFromEvents.{collected_of, case_limit, case_score, case_text}
 use Rattle.gabc_headers.proofs.prefixes.EventsGrow.{grown, with_last, found_behind}
 
 -- The machine has read this text, and stands before whatever follows.

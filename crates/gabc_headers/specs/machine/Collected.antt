@@ -5,6 +5,7 @@ use Rattle.gabc_places.specs.declared.place.Span.{Span}
 use Rattle.gabc_places.specs.declared.limits.Limits.{Limits}
 use Rattle.gabc_places.specs.declared.code.Code.{Code}
 use Rattle.gabc_places.specs.declared.code.Code.TheVariants.{E4, E5, W1, W2, F2, F3, F4, F7}
+use Rattle.gabc_places.specs.declared.code.Fault.{Fault}
 use Rattle.gabc_places.specs.declared.code.Finding.{Finding}
 use Rattle.gabc_headers.specs.declared.events.HeaderEvent.{HeaderEvent}
 use Rattle.gabc_headers.specs.declared.events.HeaderEvent.TheVariants.{LeftOut, Header}
@@ -55,6 +56,18 @@ found_with text (Header k name value p) c =
     (cond (comes_again c.headers (text_at text name)) (finding_at k W2 ∷ []) [])
     (finding_at k E5 ∷ [])
 
+-- these headers, with nothing found
+abbrev pub of_headers : List (List ℕ × Span) → Collected
+of_headers headers = record { headers = headers; findings = [] }
+
+abbrev pub none : Collected
+none = of_headers []
+
+-- what is found, if something is
+abbrev pub found_list : Option Finding → List Finding
+found_list None = []
+found_list (Some finding) = finding ∷ []
+
 -- after all of them
 abbrev pub collected_with_all : List ℕ → List HeaderEvent → Collected → Collected
 collected_with_all text [] c = c
@@ -77,7 +90,23 @@ abbrev pub heads_at_score : Limits → Place → ℕ → Option ℕ → List (Li
 heads_at_score limits place body None book findings = heads_at_body limits place body book findings
 heads_at_score limits place body (Some k) book findings = Err (fault_in_value k false findings)
 
--- at the end of the text, in an open value or outside
+-- what stops the headers at the line `%%`, or how many bytes their canonical lines have
+abbrev pub len_at_score : Limits → Place → Option ℕ → List (List ℕ × List ℕ) → Result ℕ Fault
+len_at_score limits place (Some k) book = Err (record { place = line_place k; code = F3 })
+len_at_score limits place None book =
+    let size = bytes_len (header_lines book) in
+    cond (nat_lt limits.header size) (Err (record { place = place; code = F4 }))
+    (cond (nat_lt limits.input (size + 3)) (Err (record { place = place; code = F7 })) (Ok size))
+
+-- what stops the headers at the end of the text, in an open value or outside
+abbrev pub end_fault : Place → Option ℕ → Fault
+end_fault place None = record { place = place; code = F2 }
+end_fault place (Some k) = record { place = line_place k; code = F3 }
+
 abbrev pub fault_at_end : Place → Option ℕ → List Finding → HeadFault
 fault_at_end place None findings = record { fault = record { place = place; code = F2 }; findings = findings; at_end = true }
 fault_at_end place (Some k) findings = fault_in_value k true findings
+
+-- no header `name`
+abbrev pub name_found : Place → List (List ℕ × List ℕ) → List Finding
+name_found place book = cond (has_header (codes "name") book) [] (record { place = place; code = W1 } ∷ [])

@@ -30,6 +30,11 @@ AreEventsOf t [] [] = Unit {0}
 AreEventsOf t (e ∷ es) (p ∷ ps) = IsEventOf t e p × AreEventsOf t es ps
 AreEventsOf t es ps = ⊥
 
+-- the events with one more, if there is one
+abbrev pub with_event : List HeaderEvent → Option HeaderEvent → List HeaderEvent
+with_event es None = es
+with_event es (Some e) = es ++ e ∷ []
+
 -- the part becomes known before the point
 abbrev pub IsEarly : ℕ → HeaderPart → Type 0
 IsEarly p (left_out k q) = q < p

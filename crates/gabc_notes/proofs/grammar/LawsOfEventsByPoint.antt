@@ -23,7 +23,8 @@ use Rattle.gabc_notes.specs.declared.stage.NoteEvent.TheVariants.{Kept, Found, E
 use Rattle.gabc_notes.specs.declared.state.ItemState.{ItemState}
 use Rattle.gabc_notes.proofs.grammar.InsideRawIsAnOpenBracket.{step_in, raw_not_whole}
 use Rattle.gabc_notes.proofs.machine.LoopOverBody.{parts, goes, is_emitted, end_plain}
-use Rattle.gabc_notes.proofs.machine.FreshStageEmitsEventsByPoint.{point, kept_more, kept_same, opener_more, over_emits, kept_by as by_states}
+use Rattle.gabc_notes.proofs.machine.FreshStageEmitsEventsByPoint.{over_emits, kept_by as by_states}
+use Rattle.gabc_notes.proofs.machine.OneCharacterMore.{point, kept_more, kept_same, opener_more}
 
 -- ---- comments
 

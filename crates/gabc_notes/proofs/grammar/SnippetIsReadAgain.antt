@@ -33,7 +33,8 @@ use Rattle.gabc_notes.proofs.KeptChars.{kept_chars-append}
 use Rattle.gabc_notes.proofs.grammar.InsideRawIsAnOpenBracket.{on}
 use Rattle.gabc_notes.proofs.grammar.LawsOfEventsByPoint.{ends_append, over_joined, more_over}
 use Rattle.gabc_notes.proofs.machine.LoopOverBody.{findings_append, goes, end_plain}
-use Rattle.gabc_notes.proofs.machine.FreshStageEmitsEventsByPoint.{point, kept_more, pick_end, pick_kept, kept_by as by_states}
+use Rattle.gabc_notes.proofs.machine.FreshStageEmitsEventsByPoint.{kept_by as by_states}
+use Rattle.gabc_notes.proofs.machine.OneCharacterMore.{point, kept_more, pick_end, pick_kept}
 
 -- ---- outside raw no item has a `)`, a `|` or a `%`
 

@@ -28,7 +28,8 @@ use Rattle.gabc_notes.specs.declared.stage.NoteEvent.{NoteEvent}
 use Rattle.gabc_notes.specs.declared.stage.NoteEvent.TheVariants.{Kept, Found, Ended}
 use Rattle.gabc_notes.specs.declared.stage.NoteStage.{NoteStage}
 use Rattle.gabc_notes.proofs.machine.EventsBuildSnippet.{end_of, built_is}
-use Rattle.gabc_notes.proofs.machine.FreshStageEmitsEventsByPoint.{point, kept_more, kept_same, over_emits, pick_none, pick_end, pick_kept, pick_left}
+use Rattle.gabc_notes.proofs.machine.FreshStageEmitsEventsByPoint.{over_emits}
+use Rattle.gabc_notes.proofs.machine.OneCharacterMore.{point, kept_more, kept_same, pick_none, pick_end, pick_kept, pick_left}
 use lib.Utf8.{encode, encodes, scalar, scalars}
 
 -- ---- bytes

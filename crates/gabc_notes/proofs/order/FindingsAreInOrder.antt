@@ -33,7 +33,8 @@ use Rattle.gabc_notes.proofs.grammar.InsideRawIsAnOpenBracket.{on, is_raw, step_
 use Rattle.gabc_notes.proofs.grammar.LawsOfEventsByPoint.{not_true, cut_outs, over_joined, more_over}
 use Rattle.gabc_notes.proofs.machine.EventsDependOnState.{raw_at, raw_by}
 use Rattle.gabc_notes.proofs.machine.LoopOverBody.{findings_append, is_emitted}
-use Rattle.gabc_notes.proofs.machine.FreshStageEmitsEventsByPoint.{point, kept_more, kept_same, opener_more, pick_none, pick_kept, pick_left, Holds, begun, unkept, kept_holds, macro_is}
+use Rattle.gabc_notes.proofs.machine.FreshStageEmitsEventsByPoint.{Holds, begun, unkept, kept_holds, macro_is}
+use Rattle.gabc_notes.proofs.machine.OneCharacterMore.{point, kept_more, kept_same, opener_more, pick_none, pick_kept, pick_left}
 
 -- ---- places
 

@@ -20,7 +20,7 @@ use Rattle.gabc_notes.specs.declared.stage.NoteEvent.TheVariants.{Kept, Ended}
 use Rattle.gabc_notes.proofs.order.FindingsAreInOrder.{lt_le, le_self, le_then, next_after, stand, FactsHow, facts_how, missing_inside}
 use Rattle.gabc_notes.proofs.grammar.LawsOfEventsByPoint.{opened, nothing_over}
 use Rattle.gabc_notes.proofs.machine.LoopOverBody.{findings_append, is_emitted, goes}
-use Rattle.gabc_notes.proofs.machine.FreshStageEmitsEventsByPoint.{point}
+use Rattle.gabc_notes.proofs.machine.OneCharacterMore.{point}
 
 -- ---- bounds
 

@@ -13,7 +13,7 @@ use Rattle.gabc_score.specs.Syllable.{UnplacedSyllable, since_close, kept_of, is
 use Rattle.gabc_score.specs.Canonical.{canonicals, canonical_bytes, with_positions}
 use Rattle.gabc_score.specs.Body.{is_longer, is_none, has_text, events_onto, code_by, findings_of, cut_of, has_last, last_syllable, all_units, fault_at, found_at_end, fault_of_end, result_by_fault}
 use Rattle.gabc_score.specs.machine.Gatherer.{Gathered, with_syllable, with_no_notes, with_last}
-use Rattle.gabc_score.specs.machine.BodyBuilder.{BuiltBody, findings_after, code_in, gathered_with_room, result_at, end_fault_by, end_fault, end_findings, past_end, end_of}
+use Rattle.gabc_score.specs.machine.BodyBuilder.{BuiltBody, with_all, code_in, result_at, end_fault_by, end_fault, end_findings, past_end, end_of}
 use Rattle.gabc_score.proofs.building.GathererHoldsDefinition.{gathered, over_by, any_push, made_is}
 use Rattle.gabc_score.proofs.building.EventsOfOnePoint.{gathered_all, found_all, code_is, lt_total, made_first}
 
@@ -29,7 +29,7 @@ over_shuffle a true c n h = rw h (by a)
     by false = refl
 over_shuffle a false c n h = rw h refl
 
-none_longer : (limit : ℕ) → nat_lt limit 0 ≡ false
+pub none_longer : (limit : ℕ) → nat_lt limit 0 ≡ false
 none_longer limit = grind arith
 
 over_last : (limit : ℕ) (ms : List UnplacedSyllable) (m : UnplacedSyllable) → (is_longer limit [] || over_by limit (ms ++ m ∷ [])) ≡ (is_longer limit m.kept || over_by limit (ms ++ m ∷ []))
@@ -61,15 +61,15 @@ module _ (limits : Limits) (head : ℕ) (small : limits.syllable < 2 ^ 64 - 1) (
       ∙ ap (λ b. cond b (Some F5) (cond (not (is_none units) && nat_lt limits.input (min (head + canonical_bytes units) (2 ^ 64 - 1) + 1)) (Some F7) None)) (over_last limits.syllable (all_syllables all) (last_syllable all))
       ∙ ap (λ b. cond (is_longer limits.syllable kept || over_by limits.syllable units) (Some F5) (cond (not (is_none units) && b) (Some F7) None)) (lt_total limits.input (head + canonical_bytes units) (2 ^ 64 - 1) low)
 
-  made_by_last : (b : Bool) → (last_by b).made ≡ units_by b
+  pub made_by_last : (b : Bool) → (last_by b).made ≡ units_by b
   made_by_last true = refl
   made_by_last false = refl
 
-  cut_by_last : (b : Bool) → (last_by b).cut ≡ cut_of all
+  pub cut_by_last : (b : Bool) → (last_by b).cut ≡ cut_of all
   cut_by_last true = refl
   cut_by_last false = refl
 
-  open_by_last : (b : Bool) → ((last_by b).eu || (last_by b).nlba) ≡ (is_eu all || is_nlba all)
+  pub open_by_last : (b : Bool) → ((last_by b).eu || (last_by b).nlba) ≡ (is_eu all || is_nlba all)
   open_by_last true = refl
   open_by_last false = refl
 
@@ -102,37 +102,37 @@ units_first_by : (now before : List BodyEvent) (b : Bool)
 units_first_by now before true = made_first now before (last_syllable (events_onto now before) ∷ [])
 units_first_by now before false = ap (take (length (all_syllables before))) (sym (append-nil (all_syllables (events_onto now before)))) ∙ made_first now before []
 
--- what the reader holds after the points at which this was emitted, and at a point at which more is emitted
-abbrev pub holding : Limits → ℕ → List Finding → ℕ → List BodyEvent → List BodyEvent → BuiltBody
-holding limits head found most before now = record {
-  room = record { items = now; limit = most };
+-- what the builder holds after the points at which this was emitted
+abbrev pub holding : Limits → ℕ → List Finding → List BodyEvent → BuiltBody
+holding limits head found before = record {
   gathered = gathered limits.syllable head before;
   found = found ++ findings_of before;
+  room = record { items = []; limit = 8 };
 }
 
-module _ (limits : Limits) (head : ℕ) (found : List Finding) (most : ℕ) (small : limits.syllable < 2 ^ 64 - 1) (low : limits.input < 2 ^ 64 - 1) (at : Place) (before now : List BodyEvent) where
+module _ (limits : Limits) (head : ℕ) (found : List Finding) (small : limits.syllable < 2 ^ 64 - 1) (low : limits.input < 2 ^ 64 - 1) (at : Place) (before now : List BodyEvent) where
   abbrev s : BuiltBody
-  s = holding limits head found most before now
+  s = holding limits head found before
 
   abbrev all : List BodyEvent
   all = events_onto now before
 
-  emitted_is : gathered_with_room s ≡ gathered limits.syllable head all
+  emitted_is : with_all s.gathered now ≡ gathered limits.syllable head all
   emitted_is = gathered_all limits.syllable head before small now
 
-  fault_of_all : end_fault limits at (with_last (gathered_with_room s)) ≡ fault_of_end limits head at all (cut_of all)
+  fault_of_all : end_fault limits at (with_last (with_all s.gathered now)) ≡ fault_of_end limits head at all (cut_of all)
   fault_of_all = ap (λ g. end_fault limits at (with_last g)) emitted_is ∙ fault_is limits head small low all at
 
-  end_by : (o : Option Fault) → result_at (past_end at s o) o ≡ result_by_fault found at before all o
+  end_by : (o : Option Fault) → result_at (past_end at s now o) o ≡ result_by_fault found at before all o
   end_by (Some fault) =
       ap (λ g. body_with (take (length (all_syllables before)) (with_last g).made) (found ++ findings_of before) (Some fault)) emitted_is
       ∙ ap (λ (ms : List UnplacedSyllable). body_with ms (found ++ findings_of before) (Some fault))
       (ap (take (length (all_syllables before))) (made_by_last limits head small low all (has_last all)) ∙ units_first_by now before (has_last all))
   end_by None =
-      ap (λ g. result_at (record s { gathered = with_last g; found = findings_after (found ++ findings_of before) now ++ end_findings at (has_text g.builder.view) ((with_last g).eu || (with_last g).nlba) }) None) emitted_is
+      ap (λ g. body_with (with_last g).made ((found ++ findings_of before) ++ findings_of (events_onto now []) ++ end_findings at (has_text g.builder.view) ((with_last g).eu || (with_last g).nlba)) None) emitted_is
       ∙ ap (λ fs. body_with (with_last (gathered limits.syllable head all)).made (fs ++ end_findings at (has_last all) ((with_last (gathered limits.syllable head all)).eu || (with_last (gathered limits.syllable head all)).nlba)) None)
       (found_all found before now)
       ∙ ended_open limits head small low all at found
 
-  pub end_is : end_of limits at s ≡ result_by_fault found at before all (fault_of_end limits head at all (cut_of all))
-  end_is = ap (λ o. result_at (past_end at s o) o) fault_of_all ∙ end_by (fault_of_end limits head at all (cut_of all))
+  pub end_is : end_of limits at s now ≡ result_by_fault found at before all (fault_of_end limits head at all (cut_of all))
+  end_is = ap (λ o. result_at (past_end at s now o) o) fault_of_all ∙ end_by (fault_of_end limits head at all (cut_of all))

@@ -1,8 +1,9 @@
 -- What is emitted at a point: what the gatherer holds after it, what was found, and which limit is passed.
-use Rattle.std.proofs.Common.{◌≡◌, ℕ, ◌+◌, ◌-◌, ◌<◌, ◌^◌, ◌||◌, ◌&&◌, not, min, nat_lt, Bool, true, false, cond, List, [], ◌∷◌, ◌++◌, length, take, get_or, Some, None, refl, sym, ap, ◌∙◌, arith, append_assoc, append-nil}
-use Rattle.std.proofs.lemmas.List.{take_more, take_at}
+use Rattle.std.proofs.Common.{◌≡◌, ℕ, ◌+◌, ◌-◌, ◌<◌, ◌^◌, ◌||◌, ◌&&◌, not, min, nat_lt, Bool, true, false, cond, List, [], ◌∷◌, ◌++◌, map, length, take, get_or, Some, None, refl, sym, ap, ◌∙◌, arith, append_assoc, append-nil}
+use Rattle.std.proofs.lemmas.List.{map-append, take_more, take_at}
 use Rattle.gabc_places.specs.declared.code.Code.TheVariants.{F5, F7}
 use Rattle.gabc_places.specs.declared.code.Finding.{Finding}
+use Rattle.gabc_places.specs.BoundedList.{BoundedList}
 use Rattle.gabc_places.specs.declared.limits.Limits.{Limits}
 use Rattle.gabc_text.specs.declared.stage.TextEvent.TheVariants as text
 use Rattle.gabc_notes.specs.declared.stage.NoteEvent.TheVariants as note
@@ -12,7 +13,8 @@ use Rattle.gabc_score.specs.Syllable.{UnplacedSyllable, closes, since_close, kep
 use Rattle.gabc_score.specs.Canonical.{canonical_bytes}
 use Rattle.gabc_score.specs.Body.{is_longer, is_none, events_onto, code_at, findings_with, findings_of}
 use Rattle.gabc_score.specs.machine.Gatherer.{Gathered, with_event}
-use Rattle.gabc_score.specs.machine.BodyBuilder.{with_all, findings_after, code_in}
+use Rattle.gabc_score.specs.machine.BodyBuilder.{with_all, with_found, code_in}
+use Rattle.gabc_score.proofs.order.FindingsOfScore.{onto_append}
 use Rattle.gabc_score.proofs.building.GathererHoldsDefinition.{gathered, gathered_step, over_by}
 
 -- ---- lists
@@ -21,21 +23,12 @@ with_all_append : (g : Gathered) (xs ys : List BodyEvent) → with_all g (xs ++ 
 with_all_append g [] ys = refl
 with_all_append g (x ∷ xs) ys = with_all_append (with_event g x) xs ys
 
-pub with_all_more : (first now new : Gathered) (ts : List BodyEvent) (i : ℕ) (d : BodyEvent) → i < length ts
-    → now ≡ with_all first (take i ts) → new ≡ with_event now (get_or ts i d) → new ≡ with_all first (take (i + 1) ts)
-with_all_more first now new ts i d h f g =
-    g ∙ ap (λ (s : Gathered). with_event s (get_or ts i d)) f ∙ sym (with_all_append first (take i ts) (get_or ts i d ∷ []))
-    ∙ ap (with_all first) (sym (take_more ts i d h))
-
-findings_after_append : (found : List Finding) (xs ys : List BodyEvent) → findings_after found (xs ++ ys) ≡ findings_after (findings_after found xs) ys
-findings_after_append found [] ys = refl
-findings_after_append found (x ∷ xs) ys = findings_after_append (findings_with found x) xs ys
-
-pub findings_after_more : (first now new : List Finding) (ts : List BodyEvent) (i : ℕ) (d : BodyEvent) → i < length ts
-    → now ≡ findings_after first (take i ts) → new ≡ findings_with now (get_or ts i d) → new ≡ findings_after first (take (i + 1) ts)
-findings_after_more first now new ts i d h f g =
-    g ∙ ap (λ (s : List Finding). findings_with s (get_or ts i d)) f ∙ sym (findings_after_append first (take i ts) (get_or ts i d ∷ []))
-    ∙ ap (findings_after first) (sym (take_more ts i d h))
+-- The events of a part are gathered one after the other, each in other words.
+pub with_all_more : {O : Type 0} (tell : O → BodyEvent) (first now new : Gathered) (ts : List O) (i : ℕ) (d : O) → i < length ts
+    → now ≡ with_all first (map tell (take i ts)) → new ≡ with_event now (tell (get_or ts i d)) → new ≡ with_all first (map tell (take (i + 1) ts))
+with_all_more tell first now new ts i d h f g =
+    g ∙ ap (λ (s : Gathered). with_event s (tell (get_or ts i d))) f ∙ sym (with_all_append first (map tell (take i ts)) (tell (get_or ts i d) ∷ []))
+    ∙ ap (with_all first) (sym (map-append tell (take i ts) (get_or ts i d ∷ []))) ∙ ap (λ os. with_all first (map tell os)) (sym (take_more ts i d h))
 
 -- ---- a point
 
@@ -52,9 +45,30 @@ found_with found fs (event.Notes line (note.Kept c)) = refl
 found_with found fs (event.Notes line (note.Found f)) = append_assoc found fs (f ∷ [])
 found_with found fs (event.Notes line (note.Ended e n)) = refl
 
-pub found_all : (found : List Finding) (before now : List BodyEvent) → findings_after (found ++ findings_of before) now ≡ found ++ findings_of (events_onto now before)
-found_all found before [] = refl
-found_all found before (t ∷ now) = ap (λ fs. findings_after fs now) (found_with found (findings_of before) t) ∙ found_all found (t ∷ before) now
+-- what is found at a point comes behind what was found before
+pub found_on : (before now : List BodyEvent) → findings_of (events_onto now before) ≡ findings_of before ++ findings_of (events_onto now [])
+found_on before [] = sym (append-nil (findings_of before))
+found_on before (t ∷ now) =
+    found_on (t ∷ before) now
+    ∙ ap (λ fs. findings_with fs t ++ findings_of (events_onto now [])) (sym (append-nil (findings_of before)))
+    ∙ ap (λ fs. fs ++ findings_of (events_onto now [])) (found_with (findings_of before) [] t)
+    ∙ append_assoc (findings_of before) (findings_with [] t) (findings_of (events_onto now []))
+    ∙ ap (λ fs. findings_of before ++ fs) (sym (found_on (t ∷ []) now))
+
+pub found_all : (found : List Finding) (before now : List BodyEvent) → (found ++ findings_of before) ++ findings_of (events_onto now []) ≡ found ++ findings_of (events_onto now before)
+found_all found before now = append_assoc found (findings_of before) (findings_of (events_onto now [])) ∙ ap (λ fs. found ++ fs) (sym (found_on before now))
+
+-- what is found among the events of a part, one after the other
+found_then : (xs : List BodyEvent) (t : BodyEvent) → findings_of (events_onto xs []) ++ findings_of (t ∷ []) ≡ findings_of (events_onto (xs ++ t ∷ []) [])
+found_then xs t = sym (found_on (events_onto xs []) (t ∷ [])) ∙ ap findings_of (sym (onto_append xs (t ∷ []) []))
+
+pub with_found_more : {O : Type 0} (tell : O → BodyEvent) (first now new : BoundedList Finding) (ts : List O) (i : ℕ) (d : O) → i < length ts
+    → now ≡ with_found first (map tell (take i ts)) → new ≡ with_found now (tell (get_or ts i d) ∷ []) → new ≡ with_found first (map tell (take (i + 1) ts))
+with_found_more tell first now new ts i d h f g =
+    g ∙ ap (λ (r : BoundedList Finding). with_found r (tell (get_or ts i d) ∷ [])) f
+    ∙ ap (λ fs. record first { items = fs }) (append_assoc first.items (findings_of (events_onto (map tell (take i ts)) [])) (findings_of (tell (get_or ts i d) ∷ [])))
+    ∙ ap (λ fs. record first { items = first.items ++ fs }) (found_then (map tell (take i ts)) (tell (get_or ts i d)))
+    ∙ ap (with_found first) (sym (map-append tell (take i ts) (get_or ts i d ∷ []))) ∙ ap (λ os. with_found first (map tell os)) (sym (take_more ts i d h))
 
 pub lt_total : (limit n m : ℕ) → limit < m → nat_lt limit (min n m + 1) ≡ nat_lt limit (n + 1)
 lt_total limit n m h = grind arith

@@ -1,7 +1,8 @@
 -- The units of a body end at their marks.
-use Rattle.std.proofs.Common.{◌≡◌, ℕ, ◌==◌, ◌||◌, nat_lt, List, [], ◌∷◌, ◌++◌, length, Bool, true, false, if◌then◌else◌, Option, Some, None, inl, inr, refl, sym, ap, subst, ◌∙◌, arith}
-use Rattle.std.specs.List.{list_any}
+use Rattle.std.proofs.Common.{◌≡◌, ℕ, ◌==◌, ◌≤◌, ◌||◌, nat_lt, map, List, [], ◌∷◌, ◌++◌, length, Bool, true, false, if◌then◌else◌, Option, Some, None, inl, inr, refl, sym, ap, subst, ◌∙◌, arith}
+use Rattle.std.specs.List.{All, list_any}
 use Rattle.std.specs.Option.{option_map}
+use Rattle.std.proofs.lemmas.List.Elements.{All-nil, All-cons, All-append}
 use Rattle.std.proofs.lemmas.List.Folds.{list_any-append}
 use Rattle.gabc_places.specs.StageLaw.{concat_of}
 use Rattle.gabc_places.specs.declared.place.Place.{Place}
@@ -22,6 +23,9 @@ use Rattle.gabc_notes.specs.declared.stage.NoteEvent.TheVariants as note_out
 use Rattle.gabc_nabc.specs.Events as nabc
 use Rattle.gabc_score.specs.Events.{PartAhead, InText, InNotes, is_text_end, is_next, is_close, text_from, snippet_from, next_line, behind_mark, texts_by_definition}
 use Rattle.gabc_score.specs.Units.{Opens, Next, Closes, EndedPart, BodyUnit, LastUnit, JustText, OpenNotes, Units, BodyCutting, CutPart, cut_part, whole, snippets_with, units_pieces, last_characters, cutting_of, EndsBehind, Cuts, first_text, BeginsWithLf, IsCutFrom, IsCut}
+use Rattle.gabc_score.specs.Body.{has_text}
+use Rattle.gabc_score.specs.SyllablesOfUnits.{ScoreUnit, snippets_in, characters_from, score_unit, closed_units, last_units, score_units}
+use Rattle.gabc_text.specs.TextRead.{view_in}
 use Rattle.gabc_score.specs.Marks.{EndAt, EndAtTheirMarks, LastEndsAtItsMarks, AllEndAtTheirMarks}
 
 differ : {X : Type 0} → true ≡ false → X
@@ -52,14 +56,14 @@ endless_close (note_out.Found f ∷ events) e = endless_close events e
 endless_close (note_out.Ended how n ∷ events) e = absurd (cc)
 
 -- where a `|` ends a snippet, and where a `)` does
-next_mark : (split : Bool) (c : ℕ) (events : List NoteEvent) → EndAtMost split c events → list_any is_next events ≡ true → c ≡ 124
+next_mark : (split : Bool) (c : ℕ) (events : List NoteEvent) → EndAtMost split c events → list_any is_next events ≡ true → (c ≡ 124) × (split ≡ true)
 next_mark split c events (inl e) h = differ (sym h ∙ endless_next events e)
 next_mark split c events (inr w) h = by w.how w.mark
     (sym (ap (λ (os : List NoteEvent). list_any is_next os) w.cut
     ∙ (list_any-append is_next w.before (note_out.Ended w.how w.bytes ∷ []) ∙ ap (λ (b : Bool). b || list_any is_next (note_out.Ended w.how w.bytes ∷ [])) (endless_next w.before w.endless))) ∙ h)
   where
-    by : (how : NoteEnd) → IsMarkOf split how c → list_any is_next (note_out.Ended how w.bytes ∷ []) ≡ true → c ≡ 124
-    by note_end.Next m e = m.0
+    by : (how : NoteEnd) → IsMarkOf split how c → list_any is_next (note_out.Ended how w.bytes ∷ []) ≡ true → (c ≡ 124) × (split ≡ true)
+    by note_end.Next m e = m
     by note_end.Close m e = differ (sym e)
     by (note_end.Cut p) m e = elim m [ ]
 
@@ -82,7 +86,7 @@ Marked split (events ∷ lists) (x ∷ xs) = EndAtMost split x.c events × Marke
 
 module _ (lines : ℕ) where
   next_at : (split : Bool) (line k : ℕ) (opened p : Place) (lists : List (List NoteEvent)) (prefix : List Char) (end : Char) (rest : List Char)
-      → Marked split lists (prefix ++ end ∷ rest) → EndsBehind lines (InNotes line opened lists) prefix (Next k p) → end.c ≡ 124
+      → Marked split lists (prefix ++ end ∷ rest) → EndsBehind lines (InNotes line opened lists) prefix (Next k p) → (end.c ≡ 124) × (split ≡ true)
   next_at split line k opened p [] [] end rest m h = elim m [ ]
   next_at split line k opened p [] (x ∷ prefix) end rest m h = elim m [ ]
   next_at split line k opened p (events ∷ lists) [] end rest m h = next_mark split end.c events m.0 (next_read (list_any is_next events) (list_any is_close events) (next_line lines line) k opened p h)
@@ -177,7 +181,7 @@ module _ (ends_once : (at : Place) (t : List ℕ) → EndsOnce at t) (gabc_ends 
   next_ends : (line k : ℕ) (opened p : Place) (e : EndedPart) (rest : List Char) → EndsBehind lines (snippet_from lines macros line opened (e.characters ++ e.end ∷ rest)) e.characters (Next k p) → e.end.c ≡ 124
   next_ends line k opened p e rest h =
       let m = snippet_marked line (e.characters ++ e.end ∷ rest) in
-      next_at lines m.0 line k opened p _ e.characters e.end rest m.1 h
+      (next_at lines m.0 line k opened p _ e.characters e.end rest m.1 h).0
 
   pub final_ends : (line : ℕ) (opened : Place) (e : EndedPart) (rest : List Char) → EndsBehind lines (snippet_from lines macros line opened (e.characters ++ e.end ∷ rest)) e.characters Closes → e.end.c ≡ 41
   final_ends line opened e rest h =
@@ -222,3 +226,51 @@ module _ (ends_once : (at : Place) (t : List ℕ) → EndsOnce at t) (gabc_ends 
           let pieces = units_pieces lines u.closed u.last in
           let f = first_is (whole pieces (last_characters u.last)) k.1.1.0 in
           all_end u.closed u.last f.0 (subst (λ (part : PartAhead). Cuts texts_by_definition lines macros part pieces (last_characters u.last)) f.1 k.1.1.1)
+
+  -- ---- without NABC lines
+
+  -- a snippet of GABC ends at a `|` only where notes are split
+  next_splits : (k : ℕ) (opened p : Place) (e : EndedPart) (rest : List Char) → EndsBehind lines (snippet_from lines macros 0 opened (e.characters ++ e.end ∷ rest)) e.characters (Next k p) → nat_lt 0 lines ≡ true
+  unfolding notes.note_events
+  next_splits k opened p e rest h =
+      (next_at lines (nat_lt 0 lines) 0 k opened p (notes.note_events_behind (nat_lt 0 lines) macros [] (e.characters ++ e.end ∷ rest)) e.characters e.end rest (gabc_marked (nat_lt 0 lines) [] (e.characters ++ e.end ∷ rest)) h).1
+
+  none_next : lines ≡ 0 → (opened : Place) (nexts : List EndedPart) (more : List CutPart) (last : List Char)
+      → Cuts texts_by_definition lines macros (snippet_from lines macros 0 opened (whole (snippets_with lines 0 opened nexts more) last)) (snippets_with lines 0 opened nexts more) last → nexts ≡ []
+  none_next z opened [] more last h = refl
+  none_next z opened (e ∷ nexts) more last h =
+      let split : nat_lt 0 lines ≡ true = next_splits (next_line lines 0) opened opened e (whole (snippets_with lines (next_line lines 0) opened nexts more) last) h.0 in
+      differ (sym split ∙ ap (nat_lt 0) z)
+
+  abbrev IsSingle : ScoreUnit → Type 0
+  IsSingle u = length u.snippets ≤ 1
+
+  all_single : lines ≡ 0 → (units : List BodyUnit) (last : LastUnit) (at : Place)
+      → Cuts texts_by_definition lines macros (text_from texts_by_definition at (whole (units_pieces lines units last) (last_characters last))) (units_pieces lines units last) (last_characters last)
+      → All IsSingle (closed_units units last)
+  all_single z [] last at h = All-nil IsSingle
+  all_single z (u ∷ units) last at h =
+      let more = cut_part u.final Closes ∷ units_pieces lines units last in
+      let none : u.nexts ≡ [] = none_next z u.text.end.place u.nexts more (last_characters last) h.1 in
+      let n = snippets_end 0 u.text.end.place u.nexts more (last_characters last) h.1 in
+      let one : length (map (λ (e : EndedPart). e.characters) (snippets_in u)) ≡ 1 = ap (λ (nexts : List EndedPart). length (map (λ (e : EndedPart). e.characters) (nexts ++ u.final ∷ []))) none in
+      All-cons IsSingle (score_unit u (characters_from units last)) (closed_units units last) (omega (arith, one)) (all_single z units last (behind_mark u.final.end.place) n.1.1.1)
+
+  last_single : (last : LastUnit) → All IsSingle (last_units last)
+  last_single (JustText xs) = by (has_text (view_in (codes_of xs)))
+    where
+      by : (b : Bool) → All IsSingle (if b then record { text = codes_of xs; notes = []; snippets = [] } ∷ [] else [])
+      by true = All-cons IsSingle (record { text = codes_of xs; notes = []; snippets = [] }) [] (omega arith) (All-nil IsSingle)
+      by false = All-nil IsSingle
+  last_single (OpenNotes text nexts xs) = All-nil IsSingle
+
+  pub units_single : (xs : List Char) (cut : BodyCutting) → lines ≡ 0 → IsCut texts_by_definition lines macros xs cut → All (λ (u : ScoreUnit). length u.snippets ≤ 1) (score_units cut.units)
+  units_single xs cut z h = by cut.units h
+    where
+      by : (units : Option Units) → IsCutFrom texts_by_definition lines macros xs cut.comment (option_map (cutting_of lines) units) → All IsSingle (score_units units)
+      by None k = All-nil IsSingle
+      by (Some u) k =
+          let pieces = units_pieces lines u.closed u.last in
+          let f = first_is (whole pieces (last_characters u.last)) k.1.1.0 in
+          All-append IsSingle (closed_units u.closed u.last) (last_units u.last)
+          (all_single z u.closed u.last f.0 (subst (λ (part : PartAhead). Cuts texts_by_definition lines macros part pieces (last_characters u.last)) f.1 k.1.1.1)) (last_single u.last)

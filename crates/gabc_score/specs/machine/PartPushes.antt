@@ -1,19 +1,33 @@
--- What a push to a part does, where the events of the part are emitted in other words.
-use Rattle.std.specs.Prelude.{◌≡◌, ℕ, List, [], ◌∷◌, map, length, ◌≤◌}
+-- What a push to a part does, whose events are then in its room.
+use Rattle.std.specs.Prelude.{◌≡◌, ℕ, List, [], ◌∷◌, length, ◌≤◌, true}
 use Rattle.gabc_places.specs.declared.place.Char.{Char}
-use Rattle.gabc_places.specs.BoundedList.{BoundedList, extended_by}
+use Rattle.gabc_notes.specs.declared.stage.NoteEvent.{NoteEvent}
 use Rattle.gabc_score.specs.declared.events.BodyEvent.{BodyEvent}
+use Rattle.gabc_score.specs.Events.{is_close}
+use Rattle.gabc_score.specs.Syllable.{closes}
 
--- The events given are added as they are emitted, and the answer is read off them.
-pub record PushesPart {O A : Type 0} (before after : List Char → List (List O)) (x : Char) (tell : O → BodyEvent) (answer : List O → A) (most : ℕ) (old new : BoundedList BodyEvent) (result : A) : Type 0 where
-  pub events : List O
-  pub out : new ≡ extended_by old (map tell events)
+-- These are the events of x, and what is emitted from then on follows them.
+pub record Emits {O : Type 0} (before after : List Char → List (List O)) (x : Char) (most : ℕ) (events : List O) : Type 0 where
+  pub few : length events ≤ most
+  pub law : (xs : List Char) → before (x ∷ xs) ≡ events ∷ after xs
+
+-- These are the events of the end.
+pub record EmitsLast {O : Type 0} (before : List Char → List (List O)) (most : ℕ) (events : List O) : Type 0 where
+  pub few : length events ≤ most
+  pub law : before [] ≡ events ∷ []
+
+-- These are the events of x, what is emitted from then on follows them, and the answer is read off them.
+pub record PushesPart {O A : Type 0} (before after : List Char → List (List O)) (x : Char) (answer : List O → A) (most : ℕ) (events : List O) (result : A) : Type 0 where
   pub few : length events ≤ most
   pub law : (xs : List Char) → before (x ∷ xs) ≡ events ∷ after xs
   pub answers : result ≡ answer events
 
-pub record FinishesPart {O : Type 0} (before : List Char → List (List O)) (tell : O → BodyEvent) (most : ℕ) (old new : BoundedList BodyEvent) : Type 0 where
-  pub events : List O
-  pub out : new ≡ extended_by old (map tell events)
-  pub few : length events ≤ most
-  pub law : before [] ≡ events ∷ []
+-- a snippet's end at a `)` is the last of these
+abbrev pub NoteClosesLast : List NoteEvent → Type 0
+NoteClosesLast [] = Unit {0}
+NoteClosesLast (e ∷ es) = (is_close e ≡ true → es ≡ []) × NoteClosesLast es
+
+-- the `)` that ends a syllable is the last of these
+abbrev pub ClosesLast : List BodyEvent → Type 0
+ClosesLast [] = Unit {0}
+ClosesLast (t ∷ ts) = (closes t ≡ true → ts ≡ []) × ClosesLast ts

@@ -19,6 +19,7 @@ use Rattle.gabc_text.specs.Printed.{text_of_tokens}
 use Rattle.gabc_text.proofs.machine.TokensOneAfterAnother.{onto}
 use Rattle.gabc_text.proofs.events.EventsByPointAreEvents.{along_joined}
 use Rattle.gabc_text.proofs.tokens.TextIsTokensAndRest.{AllGo, parted}
+use Rattle.gabc_text.proofs.tokens.TokensSpellPrefix.{left_of}
 use Rattle.gabc_text.proofs.order.FindingsLieWithin.{many_lists, events_parted}
 
 ends_more : (xs ys : List TextEvent) → ends_in (xs ++ ys) ≡ ends_in xs ++ ends_in ys
@@ -116,6 +117,7 @@ module _ (at : Place) where
         last = last;
         how = how;
         text_is = p.parts;
+        rest_is = sym (left_of t p);
         events_are = events_parted at t p ∙ ap (λ (x : List TextEvent). lists ++ x ∷ no_events_each p.rest) ended;
         one_each = many_along ks [] p.rest p.go;
         none_before = first_none (concat_of lists) (owed_events at bs) (none_listed ks);

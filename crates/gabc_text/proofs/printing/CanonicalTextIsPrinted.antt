@@ -28,7 +28,7 @@ written_append : (ks ls : List Token) → text_of_tokens (ks ++ ls) ≡ text_of_
 written_append [] ls = refl
 written_append (k ∷ ks) ls = ap (λ (x : List ℕ). spelling k ++ x) (written_append ks ls) ∙ sym (append_assoc (spelling k) (text_of_tokens ks) (text_of_tokens ls))
 
-bytes_append : (ks ls : List Token) → encodes (text_of_tokens (ks ++ ls)) ≡ encodes (text_of_tokens ks) ++ encodes (text_of_tokens ls)
+pub bytes_append : (ks ls : List Token) → encodes (text_of_tokens (ks ++ ls)) ≡ encodes (text_of_tokens ks) ++ encodes (text_of_tokens ls)
 bytes_append ks ls = ap encodes (written_append ks ls) ∙ encodes-append (text_of_tokens ks) (text_of_tokens ls)
 
 -- ---- a boundary

@@ -2,11 +2,14 @@ use Rattle.std.proofs.Common.{sym, ap, ◌∙◌, map-id, Bool, ◌||◌}
 use Rattle.std.specs.Str.{chars}
 use Rattle.std.proofs.lemmas.Iterator.{YieldsList-from_chars}
 use Rattle.std.proofs.lemmas.Iterator.Consumers.{YieldsList-end}
-use Rattle.gabc_headers.proofs.canonical_form.WantsLinesLeftToRight.{wants_start, after_semicolon, after_percent, at_end, wants_from}
+use Rattle.gabc_headers.proofs.canonical_form.WantsLinesLeftToRight.{wants_start, after_lf, after_semicolon, after_percent, at_end, wants_from}
 use Rattle.gabc_headers.proofs.canonical.wants_own_lines.Goals as goal
 
 pub loop-c-init : goal.loop-c-init
 loop-c-init c = λ rest. wants_start rest
+
+pub loop-c-preserved-in-10 : goal.loop-c-preserved-in-10
+loop-c-preserved-in-10 c = λ rest. after_lf c.loop-c.yielded rest c.in-Some.c c.loop-c.wants c.loop-c.at_mark c.in-10.is c.loop-c.invariant
 
 pub loop-c-preserved-in-59 : goal.loop-c-preserved-in-59
 loop-c-preserved-in-59 c = λ rest. after_semicolon c.loop-c.yielded rest c.in-Some.c c.loop-c.wants c.loop-c.at_mark c.in-59.is c.loop-c.invariant

@@ -2,7 +2,7 @@ use Rattle.std.proofs.Common.{◌≡◌, List, sym, ap, ◌∙◌, subst}
 use Rattle.std.proofs.lemmas.Str.{IsUtf8-past_char}
 use Rattle.std.specs.Str.{chars, IsUtf8}
 use Rattle.gabc_headers.specs.declared.events.HeaderEvent.{HeaderEvent}
-use Rattle.gabc_headers.proofs.machines.EventsAreEarlyParts.{with_event}
+use Rattle.gabc_headers.specs.machine.Events.{with_event}
 use Rattle.std.specs.Str.Iter.{chars_rest}
 use Rattle.gabc_headers.proofs.machines.OnePush.{Following, begin_at, pushed, ended}
 use Rattle.gabc_headers.proofs.event_list.events_of_headers.Goals as goal

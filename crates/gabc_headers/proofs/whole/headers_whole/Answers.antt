@@ -7,6 +7,7 @@ use Rattle.gabc_headers.specs.Heads.{heads_of, findings_of}
 use Rattle.gabc_headers.specs.declared.heads.Heads.{Heads}
 use Rattle.gabc_headers.specs.declared.heads.HeadFault.{HeadFault}
 use Rattle.gabc_headers.proofs.collecting.HeadsFollowFromEvents.{scalars_of, read_good, read_within, case_limit, case_score, case_text}
+use Rattle.gabc_headers.proofs.collecting.HeadsWithinLimits.{at_text_end}
 use Rattle.gabc_headers.proofs.order.FindingsStandInOrder.{heads_order}
 use Rattle.gabc_headers.proofs.whole.headers_whole.Goals as goal
 
@@ -35,7 +36,14 @@ returns-in-Score-clause-exact c =
 pub returns-clause-exact : goal.returns-clause-exact
 returns-clause-exact c =
     let u = scalars_of c.args.text.now c.as_str-written.result.now c.as_str-written.utf8 c.as_str-written.ensures.bytes in
-    rw (c.at_text.ensures, ap (λ (x : Collected). x.findings) c.in_ok-collected.ensures, c.as_str-written.ensures.bytes, c.deref.ensures.value)
+    rw (
+      c.head_fault-in-Text.ensures,
+      c.end_fault-fault.ensures,
+      ← at_text_end c.in-Text.place c.in-Text.open_line c.in_ok-collected.collected.findings,
+      ap (λ (x : Collected). x.findings) c.in_ok-collected.ensures,
+      c.as_str-written.ensures.bytes,
+      c.deref.ensures.value,
+    )
     (case_text c.args.limits c.args.text.now c.in_ok-read.read.events.items c.in_ok-read.read.end u c.in_ok-read.ensures c.in-Text.place c.in-Text.open_line c.in-Text.is)
 
 -- what is as the definition says has its findings in order
@@ -53,4 +61,4 @@ pub returns-in-Score-clause-order : goal.returns-in-Score-clause-order
 returns-in-Score-clause-order c = in_order_ok c.args.limits c.args.text.now c.at_score.result (returns-in-Score-clause-exact c)
 
 pub returns-clause-order : goal.returns-clause-order
-returns-clause-order c = in_order c.args.limits c.args.text.now (Err c.at_text.result) (returns-clause-exact c)
+returns-clause-order c = in_order c.args.limits c.args.text.now (Err c.head_fault-in-Text.result) (returns-clause-exact c)

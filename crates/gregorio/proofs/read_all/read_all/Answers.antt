@@ -1,4 +1,4 @@
-use Rattle.std.proofs.Common.{rules, arith, vec_len, length}
+use Rattle.std.proofs.Common.{rules}
 use Rattle.gregorio.specs.SourceBytes.{TakesSource}
 use Rattle.gregorio.proofs.TakenWithoutMemory.{takes_more}
 use Rattle.gregorio.proofs.read_all.read_all.Goals as goal

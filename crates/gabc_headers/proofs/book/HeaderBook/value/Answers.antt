@@ -1,6 +1,6 @@
 use Rattle.std.proofs.Common.{◌<◌, length, subst, sym, refl}
 use Rattle.std.specs.String.{string_bytes}
-use Rattle.gabc_headers.specs.declared.book.Entry.{Entry}
+use Rattle.gabc_headers.specs.declared.book_room.Entry.{Entry}
 use Rattle.gabc_headers.specs.BookText.{IsWithin}
 use Rattle.gabc_headers.proofs.entries.EntriesLieInTheText.{entry_within, length-shown, shown_get}
 use Rattle.gabc_headers.proofs.book.HeaderBook.value.Goals as goal

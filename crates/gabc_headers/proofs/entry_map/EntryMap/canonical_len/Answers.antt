@@ -1,10 +1,16 @@
-use Rattle.std.proofs.Common.{◌≡◌, ◌≤◌, ◌+◌, ◌^◌, ◌-◌, ℕ, length, min, arith, add-one, sym, ap, ◌∙◌, suc, drop, List, ◌∷◌}
+use Rattle.std.proofs.Common.{◌≡◌, ◌≤◌, ◌<◌, ◌+◌, ◌^◌, ◌-◌, ℕ, length, min, arith, add-one, sym, ap, ◌∙◌, suc, drop, List, ◌∷◌}
 use Rattle.std.specs.Str.{chars}
+use lib.Utf8.{encodes}
+use Rattle.gabc_headers.proofs.entries.TextsAsBytes.{length-encodes}
 use Rattle.gabc_headers.specs.Lines.{bytes_len}
 use Rattle.gabc_headers.specs.Canonical.{header_line, header_lines}
 use Rattle.gabc_headers.specs.machine.EntryMap.{spelled_entries}
 use Rattle.gabc_headers.proofs.entries.MapIsReadByEntry.{within_get, spelled_here, spelled_none, lines_cons, sum_next}
 use Rattle.gabc_headers.proofs.entry_map.EntryMap.canonical_len.Goals as goal
+
+-- a count that takes more stays a count
+count_fits : (n b m : ℕ) → n < 2 ^ 64 → m ≡ n + min b (2 ^ 64 - 1 - n) → m < 2 ^ 64
+count_fits n b m h e = omega arith
 
 pub range-requires : goal.range-requires
 range-requires c =
@@ -19,9 +25,9 @@ loop-index-preserved c =
     = rw (c.range.ensures.value) (spelled_here c.args.text.now c.args.self.now.items c.loop-index.index c.name.result.now c.value-value.result c.name.ensures c.value-value.ensures) in
     let sum = ap (λ (x : List (List ℕ × List ℕ)). bytes_len (header_lines x)) here ∙ lines_cons line rest in
     record {
-      fits = c.saturating_add-len.type_inv;
-      sum = rw add-one (sum_next c.loop-index.len (bytes_len (header_line line)) (bytes_len (header_lines rest)) (min (bytes_len (header_lines (spelled_entries c.args.text.now c.args.self.now.items))) (2 ^ 64 - 1))
-          c.line_len.result c.saturating_add-len.result (sym (ap (λ (n : ℕ). min (c.loop-index.len + n) (2 ^ 64 - 1)) sum) ∙ c.loop-index.invariant.sum) c.line_len.ensures c.saturating_add-len.ensures);
+      fits = count_fits c.loop-index.counter _ _ c.loop-index.invariant.fits c.put_header.ensures;
+      sum = rw add-one (sum_next c.loop-index.counter (bytes_len (header_line line)) (bytes_len (header_lines rest)) (min (bytes_len (header_lines (spelled_entries c.args.text.now c.args.self.now.items))) (2 ^ 64 - 1))
+          (length (encodes (header_line line))) c.put_header.new.out (sym (ap (λ (n : ℕ). min (c.loop-index.counter + n) (2 ^ 64 - 1)) sum) ∙ c.loop-index.invariant.sum) (length-encodes (header_line line)) c.put_header.ensures);
     }
 
 pub returns : goal.returns
@@ -30,4 +36,5 @@ returns c =
     let none = ap (λ (x : List (List ℕ × List ℕ)). bytes_len (header_lines x)) (spelled_none c.args.text.now c.args.self.now.items c.loop-index.index l) in
     let e = c.loop-index.invariant.sum in
     let f = c.loop-index.invariant.fits in
-    omega (arith, none, e, f)
+    let count = c.count.ensures in
+    omega (arith, none, e, f, count)

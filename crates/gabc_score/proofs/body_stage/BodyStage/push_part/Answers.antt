@@ -1,17 +1,20 @@
-use Rattle.std.proofs.Common.{refl}
-use Rattle.gabc_text.specs.Events.{codes_of}
-use Rattle.gabc_text.specs.EventsLeft.{events_left}
-use Rattle.gabc_score.proofs.texts_of_body.TextEventsOfBody.{text_emits}
+use Rattle.gabc_score.proofs.building.SyllableEndsLast.{notes_close_last, texts_close_last}
 use Rattle.gabc_score.proofs.body_stage.BodyStage.push_part.Goals as goal
 
-pub returns-then-push_text-clause-events : goal.returns-then-push_text-clause-events
-returns-then-push_text-clause-events c =
-    rw (← c.self.view_is, c.in-Text.is)
-    (text_emits c.self.inside.nabc_lines c.self.inside.macros c.args.x (λ xs. events_left c.in-Text.stage (codes_of xs)) (λ xs. events_left c.push_text.new.stage (codes_of xs)) _ _ _ _
-    c.push_text.ensures.pushes (λ xs. rw (c.if-push_text.true) (c.snippet-self-inside.ensures xs)))
+pub returns-then-ended-clause-once : goal.returns-then-ended-clause-once
+returns-then-ended-clause-once c = texts_close_last c.push_text-ended.new.events.items
 
-pub returns-else-push_text-clause-events : goal.returns-else-push_text-clause-events
-returns-else-push_text-clause-events c =
-    rw (← c.self.view_is, c.in-Text.is)
-    (text_emits c.self.inside.nabc_lines c.self.inside.macros c.args.x (λ xs. events_left c.in-Text.stage (codes_of xs)) (λ xs. events_left c.push_text.new.stage (codes_of xs)) _ _ _ _
-    c.push_text.ensures.pushes (λ xs. rw (c.if-push_text.false) refl))
+pub returns-else-ended-clause-once : goal.returns-else-ended-clause-once
+returns-else-ended-clause-once c = texts_close_last c.push_text-ended.new.events.items
+
+pub returns-then-next-clause-once : goal.returns-then-next-clause-once
+returns-then-next-clause-once c = notes_close_last 0 c.in-Notes.opened c.push_notes-next.new.events.items c.push_notes-next.ensures.once
+
+pub returns-else-close-clause-once : goal.returns-else-close-clause-once
+returns-else-close-clause-once c = notes_close_last 0 c.in-Notes.opened c.push_notes-next.new.events.items c.push_notes-next.ensures.once
+
+pub returns-then-next-2-clause-once : goal.returns-then-next-2-clause-once
+returns-then-next-2-clause-once c = notes_close_last c.in-Nabc.line c.in-Nabc.opened c.push_notes-next-in-Nabc.new.events.items c.push_notes-next-in-Nabc.ensures.once
+
+pub returns-else-close-2-clause-once : goal.returns-else-close-2-clause-once
+returns-else-close-2-clause-once c = notes_close_last c.in-Nabc.line c.in-Nabc.opened c.push_notes-next-in-Nabc.new.events.items c.push_notes-next-in-Nabc.ensures.once

@@ -1,0 +1,7 @@
+pub mod BookStandsAgain
+pub mod EntriesAreTrimmed
+pub mod LinesOfTexts
+pub mod MarksInTexts
+pub mod PrintedBookIsReadAgain
+pub mod PrintedLinesAreGroups
+pub mod TrimmedTexts

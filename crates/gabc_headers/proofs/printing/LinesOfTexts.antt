@@ -1,0 +1,81 @@
+-- The lines of texts that are put together.
+use Rattle.std.proofs.Common.{◌≡◌, ℕ, ◌==◌, List, [], ◌∷◌, ◌++◌, Bool, true, false, cond, ◌||◌, refl, sym, ap, ◌∙◌}
+use Rattle.std.proofs.lemmas.Bool.{eqb-true}
+use Rattle.gabc_headers.specs.Lines.{lines, on_first}
+use Rattle.gabc_headers.proofs.machines.PartsBehindState.{first_line, later_lines, lines_split}
+
+-- whether the character stands in the text
+abbrev pub has : ℕ → List ℕ → Bool
+has x [] = false
+has x (c ∷ l) = (c == x) || has x l
+
+pub has-append : (x : ℕ) (a b : List ℕ) → has x a ≡ false → has x b ≡ false → has x (a ++ b) ≡ false
+has-append x [] b h g = g
+has-append x (c ∷ a) b h g = by (c == x) h (has-append x a b)
+  where
+    by : (p : Bool) → (p || has x a) ≡ false → (has x a ≡ false → has x b ≡ false → has x (a ++ b) ≡ false) → (p || has x (a ++ b)) ≡ false
+    by true h r = absurd (cc)
+    by false h r = r h g
+
+-- in front of lines the first of which is there, all go on alike
+on_first-append : (c : ℕ) (l : List ℕ) (ls ms : List (List ℕ)) → on_first c ((l ∷ ls) ++ ms) ≡ on_first c (l ∷ ls) ++ ms
+on_first-append c l ls ms = refl
+
+-- behind an LF the lines of what follows begin
+pub lines_behind : (u t : List ℕ) → lines (u ++ 10 ∷ t) ≡ lines u ++ lines t
+lines_behind [] t = refl
+lines_behind (c ∷ u) t = by (c == 10) (lines_behind u t) (lines_split u)
+  where
+    by : (b : Bool) → lines (u ++ 10 ∷ t) ≡ lines u ++ lines t → lines u ≡ first_line u ∷ later_lines u
+        → cond b ([] ∷ lines (u ++ 10 ∷ t)) (on_first c (lines (u ++ 10 ∷ t))) ≡ cond b ([] ∷ lines u) (on_first c (lines u)) ++ lines t
+    by true h s = ap (λ (x : List (List ℕ)). [] ∷ x) h
+    by false h s = ap (on_first c) (h ∙ ap (λ (x : List (List ℕ)). x ++ lines t) s)
+        ∙ sym (ap (λ (x : List (List ℕ)). on_first c x ++ lines t) s)
+
+-- a text without LF is one line
+pub one_line : (u : List ℕ) → has 10 u ≡ false → lines u ≡ u ∷ []
+one_line [] h = refl
+one_line (c ∷ u) h = by (c == 10) h (one_line u)
+  where
+    by : (b : Bool) → (b || has 10 u) ≡ false → (has 10 u ≡ false → lines u ≡ u ∷ []) → cond b ([] ∷ lines u) (on_first c (lines u)) ≡ (c ∷ u) ∷ []
+    by true h r = absurd (cc)
+    by false h r = ap (on_first c) (r h)
+
+-- the lines, with a text behind the last
+abbrev pub with_last : List ℕ → List (List ℕ) → List (List ℕ)
+with_last s [] = []
+with_last s (l ∷ []) = (l ++ s) ∷ []
+with_last s (l ∷ m ∷ ls) = l ∷ with_last s (m ∷ ls)
+
+-- a text without LF behind another stands behind its last line
+pub lines_with : (u s : List ℕ) → has 10 s ≡ false → lines (u ++ s) ≡ with_last s (lines u)
+lines_with [] s h = one_line s h
+lines_with (c ∷ u) s h = by (c == 10) (lines_with u s h) (lines_split u)
+  where
+    first : (l : List ℕ) (ls : List (List ℕ)) → on_first c (with_last s (l ∷ ls)) ≡ with_last s (on_first c (l ∷ ls))
+    first l [] = refl
+    first l (m ∷ ls) = refl
+
+    by : (b : Bool) → lines (u ++ s) ≡ with_last s (lines u) → lines u ≡ first_line u ∷ later_lines u
+        → cond b ([] ∷ lines (u ++ s)) (on_first c (lines (u ++ s))) ≡ with_last s (cond b ([] ∷ lines u) (on_first c (lines u)))
+    by true e f = ap (λ (x : List (List ℕ)). [] ∷ x) (e ∙ ap (with_last s) f) ∙ sym (ap (λ (x : List (List ℕ)). with_last s ([] ∷ x)) f)
+    by false e f = ap (on_first c) (e ∙ ap (with_last s) f) ∙ first (first_line u) (later_lines u) ∙ sym (ap (λ (x : List (List ℕ)). with_last s (on_first c x)) f)
+
+-- lines as a text, each behind an LF
+abbrev pub below_text : List (List ℕ) → List ℕ
+below_text [] = []
+below_text (l ∷ ls) = 10 ∷ l ++ below_text ls
+
+-- the lines of a text are that text
+pub lines_joined : (u : List ℕ) → below_text (lines u) ≡ 10 ∷ u
+lines_joined [] = refl
+lines_joined (c ∷ u) = by (c == 10) refl (lines_joined u) (lines_split u)
+  where
+    tail : {a b : List ℕ} → ◌≡◌ {A = List ℕ} (10 ∷ a) (10 ∷ b) → a ≡ b
+    tail e = cc
+
+    by : (b : Bool) → (c == 10) ≡ b → below_text (lines u) ≡ 10 ∷ u → lines u ≡ first_line u ∷ later_lines u → below_text (cond b ([] ∷ lines u) (on_first c (lines u))) ≡ 10 ∷ c ∷ u
+    by true e h s = ap (λ (x : List ℕ). 10 ∷ x) (h ∙ ap (λ (x : ℕ). x ∷ u) (sym (eqb-true c 10 e)))
+    by false e h s =
+        let g : first_line u ++ below_text (later_lines u) ≡ u = tail (sym (ap below_text s) ∙ h) in
+        ap (λ (x : List (List ℕ)). below_text (on_first c x)) s ∙ ap (λ (x : List ℕ). 10 ∷ c ∷ x) g

@@ -1,0 +1,231 @@
+-- The canonical lines of a book are read again as the book.
+use Rattle.std.proofs.Common.{◌≡◌, ℕ, ◌+◌, ◌<◌, ◌≤◌, List, [], ◌∷◌, ◌++◌, Bool, true, false, cond, not, ◌||◌, ◌&&◌, codes, length, length-append, take, nat_lt, map, refl, sym, ap, subst, ◌∙◌, append_assoc, append-nil, arith, Option, None, Ok}
+use Rattle.std.proofs.lemmas.Bool.Decides.{nat_tests}
+use Rattle.std.proofs.Math.Seq.{take-append_seam, take-append-add}
+use Rattle.gabc_places.specs.declared.limits.Limits.{Limits}
+use Rattle.gabc_places.specs.declared.place.Place.{Place}
+use Rattle.gabc_places.specs.declared.code.Code.TheVariants.{W1, F4, F7}
+use Rattle.gabc_places.specs.declared.code.Finding.{Finding}
+use Rattle.gabc_places.specs.Findings.{Known, Stop, findings_before, earliest}
+use Rattle.gabc_places.specs.Place.{place_after}
+use Rattle.gabc_headers.specs.declared.heads.Heads.{Heads}
+use Rattle.gabc_headers.specs.Lines.{bytes_len, lines, on_first, lines_len, head_of, has_score, before_colon}
+use Rattle.gabc_headers.specs.Parts.{HeaderPart, outside, parts, bad_name_parts, ended_parts}
+use Rattle.gabc_headers.specs.Book.{entries, standing_entries, book_of, has_header}
+use Rattle.gabc_headers.specs.Groups.{Group, valued, AreGroups, value_text, mark_point, parts_of_groups}
+use Rattle.gabc_headers.specs.Canonical.{header_line, header_lines, canonical_heads}
+use Rattle.gabc_headers.specs.Heads.{head_len, head_parts, open_line, findings_behind, name_findings, head_findings, known_at, stop_at, text_stops, open_stops, score_stops, missing_score, head_stops, body_byte, heads_by, heads_of}
+use Rattle.gabc_headers.specs.HeadsAgain.{nameless, heads_again}
+use Rattle.gabc_headers.proofs.machines.PartsBehindState.{first_line, later_lines, lines_split}
+use Rattle.gabc_headers.proofs.groups.GroupsAreUnique.{some_groups}
+use Rattle.gabc_headers.proofs.groups.GroupsTellParts.{groups_tell}
+use Rattle.gabc_headers.proofs.stops.PointsOfStops.{lines_all}
+use Rattle.gabc_headers.proofs.stops.TextTooLong.{take_head, stops_none}
+use Rattle.gabc_headers.proofs.FrontHasTheSameHeaders.{none_apart}
+use Rattle.gabc_headers.proofs.printing.MarksInTexts.{AreNoScore}
+use Rattle.gabc_headers.proofs.printing.EntriesAreTrimmed.{head_lines, good_parts}
+use Rattle.gabc_headers.proofs.printing.BookStandsAgain.{AreEntries, entries_good, standing_good, NoneAgain, book_once, stands_again, AreHeaders, headers_entries, headers_found, headers_closed}
+use Rattle.gabc_headers.proofs.printing.PrintedLinesAreGroups.{PrintedEntry, printed_entry}
+
+-- ---- the lines of a book
+
+-- the lines that are printed of entries, in front of a line `%%`: those of groups that tell the entries
+record PrintedBook (es : List (List ℕ × List ℕ)) (more : List ℕ) : Type 0 where
+  groups : List Group
+  heads : List (List ℕ)
+  text : lines (header_lines es ++ 37 ∷ 37 ∷ more) ≡ heads ++ lines (37 ∷ 37 ∷ more)
+  no_score : AreNoScore heads
+  cut : AreGroups heads groups
+  says : (k n : ℕ) → AreHeaders (parts_of_groups k n groups) es
+
+no_score_append : (ls ms : List (List ℕ)) → AreNoScore ls → AreNoScore ms → AreNoScore (ls ++ ms)
+no_score_append [] ms h g = g
+no_score_append (l ∷ ls) ms h g = (h.0, no_score_append ls ms h.1 g)
+
+printed_book : (es : List (List ℕ × List ℕ)) → AreEntries es → (more : List ℕ) → PrintedBook es more
+printed_book [] h more = record { groups = []; heads = []; text = refl; no_score = tt; cut = refl; says = λ k n. tt }
+printed_book (e ∷ es) h more =
+    let p : PrintedEntry e = printed_entry e.0 e.1 h.0.name h.0.value in
+    let r = printed_book es h.1 more in
+    let own : List (List ℕ) = p.first ∷ p.below in
+    record {
+      groups = valued p.first p.below ∷ r.groups;
+      heads = own ++ r.heads;
+      text = ap lines (append_assoc (header_line e) (header_lines es) (37 ∷ 37 ∷ more)) ∙ p.lines_are (header_lines es ++ 37 ∷ 37 ∷ more)
+          ∙ ap (λ (x : List (List ℕ)). own ++ x) r.text ∙ sym (append_assoc own r.heads (lines (37 ∷ 37 ∷ more)));
+      no_score = no_score_append own r.heads p.no_score r.no_score;
+      cut = ((p.begins, p.ends), (r.heads, refl, r.cut));
+      says = λ k n. subst (λ (o : Option (List ℕ)). AreHeaders ((bad_name_parts k o (n + length (before_colon p.first)) ++ ended_parts k o (value_text p.first p.below) (mark_point n p.first p.below))
+          ++ parts_of_groups (k + length own) (n + lines_len own) r.groups) (e ∷ es)) (sym p.name_is) ((refl, p.value_is), r.says (k + length own) (n + lines_len own));
+    }
+
+-- lines in front of the line `%%`
+head_behind : (ls ms : List (List ℕ)) → AreNoScore ls → (head_of (ls ++ ms) ≡ ls ++ head_of ms) × (has_score (ls ++ ms) ≡ has_score ms)
+head_behind [] ms h = (refl, refl)
+head_behind (l ∷ ls) ms h =
+    let r = head_behind ls ms h.1 in (
+      ap (λ (b : Bool). cond b [] (l ∷ head_of (ls ++ ms))) h.0 ∙ ap (λ (x : List (List ℕ)). l ∷ x) r.0,
+      ap (λ (b : Bool). b || has_score (ls ++ ms)) h.0 ∙ r.1,
+    )
+
+score_first_line : (more : List ℕ) → (head_of (lines (37 ∷ 37 ∷ more)) ≡ []) × (has_score (lines (37 ∷ 37 ∷ more)) ≡ true)
+score_first_line more =
+    let s : lines (37 ∷ 37 ∷ more) ≡ (37 ∷ 37 ∷ first_line more) ∷ later_lines more = ap (λ (x : List (List ℕ)). on_first 37 (on_first 37 x)) (lines_split more) in
+    (ap head_of s, ap has_score s)
+
+lines_len-append : (ls ms : List (List ℕ)) → lines_len (ls ++ ms) ≡ lines_len ls + lines_len ms
+lines_len-append [] ms = omega arith
+lines_len-append (l ∷ ls) ms = let h = lines_len-append ls ms in omega arith
+
+-- ---- what is found, and what stops
+
+-- no limit is passed by the lines
+within : (limit n : ℕ) (s : Stop) → cond (nat_lt limit n) (s ∷ []) [] ≡ [] → nat_lt limit n ≡ false
+within limit n s h = by (nat_lt limit n) h
+  where
+    by : (b : Bool) → cond b (s ∷ []) [] ≡ [] → b ≡ false
+    by true e = absurd (cc)
+    by false e = refl
+
+nothing_both : {X : Type 0} (xs ys : List X) → xs ++ ys ≡ [] → (xs ≡ []) × (ys ≡ [])
+nothing_both [] ys h = (refl, h)
+nothing_both (x ∷ xs) ys h = absurd (cc)
+
+-- one finding at most, and its point is early
+one_found : (b : Bool) (f : Finding) (p stop : ℕ) → p < stop → findings_before stop (cond b (record { point = p; finding = f } ∷ []) []) ≡ cond b (f ∷ []) []
+one_found true f p stop h =
+    let e : nat_lt p stop ≡ true = grind (arith, nat_tests) in
+    ap (λ (b : Bool). map (λ (k : Known). k.finding) (cond b (record { point = p; finding = f } ∷ []) [])) e
+one_found false f p stop h = refl
+
+not_cond : {X : Type 0} (b : Bool) (x : X) → cond (not b) (x ∷ []) [] ≡ cond b [] (x ∷ [])
+not_cond true x = refl
+not_cond false x = refl
+
+-- ---- the book is read again
+
+-- a book within the limits
+record Within (limits : Limits) (book : List (List ℕ × List ℕ)) : Type 0 where
+  entries : AreEntries book
+  once : NoneAgain [] book
+  header : nat_lt limits.header (bytes_len (header_lines book)) ≡ false
+  input : nat_lt limits.input (bytes_len (header_lines book) + 3) ≡ false
+
+module _ (limits : Limits) (book : List (List ℕ × List ℕ)) (w : Within limits book) (more : List ℕ) where
+  abbrev again : List ℕ
+  again = canonical_heads book ++ more
+
+  abbrev printed : PrintedBook book more
+  printed = printed_book book w.entries more
+
+  again_is : again ≡ header_lines book ++ 37 ∷ 37 ∷ more
+  again_is = append_assoc (header_lines book) (37 ∷ 37 ∷ []) more
+
+  lines_are : lines again ≡ printed.heads ++ lines (37 ∷ 37 ∷ more)
+  lines_are = ap lines again_is ∙ printed.text
+
+  head_is : head_of (lines again) ≡ printed.heads
+  head_is = ap head_of lines_are ∙ (head_behind printed.heads (lines (37 ∷ 37 ∷ more)) printed.no_score).0
+      ∙ ap (λ (x : List (List ℕ)). printed.heads ++ x) (score_first_line more).0 ∙ append-nil printed.heads
+
+  score_is : has_score (lines again) ≡ true
+  score_is = ap has_score lines_are ∙ (head_behind printed.heads (lines (37 ∷ 37 ∷ more)) printed.no_score).1 ∙ (score_first_line more).1
+
+  len_is : head_len again ≡ length (header_lines book)
+  len_is =
+      let own : head_len again ≡ lines_len printed.heads = ap (λ (b : Bool). cond b (lines_len (head_of (lines again))) (length again)) score_is ∙ ap lines_len head_is in
+      let all : length again + 1 ≡ lines_len printed.heads + lines_len (lines (37 ∷ 37 ∷ more)) = sym (lines_all again) ∙ ap lines_len lines_are ∙ lines_len-append printed.heads (lines (37 ∷ 37 ∷ more)) in
+      let behind : lines_len (lines (37 ∷ 37 ∷ more)) ≡ length (37 ∷ 37 ∷ more) + 1 = lines_all (37 ∷ 37 ∷ more) in
+      let both : length again ≡ length (header_lines book) + length (37 ∷ 37 ∷ more) = ap (length {A = ℕ}) again_is ∙ length-append (header_lines book) (37 ∷ 37 ∷ more) in
+      own ∙ (let h : lines_len printed.heads ≡ length (header_lines book) = omega (arith, all, behind, both) in h)
+
+  text_is : take (head_len again) again ≡ header_lines book
+  text_is = ap (λ (n : ℕ). take n again) len_is ∙ ap (take (length (header_lines book))) again_is ∙ take-append_seam (header_lines book) (37 ∷ 37 ∷ more)
+
+  abbrev told : List HeaderPart
+  told = parts_of_groups 1 0 printed.groups
+
+  parts_are : head_parts again ≡ told
+  parts_are = ap (parts outside 1 0) head_is ∙ groups_tell printed.groups 1 0 printed.heads printed.cut
+
+  book_is : book_of (head_parts again) ≡ book
+  book_is = ap book_of parts_are ∙ ap (standing_entries []) (headers_entries told book (printed.says 1 0) w.entries) ∙ stands_again [] book w.once
+
+  none_long : text_stops limits.header again ≡ []
+  none_long =
+      let small : bytes_len (header_lines book) ≤ limits.header = let h = w.header in grind (arith, nat_tests) in
+      stops_none limits.header again (subst (λ (x : List ℕ). bytes_len x ≤ limits.header) (sym (sym (take_head again) ∙ text_is)) small)
+
+  none_open : open_line (head_parts again) ≡ None
+  none_open = ap open_line parts_are ∙ headers_closed told book (printed.says 1 0)
+
+  none_above : score_stops limits again ≡ []
+  none_above =
+      let place : Place = place_after (take (head_len again) again) in
+      ap (λ (b : List (List ℕ × List ℕ)). cond (nat_lt limits.header (bytes_len (header_lines b))) (stop_at (head_len again + 1) place F4 ∷ []) []
+      ++ cond (nat_lt limits.input (bytes_len (header_lines b) + 3)) (stop_at (head_len again + 1) place F7 ∷ []) []) book_is
+      ∙ ap (λ (b : Bool). cond b (stop_at (head_len again + 1) place F4 ∷ []) [] ++ cond (nat_lt limits.input (bytes_len (header_lines book) + 3)) (stop_at (head_len again + 1) place F7 ∷ []) []) w.header
+      ∙ ap (λ (b : Bool). cond b (stop_at (head_len again + 1) place F7 ∷ []) []) w.input
+
+  none_stops : head_stops limits again ≡ []
+  none_stops =
+      ap (λ (x : List Stop). x ++ cond (has_score (lines again)) (open_stops (head_len again + 1) (open_line (head_parts again)) ++ score_stops limits again)
+      (open_stops (length again) (open_line (head_parts again)) ++ missing_score (open_line (head_parts again)) again)) none_long
+      ∙ ap (λ (b : Bool). cond b (open_stops (head_len again + 1) (open_line (head_parts again)) ++ score_stops limits again)
+      (open_stops (length again) (open_line (head_parts again)) ++ missing_score (open_line (head_parts again)) again)) score_is
+      ∙ ap (λ (o : Option ℕ). open_stops (head_len again + 1) o ++ score_stops limits again) none_open
+      ∙ none_above
+
+  body_is : body_byte again ≡ bytes_len (canonical_heads book)
+  body_is = ap (λ (n : ℕ). bytes_len (take (n + 2) again)) len_is ∙ ap (λ (x : List ℕ). bytes_len (take (length (header_lines book) + 2) x)) again_is
+      ∙ ap bytes_len (take-append-add (header_lines book) (37 ∷ 37 ∷ more) 2)
+
+  found_is : head_findings again ≡ cond (not (has_header (codes "name") book)) (record { point = head_len again + 1; finding = nameless book } ∷ []) []
+  found_is =
+      ap (λ (x : List HeaderPart). findings_behind [] x ++ name_findings again) parts_are
+      ∙ ap (λ (x : List Known). x ++ name_findings again) (headers_found [] told book (printed.says 1 0) w.entries w.once)
+      ∙ ap (λ (b : Bool). cond (b && not (has_header (codes "name") (book_of (head_parts again)))) (known_at (head_len again + 1) (place_after (take (head_len again) again)) W1 ∷ []) []) score_is
+      ∙ ap (λ (b : List (List ℕ × List ℕ)). cond (not (has_header (codes "name") b)) (known_at (head_len again + 1) (place_after (take (head_len again) again)) W1 ∷ []) []) book_is
+      ∙ ap (λ (x : List ℕ). cond (not (has_header (codes "name") book)) (known_at (head_len again + 1) (place_after x) W1 ∷ []) []) text_is
+
+  findings_are : findings_before (length again + 1) (head_findings again) ≡ cond (has_header (codes "name") book) [] (nameless book ∷ [])
+  findings_are =
+      let both : length again ≡ length (header_lines book) + length (37 ∷ 37 ∷ more) = ap (length {A = ℕ}) again_is ∙ length-append (header_lines book) (37 ∷ 37 ∷ more) in
+      let early : head_len again + 1 < length again + 1 = omega (arith, len_is, both) in
+      ap (findings_before (length again + 1)) found_is
+      ∙ one_found (not (has_header (codes "name") book)) (nameless book) (head_len again + 1) (length again + 1) early
+      ∙ not_cond (has_header (codes "name") book) (nameless book)
+
+  heads_are : heads_of limits again ≡ Ok (heads_again book)
+  heads_are =
+      ap (λ (x : List Stop). heads_by again (earliest x)) none_stops
+      ∙ ap (λ (b : List (List ℕ × List ℕ)). Ok (record { book = b; body = body_byte again; findings = findings_before (length again + 1) (head_findings again) })) book_is
+      ∙ ap (λ (n : ℕ). Ok (record { book = book; body = n; findings = findings_before (length again + 1) (head_findings again) })) body_is
+      ∙ ap (λ (x : List Finding). Ok (record { book = book; body = bytes_len (canonical_heads book); findings = x })) findings_are
+
+-- ---- the book of a text
+
+-- headers that are read whole have a book within the limits
+within_limits : (limits : Limits) (t : List ℕ) (heads : Heads) → heads_of limits t ≡ Ok heads → Within limits heads.book
+within_limits limits t heads ok =
+    let (groups, cut) = some_groups (head_of (lines t)) in
+    let none = none_apart limits t [] heads ok in
+    let above = nothing_both _ _ (nothing_both (open_stops (head_len t + 1) (open_line (head_parts t))) (score_stops limits t) none.1).1 in
+    let all : AreEntries (entries (head_parts t)) = subst (λ (x : List HeaderPart). AreEntries (entries x)) (sym (groups_tell groups 1 0 (head_of (lines t)) cut))
+    (entries_good (parts_of_groups 1 0 groups) (good_parts groups (head_of (lines t)) 1 0 cut (head_lines t))) in
+    subst (Within limits) (sym (whole (head_stops limits t) ok)) (record {
+      entries = standing_good [] (entries (head_parts t)) all;
+      once = book_once (entries (head_parts t));
+      header = within limits.header (bytes_len (header_lines (book_of (head_parts t)))) _ above.0;
+      input = within limits.input (bytes_len (header_lines (book_of (head_parts t))) + 3) _ above.1;
+    })
+  where
+    whole : (stops : List Stop) → heads_by t (earliest stops) ≡ Ok heads → heads.book ≡ book_of (head_parts t)
+    whole [] e = cc
+    whole (s ∷ stops) e = absurd (cc)
+
+pub book_read : (limits : Limits) (t more : List ℕ) (heads : Heads) → heads_of limits t ≡ Ok heads → heads_of limits (canonical_heads heads.book ++ more) ≡ Ok (heads_again heads.book)
+book_read limits t more heads ok = heads_are limits heads.book (within_limits limits t heads ok) more
+
+pub book_ends : (limits : Limits) (t more : List ℕ) (heads : Heads) → heads_of limits t ≡ Ok heads → head_len (canonical_heads heads.book ++ more) ≡ length (header_lines heads.book)
+book_ends limits t more heads ok = len_is limits heads.book (within_limits limits t heads ok) more

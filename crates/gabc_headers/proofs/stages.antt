@@ -1,0 +1,6 @@
+pub mod AStageStops
+pub mod BytesThroughADecoder
+pub mod CharactersOfAStage
+pub mod EventsOfAStage
+pub mod HeadersTakeThreeBytes
+pub mod MachineTakesText

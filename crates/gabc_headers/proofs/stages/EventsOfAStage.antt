@@ -1,0 +1,242 @@
+-- What a stage of headers gives of a character, by what its machine tells of it.
+use Rattle.std.proofs.Common.{◌≡◌, ℕ, ◌+◌, ◌≤◌, List, [], ◌∷◌, ◌++◌, length, map, Bool, true, false, cond, codes, refl, sym, ap, ◌∙◌, subst, arith, Option, Some, None, Result, Ok, Err, IsUtf8, append-nil}
+use Rattle.std.specs.Char.{IsScalar, len_utf8}
+use Rattle.std.specs.Str.{chars}
+use Rattle.std.proofs.lemmas.Str.{chars-append, encodes-chars, IsUtf8-append, IsUtf8-encode, length-encode, scalars-chars}
+use lib.Utf8.{encode, encodes, scalars}
+use Rattle.gabc_places.specs.BoundedList.{BoundedList, Fits}
+use Rattle.gabc_places.specs.declared.place.Place.{Place}
+use Rattle.gabc_places.specs.declared.place.Span.{Span}
+use Rattle.gabc_places.specs.declared.limits.Limits.{Limits}
+use Rattle.gabc_places.specs.declared.code.Code.TheVariants.{W1, F4}
+use Rattle.gabc_places.specs.declared.code.Fault.{Fault}
+use Rattle.gabc_places.specs.declared.code.Finding.{Finding}
+use Rattle.gabc_places.proofs.texts.CharactersOfStrings.{chars-encode}
+use Rattle.gabc_headers.specs.declared.events.HeaderEvent.{HeaderEvent}
+use Rattle.gabc_headers.specs.declared.events.HeaderEvent.TheVariants.{LeftOut, Header}
+use Rattle.gabc_headers.specs.declared.events.HeaderEnding.{HeaderEnding}
+use Rattle.gabc_headers.specs.declared.events.HeaderEnding.TheVariants.{Score, Limit, Text}
+use Rattle.gabc_headers.specs.declared.head_event.HeadEvent.{HeadEvent}
+use Rattle.gabc_headers.specs.declared.head_event.HeadEvent.TheVariants.{Found, Stop}
+use Rattle.gabc_headers.specs.declared.header_machine.HeaderMachine.{HeaderMachine}
+use Rattle.gabc_headers.specs.declared.header_machine.HeaderStep.{HeaderStep}
+use Rattle.gabc_headers.specs.declared.header_machine.HeaderStep.TheVariants.{Read, Ended}
+use Rattle.gabc_headers.specs.declared.heads.Heads.{Heads}
+use Rattle.gabc_headers.specs.declared.heads.HeadFault.{HeadFault}
+use Rattle.gabc_headers.specs.Book.{has_header, is_kept}
+use Rattle.gabc_headers.specs.BookText.{text_at}
+use Rattle.gabc_headers.specs.EntryMap.{put_entry}
+use Rattle.gabc_headers.specs.Heads.{heads_of}
+use Rattle.gabc_headers.specs.HeadEvents.{HeadProgress, reading, behind, over, events_at, events_at_end, progress_with, heads_told}
+use Rattle.gabc_headers.specs.Lines.{bytes_len}
+use Rattle.gabc_headers.specs.machine.Collected.{Collected, IsGoodEvent, AreGoodEvents, collected_with, collected_with_all, of_headers, none, name_found, len_at_score, end_fault, finding_at}
+use Rattle.gabc_headers.specs.machine.EntryMap.{spelled_entries, AreWithin, comes_again}
+use Rattle.gabc_headers.specs.machine.Events.{with_event}
+use Rattle.gabc_headers.specs.machine.HeaderMachine.{IsBounded, fresh_machine, push_one, end_here}
+use Rattle.gabc_headers.specs.machine.HeaderStage.{Takes, IsReading}
+use Rattle.gabc_headers.proofs.collecting.HeadsFollowFromEvents.{collected_of, read_good, read_within}
+use Rattle.gabc_headers.proofs.collecting.HeadsWithinLimits.{by_len, heads_by_len, at_text_end}
+use Rattle.gabc_headers.proofs.entries.TextsAsBytes.{bytes_len-append, bytes_len-chars}
+use Rattle.gabc_headers.proofs.prefixes.EventsGrow.{with_last, spelled_longer}
+use Rattle.gabc_headers.proofs.prefixes.EventsMakeHeads.{IsNoText, no_text_push, read_tells, stopped_tells, whole_tells, now_is}
+use Rattle.gabc_headers.proofs.prefixes.HeadsSoFar.{HasRead, read_all, kept_so_far, heads_at, heads_at_end, found_at}
+use Rattle.gabc_headers.proofs.stages.HeadersTakeThreeBytes.{room_for_one}
+use Rattle.gabc_headers.proofs.stages.MachineTakesText.{takes_more, has_read, counted, seen_bytes}
+
+-- ---- what an event adds depends on the headers alone
+
+headers_alone : (text : List ℕ) (e : HeaderEvent) (c : Collected) → (collected_with text e c).headers ≡ (collected_with text e (of_headers c.headers)).headers
+headers_alone text (LeftOut k p) c = refl
+headers_alone text (Header k n v p) c = by (is_kept (text_at text n) (text_at text v))
+  where
+    by : (b : Bool) → (cond {A = Collected} b (record {
+      headers = put_entry c.headers (text_at text n) v;
+      findings = cond (comes_again c.headers (text_at text n)) (c.findings ++ finding_at k Rattle.gabc_places.specs.declared.code.Code.TheVariants.W2 ∷ []) c.findings;
+    }) (record { headers = c.headers; findings = c.findings ++ finding_at k Rattle.gabc_places.specs.declared.code.Code.TheVariants.E5 ∷ [] })).headers
+        ≡ (cond {A = Collected} b (record {
+          headers = put_entry c.headers (text_at text n) v;
+          findings = cond (comes_again c.headers (text_at text n)) (finding_at k Rattle.gabc_places.specs.declared.code.Code.TheVariants.W2 ∷ []) [];
+        }) (record { headers = c.headers; findings = finding_at k Rattle.gabc_places.specs.declared.code.Code.TheVariants.E5 ∷ [] })).headers
+    by true = refl
+    by false = refl
+
+found_alone : (text : List ℕ) (e : Option HeaderEvent) (c : Collected) → found_at text e c ≡ found_at text e (of_headers c.headers)
+found_alone text None c = refl
+found_alone text (Some (LeftOut k p)) c = refl
+found_alone text (Some (Header k n v p)) c = refl
+
+-- the headers with an event, if there is one
+abbrev pub put_at : List ℕ → Option HeaderEvent → List (List ℕ × Span) → List (List ℕ × Span)
+put_at text None items = items
+put_at text (Some e) items = (collected_with text e (of_headers items)).headers
+
+put_last : (text : List ℕ) (es : List HeaderEvent) (e : Option HeaderEvent) → put_at text e (collected_with_all text es none).headers ≡ (collected_with_all text (with_event es e) none).headers
+put_last text es None = refl
+put_last text es (Some e) = sym (headers_alone text e (collected_with_all text es none)) ∙ sym (ap (λ (x : Collected). x.headers) (with_last text es e none))
+
+-- the event is good, if there is one
+abbrev pub IsGoodOption : List ℕ → Option HeaderEvent → Type 0
+IsGoodOption text None = Unit {0}
+IsGoodOption text (Some e) = IsGoodEvent text e
+
+good_last : (text : List ℕ) (es : List HeaderEvent) (e : Option HeaderEvent) → AreGoodEvents text (with_event es e) → IsGoodOption text e
+good_last text es None h = tt
+good_last text [] (Some e) h = h.0
+good_last text (d ∷ es) (Some e) h = good_last text es (Some e) h.1
+
+-- ---- a character
+
+-- what a character tells with which the headers go on
+pub record ReadsOn (limits : Limits) (text : List ℕ) (space : ℕ) (new : HeaderMachine) (headers : BoundedList (List ℕ × Span)) (c : ℕ) (e : Option HeaderEvent) : Type 0 where
+  pub fits : length text + length (encode c) ≤ space
+  pub good : IsGoodOption (text ++ encode c) e
+  pub room : Fits headers 1
+  pub events : events_at limits (chars text) c ≡ map (λ f. Found f) (found_at (text ++ encode c) e (of_headers headers.items))
+  pub progress : progress_with limits (chars text) c ≡ reading (chars (text ++ encode c))
+  pub next : (now : BoundedList (List ℕ × Span)) (more : ℕ) → space ≤ more → now.items ≡ put_at (text ++ encode c) e headers.items → now.limit ≡ headers.limit
+      → IsReading limits (text ++ encode c) more new now
+
+-- what a character tells that ends the headers
+pub record Tells (limits : Limits) (text : List ℕ) (c : ℕ) (events : List HeadEvent) (progress : HeadProgress) : Type 0 where
+  pub events_are : events_at limits (chars text) c ≡ events
+  pub progress_is : progress_with limits (chars text) c ≡ progress
+
+module _ (limits : Limits) (text : List ℕ) (space : ℕ) (machine new : HeaderMachine) (headers : BoundedList (List ℕ × Span)) (c : ℕ) (u : IsUtf8 text) (s : IsScalar c) (h : IsReading limits text space machine headers) where
+  abbrev t : List ℕ
+  t = chars text
+
+  abbrev longer : List ℕ
+  longer = t ++ c ∷ []
+
+  abbrev more : List ℕ
+  more = text ++ encode c
+
+  more_utf8 : IsUtf8 more
+  more_utf8 = IsUtf8-append text (encode c) u (IsUtf8-encode c s)
+
+  chars_more : chars more ≡ longer
+  chars_more = chars-append text (encode c) u ∙ ap (λ (x : List ℕ). t ++ x) (chars-encode c s)
+
+  bytes_more : encodes longer ≡ more
+  bytes_more = sym (ap encodes chars_more) ∙ encodes-chars more more_utf8
+
+  bytes_are : encodes t ≡ text
+  bytes_are = encodes-chars text u
+
+  scalars_more : scalars longer ≡ true
+  scalars_more = subst (λ (x : List ℕ). scalars x ≡ true) chars_more (scalars-chars more more_utf8)
+
+  scalars_all : scalars t ≡ true
+  scalars_all = scalars-chars text u
+
+  pub read : HasRead limits.header t machine h.events
+  read = has_read limits.header t machine h.events h.taken
+
+  items_are : headers.items ≡ (collected_of t h.events).headers
+  items_are = h.put ∙ ap (λ (x : List ℕ). (collected_with_all x h.events none).headers) (sym bytes_are)
+
+  items_more : headers.items ≡ (collected_with_all more h.events none).headers
+  items_more = items_are ∙ (ap (λ (x : Collected). x.headers) (sym (kept_so_far limits.header t (c ∷ []) machine h.events scalars_more read))
+      ∙ ap (λ (x : List ℕ). (collected_with_all x h.events none).headers) bytes_more)
+
+  pub reads_on : (e : Option HeaderEvent) → IsBounded new → push_one machine c ≡ (new, Read e) → ReadsOn limits text space new headers c e
+  reads_on e bounded p =
+      let tells = read_tells limits t [] c machine new h.events scalars_more read e p in
+      let taken = takes_more (fresh_machine limits.header) machine new [] h.events t c e h.taken p in
+      let here = counted limits.header longer new (with_event h.events e) taken in
+      record {
+        fits = within (bytes_len-append t (c ∷ [])) here.bytes here.limit bounded;
+        good = good_last more h.events e (subst (λ (x : List ℕ). AreGoodEvents x (with_event h.events e)) bytes_more
+            (read_good limits longer (with_event h.events e) (end_here new) scalars_more (read_all limits.header longer new (with_event h.events e) (has_read limits.header longer new (with_event h.events e) taken))));
+        room = room_is;
+        events = tells.0 ∙ ap (λ (x : List Finding). map (λ f. Found f) x) (ap (λ (x : List ℕ). found_at x e (collected_of t h.events)) bytes_more ∙ (found_alone more e (collected_of t h.events)
+            ∙ ap (λ (x : List (List ℕ × Span)). found_at more e (of_headers x)) (sym items_are)));
+        progress = tells.1 ∙ ap (λ (x : List ℕ). reading x) (sym chars_more);
+        next = λ now wide w items limit. record {
+          events = with_event h.events e;
+          taken = subst (λ (x : List ℕ). Takes (fresh_machine limits.header) [] x new (with_event h.events e)) (sym chars_more) taken;
+          bounded = bounded;
+          fits = (let f = h.fits in omega (arith, f, w));
+          put = items ∙ (ap (λ (x : List (List ℕ × Span)). put_at more e x) items_more ∙ put_last more h.events e);
+          limit = limit ∙ h.limit;
+        };
+      }
+    where
+      held_at_most : (b : Bool) → cond b 1 0 ≤ 1
+      held_at_most true = omega arith
+      held_at_most false = omega arith
+
+      within : bytes_len longer ≡ bytes_len t + bytes_len (c ∷ []) → bytes_len longer ≡ seen_bytes new → new.limit ≡ limits.header → IsBounded new → length text + length (encode c) ≤ space
+      within a b l n =
+          let one : bytes_len (c ∷ []) ≡ len_utf8 c = Rattle.std.proofs.Common.zero-add (len_utf8 c) in
+          let d = bytes_len-chars text u in
+          let g = length-encode c in
+          let f = h.fits in
+          let m = n.bytes in
+          let k = held_at_most new.held in
+          omega (arith, a, b, l, one, d, g, f, m, k)
+
+      room_is : Fits headers 1
+      room_is =
+          let r = room_for_one limits.header t text machine h.events h.taken (let b = h.bounded.bytes in let l = (counted limits.header t machine h.events h.taken).limit in omega (arith, b, l)) in
+          let i = ap (λ (x : List (List ℕ × Span)). length x) h.put in
+          let l = h.limit in
+          omega (arith, r, i, l)
+
+  -- the text is too long
+  pub tells_limit : (place : Place) → push_one machine c ≡ (new, Ended (Limit place)) → Tells limits text c (Stop (record { place = place; code = F4 }) ∷ []) over
+  tells_limit place p =
+      let now = now_is limits t [] c machine new h.events scalars_more read (Limit place) p in
+      let k = stopped_tells limits t [] c machine new h.events scalars_more read _ (sym now) refl in
+      record { events_are = k.0; progress_is = k.1 }
+
+  -- ---- the line `%%`
+
+  abbrev book : List (List ℕ × List ℕ)
+  book = spelled_entries text headers.items
+
+  pub headers_lie_within : AreWithin text headers.items
+  headers_lie_within = subst (λ (x : List (List ℕ × Span)). AreWithin text x) (sym items_are) (subst (λ (x : List ℕ). AreWithin x (collected_of t h.events).headers) bytes_are
+      (read_within limits t h.events (end_here machine) scalars_all (read_all limits.header t machine h.events read)))
+
+  book_is : spelled_entries (encodes longer) (collected_of t h.events).headers ≡ book
+  book_is = ap (λ (x : List ℕ). spelled_entries x (collected_of t h.events).headers) bytes_more ∙ (ap (λ (x : List (List ℕ × Span)). spelled_entries more x) (sym items_are) ∙ spelled_longer text (encode c) headers.items headers_lie_within)
+
+  heads_are : (place : Place) (body : ℕ) (line : Option ℕ) → push_one machine c ≡ (new, Ended (Score place body line))
+      → heads_of limits longer ≡ heads_by_len place body book (collected_of t h.events).findings (len_at_score limits place line book)
+  heads_are place body line p =
+      sym (now_is limits t [] c machine new h.events scalars_more read (Score place body line) p)
+      ∙ (by_len limits place body line (spelled_entries (encodes longer) (collected_of t h.events).headers) (collected_of t h.events).findings
+      ∙ ap (λ (x : List (List ℕ × List ℕ)). heads_by_len place body x (collected_of t h.events).findings (len_at_score limits place line x)) book_is)
+
+  pub tells_stop : (place : Place) (body : ℕ) (line : Option ℕ) (fault : Fault) → push_one machine c ≡ (new, Ended (Score place body line)) → len_at_score limits place line book ≡ Err fault
+      → Tells limits text c (Stop fault ∷ []) over
+  tells_stop place body line fault p e =
+      let now = heads_are place body line p ∙ ap (λ (x : Result ℕ Fault). heads_by_len place body book (collected_of t h.events).findings x) e in
+      let k = stopped_tells limits t [] c machine new h.events scalars_more read _ now refl in
+      record { events_are = k.0; progress_is = k.1 }
+
+  pub tells_whole : (place : Place) (body : ℕ) (line : Option ℕ) (size : ℕ) → push_one machine c ≡ (new, Ended (Score place body line)) → len_at_score limits place line book ≡ Ok size
+      → Tells limits text c (map (λ f. Found f) (name_found place book) ++ heads_told book ∷ []) (behind book)
+  tells_whole place body line size p e =
+      let now = heads_are place body line p ∙ ap (λ (x : Result ℕ Fault). heads_by_len place body book (collected_of t h.events).findings x) e in
+      let k = whole_tells limits t [] c machine new h.events scalars_more read _ (name_found place book) now (more_found (has_header (codes "name") book)) in
+      record { events_are = k.0; progress_is = k.1 }
+    where
+      more_found : (b : Bool) → cond b (collected_of t h.events).findings ((collected_of t h.events).findings ++ record { place = place; code = W1 } ∷ []) ≡ (collected_of t h.events).findings ++ cond b [] (record { place = place; code = W1 } ∷ [])
+      more_found true = sym (append-nil (collected_of t h.events).findings)
+      more_found false = refl
+
+  -- a character does not end the text
+  pub tells_no_end : (place : Place) (line : Option ℕ) → push_one machine c ≡ (new, Ended (Text place line)) → ⊥
+  tells_no_end place line p = subst (λ (x : HeaderMachine × HeaderStep). IsNoText x.1) p (no_text_push machine c)
+
+-- ---- the end of the text
+
+pub tells_end : (limits : Limits) (text : List ℕ) (space : ℕ) (machine : HeaderMachine) (headers : BoundedList (List ℕ × Span)) → IsUtf8 text → IsReading limits text space machine headers
+    → (place : Place) (line : Option ℕ) → Text place line ≡ end_here machine → events_at_end (heads_of limits (chars text)) ≡ Stop (end_fault place line) ∷ []
+tells_end limits text space machine headers u h place line e =
+    let read = has_read limits.header (chars text) machine h.events h.taken in
+    let now = heads_at_end limits (chars text) h.events (end_here machine) (scalars-chars text u) (read_all limits.header (chars text) machine h.events read) in
+    ap (λ (x : Result Heads HeadFault). events_at_end x) (sym now ∙ (ap (λ (x : HeaderEnding). heads_at limits (chars text) (collected_of (chars text) h.events) x) (sym e)
+    ∙ ap (λ (x : HeadFault). Err x) (at_text_end place line (collected_of (chars text) h.events).findings)))

@@ -1,0 +1,59 @@
+-- What holds of a stage of headers where it stands.
+use Rattle.std.specs.Prelude.{◌≡◌, ℕ, ◌+◌, ◌/◌, ◌≤◌, List, [], ◌∷◌, vec_capacity, string_bytes, Option}
+use Rattle.std.specs.String.{string_capacity}
+use Rattle.std.specs.Str.{chars}
+use Rattle.gabc_places.specs.BoundedList.{BoundedList}
+use Rattle.gabc_places.specs.declared.place.Span.{Span}
+use Rattle.gabc_places.specs.declared.limits.Limits.{Limits}
+use Rattle.gabc_headers.specs.declared.book_room.BookRoom.{BookRoom}
+use Rattle.gabc_headers.specs.declared.events.HeaderEvent.{HeaderEvent}
+use Rattle.gabc_headers.specs.declared.header_machine.HeaderMachine.{HeaderMachine}
+use Rattle.gabc_headers.specs.declared.header_machine.HeaderStep.TheVariants.{Read}
+use Rattle.gabc_headers.specs.declared.header_stage.HeadPart.{HeadPart}
+use Rattle.gabc_headers.specs.declared.header_stage.HeadPart.TheVariants.{Reading, Behind, Over}
+use Rattle.gabc_headers.specs.HeadEvents.{HeadProgress, reading, behind, over}
+use Rattle.gabc_headers.specs.machine.Collected.{collected_with_all, none}
+use Rattle.gabc_headers.specs.machine.Events.{with_event}
+use Rattle.gabc_headers.specs.machine.HeaderMachine.{IsBounded, fresh_machine, push_one}
+
+-- From the machine r, with these events before, the text is read without an end: then the machine is `last`, and the events are `all`.
+abbrev pub Takes : HeaderMachine → List HeaderEvent → List ℕ → HeaderMachine → List HeaderEvent → Type 0
+Takes r es [] last all = (r ≡ last) × (es ≡ all)
+Takes r es (c ∷ t) last all =
+    (next : HeaderMachine) × ((e : Option HeaderEvent) × (push_one r c ≡ (next, Read e)) × Takes next (with_event es e) t last all)
+
+-- a header that counts has at least three bytes of the text: a name's, the `:` and a `;`
+abbrev pub headers_within : Limits → ℕ
+headers_within limits = limits.header / 3 + 1
+
+-- In the headers: the machine has read the text, and what it told of headers is put.
+pub record IsReading (limits : Limits) (text : List ℕ) (room : ℕ) (machine : HeaderMachine) (headers : BoundedList (List ℕ × Span)) : Type 0 where
+  pub events : List HeaderEvent
+  pub taken : Takes (fresh_machine limits.header) [] (chars text) machine events
+  pub bounded : IsBounded machine
+  pub fits : limits.header + 1 ≤ room
+  pub put : headers.items ≡ (collected_with_all text events none).headers
+  pub limit : headers.limit ≡ headers_within limits
+
+-- nothing is in the room, and all headers within the limits fit
+pub record HasRoomFor (bytes headers : ℕ) (room : BookRoom) : Type 0 where
+  pub text : string_bytes room.text ≡ []
+  pub entries : room.entries.items ≡ []
+  pub text_fits : bytes ≤ string_capacity room.text
+  pub entries_fit : headers ≤ vec_capacity room.entries
+
+abbrev pub IsStageIn : HeadPart → Limits → List ℕ → ℕ → HeaderMachine → BoundedList (List ℕ × Span) → BookRoom → Type 0
+IsStageIn Reading limits text space machine headers room = IsReading limits text space machine headers × HasRoomFor limits.header (headers_within limits) room
+IsStageIn Behind limits text space machine headers room = Unit {0}
+IsStageIn Over limits text space machine headers room = Unit {0}
+
+-- the progress is in the headers
+abbrev pub IsInHeaders : HeadProgress → Type 0
+IsInHeaders (reading t) = Unit {0}
+IsInHeaders (behind book) = ⊥
+IsInHeaders over = ⊥
+
+abbrev pub progress_in : HeadPart → List ℕ → List (List ℕ × List ℕ) → HeadProgress
+progress_in Reading text book = reading (chars text)
+progress_in Behind text book = behind book
+progress_in Over text book = over

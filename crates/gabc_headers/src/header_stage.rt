@@ -1,0 +1,280 @@
+//! A stage from the characters of a text to its headers and the characters behind them.
+
+ghost use Rattle.std.specs.Prelude.{◌≡◌, ◌<◌, ◌≤◌, ◌^◌, [], ◌∷◌, ◌++◌, length, map, IfOk};
+ghost use Rattle.std.specs.Str.{chars};
+ghost use Rattle.gabc_places.specs.BoundedList.{Fits, extended_by};
+ghost use Rattle.gabc_headers.specs.declared.head_event.HeadEvent.TheVariants.{Found, Stop};
+ghost use Rattle.gabc_headers.specs.Canonical.{header_lines};
+ghost use Rattle.gabc_headers.specs.HeadEvents.{over, fresh_stage, stage_at, stage_after, progress_with, events_at, events_of_input, events_of_end, heads_told, text_held};
+ghost use Rattle.gabc_headers.specs.Lines.{bytes_len};
+ghost use Rattle.gabc_headers.specs.machine.Collected.{found_list, name_found};
+ghost use Rattle.gabc_headers.specs.machine.HeaderStage.{IsInHeaders};
+
+use crate::book::HeaderBook;
+use crate::book_room::BookRoom;
+use crate::collected::take_event;
+use crate::entry_map::EntryMap;
+use crate::events::HeaderEnding;
+use crate::head_event::HeadEvent;
+use crate::header_machine::{HeaderMachine, HeaderStep};
+use crate::score_line::{end_fault, score_len};
+use gabc_places::{Char, Code, Fault, Finding, Limits, Place, Room, Stage};
+use std::alloc::{AllocError, Global};
+use std::marker::Model;
+
+/// Where a stage stands: in the headers, behind their `%%`, or behind its last event.
+#[derive(Clone, Copy)]
+pub(crate) enum HeadPart {
+    Reading,
+    Behind,
+    Over,
+}
+
+/// Reads the headers of a text one character at a time (GregorioRef, "Headers"), and passes on the characters behind them.
+#[derive(Drop)]
+pub struct HeaderStage {
+    limits: Limits,
+    part: HeadPart,
+    /// In the headers, what has read their text.
+    machine: HeaderMachine,
+    text: String,
+    headers: EntryMap,
+    /// Room for the book.
+    room: BookRoom,
+    book: HeaderBook,
+}
+
+impl Model for HeaderStage {
+    ghost use Rattle.std.specs.Prelude.{string_bytes};
+    ghost use Rattle.std.specs.String.{string_capacity};
+    ghost use Rattle.std.specs.Str.{chars};
+    ghost use Rattle.gabc_headers.specs.HeadEvents.{HeaderStageState};
+    ghost use Rattle.gabc_headers.specs.machine.HeaderStage.{progress_in, IsStageIn};
+
+    ghost Value = { HeaderStageState };
+
+    ghost view = { λ s. record {
+      limits = s.limits;
+      progress = progress_in s.part (string_bytes s.text) s.book;
+      book = s.book;
+    } };
+
+    ghost invariant = { λ s. IsStageIn s.part s.limits (string_bytes s.text)
+        (string_capacity s.text) s.machine s.headers s.room };
+}
+
+/// Tells what is found, if something is.
+fn tell_finding(found: Option<Finding>, out: &mut Room<HeadEvent>)
+    requires { Fits out.old 1 }
+    ensures { out.new ≡ extended_by out.old (map (λ f. Found f) (found_list found)) }
+{
+    if let Some(finding) = found {
+        out.push(HeadEvent::Found(finding));
+    }
+}
+
+/// Tells the headers at the line `%%`, whose canonical lines have so many bytes.
+fn tell_heads(book: &HeaderBook, place: Place, size: usize, out: &mut Room<HeadEvent>)
+    requires size { size ≡ bytes_len (header_lines book.now) }
+    requires small { size < 2 ^ 31 }
+    requires room { Fits out.old 2 }
+    ensures { out.new ≡ extended_by out.old
+        (map (λ f. Found f) (name_found place book.now) ++ heads_told book.now ∷ []) }
+{
+    if book.get("name").is_none() {
+        out.push(HeadEvent::Found(Finding {
+            place,
+            code: Code::W1,
+        }));
+    }
+    out.push(HeadEvent::Heads {
+        nabc_lines: book.nabc_lines(),
+        macros: book.macros(),
+        canonical: (size + 2) as u32,
+    });
+}
+
+impl HeaderStage {
+    /// Returns a stage before the first character of a text, and reserves the memory that it ever takes.
+    pub fn with_limits(alloc: Global, limits: Limits) -> Result<HeaderStage, AllocError>
+        ensures { IfOk result (λ stage. stage ≡ fresh_stage limits) }
+    {
+        let bytes = limits.header as usize;
+        let headers = bytes / 3 + 1;
+        Ok(HeaderStage {
+            limits,
+            part: HeadPart::Reading,
+            machine: HeaderMachine::new(limits.header),
+            text: String::with_capacity(alloc, bytes + 1)?,
+            headers: EntryMap::with_limit(alloc, headers)?,
+            room: BookRoom::with_limits(alloc, bytes, headers)?,
+            book: HeaderBook::new(alloc),
+        })
+    }
+
+    /// Tells that the text is stopped. Nothing follows.
+    fn stop(&mut self, fault: Fault, out: &mut Room<HeadEvent>)
+        requires { Fits out.old 1 }
+        ensures state { self.new ≡ stage_at self.old over }
+        ensures out { out.new ≡ extended_by out.old (Stop fault ∷ []) }
+    {
+        self.part = HeadPart::Over;
+        out.push(HeadEvent::Stop(fault));
+    }
+
+    /// Reads a character in the headers.
+    fn read(&mut self, c: char, out: &mut Room<HeadEvent>)
+        requires reading { IsInHeaders self.old.progress }
+        requires room { Fits out.old 2 }
+        ensures state { self.new
+            ≡ stage_at self.old (progress_with self.old.limits (text_held self.old.progress) c) }
+        ensures out { out.new
+            ≡ extended_by out.old (events_at self.old.limits (text_held self.old.progress) c) }
+        ensures few { length (events_at self.old.limits (text_held self.old.progress) c) ≤ 2 }
+    {
+        let mut machine = self.machine;
+        match machine.push(c) {
+            HeaderStep::Read(event) => {
+                let Ok(()) = self.text.push(c) else {
+                    unreachable!()
+                };
+                self.machine = machine;
+                if let Some(event) = event {
+                    let found = take_event(&mut self.headers, self.text.as_str(), event);
+                    tell_finding(found, out);
+                }
+            }
+            HeaderStep::Ended(
+                HeaderEnding::Score {
+                    place,
+                    body: _,
+                    open_line,
+                },
+            ) => {
+                let text = self.text.as_str();
+                match score_len(self.limits, text, &self.headers, place, open_line) {
+                    Ok(size) => {
+                        self.headers.fill(text, &mut self.room);
+                        self.book.take(&mut self.room);
+                        self.part = HeadPart::Behind;
+                        tell_heads(&self.book, place, size, out);
+                    }
+                    Err(fault) => self.stop(fault, out),
+                }
+            }
+            HeaderStep::Ended(HeaderEnding::Limit(place)) => {
+                let code = Code::F4;
+                self.stop(Fault { place, code }, out);
+            }
+            HeaderStep::Ended(
+                HeaderEnding::Text {
+                    place: _,
+                    open_line: _,
+                },
+            ) => unreachable!(),
+        }
+    }
+
+    /// Takes `input`, and adds what follows from it.
+    fn take(&mut self, input: Result<Char, Fault>, out: &mut Room<HeadEvent>)
+        requires { Fits out.old 2 }
+        ensures state { self.new ≡ stage_after self.old input }
+        ensures out { out.new ≡ extended_by out.old
+            (events_of_input self.old.limits self.old.progress input) }
+        ensures few { length (events_of_input self.old.limits self.old.progress input) ≤ 2 }
+    {
+        match self.part {
+            HeadPart::Reading => match input {
+                Ok(x) => self.read(x.c, out),
+                Err(fault) => self.stop(fault, out),
+            },
+            HeadPart::Behind => match input {
+                Ok(x) => out.push(HeadEvent::Body(x)),
+                Err(fault) => self.stop(fault, out),
+            },
+            HeadPart::Over => {}
+        }
+    }
+
+    /// Ends the inputs, and adds what follows from that.
+    fn end(&mut self, out: &mut Room<HeadEvent>)
+        requires { Fits out.old 2 }
+        ensures state { self.new ≡ stage_at self.old over }
+        ensures out { out.new ≡ extended_by out.old
+            (events_of_end self.old.limits self.old.progress) }
+        ensures few { length (events_of_end self.old.limits self.old.progress) ≤ 2 }
+    {
+        match self.part {
+            HeadPart::Reading => {
+                let HeaderEnding::Text { place, open_line } = self.machine.end() else {
+                    unreachable!()
+                };
+                out.push(HeadEvent::Stop(end_fault(place, open_line)));
+            }
+            HeadPart::Behind => out.push(HeadEvent::End),
+            HeadPart::Over => {}
+        }
+        self.part = HeadPart::Over;
+    }
+
+    /// Returns the text of the headers as far as it is read, while the stage is in the headers. Behind them it returns the empty text.
+    pub fn text(&self) -> &str
+        ensures { chars result.now ≡ text_held self.now.progress }
+    {
+        match self.part {
+            HeadPart::Reading => self.text.as_str(),
+            HeadPart::Behind => "",
+            HeadPart::Over => "",
+        }
+    }
+
+    /// Returns the headers, once their `%%` is read. Before, it returns a book without headers.
+    pub fn book(&self) -> &HeaderBook
+        ensures { result.now ≡ self.now.book }
+    {
+        &self.book
+    }
+}
+
+impl Stage for HeaderStage {
+    type Input = Result<Char, Fault>;
+
+    type Output = HeadEvent;
+
+    ghost use Rattle.std.specs.Prelude.{◌≡◌};
+    ghost use Rattle.gabc_places.specs.BoundedList.{Fits};
+    ghost use Rattle.gabc_places.specs.StageLaw.{Pushes, Finishes, EmitsNothing, StopsAtEnd};
+    ghost use Rattle.gabc_headers.specs.HeadEvents.{over, stage_at, stage_after, events_left, is_last_event};
+
+    ghost rest = { λ s xs. events_left s.limits s.progress xs };
+
+    ghost most_of = { λ _. 2 };
+
+    ghost is_end = { is_last_event };
+
+    fn most(&self) -> usize {
+        2
+    }
+
+    fn push(&mut self, input: Result<Char, Fault>, out: &mut Room<HeadEvent>)
+        requires { Fits out.old 2 }
+        ensures events { Pushes (events_left self.old.limits self.old.progress)
+            (events_left self.new.limits self.new.progress) input 2 out.old out.new }
+        ensures end { StopsAtEnd is_last_event (events_left self.new.limits self.new.progress)
+            out.old out.new }
+        ensures state { self.new ≡ stage_after self.old input }
+    {
+        self.take(input, out);
+    }
+
+    fn finish(&mut self, out: &mut Room<HeadEvent>)
+        requires { Fits out.old 2 }
+        ensures ends { Finishes (events_left self.old.limits self.old.progress) 2 out.old out.new }
+        ensures end { StopsAtEnd is_last_event (events_left self.new.limits self.new.progress)
+            out.old out.new }
+        ensures over { EmitsNothing (events_left self.new.limits self.new.progress) }
+        ensures state { self.new ≡ stage_at self.old over }
+    {
+        self.end(out);
+    }
+}

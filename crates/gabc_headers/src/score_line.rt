@@ -1,0 +1,66 @@
+//! What stops the headers at their end.
+
+ghost use Rattle.std.specs.Prelude.{◌≡◌};
+ghost use Rattle.gabc_headers.specs.Heads.{line_place};
+ghost use Rattle.gabc_places.specs.declared.code.Code.TheVariants.{F3};
+ghost use Rattle.gabc_headers.specs.machine.Collected as spec;
+ghost use Rattle.gabc_headers.specs.machine.Collected.{len_at_score};
+ghost use Rattle.gabc_headers.specs.machine.EntryMap.{AreWithin, spelled_entries};
+
+use crate::entry_map::EntryMap;
+use gabc_places::{Code, Fault, Limits, Place};
+
+/// In the value of a header that begins on this line.
+fn value_fault(line: u64) -> Fault
+    ensures { result ≡ record { place = line_place line; code = F3 } }
+{
+    let place = Place { line, column: 1 };
+    Fault {
+        place,
+        code: Code::F3,
+    }
+}
+
+/// What stops the headers at the end of the text, where a value may be open.
+pub(crate) fn end_fault(place: Place, open_line: Option<u64>) -> Fault
+    ensures { result ≡ spec.end_fault place open_line }
+{
+    match open_line {
+        None => Fault {
+            place,
+            code: Code::F2,
+        },
+        Some(line) => value_fault(line),
+    }
+}
+
+/// The number of bytes of the canonical header lines at the line `%%`, or what stops the headers there.
+pub(crate) fn score_len(
+    limits: Limits,
+    text: &str,
+    headers: &EntryMap,
+    place: Place,
+    open_line: Option<u64>,
+) -> Result<usize, Fault>
+    requires { AreWithin text.now headers.now.items }
+    ensures { result
+        ≡ len_at_score limits place open_line (spelled_entries text.now headers.now.items) }
+{
+    if let Some(line) = open_line {
+        return Err(value_fault(line));
+    }
+    let size = headers.canonical_len(text);
+    if size > limits.header as usize {
+        return Err(Fault {
+            place,
+            code: Code::F4,
+        });
+    }
+    if size + 3 > limits.input as usize {
+        return Err(Fault {
+            place,
+            code: Code::F7,
+        });
+    }
+    Ok(size)
+}

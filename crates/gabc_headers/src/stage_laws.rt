@@ -1,0 +1,109 @@
+//! Laws of a stage of headers. Each function's contract is a law, and its body drives a stage or gives it one input.
+
+ghost use Rattle.std.specs.Prelude.{◌≡◌, ◌+◌, ◌*◌, ◌≤◌, List, [], ◌∷◌, true, length, None, OnOk, Result};
+ghost use Rattle.gabc_places.specs.declared.place.Char.{Char};
+ghost use Rattle.gabc_places.specs.declared.code.Fault.{Fault};
+ghost use Rattle.gabc_places.specs.BoundedList.{Fits, extended_by};
+ghost use Rattle.gabc_places.specs.Decoder.{known_at_end};
+ghost use Rattle.gabc_places.specs.StageLaw.{concat_of};
+ghost use Rattle.gabc_places.specs.Text.{decoded_of};
+ghost use Rattle.gabc_headers.specs.declared.head_event.HeadEvent.TheVariants.{Body};
+ghost use Rattle.gabc_headers.specs.Heads.{heads_of};
+ghost use Rattle.gabc_headers.specs.HeadEvents.{reading, over, IsBehind, events_left, events_of_input, events_of_end, events_of_heads, stage_after, stage_at, text_held};
+
+use crate::head_event::HeadEvent;
+use crate::header_stage::HeaderStage;
+use gabc_places::{Chain, Char, Decoder, Fault, Limits, Room, Stage, drive};
+use std::alloc::{AllocError, Global};
+
+/// A fresh stage of headers, driven over `inputs`, gives what the definition gives of them.
+pub fn a_fresh_stage_emits(
+    alloc: Global,
+    limits: Limits,
+    inputs: Vec<Result<Char, Fault>>,
+    out: &mut Room<HeadEvent>,
+) -> Result<(), AllocError>
+    requires { Fits out.old (2 * (length inputs.items + 1)) }
+    ensures { OnOk result (out.new
+        ≡ extended_by out.old (concat_of (events_left limits (reading []) inputs.items))) }
+{
+    let mut stage = HeaderStage::with_limits(alloc, limits)?;
+    drive(&mut stage, inputs, out);
+    Ok(())
+}
+
+/// A fresh stage of headers behind a fresh decoder, driven over the `bytes` of an input that ended, gives what the definition gives of
+/// the characters and the fault that `text_of` returns. Without a fault that is what `headers_whole` returns for the text, then the
+/// characters of its body and the end.
+pub fn a_fresh_stage_reads_bytes(
+    alloc: Global,
+    limits: Limits,
+    bytes: Vec<u8>,
+    out: &mut Room<HeadEvent>,
+) -> Result<(), AllocError>
+    requires { Fits out.old (4 * (length bytes.items + 1)) }
+    ensures all { OnOk result (out.new ≡ extended_by out.old
+        (concat_of (events_left limits (reading []) (known_at_end limits bytes.items)))) }
+    ensures text { OnOk result ((decoded_of limits true bytes.items).fault ≡ None →
+        let t = (decoded_of limits true bytes.items).text in
+        out.new ≡ extended_by out.old (events_of_heads t (heads_of limits t))) }
+{
+    let between = Room::with_limit(alloc, 1)?;
+    let stage = HeaderStage::with_limits(alloc, limits)?;
+    let mut chain = Chain::new(Decoder::new(limits), stage, between);
+    drive(&mut chain, bytes, out);
+    Ok(())
+}
+
+/// Behind its headers a stage passes on each character as it is, and stays behind them: a run may leave the stage out there.
+pub fn the_body_is_passed_on(stage: &mut HeaderStage, c: Char, out: &mut Room<HeadEvent>)
+    requires behind { IsBehind stage.old.progress }
+    requires room { Fits out.old 2 }
+    ensures limits { stage.new.limits ≡ stage.old.limits }
+    ensures progress { stage.new.progress ≡ stage.old.progress }
+    ensures out { out.new ≡ extended_by out.old (Body c ∷ []) }
+{
+    stage.push(Ok(c), out);
+}
+
+/// What an input does to a stage, and with it to the book that the stage lends: from the event `Heads` on it is that of the headers.
+pub fn an_input_is_taken(
+    stage: &mut HeaderStage,
+    input: Result<Char, Fault>,
+    out: &mut Room<HeadEvent>,
+)
+    requires { Fits out.old 2 }
+    ensures state { stage.new ≡ stage_after stage.old input }
+    ensures out { out.new ≡ extended_by out.old
+        (events_of_input stage.old.limits stage.old.progress input) }
+{
+    stage.push(input, out);
+}
+
+/// The end is the last that a stage takes. It keeps its book.
+pub fn the_end_is_taken(stage: &mut HeaderStage, out: &mut Room<HeadEvent>)
+    requires { Fits out.old 2 }
+    ensures state { stage.new ≡ stage_at stage.old over }
+    ensures out { out.new ≡ extended_by out.old
+        (events_of_end stage.old.limits stage.old.progress) }
+{
+    stage.finish(out);
+}
+
+/// Two stages with the same limits that hold the same text of the headers give the same of whatever follows.
+pub fn stages_of_one_text_agree(one: &HeaderStage, other: &HeaderStage)
+    requires limits { one.now.limits ≡ other.now.limits }
+    requires one { one.now.progress ≡ reading (text_held one.now.progress) }
+    requires other { other.now.progress ≡ reading (text_held other.now.progress) }
+    requires text { text_held one.now.progress ≡ text_held other.now.progress }
+    ensures { (xs : List (Result Char Fault)) → events_left one.now.limits one.now.progress xs
+        ≡ events_left other.now.limits other.now.progress xs }
+{}
+
+/// Two stages behind their headers give the same of whatever follows, whatever the headers were.
+pub fn stages_behind_headers_agree(one: &HeaderStage, other: &HeaderStage)
+    requires one { IsBehind one.now.progress }
+    requires other { IsBehind other.now.progress }
+    ensures { (xs : List (Result Char Fault)) → events_left one.now.limits one.now.progress xs
+        ≡ events_left other.now.limits other.now.progress xs }
+{}

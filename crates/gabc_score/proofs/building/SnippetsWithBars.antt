@@ -1,0 +1,10 @@
+-- Snippets with `|` between them have one before each but the first.
+use Rattle.std.proofs.Common.{◌≡◌, ℕ, List, [], ◌∷◌, ◌++◌, sym, ap, append-nil, codes}
+use Rattle.gabc_score.specs.declared.snippets.Snippet.{Snippet}
+use Rattle.gabc_score.specs.Syllable.{slice}
+use Rattle.gabc_score.specs.Canonical.{with_bars}
+use Rattle.gabc_score.specs.machine.SyllableText.{snippets_behind_bars}
+
+pub bars_behind_first : (kept : List ℕ) (s : Snippet) (rest : List Snippet) → with_bars kept (s ∷ rest) ≡ slice s.span kept ++ snippets_behind_bars kept rest
+bars_behind_first kept s [] = sym (append-nil (slice s.span kept))
+bars_behind_first kept s (t ∷ rest) = ap (λ x. slice s.span kept ++ (codes "|" ++ x)) (bars_behind_first kept t rest)

@@ -1,0 +1,5 @@
+use Rattle.gabc_score.proofs.score_events.NothingBehindTheEnd.{nothing_follows}
+use Rattle.gabc_score.proofs.laws.nothing_follows_the_end.Goals as goal
+
+pub returns : goal.returns
+returns c = nothing_follows

@@ -1,0 +1,164 @@
+-- What is emitted behind the headers says what the body says.
+use Rattle.std.proofs.Common.{◌≡◌, ℕ, ◌+◌, Bool, true, false, cond, List, [], ◌∷◌, ◌++◌, map, length, Option, Some, None, refl, sym, ap, ◌∙◌, arith, append_assoc, append-nil}
+use Rattle.gabc_places.specs.StageLaw.{concat_of, silence}
+use Rattle.gabc_places.proofs.PushesAreOne.{joined_silence}
+use Rattle.gabc_places.specs.Place.{next_place}
+use Rattle.gabc_places.specs.declared.code.Code.{Code}
+use Rattle.gabc_places.specs.declared.code.Finding.{Finding}
+use Rattle.gabc_places.specs.declared.code.Fault.{Fault}
+use Rattle.gabc_places.specs.declared.limits.Limits.{Limits}
+use Rattle.gabc_places.specs.declared.place.Char.{Char}
+use Rattle.gabc_places.specs.declared.place.Place.{Place}
+use Rattle.gabc_headers.specs.declared.head_event.HeadEvent.{HeadEvent}
+use Rattle.gabc_headers.specs.declared.head_event.HeadEvent.TheVariants as head_event
+use Rattle.gabc_score.specs.declared.body_result.BodyResult.{BodyResult}
+use Rattle.gabc_score.specs.declared.events.BodyEvent.{BodyEvent}
+use Rattle.gabc_score.specs.declared.ending.InputEnding.{InputEnding}
+use Rattle.gabc_score.specs.declared.ending.InputEnding.TheVariants.{Whole, Broken, At}
+use Rattle.gabc_score.specs.Syllable.{UnplacedSyllable, PlacedSyllable, all_syllables}
+use Rattle.gabc_score.specs.Canonical.{with_positions}
+use Rattle.gabc_score.specs.Body.{events_onto, code_at, fault_at, EventsToStop, stopped_events, events_to_stop, findings_of, found_at_end, fault_of_end, cut_of, has_last, last_syllable, all_units, result_stopped, result_by_fault, result_by}
+use Rattle.gabc_score.specs.ScoreEvents.{ScoreOutput, Stop, End, not_given, given_now, count_made, findings_now, outputs_of, outputs_at, held_output, outputs_at_stop, outputs_at_end, outputs_by, body_outputs, ending_events, is_whole}
+use Rattle.gabc_score.proofs.building.EventsOfOnePoint.{found_on, made_after}
+use Rattle.gabc_score.proofs.score_events.GivenSyllables.{given_then}
+use Rattle.gabc_score.proofs.score_events.WhatOutputsSay.{said_by, said_before, said_of}
+
+-- The outputs say what a result does behind what was found, and behind the syllables that were given before.
+pub record Says (found : List Finding) (before : List UnplacedSyllable) (ending : InputEnding) (outs : List ScoreOutput) (w : BodyResult) : Type 0 where
+  pub later : List UnplacedSyllable
+  pub syllables : w.syllables ≡ with_positions (before ++ later)
+  pub findings : List Finding
+  pub all_findings : w.findings ≡ found ++ findings
+  pub said : said_by outs ≡ record { findings = findings; syllables = not_given (length before) (before ++ later); fault = w.fault; ended = is_whole ending w.fault }
+
+-- the place behind these characters
+abbrev pub end_place : Place → List Char → Place
+end_place at [] = at
+end_place at (x ∷ xs) = end_place (next_place x.place x.c) xs
+
+module _ (limits : Limits) (head : ℕ) (found : List Finding) where
+  -- ---- the stop
+
+  said_stop : (before : List BodyEvent) (fault : Fault) (silent : List ScoreOutput) → silent ≡ []
+      → said_by (outputs_at_stop before fault ++ silent) ≡ record { findings = []; syllables = not_given (count_made before) (all_syllables before); fault = Some fault; ended = false }
+  said_stop before fault silent e = ap (λ outs. said_by (outputs_at_stop before fault ++ outs)) e ∙ ap said_by (append-nil (outputs_at_stop before fault)) ∙ said_of [] (not_given (count_made before) (all_syllables before)) (Stop fault ∷ []) ∙ ap (λ ss. record { findings = []; syllables = ss; fault = Some fault; ended = false }) (append-nil (not_given (count_made before) (all_syllables before)))
+
+  no_end : (ending : InputEnding) (fault : Fault) → is_whole ending (Some fault) ≡ false
+  no_end Whole fault = refl
+  no_end Broken fault = refl
+  no_end (At other) fault = refl
+
+  stop_says : (ending : InputEnding) (before : List BodyEvent) (fault : Fault) (silent : List ScoreOutput) → silent ≡ []
+      → Says (found ++ findings_of before) (all_syllables before) ending (outputs_at_stop before fault ++ silent) (result_stopped found before (Some fault))
+  stop_says ending before fault silent e = record {
+    later = [];
+    syllables = ap with_positions (sym (append-nil (all_syllables before)));
+    findings = [];
+    all_findings = sym (append-nil (found ++ findings_of before));
+    said = said_stop before fault silent e
+        ∙ ap (λ ms. record { findings = []; syllables = not_given (count_made before) ms; fault = Some fault; ended = false }) (sym (append-nil (all_syllables before)))
+        ∙ ap (λ b. record { findings = []; syllables = not_given (count_made before) (all_syllables before ++ []); fault = Some fault; ended = b }) (sym (no_end ending fault));
+  }
+
+  -- ---- how the body ends
+
+  units_more : (before all : List BodyEvent) (more : List UnplacedSyllable) → all_syllables all ≡ all_syllables before ++ more → (b : Bool)
+      → (later : List UnplacedSyllable) × (cond b (all_syllables all ++ last_syllable all ∷ []) (all_syllables all) ≡ all_syllables before ++ later)
+  units_more before all more h true = (more ++ last_syllable all ∷ [], ap (λ (ms : List UnplacedSyllable). ms ++ last_syllable all ∷ []) h ∙ append_assoc (all_syllables before) more (last_syllable all ∷ []))
+  units_more before all more h false = (more, h)
+
+  whole_says : (at : Place) (before now : List BodyEvent) (last : List Finding) (later units : List UnplacedSyllable) → units ≡ all_syllables before ++ later
+      → Says (found ++ findings_of before) (all_syllables before) Whole ((outputs_of (findings_now now ++ last) (not_given (count_made before) units) ++ End ∷ []) ++ [])
+      (record { syllables = with_positions units; findings = found ++ (findings_of (events_onto now before) ++ last); fault = None })
+  whole_says at before now last later units u =
+      let given : List PlacedSyllable = not_given (count_made before) units in
+      record {
+        later = later;
+        syllables = ap with_positions u;
+        findings = findings_now now ++ last;
+        all_findings =
+            sym (append_assoc found (findings_of (events_onto now before)) last)
+            ∙ ap (λ fs. (found ++ fs) ++ last) (found_on before now)
+            ∙ ap (λ fs. fs ++ last) (sym (append_assoc found (findings_of before) (findings_now now)))
+            ∙ append_assoc (found ++ findings_of before) (findings_now now) last;
+        said = ap said_by (append-nil (outputs_of (findings_now now ++ last) given ++ End ∷ []))
+            ∙ said_of (findings_now now ++ last) given (End ∷ [])
+            ∙ ap (λ fs. record { findings = fs; syllables = given ++ []; fault = None; ended = true }) (append-nil (findings_now now ++ last))
+            ∙ ap (λ ss. record { findings = findings_now now ++ last; syllables = ss; fault = None; ended = true }) (append-nil given ∙ ap (not_given (count_made before)) u);
+      }
+
+  end_says : (at : Place) (before now : List BodyEvent) (fault : Option Fault)
+      → Says (found ++ findings_of before) (all_syllables before) Whole (outputs_at_end at before now fault ++ []) (result_by_fault found at before (events_onto now before) fault)
+  end_says at before now (Some fault) = stop_says Whole before fault [] refl
+  end_says at before now None =
+      let m = made_after now before in
+      let u = units_more before (events_onto now before) m.0 m.1 (has_last (events_onto now before)) in
+      whole_says at before now (found_at_end at (events_onto now before)) u.0 (all_units (events_onto now before)) u.1
+
+  broken_says : (before : List BodyEvent) → Says (found ++ findings_of before) (all_syllables before) Broken (held_output before ++ []) (result_stopped found before None)
+  broken_says before = record {
+    later = [];
+    syllables = ap with_positions (sym (append-nil (all_syllables before)));
+    findings = [];
+    all_findings = sym (append-nil (found ++ findings_of before));
+    said = said_of [] (not_given (count_made before) (all_syllables before)) []
+        ∙ ap (λ ss. record { findings = []; syllables = ss; fault = None; ended = false }) (append-nil (not_given (count_made before) (all_syllables before)))
+        ∙ ap (λ ms. record { findings = []; syllables = not_given (count_made before) ms; fault = None; ended = false }) (sym (append-nil (all_syllables before)));
+  }
+
+  -- ---- a character
+
+  says_on : (ending : InputEnding) (before now : List BodyEvent) (outs : List ScoreOutput) (w : BodyResult)
+      → Says (found ++ findings_of (events_onto now before)) (all_syllables (events_onto now before)) ending outs w
+      → Says (found ++ findings_of before) (all_syllables before) ending (outputs_at before now ++ outs) w
+  says_on ending before now outs w s =
+      let m = made_after now before in
+      let all : List UnplacedSyllable = all_syllables (events_onto now before) in
+      record {
+        later = m.0 ++ s.later;
+        syllables = s.syllables ∙ ap with_positions (ap (λ (ms : List UnplacedSyllable). ms ++ s.later) m.1 ∙ append_assoc (all_syllables before) m.0 s.later);
+        findings = findings_now now ++ s.findings;
+        all_findings = s.all_findings
+            ∙ ap (λ fs. (found ++ fs) ++ s.findings) (found_on before now)
+            ∙ ap (λ fs. fs ++ s.findings) (sym (append_assoc found (findings_of before) (findings_now now)))
+            ∙ append_assoc (found ++ findings_of before) (findings_now now) s.findings;
+        said = said_of (findings_now now) (given_now (count_made before) all) outs
+            ∙ ap (said_before (findings_now now) (given_now (count_made before) all)) s.said
+            ∙ ap (λ ss. record { findings = findings_now now ++ s.findings; syllables = ss; fault = w.fault; ended = is_whole ending w.fault })
+            (given_then (all_syllables before) m.0 s.later all m.1);
+      }
+
+  -- ---- all characters
+
+  abbrev pub result_from : InputEnding → Place → EventsToStop → BodyResult
+  result_from ending at r = result_by limits head found at ending r.before r.last r.fault
+
+  abbrev pub SaysBody : InputEnding → Place → List BodyEvent → List Char → List (List BodyEvent) → Type 0
+  SaysBody ending at before xs lists = Says (found ++ findings_of before) (all_syllables before) ending
+      (concat_of (body_outputs limits head at before lists (map (λ x. head_event.Body x) xs ++ ending_events ending))) (result_from ending (end_place at xs) (events_to_stop limits head before xs lists))
+
+  ends_says : (ending : InputEnding) (at : Place) (before : List BodyEvent) (lists : List (List BodyEvent)) → SaysBody ending at before [] lists
+  ends_says Whole at before lists =
+      end_says at before (concat_of lists) (fault_of_end limits head at (events_onto (concat_of lists) before) (cut_of (events_onto (concat_of lists) before)))
+  ends_says Broken at before lists = broken_says before
+  ends_says (At fault) at before lists = stop_says (At fault) before fault [] refl
+
+  -- the characters to come, and how they cease
+  abbrev to_come : InputEnding → List Char → List HeadEvent
+  to_come ending xs = map (λ x. head_event.Body x) xs ++ ending_events ending
+
+  by_code : (ending : InputEnding) (x : Char) (before now : List BodyEvent) (xs : List Char) (lists : List (List BodyEvent))
+      → SaysBody ending (next_place x.place x.c) (events_onto now before) xs lists → (code : Option Code)
+      → Says (found ++ findings_of before) (all_syllables before) ending
+      (concat_of (outputs_by code x before now (to_come ending xs) (body_outputs limits head (next_place x.place x.c) (events_onto now before) lists (to_come ending xs))))
+      (result_from ending (end_place (next_place x.place x.c) xs) (stopped_events code x.place before (events_to_stop limits head (events_onto now before) xs lists)))
+  by_code ending x before now xs lists later (Some code) = stop_says ending before (fault_at x.place code) (concat_of (silence (to_come ending xs))) (joined_silence (to_come ending xs))
+  by_code ending x before now xs lists later None =
+      says_on ending before now (concat_of (body_outputs limits head (next_place x.place x.c) (events_onto now before) lists (to_come ending xs))) _ later
+
+  pub body_says : (ending : InputEnding) (at : Place) (before : List BodyEvent) (xs : List Char) (lists : List (List BodyEvent))
+      → length lists ≡ length xs + 1 → SaysBody ending at before xs lists
+  body_says ending at before [] lists h = ends_says ending at before lists
+  body_says ending at before (x ∷ xs) [] h = absurd (let f : 0 ≡ length (x ∷ xs) + 1 = h in omega (arith, f))
+  body_says ending at before (x ∷ xs) (now ∷ lists) h =
+      by_code ending x before now xs lists (body_says ending (next_place x.place x.c) (events_onto now before) xs lists (omega (arith, h))) (code_at limits head (events_onto now before))

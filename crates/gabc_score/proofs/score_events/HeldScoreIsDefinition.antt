@@ -1,0 +1,127 @@
+-- What a stage emits that holds one whole syllable is what the definition says.
+use Rattle.std.proofs.Common.{◌≡◌, ℕ, ◌+◌, ◌-◌, ◌<◌, ◌≤◌, ◌^◌, ◌||◌, nat_lt, List, [], ◌∷◌, ◌++◌, length, take, drop, Option, Some, None, option_map, refl, ap, subst, ◌∙◌, arith, length-append, length-drop}
+use Rattle.gabc_places.specs.StageLaw.{concat_of, silence}
+use Rattle.gabc_places.specs.Place.{next_place}
+use Rattle.gabc_places.specs.declared.code.Code.{Code}
+use Rattle.gabc_places.specs.declared.code.Fault.{Fault}
+use Rattle.gabc_places.specs.declared.limits.Limits.{Limits}
+use Rattle.gabc_places.specs.declared.place.Char.{Char}
+use Rattle.gabc_places.specs.declared.place.Place.{Place}
+use Rattle.gabc_headers.specs.declared.head_event.HeadEvent.{HeadEvent}
+use Rattle.gabc_headers.specs.declared.head_event.HeadEvent.TheVariants as head_event
+use Rattle.gabc_text.specs.declared.view.TextView.{TextView}
+use Rattle.gabc_score.specs.declared.events.BodyEvent.{BodyEvent}
+use Rattle.gabc_score.specs.Body.{events_onto, code_at, fault_at, has_text, has_last, all_units, cut_of, fault_of_end, found_at_end}
+use Rattle.gabc_score.specs.ScoreEvents.{ScoreOutput, Found, Stop, End, findings_now, count_made, outputs_of, outputs_at, held_output, outputs_at_stop, outputs_at_end, outputs_by, body_outputs}
+use Rattle.gabc_score.specs.Syllable.{UnplacedSyllable, all_syllables}
+use Rattle.gabc_score.specs.machine.BodyBuilder.{with_all, code_in, end_fault_by, end_fault, end_findings}
+use Rattle.gabc_score.specs.machine.Gatherer.{Gathered, with_last}
+use Rattle.gabc_score.specs.machine.ScoreStage.{HeldScore, placed_behind, held_outputs, stop_outputs, point_outputs, with_held, score_past, end_outputs_by, end_outputs, left_by, body_left}
+use Rattle.gabc_score.proofs.building.GathererHoldsDefinition.{gathered}
+use Rattle.gabc_score.proofs.building.EventsOfOnePoint.{gathered_all, code_is, made_after}
+use Rattle.gabc_score.proofs.building.EndOfBody.{made_by_last, open_by_last, fault_is}
+use Rattle.gabc_score.proofs.score_events.HeldSyllables.{without, MayGo, all_without, all_go, last_without, last_goes, code_without, but_last_goes, placed_rest, placed_now, held_then, given_then_is}
+
+-- no fewer syllables are made later
+made_grows : (before now : List BodyEvent) → count_made before ≤ count_made (events_onto now before)
+made_grows before now =
+    let m = made_after now before in
+    let l : count_made (events_onto now before) ≡ count_made before + length m.0 = ap length m.1 ∙ length-append (all_syllables before) m.0 in
+    omega (arith, l)
+
+module _ (limits : Limits) (head : ℕ) (small : limits.syllable < 2 ^ 64 - 1) (low : limits.input < 2 ^ 64 - 1) where
+  -- what the stage holds when this was emitted, and the next character stands there
+  abbrev pub holding : Place → List BodyEvent → HeldScore
+  holding at before = record {
+    next = at;
+    gathered = without (count_made before - 1) (gathered limits.syllable head before);
+    given = nat_lt 1 (count_made before);
+  }
+
+  module _ (before now : List BodyEvent) where
+    abbrev all : List BodyEvent
+    all = events_onto now before
+
+    abbrev k : ℕ
+    k = count_made before - 1
+
+    goes : MayGo k (gathered limits.syllable head all)
+    goes = subst (MayGo k) (gathered_all limits.syllable head before small now) (all_go k (gathered limits.syllable head before) now (but_last_goes (gathered limits.syllable head before)))
+
+    now_is : with_all (without k (gathered limits.syllable head before)) now ≡ without k (gathered limits.syllable head all)
+    now_is = all_without k (gathered limits.syllable head before) now (but_last_goes (gathered limits.syllable head before)) ∙ ap (without k) (gathered_all limits.syllable head before small now)
+
+    code_here : (at : Place) → code_in limits (with_all (holding at before).gathered now) ≡ code_at limits head all
+    code_here at = ap (code_in limits) now_is ∙ code_without limits k (gathered limits.syllable head all) goes ∙ code_is limits head all low
+
+    point_is : (at : Place) → point_outputs (holding at before) now ≡ outputs_at before now
+    point_is at =
+        ap (λ (g : Gathered). outputs_of (findings_now now) (take (length g.made - 1) (placed_behind (nat_lt 1 (count_made before)) g.made))) now_is
+        ∙ ap (outputs_of (findings_now now)) (placed_now (count_made before) (count_made all) (all_syllables all) refl (made_grows before now))
+
+    past_is : (at : Place) (x : Char) → score_past (holding at before) x now ≡ holding (next_place x.place x.c) all
+    past_is at x =
+        ap (λ (g : Gathered). record { next = next_place x.place x.c; gathered = with_held g; given = nat_lt 1 (count_made before) || nat_lt 1 (length g.made) }) now_is
+        ∙ ap (λ (ms : List UnplacedSyllable). record {
+          next = next_place x.place x.c;
+          gathered = record (gathered limits.syllable head all) { made = ms };
+          given = nat_lt 1 (count_made before) || nat_lt 1 (length (drop k (all_syllables all)));
+        })
+        (held_then (count_made before) (count_made all) (all_syllables all) refl (made_grows before now))
+        ∙ ap (λ b. record { next = next_place x.place x.c; gathered = without (count_made all - 1) (gathered limits.syllable head all); given = b })
+        (given_then_is (count_made before) (count_made all) (length (drop k (all_syllables all))) (length-drop k (all_syllables all)) (made_grows before now))
+
+    abbrev last_of : Gathered → Gathered
+    last_of g = with_last g
+
+    last_is : with_last (with_all (without k (gathered limits.syllable head before)) now) ≡ without k (with_last (gathered limits.syllable head all))
+    last_is = ap last_of now_is ∙ last_without k (gathered limits.syllable head all) goes
+
+    end_fault_is : (at : Place) → end_fault limits at (with_last (with_all (holding at before).gathered now)) ≡ fault_of_end limits head at all (cut_of all)
+    end_fault_is at =
+        ap (end_fault limits at) last_is
+        ∙ by (with_last (gathered limits.syllable head all)).cut
+        ∙ fault_is limits head small low all at
+      where
+        by : (o : Option Place) → end_fault_by limits at (without k (with_last (gathered limits.syllable head all))) o ≡ end_fault_by limits at (with_last (gathered limits.syllable head all)) o
+        by (Some place) = refl
+        by None = ap (option_map (fault_at at)) (code_without limits k (with_last (gathered limits.syllable head all)) (last_goes k (gathered limits.syllable head all) goes))
+
+    held_is : (at : Place) → held_outputs (holding at before) ≡ held_output before
+    held_is at = ap (outputs_of []) (placed_rest (count_made before) (all_syllables before))
+
+    stop_is : (at : Place) (fault : Fault) → stop_outputs (holding at before) fault ≡ outputs_at_stop before fault
+    stop_is at fault = ap (λ outs. outs ++ Stop fault ∷ []) (held_is at)
+
+    abbrev end_from : Place → TextView → Gathered → List ScoreOutput
+    end_from at view g = outputs_of (findings_now now ++ end_findings at (has_text view) (g.eu || g.nlba)) (placed_behind (nat_lt 1 (count_made before)) g.made) ++ End ∷ []
+
+    end_by : (at : Place) (fault : Option Fault) → end_outputs_by (holding at before) now fault ≡ outputs_at_end at before now fault
+    end_by at (Some fault) = stop_is at fault
+    end_by at None =
+        ap (λ (g : Gathered). end_from at g.builder.view (with_last g)) now_is
+        ∙ ap (end_from at (gathered limits.syllable head all).builder.view) (last_without k (gathered limits.syllable head all) goes)
+        ∙ ap (λ b. outputs_of (findings_now now ++ end_findings at (has_last all) b) (placed_behind (nat_lt 1 (count_made before)) (drop k (with_last (gathered limits.syllable head all)).made)) ++ End ∷ []) (open_by_last limits head small low all (has_last all))
+        ∙ ap (λ (ms : List UnplacedSyllable). outputs_of (findings_now now ++ found_at_end at all) (placed_behind (nat_lt 1 (count_made before)) (drop k ms)) ++ End ∷ []) (made_by_last limits head small low all (has_last all))
+        ∙ ap (λ ss. outputs_of (findings_now now ++ found_at_end at all) ss ++ End ∷ []) (placed_rest (count_made before) (all_units all))
+
+    end_is : (at : Place) → end_outputs limits (holding at before) now ≡ outputs_at_end at before now (fault_of_end limits head at all (cut_of all))
+    end_is at = ap (end_outputs_by (holding at before) now) (end_fault_is at) ∙ end_by at (fault_of_end limits head at all (cut_of all))
+
+  by_code : (at : Place) (before now : List BodyEvent) (x : Char) (xs : List HeadEvent) (left later : List (List ScoreOutput)) → left ≡ later → (code : Option Code)
+      → left_by code (holding at before) x now xs left ≡ outputs_by code x before now xs later
+  by_code at before now x xs left later e (Some code) = ap (λ outs. outs ∷ silence xs) (stop_is before now at (fault_at x.place code))
+  by_code at before now x xs left later e None = ap (λ outs. outs ∷ left) (point_is before now at) ∙ ap (λ lists. outputs_at before now ∷ lists) e
+
+  -- what it will still emit
+  pub left_is : (at : Place) (before : List BodyEvent) (lists : List (List BodyEvent)) (xs : List HeadEvent) → body_left limits (holding at before) lists xs ≡ body_outputs limits head at before lists xs
+  left_is at before lists [] = ap (λ outs. outs ∷ []) (held_is before [] at)
+  left_is at before (now ∷ lists) (head_event.Body x ∷ xs) =
+      ap (λ s. left_by (code_in limits (with_all (holding at before).gathered now)) (holding at before) x now xs (body_left limits s lists xs)) (past_is before now at x)
+      ∙ ap (λ code. left_by code (holding at before) x now xs (body_left limits (holding (next_place x.place x.c) (events_onto now before)) lists xs)) (code_here before now at)
+      ∙ by_code at before now x xs _ _ (left_is (next_place x.place x.c) (events_onto now before) lists xs) (code_at limits head (events_onto now before))
+  left_is at before [] (head_event.Body x ∷ xs) = refl
+  left_is at before lists (head_event.End ∷ xs) = ap (λ outs. outs ∷ silence xs) (end_is before (concat_of lists) at)
+  left_is at before lists (head_event.Stop fault ∷ xs) = ap (λ outs. outs ∷ silence xs) (stop_is before [] at fault)
+  left_is at before lists (head_event.Found f ∷ xs) = ap (λ outs. (Found f ∷ []) ∷ outs) (left_is at before lists xs)
+  left_is at before lists (head_event.Heads lines macros canonical ∷ xs) = ap (λ outs. [] ∷ outs) (left_is at before lists xs)

@@ -1,0 +1,75 @@
+-- What a stage over a score does behind the headers. It holds one whole syllable, the one that is being read, and counts.
+use Rattle.std.specs.Prelude.{◌-◌, ◌||◌, not, nat_lt, List, [], ◌∷◌, ◌++◌, Bool, length, take, drop, Option, Some, None}
+use Rattle.gabc_places.specs.declared.code.Code.{Code}
+use Rattle.gabc_places.specs.declared.code.Fault.{Fault}
+use Rattle.gabc_places.specs.declared.limits.Limits.{Limits}
+use Rattle.gabc_places.specs.declared.place.Char.{Char}
+use Rattle.gabc_places.specs.declared.place.Place.{Place}
+use Rattle.gabc_places.specs.Place.{next_place}
+use Rattle.gabc_places.specs.StageLaw.{concat_of, silence}
+use Rattle.gabc_headers.specs.declared.head_event.HeadEvent.{HeadEvent}
+use Rattle.gabc_headers.specs.declared.head_event.HeadEvent.TheVariants as head_event
+use Rattle.gabc_score.specs.declared.events.BodyEvent.{BodyEvent}
+use Rattle.gabc_score.specs.Body.{fault_at, has_text}
+use Rattle.gabc_score.specs.Canonical.{placed_syllables_by}
+use Rattle.gabc_score.specs.ScoreEvents.{ScoreOutput, Found, Stop, End, findings_now, outputs_of}
+use Rattle.gabc_score.specs.Syllable.{UnplacedSyllable, PlacedSyllable}
+use Rattle.gabc_score.specs.machine.BodyBuilder.{with_all, code_in, end_fault, end_findings}
+use Rattle.gabc_score.specs.machine.Gatherer.{Gathered, with_last}
+
+-- The place of the next character, and what was gathered: of the syllables made, those not given yet, of which the last is held. And
+-- whether one was given before.
+pub record HeldScore : Type 0 where
+  pub next : Place
+  pub gathered : Gathered
+  pub given : Bool
+
+-- these syllables, the first of which is the first not given yet
+abbrev pub placed_behind : Bool → List UnplacedSyllable → List PlacedSyllable
+placed_behind given made = placed_syllables_by (not given) made
+
+abbrev pub held_outputs : HeldScore → List ScoreOutput
+held_outputs s = outputs_of [] (placed_behind s.given s.gathered.made)
+
+abbrev pub stop_outputs : HeldScore → Fault → List ScoreOutput
+stop_outputs s fault = held_outputs s ++ Stop fault ∷ []
+
+-- at a character of which the body emits this, where no limit is passed
+abbrev pub point_outputs : HeldScore → List BodyEvent → List ScoreOutput
+point_outputs s now =
+    let made = (with_all s.gathered now).made in
+    outputs_of (findings_now now) (take (length made - 1) (placed_behind s.given made))
+
+-- all but the last are given
+abbrev pub with_held : Gathered → Gathered
+with_held g = record g { made = drop (length g.made - 1) g.made }
+
+abbrev pub score_past : HeldScore → Char → List BodyEvent → HeldScore
+score_past s x now =
+    let g = with_all s.gathered now in
+    record { next = next_place x.place x.c; gathered = with_held g; given = s.given || nat_lt 1 (length g.made) }
+
+abbrev pub end_outputs_by : HeldScore → List BodyEvent → Option Fault → List ScoreOutput
+end_outputs_by s now (Some fault) = stop_outputs s fault
+end_outputs_by s now None =
+    let g = with_all s.gathered now in
+    outputs_of (findings_now now ++ end_findings s.next (has_text g.builder.view) ((with_last g).eu || (with_last g).nlba)) (placed_behind s.given (with_last g).made)
+    ++ End ∷ []
+
+abbrev pub end_outputs : Limits → HeldScore → List BodyEvent → List ScoreOutput
+end_outputs limits s now = end_outputs_by s now (end_fault limits s.next (with_last (with_all s.gathered now)))
+
+abbrev pub left_by : Option Code → HeldScore → Char → List BodyEvent → List HeadEvent → List (List ScoreOutput) → List (List ScoreOutput)
+left_by (Some code) s x now xs later = stop_outputs s (fault_at x.place code) ∷ silence xs
+left_by None s x now xs later = point_outputs s now ∷ later
+
+-- what it will still emit, where the body's machine will still emit these lists
+abbrev pub body_left : Limits → HeldScore → List (List BodyEvent) → List HeadEvent → List (List ScoreOutput)
+body_left limits s lists [] = held_outputs s ∷ []
+body_left limits s (now ∷ lists) (head_event.Body x ∷ xs) =
+    left_by (code_in limits (with_all s.gathered now)) s x now xs (body_left limits (score_past s x now) lists xs)
+body_left limits s [] (head_event.Body x ∷ xs) = silence (head_event.Body x ∷ xs)
+body_left limits s lists (head_event.End ∷ xs) = end_outputs limits s (concat_of lists) ∷ silence xs
+body_left limits s lists (head_event.Stop fault ∷ xs) = stop_outputs s fault ∷ silence xs
+body_left limits s lists (head_event.Found f ∷ xs) = (Found f ∷ []) ∷ body_left limits s lists xs
+body_left limits s lists (head_event.Heads lines macros canonical ∷ xs) = [] ∷ body_left limits s lists xs

@@ -1,0 +1,10 @@
+pub mod CanonicalTextIsPrintedSyllable
+pub mod CanonicalTextsArePrinted
+pub mod PartsEndAtTheirMarks
+pub mod PlacedCharacters
+pub mod PrintedBodyIsItsUnits
+pub mod PrintedFileIsReadAgain
+pub mod PrintedSyllableIsOneUnit
+pub mod ScoreIsPrinted
+pub mod ScoreReadAgainIsTheSame
+pub mod SnippetsAreReadAgain

@@ -1,0 +1,121 @@
+-- The canonical texts of a score's syllables are printed syllables, one after the other, the first of which begins a word.
+use Rattle.std.proofs.Common.{◌≡◌, ℕ, ◌≤◌, List, [], ◌∷◌, ◌++◌, length, length-append, Bool, true, false, if◌then◌else◌, Option, Some, None, refl, sym, ap, subst, ◌∙◌, append_assoc, arith, codes}
+use Rattle.std.specs.List.{All, flat_map}
+use Rattle.std.specs.Option.{option_map}
+use Rattle.std.proofs.lemmas.Bool.{eqb-true}
+use Rattle.std.proofs.lemmas.List.Elements.{All-head, All-tail}
+use Rattle.std.proofs.lemmas.Str.{encodes-append}
+use lib.Utf8.{encode, encodes}
+use Rattle.gabc_places.specs.declared.place.Char.{Char}
+use Rattle.gabc_text.specs.Events.{codes_of}
+use Rattle.gabc_text.specs.TextRead.{view_in}
+use Rattle.gabc_text.specs.declared.view.TextView.{TextView}
+use Rattle.gabc_text.specs.ViewFacts.{ViewFacts, view_facts}
+use Rattle.gabc_score.specs.Body.{has_text}
+use Rattle.gabc_score.specs.Events.{texts_by_definition}
+use Rattle.gabc_score.specs.Syllable.{UnplacedSyllable, PlacedSyllable}
+use Rattle.gabc_score.specs.Canonical.{canonical, starts_word, position_by}
+use Rattle.gabc_score.specs.Units.{BodyUnit, LastUnit, JustText, OpenNotes, Units, BodyCutting, cutting_of, BeginsWithLf, IsCutFrom, IsCut}
+use Rattle.gabc_score.specs.SyllablesOfUnits.{ScoreUnit, HoldsUnit, AreSyllablesOf, begins_word, next_begins_word, characters_in, characters_from, closed_units, last_units, score_units}
+use Rattle.gabc_write.specs.SyllableAgain.{printed_syllable, IsPrinted}
+use Rattle.gabc_write.specs.BodyAgain.{SyllableFacts, printed_body, AreSyllables, FirstBeginsWord, FirstTextBeginsWord, AreFactsOf, AreOwnFacts, ArePrinted}
+use Rattle.gabc_write.specs.PlainText.{IsText, AreUnitTexts}
+use Rattle.gabc_write.proofs.plain.PlainCharacters.{is_plain, append, is_text, text_plain}
+use Rattle.gabc_write.proofs.reading_again.PrintedSyllableIsOneUnit.{whole_units}
+
+-- ---- the first unit
+
+module _ (begins : (t : List ℕ) → (view_facts (10 ∷ t)).word_start ≡ true) where
+  feed_begins : (xs : List Char) → BeginsWithLf xs → (view_facts (codes_of xs)).word_start ≡ true
+  feed_begins [] h = absurd h
+  feed_begins (x ∷ xs) h = ap (λ (c : ℕ). (view_facts (c ∷ codes_of xs)).word_start) (eqb-true x.c 10 h) ∙ begins (codes_of xs)
+
+  first_of : (units : List BodyUnit) (last : LastUnit) → BeginsWithLf (characters_from units last) → FirstTextBeginsWord (closed_units units last ++ last_units last)
+  first_of (u ∷ units) last h = feed_begins (characters_in u ++ characters_from units last) h
+  first_of [] (OpenNotes text nexts xs) h = tt
+  first_of [] (JustText xs) h = by (has_text (view_in (codes_of xs)))
+    where
+      by : (b : Bool) → FirstTextBeginsWord (if b then record { text = codes_of xs; notes = []; snippets = [] } ∷ [] else [])
+      by true = feed_begins xs h
+      by false = tt
+
+  -- the text of the first unit begins with the LF behind the comment
+  pub first_text_begins : (lines macros : ℕ) (xs : List Char) (cut : BodyCutting) → IsCut texts_by_definition lines macros xs cut → FirstTextBeginsWord (score_units cut.units)
+  first_text_begins lines macros xs cut h = by cut.units h
+    where
+      by : (units : Option Units) → IsCutFrom texts_by_definition lines macros xs cut.comment (option_map (cutting_of lines) units) → FirstTextBeginsWord (score_units units)
+      by None k = tt
+      by (Some u) k = first_of u.closed u.last (subst BeginsWithLf (whole_units lines u.closed u.last) k.1.1.0)
+
+-- ---- the syllables
+
+starts_by : (a b : Bool) → starts_word (position_by a b) ≡ a
+starts_by true true = refl
+starts_by true false = refl
+starts_by false true = refl
+starts_by false false = refl
+
+feed : codes "\n" ≡ encodes (10 ∷ [])
+unfolding encode
+feed = refl
+
+abbrev bytes_of : PlacedSyllable → List ℕ
+bytes_of s = canonical (starts_word s.position) s.made
+
+joined : (s t : List ℕ) → IsText s → IsText t → IsText (s ++ t)
+joined s t h k = is_text (s ++ t) (append is_plain s t (text_plain s h) (text_plain t k))
+
+abbrev IsSingle : ScoreUnit → Type 0
+IsSingle u = length u.snippets ≤ 1
+
+module _ (lines : ℕ) (one : (u : ScoreUnit) (m : UnplacedSyllable) → HoldsUnit lines u m → (lines ≡ 0 → length u.snippets ≤ 1) → IsPrinted lines u m)
+    (all : List ScoreUnit) (made : List PlacedSyllable) (syllables : AreSyllablesOf lines all made) (first : FirstTextBeginsWord all) where
+  -- those behind so many
+  record Behind (units : List ScoreUnit) (ss : List PlacedSyllable) : Type 0 where
+    facts : List SyllableFacts
+    are_syllables : AreSyllables lines facts
+    facts_are : AreFactsOf units ss facts
+    own : AreOwnFacts lines units facts
+    bytes : flat_map bytes_of ss ++ codes "\n" ≡ encodes (printed_body facts)
+    plain : AreUnitTexts units → IsText (printed_body facts)
+
+  -- a unit begins a word where its text does: the first one's does
+  begins_as : (before after : List ScoreUnit) (u : ScoreUnit) → all ≡ before ++ u ∷ after → begins_word before u ≡ (view_in u.text).word_start
+  begins_as [] after u e = sym (subst FirstTextBeginsWord e first)
+  begins_as (b ∷ before) after u e = refl
+
+  behind : (before units : List ScoreUnit) (earlier ss : List PlacedSyllable) → all ≡ before ++ units → made ≡ earlier ++ ss → length earlier ≡ length before → length ss ≡ length units
+      → (lines ≡ 0 → All IsSingle units) → Behind units ss
+  behind before [] earlier [] e f n m single = record { facts = []; are_syllables = tt; facts_are = tt; own = tt; bytes = feed; plain = λ h. is_text (10 ∷ []) refl }
+  behind before [] earlier (s ∷ ss) e f n m single = absurd (omega (arith, m))
+  behind before (u ∷ units) earlier [] e f n m single = absurd (omega (arith, m))
+  behind before (u ∷ units) earlier (s ∷ ss) e f n m single =
+      let h = syllables.each before units u earlier ss s e f n in
+      let p = one u s.made h.holds (λ z. All-head IsSingle u units (single z)) in
+      let r = behind (before ++ u ∷ []) units (earlier ++ s ∷ []) ss (e ∙ sym (append_assoc before (u ∷ []) units)) (f ∙ sym (append_assoc earlier (s ∷ []) ss))
+      (omega (arith, length-append before (u ∷ []), length-append earlier (s ∷ []), n)) (omega (arith, m)) (λ z. All-tail IsSingle u units (single z)) in
+      let starts : starts_word s.position ≡ s.made.text.word_start =
+      ap starts_word h.position_is ∙ starts_by (begins_word before u) (next_begins_word units) ∙ begins_as before units u e ∙ sym (ap (λ (v : TextView). v.word_start) h.holds.view_is) in
+      let here : bytes_of s ≡ encodes (printed_syllable (view_facts u.text) p.snippets) = ap (λ (b : Bool). canonical b s.made) starts ∙ p.bytes in
+      record {
+        facts = record { view = view_facts u.text; snippets = p.snippets } ∷ r.facts;
+        are_syllables = (((u.text, refl), p.are_snippets), r.are_syllables);
+        facts_are = ((refl, p.texts), r.facts_are);
+        own = ((refl, p.own), r.own);
+        bytes = append_assoc (bytes_of s) (flat_map bytes_of ss) (codes "\n") ∙ ap (λ (x : List ℕ). x ++ (flat_map bytes_of ss ++ codes "\n")) here
+            ∙ ap (λ (x : List ℕ). encodes (printed_syllable (view_facts u.text) p.snippets) ++ x) r.bytes ∙ sym (encodes-append (printed_syllable (view_facts u.text) p.snippets) (printed_body r.facts));
+        plain = λ k. joined (printed_syllable (view_facts u.text) p.snippets) (printed_body r.facts) (p.plain k.0.0 k.0.1) (r.plain k.1);
+      }
+
+  first_is : (units : List ScoreUnit) (ss : List PlacedSyllable) (facts : List SyllableFacts) → FirstTextBeginsWord units → AreFactsOf units ss facts → FirstBeginsWord facts
+  first_is [] [] [] h g = tt
+  first_is [] [] (f ∷ facts) h g = absurd g
+  first_is [] (s ∷ ss) facts h g = absurd g
+  first_is (u ∷ units) [] facts h g = absurd g
+  first_is (u ∷ units) (s ∷ ss) [] h g = absurd g
+  first_is (u ∷ units) (s ∷ ss) (f ∷ facts) h g = ap (λ (v : ViewFacts). v.word_start) g.0.0 ∙ h
+
+  pub are_printed : (lines ≡ 0 → All IsSingle all) → ArePrinted lines all made
+  are_printed single =
+      let r = behind [] all [] made refl refl refl syllables.count single in
+      record { facts = r.facts; are_syllables = r.are_syllables; first = first_is all made r.facts first r.facts_are; facts_are = r.facts_are; own = r.own; bytes = r.bytes; plain = r.plain }

@@ -1,0 +1,146 @@
+-- A printed syllable is one unit in front of whatever follows.
+use Rattle.std.proofs.Common.{◌≡◌, ℕ, zero, suc, nat_lt, List, [], ◌∷◌, ◌++◌, length, Bool, true, false, cond, refl, sym, ap, subst, ◌∙◌, append_assoc, arith, codes}
+use Rattle.std.proofs.lemmas.Bool.Decides.{nat_tests}
+use Rattle.gabc_places.specs.declared.place.Place.{Place}
+use Rattle.gabc_places.specs.declared.place.Char.{Char}
+use Rattle.gabc_places.specs.Place.{next_place, place_past, placed_characters_from}
+use Rattle.gabc_places.proofs.PlacesOfAText.{length_placed}
+use Rattle.gabc_patterns.specs.Reading.{IsSnippet}
+use Rattle.gabc_text.specs.View.{kept, findings}
+use Rattle.gabc_text.specs.ViewFacts.{view_facts, has_error}
+use Rattle.gabc_text.specs.Printed.{print, text_tokens, translation_tokens, text_of_tokens}
+use Rattle.gabc_text.specs.Events.{codes_of, after_tokens, events_by_point}
+use Rattle.gabc_text.specs.Ends.{EndsOnce}
+use Rattle.gabc_notes.specs.Table.{gabc}
+use Rattle.gabc_notes.specs.declared.stage.NoteEnd.{NoteEnd}
+use Rattle.gabc_notes.specs.Ends.{IsMarkOf}
+use Rattle.gabc_notes.specs.ReadAgain.{IsReadAgain}
+use Rattle.gabc_nabc.specs.Table.{nabc}
+use Rattle.gabc_nabc.specs.ReadAgain.{IsNabcReadAgain}
+use Rattle.gabc_score.specs.Events.{InText, texts_by_definition, text_from, snippet_from, behind_mark}
+use Rattle.gabc_score.specs.Units.{Opens, Closes, BodyUnit, LastUnit, JustText, OpenNotes, CutPart, cut_part, snippets_with, last_characters, units_pieces, whole, EndsBehind, Cuts}
+use Rattle.gabc_score.specs.SyllablesOfUnits.{with_ends, snippets_in, characters_in, characters_from}
+use Rattle.gabc_write.specs.SyllableAgain.{barred, printed_syllable, AreSnippets, AreSnippetsFrom, AreUnitsFrom, IsOneUnit}
+use Rattle.gabc_write.proofs.reading_again.PlacedCharacters.{placed_append, past_append, codes_placed}
+use Rattle.gabc_write.proofs.reading_again.PartsEndAtTheirMarks.{text_ends}
+use Rattle.gabc_write.proofs.reading_again.SnippetsAreReadAgain.{nexts_of, final_of, spelled, snippets_spelled, whole_nexts, ends_with, Several, snippets_cut, snippets_again}
+
+-- ---- the characters of units
+
+-- the parts of units are their characters
+pub whole_units : (lines : ℕ) (units : List BodyUnit) (last : LastUnit) → whole (units_pieces lines units last) (last_characters last) ≡ characters_from units last
+whole_units lines [] (JustText xs) = refl
+whole_units lines [] (OpenNotes text nexts xs) =
+    ap (λ (ys : List Char). text.characters ++ text.end ∷ ys) (whole_nexts lines 0 text.end.place nexts [] xs)
+    ∙ sym (append_assoc text.characters (text.end ∷ with_ends nexts) xs)
+whole_units lines (u ∷ units) last =
+    let pieces : List CutPart = units_pieces lines units last in
+    let behind : List Char = characters_from units last in
+    ap (λ (ys : List Char). u.text.characters ++ u.text.end ∷ ys) (whole_nexts lines 0 u.text.end.place u.nexts (cut_part u.final Closes ∷ pieces) (last_characters last)
+    ∙ ap (λ (ys : List Char). spelled u.nexts u.final ys) (whole_units lines units last) ∙ sym (ends_with u.nexts u.final behind))
+    ∙ sym (append_assoc u.text.characters (u.text.end ∷ with_ends (snippets_in u)) behind)
+
+-- ---- the unit
+
+module _ (ends_once : (at : Place) (t : List ℕ) → EndsOnce at t)
+    (facts : (t rest : List ℕ) → view_facts (print (view_facts t) ++ 40 ∷ rest) ≡ view_facts t)
+    (none_wrong : (at : Place) (t rest : List ℕ) → has_error (findings at (print (view_facts t) ++ 40 ∷ rest)) ≡ false)
+    (ends : (t rest : List ℕ) → after_tokens (print (view_facts t) ++ 40 ∷ rest) ≡ 40 ∷ rest)
+    (all_kept : (t rest : List ℕ) → kept (print (view_facts t) ++ 40 ∷ rest) ≡ cond (view_facts t).word_start (codes " ") [] ++ text_of_tokens (text_tokens (view_facts t) ++ translation_tokens (view_facts t).translation))
+    (gabc_again : (split : Bool) (macros : ℕ) (at : Place) (how : NoteEnd) (t rest : List ℕ) (mark : ℕ) → IsSnippet gabc t → IsMarkOf split how mark → IsReadAgain split macros at t mark rest)
+    (nabc_again : (at : Place) (how : NoteEnd) (t rest : List ℕ) (mark : ℕ) → IsSnippet nabc t → IsMarkOf true how mark → IsNabcReadAgain at t mark rest)
+    (lines macros : ℕ) where
+  several : (ss : List (List ℕ)) → (lines ≡ 0 → length ss ≡ 1) → Several gabc_again nabc_again lines macros ss
+  several ss h s t us e = by lines refl
+    where
+      by : (n : ℕ) → lines ≡ n → nat_lt 0 lines ≡ true
+      by zero f = absurd (let g : length (s ∷ t ∷ us) ≡ 1 = sym (ap (length {A = List ℕ}) e) ∙ h f in omega (arith, g))
+      by (suc n) f = let g : nat_lt 0 (suc n) ≡ true = grind (arith, nat_tests) in ap (nat_lt 0) f ∙ g
+
+  module _ (at : Place) (t : List ℕ) (s : List ℕ) (ss : List (List ℕ)) (rest : List ℕ) (single : lines ≡ 0 → length (s ∷ ss) ≡ 1) (each : AreSnippetsFrom lines 0 (s ∷ ss)) where
+    abbrev text : List ℕ
+    text = print (view_facts t)
+
+    abbrev all : List ℕ
+    all = printed_syllable (view_facts t) (s ∷ ss)
+
+    -- behind the `(`
+    abbrev later : List ℕ
+    later = barred (s ∷ ss) ++ 41 ∷ rest
+
+    abbrev opening : Place
+    opening = place_past at text
+
+    abbrev notes : Place
+    notes = next_place opening 40
+
+    abbrev unit : BodyUnit
+    unit = record {
+      text = record { characters = placed_characters_from at text; end = record { c = 40; place = opening } };
+      nexts = nexts_of notes (s ∷ ss);
+      final = final_of notes (s ∷ ss);
+    }
+
+    abbrev behind : List Char
+    behind = placed_characters_from (place_past at all) rest
+
+    text_is : all ++ rest ≡ text ++ 40 ∷ later
+    text_is = append_assoc text (40 ∷ (barred (s ∷ ss) ++ 41 ∷ [])) rest ∙ ap (λ (x : List ℕ). text ++ 40 ∷ x) (append_assoc (barred (s ∷ ss)) (41 ∷ []) rest)
+
+    past_is : place_past at all ≡ place_past notes (barred (s ∷ ss) ++ 41 ∷ [])
+    past_is = past_append at text (40 ∷ (barred (s ∷ ss) ++ 41 ∷ []))
+
+    behind_is : behind ≡ placed_characters_from (place_past notes (barred (s ∷ ss) ++ 41 ∷ [])) rest
+    behind_is = ap (λ (q : Place). placed_characters_from q rest) past_is
+
+    notes_are : placed_characters_from notes later ≡ spelled unit.nexts unit.final behind
+    notes_are = snippets_spelled notes s ss rest ∙ ap (λ (xs : List Char). spelled unit.nexts unit.final xs) (sym behind_is)
+
+    characters_are : placed_characters_from at (all ++ rest) ≡ characters_in unit ++ behind
+    characters_are =
+        ap (placed_characters_from at) text_is ∙ placed_append at text (40 ∷ later)
+        ∙ ap (λ (xs : List Char). unit.text.characters ++ unit.text.end ∷ xs) (notes_are ∙ sym (ends_with unit.nexts unit.final behind))
+        ∙ sym (append_assoc unit.text.characters (unit.text.end ∷ with_ends (snippets_in unit)) behind)
+
+    codes_are : codes_of (characters_in unit ++ behind) ≡ text ++ 40 ∷ later
+    codes_are = ap codes_of (sym characters_are) ∙ codes_placed at (all ++ rest) ∙ text_is
+
+    text_cut : (begins : Place) → EndsBehind lines (text_from texts_by_definition begins (placed_characters_from at (all ++ rest))) unit.text.characters Opens
+    text_cut begins =
+        let e : codes_of (placed_characters_from at (all ++ rest)) ≡ text ++ 40 ∷ later = codes_placed at (all ++ rest) ∙ text_is in
+        subst (λ (x : List ℕ). EndsBehind lines (InText (events_by_point begins x)) unit.text.characters Opens) (sym e)
+        (text_ends lines begins text later unit.text.characters (ends_once begins (text ++ 40 ∷ later)) (ends t later) (length_placed at text))
+
+    one_more : (begins : Place) (units : List BodyUnit) (last : LastUnit) → AreUnitsFrom lines macros (behind_mark unit.final.end.place) behind units last
+        → AreUnitsFrom lines macros begins (placed_characters_from at (all ++ rest)) (unit ∷ units) last
+    one_more begins units last h =
+        let pieces : List CutPart = units_pieces lines units last in
+        let parts : List CutPart = snippets_with lines 0 opening unit.nexts (cut_part unit.final Closes ∷ pieces) in
+        let rest_is : whole pieces (last_characters last) ≡ behind = whole_units lines units last ∙ sym h.characters in
+        let onward = subst (λ (xs : List Char). Cuts texts_by_definition lines macros (text_from texts_by_definition (behind_mark unit.final.end.place) xs) pieces (last_characters last)) (sym rest_is) h.cut in
+        let notes_cut = snippets_cut gabc_again nabc_again lines macros 0 opening notes s ss rest pieces (last_characters last) (several (s ∷ ss) single) each (rest_is ∙ behind_is) onward in
+        let parts_are : placed_characters_from notes later ≡ whole parts (last_characters last) =
+        notes_are ∙ ap (λ (xs : List Char). spelled unit.nexts unit.final xs) (sym rest_is) ∙ sym (whole_nexts lines 0 opening unit.nexts (cut_part unit.final Closes ∷ pieces) (last_characters last)) in
+        record {
+          characters = characters_are ∙ ap (λ (xs : List Char). characters_in unit ++ xs) h.characters;
+          cut = (text_cut begins, subst (λ (xs : List Char). Cuts texts_by_definition lines macros (snippet_from lines macros 0 opening xs) parts (last_characters last)) parts_are notes_cut);
+        }
+
+    one_unit : IsOneUnit lines macros at (view_facts t) (s ∷ ss) rest
+    one_unit = record {
+      unit = unit;
+      behind = behind;
+      behind_is = refl;
+      characters = characters_are;
+      one_more = one_more;
+      again = record {
+        says = ap view_facts codes_are ∙ facts t later;
+        errors = λ place. ap (λ (x : List ℕ). has_error (findings place x)) codes_are ∙ none_wrong place t later;
+        kept = ap kept codes_are ∙ all_kept t later;
+        snippets = snippets_again gabc_again nabc_again lines macros 0 notes s ss rest behind (several (s ∷ ss) single) each behind_is;
+      };
+    }
+
+  pub is_one_unit : (at : Place) (t : List ℕ) (ss : List (List ℕ)) (rest : List ℕ) → AreSnippets lines ss → IsOneUnit lines macros at (view_facts t) ss rest
+  is_one_unit at t [] rest h = absurd (h.some refl)
+  is_one_unit at t (s ∷ ss) rest h = one_unit at t s ss rest h.single h.each

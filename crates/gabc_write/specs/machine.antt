@@ -1,2 +1,0 @@
-pub mod HeaderText
-pub mod SyllableText

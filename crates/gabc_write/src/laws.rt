@@ -1,0 +1,101 @@
+//! Laws of the definitions alone. Each function's contract is a law; its body calls the laws below that it stands on.
+
+ghost use Rattle.std.specs.Prelude.{◌≡◌, ◌≤◌, ◌<◌, ◌^◌, ℕ, List, length, Some, Ok, encode_utf8_all};
+ghost use Rattle.std.specs.List.{All};
+ghost use Rattle.gabc_places.specs.declared.place.Place.{Place};
+ghost use Rattle.gabc_places.specs.declared.place.Char.{Char};
+ghost use Rattle.gabc_places.specs.declared.limits.Limits.{Limits};
+ghost use Rattle.gabc_headers.specs.declared.heads.Heads.{Heads};
+ghost use Rattle.gabc_headers.specs.Heads.{heads_of};
+ghost use Rattle.gabc_headers.specs.Book.{nabc_lines_of};
+ghost use Rattle.gabc_text.specs.ViewFacts.{view_facts};
+ghost use Rattle.gabc_score.specs.Events.{texts_by_definition};
+ghost use Rattle.gabc_score.specs.declared.ending.InputEnding.{InputEnding};
+ghost use Rattle.gabc_score.specs.Score.{score_of};
+ghost use Rattle.gabc_score.specs.Syllable.{UnplacedSyllable, PlacedSyllable};
+ghost use Rattle.gabc_score.specs.Units.{BodyCutting, IsCut};
+ghost use Rattle.gabc_score.specs.SyllablesOfUnits.{ScoreUnit, HoldsUnit, AreSyllablesOf, score_units};
+ghost use Rattle.gabc_write.specs.SyllableAgain.{AreSnippets, IsPrinted, IsOneUnit};
+ghost use Rattle.gabc_write.specs.BodyAgain.{SyllableFacts, AreSyllables, FirstBeginsWord, FirstTextBeginsWord, ArePrinted, IsBodyAgain};
+ghost use Rattle.gabc_write.specs.FileAgain.{IsFileAgain};
+ghost use Rattle.gabc_write.specs.ScoreAgain.{IsPrintedScore, IsScoreAgain};
+ghost use Rattle.gabc_write.specs.PlainText.{IsText};
+
+/// A printed syllable is read again, whatever follows its `)`, as one unit with the same text, the same snippets and the same
+/// start of a word, and without an error. The canonical text of each syllable of a unit is such a printed syllable.
+pub fn syllable_again()
+    ensures read { (lines macros : ℕ) (at : Place) (t : List ℕ) (snippets : List (List ℕ))
+        (rest : List ℕ) → AreSnippets lines snippets → IsOneUnit lines macros at (view_facts t) snippets rest }
+    ensures printed { (lines : ℕ) (u : ScoreUnit) (m : UnplacedSyllable) → HoldsUnit lines u m →
+        (lines ≡ 0 → length u.snippets ≤ 1) → IsPrinted lines u m }
+{
+    gabc_text::laws::a_text_ends_once();
+    gabc_text::laws::view_again();
+    gabc_text::laws::spans_stand_for_the_view();
+    gabc_notes::laws::kept_again();
+    gabc_nabc::laws::kept_again();
+    gabc_score::laws::a_syllable_holds_its_parts();
+}
+
+/// The canonical texts of the syllables of a score's units, with the LF that ends a file, are a body of printed syllables, the
+/// first of which begins a word. Such a body is cut, without a comment, into one unit for each syllable, in order, and into a last
+/// text that is no unit. Each unit says the same without an error.
+pub fn body_again()
+    ensures first { (lines macros : ℕ) (xs : List Char) (cut : BodyCutting) →
+        IsCut texts_by_definition lines macros xs cut →
+        FirstTextBeginsWord (score_units cut.units) }
+    ensures printed { (lines : ℕ) (units : List ScoreUnit) (syllables : List PlacedSyllable) →
+        AreSyllablesOf lines units syllables → FirstTextBeginsWord units →
+        (lines ≡ 0 → All (λ (u : ScoreUnit). length u.snippets ≤ 1) units) →
+        ArePrinted lines units syllables }
+    ensures read { (lines macros : ℕ) (at : Place) (facts : List SyllableFacts) →
+        AreSyllables lines facts → FirstBeginsWord facts → IsBodyAgain lines macros at facts }
+{
+    gabc_text::laws::a_text_ends_once();
+    gabc_text::laws::a_kept_text_is_read_again();
+    syllable_again();
+}
+
+/// A file of the canonical lines of a book and of printed syllables, the first of which begins a word, is read under the same
+/// limits as that book, and its body is cut into units that say what was printed.
+pub fn file_again()
+    ensures { (limits : Limits) (t : List ℕ) (heads : Heads) (facts : List SyllableFacts) →
+        heads_of limits t ≡ Ok heads → AreSyllables (nabc_lines_of heads.book) facts →
+        FirstBeginsWord facts → IsFileAgain limits heads.book facts }
+{
+    gabc_headers::laws::book_again();
+    body_again();
+}
+
+/// The canonical file of a score whose headers are whole, also of one that is stopped, is a file of the canonical lines of its book
+/// and of the printed syllables of its units, the first of which begins a word. If the input's characters are Unicode scalar values
+/// without CR and U+FEFF, those of the file are, too.
+pub fn score_is_printed()
+    ensures { (limits : Limits) (ending : InputEnding) (t : List ℕ) (book : List (List ℕ × List ℕ))
+        → length (encode_utf8_all t) < 2 ^ 63
+        → (let score = score_of limits ending t in
+        score.book ≡ Some book → IsPrintedScore t book score.syllables) }
+{
+    gabc_score::laws::a_body_has_one_cutting();
+    gabc_score::laws::units_end_at_their_marks();
+    gabc_score::laws::the_syllables_are_those_of_the_units();
+    body_again();
+}
+
+/// The canonical file of a score whose headers are whole, also of one that is stopped, is read again under the same limits, if it has
+/// no more bytes than the input may have: the bytes are decoded without a fault, the headers are the book, and the body is cut into
+/// one unit for each syllable, in order, which says the same without an error. Where this score has no fault, it has the same book,
+/// its syllables say the same, and its canonical file is the same.
+pub fn score_again()
+    ensures { (limits : Limits) (ending : InputEnding) (t : List ℕ) (book : List (List ℕ × List ℕ))
+        → length (encode_utf8_all t) < 2 ^ 63 → IsText t
+        → (let score = score_of limits ending t in
+        score.book ≡ Some book → IsScoreAgain limits t book score.syllables) }
+{
+    gabc_places::laws::text_again();
+    gabc_score::laws::units_end_at_their_marks();
+    gabc_score::laws::the_syllables_are_those_of_the_units();
+    body_again();
+    file_again();
+    score_is_printed();
+}

@@ -1,8 +1,0 @@
-use Rattle.std.proofs.Common.{◌∙◌, ap}
-use Rattle.clap.specs.Words.{found_of}
-use Rattle.gregorio.specs.Wants.{is_from_words}
-use Rattle.gregorio.proofs.answers.ArgumentsByRows.{is_used-rows}
-use Rattle.gregorio.proofs.wanted.is_used.Goals as goal
-
-pub returns : goal.returns
-returns c = c.is_from_words.ensures ∙ (ap is_from_words c.value_source.ensures ∙ is_used-rows (found_of c.args.matches.now) c.args.id.now)

@@ -1,0 +1,5 @@
+pub mod Arguments
+pub mod Refusal
+pub mod Status
+pub mod Wants
+pub mod machine

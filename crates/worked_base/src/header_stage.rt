@@ -1,0 +1,183 @@
+//! A stage of headers behind a decoder, driven over bytes; its text and its book.
+
+ghost use Rattle.std.specs.Prelude.{◌<◌, ◌≤◌, length};
+
+use gabc_headers::stage_laws::{
+    a_fresh_stage_emits, a_fresh_stage_reads_bytes, an_input_is_taken, the_end_is_taken,
+};
+use gabc_headers::{HeadEvent, HeaderStage};
+use gabc_places::{Char, Code, Fault, Limits, Place, Room, Stage};
+use std::test::Fail;
+
+/// Adds an event to a text: findings and faults as their messages, a character of the body as it is.
+fn show(rt: &HostRuntime, event: HeadEvent, shown: &mut String) -> Result<(), Fail> {
+    match event {
+        HeadEvent::Found(finding) => {
+            let line = format!(in rt.alloc(); "{finding}|")?;
+            shown.push_str(line.as_str())?;
+        }
+        HeadEvent::Stop(fault) => {
+            let line = format!(in rt.alloc(); "{fault}")?;
+            shown.push_str(line.as_str())?;
+        }
+        HeadEvent::Heads {
+            nabc_lines,
+            macros,
+            canonical,
+        } => {
+            let line = format!(in rt.alloc(); "heads {nabc_lines} {macros} {canonical}|")?;
+            shown.push_str(line.as_str())?;
+        }
+        HeadEvent::Body(c) => shown.push(c.c)?,
+        HeadEvent::End => shown.push_str("|end")?,
+    }
+    Ok(())
+}
+
+/// What a fresh decoder and a fresh stage of headers give of these bytes.
+fn events_of(rt: &HostRuntime, bytes: &[u8]) -> Result<String, Fail>
+    requires { length bytes.now < 1000 }
+{
+    let mut inputs = Vec::new(rt.alloc());
+    inputs.extend_from_slice(bytes)?;
+    let mut out = Room::with_limit(rt.alloc(), 4 * (bytes.len() + 1))?;
+    a_fresh_stage_reads_bytes(rt.alloc(), Limits::DEFAULT, inputs, &mut out)?;
+    let mut shown = String::new(rt.alloc());
+    for event in out.slice() {
+        show(rt, *event, &mut shown)?;
+    }
+    Ok(shown)
+}
+
+#[test]
+fn bytes_are_headers_and_body(rt: HostRuntime) -> Result<(), Fail> {
+    let shown = events_of(
+        &rt,
+        b"\xEF\xBB\xBFname:X;\r\ncommentary:;\r\n%%\r\n(c3) A(g)",
+    )?;
+    assert_eq!(rt; shown.as_str(), "heads 0 0 24|\n(c3) A(g)|end");
+    Ok(())
+}
+
+#[test]
+fn a_value_has_lines(rt: HostRuntime) -> Result<(), Fail> {
+    let shown = events_of(&rt, b"user-notes: \n %%x\ntwo;;\n%%\n")?;
+    assert_eq!(rt;
+        shown.as_str(),
+        "4:1: warning: W1: no name header|heads 0 0 25|\n|end"
+    );
+    let shown = events_of(&rt, b"name:\na; % x;;\n%%\n")?;
+    assert_eq!(rt; shown.as_str(), "heads 0 0 18|\n|end");
+    let shown = events_of(&rt, b"name: a; % x;\n%%\n")?;
+    assert_eq!(rt; shown.as_str(), "heads 0 0 11|\n|end");
+    Ok(())
+}
+
+#[test]
+fn a_fault_behind_the_headers_stops(rt: HostRuntime) -> Result<(), Fail> {
+    let shown = events_of(&rt, b"%%\nA(f) b(g)\xFF")?;
+    assert_eq!(rt;
+        shown.as_str(),
+        "1:1: warning: W1: no name header|heads 0 0 2|\nA(f) b(g)2:10: fatal: F1: not UTF-8"
+    );
+    Ok(())
+}
+
+#[test]
+fn headers_come_again_or_are_left_out(rt: HostRuntime) -> Result<(), Fail> {
+    let shown = events_of(&rt, b"mode:1;\nname:A;\nmode:2;\n%%")?;
+    assert_eq!(rt;
+        shown.as_str(),
+        "3:1: warning: W2: header given again|heads 0 0 20||end"
+    );
+    let shown = events_of(&rt, b"nabc-lines: 9;\n%%")?;
+    assert_eq!(rt;
+        shown.as_str(),
+        "1:1: error: E5: nabc-lines out of range left out|2:1: warning: W1: no name header|heads 0 0 2||end"
+    );
+    let shown = events_of(&rt, b"words\n%%")?;
+    assert_eq!(rt;
+        shown.as_str(),
+        "1:1: error: E4: header without a usable name left out|2:1: warning: W1: no name header|heads 0 0 2||end"
+    );
+    let shown = events_of(&rt, b"name: x\n%%\n")?;
+    assert_eq!(rt; shown.as_str(), "1:1: fatal: F3: header value not ended");
+    Ok(())
+}
+
+#[test]
+fn a_text_without_its_mark_is_stopped_at_its_end(rt: HostRuntime) -> Result<(), Fail> {
+    let shown = events_of(&rt, b"a\r\nb")?;
+    assert_eq!(rt;
+        shown.as_str(),
+        "1:1: error: E4: header without a usable name left out|2:2: fatal: F2: no %% line"
+    );
+    Ok(())
+}
+
+#[test]
+fn macros_and_lines_are_told(rt: HostRuntime) -> Result<(), Fail> {
+    let shown = events_of(&rt, b"name:;\nnabc-lines:1;\ndef-m0:x;\ndef-m9:y;\n%%")?;
+    assert_eq!(rt; shown.as_str(), "heads 1 513 46||end");
+    Ok(())
+}
+
+/// Pushes the characters of a text to a stage, and passes over what it gives.
+fn push_all(stage: &mut HeaderStage, text: &str, out: &mut Room<HeadEvent>)
+    requires { 2 ≤ out.old.limit }
+    ensures { 2 ≤ out.new.limit }
+{
+    for c in text.chars() {
+        out.clear();
+        stage.push(
+            Ok(Char {
+                c,
+                place: Place::START,
+            }),
+            out,
+        );
+    }
+}
+
+#[test]
+fn the_text_and_then_the_book_are_lent(rt: HostRuntime) -> Result<(), Fail> {
+    let mut out = Room::with_limit(rt.alloc(), 2)?;
+    let mut stage = HeaderStage::with_limits(rt.alloc(), Limits::DEFAULT)?;
+    assert_eq!(rt; stage.most(), 2);
+    push_all(&mut stage, "mode:1;\nmode:2;\n%", &mut out);
+    assert_eq!(rt; stage.text(), "mode:1;\nmode:2;\n%");
+    assert!(rt; stage.book().is_empty());
+    push_all(&mut stage, "%\n(f)", &mut out);
+    assert_eq!(rt; stage.text(), "");
+    assert_eq!(rt; stage.book().len(), 1);
+    assert_eq!(rt; stage.book().get("mode"), Some("2"));
+    assert_eq!(rt; stage.book().macros(), 0);
+    Ok(())
+}
+
+#[test]
+fn laws_of_inputs_are_called(rt: HostRuntime) -> Result<(), Fail> {
+    let mut out = Room::with_limit(rt.alloc(), 4)?;
+    let mut stage = HeaderStage::with_limits(rt.alloc(), Limits::DEFAULT)?;
+    let fault = Fault {
+        place: Place::START,
+        code: Code::F1,
+    };
+    an_input_is_taken(&mut stage, Err(fault), &mut out);
+    the_end_is_taken(&mut stage, &mut out);
+    assert_eq!(rt; out.slice(), [HeadEvent::Stop(fault)].as_slice());
+    Ok(())
+}
+
+#[test]
+fn a_fresh_stage_is_driven(rt: HostRuntime) -> Result<(), Fail> {
+    let mut out = Room::with_limit(rt.alloc(), 2)?;
+    a_fresh_stage_emits(rt.alloc(), Limits::DEFAULT, Vec::new(rt.alloc()), &mut out)?;
+    let place = Place::START;
+    let fault = Fault {
+        place,
+        code: Code::F2,
+    };
+    assert_eq!(rt; out.slice(), [HeadEvent::Stop(fault)].as_slice());
+    Ok(())
+}
