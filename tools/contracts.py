@@ -219,7 +219,7 @@ class Source:
         for it in re.finditer(rf"\bfn\s+({WORD})", self.plain):
             line = self.plain[self.plain.rfind("\n", 0, it.start()) + 1 : it.start()]
             holder = next((h for h in self.holders if h["from"] < it.start() < h["to"]), None)
-            if re.fullmatch(r"\s*(pub(\([^)]*\))?\s+)?(const\s+|unsafe\s+)*", line):
+            if re.fullmatch(r"\s*(pub(\([^)]*\))?\s+)?(const\s+|unsafe\s+|extern\s+\S*\s+)*", line):
                 function = Function(self, holder, it[1], it.start())
                 function.is_public = line.split()[:1] == ["pub"] or bool(holder and holder["trait"])
                 self.functions.append(function)

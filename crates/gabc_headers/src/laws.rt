@@ -3,6 +3,7 @@
 ghost use Rattle.std.specs.Prelude.{◌≡◌, ◌+◌, ◌≤◌, ℕ, List, [], ◌++◌, length, take, Ok, IsUtf8};
 ghost use Rattle.std.specs.Str.{chars};
 ghost use Rattle.gabc_places.specs.declared.limits.Limits.{Limits};
+ghost use Rattle.gabc_places.specs.LargerLimits.{AreNoLess};
 ghost use Rattle.gabc_places.specs.Findings.{AreInOrder, LieBetween};
 ghost use Rattle.gabc_places.specs.Place.{place_after};
 ghost use Rattle.gabc_places.specs.StageLaw.{concat_of};
@@ -10,6 +11,7 @@ ghost use Rattle.gabc_headers.specs.declared.heads.Heads.{Heads};
 ghost use Rattle.gabc_headers.specs.Heads.{head_len, heads_of, findings_of, line_place};
 ghost use Rattle.gabc_headers.specs.Book.{standing_entries};
 ghost use Rattle.gabc_headers.specs.Canonical.{canonical_heads, header_lines};
+ghost use Rattle.gabc_headers.specs.Lines.{bytes_len};
 ghost use Rattle.gabc_headers.specs.HeadsAgain.{heads_again};
 ghost use Rattle.gabc_headers.specs.EntryMap.{put_all};
 ghost use Rattle.gabc_headers.specs.Groups.{Group, AreGroups, parts_of_groups};
@@ -67,16 +69,24 @@ pub fn the_headers_end_at_their_mark()
         → (other : Heads) × (heads_of limits (take (head_len t + 2) t ++ more) ≡ Ok other) × (other.book ≡ heads.book) }
 {}
 
-/// The canonical lines of a book, with whatever follows their `%%`, are read as that book under the same limits: no header is
-/// left out, none comes twice, and nothing stops them. They end at this `%%`. All that can be found is that there is no header
-/// `name`.
+/// The canonical lines of a book, with whatever follows their `%%`, are read as that book under the same limits or larger ones: no
+/// header is left out, none comes twice, and nothing stops them. They end at this `%%`. All that can be found is that there is no
+/// header `name`.
 pub fn book_again()
-    ensures read { (limits : Limits) (t more : List ℕ) (heads : Heads)
-        → heads_of limits t ≡ Ok heads
-        → heads_of limits (canonical_heads heads.book ++ more) ≡ Ok (heads_again heads.book) }
+    ensures read { (limits larger : Limits) (t more : List ℕ) (heads : Heads)
+        → AreNoLess limits larger → heads_of limits t ≡ Ok heads
+        → heads_of larger (canonical_heads heads.book ++ more) ≡ Ok (heads_again heads.book) }
     ensures ends { (limits : Limits) (t more : List ℕ) (heads : Heads)
         → heads_of limits t ≡ Ok heads
         → head_len (canonical_heads heads.book ++ more) ≡ length (header_lines heads.book) }
+{}
+
+/// The canonical lines of a book have no more bytes than headers may have, and with `%%` and an LF no more than the input may
+/// have.
+pub fn canonical_lines_are_within_the_limits()
+    ensures { (limits : Limits) (t : List ℕ) (heads : Heads) → heads_of limits t ≡ Ok heads →
+        (bytes_len (header_lines heads.book) ≤ limits.header)
+        × (bytes_len (canonical_heads heads.book) + 1 ≤ limits.input) }
 {}
 
 /// Told character by character, the headers of a text are what they are when they are read whole, followed by the characters

@@ -1,2 +1,3 @@
 pub mod FirstPartByBytes
+pub mod PartsAreTheReading
 pub mod PartsByBytes

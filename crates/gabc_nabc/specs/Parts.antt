@@ -1,7 +1,8 @@
 -- The parts of a kept text by the bytes where they begin and end.
-use Rattle.std.specs.Prelude.{ℕ, List, Bool, map, slice_range, length}
+use Rattle.std.specs.Prelude.{ℕ, ◌+◌, ◌≤◌, List, [], ◌∷◌, Bool, All, map, slice_range, length, encode_utf8_all}
 use Rattle.std.specs.Str.{chars}
 use Rattle.gabc_patterns.specs.Reading.{Reads, IsSnippet}
+use Rattle.gabc_patterns.specs.Function.{items}
 use Rattle.gabc_patterns.specs.Items.{FollowOn, ItemSpan}
 use Rattle.gabc_nabc.specs.Table.{nabc}
 use Rattle.gabc_nabc.specs.declared.descriptor.Descriptor.{Descriptor}
@@ -26,3 +27,19 @@ piece_of i = (i.space, i.span.from, i.span.to)
 pub record AreDescriptorsOf (bytes : List ℕ) (parts : List Descriptor) : Type 0 where
   pub reads : Reads nabc (map (read_as bytes) parts) (chars bytes)
   pub joined : FollowOn 0 (map piece_of parts) (length bytes)
+
+-- parts of these kinds and characters, which stand one behind the other from that byte on
+abbrev pub placed_parts : ℕ → List (Bool × List ℕ) → List Descriptor
+placed_parts at [] = []
+placed_parts at (i ∷ is) =
+    let to = at + length (encode_utf8_all i.1) in
+    record { space = i.0; span = record { from = at; to = to } } ∷ placed_parts to is
+
+-- the descriptors and spaces of a text, each the longest that begins at its place: of a snippet all, of another text as far as one
+-- begins
+abbrev pub parts_of : List ℕ → List Descriptor
+parts_of bytes = placed_parts 0 (items nabc (chars bytes))
+
+-- the parts lie in the text
+abbrev pub AreWithin : List ℕ → List Descriptor → Type 0
+AreWithin bytes parts = All (λ part. (part.span.from ≤ part.span.to) × (part.span.to ≤ length bytes)) parts

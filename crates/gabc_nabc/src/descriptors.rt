@@ -1,10 +1,9 @@
 //! The descriptors and spaces of a kept text.
 
-ghost use Rattle.std.specs.Prelude.{◌≡◌, ◌≤◌, ◌<◌, ◌++◌, length, drop, IfOk, IfSome, IfNone, List};
+ghost use Rattle.std.specs.Prelude.{◌≡◌, length, IfOk};
 ghost use Rattle.gabc_places.specs.BoundedList.{Fits, extended_by};
-ghost use Rattle.gabc_nabc.specs.Parts.{IsNabc, AreDescriptorsOf};
-ghost use Rattle.gabc_nabc.specs.machine.Parts.{IsFirstPart};
-ghost use Rattle.gabc_nabc.specs.declared.descriptor.Descriptor.{Descriptor};
+ghost use Rattle.gabc_nabc.specs.Parts.{parts_of};
+ghost use Rattle.gabc_nabc.specs.machine.Parts.{first_part_of};
 
 use crate::class::class_of;
 use crate::descriptor::{Descriptor, Descriptors};
@@ -14,8 +13,7 @@ use std::alloc::{AllocError, Global};
 
 /// Returns the longest part that begins `text`: whether it is a space, and how many bytes it has.
 fn first_part(text: &str) -> Option<(bool, usize)>
-    ensures found { IfSome result (λ i. IsFirstPart text.now i.0 i.1) }
-    ensures none { IfNone result (0 < length text.now → ¬ IsNabc text.now) }
+    ensures { result ≡ first_part_of text.now }
 {
     let mut best = None;
     let mut state = DescriptorState::Start;
@@ -36,11 +34,10 @@ fn first_part(text: &str) -> Option<(bool, usize)>
 }
 
 /// Returns the descriptors and spaces of `kept`, in order: spans that count its bytes, each part the longest that begins where the
-/// one before it ends. `kept` has to be an NABC snippet, as `is_nabc` tells; what `nabc_whole` keeps is one wherever the snippet
-/// ended. It fails only for want of memory.
+/// one before it ends. They are all of an NABC snippet, such as what `nabc_whole` keeps wherever the snippet ended; another text is
+/// read as far as a part begins. It fails only for want of memory.
 pub fn descriptors_whole(alloc: Global, kept: &str) -> Result<Descriptors, AllocError>
-    requires { IsNabc kept.now }
-    ensures { IfOk result (λ parts. AreDescriptorsOf kept.now parts) }
+    ensures { IfOk result (λ parts. parts ≡ parts_of kept.now) }
 {
     let mut parts = Descriptors::new(alloc);
     let mut at = 0;
@@ -55,13 +52,11 @@ pub fn descriptors_whole(alloc: Global, kept: &str) -> Result<Descriptors, Alloc
     Ok(parts)
 }
 
-/// Adds to `out` the descriptors and spaces of `kept`, as `descriptors_whole` returns them, and asks for no memory. `kept` has to be
-/// an NABC snippet, as `is_nabc` tells, and `out` to take as many parts more as `kept` has bytes.
+/// Adds to `out` the descriptors and spaces of `kept`, as `descriptors_whole` returns them, and asks for no memory. `out` has to
+/// take as many parts more as `kept` has bytes.
 pub fn descriptors_into(kept: &str, out: &mut Room<Descriptor>)
-    requires kept { IsNabc kept.now }
-    requires room { Fits out.old (length kept.now) }
-    ensures { (parts : List Descriptor) × AreDescriptorsOf kept.now parts ×
-        (out.new ≡ extended_by out.old parts) }
+    requires { Fits out.old (length kept.now) }
+    ensures { out.new ≡ extended_by out.old (parts_of kept.now) }
 {
     let mut at = 0;
     while let Some((space, len)) = first_part(&kept[at..]) {

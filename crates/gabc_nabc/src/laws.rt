@@ -1,7 +1,7 @@
 //! Laws of the definitions that contracts speak of. Each function is there for its clauses: all but one do nothing, and that one
 //! drives a fresh stage.
 
-ghost use Rattle.std.specs.Prelude.{◌≡◌, ◌≤◌, ◌+◌, ◌*◌, ℕ, List, [], ◌∷◌, ◌++◌, Bool, length, take, map, true, encode_utf8_all, IsTrue, ◌↔◌};
+ghost use Rattle.std.specs.Prelude.{◌≡◌, ◌≤◌, ◌+◌, ◌*◌, ℕ, List, [], ◌∷◌, ◌++◌, Bool, length, take, map, true, Some, encode_utf8_all, IsTrue, ◌↔◌};
 ghost use Rattle.gabc_places.specs.Findings.{AreInOrder, LieBetween};
 ghost use Rattle.gabc_places.specs.BoundedList.{Fits, extended_by};
 ghost use Rattle.gabc_places.specs.StageLaw.{concat_of};
@@ -10,7 +10,10 @@ ghost use Rattle.gabc_places.specs.declared.place.Char.{Char};
 ghost use Rattle.gabc_patterns.specs.Pattern.{Spells};
 ghost use Rattle.gabc_patterns.specs.Reading.{Reads, IsItem, OneKind, IsSnippet, IsViable};
 ghost use Rattle.gabc_nabc.specs.Table.{nabc, code, descriptor};
+ghost use Rattle.std.specs.Str.{IsUtf8};
 ghost use Rattle.gabc_nabc.specs.Codes.{HasCodesOfGlyphs};
+ghost use Rattle.gabc_nabc.specs.Names.{name_by};
+ghost use Rattle.gabc_nabc.specs.Parts.{IsNabc, AreDescriptorsOf, AreWithin, parts_of};
 ghost use Rattle.gabc_nabc.specs.Events.{bytes_in, has_end, is_code, kept_of, nabc_events, events_at, nabc_events_behind, cut_events};
 ghost use Rattle.gabc_notes.specs.SnippetRead.{ends_of, findings_of, kept_of as kept_in};
 ghost use Rattle.gabc_notes.specs.Ends.{IsMarkOf, EndAtMost, AreCutAtMost};
@@ -46,6 +49,13 @@ pub fn a_part_has_one_kind()
 pub fn descriptors_are_one()
     ensures { (is js : List (Bool × List ℕ)) (t : List ℕ) → Reads nabc is t →
         Reads nabc js t → is ≡ js }
+{}
+
+/// The parts of an NABC snippet are its reading. Those of any text in UTF-8 lie in it.
+pub fn parts_are_the_reading()
+    ensures snippet { (bytes : List ℕ) → IsUtf8 bytes → IsNabc bytes →
+        AreDescriptorsOf bytes (parts_of bytes) }
+    ensures within { (bytes : List ℕ) → IsUtf8 bytes → AreWithin bytes (parts_of bytes) }
 {}
 
 /// A viable text is an NABC snippet with at most two characters more.
@@ -97,6 +107,11 @@ pub fn findings_are_in_order()
 /// The codes of a descriptor are the first two letters of its glyphs, in order.
 pub fn codes_are_of_glyphs()
     ensures { (t : List ℕ) → Spells descriptor t → HasCodesOfGlyphs t }
+{}
+
+/// Each name of the table of names has at most 20 bytes.
+pub fn names_are_short()
+    ensures { (a c : ℕ) (name : List ℕ) → name_by a c ≡ Some name → length name ≤ 20 }
 {}
 
 /// What is emitted of a text through the character behind a prefix has its findings at the text's place or later, and no later

@@ -7,8 +7,8 @@
 //!
 //! - `nabc_whole` reads the snippet with which a text begins: its kept text, its findings and its end. `kept_chars` gives the
 //!   characters of that kept text with their places in the source.
-//! - `is_nabc` tells whether a text is an NABC snippet. `descriptors_whole`, `descriptors_into` and `codes_into` read a kept text that
-//!   is one. Spans count its bytes. `name_of` names a code.
+//! - `is_nabc` tells whether a text is an NABC snippet. `descriptors_whole` and `descriptors_into` read its descriptors and spaces,
+//!   and `codes_into` the codes of one of them. Spans count its bytes. `name_of` names a code.
 //! - `NabcStage` reads the characters of a snippet one at a time.
 //! - `laws` has what follows of the definitions.
 //!

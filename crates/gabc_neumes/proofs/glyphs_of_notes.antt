@@ -1,4 +1,5 @@
 pub mod FirstGlyphByStates
+pub mod GlyphsAreComputed
 pub mod GlyphsAreOne
 pub mod GlyphsOneByOne
 pub mod KindByStates

@@ -1,5 +1,4 @@
 pub mod InnerSpacings
-pub mod ItemsLieWithin
 pub mod NotesAmongItems
 pub mod RunsAreOne
 pub mod RunsHoldWhatPasses

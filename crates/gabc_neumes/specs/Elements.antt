@@ -1,6 +1,6 @@
 -- The elements of a snippet and their segments: spans that count the snippet's items.
-use Rattle.std.specs.Prelude.{◌≤◌, ℕ, List, length, Bool, true, false, not, ◌||◌, codes}
-use Rattle.std.specs.List.{All, filter_map}
+use Rattle.std.specs.Prelude.{ℕ, List, Bool, true, false, not, ◌||◌, codes}
+use Rattle.std.specs.List.{filter_map}
 use Rattle.gabc_patterns.specs.Derivative.{same_texts}
 use Rattle.gabc_places.specs.declared.place.Span.{Span}
 use Rattle.gabc_notes.specs.Items.{bytes_of}
@@ -10,10 +10,6 @@ use Rattle.gabc_notes.specs.declared.item.ItemKind.{ItemKind}
 use Rattle.gabc_notes.specs.declared.item.ItemKind.TheVariants as kind
 use Rattle.gabc_notes.specs.declared.note.Note.{Note}
 use Rattle.gabc_neumes.specs.Runs.{AreRuns}
-
--- the items lie in the kept text
-abbrev pub AreWithin : List ℕ → List Item → Type 0
-AreWithin kept items = All (λ i. (i.span.from ≤ i.span.to) × (i.span.to ≤ length kept)) items
 
 -- a spacing of that text stands within an element: `!`, `/0` or `/!`
 abbrev pub is_inner_spacing : List ℕ → Bool

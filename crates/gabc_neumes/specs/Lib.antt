@@ -1,4 +1,5 @@
 pub mod machine
+pub mod Cut
 pub mod Elements
 pub mod Glyphs
 pub mod Letters

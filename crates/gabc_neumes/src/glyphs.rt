@@ -1,10 +1,9 @@
 //! The glyphs of a segment.
 
-ghost use Rattle.std.specs.Prelude.{◌≡◌, length, [], List, IfSome, IfNone};
+ghost use Rattle.std.specs.Prelude.{◌≡◌, length, [], IfSome, IfNone};
 ghost use Rattle.gabc_places.specs.BoundedList.{Fits, extended_by};
-ghost use Rattle.gabc_neumes.specs.Glyphs.{AreGlyphsOf};
+ghost use Rattle.gabc_neumes.specs.Cut.{glyphs_of};
 ghost use Rattle.gabc_neumes.specs.machine.Glyphs.{IsFirstGlyph};
-ghost use Rattle.gabc_neumes.specs.declared.glyph.Glyph.{Glyph};
 
 use crate::glyph::{Glyph, GlyphKind};
 use crate::state::{GlyphState, class_of, ends, goes_on};
@@ -39,8 +38,7 @@ fn first_glyph(notes: &[Note]) -> Option<(GlyphKind, usize)>
 /// as many glyphs more as there are notes. It asks for no memory.
 pub fn cut(notes: &[Note], out: &mut Room<Glyph>)
     requires { Fits out.old (length notes.now) }
-    ensures { (glyphs : List Glyph) × AreGlyphsOf notes.now glyphs ×
-        (out.new ≡ extended_by out.old glyphs) }
+    ensures { out.new ≡ extended_by out.old (glyphs_of notes.now) }
 {
     let mut at = 0;
     while let Some((kind, count)) = first_glyph(&notes[at..]) {

@@ -3,10 +3,10 @@
 ghost use Rattle.std.specs.Prelude.{◌≡◌, ◌≤◌, ◌<◌, ℕ, ◌⊎◌, List, [], ◌∷◌, ◌++◌, Bool, true, false};
 ghost use Rattle.gabc_patterns.specs.Reading.{HasSome};
 ghost use Rattle.gabc_places.specs.declared.place.Span.{Span};
-ghost use Rattle.gabc_notes.specs.Items.{AreItemsOf};
 ghost use Rattle.gabc_notes.specs.declared.item.Item.{Item};
 ghost use Rattle.gabc_notes.specs.declared.note.Note.{Note};
-ghost use Rattle.gabc_neumes.specs.Elements.{AreWithin, AreElementsOf, AreSegmentsOf, is_in_element, is_in_segment, divides, joins_segment};
+ghost use Rattle.gabc_neumes.specs.Cut.{glyphs_of};
+ghost use Rattle.gabc_neumes.specs.Elements.{AreElementsOf, AreSegmentsOf, is_in_element, is_in_segment, divides, joins_segment};
 ghost use Rattle.gabc_neumes.specs.Glyphs.{HasKind, AreGlyphsOf};
 ghost use Rattle.gabc_neumes.specs.Runs.{passes_at, IsRun};
 ghost use Rattle.gabc_neumes.specs.declared.glyph.Glyph.{Glyph};
@@ -20,9 +20,13 @@ pub fn a_glyph_has_one_kind()
 
 /// A segment is cut into glyphs in one way.
 pub fn glyphs_are_one()
-    ensures one { (notes : List Note) (gs hs : List Glyph) →
+    ensures { (notes : List Note) (gs hs : List Glyph) →
         AreGlyphsOf notes gs → AreGlyphsOf notes hs → gs ≡ hs }
-    ensures some { (notes : List Note) → (glyphs : List Glyph) × AreGlyphsOf notes glyphs }
+{}
+
+/// The function `glyphs_of` gives the glyphs of each segment.
+pub fn glyphs_are_computed()
+    ensures { (notes : List Note) → AreGlyphsOf notes (glyphs_of notes) }
 {}
 
 /// Where a glyph begins with some notes, all of them are a glyph, or all but the last: whoever reads on as long as a glyph may go
@@ -49,9 +53,4 @@ pub fn what_passes_stands_in_a_run()
 /// What is part of a segment is part of an element.
 pub fn segments_stand_in_elements()
     ensures { (kept : List ℕ) (i : Item) → is_in_segment i ≡ true → is_in_element kept i ≡ true }
-{}
-
-/// The items of a kept text lie in it, as the calls on items ask.
-pub fn items_lie_in_their_text()
-    ensures { (kept : List ℕ) (items : List Item) → AreItemsOf kept items → AreWithin kept items }
 {}

@@ -4,18 +4,18 @@
 //! - Dividers are blanks, `/`, `//`, `/[..]`, bars, clefs, custodes and breaks; `!`, `/0` and `/!` are none. `elements` adds the
 //!   elements of a snippet: as many items in a row as have no divider among them.
 //! - `segments` adds the segments: as many notes, attributes and fusion marks in a row as there are. Each lies in one element.
-//!   `notes_into` adds the notes among the items of one.
+//!   `notes_into` adds the notes among the items of one. `is_in_element` and `is_in_segment` tell it of one item.
 //! - `kind_of` tells which neume some notes are, if they are one. The neumes are the rows of one table (`specs/Table.antt`), which
 //!   reads like the printed one. `cut` adds the glyphs of a segment: each is the longest neume that begins where the one before it
 //!   ends.
-//! - A `GlyphKind` is printed as its word, such as `pes-subpunctis-resupinus`; `word_of_shape` is the word of one note's shape.
+//! - A `GlyphKind` is printed as its word, such as `pes-subpunctis-resupinus`: those of its base and its tail (`word_of_base`,
+//!   `word_of_tail`). `word_of_shape` is the word of one note's shape.
 //! - `laws` has what follows of the definitions.
 //!
 //! Spans count items from 0, and glyphs count notes from 0. No call asks for memory.
 //!
 //! ```
 //! let items = items_whole(alloc, kept)?; // of `hG/fgf!g`
-//! laws::items_lie_in_their_text(); // so the items lie in `kept`, as the calls ask
 //! elements(kept, items.as_slice(), &mut spans);
 //! assert_eq!(rt; spans.slice(), [first, second].as_slice()); // items 0 to 2, and 3 to 8
 //! let part = items.as_slice().get(3..6).ok_or("no such items")?;
@@ -46,5 +46,5 @@ pub use glyph::{Base, Glyph, GlyphKind, Tail};
 pub use glyphs::cut;
 pub use kind::kind_of;
 pub use notes::notes_into;
-pub use runs::{elements, segments};
-pub use words::word_of_shape;
+pub use runs::{elements, is_in_element, is_in_segment, segments};
+pub use words::{word_of_base, word_of_shape, word_of_tail};

@@ -2,7 +2,8 @@
 
 ghost use Rattle.std.specs.Prelude.{◌≡◌, length};
 ghost use Rattle.gabc_places.specs.BoundedList.{Fits, extended_by};
-ghost use Rattle.gabc_neumes.specs.Elements.{AreWithin, notes_in};
+ghost use Rattle.gabc_notes.specs.Items.{AreWithin};
+ghost use Rattle.gabc_neumes.specs.Elements.{notes_in};
 
 use gabc_notes::{Item, Note, note_of};
 use gabc_places::Room;

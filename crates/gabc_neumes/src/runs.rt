@@ -3,7 +3,8 @@
 ghost use Rattle.std.specs.Prelude.{◌≡◌, ◌≤◌, ◌<◌, List, length};
 ghost use Rattle.gabc_places.specs.BoundedList.{Fits, extended_by};
 ghost use Rattle.gabc_places.specs.declared.place.Span.{Span};
-ghost use Rattle.gabc_neumes.specs.Elements.{AreWithin, divides, AreElementsOf, AreSegmentsOf};
+ghost use Rattle.gabc_notes.specs.Items.{AreWithin};
+ghost use Rattle.gabc_neumes.specs.Elements.{divides, is_in_element, is_in_segment, AreElementsOf, AreSegmentsOf};
 ghost use Rattle.gabc_neumes.specs.Runs.{AreRuns};
 ghost use Rattle.gabc_neumes.specs.machine.Runs.{is_inner, is_part, run_between};
 
@@ -40,6 +41,26 @@ fn is_divider(kind: ItemKind, text: &[u8]) -> bool
     }
 }
 
+/// Returns whether `item` of `kept` is part of an element: whether it is no divider. The span of `item` has to lie within `kept`, as
+/// that of each item of `items_whole` does.
+pub fn is_in_element(kept: &str, item: Item) -> bool
+    requires { (item.span.from ≤ item.span.to) × (item.span.to ≤ length kept.now) }
+    ensures { result ≡ is_in_element kept.now item }
+{
+    let text = &kept.as_bytes()[item.span.from..item.span.to];
+    !is_divider(item.kind, text)
+}
+
+/// Returns whether `item` is part of a segment: a note, an attribute or a fusion mark.
+pub fn is_in_segment(item: Item) -> bool
+    ensures { result ≡ is_in_segment item }
+{
+    match item.kind {
+        ItemKind::Note | ItemKind::Attribute | ItemKind::Fusion => true,
+        _ => false,
+    }
+}
+
 impl RunKind {
     /// Returns whether `item` of `kept` is part of such a run.
     fn has(self, kept: &str, item: Item) -> bool
@@ -47,14 +68,8 @@ impl RunKind {
         ensures { result ≡ is_part self kept.now item }
     {
         match self {
-            RunKind::Element => {
-                let text = &kept.as_bytes()[item.span.from..item.span.to];
-                !is_divider(item.kind, text)
-            }
-            RunKind::Segment => match item.kind {
-                ItemKind::Note | ItemKind::Attribute | ItemKind::Fusion => true,
-                _ => false,
-            },
+            RunKind::Element => is_in_element(kept, item),
+            RunKind::Segment => is_in_segment(item),
         }
     }
 }

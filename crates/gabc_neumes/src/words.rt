@@ -33,7 +33,7 @@ pub fn word_of_shape(shape: Shape) -> &'static str
 }
 
 /// Returns the word of `base`, such as `scandicus-flexus`.
-fn word_of_base(base: Base) -> &'static str
+pub fn word_of_base(base: Base) -> &'static str
     ensures { result.now ≡ base_word base }
 {
     match base {
@@ -53,7 +53,7 @@ fn word_of_base(base: Base) -> &'static str
 }
 
 /// Returns the word of `tail` behind `base`, which is empty for a plain one. A climacus has its falling inclinata already.
-fn word_of_tail(base: Base, tail: Tail) -> &'static str
+pub fn word_of_tail(base: Base, tail: Tail) -> &'static str
     ensures { result.now ≡ tail_word base tail }
 {
     match (base, tail) {

@@ -1,7 +1,9 @@
 -- The items of a kept text by the bytes where they begin and end.
-use Rattle.std.specs.Prelude.{ℕ, List, map, slice_range, length}
+use Rattle.std.specs.Prelude.{ℕ, ◌+◌, ◌≤◌, List, [], ◌∷◌, map, slice_range, length, encode_utf8_all}
 use Rattle.std.specs.Str.{chars}
+use Rattle.std.specs.List.{All}
 use Rattle.gabc_patterns.specs.Reading.{Reads, IsSnippet}
+use Rattle.gabc_patterns.specs.Function.{items}
 use Rattle.gabc_patterns.specs.Items.{FollowOn, ItemSpan}
 use Rattle.gabc_notes.specs.Table.{gabc}
 use Rattle.gabc_notes.specs.declared.item.Item.{Item}
@@ -10,6 +12,10 @@ use Rattle.gabc_notes.specs.declared.item.ItemKind.{ItemKind}
 -- the text, as its bytes, is a snippet
 abbrev pub IsKept : List ℕ → Type 0
 IsKept bytes = IsSnippet gabc (chars bytes)
+
+-- the items lie in the text
+abbrev pub AreWithin : List ℕ → List Item → Type 0
+AreWithin bytes items = All (λ i. (i.span.from ≤ i.span.to) × (i.span.to ≤ length bytes)) items
 
 -- the bytes of an item
 abbrev pub bytes_of : List ℕ → Item → List ℕ
@@ -27,3 +33,14 @@ piece_of i = (i.kind, i.span.from, i.span.to)
 pub record AreItemsOf (bytes : List ℕ) (items : List Item) : Type 0 where
   pub reads : Reads gabc (map (read_as bytes) items) (chars bytes)
   pub joined : FollowOn 0 (map piece_of items) (length bytes)
+
+-- items of these kinds and characters, which stand one behind the other from that byte on
+abbrev pub placed_items : ℕ → List (ItemKind × List ℕ) → List Item
+placed_items at [] = []
+placed_items at (i ∷ is) =
+    let to = at + length (encode_utf8_all i.1) in
+    record { kind = i.0; span = record { from = at; to = to } } ∷ placed_items to is
+
+-- the items of a text, each the longest that begins at its place: of a snippet all, of another text as far as an item begins
+abbrev pub items_of : List ℕ → List Item
+items_of bytes = placed_items 0 (items gabc (chars bytes))

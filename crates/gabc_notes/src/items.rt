@@ -1,10 +1,12 @@
 //! The items of a kept text.
 
-ghost use Rattle.std.specs.Prelude.{◌≡◌, ◌≤◌, ◌<◌, ◌++◌, length, drop, IfOk, IfSome, IfNone, List};
+ghost use Rattle.std.specs.Prelude.{◌≡◌, ◌≤◌, ◌<◌, length, IfOk, IfSome, IfNone, None};
+ghost use Rattle.std.specs.Str.{chars};
+ghost use Rattle.gabc_patterns.specs.Function.{longest_item};
 ghost use Rattle.gabc_places.specs.BoundedList.{Fits, extended_by};
-ghost use Rattle.gabc_notes.specs.Items.{IsKept, AreItemsOf};
+ghost use Rattle.gabc_notes.specs.Items.{items_of, AreWithin};
+ghost use Rattle.gabc_notes.specs.Table.{gabc};
 ghost use Rattle.gabc_notes.specs.machine.Items.{IsFirstItem};
-ghost use Rattle.gabc_notes.specs.declared.item.Item.{Item};
 
 use crate::class::class_of;
 use crate::item::{Item, ItemKind, Items};
@@ -15,7 +17,7 @@ use std::alloc::{AllocError, Global};
 /// Returns the longest item that begins `text`: its kind, and how many bytes it has.
 fn first_item(text: &str) -> Option<(ItemKind, usize)>
     ensures found { IfSome result (λ i. IsFirstItem text.now i.0 i.1) }
-    ensures none { IfNone result (0 < length text.now → ¬ IsKept text.now) }
+    ensures none { IfNone result (longest_item gabc (chars text.now) ≡ None) }
 {
     let mut best = None;
     let mut state = ItemState::Start;
@@ -36,11 +38,12 @@ fn first_item(text: &str) -> Option<(ItemKind, usize)>
 }
 
 /// Returns the items of `kept`, in order: spans that count its bytes, each item the longest that begins where the one before it
-/// ends. `kept` has to be a snippet, as `is_snippet` tells; what `snippet_whole` keeps is one wherever the snippet ended. It fails
-/// only for want of memory.
+/// ends. They make up all of a snippet, as `is_snippet` tells it; what `snippet_whole` keeps is one wherever the snippet ended. Of
+/// another text they go as far as an item begins. It fails only for want of memory.
 pub fn items_whole(alloc: Global, kept: &str) -> Result<Items, AllocError>
-    requires { IsKept kept.now }
-    ensures { IfOk result (λ items. AreItemsOf kept.now items) }
+    ensures items { IfOk result (λ items. items ≡ items_of kept.now) }
+    ensures within { IfOk result (λ items. AreWithin kept.now items) }
+    ensures few { IfOk result (λ items. length items ≤ length kept.now) }
 {
     let mut items = Items::new(alloc);
     let mut at = 0;
@@ -55,13 +58,13 @@ pub fn items_whole(alloc: Global, kept: &str) -> Result<Items, AllocError>
     Ok(items)
 }
 
-/// Adds to `out` the items of `kept`, as `items_whole` returns them, and asks for no memory. `kept` has to be a snippet, as
-/// `is_snippet` tells, and `out` to take as many items more as `kept` has bytes.
+/// Adds to `out` the items of `kept`, as `items_whole` returns them, and asks for no memory. `out` has to take as many items more
+/// as `kept` has bytes.
 pub fn items_into(kept: &str, out: &mut Room<Item>)
-    requires kept { IsKept kept.now }
-    requires room { Fits out.old (length kept.now) }
-    ensures { (items : List Item) × AreItemsOf kept.now items ×
-        (out.new ≡ extended_by out.old items) }
+    requires { Fits out.old (length kept.now) }
+    ensures items { out.new ≡ extended_by out.old (items_of kept.now) }
+    ensures within { AreWithin kept.now (items_of kept.now) }
+    ensures few { length (items_of kept.now) ≤ length kept.now }
 {
     let mut at = 0;
     while let Some((kind, len)) = first_item(&kept[at..]) {

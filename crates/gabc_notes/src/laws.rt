@@ -3,6 +3,7 @@
 
 ghost use Rattle.std.specs.Prelude.{◌≡◌, ◌≤◌, ◌+◌, ◌*◌, ℕ, List, [], ◌∷◌, ◌++◌, Bool, true, length, take, map, sum_by, codes, Some, Decides};
 ghost use Rattle.std.specs.Char.{len_utf8};
+ghost use Rattle.std.specs.Str.{IsUtf8};
 ghost use Rattle.gabc_places.specs.declared.place.Char.{Char};
 ghost use Rattle.gabc_places.specs.declared.place.Place.{Place};
 ghost use Rattle.gabc_places.specs.Findings.{AreInOrder, LieBetween};
@@ -10,6 +11,7 @@ ghost use Rattle.gabc_places.specs.BoundedList.{Fits, extended_by};
 ghost use Rattle.gabc_places.specs.StageLaw.{concat_of};
 ghost use Rattle.gabc_patterns.specs.Reading.{Reads, IsItem, OneKind, IsSnippet, IsViable};
 ghost use Rattle.gabc_notes.specs.Table.{gabc};
+ghost use Rattle.gabc_notes.specs.Items.{IsKept, AreItemsOf, items_of};
 ghost use Rattle.gabc_notes.specs.Events.{in_raw, Point, is_comment, is_over, kept, bytes_of, events_at, cut_events, note_events};
 ghost use Rattle.gabc_notes.specs.SnippetRead.{kept_of, kept_chars_of, findings_of, ends_of, stop_after, kept_by, end_by};
 ghost use Rattle.gabc_places.specs.Place.{place_past, placed_characters_from};
@@ -52,6 +54,11 @@ pub fn an_item_has_one_kind()
 pub fn items_are_one()
     ensures { (is js : List (ItemKind × List ℕ)) (t : List ℕ) → Reads gabc is t → Reads gabc js t →
         is ≡ js }
+{}
+
+/// The function `items_of` gives the items of each snippet.
+pub fn items_are_computed()
+    ensures { (kept : List ℕ) → IsUtf8 kept → IsKept kept → AreItemsOf kept (items_of kept) }
 {}
 
 /// A viable text is a snippet with at most one character more.

@@ -127,8 +127,8 @@ fn shape_behind(text: &[u8]) -> Shape
     }
 }
 
-/// Returns the height of a pitch.
-fn height(pitch: u8) -> u8
+/// Returns the height of `pitch`, a letter of either case: from 0 for `a` to 13 for `n`, and 14 for `p`.
+pub fn height_of(pitch: u8) -> u8
     ensures { result ≡ height_of pitch }
 {
     match pitch {
@@ -155,7 +155,7 @@ fn height_and_shape(text: &[u8]) -> (u8, Shape)
     ensures shape { result.1 ≡ shape_at text.now }
 {
     match text {
-        [pitch, rest @ ..] => (height(*pitch), shape_of(*pitch, rest)),
+        [pitch, rest @ ..] => (height_of(*pitch), shape_of(*pitch, rest)),
         [] => (0, Shape::Punctum),
     }
 }

@@ -66,8 +66,3 @@ module _ {K : Type 0} (table : Table K) where
     -- and the only one, if an item has one kind
     pub items_only : OneKind table → (t : List ℕ) (is : List (K × List ℕ)) → Reads table is t → is ≡ items table t
     items_only one t is h = one_reading (IsItemOf table) (no_empty table none_empty) one is (items table t) t h (items_are t (is, h))
-
-    -- the items after the first are those of what comes after it
-    pub items_first : OneKind table → (k : K) (x y : List ℕ) → IsItemOf table k x → Longest (IsItem table) x y → IsSnippet table y
-        → items table (x ++ y) ≡ (k, x) ∷ items table y
-    items_first one k x y i l s = sym (items_only one (x ++ y) ((k, x) ∷ items table y) (y, refl, i, l, items_are y s))

@@ -11,6 +11,7 @@ pub mod ItemList
 pub mod ItemSoFar
 pub mod ItemsByLetters
 pub mod ItemsFunctionReads
+pub mod ItemsOneByOne
 pub mod KeptTextIsKeptAgain
 pub mod LongestMunchByCharacter
 pub mod LongestPrefixIsOne

@@ -10,6 +10,8 @@ pub mod FilledPieceByPiece
 pub mod Findings
 pub mod GhostCount
 pub mod GhostCountDepth
+pub mod GrowingList
+pub mod LargerLimits
 pub mod Limits
 pub mod Message
 pub mod Place

@@ -7,6 +7,7 @@ pub record AreLimits (header syllable input : ℕ) : Type 0 where
   pub syllable_least : 64 ≤ syllable
   pub syllable_most : syllable ≤ 16777216
   pub input_least : 64 ≤ input
+  pub input_most : input ≤ 4294967295
 
 -- the limits of a run that is given no others
 pub record AreUsual (header syllable input : ℕ) : Type 0 where

@@ -27,6 +27,13 @@ pub fn texts_are_plain()
         All (λ c. (c ≢ 13) × (c ≢ 0xFEFF)) (text_of_bytes limit bytes) }
 {}
 
+/// The characters of the text of an input are Unicode scalar values, and have no more bytes than the input may have.
+pub fn texts_are_scalars_within_the_limit()
+    ensures scalars { (limit : ℕ) (bytes : List ℕ) → All IsScalar (text_of_bytes limit bytes) }
+    ensures short { (limit : ℕ) (bytes : List ℕ) →
+        length (encode_utf8_all (text_of_bytes limit bytes)) ≤ limit }
+{}
+
 /// A text without CR and U+FEFF is read again from its own bytes, with no fault, if they are within the limit.
 pub fn text_again()
     ensures { (limits : Limits) (ended : Bool) (text : List ℕ) → All IsScalar text →

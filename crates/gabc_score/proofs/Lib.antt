@@ -7,3 +7,4 @@ pub mod stopped_scores
 pub mod syllables_of_units
 pub mod texts_of_body
 pub mod units
+pub mod within_limits

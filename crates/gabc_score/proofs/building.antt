@@ -1,10 +1,11 @@
-pub mod BodyPointByPoint
+pub mod CountsOfParts
+pub mod EachEventFits
 pub mod EndOfBody
 pub mod EventsOfOnePoint
+pub mod EventsOfSnippets
 pub mod EventsOfSyllableParts
 pub mod GathererHoldsDefinition
 pub mod OneListEachCharacter
-pub mod PositionsFromTheLast
 pub mod SnippetsWithBars
 pub mod StopIsFirst
 pub mod SyllableEndsLast

@@ -1,8 +1,13 @@
+pub mod AStageStops
+pub mod BodyIsCollected
+pub mod EventsStayWithinBounds
 pub mod BodyOutputs
 pub mod GivenByHeaders
 pub mod GivenSyllables
 pub mod HeldScoreIsDefinition
 pub mod HeldSyllables
 pub mod NothingBehindTheEnd
+pub mod OutputsAreCollected
+pub mod OutputsAreTold
 pub mod ScoreOutputs
 pub mod WhatOutputsSay

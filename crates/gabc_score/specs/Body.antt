@@ -11,7 +11,7 @@ use Rattle.gabc_places.specs.declared.limits.Limits.{Limits}
 use Rattle.gabc_places.specs.declared.place.Char.{Char}
 use Rattle.gabc_places.specs.declared.place.Place.{Place}
 use Rattle.gabc_places.specs.StageLaw.{concat_of}
-use Rattle.gabc_text.specs.declared.view.TextView.{TextView}
+use Rattle.gabc_text.specs.TextView.{ViewContent}
 use Rattle.gabc_text.specs.declared.stage.TextEnd.TheVariants as text_end
 use Rattle.gabc_text.specs.declared.stage.TextEvent.TheVariants as text
 use Rattle.gabc_notes.specs.declared.stage.NoteEnd.TheVariants as note_end
@@ -104,7 +104,7 @@ cut_of [] = None
 cut_of (t ∷ before) = cut_with (cut_of before) t
 
 -- a last text with a piece, a centre or a translation is a syllable
-abbrev pub has_text : TextView → Bool
+abbrev pub has_text : ViewContent → Bool
 has_text view = not (is_none view.pieces) || (is_some view.centre || is_some view.translation)
 
 abbrev pub has_last : List BodyEvent → Bool

@@ -53,6 +53,10 @@ starts_word Beginning = true
 starts_word Middle = false
 starts_word End = false
 
+-- the canonical text of a syllable that stands there
+abbrev pub canonical_in_place : PlacedSyllable → List ℕ
+canonical_in_place s = canonical (starts_word s.position) s.made
+
 -- the end of the list counts as a word's beginning
 abbrev pub next_starts : List UnplacedSyllable → Bool
 next_starts [] = true

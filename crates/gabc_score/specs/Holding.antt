@@ -1,6 +1,6 @@
 -- What a syllable holds: the parts of its kept text, for which its view and the spans of its snippets stand.
 use Rattle.std.specs.Prelude.{◌≡◌, ◌⊎◌, ℕ, zero, suc, ◌+◌, ◌%◌, List, [], ◌∷◌, ◌++◌, map, length, reverse, Option, Some, None, codes, encode_utf8_all}
-use Rattle.std.specs.List.{flat_map}
+use Rattle.std.specs.List.{All, flat_map}
 use Rattle.gabc_places.specs.declared.place.Char.{Char}
 use Rattle.gabc_patterns.specs.Reading.{IsSnippet}
 use Rattle.gabc_patterns.specs.Function.{trim}
@@ -15,7 +15,7 @@ use Rattle.gabc_nabc.specs.Table.{nabc}
 use Rattle.gabc_nabc.specs.Events as nabc
 use Rattle.gabc_score.specs.declared.score.Score.{Score}
 use Rattle.gabc_score.specs.declared.snippets.Snippet.{Snippet}
-use Rattle.gabc_score.specs.Syllable.{UnplacedSyllable}
+use Rattle.gabc_score.specs.Syllable.{UnplacedSyllable, slice, text_at}
 use Rattle.gabc_score.specs.Body.{empty_snippet}
 
 -- ---- the notes
@@ -94,6 +94,10 @@ HoldsWithNotes input lines m = Holds (HoldsNotes lines) input m
 -- a syllable, with its notes or without
 abbrev pub HoldsParts : List ℕ → ℕ → UnplacedSyllable → Type 0
 HoldsParts input lines m = HoldsWithNotes input lines m ⊎ Holds HoldsNoNotes input m
+
+-- the span of each snippet begins and ends between characters: its text is its bytes
+abbrev pub HasWholeSnippets : UnplacedSyllable → Type 0
+HasWholeSnippets m = All (λ (s : Snippet). text_at s.span m.kept ≡ slice s.span m.kept) m.snippets
 
 -- the NABC lines of a score
 abbrev pub lines_by : Option (List (List ℕ × List ℕ)) → ℕ

@@ -3,11 +3,14 @@ pub mod Body
 pub mod BodyStage
 pub mod Canonical
 pub mod Events
+pub mod FoundInParts
 pub mod Holding
 pub mod Marks
 pub mod Score
 pub mod ScoreEvents
+pub mod ScoreStage
 pub mod Stops
 pub mod Syllable
 pub mod SyllablesOfUnits
 pub mod Units
+pub mod WithinLimits

@@ -1,10 +1,10 @@
 -- What a score says of a syllable, by what was emitted of its characters. In these definitions `before` is what was emitted so far,
 -- the nearest first, and `events` is what was emitted of one syllable, the nearest first.
-use Rattle.std.specs.Prelude.{ℕ, ◌+◌, ◌-◌, ◌||◌, nat_lt, List, [], ◌∷◌, ◌++◌, Bool, true, false, cond, length, take, drop, None, codes, string_bytes, encode_utf8, bytes_eq}
+use Rattle.std.specs.Prelude.{ℕ, ◌+◌, ◌-◌, ◌||◌, ◌&&◌, nat_lt, nat_le, List, [], ◌∷◌, ◌++◌, Bool, true, false, cond, length, take, drop, None, codes, string_bytes, encode_utf8, bytes_eq}
 use Rattle.gabc_places.specs.declared.place.Span.{Span}
 use Rattle.gabc_text.specs.declared.view.PieceKind.{PieceKind}
 use Rattle.gabc_text.specs.declared.view.PieceKind.TheVariants.{Mark}
-use Rattle.gabc_text.specs.declared.view.TextView.{TextView}
+use Rattle.gabc_text.specs.TextView.{ViewContent, content_of}
 use Rattle.gabc_text.specs.declared.stage.TextPart.TheVariants as part
 use Rattle.gabc_text.specs.declared.stage.TextEnd.TheVariants.{Notes}
 use Rattle.gabc_text.specs.declared.stage.TextEvent.TheVariants as text
@@ -19,7 +19,7 @@ use Rattle.gabc_score.specs.declared.syllable.Syllable.{Syllable}
 
 -- a syllable without its position
 pub record UnplacedSyllable : Type 0 where
-  pub text : TextView
+  pub text : ViewContent
   pub kept : List ℕ
   pub snippets : List Snippet
   pub eu : Bool
@@ -31,7 +31,7 @@ pub record PlacedSyllable : Type 0 where
   pub position : Position
 
 abbrev pub unplaced_of : Syllable → UnplacedSyllable
-unplaced_of s = record { text = s.text; kept = string_bytes s.kept; snippets = s.snippets; eu = s.eu; nlba = s.nlba }
+unplaced_of s = record { text = content_of s.text; kept = string_bytes s.kept; snippets = s.snippets.items; eu = s.eu; nlba = s.nlba }
 
 abbrev pub placed_of : Syllable → PlacedSyllable
 placed_of s = record { made = unplaced_of s; position = s.position }
@@ -107,14 +107,14 @@ snippets_of (t ∷ events) = snippets_with (snippets_of events) (ended_parts_of 
 
 -- ---- the view of the text
 
-abbrev pub empty_view : TextView
+abbrev pub empty_view : ViewContent
 empty_view = record { word_start = false; pieces = []; centre = None; translation = None }
 
-abbrev pub view_with : TextView → BodyEvent → TextView
+abbrev pub view_with : ViewContent → BodyEvent → ViewContent
 view_with view (event.Text (text.Part p)) = with_part view p
 view_with view _ = view
 
-abbrev pub view_of : List BodyEvent → TextView
+abbrev pub view_of : List BodyEvent → ViewContent
 view_of [] = empty_view
 view_of (t ∷ events) = view_with (view_of events) t
 
@@ -123,6 +123,12 @@ view_of (t ∷ events) = view_with (view_of events) t
 -- the bytes of a span
 unfoldable pub slice : Span → List ℕ → List ℕ
 slice span bytes = take (span.to - span.from) (drop span.from bytes)
+
+-- the characters of a span: none, unless it begins and ends between characters of the text
+abbrev pub text_at : Span → List ℕ → List ℕ
+text_at span bytes =
+    cond (nat_le span.from span.to && (nat_le span.to (length bytes) && (is_seam (drop span.from bytes) && is_seam (drop span.to bytes))))
+    (slice span bytes) []
 
 abbrev pub is_mark : PieceKind → Bool
 is_mark Mark = true

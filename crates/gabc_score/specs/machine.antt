@@ -1,6 +1,11 @@
 pub mod BodyBuilder
+pub mod Collected
 pub mod Gatherer
+pub mod PartCounts
 pub mod PartPushes
+pub mod ScoreMachine
 pub mod ScoreStage
+pub mod Slot
+pub mod SlotPair
 pub mod SyllableBuilder
 pub mod SyllableText

@@ -1,7 +1,15 @@
 //! What a body says.
 
+ghost use Rattle.std.specs.Prelude.{◌≡◌, List, [], take, length, ◌∷◌, OnOk};
+ghost use Rattle.gabc_score.specs.ScoreEvents.{ScoreOutput, syllables_in};
+ghost use Rattle.gabc_score.specs.ScoreStage.{events_of};
+ghost use Rattle.gabc_score.specs.machine.Collected.{result_past, result_with};
+
+use crate::score_event::{LentSyllable, ScoreEvent};
+use crate::slot_pair::SlotPair;
 use crate::syllables::Syllables;
-use gabc_places::{Fault, Findings};
+use gabc_places::{Fault, Findings, Room};
+use std::alloc::{AllocError, Global};
 
 /// What the body of a score says: its whole syllables, what was found, and what stopped the reading.
 #[derive(Drop)]
@@ -9,4 +17,47 @@ pub(crate) struct BodyResult {
     pub(crate) syllables: Syllables,
     pub(crate) findings: Findings,
     pub(crate) fault: Option<Fault>,
+}
+
+impl BodyResult {
+    /// Adds what is given.
+    fn add(&mut self, alloc: Global, pair: &SlotPair, event: ScoreEvent) -> Result<(), AllocError>
+        ensures { OnOk result (self.new ≡ result_past pair.now.first pair.now.second self.old event) }
+    {
+        match event {
+            ScoreEvent::Found(finding) => self.findings.push(finding)?,
+            ScoreEvent::Stop(fault) => {
+                if self.fault.is_none() {
+                    self.fault = Some(fault);
+                }
+            }
+            ScoreEvent::Syllable(LentSyllable::First) => {
+                self.syllables.push(pair.first().copy(alloc)?)?
+            }
+            ScoreEvent::Syllable(LentSyllable::Second) => {
+                self.syllables.push(pair.second().copy(alloc)?)?
+            }
+            ScoreEvent::End => {}
+        }
+        Ok(())
+    }
+
+    /// Adds all that was given with an input. Nothing stays in the room.
+    pub(crate) fn add_all(
+        &mut self,
+        alloc: Global,
+        pair: &SlotPair,
+        out: &mut Room<ScoreEvent>,
+    ) -> Result<(), AllocError>
+        ensures said { OnOk result ((outs : List ScoreOutput) → out.old.items ≡ events_of outs →
+            syllables_in outs ≡ take (length (syllables_in outs))
+            (pair.now.first ∷ pair.now.second ∷ []) → self.new ≡ result_with self.old outs) }
+        ensures room { OnOk result (out.new ≡ record out.old { items = [] }) }
+    {
+        for event in out.slice() {
+            self.add(alloc, pair, *event)?;
+        }
+        out.clear();
+        Ok(())
+    }
 }

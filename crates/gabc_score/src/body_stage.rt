@@ -1,6 +1,6 @@
 //! A machine over the texts and notes of a body, one part after the other.
 
-ghost use Rattle.std.specs.Prelude.{◌≡◌, ◌+◌, ◌∷◌, ℕ, List, [], map, length, ◌≤◌, OnOk, IfOk, option_map, true, false, if◌then◌else◌};
+ghost use Rattle.std.specs.Prelude.{◌≡◌, ◌≢◌, ◌+◌, ◌∷◌, ℕ, List, [], map, length, ◌≤◌, OnOk, IfOk, option_map, true, false, if◌then◌else◌};
 ghost use Rattle.gabc_places.specs.declared.place.Char.{Char};
 ghost use Rattle.gabc_notes.specs.declared.stage.NoteEvent.{NoteEvent};
 ghost use Rattle.gabc_score.specs.machine.PartPushes.{NoteClosesLast, ClosesLast};
@@ -13,15 +13,19 @@ ghost use Rattle.gabc_text.specs.EventsLeft.{events_left as text_rest};
 ghost use Rattle.gabc_text.specs.Events.{codes_of, CountsFit};
 ghost use Rattle.gabc_score.specs.machine.PartPushes.{PushesPart};
 ghost use Rattle.gabc_score.specs.Body.{findings_with};
-ghost use Rattle.gabc_score.specs.machine.Gatherer.{gathered_of};
+ghost use Rattle.gabc_text.specs.PiecesOwed.{PiecesArePaid};
+ghost use Rattle.gabc_score.specs.machine.Gatherer.{Gathered};
+ghost use Rattle.gabc_score.specs.machine.PartCounts.{CountsInNotes, CountsHold, PartGoesOn};
+ghost use Rattle.gabc_score.specs.machine.SyllableBuilder.{OpenSyllable, nothing_open};
+ghost use Rattle.gabc_score.specs.machine.Slot.{FitEach};
 ghost use Rattle.gabc_score.specs.machine.BodyBuilder.{with_all, with_found};
 ghost use Rattle.gabc_places.specs.Place.{placed_characters_from};
 ghost use Rattle.gabc_score.specs.BodyStage.{part_with, events_left, running_events_left, texts_by_stage};
 ghost use Rattle.gabc_score.specs.declared.events.BodyEvent.TheVariants.{Text as of_text};
 
 use crate::BodyEvent;
-use crate::gatherer::Gatherer;
-use crate::part_events::{emit_notes, emit_text, gather_notes, gather_text};
+use crate::part_events::{emit_notes, emit_text, hold_notes, hold_text};
+use crate::slot_pair::{SlotPair, SlotUse};
 use gabc_nabc::NabcStage;
 use gabc_notes::{NoteEnd, NoteEvent, NoteStage};
 use gabc_places::{Char, Finding, Place, Room, Stage};
@@ -147,6 +151,7 @@ fn push_text(stage: &mut TextStage, x: Char, events: &mut Room<TextEvent>) -> bo
     ensures pushes { PushesPart (λ xs. text_rest stage.old (codes_of xs))
         (λ xs. text_rest stage.new (codes_of xs)) x
         (list_any text_end) 8 events.new.items result }
+    ensures pieces { PiecesArePaid stage.old events.new.items stage.new }
 {
     events.clear();
     stage.push(x, events);
@@ -190,6 +195,15 @@ fn place_behind(place: Place) -> Place
     }
 }
 
+/// The text behind a mark.
+fn text_behind(mark: Place) -> BodyPart
+    ensures part { (xs : List Char) → part_with result xs
+        ≡ text_from texts_by_stage (behind_mark mark) xs }
+    ensures counts { CountsHold result nothing_open }
+{
+    BodyPart::Text(TextStage::new(place_behind(mark)))
+}
+
 impl BodyStage {
     /// Returns a stage before the first character of a body, behind the `%%` of the headers. `nabc_lines` is the number of NABC lines
     /// under each GABC snippet, and the bit `d` of `macros` tells that the macro of the digit `d` is defined. It tells what the
@@ -198,6 +212,7 @@ impl BodyStage {
         ensures run { IfOk result (λ stage. (xs : List Char) →
             events_left stage xs ≡ events_from texts_by_stage nabc_lines macros InComment xs) }
         ensures open { IfOk result (λ stage. stage.over ≡ false) }
+        ensures part { IfOk result (λ stage. stage.part ≡ BodyPart.Comment) }
         ensures facts { IfOk result (λ stage. (at : Place) (t : List ℕ) → CountsFit at t →
             events_left stage (placed_characters_from at t)
             ≡ body_events nabc_lines macros (placed_characters_from at t)) }
@@ -217,10 +232,28 @@ impl BodyStage {
         })
     }
 
+    /// Begins a body, as a new stage does.
+    pub(crate) fn restart(&mut self, nabc_lines: u8, macros: u16)
+        ensures { self.new ≡ record {
+          nabc_lines = nabc_lines;
+          macros = macros;
+          part = BodyPart.Comment;
+          over = false;
+          events = [];
+        } }
+    {
+        self.nabc_lines = nabc_lines;
+        self.macros = macros;
+        self.part = BodyPart::Comment;
+        self.over = false;
+        self.emitter = Emitter::Nothing;
+    }
+
     /// The snippet of that line, whose `(` stands there.
     fn snippet(&self, line: u8, opened: Place) -> BodyPart
-        ensures { (xs : List Char) → part_with result xs
+        ensures part { (xs : List Char) → part_with result xs
             ≡ snippet_from self.now.nabc_lines self.now.macros line opened xs }
+        ensures counts { (o : OpenSyllable) → CountsInNotes o → CountsHold result o }
     {
         if line == 0 {
             BodyPart::Notes {
@@ -236,17 +269,13 @@ impl BodyStage {
         }
     }
 
-    /// The part behind a snippet that ended at a `|` or a `)`.
-    fn after_snippet(&self, line: u8, opened: Place, mark: Place, is_next: bool) -> BodyPart
-        ensures { (xs : List Char) → part_with result xs
-            ≡ (if is_next
-            then snippet_from self.now.nabc_lines self.now.macros (line_after self.now.nabc_lines line) opened xs else text_from texts_by_stage (behind_mark mark) xs) }
+    /// The snippet behind one of that line that ended at a `|`.
+    fn next_snippet(&self, line: u8, opened: Place) -> BodyPart
+        ensures part { (xs : List Char) → part_with result xs
+            ≡ snippet_from self.now.nabc_lines self.now.macros (line_after self.now.nabc_lines line) opened xs }
+        ensures counts { (o : OpenSyllable) → CountsInNotes o → CountsHold result o }
     {
-        if is_next {
-            self.snippet(next_line(self.nabc_lines, line), opened)
-        } else {
-            BodyPart::Text(TextStage::new(place_behind(mark)))
-        }
+        self.snippet(next_line(self.nabc_lines, line), opened)
     }
 
     /// Pushes a character to the part that it stands in, which is no comment.
@@ -257,6 +286,7 @@ impl BodyStage {
         ensures events { Emits (running_events_left self.old)
             (running_events_left self.new) x 8 self.new.events }
         ensures once { ClosesLast self.new.events }
+        ensures bounds { PartGoesOn self.old.part self.new.part self.new.events }
         ensures over { self.new.over ≡ self.old.over }
     {
         match &mut self.part {
@@ -272,8 +302,10 @@ impl BodyStage {
                 let opened = *opened;
                 let (next, close) = push_notes(stage, x, &mut self.notes);
                 self.emitter = Emitter::Notes { line: 0, opened };
-                if next || close {
-                    self.part = self.after_snippet(0, opened, x.place, next);
+                if next {
+                    self.part = self.next_snippet(0, opened);
+                } else if close {
+                    self.part = text_behind(x.place);
                 }
             }
             BodyPart::Nabc {
@@ -284,8 +316,10 @@ impl BodyStage {
                 let (line, opened) = (*line, *opened);
                 let (next, close) = push_notes(stage, x, &mut self.notes);
                 self.emitter = Emitter::Notes { line, opened };
-                if next || close {
-                    self.part = self.after_snippet(line, opened, x.place, next);
+                if next {
+                    self.part = self.next_snippet(line, opened);
+                } else if close {
+                    self.part = text_behind(x.place);
                 }
             }
         }
@@ -296,6 +330,7 @@ impl BodyStage {
         ensures events { Emits (running_events_left self.old)
             (running_events_left self.new) x 8 self.new.events }
         ensures once { ClosesLast self.new.events }
+        ensures bounds { PartGoesOn self.old.part self.new.part self.new.events }
         ensures over { self.new.over ≡ self.old.over }
     {
         if let BodyPart::Comment = self.part {
@@ -311,6 +346,9 @@ impl BodyStage {
     /// Ends the input. What that emits stands in the part's room.
     pub(crate) fn close(&mut self)
         ensures events { EmitsLast (running_events_left self.old) 8 self.new.events }
+        ensures once { ClosesLast self.new.events }
+        ensures fit { (g : Gathered) → CountsHold self.old.part g.builder →
+            length g.builder.kept ≤ g.limit → FitEach g self.new.events }
         ensures over { self.new.over ≡ true }
     {
         self.over = true;
@@ -354,22 +392,21 @@ impl BodyStage {
     }
 
     /// Adds the events of the last point to what was gathered, and what is found among them to `found`.
-    pub(crate) fn gather(
-        &self,
-        alloc: Global,
-        gatherer: &mut Gatherer,
-        found: &mut Room<Finding>,
-    ) -> Result<(), AllocError>
-        requires { Fits found.old (length self.now.events) }
-        ensures gathered { OnOk result (gathered_of gatherer.new
-            ≡ with_all (gathered_of gatherer.old) self.now.events) }
-        ensures found { OnOk result (found.new ≡ with_found found.old self.now.events) }
+    pub(crate) fn hold(&self, pair: &mut SlotPair, found: &mut Room<Finding>)
+        requires reads { pair.old.used ≡ SlotUse.Reads }
+        requires fits { FitEach pair.old.gathered self.now.events }
+        requires once { ClosesLast self.now.events }
+        requires found { Fits found.old (length self.now.events) }
+        ensures gathered { pair.new.gathered ≡ with_all pair.old.gathered self.now.events }
+        ensures held { pair.new.held ≡ pair.old.held }
+        ensures used { pair.new.used ≢ SlotUse.Lent }
+        ensures found { found.new ≡ with_found found.old self.now.events }
     {
         match self.emitter {
-            Emitter::Nothing => Ok(()),
-            Emitter::Text => gather_text(self.texts.slice(), gatherer, found),
+            Emitter::Nothing => {}
+            Emitter::Text => hold_text(self.texts.slice(), pair, found),
             Emitter::Notes { line, opened } => {
-                gather_notes(alloc, line, opened, self.notes.slice(), gatherer, found)
+                hold_notes(line, opened, self.notes.slice(), pair, found)
             }
         }
     }

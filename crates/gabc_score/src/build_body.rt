@@ -1,50 +1,69 @@
 //! The reading of a whole body.
 
-ghost use Rattle.std.specs.Prelude.{◌≡◌, ◌+◌, ◌<◌, ◌^◌, false, length, IfOk};
+ghost use Rattle.std.specs.Prelude.{◌≡◌, ◌+◌, ◌<◌, ◌^◌, length, IfOk};
 ghost use Rattle.std.specs.Str.{chars};
 ghost use Rattle.gabc_score.specs.Body.{body_of};
 ghost use Rattle.gabc_score.specs.BodyStage.{running_events_left};
+ghost use Rattle.gabc_places.specs.BoundedList.{Fits};
 ghost use Rattle.gabc_places.specs.Place.{place_past, placed_characters_from};
+ghost use Rattle.gabc_score.specs.machine.Collected.{EndsAs};
+ghost use Rattle.gabc_score.specs.machine.ScoreMachine.{shown, IsScore};
 
-use crate::body_builder::BodyBuilder;
 use crate::body_result::BodyResult;
-use crate::body_stage::BodyStage;
+use crate::body_stage::{BodyPart, BodyStage};
 use crate::context::BodyContext;
 use crate::ending::InputEnding;
-use gabc_places::{Char, Fault, Limits};
+use crate::score_event::ScoreEvent;
+use crate::score_machine::ScoreMachine;
+use crate::syllables::Syllables;
+use gabc_headers::HeadEvent;
+use gabc_places::{Char, Limits, Room};
 use std::alloc::{AllocError, Global};
 
-/// Reads a body to its end or the first fault, by what the stage emits of its characters.
+/// Reads a body to its end or the first fault, by a new stage.
 pub(crate) fn build_body(
     alloc: Global,
-    stage: &mut BodyStage,
+    stage: BodyStage,
     body: &str,
     start: BodyContext,
     limits: Limits,
     ending: InputEnding,
 ) -> Result<BodyResult, AllocError>
+    requires part { stage.part ≡ BodyPart.Comment }
     requires line { start.at.line + length body.now < 2 ^ 64 }
     requires column { start.at.column + length body.now < 2 ^ 64 }
     ensures { let xs = placed_characters_from start.at (chars body.now) in
         IfOk result (λ read. read
-        ≡ body_of limits start.head start.findings (place_past start.at (chars body.now)) ending xs (running_events_left stage.old xs)) }
+        ≡ body_of limits start.head start.findings (place_past start.at (chars body.now)) ending xs (running_events_left stage xs)) }
 {
     let BodyContext { at, head, findings } = start;
-    let mut builder = BodyBuilder::new(alloc, limits, head, findings)?;
+    let mut machine = ScoreMachine::in_body(alloc, limits, stage, at, head)?;
+    let mut out = Room::with_limit(alloc, 16)?;
+    let mut result = BodyResult {
+        syllables: Syllables::new(alloc),
+        findings,
+        fault: None,
+    };
     let mut place = at;
     for c in body.chars() {
-        stage.take(Char { c, place });
-        if let Some(code) = builder.pass_point(alloc, limits, stage)? {
-            return Ok(builder.result_with(Some(Fault { place, code })));
-        }
+        machine.push(HeadEvent::Body(Char { c, place }), &mut out);
+        result.add_all(alloc, &machine.pair, &mut out)?;
         place = place.after(c);
     }
+    end_machine(&mut machine, ending, &mut out);
+    result.add_all(alloc, &machine.pair, &mut out)?;
+    Ok(result)
+}
+
+/// Tells a machine how the input ended.
+fn end_machine(machine: &mut ScoreMachine, ending: InputEnding, out: &mut Room<ScoreEvent>)
+    requires rests { IsScore machine.old }
+    requires fits { Fits out.old 16 }
+    ensures { EndsAs (shown machine.old) ending out.old out.new machine.new.pair.first machine.new.pair.second }
+{
     match ending {
-        InputEnding::Whole => {
-            stage.close();
-            builder.end(alloc, limits, place, stage)
-        }
-        InputEnding::Broken => Ok(builder.result_with(None)),
-        InputEnding::At(fault) => Ok(builder.result_with(Some(fault))),
+        InputEnding::Whole => machine.push(HeadEvent::End, out),
+        InputEnding::Broken => machine.finish(out),
+        InputEnding::At(fault) => machine.push(HeadEvent::Stop(fault), out),
     }
 }

@@ -57,7 +57,7 @@ fn put_snippets<S: Put>(syllable: &Syllable, snippets: &[Snippet], out: &mut S)
 /// Puts the notes of `syllable` in their brackets.
 fn put_notes<S: Put>(syllable: &Syllable, out: &mut S)
     ensures { out.new
-        ≡ S.taken out.old (codes "(" ++ (with_bars (string_bytes syllable.now.kept) syllable.now.snippets ++ codes ")")) }
+        ≡ S.taken out.old (codes "(" ++ (with_bars (string_bytes syllable.now.kept) syllable.now.snippets.items ++ codes ")")) }
 {
     out.put(b"(");
     put_snippets(syllable, syllable.snippets.as_slice(), out);

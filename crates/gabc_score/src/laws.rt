@@ -13,17 +13,24 @@ ghost use Rattle.gabc_places.specs.declared.place.Span.{Span};
 ghost use Rattle.gabc_text.specs.ViewFacts.{StandsFor};
 ghost use Rattle.gabc_score.specs.declared.ending.InputEnding.{InputEnding};
 ghost use Rattle.gabc_score.specs.Syllable.{PlacedSyllable, slice};
-ghost use Rattle.gabc_score.specs.Holding.{HoldsParts, HoldsWithNotes, lines_of};
+ghost use Rattle.gabc_score.specs.Holding.{HoldsParts, HoldsWithNotes, HasWholeSnippets, lines_of};
 ghost use Rattle.gabc_headers.specs.Book.{nabc_lines_of};
+ghost use Rattle.gabc_headers.specs.Heads.{heads_of};
+ghost use Rattle.gabc_headers.specs.declared.heads.Heads.{Heads};
+ghost use Rattle.gabc_notes.specs.ReadAgain.{IsWarning};
+ghost use Rattle.gabc_score.specs.FoundInParts.{TextWarns, UnitsWarn};
+ghost use Rattle.gabc_headers.specs.Canonical.{canonical_heads};
+ghost use Rattle.gabc_text.specs.Events.{codes_of};
 ghost use Rattle.gabc_score.specs.declared.ending.InputEnding.TheVariants.{Whole};
-ghost use Rattle.gabc_score.specs.Score.{score_of};
-ghost use Rattle.gabc_score.specs.SyllablesOfUnits.{ScoreUnit, unit_characters, score_units, units_within, whole_prefix, AreSyllablesOf, IsBodyCut, StandBeforeBodyStop};
+ghost use Rattle.gabc_score.specs.Score.{macros_of, score_of};
+ghost use Rattle.gabc_score.specs.SyllablesOfUnits.{ScoreUnit, unit_characters, closed_units, score_units, units_within, whole_prefix, AreSyllablesOf, IsBodyCut, StandBeforeBodyStop};
 ghost use Rattle.gabc_score.specs.Body.{events_to_stop, events_onto, code_at};
 ghost use Rattle.gabc_score.specs.Stops.{StopsAt, NeverStops};
 ghost use Rattle.gabc_score.specs.declared.events.BodyEvent.{BodyEvent};
 ghost use Rattle.gabc_score.specs.Events.{Texts, texts_by_definition, body_events};
 ghost use Rattle.gabc_score.specs.Marks.{AllEndAtTheirMarks};
-ghost use Rattle.gabc_score.specs.Units.{BodyCutting, IsCut, events_of_body_cutting};
+ghost use Rattle.gabc_score.specs.Units.{BodyUnit, JustText, BodyCutting, IsCut, events_of_body_cutting};
+ghost use Rattle.gabc_score.specs.WithinLimits.{CanonicalWithin, AreWithin, KeepsWithin};
 ghost use Rattle.gabc_score.specs.ScoreEvents.{ScoreOutput, score_outputs, head_events, outputs_of_text, findings_in, syllables_in, fault_in, has_end, is_whole, is_last};
 ghost use Rattle.gabc_headers.specs.declared.head_event.HeadEvent.{HeadEvent};
 ghost use Rattle.gabc_headers.specs.HeadEvents.{events_left, given_behind, reading};
@@ -116,10 +123,32 @@ pub fn a_syllable_holds_its_parts()
     gabc_text::laws::spans_stand_for_the_view();
 }
 
+/// The spans of the snippets of a score's syllables begin and end between characters: each has its text.
+pub fn snippets_stand_between_characters()
+    ensures { (limits : Limits) (ending : InputEnding) (t : List ℕ) →
+        length (encode_utf8_all t) < 2 ^ 63 →
+        All (λ (s : PlacedSyllable). HasWholeSnippets s.made) (score_of limits ending t).syllables }
+{
+    a_syllable_holds_its_parts();
+}
+
 /// What a score finds is an error or a warning: no finding is a fault.
 pub fn findings_are_no_faults()
     ensures { (limits : Limits) (ending : InputEnding) (t : List ℕ)
         → All (λ (f : Finding). severity_of f.code ≢ Fatal) (score_of limits ending t).findings }
+{
+    gabc_text::laws::findings_lie_within();
+}
+
+/// A score whose headers, texts and snippets have no error has none: what is found are warnings.
+pub fn a_score_warns_as_its_parts_do()
+    ensures { (limits : Limits) (ending : InputEnding) (t : List ℕ) (heads : Heads)
+        (cut : BodyCutting) (units : List BodyUnit) (last : List Char)
+        → heads_of limits t ≡ Ok heads → IsBodyCut heads.book t cut
+        → cut.units ≡ Some (record { closed = units; last = JustText last })
+        → All IsWarning heads.findings
+        → UnitsWarn (nabc_lines_of heads.book) (macros_of heads.book) units (JustText last)
+        → TextWarns (codes_of last) → All IsWarning (score_of limits ending t).findings }
 {
     gabc_text::laws::findings_lie_within();
 }
@@ -187,6 +216,40 @@ pub fn a_stopped_score_is_that_of_its_prefix()
     gabc_text::laws::events_need_nothing_behind();
     gabc_notes::laws::what_follows_emits_nothing();
     gabc_nabc::laws::what_follows_emits_nothing();
+}
+
+/// The syllables of a score are within the limits, and so is its canonical file: no kept and no canonical text of a syllable has
+/// more bytes than a syllable may have, and the canonical file has no more than the input may have.
+pub fn given_syllables_are_within_the_limits()
+    ensures { (limits : Limits) (ending : InputEnding) (t : List ℕ)
+        (book : List (List ℕ × List ℕ))
+        → (let score = score_of limits ending t in
+        score.book ≡ Some book
+        → AreWithin limits (length (encode_utf8_all (canonical_heads book))) score.syllables) }
+{
+    gabc_headers::laws::canonical_lines_are_within_the_limits();
+    gabc_text::laws::a_text_ends_once();
+}
+
+/// A score has no fault whose text ends with an LF behind the last `)`, if no unit keeps more bytes than a syllable may have, and if
+/// the canonical texts of its units' syllables, and the file of these, are within the limits.
+pub fn no_limit_is_passed_by_short_units()
+    ensures { (limits : Limits) (t : List ℕ) (book : List (List ℕ × List ℕ)) (cut : BodyCutting)
+        (units : List BodyUnit) (last : List Char) → length (encode_utf8_all t) < 2 ^ 63
+        → (let score = score_of limits Whole t in
+        score.book ≡ Some book → IsBodyCut book t cut
+        → cut.units ≡ Some (record { closed = units; last = JustText last })
+        → codes_of last ≡ 10 ∷ []
+        → All (KeepsWithin limits.syllable) (closed_units units (JustText last))
+        → ((syllables : List PlacedSyllable)
+        → AreSyllablesOf (nabc_lines_of book) (score_units cut.units) syllables
+        → CanonicalWithin limits (length (encode_utf8_all (canonical_heads book))) syllables)
+        → score.fault ≡ None) }
+{
+    gabc_text::laws::a_text_ends_once();
+    gabc_text::laws::events_build_the_text();
+    gabc_text::laws::events_by_point_are_the_events();
+    gabc_text::laws::spans_stand_for_the_view();
 }
 
 /// What a score emits, character by character, is what the score says: no finding and no syllable comes twice or is left out,

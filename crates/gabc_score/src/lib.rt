@@ -14,7 +14,6 @@
 //! ```
 #![tactic(auto)]
 
-mod body_builder;
 mod body_result;
 mod body_stage;
 mod build_body;
@@ -22,15 +21,20 @@ mod canonical;
 mod context;
 mod ending;
 mod events;
-mod gatherer;
 pub mod laws;
 mod part_events;
 mod score;
+mod score_event;
+mod score_machine;
+mod score_stage;
 mod slice;
+mod slot;
+mod slot_pair;
 mod snippets;
+pub mod stage_laws;
 mod syllable;
-mod syllable_builder;
 mod syllables;
+mod telling;
 mod whole;
 
 pub use body_stage::BodyStage;
@@ -38,6 +42,8 @@ pub use canonical::{canon_len, canon_syllable};
 pub use ending::InputEnding;
 pub use events::BodyEvent;
 pub use score::Score;
+pub use score_event::{LentSyllable, ScoreEvent};
+pub use score_stage::ScoreStage;
 pub use snippets::{Snippet, Snippets};
 pub use syllable::{Position, Syllable};
 pub use syllables::Syllables;

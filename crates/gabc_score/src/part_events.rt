@@ -1,18 +1,21 @@
 //! The events of a text or a snippet as those of a body.
 
-ghost use Rattle.std.specs.Prelude.{◌≡◌, ◌+◌, ◌≤◌, [], ◌∷◌, map, length, OnOk};
+ghost use Rattle.std.specs.Prelude.{◌≡◌, ◌≢◌, ◌+◌, ◌≤◌, [], ◌∷◌, map, length};
 ghost use Rattle.gabc_places.specs.BoundedList.{Fits, extended_by};
 ghost use Rattle.gabc_score.specs.Events.{note_event as told_of_notes};
 ghost use Rattle.gabc_score.specs.declared.events.BodyEvent.TheVariants.{Text as of_text};
 ghost use Rattle.gabc_score.specs.machine.BodyBuilder.{with_all, with_found};
-ghost use Rattle.gabc_score.specs.machine.Gatherer.{gathered_of};
+ghost use Rattle.gabc_score.specs.Syllable.{closes};
+ghost use Rattle.gabc_score.specs.machine.Gatherer.{with_event};
+ghost use Rattle.gabc_score.specs.machine.PartPushes.{ClosesLast};
+ghost use Rattle.gabc_score.specs.machine.Slot.{FitsEvent, FitEach};
+ghost use Rattle.gabc_score.specs.machine.SlotPair.{used_by};
 
 use crate::events::BodyEvent;
-use crate::gatherer::Gatherer;
+use crate::slot_pair::{SlotPair, SlotUse};
 use gabc_notes::{NoteEnd, NoteEvent};
 use gabc_places::{Finding, Place, Room};
 use gabc_text::TextEvent;
-use std::alloc::{AllocError, Global};
 
 /// What a snippet of that line emitted, with the place of its innermost open bracket.
 pub(crate) fn note_event(line: u8, opened: Place, out: NoteEvent) -> BodyEvent
@@ -67,44 +70,58 @@ fn add_found(event: BodyEvent, found: &mut Room<Finding>)
     }
 }
 
+/// Adds an event to what was gathered, and what is found with it to `found`.
+fn hold_event(event: BodyEvent, pair: &mut SlotPair, found: &mut Room<Finding>)
+    requires reads { pair.old.used ≡ SlotUse.Reads }
+    requires fits { FitsEvent pair.old.gathered.limit pair.old.gathered.builder event }
+    requires found { Fits found.old 1 }
+    ensures gathered { pair.new.gathered ≡ with_event pair.old.gathered event }
+    ensures held { pair.new.held ≡ pair.old.held }
+    ensures used { pair.new.used ≡ used_by (closes event) }
+    ensures found { found.new ≡ with_found found.old (event ∷ []) }
+    ensures few { length found.new.items ≤ length found.old.items + 1 }
+{
+    pair.add(event);
+    add_found(event, found);
+}
+
 /// Adds the events of a text to what was gathered, and what is found among them to `found`.
-pub(crate) fn gather_text(
-    events: &[TextEvent],
-    gatherer: &mut Gatherer,
-    found: &mut Room<Finding>,
-) -> Result<(), AllocError>
-    requires { Fits found.old (length events.now) }
-    ensures gathered { OnOk result (gathered_of gatherer.new
-        ≡ with_all (gathered_of gatherer.old) (map (λ o. of_text o) events.now)) }
-    ensures found { OnOk result (found.new
-        ≡ with_found found.old (map (λ o. of_text o) events.now)) }
+pub(crate) fn hold_text(events: &[TextEvent], pair: &mut SlotPair, found: &mut Room<Finding>)
+    requires reads { pair.old.used ≡ SlotUse.Reads }
+    requires fits { FitEach pair.old.gathered (map (λ o. of_text o) events.now) }
+    requires once { ClosesLast (map (λ o. of_text o) events.now) }
+    requires found { Fits found.old (length events.now) }
+    ensures gathered { pair.new.gathered
+        ≡ with_all pair.old.gathered (map (λ o. of_text o) events.now) }
+    ensures held { pair.new.held ≡ pair.old.held }
+    ensures used { pair.new.used ≢ SlotUse.Lent }
+    ensures found { found.new ≡ with_found found.old (map (λ o. of_text o) events.now) }
 {
     for event in events {
-        gatherer.add_text(*event)?;
-        add_found(BodyEvent::Text(*event), found);
+        hold_event(BodyEvent::Text(*event), pair, found);
     }
-    Ok(())
 }
 
 /// Adds the events of a snippet of that line to what was gathered, and what is found among them to `found`.
-pub(crate) fn gather_notes(
-    alloc: Global,
+pub(crate) fn hold_notes(
     line: u8,
     opened: Place,
     events: &[NoteEvent],
-    gatherer: &mut Gatherer,
+    pair: &mut SlotPair,
     found: &mut Room<Finding>,
-) -> Result<(), AllocError>
-    requires { Fits found.old (length events.now) }
-    ensures gathered { OnOk result (gathered_of gatherer.new
-        ≡ with_all (gathered_of gatherer.old) (map (told_of_notes line opened) events.now)) }
-    ensures found { OnOk result (found.new
-        ≡ with_found found.old (map (told_of_notes line opened) events.now)) }
+)
+    requires reads { pair.old.used ≡ SlotUse.Reads }
+    requires fits { FitEach pair.old.gathered (map (told_of_notes line opened) events.now) }
+    requires once { ClosesLast (map (told_of_notes line opened) events.now) }
+    requires found { Fits found.old (length events.now) }
+    ensures gathered { pair.new.gathered
+        ≡ with_all pair.old.gathered (map (told_of_notes line opened) events.now) }
+    ensures held { pair.new.held ≡ pair.old.held }
+    ensures used { pair.new.used ≢ SlotUse.Lent }
+    ensures found { found.new
+        ≡ with_found found.old (map (told_of_notes line opened) events.now) }
 {
     for event in events {
-        let event = note_event(line, opened, *event);
-        gatherer.add(alloc, event)?;
-        add_found(event, found);
+        hold_event(note_event(line, opened, *event), pair, found);
     }
-    Ok(())
 }

@@ -1,6 +1,6 @@
 //! The snippets of a syllable.
 
-use gabc_places::{Sequence, Span};
+use gabc_places::{Growing, Span};
 
 /// A snippet of the notes: line 0 is GABC, and line 1 the NABC of the GABC snippet before it (GregorioRef, "Headers":
 /// `nabc-lines`). The span counts bytes of the kept text.
@@ -11,4 +11,4 @@ pub struct Snippet {
 }
 
 /// The snippets of a syllable, in order.
-pub type Snippets = Sequence<Snippet>;
+pub type Snippets = Growing<Snippet>;

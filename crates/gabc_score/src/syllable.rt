@@ -1,10 +1,11 @@
 //! A syllable: a text with its notes.
 
 use crate::canonical::canonical_len;
-use crate::slice::slice_of;
+use crate::slice::{slice_of, text_of};
 use crate::snippets::Snippets;
 use gabc_places::Span;
 use gabc_text::TextView;
+use std::alloc::{AllocError, Global};
 
 /// Where in its word a syllable stands. A syllable begins a word if blanks stand before its text (GregorioRef, "Syllable Text
 /// Syntax"); the first one of a score does, and behind the last one a word would begin.
@@ -46,8 +47,8 @@ pub struct Syllable {
 }
 
 impl Syllable {
-    ghost use Rattle.std.specs.Prelude.{◌≡◌, ◌-◌, ◌^◌, min, length, string_bytes};
-    ghost use Rattle.gabc_score.specs.Syllable.{unplaced_of, slice};
+    ghost use Rattle.std.specs.Prelude.{◌≡◌, ◌-◌, ◌^◌, min, length, string_bytes, IfOk};
+    ghost use Rattle.gabc_score.specs.Syllable.{unplaced_of, placed_of, slice, text_at};
     ghost use Rattle.gabc_score.specs.Canonical.{canonical, starts_word};
 
     /// Returns the bytes of `span` in its kept text. What lies past the text has none.
@@ -57,11 +58,32 @@ impl Syllable {
         slice_of(self.kept.as_str(), span)
     }
 
+    /// Returns the text of `span` in its kept text. A span that does not begin and end between characters of it has none.
+    pub fn text_at(&self, span: Span) -> &str
+        ensures { result.now ≡ text_at span (string_bytes self.now.kept) }
+    {
+        text_of(self.kept.as_str(), span)
+    }
+
     /// Returns whether it begins a word.
     pub fn starts_word(&self) -> bool
         ensures { result ≡ starts_word self.now.position }
     {
         self.position.starts_word()
+    }
+
+    /// A syllable that says the same, in memory of its own.
+    pub(crate) fn copy(&self, alloc: Global) -> Result<Syllable, AllocError>
+        ensures { IfOk result (λ syllable. placed_of syllable ≡ placed_of self.now) }
+    {
+        Ok(Syllable {
+            text: self.text.copy(alloc)?,
+            kept: String::from_str(alloc, self.kept.as_str())?,
+            snippets: self.snippets.copy(alloc)?,
+            position: self.position,
+            eu: self.eu,
+            nlba: self.nlba,
+        })
     }
 
     /// Returns the number of bytes of its canonical text; it saturates at the last value of a `usize`.

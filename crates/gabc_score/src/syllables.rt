@@ -1,12 +1,12 @@
 //! A list of syllables.
 
-ghost use Rattle.std.specs.Prelude.{◌≡◌, ◌↔◌, [], length, map, IsTrue};
+ghost use Rattle.std.specs.Prelude.{◌≡◌, ◌↔◌, [], ◌∷◌, ◌++◌, length, map, IsTrue, OnOk};
 ghost use Rattle.std.specs.Slice.Iter.{iter_rest};
 ghost use Rattle.gabc_score.specs.Syllable.{placed_of};
 ghost use Rattle.gabc_score.specs.Canonical.{position_by};
 
 use crate::syllable::{Position, Syllable};
-use std::alloc::Global;
+use std::alloc::{AllocError, Global};
 use std::marker::Model;
 use std::slice::Iter;
 
@@ -26,7 +26,7 @@ impl Model for Syllables {
 }
 
 /// The position of a syllable that begins a word or not, before a word's beginning or not.
-fn position_by(starts: bool, next_starts: bool) -> Position
+pub(crate) fn position_by(starts: bool, next_starts: bool) -> Position
     ensures { result ≡ position_by starts next_starts }
 {
     match (starts, next_starts) {
@@ -38,10 +38,6 @@ fn position_by(starts: bool, next_starts: bool) -> Position
 }
 
 impl Syllables {
-    ghost use Rattle.std.specs.Prelude.{[], map};
-    ghost use Rattle.gabc_score.specs.Syllable.{unplaced_of, placed_of};
-    ghost use Rattle.gabc_score.specs.Canonical.{with_positions};
-
     /// No syllables.
     pub(crate) fn new(alloc: Global) -> Syllables
         ensures { result ≡ [] }
@@ -51,19 +47,12 @@ impl Syllables {
         }
     }
 
-    /// The syllables of a score, in order. Each gets its position: the first begins a word, and the end of the list counts as a
-    /// word's beginning.
-    pub(crate) fn with_positions(mut items: Vec<Syllable>) -> Syllables
-        ensures { result ≡ with_positions (map unplaced_of items.items) }
+    /// Adds a syllable at the end. Where there is no memory for it, the list is as it was.
+    pub(crate) fn push(&mut self, syllable: Syllable) -> Result<(), AllocError>
+        ensures { OnOk result (self.new ≡ self.old ++ placed_of syllable ∷ []) }
     {
-        let mut next_starts = true;
-        for index in (0..items.len()).rev() {
-            let syllable = &mut items[index];
-            let word_start = syllable.text.word_start;
-            syllable.position = position_by(index == 0 || word_start, next_starts);
-            next_starts = word_start;
-        }
-        Syllables { items }
+        self.items.push(syllable)?;
+        Ok(())
     }
 
     /// Returns the number of syllables.

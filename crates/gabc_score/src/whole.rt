@@ -87,7 +87,7 @@ fn score_behind(
         findings,
     } = heads;
     let (prefix, behind) = text.as_str().split_at(body);
-    let mut stage = BodyStage::new(alloc, book.nabc_lines(), macros_in(&book))?;
+    let stage = BodyStage::new(alloc, book.nabc_lines(), macros_in(&book))?;
     let start = BodyContext {
         at: place_past(prefix),
         head: book.canonical_len(),
@@ -97,7 +97,7 @@ fn score_behind(
         syllables,
         findings,
         fault,
-    } = build_body(alloc, &mut stage, behind, start, limits, ending)?;
+    } = build_body(alloc, stage, behind, start, limits, ending)?;
     Ok(Score {
         book: Some(book),
         syllables,

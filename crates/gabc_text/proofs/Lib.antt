@@ -6,3 +6,4 @@ pub mod spans
 pub mod tokens
 pub mod KeptCharacters
 pub mod NothingBehindTheEnd
+pub mod PiecesFollowCharacters

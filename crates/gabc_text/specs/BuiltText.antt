@@ -1,7 +1,7 @@
 -- What is gathered of a text as it is read.
 use Rattle.std.specs.Prelude.{ℕ, List, [], ◌∷◌, ◌++◌, true, false, Some, None, encode_utf8, encode_utf8_all, reverse}
 use Rattle.gabc_places.specs.declared.code.Finding.{Finding}
-use Rattle.gabc_text.specs.declared.view.TextView.{TextView}
+use Rattle.gabc_text.specs.TextView.{ViewContent}
 use Rattle.gabc_text.specs.declared.stage.TextPart.{TextPart}
 use Rattle.gabc_text.specs.declared.stage.TextPart.TheVariants as part
 use Rattle.gabc_text.specs.declared.stage.TextEnd.{TextEnd}
@@ -17,15 +17,15 @@ use Rattle.gabc_text.specs.TextRead.{view_in}
 
 pub record BuiltText : Type 0 where
   pub kept : List ℕ
-  pub view : TextView
+  pub view : ViewContent
   pub findings : List Finding
   pub end : TextEnd
 
 -- a view that says nothing
-abbrev pub empty_view : TextView
+abbrev pub empty_view : ViewContent
 empty_view = record { word_start = false; pieces = []; centre = None; translation = None }
 
-abbrev pub with_part : TextView → TextPart → TextView
+abbrev pub with_part : ViewContent → TextPart → ViewContent
 with_part v part.WordStart = record v { word_start = true }
 with_part v (part.Piece p) = record v { pieces = v.pieces ++ p ∷ [] }
 with_part v (part.Centre s) = record v { centre = Some s }

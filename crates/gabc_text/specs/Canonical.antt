@@ -8,7 +8,7 @@ use Rattle.gabc_text.specs.declared.styles.Styles.{Styles}
 use Rattle.gabc_text.specs.declared.view.PieceKind.{PieceKind}
 use Rattle.gabc_text.specs.declared.view.PieceKind.TheVariants as piece
 use Rattle.gabc_text.specs.declared.view.Piece.{Piece}
-use Rattle.gabc_text.specs.declared.view.TextView.{TextView}
+use Rattle.gabc_text.specs.TextView.{ViewContent}
 use Rattle.gabc_text.specs.TextFacts.{has_style}
 use Rattle.gabc_text.specs.Token.{is_special}
 use Rattle.gabc_text.specs.View.{all_styles, is_same}
@@ -86,5 +86,5 @@ text_from centre kept i old [] = boundary old [] (braces centre i)
 text_from centre kept i old (p ∷ ps) = boundary old (listed_styles p.styles) (braces centre i) ++ (piece_text kept p ++ text_from centre kept (i + 1) (listed_styles p.styles) ps)
 
 -- the text of a view whose spans count the bytes of kept
-abbrev pub canonical_text : TextView → List ℕ → List ℕ
+abbrev pub canonical_text : ViewContent → List ℕ → List ℕ
 canonical_text v kept = text_from v.centre kept 0 [] v.pieces

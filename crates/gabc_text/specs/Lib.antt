@@ -7,11 +7,13 @@ pub mod Events
 pub mod EventsLeft
 pub mod ExampleTexts
 pub mod FactsPast
+pub mod PiecesOwed
 pub mod Printed
 pub mod PrintedView
 pub mod TextFacts
 pub mod TextRead
 pub mod TextStage
+pub mod TextView
 pub mod Token
 pub mod View
 pub mod ViewFacts

@@ -3,7 +3,7 @@ use Rattle.std.specs.Prelude.{◌≡◌, ℕ, List, [], ◌∷◌, ◌&&◌, not
 use Rattle.gabc_places.specs.declared.place.Place.{Place}
 use Rattle.gabc_places.specs.declared.place.Span.{Span}
 use Rattle.gabc_text.specs.declared.view.Piece.{Piece}
-use Rattle.gabc_text.specs.declared.view.TextView.{TextView}
+use Rattle.gabc_text.specs.TextView.{ViewContent, content_of}
 use Rattle.gabc_text.specs.declared.whole.TextRead.{TextRead}
 use Rattle.gabc_text.specs.Token.{Token, tokens}
 use Rattle.gabc_text.specs.View.{along, kept, findings, ending_in, starts_word, has_translation, is_blank_piece, begin_of, end_of, centre_by}
@@ -23,7 +23,7 @@ abbrev pub translation_of : List Token → Option Span
 translation_of [] = None
 translation_of (k ∷ before) = cond (is_whole_translation k.kind && not (has_translation before)) (Some (translation_at before k)) (translation_of before)
 
-abbrev pub view_in : List ℕ → TextView
+abbrev pub view_in : List ℕ → ViewContent
 view_in t = record {
   word_start = starts_word (reverse (tokens t));
   pieces = pieces_in t;
@@ -33,6 +33,6 @@ view_in t = record {
 
 pub record IsTextRead (at : Place) (t : List ℕ) (r : TextRead) : Type 0 where
   pub kept_is : string_bytes r.kept ≡ encode_utf8_all (kept t)
-  pub view_is : r.view ≡ view_in t
+  pub view_is : content_of r.view ≡ view_in t
   pub findings_are : r.findings ≡ findings at t
   pub how_is : r.how ≡ ending_in at t

@@ -6,7 +6,7 @@ use Rattle.gabc_places.specs.declared.code.Code.{Code}
 use Rattle.gabc_places.specs.declared.code.Code.TheVariants.{E2}
 use Rattle.gabc_places.specs.declared.code.Finding.{Finding}
 use Rattle.gabc_text.specs.declared.view.Piece.{Piece}
-use Rattle.gabc_text.specs.declared.view.TextView.{TextView}
+use Rattle.gabc_text.specs.TextView.{ViewContent}
 use Rattle.gabc_text.specs.Token.{Token, tokens}
 use Rattle.gabc_text.specs.View.{along, PieceFacts, pieces_at, is_blank_piece, has_translation, starts_word, begin_of, end_of, centre_by, bytes_of}
 use Rattle.gabc_text.specs.Events.{but_last, is_whole_translation}
@@ -89,7 +89,7 @@ LiesAmong n None = Unit {0}
 LiesAmong n (Some c) = (c.from ≤ c.to) × (c.to ≤ n)
 
 -- the view of a text with this kept text
-pub record StandsForView (kept : List ℕ) (v : TextView) (t : List ℕ) : Type 0 where
+pub record StandsForView (kept : List ℕ) (v : ViewContent) (t : List ℕ) : Type 0 where
   pub pieces : ArePiecesOf kept v.pieces (piece_facts_in t)
   pub centre : LiesAmong (length v.pieces) v.centre
   pub translation : IsTranslation kept v.translation (translation_text (reverse (tokens t)))

@@ -3,6 +3,7 @@
 ghost use Rattle.std.specs.Prelude.{◌≡◌, ◌-◌, ◌^◌, length, min, cond, [], reverse};
 ghost use Rattle.std.specs.List.{flat_map};
 ghost use Rattle.gabc_text.specs.machine.ChangedStyles.{common_styles, differs, changed_styles};
+ghost use Rattle.gabc_text.specs.TextView.{content_of};
 ghost use Rattle.gabc_text.specs.Canonical.{after_common, style_opening, style_closing, listed_styles, braces, boundary, span_bytes, needs_dollar, piece_text, canonical_text};
 
 use crate::styles::Styles;
@@ -174,7 +175,7 @@ fn put_piece<S: Put>(piece: Piece, kept: &str, out: &mut S)
 /// of their styles, one inside another (GregorioRef, "Syllable Text Syntax"). A span that does not lie in the kept text stands
 /// for nothing. A room without `text_len` bytes left gets as many of them as fit. It asks for no memory.
 pub fn write_text<S: Put>(view: &TextView, kept: &str, out: &mut S)
-    ensures { out.new ≡ S.taken out.old (canonical_text view.now kept.now) }
+    ensures { out.new ≡ S.taken out.old (canonical_text (content_of view.now) kept.now) }
 {
     let pieces = view.pieces.as_slice();
     let mut old = Styles::NONE;
@@ -189,7 +190,7 @@ pub fn write_text<S: Put>(view: &TextView, kept: &str, out: &mut S)
 
 /// Returns how many bytes `write_text` puts; it saturates at the last value of a `usize`.
 pub fn text_len(view: &TextView, kept: &str) -> usize
-    ensures { result ≡ min (length (canonical_text view.now kept.now)) (2 ^ 64 - 1) }
+    ensures { result ≡ min (length (canonical_text (content_of view.now) kept.now)) (2 ^ 64 - 1) }
 {
     let mut counter = ByteCounter::new();
     write_text(view, kept, &mut counter);

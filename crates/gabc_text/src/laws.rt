@@ -5,7 +5,8 @@ ghost use Rattle.gabc_places.specs.StageLaw.{concat_of};
 ghost use Rattle.std.specs.List.{All};
 ghost use Rattle.gabc_places.specs.Findings.{AreInOrder, LieBetween};
 ghost use Rattle.gabc_places.specs.Place.{place_past};
-ghost use Rattle.gabc_places.specs.Code.{rank_of};
+ghost use Rattle.gabc_places.specs.Code.{rank_of, severity_of};
+ghost use Rattle.gabc_places.specs.declared.severity.Severity.TheVariants.{Warning};
 ghost use Rattle.gabc_places.specs.declared.code.Code.TheVariants.{W9};
 ghost use Rattle.gabc_places.specs.declared.code.Finding.{Finding};
 ghost use Rattle.gabc_text.specs.TextStage.{fresh_stage};
@@ -132,7 +133,8 @@ pub fn a_kept_text_is_read_again()
 {}
 
 /// What is emitted of a text through the character behind a prefix of it, or through its end, is found no earlier than the text
-/// begins and no later than that character. All that is found is the text's findings, and each has a code below W9.
+/// begins and no later than that character. All that is found is the text's findings, and each has a code below W9. They are
+/// warnings, if no error is among them.
 pub fn findings_lie_within()
     ensures within { (at : Place) (prefix rest : List ℕ) →
         LieBetween at (place_past at prefix)
@@ -141,6 +143,8 @@ pub fn findings_lie_within()
         found_in (concat_of (events_by_point at t)) ≡ findings at t }
     ensures low { (at : Place) (t : List ℕ) →
         All (λ (f : Finding). rank_of f.code < rank_of W9) (findings at t) }
+    ensures warnings { (at : Place) (t : List ℕ) → has_error (findings at t) ≡ false →
+        All (λ (f : Finding). severity_of f.code ≡ Warning) (findings at t) }
 {}
 
 /// A text's end is emitted once, as the last of what is emitted: with the `(` of its notes, or with the end of the input.

@@ -384,6 +384,12 @@ impl Stage for TextStage {
 
     type Output = TextEvent;
 
+    ghost use Rattle.std.specs.Prelude.{◌+◌, ◌≤◌, drop, length};
+    ghost use Rattle.gabc_places.specs.BoundedList.{Fits};
+    ghost use Rattle.gabc_places.specs.StageLaw.{Pushes, Finishes, EmitsNothing, StopsAtEnd};
+    ghost use Rattle.gabc_text.specs.BuiltText.{kept_in};
+    ghost use Rattle.gabc_text.specs.PiecesOwed.{pieces_in, pieces_owed, PiecesArePaid};
+
     ghost rest = { λ s cs. events_left s (codes_of cs) };
 
     ghost most_of = { λ _. 8 };
@@ -394,11 +400,25 @@ impl Stage for TextStage {
         8
     }
 
-    fn push(&mut self, input: Char, out: &mut Room<TextEvent>) {
+    fn push(&mut self, input: Char, out: &mut Room<TextEvent>)
+        requires { Fits out.old 8 }
+        ensures events { Pushes (λ cs. events_left self.old (codes_of cs))
+            (λ cs. events_left self.new (codes_of cs)) input 8 out.old out.new }
+        ensures end { StopsAtEnd is_end (λ cs. events_left self.new (codes_of cs)) out.old out.new }
+        ensures pieces { PiecesArePaid self.old
+            (drop (length out.old.items) out.new.items) self.new }
+    {
         self.take(input.c, out);
     }
 
-    fn finish(&mut self, out: &mut Room<TextEvent>) {
+    fn finish(&mut self, out: &mut Room<TextEvent>)
+        requires { Fits out.old 8 }
+        ensures ends { Finishes (λ cs. events_left self.old (codes_of cs)) 8 out.old out.new }
+        ensures end { StopsAtEnd is_end (λ cs. events_left self.new (codes_of cs)) out.old out.new }
+        ensures over { EmitsNothing (λ cs. events_left self.new (codes_of cs)) }
+        ensures pieces { let events = drop (length out.old.items) out.new.items in
+            pieces_in events ≤ pieces_owed self.old + length (kept_in events) }
+    {
         self.stop(out);
     }
 }

@@ -1,16 +1,14 @@
 //! The pieces of a text.
 
-ghost use Rattle.std.specs.Prelude.{◌≡◌, ◌↔◌, [], ◌∷◌, ◌++◌, length, IsTrue, OnOk, OnErr};
-ghost use Rattle.std.specs.Slice.Iter.{iter_rest};
+ghost use Rattle.std.specs.Prelude.{◌≡◌, ◌≤◌, IsOk, IfOk, OnOk, OnErr};
+ghost use Rattle.gabc_places.specs.GrowingList.{HasCapacity};
 ghost use Rattle.gabc_text.specs.BuiltText.{empty_view, with_part};
+ghost use Rattle.gabc_text.specs.TextView.{content_of};
 
 use crate::stage::TextPart;
 use crate::styles::Styles;
-use gabc_places::{Place, Span};
-use smallvec::SmallVec;
+use gabc_places::{Growing, Place, Span};
 use std::alloc::{AllocError, Global};
-use std::marker::Model;
-use std::slice::Iter;
 
 /// What a piece of a text is.
 #[derive(Clone, Copy, Debug, PartialEq, Eq)]
@@ -63,80 +61,8 @@ pub enum TextEnding {
     Cut(Place),
 }
 
-/// The pieces of a text, in order. Contracts see the list of them.
-#[derive(Debug, Drop)]
-pub struct Pieces {
-    items: SmallVec<Piece, 8>,
-}
-
-impl Model for Pieces {
-    ghost use Rattle.std.specs.Prelude.{List};
-    ghost use Rattle.gabc_text.specs.declared.view.Piece.{Piece};
-
-    ghost Value = { List Piece };
-
-    ghost view = { λ p. p.items.items };
-}
-
-impl Pieces {
-    /// No pieces.
-    pub(crate) fn new(alloc: Global) -> Pieces
-        ensures { result ≡ [] }
-    {
-        Pieces {
-            items: SmallVec::new(alloc),
-        }
-    }
-
-    /// Adds a piece at the end.
-    pub(crate) fn push(&mut self, piece: Piece) -> Result<(), AllocError>
-        ensures added { OnOk result (self.new ≡ self.old ++ piece ∷ []) }
-        ensures unchanged { OnErr result (self.new ≡ self.old) }
-    {
-        self.items.push(piece)?;
-        Ok(())
-    }
-
-    /// Returns the number of pieces.
-    pub fn len(&self) -> usize
-        ensures { result ≡ length self.now }
-    {
-        self.items.len()
-    }
-
-    /// Returns whether there are no pieces.
-    pub fn is_empty(&self) -> bool
-        ensures { IsTrue result ↔ (self.now ≡ []) }
-    {
-        self.items.is_empty()
-    }
-
-    /// Returns the pieces in order.
-    pub fn as_slice(&self) -> &[Piece]
-        ensures { result.now ≡ self.now }
-    {
-        self.items.as_slice()
-    }
-
-    /// Goes over the pieces in order.
-    pub fn iter(&self) -> Iter<'_, Piece>
-        ensures { iter_rest result ≡ self.now }
-    {
-        self.items.as_slice().iter()
-    }
-}
-
-impl<'a> IntoIterator for &'a Pieces {
-    type Item = &'a Piece;
-
-    type IntoIter = Iter<'a, Piece>;
-
-    ghost into_iter_gives = { λ pieces r. iter_rest r ≡ pieces.now };
-
-    fn into_iter(self) -> Iter<'a, Piece> {
-        self.items.as_slice().iter()
-    }
-}
+/// The pieces of a text, in order.
+pub type Pieces = Growing<Piece>;
 
 /// What a text says.
 #[derive(Debug, Drop)]
@@ -153,7 +79,7 @@ pub struct TextView {
 impl TextView {
     /// Returns a view that says nothing.
     pub fn new(alloc: Global) -> TextView
-        ensures { result ≡ empty_view }
+        ensures { content_of result ≡ empty_view }
     {
         TextView {
             word_start: false,
@@ -163,10 +89,26 @@ impl TextView {
         }
     }
 
-    /// Adds `part`, as the machine emitted it. If there is no memory, the view is as it was.
+    /// Returns a view that says nothing, and reserves memory for `pieces` pieces.
+    pub fn with_capacity(alloc: Global, pieces: usize) -> Result<TextView, AllocError>
+        ensures content { IfOk result (λ view. content_of view ≡ empty_view) }
+        ensures capacity { IfOk result (λ view. view.pieces.capacity ≡ pieces) }
+    {
+        Ok(TextView {
+            word_start: false,
+            pieces: Pieces::with_capacity(alloc, pieces)?,
+            centre: None,
+            translation: None,
+        })
+    }
+
+    /// Adds `part`, as the machine emitted it. Where a piece more is within the capacity, that asks for no memory. If there is no
+    /// memory, the view says what it said.
     pub fn add(&mut self, part: TextPart) -> Result<(), AllocError>
-        ensures added { OnOk result (self.new ≡ with_part self.old part) }
-        ensures unchanged { OnErr result (self.new ≡ self.old) }
+        ensures added { OnOk result (content_of self.new ≡ with_part (content_of self.old) part) }
+        ensures capacity { self.old.pieces.capacity ≤ self.new.pieces.capacity }
+        ensures succeeds { HasCapacity self.old.pieces 1 → IsOk result }
+        ensures unchanged { OnErr result (content_of self.new ≡ content_of self.old) }
     {
         match part {
             TextPart::WordStart => self.word_start = true,
@@ -175,5 +117,28 @@ impl TextView {
             TextPart::Translation(span) => self.translation = Some(span),
         }
         Ok(())
+    }
+
+    /// Returns a view that says the same, in memory of its own.
+    pub fn copy(&self, alloc: Global) -> Result<TextView, AllocError>
+        ensures { IfOk result (λ view. content_of view ≡ content_of self.now) }
+    {
+        Ok(TextView {
+            word_start: self.word_start,
+            pieces: self.pieces.copy(alloc)?,
+            centre: self.centre,
+            translation: self.translation,
+        })
+    }
+
+    /// Makes the view say nothing. The memory stays reserved.
+    pub fn clear(&mut self)
+        ensures content { content_of self.new ≡ empty_view }
+        ensures capacity { self.new.pieces.capacity ≡ self.old.pieces.capacity }
+    {
+        self.word_start = false;
+        self.pieces.clear();
+        self.centre = None;
+        self.translation = None;
     }
 }

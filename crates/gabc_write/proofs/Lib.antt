@@ -1,4 +1,9 @@
 pub mod DumpOfHeadersIsShort
+pub mod DumpOfWhatIsSaid
+pub mod DumpRows
+pub mod dump_is_short
 pub mod HeadersLineByLine
+pub mod ItemsLineByLine
+pub mod NamesBehindFirst
 pub mod plain
 pub mod reading_again

@@ -1,5 +1,7 @@
 pub mod CanonicalTextIsPrintedSyllable
 pub mod CanonicalTextsArePrinted
+pub mod NoErrorIsFoundAgain
+pub mod NoLimitIsPassedAgain
 pub mod PartsEndAtTheirMarks
 pub mod PlacedCharacters
 pub mod PrintedBodyIsItsUnits
@@ -8,3 +10,4 @@ pub mod PrintedSyllableIsOneUnit
 pub mod ScoreIsPrinted
 pub mod ScoreReadAgainIsTheSame
 pub mod SnippetsAreReadAgain
+pub mod SyllablesSayTheSame

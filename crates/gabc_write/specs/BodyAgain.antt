@@ -1,16 +1,17 @@
 -- The printed syllables of a body, read again as its units.
 use Rattle.std.specs.Prelude.{◌≡◌, ◌≢◌, ℕ, List, [], ◌∷◌, ◌++◌, map, true, Some, codes, encode_utf8_all}
-use Rattle.std.specs.List.{flat_map}
 use Rattle.gabc_places.specs.declared.place.Place.{Place}
 use Rattle.gabc_places.specs.declared.place.Char.{Char}
 use Rattle.gabc_places.specs.Place.{placed_characters_from}
+use Rattle.gabc_text.specs.Events.{codes_of}
 use Rattle.gabc_text.specs.ViewFacts.{ViewFacts, view_facts}
 use Rattle.gabc_score.specs.Events.{texts_by_definition}
 use Rattle.gabc_score.specs.Units.{BodyUnit, LastUnit, JustText, IsCut}
 use Rattle.gabc_score.specs.SyllablesOfUnits.{ScoreUnit, characters_from, last_units}
 use Rattle.gabc_score.specs.declared.snippets.Snippet.{Snippet}
 use Rattle.gabc_score.specs.Syllable.{PlacedSyllable, slice}
-use Rattle.gabc_score.specs.Canonical.{canonical, starts_word}
+use Rattle.gabc_score.specs.Canonical.{canonical_in_place}
+use Rattle.gabc_write.specs.CanonicalFile.{canonical_text_of}
 use Rattle.gabc_write.specs.PlainText.{IsText, AreUnitTexts}
 use Rattle.gabc_write.specs.SyllableAgain.{printed_syllable, kept_snippets, AreSnippets, SaysAgain}
 
@@ -40,13 +41,14 @@ SayAgain lines macros [] last [] = Unit {0}
 SayAgain lines macros (u ∷ units) last (s ∷ ss) = SaysAgain lines macros u (characters_from units last) s.view s.snippets × SayAgain lines macros units last ss
 SayAgain lines macros _ last _ = ⊥
 
--- A body of printed syllables from this place on is cut, without a comment, into units that say the same, and into a last text that
--- is no unit.
+-- A body of printed syllables from this place on is cut, without a comment, into units that say the same, and into a last text of an
+-- LF, which is no unit.
 pub record IsBodyAgain (lines macros : ℕ) (at : Place) (ss : List SyllableFacts) : Type 0 where
   pub units : List BodyUnit
   pub last : List Char
   pub cut : IsCut texts_by_definition lines macros (placed_characters_from at (printed_body ss)) (record { comment = []; units = Some (record { closed = units; last = JustText last }) })
   pub again : SayAgain lines macros units (JustText last) ss
+  pub last_is : codes_of last ≡ 10 ∷ []
   pub no_more : last_units (JustText last) ≡ []
 
 -- ---- the body of a score
@@ -63,6 +65,12 @@ AreFactsOf (u ∷ units) (s ∷ syllables) (f ∷ facts) =
     ((f.view ≡ view_facts u.text) × (map (λ (x : Snippet). slice x.span s.made.kept) s.made.snippets ≡ map encode_utf8_all f.snippets)) × AreFactsOf units syllables facts
 AreFactsOf _ _ _ = ⊥
 
+-- these are the canonical texts of the syllables, one for each
+abbrev pub ArePrintedTexts : List PlacedSyllable → List SyllableFacts → Type 0
+ArePrintedTexts [] [] = Unit {0}
+ArePrintedTexts (s ∷ syllables) (f ∷ facts) = (canonical_in_place s ≡ encode_utf8_all (printed_syllable f.view f.snippets)) × ArePrintedTexts syllables facts
+ArePrintedTexts _ _ = ⊥
+
 -- this is said by the text of each unit, and by what its own snippets keep, where it has notes
 abbrev pub AreOwnFacts : ℕ → List ScoreUnit → List SyllableFacts → Type 0
 AreOwnFacts lines [] [] = Unit {0}
@@ -77,5 +85,6 @@ pub record ArePrinted (lines : ℕ) (units : List ScoreUnit) (syllables : List P
   pub first : FirstBeginsWord facts
   pub facts_are : AreFactsOf units syllables facts
   pub own : AreOwnFacts lines units facts
-  pub bytes : flat_map (λ (s : PlacedSyllable). canonical (starts_word s.position) s.made) syllables ++ codes "\n" ≡ encode_utf8_all (printed_body facts)
+  pub texts : ArePrintedTexts syllables facts
+  pub bytes : canonical_text_of syllables ++ codes "\n" ≡ encode_utf8_all (printed_body facts)
   pub plain : AreUnitTexts units → IsText (printed_body facts)

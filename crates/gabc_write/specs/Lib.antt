@@ -1,8 +1,13 @@
+pub mod machine
 pub mod BodyAgain
 pub mod CanonicalFile
 pub mod DumpLines
+pub mod DumpOfNabc
+pub mod DumpOfNotes
+pub mod DumpOfSyllables
 pub mod FileAgain
 pub mod Message
 pub mod PlainText
+pub mod Said
 pub mod ScoreAgain
 pub mod SyllableAgain

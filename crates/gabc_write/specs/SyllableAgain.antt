@@ -1,5 +1,5 @@
 -- A printed syllable, and the one unit as which it is read again.
-use Rattle.std.specs.Prelude.{◌≡◌, ◌≢◌, ℕ, ◌==◌, nat_lt, List, [], ◌∷◌, ◌++◌, map, length, if◌then◌else◌, cond, false, codes, encode_utf8_all}
+use Rattle.std.specs.Prelude.{◌≡◌, ◌≢◌, ℕ, List, [], ◌∷◌, ◌++◌, map, length, cond, false, codes, encode_utf8_all}
 use Rattle.std.specs.List.{All}
 use Rattle.gabc_places.specs.declared.place.Place.{Place}
 use Rattle.gabc_places.specs.declared.place.Char.{Char}
@@ -9,16 +9,14 @@ use Rattle.gabc_text.specs.View.{kept, findings}
 use Rattle.gabc_text.specs.ViewFacts.{ViewFacts, view_facts, has_error}
 use Rattle.gabc_text.specs.Printed.{print, text_tokens, translation_tokens, text_of_tokens}
 use Rattle.gabc_text.specs.Events.{codes_of}
-use Rattle.gabc_notes.specs.declared.stage.NoteEvent.{NoteEvent}
-use Rattle.gabc_notes.specs.Events.{note_events}
 use Rattle.gabc_notes.specs.SnippetRead.{findings_of}
 use Rattle.gabc_notes.specs.ReadAgain.{IsWarning}
-use Rattle.gabc_nabc.specs.Events.{nabc_events}
 use Rattle.gabc_score.specs.declared.snippets.Snippet.{Snippet}
 use Rattle.gabc_score.specs.Syllable.{UnplacedSyllable, slice}
 use Rattle.gabc_score.specs.Canonical.{canonical}
 use Rattle.gabc_score.specs.Events.{texts_by_definition, text_from, next_line, behind_mark}
 use Rattle.gabc_score.specs.Units.{EndedPart, BodyUnit, LastUnit, last_characters, units_pieces, Cuts}
+use Rattle.gabc_score.specs.FoundInParts.{snippet_events}
 use Rattle.gabc_score.specs.Holding.{IsSnippetOf, kept_on_line}
 use Rattle.gabc_score.specs.SyllablesOfUnits.{ScoreUnit, with_ends, snippets_in, characters_in, characters_from, score_unit}
 use Rattle.gabc_write.specs.PlainText.{IsText}
@@ -68,10 +66,6 @@ pub record AreUnitsFrom (lines macros : ℕ) (at : Place) (xs : List Char) (unit
   pub characters : xs ≡ characters_from units last
   pub cut : Cuts texts_by_definition lines macros (text_from texts_by_definition at xs) (units_pieces lines units last) (last_characters last)
 
--- what is emitted of a snippet of that line that begins with these characters
-abbrev pub snippet_events : ℕ → ℕ → ℕ → List Char → List (List NoteEvent)
-snippet_events lines macros line xs = if line == 0 then note_events (nat_lt 0 lines) macros xs else nabc_events xs
-
 -- The part has the characters of the snippet, keeps all of them, and no error is found in it, if it is read from there on.
 pub record IsSnippetAgain (lines macros line : ℕ) (e : EndedPart) (behind : List Char) (s : List ℕ) : Type 0 where
   pub characters : codes_of e.characters ≡ s
@@ -86,12 +80,13 @@ AreSnippetsAgain lines macros line (e ∷ es) behind (s ∷ ss) =
 AreSnippetsAgain lines macros line _ behind _ = ⊥
 
 -- The unit, with these characters behind it, says this: its text says the same without an error, and its snippets are the same.
--- All of it is kept, the LF before a word as a blank.
+-- All of its text is kept, the LF before a word as a blank, and its notes are these snippets.
 pub record SaysAgain (lines macros : ℕ) (unit : BodyUnit) (behind : List Char) (v : ViewFacts) (ss : List (List ℕ)) : Type 0 where
   pub says : view_facts (score_unit unit behind).text ≡ v
   pub errors : (place : Place) → has_error (findings place (score_unit unit behind).text) ≡ false
   pub kept : kept (score_unit unit behind).text ≡ cond v.word_start (codes " ") [] ++ text_of_tokens (text_tokens v ++ translation_tokens v.translation)
   pub snippets : AreSnippetsAgain lines macros 0 (snippets_in unit) behind ss
+  pub notes : (score_unit unit behind).notes ≡ 40 ∷ (barred ss ++ 41 ∷ [])
 
 -- A printed syllable whose characters stand from this place on, whatever follows, is one unit that says the same: if what follows
 -- is cut into units, then with the syllable in front there is one more, wherever its text is said to begin.

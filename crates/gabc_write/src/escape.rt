@@ -24,3 +24,34 @@ pub(crate) fn put_escaped<S: Put>(text: &[u8], out: &mut S)
         put_escaped_byte(*byte, out);
     }
 }
+
+/// Passes on what it takes, with each backslash as `\\` and each LF as `\n`.
+#[derive(Drop)]
+pub(crate) struct Escaped<'a, S: Put> {
+    out: &'a mut S,
+}
+
+impl<'a, S: Put> Escaped<'a, S> {
+    /// Returns what passes on to `out`.
+    pub(crate) fn new(out: &'a mut S) -> Escaped<'a, S>
+        ensures same { result.out.ghost_name ≡ out.entry.ghost_name }
+        ensures now { result.out.now ≡ out.old }
+    {
+        Escaped { out }
+    }
+}
+
+impl<S: Put> Put for Escaped<'_, S> {
+    ghost use Rattle.std.proofs.Common.{rules};
+    ghost use Rattle.std.proofs.lemmas.Grind.{flat_map-append};
+
+    ghost taken = { λ e bytes. record e { out = record e.out { now = S.taken e.out.now (escaped bytes) } } };
+
+    ghost taken_nothing = { Prim.search rules };
+
+    ghost taken_both = { Prim.search (rules, flat_map-append) };
+
+    fn put(&mut self, bytes: &[u8]) {
+        put_escaped(bytes, self.out);
+    }
+}

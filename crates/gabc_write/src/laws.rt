@@ -1,10 +1,11 @@
 //! Laws of the definitions alone. Each function's contract is a law; its body calls the laws below that it stands on.
 
-ghost use Rattle.std.specs.Prelude.{◌≡◌, ◌≤◌, ◌<◌, ◌^◌, ℕ, List, length, Some, Ok, encode_utf8_all};
+ghost use Rattle.std.specs.Prelude.{◌≡◌, ◌≤◌, ◌<◌, ◌+◌, ◌*◌, ◌^◌, ℕ, List, length, Some, Ok, encode_utf8_all, IsUtf8};
 ghost use Rattle.std.specs.List.{All};
 ghost use Rattle.gabc_places.specs.declared.place.Place.{Place};
 ghost use Rattle.gabc_places.specs.declared.place.Char.{Char};
 ghost use Rattle.gabc_places.specs.declared.limits.Limits.{Limits};
+ghost use Rattle.gabc_places.specs.LargerLimits.{AreNoLess};
 ghost use Rattle.gabc_headers.specs.declared.heads.Heads.{Heads};
 ghost use Rattle.gabc_headers.specs.Heads.{heads_of};
 ghost use Rattle.gabc_headers.specs.Book.{nabc_lines_of};
@@ -13,6 +14,8 @@ ghost use Rattle.gabc_score.specs.Events.{texts_by_definition};
 ghost use Rattle.gabc_score.specs.declared.ending.InputEnding.{InputEnding};
 ghost use Rattle.gabc_score.specs.Score.{score_of};
 ghost use Rattle.gabc_score.specs.Syllable.{UnplacedSyllable, PlacedSyllable};
+ghost use Rattle.gabc_score.specs.Canonical.{canonical, starts_word};
+ghost use Rattle.gabc_score.specs.declared.snippets.Snippet.{Snippet};
 ghost use Rattle.gabc_score.specs.Units.{BodyCutting, IsCut};
 ghost use Rattle.gabc_score.specs.SyllablesOfUnits.{ScoreUnit, HoldsUnit, AreSyllablesOf, score_units};
 ghost use Rattle.gabc_write.specs.SyllableAgain.{AreSnippets, IsPrinted, IsOneUnit};
@@ -20,6 +23,9 @@ ghost use Rattle.gabc_write.specs.BodyAgain.{SyllableFacts, AreSyllables, FirstB
 ghost use Rattle.gabc_write.specs.FileAgain.{IsFileAgain};
 ghost use Rattle.gabc_write.specs.ScoreAgain.{IsPrintedScore, IsScoreAgain};
 ghost use Rattle.gabc_write.specs.PlainText.{IsText};
+ghost use Rattle.gabc_write.specs.Said.{AreSame};
+ghost use Rattle.gabc_score.specs.Holding.{HasWholeSnippets};
+ghost use Rattle.gabc_write.specs.DumpOfSyllables.{lines_of_syllable, lines_of_syllables};
 
 /// A printed syllable is read again, whatever follows its `)`, as one unit with the same text, the same snippets and the same
 /// start of a word, and without an error. The canonical text of each syllable of a unit is such a printed syllable.
@@ -57,11 +63,12 @@ pub fn body_again()
 }
 
 /// A file of the canonical lines of a book and of printed syllables, the first of which begins a word, is read under the same
-/// limits as that book, and its body is cut into units that say what was printed.
+/// limits, or larger ones, as that book, and its body is cut into units that say what was printed.
 pub fn file_again()
-    ensures { (limits : Limits) (t : List ℕ) (heads : Heads) (facts : List SyllableFacts) →
-        heads_of limits t ≡ Ok heads → AreSyllables (nabc_lines_of heads.book) facts →
-        FirstBeginsWord facts → IsFileAgain limits heads.book facts }
+    ensures { (limits larger : Limits) (t : List ℕ) (heads : Heads) (facts : List SyllableFacts)
+        → AreNoLess limits larger → heads_of limits t ≡ Ok heads
+        → AreSyllables (nabc_lines_of heads.book) facts
+        → FirstBeginsWord facts → IsFileAgain larger heads.book facts }
 {
     gabc_headers::laws::book_again();
     body_again();
@@ -82,20 +89,46 @@ pub fn score_is_printed()
     body_again();
 }
 
-/// The canonical file of a score whose headers are whole, also of one that is stopped, is read again under the same limits, if it has
-/// no more bytes than the input may have: the bytes are decoded without a fault, the headers are the book, and the body is cut into
-/// one unit for each syllable, in order, which says the same without an error. Where this score has no fault, it has the same book,
-/// its syllables say the same, and its canonical file is the same.
+/// The canonical file of a score whose headers are whole, also of one that is stopped, is read again under the same limits or larger
+/// ones: it has no more bytes than the input may have, they are decoded without a fault, the headers are the book, and the body is
+/// cut into one unit for each syllable, in order, which says the same without an error. Its score has no fault, no error and the same
+/// book, its syllables say the same, and its canonical file is the same.
 pub fn score_again()
-    ensures { (limits : Limits) (ending : InputEnding) (t : List ℕ) (book : List (List ℕ × List ℕ))
+    ensures { (limits larger : Limits) (ending : InputEnding) (t : List ℕ)
+        (book : List (List ℕ × List ℕ)) → AreNoLess limits larger
         → length (encode_utf8_all t) < 2 ^ 63 → IsText t
         → (let score = score_of limits ending t in
-        score.book ≡ Some book → IsScoreAgain limits t book score.syllables) }
+        score.book ≡ Some book → IsScoreAgain larger t book score.syllables) }
 {
     gabc_places::laws::text_again();
     gabc_score::laws::units_end_at_their_marks();
     gabc_score::laws::the_syllables_are_those_of_the_units();
+    gabc_score::laws::given_syllables_are_within_the_limits();
+    gabc_score::laws::no_limit_is_passed_by_short_units();
+    gabc_score::laws::a_score_warns_as_its_parts_do();
+    gabc_score::laws::a_syllable_holds_its_parts();
+    gabc_text::laws::canonical_is_printed();
+    gabc_text::laws::findings_lie_within();
+    gabc_text::laws::spans_stand_for_the_view();
     body_again();
     file_again();
     score_is_printed();
 }
+
+/// The lines of a syllable in a dump are at most 64 bytes for each byte of its canonical text, and 256.
+pub fn a_dump_is_short()
+    ensures { (number : ℕ) (s : PlacedSyllable) → number < 2 ^ 64 → IsUtf8 s.made.kept →
+        length s.made.kept < 2 ^ 64 → All (λ (x : Snippet). x.line < 256) s.made.snippets →
+        length (lines_of_syllable number s)
+        ≤ 64 * length (canonical (starts_word s.position) s.made) + 256 }
+{
+    gabc_nabc::laws::names_are_short();
+}
+
+/// Syllables that say the same have the same lines in a dump, if the spans of their snippets begin and end between characters.
+pub fn syllables_that_say_the_same_have_one_dump()
+    ensures { (number : ℕ) (ss ts : List PlacedSyllable) →
+        All (λ (s : PlacedSyllable). HasWholeSnippets s.made) ss →
+        All (λ (s : PlacedSyllable). HasWholeSnippets s.made) ts →
+        AreSame ss ts → lines_of_syllables number ss ≡ lines_of_syllables number ts }
+{}

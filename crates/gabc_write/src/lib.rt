@@ -1,5 +1,5 @@
-//! What a run writes: canonical GABC and message lines, and the first and last lines of a dump. Each call puts its text into a room
-//! that the caller made, or into a counter. No call asks for memory.
+//! What a run writes: canonical GABC, the lines of a dump, and message lines. Each call puts its text into a room that the caller made,
+//! or into a counter. No call asks for memory but `Scratch::with_limit`, for the rooms that the lines of a syllable need.
 //!
 //! The caller makes room for what the calls of lengths tell:
 //!
@@ -12,11 +12,18 @@
 #![tactic(auto)]
 
 mod dump;
+mod dump_item;
+mod dump_nabc;
+mod dump_notes;
+mod dump_syllables;
 mod escape;
 pub mod laws;
 mod message;
+mod scratch;
 
 pub use dump::{dump_end, dump_header};
+pub use dump_syllables::{dump_len, dump_syllable};
 pub use gabc_headers::canon_header;
 pub use gabc_score::{canon_len, canon_syllable};
 pub use message::{message_len, message_line};
+pub use scratch::Scratch;

@@ -32,10 +32,10 @@ module _ (job : Job) (limits : Limits) (source out messages : Use) where
   -- a run that wrote all
   pub runs_whole : (bytes : List ℕ) (ending : SourceEnding) (outcome : Outcome) (status : Status) (output events : List ℕ)
       → ReadsSource source.old source.new source.failed_old source.failed_new limits.input bytes ending → outcome ≡ outcome_of limits ending bytes
-      → Appends out.old out.new output → output ≡ output_of outcome → Appends messages.old messages.new events → events ≡ messages_of job outcome → status ≡ status_of outcome
+      → Appends out.old out.new output → output ≡ output_of job.format outcome → Appends messages.old messages.new events → events ≡ messages_of job outcome → status ≡ status_of outcome
       → Compiles job limits source out messages status
   runs_whole bytes ending outcome status output events r o w we t te s =
-      let w' : Appends out.old out.new (output_of (outcome_of limits ending bytes)) = subst (λ (x : List ℕ). Appends out.old out.new x) (we ∙ ap output_of o) w in
+      let w' : Appends out.old out.new (output_of job.format (outcome_of limits ending bytes)) = subst (λ (x : List ℕ). Appends out.old out.new x) (we ∙ ap (output_of job.format) o) w in
       let t' : Appends messages.old messages.new (messages_of job (outcome_of limits ending bytes)) = subst (λ (x : List ℕ). Appends messages.old messages.new x) (te ∙ ap (messages_of job) o) t in
       let m : Outcome = outcome_of limits ending bytes in
       let e : status ≡ status_of m = s ∙ ap status_of o in
@@ -45,13 +45,13 @@ module _ (job : Job) (limits : Limits) (source out messages : Use) where
   -- a run whose messages were cut
   pub runs_cut : (bytes : List ℕ) (ending : SourceEnding) (outcome : Outcome) (output events : List ℕ) (n : ℕ)
       → ReadsSource source.old source.new source.failed_old source.failed_new limits.input bytes ending → outcome ≡ outcome_of limits ending bytes
-      → Appends out.old out.new output → output ≡ output_of outcome → Appends messages.old messages.new (take n events) → events ≡ messages_of job outcome
+      → Appends out.old out.new output → output ≡ output_of job.format outcome → Appends messages.old messages.new (take n events) → events ≡ messages_of job outcome
       → messages.failed_old < messages.failed_new → SinkCut job limits source out messages
   runs_cut bytes ending outcome output events n r o w we t te f = record {
     input = taken bytes ending r;
     written_count = length output;
     messages_count = n;
-    written = subst (λ (x : List ℕ). Appends out.old out.new x) (sym (take_all (length output) output (omega arith)) ∙ ap (take (length output)) (we ∙ ap output_of o)) w;
+    written = subst (λ (x : List ℕ). Appends out.old out.new x) (sym (take_all (length output) output (omega arith)) ∙ ap (take (length output)) (we ∙ ap (output_of job.format) o)) w;
     messages_written = subst (λ (x : List ℕ). Appends messages.old messages.new (take n x)) (te ∙ ap (messages_of job) o) t;
     failed = inr f;
   }
@@ -59,13 +59,13 @@ module _ (job : Job) (limits : Limits) (source out messages : Use) where
   -- a run whose output was cut
   pub runs_short : (bytes : List ℕ) (ending : SourceEnding) (outcome : Outcome) (output : List ℕ) (n : ℕ)
       → ReadsSource source.old source.new source.failed_old source.failed_new limits.input bytes ending → outcome ≡ outcome_of limits ending bytes
-      → Appends out.old out.new (take n output) → output ≡ output_of outcome → Appends messages.old messages.new []
+      → Appends out.old out.new (take n output) → output ≡ output_of job.format outcome → Appends messages.old messages.new []
       → out.failed_old < out.failed_new → SinkCut job limits source out messages
   runs_short bytes ending outcome output n r o w we t f = record {
     input = taken bytes ending r;
     written_count = n;
     messages_count = 0;
-    written = subst (λ (x : List ℕ). Appends out.old out.new (take n x)) (we ∙ ap output_of o) w;
+    written = subst (λ (x : List ℕ). Appends out.old out.new (take n x)) (we ∙ ap (output_of job.format) o) w;
     messages_written = t;
     failed = inl f;
   }

@@ -1,3 +1,4 @@
+pub mod CanonicalAgain
 pub mod Outcome
 pub mod Run
 pub mod SourceBytes

@@ -1,5 +1,5 @@
 -- What a run makes of its input, and what it writes: functions of the job, the limits, the bytes that the source gave and how it stopped.
-use Rattle.std.specs.Prelude.{ℕ, List, [], ◌++◌, Bool, true, false, ◌||◌, not, Option, Some, None, codes, if◌then◌else◌}
+use Rattle.std.specs.Prelude.{ℕ, List, [], ◌++◌, Bool, true, false, ◌||◌, not, Option, Some, None, is_some, codes, if◌then◌else◌}
 use Rattle.std.specs.List.{flat_map, list_any}
 use Rattle.gabc_places.specs.declared.limits.Limits.{Limits}
 use Rattle.gabc_places.specs.declared.severity.Severity.{Severity}
@@ -11,9 +11,12 @@ use Rattle.gabc_places.specs.Text.{decoded_of}
 use Rattle.gabc_score.specs.declared.ending.InputEnding as score
 use Rattle.gabc_score.specs.declared.ending.InputEnding.TheVariants as score_ending
 use Rattle.gabc_score.specs.Syllable.{PlacedSyllable}
+use Rattle.gabc_score.specs.declared.score.Score.{Score}
 use Rattle.gabc_score.specs.Score.{score_of}
 use Rattle.gregorio.specs.declared.source_bytes.SourceEnding.{SourceEnding}
 use Rattle.gregorio.specs.declared.source_bytes.SourceEnding.TheVariants.{Whole as Ended, Broken}
+use Rattle.gregorio_jobs.specs.declared.job.Format.{Format}
+use Rattle.gregorio_jobs.specs.declared.job.Format.TheVariants.{Gabc, Dump}
 use Rattle.gregorio_jobs.specs.declared.job.Input.{Input}
 use Rattle.gregorio_jobs.specs.declared.job.Input.TheVariants.{Stdin, File}
 use Rattle.gregorio_jobs.specs.declared.job.Job.{Job}
@@ -21,6 +24,7 @@ use Rattle.gregorio_jobs.specs.declared.job.Status.{Status}
 use Rattle.gregorio_jobs.specs.declared.job.Status.TheVariants.{Whole, Errors, Fatal as FatalFault, ReadFault}
 use Rattle.gregorio.specs.declared.outcome.Outcome.{Outcome}
 use Rattle.gabc_write.specs.CanonicalFile.{score_text}
+use Rattle.gabc_write.specs.DumpOfSyllables.{dump_text}
 use Rattle.gabc_write.specs.Message.{line_of}
 
 -- ---- the outcome
@@ -48,13 +52,22 @@ outcome_of limits ending bytes =
 
 -- ---- what is written
 
--- the canonical file; nothing, where the headers are not whole
-abbrev pub canonical_file : Option (List (List ℕ × List ℕ)) → List PlacedSyllable → List ℕ
-canonical_file None syllables = []
-canonical_file (Some book) syllables = score_text book syllables
+-- no fault stopped the reading, and the source did not fail
+abbrev pub is_read_whole : Outcome → Bool
+is_read_whole outcome = not (is_some outcome.score.fault || outcome.broken)
 
-abbrev pub output_of : Outcome → List ℕ
-output_of outcome = canonical_file outcome.score.book outcome.score.syllables
+-- the text of these headers and syllables, which are the whole score or not
+abbrev pub text_in : Format → Bool → List (List ℕ × List ℕ) → List PlacedSyllable → List ℕ
+text_in Gabc whole book syllables = score_text book syllables
+text_in Dump whole book syllables = dump_text whole book syllables
+
+-- nothing, where the headers are not whole
+abbrev pub output_by : Format → Bool → Option (List (List ℕ × List ℕ)) → List PlacedSyllable → List ℕ
+output_by format whole None syllables = []
+output_by format whole (Some book) syllables = text_in format whole book syllables
+
+abbrev pub output_of : Format → Outcome → List ℕ
+output_of format outcome = output_by format (is_read_whole outcome) outcome.score.book outcome.score.syllables
 
 abbrev pub is_warning : Severity → Bool
 is_warning Warning = true
@@ -80,10 +93,12 @@ abbrev pub input_name : Input → List ℕ
 input_name Stdin = codes "<stdin>"
 input_name (File name) = name
 
--- the lines of the findings, and last that of the fatal fault
+-- the lines of what a score found, and last that of its fatal fault, where messages call the input so
+abbrev pub lines_of : List ℕ → Bool → Score → List ℕ
+lines_of name all_warnings score = flat_map (shown_line name all_warnings) score.findings ++ fault_line name score.fault
+
 abbrev pub messages_of : Job → Outcome → List ℕ
-messages_of job outcome =
-    flat_map (shown_line (input_name job.input) job.all_warnings) outcome.score.findings ++ fault_line (input_name job.input) outcome.score.fault
+messages_of job outcome = lines_of (input_name job.input) job.all_warnings outcome.score
 
 abbrev pub status_by : Option Fault → Bool → Bool → Status
 status_by (Some fault) broken errors = FatalFault
@@ -95,5 +110,8 @@ abbrev pub is_error_finding : Finding → Bool
 is_error_finding finding = is_error (severity_of finding.code)
 
 -- a fatal fault hides the source's failure and errors, and a failure hides errors
+abbrev pub status_with : Score → Bool → Status
+status_with score broken = status_by score.fault broken (list_any is_error_finding score.findings)
+
 abbrev pub status_of : Outcome → Status
-status_of outcome = status_by outcome.score.fault outcome.broken (list_any is_error_finding outcome.score.findings)
+status_of outcome = status_with outcome.score outcome.broken

@@ -26,7 +26,7 @@ pub record InputRead (limits : Limits) (source : Use) : Type 0 where
 -- The whole output and all messages were written, and the status is theirs.
 pub record Done (job : Job) (limits : Limits) (source out messages : Use) (status : Status) : Type 0 where
   pub input : InputRead limits source
-  pub written : Appends out.old out.new (output_of (outcome_of limits input.ending input.bytes))
+  pub written : Appends out.old out.new (output_of job.format (outcome_of limits input.ending input.bytes))
   pub messages_written : Appends messages.old messages.new (messages_of job (outcome_of limits input.ending input.bytes))
   pub ends : status ≡ status_of (outcome_of limits input.ending input.bytes)
 
@@ -43,7 +43,7 @@ pub record SinkCut (job : Job) (limits : Limits) (source out messages : Use) : T
   pub input : Taken limits source
   pub written_count : ℕ
   pub messages_count : ℕ
-  pub written : Appends out.old out.new (take written_count (output_of (outcome_of limits input.ending input.bytes)))
+  pub written : Appends out.old out.new (take written_count (output_of job.format (outcome_of limits input.ending input.bytes)))
   pub messages_written : Appends messages.old messages.new (take messages_count (messages_of job (outcome_of limits input.ending input.bytes)))
   pub failed : (out.failed_old < out.failed_new) ⊎ (messages.failed_old < messages.failed_new)
 

@@ -2,15 +2,15 @@
 
 ghost use Rattle.std.specs.Prelude.{◌≡◌};
 ghost use Rattle.std.specs.List.{flat_map, list_any};
-ghost use Rattle.gregorio.specs.Outcome.{messages_of, status_of as status_of_outcome, input_name as name_of_input, is_shown as shown, shown_line, fault_line, is_error_finding};
+ghost use Rattle.gregorio.specs.Outcome.{lines_of, status_with as status_with_findings, input_name as name_of_input, is_shown as shown, shown_line, fault_line, is_error_finding};
 
-use crate::outcome::Outcome;
 use gabc_places::{Fault, Finding, Put, Severity};
+use gabc_score::Score;
 use gabc_write::message_line;
-use gregorio_jobs::{Input, Job, Status};
+use gregorio_jobs::{Input, Status};
 
 /// What messages call the input.
-fn input_name(input: &Input) -> &str
+pub(crate) fn input_name(input: &Input) -> &str
     ensures { result.now ≡ name_of_input input.now }
 {
     match input {
@@ -19,8 +19,8 @@ fn input_name(input: &Input) -> &str
     }
 }
 
-/// Whether a finding is written.
-fn is_shown(all_warnings: bool, finding: Finding) -> bool
+/// Returns whether a message tells of `finding`: of a warning only if `all_warnings` are wanted.
+pub fn is_shown(all_warnings: bool, finding: Finding) -> bool
     ensures { result ≡ shown all_warnings finding }
 {
     all_warnings || finding.code.severity() != Severity::Warning
@@ -54,14 +54,12 @@ fn put_fault<S: Put>(name: &str, fault: Option<Fault>, out: &mut S)
     }
 }
 
-/// Puts the lines of the findings, and last that of the fatal fault.
-pub(crate) fn put_messages<S: Put>(job: &Job, outcome: &Outcome, out: &mut S)
-    ensures { out.new ≡ S.taken out.old (messages_of job.now outcome.now) }
+/// Puts the lines of what a `score` found, and last that of its fatal fault. They call the input `name`.
+pub(crate) fn put_messages<S: Put>(name: &str, all_warnings: bool, score: &Score, out: &mut S)
+    ensures { out.new ≡ S.taken out.old (lines_of name.now all_warnings score.now) }
 {
-    let name = input_name(&job.input);
-    let findings = outcome.score.findings.as_slice();
-    put_findings(name, job.all_warnings, findings, out);
-    put_fault(name, outcome.score.fault, out);
+    put_findings(name, all_warnings, score.findings.as_slice(), out);
+    put_fault(name, score.fault, out);
 }
 
 /// Whether one of the findings is an error.
@@ -73,12 +71,12 @@ fn has_errors(findings: &[Finding]) -> bool
         .any(|f| f.code.severity() == Severity::Error)
 }
 
-/// How a run with this outcome ends.
-pub(crate) fn status_of(outcome: &Outcome) -> Status
-    ensures { result ≡ status_of_outcome outcome.now }
+/// How a run ends whose score is this one, if it was cut short or not.
+pub(crate) fn status_by(score: &Score, broken: bool) -> Status
+    ensures { result ≡ status_with_findings score.now broken }
 {
-    let errors = has_errors(outcome.score.findings.as_slice());
-    match (outcome.score.fault, outcome.broken, errors) {
+    let errors = has_errors(score.findings.as_slice());
+    match (score.fault, broken, errors) {
         (Some(_), _, _) => Status::Fatal,
         (None, true, _) => Status::ReadFault,
         (None, false, true) => Status::Errors,

@@ -1,5 +1,5 @@
-//! Reads a score of Gregorian chant in GABC, and writes it in canonical form. Gives on what `gregorio_jobs` has: words, plans, jobs
-//! and statuses.
+//! Reads a score of Gregorian chant in GABC, and writes it in canonical form or as a dump. Gives on what `gregorio_jobs` has: words, plans,
+//! jobs and statuses.
 //!
 //! Any `Source` and any two `Sink`s serve; `FromReader` and `ToWriter` of `gabc_places` make them of readers and writers:
 //!
@@ -14,12 +14,17 @@
 #![tactic(auto)]
 
 mod canonical;
+mod dump;
 mod findings;
+pub mod laws;
 mod outcome;
+mod output;
 mod read_all;
 mod run;
 mod source_bytes;
 
+pub use findings::is_shown;
 pub use gregorio_jobs::{Format, Input, Job, Name, Output, Plan, Refusal, Status, Words, plan};
+pub use outcome::Outcome;
 pub use run::compile;
 pub use source_bytes::SourceEnding;

@@ -1,10 +1,91 @@
 //! What a run makes of its input.
 
-use gabc_score::Score;
+ghost use Rattle.std.specs.Prelude.{◌≡◌, IfOk};
+ghost use Rattle.gregorio.specs.Outcome.{outcome_of, ending_by, is_cut_short as cut_short, output_of, lines_of, status_of};
+
+use crate::findings::{put_messages, status_by};
+use crate::output::{output_room, room_for};
+use crate::source_bytes::SourceEnding;
+use gabc_places::{ByteCounter, Fault, Limits, Room, text_of};
+use gabc_score::{Score, score_whole};
+use gregorio_jobs::{Format, Status};
+use std::alloc::{AllocError, Global};
 
 /// What a run makes of its input: the score, and whether it was cut short since the source failed.
 #[derive(Drop)]
-pub(crate) struct Outcome {
+pub struct Outcome {
     pub score: Score,
     pub broken: bool,
+}
+
+/// How a text ended: at the fault that stopped it, or else as the source did.
+fn ending_of(ending: SourceEnding, fault: Option<Fault>) -> gabc_score::InputEnding
+    ensures { result ≡ ending_by ending fault }
+{
+    match (fault, ending) {
+        (Some(fault), _) => gabc_score::InputEnding::At(fault),
+        (None, SourceEnding::Broken) => gabc_score::InputEnding::Broken,
+        (None, SourceEnding::Whole) => gabc_score::InputEnding::Whole,
+    }
+}
+
+/// Whether the source failed, and no fault stops the run.
+fn is_cut_short(ending: SourceEnding, fault: Option<Fault>) -> bool
+    ensures { result ≡ cut_short ending fault }
+{
+    match (fault, ending) {
+        (None, SourceEnding::Broken) => true,
+        _ => false,
+    }
+}
+
+impl Outcome {
+    /// Reads the score of `bytes` under `limits`. These are a whole input, or what came of one whose source failed then, as `ending`
+    /// says. It fails only for want of memory.
+    pub fn of(
+        alloc: Global,
+        bytes: &[u8],
+        ending: SourceEnding,
+        limits: Limits,
+    ) -> Result<Outcome, AllocError>
+        ensures { IfOk result (λ outcome. outcome ≡ outcome_of limits ending bytes.now) }
+    {
+        let ended = ending == SourceEnding::Whole;
+        let decoded = text_of(alloc, bytes, ended, limits)?;
+        let how = ending_of(ending, decoded.fault);
+        let score = score_whole(alloc, &decoded.text, how, limits)?;
+        let broken = is_cut_short(ending, score.fault);
+        Ok(Outcome { score, broken })
+    }
+
+    /// Returns what the run writes in this `format`: nothing, if the headers were not whole. It fails only for want of memory.
+    pub fn output(&self, alloc: Global, format: Format) -> Result<Room<u8>, AllocError>
+        ensures { IfOk result (λ room. room.items ≡ output_of format self.now) }
+    {
+        output_room(alloc, format, self)
+    }
+
+    /// Returns the lines of its messages, which call the input `name`: warnings only if `all_warnings` are wanted. It fails only for
+    /// want of memory.
+    pub fn messages(
+        &self,
+        alloc: Global,
+        name: &str,
+        all_warnings: bool,
+    ) -> Result<Room<u8>, AllocError>
+        ensures { IfOk result (λ room. room.items ≡ lines_of name.now all_warnings self.now.score) }
+    {
+        let mut counter = ByteCounter::new();
+        put_messages(name, all_warnings, &self.score, &mut counter);
+        let mut room = room_for(alloc, &counter)?;
+        put_messages(name, all_warnings, &self.score, &mut room);
+        Ok(room)
+    }
+
+    /// Returns how the run ends.
+    pub fn status(&self) -> Status
+        ensures { result ≡ status_of self.now }
+    {
+        status_by(&self.score, self.broken)
+    }
 }

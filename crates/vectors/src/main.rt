@@ -1,6 +1,7 @@
 //! Runs the chant reader on rows of inputs and on scores, each with the output and the messages that it must give; the rows
-//! also have the status. What is wanted was computed or written apart from this project. Makes the calls of the crates below by
-//! rows of a call, its input and its answer, which were worked by hand. Prints the rows and scores that differ, and how many agree.
+//! also have the status. What is wanted was computed or written apart from this project, but for the dumps of the scores: the program
+//! wrote these, and they were read by hand. Makes the calls of the crates below by rows of a call, its input and its answer, which were
+//! worked by hand. Prints the rows and scores that differ, and how many agree.
 #![tactic(auto)]
 
 mod call;
@@ -16,12 +17,13 @@ mod writes;
 
 use call::is_answered;
 use gabc_places::Limits;
+use gregorio::Format;
 use row::{Row, row_of};
 use run::run;
 use std::alloc::Global;
 use std::{fs, io};
 
-/// The example scores: each is a file `NAME.gabc`, with its canonical form and the messages under `-W` beside it.
+/// The example scores: each is a file `NAME.gabc`, with its canonical form, its dump and the messages under `-W` beside it.
 const SCORES: [&str; 8] = [
     "antiphon",
     "ave-maria",
@@ -50,6 +52,7 @@ fn agrees(alloc: Global, row: &Row) -> bool {
     };
     let ran = run(
         alloc,
+        row.format,
         row.bytes.as_slice(),
         row.broken,
         limits,
@@ -60,23 +63,43 @@ fn agrees(alloc: Global, row: &Row) -> bool {
         && ran.status == row.status
 }
 
-/// Whether a run on this canonical form writes it again, with no error, under these limits.
+/// Whether a run on this canonical form writes it again, with no error, under these limits, and so does a run on what that wrote.
 fn gives_itself(alloc: Global, canonical: &[u8], limits: Limits) -> bool {
-    let again = run(alloc, canonical, false, limits, false);
-    again.output.inner().as_slice() == canonical && again.status == 0
+    let second = run(alloc, Format::Gabc, canonical, false, limits, false);
+    let again = second.output.inner().as_slice();
+    let third = run(alloc, Format::Gabc, again, false, limits, false);
+    again == canonical
+        && third.output.inner().as_slice() == canonical
+        && second.status == 0
+        && third.status == 0
 }
 
-/// Whether the output of the row, where there is any, is read again as itself, and the output of that run too.
+/// Whether the dump of this canonical form is that of the row. Where the row's run was stopped, its dump lacks the last line.
+fn gives_its_dump(alloc: Global, row: &Row, canonical: &[u8], limits: Limits) -> bool {
+    let bytes = row.bytes.as_slice();
+    let stopped = run(alloc, Format::Dump, bytes, row.broken, limits, false);
+    let again = run(alloc, Format::Dump, canonical, false, limits, false);
+    match again
+        .output
+        .inner()
+        .as_slice()
+        .strip_prefix(stopped.output.inner().as_slice())
+    {
+        Some(rest) => rest.is_empty() || rest.starts_with(b"end "),
+        None => false,
+    }
+}
+
+/// Whether the canonical form of the row, where its headers are whole, is read again as itself, twice, and has its dump.
 fn is_kept(alloc: Global, row: &Row) -> bool {
     let Some(limits) = Limits::new(row.header, row.syllable, row.input) else {
         return false;
     };
-    if row.output.is_empty() {
-        return true;
-    }
-    let again = run(alloc, row.output.as_slice(), false, limits, true);
-    again.output.inner().as_slice() == row.output.as_slice()
-        && gives_itself(alloc, again.output.inner().as_slice(), limits)
+    let bytes = row.bytes.as_slice();
+    let first = run(alloc, Format::Gabc, bytes, row.broken, limits, false);
+    let canonical = first.output.inner().as_slice();
+    canonical.is_empty()
+        || gives_itself(alloc, canonical, limits) && gives_its_dump(alloc, row, canonical, limits)
 }
 
 /// Whether the run on this line of a file gives what its row says. Tells where it does not.
@@ -117,20 +140,28 @@ fn read_file(rt: &HostRuntime, name: &str, ending: &str) -> io::Result<String> {
     fs::read_to_string(rt, path.as_str())
 }
 
-/// Whether a score gives this canonical form and these messages.
-fn gives(alloc: Global, score: &[u8], canonical: &[u8], messages: &[u8]) -> bool {
-    let ran = run(alloc, score, false, Limits::DEFAULT, true);
-    ran.output.inner().as_slice() == canonical && ran.messages.inner().as_slice() == messages
+/// Whether a score gives this output in this format, and these messages.
+fn gives(alloc: Global, format: Format, score: &[u8], output: &[u8], messages: &[u8]) -> bool {
+    let ran = run(alloc, format, score, false, Limits::DEFAULT, true);
+    ran.output.inner().as_slice() == output && ran.messages.inner().as_slice() == messages
 }
 
-/// Whether a score gives its canonical form and its messages, and the canonical form itself.
-fn is_canonical(rt: &HostRuntime, name: &str) -> io::Result<bool> {
+/// Whether a score gives its canonical form, its dump and its messages, and the canonical form itself.
+fn is_told(rt: &HostRuntime, name: &str) -> io::Result<bool> {
     let score = read_file(rt, name, "gabc")?;
     let canonical = read_file(rt, name, "canonical")?;
+    let dump = read_file(rt, name, "dump")?;
     let messages = read_file(rt, name, "messages")?;
-    let (form, alloc) = (canonical.as_bytes(), rt.alloc());
+    let (score, form, alloc) = (score.as_bytes(), canonical.as_bytes(), rt.alloc());
     Ok(
-        gives(alloc, score.as_bytes(), form, messages.as_bytes())
+        gives(alloc, Format::Gabc, score, form, messages.as_bytes())
+            && gives(
+                alloc,
+                Format::Dump,
+                score,
+                dump.as_bytes(),
+                messages.as_bytes(),
+            )
             && gives_itself(alloc, form, Limits::DEFAULT),
     )
 }
@@ -139,7 +170,7 @@ fn is_canonical(rt: &HostRuntime, name: &str) -> io::Result<bool> {
 fn check_scores(rt: &HostRuntime) -> io::Result<()> {
     let mut agreed = 0u32;
     for name in SCORES {
-        if is_canonical(rt, name)? {
+        if is_told(rt, name)? {
             agreed = agreed.saturating_add(1);
         } else {
             println!(rt; "{name}.gabc differs")?;
@@ -170,6 +201,7 @@ fn check_calls(rt: &HostRuntime, path: &str) -> io::Result<()> {
 fn main(rt: HostRuntime) -> io::Result<()> {
     check_rows(&rt, "rows.tsv")?;
     check_rows(&rt, "canonical.tsv")?;
+    check_rows(&rt, "dump.tsv")?;
     check_scores(&rt)?;
     for path in CALLS {
         check_calls(&rt, path)?;

@@ -1,9 +1,9 @@
 //! Rows of elements, segments and glyphs.
 
-ghost use Rattle.gabc_neumes.specs.Elements.{AreWithin};
+ghost use Rattle.gabc_notes.specs.Items.{AreWithin};
 
 use crate::show::{show, show_span};
-use gabc_neumes::{Glyph, cut, elements, kind_of, laws, notes_into, segments};
+use gabc_neumes::{Glyph, cut, elements, kind_of, notes_into, segments};
 use gabc_notes::{Item, Note, is_snippet, items_whole};
 use gabc_places::{Room, Span};
 use std::alloc::{AllocError, Global};
@@ -127,7 +127,6 @@ pub(crate) fn answer(
         return Ok(false);
     }
     let items = items_whole(alloc, input)?;
-    laws::items_lie_in_their_text();
     answer_items(alloc, call, input, items.as_slice(), out)?;
     Ok(true)
 }

@@ -1,10 +1,12 @@
 //! A row of a file of runs.
 
+use gregorio::Format;
 use std::alloc::{AllocError, Global};
 
 /// A run, and what it must give.
 #[derive(Drop)]
 pub(crate) struct Row {
+    pub format: Format,
     pub all_warnings: bool,
     pub header: u32,
     pub syllable: u32,
@@ -75,9 +77,10 @@ pub(crate) fn limits_of(column: &str) -> Option<(u32, u32, u32)> {
     Some((header, syllable, input))
 }
 
-/// Whether a run has the option `-W`, its three limits in bytes, and whether its source fails.
+/// The format of a run, whether it has the option `-W`, its three limits in bytes, and whether its source fails.
 #[derive(Clone, Copy)]
 struct Settings {
+    format: Format,
     all_warnings: bool,
     limits: (u32, u32, u32),
     broken: bool,
@@ -94,6 +97,7 @@ fn row_with(
 ) -> Result<Row, AllocError> {
     let (header, syllable, input) = settings.limits;
     Ok(Row {
+        format: settings.format,
         all_warnings: settings.all_warnings,
         header,
         syllable,
@@ -104,6 +108,15 @@ fn row_with(
         messages: unescaped(alloc, messages)?,
         status: settings.status,
     })
+}
+
+/// The format that these options name.
+fn format_of(options: &str) -> Format {
+    if options.contains("-F dump") {
+        Format::Dump
+    } else {
+        Format::Gabc
+    }
 }
 
 /// The row of a line: options, limits, ending, input, output, messages and status, split by tabs.
@@ -128,6 +141,7 @@ pub(crate) fn row_of(alloc: Global, line: &str) -> Result<Option<Row>, AllocErro
         return Ok(None);
     };
     let settings = Settings {
+        format: format_of(options),
         all_warnings: options.ends_with("-W"),
         limits,
         broken: ending == "broken",

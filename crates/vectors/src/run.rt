@@ -15,13 +15,14 @@ pub(crate) struct RunResult {
 /// Runs the reader on these bytes, from a source that fails behind them if it is `broken`.
 pub(crate) fn run(
     alloc: Global,
+    format: Format,
     bytes: &[u8],
     broken: bool,
     limits: Limits,
     all_warnings: bool,
 ) -> RunResult {
     let job = Job {
-        format: Format::Gabc,
+        format,
         input: Input::Stdin,
         output: Output::Stdout,
         messages: None,

@@ -4,7 +4,10 @@ use crate::show::{show, show_bytes};
 use gabc_headers::{HeaderBook, headers_whole};
 use gabc_places::{Code, Limits, Place, Room, Text};
 use gabc_score::{InputEnding, Syllable, score_whole};
-use gabc_write::{canon_header, canon_len, canon_syllable, message_len, message_line};
+use gabc_write::{
+    Scratch, canon_header, canon_len, canon_syllable, dump_len, dump_syllable, message_len,
+    message_line,
+};
 use std::alloc::{AllocError, Global};
 
 /// Prints the bytes of the line of a message, and the line.
@@ -89,6 +92,47 @@ fn answer_syllables(
     show_syllables(alloc, score.syllables.as_slice(), out)
 }
 
+/// Prints the bytes of the lines of a syllable with this number in a dump, and these lines.
+fn show_dump(
+    alloc: Global,
+    number: u64,
+    syllable: &Syllable,
+    out: &mut String,
+) -> Result<(), AllocError> {
+    let mut scratch = Scratch::with_limit(alloc, syllable.kept.len())?;
+    let len = dump_len(number, syllable, &mut scratch);
+    if len == usize::MAX {
+        return Err(AllocError);
+    }
+    let mut room = Room::with_limit(alloc, len)?;
+    dump_syllable(number, syllable, &mut scratch, &mut room);
+    out.push('\t')?;
+    show(&len, out)?;
+    out.push(' ')?;
+    show_bytes(room.slice(), out)
+}
+
+/// Prints the number of syllables of a score, and the lines of each in a dump. The first one has the number 4294967295.
+fn answer_dump(
+    alloc: Global,
+    limits: Limits,
+    input: &str,
+    out: &mut String,
+) -> Result<(), AllocError> {
+    let text = Text::from_str(alloc, input)?;
+    let score = score_whole(alloc, &text, InputEnding::Whole, limits)?;
+    show(&score.syllables.len(), out)?;
+    for (index, syllable) in score.syllables.as_slice().iter().enumerate() {
+        show_dump(
+            alloc,
+            (index as u64).saturating_add(4294967295),
+            syllable,
+            out,
+        )?;
+    }
+    Ok(())
+}
+
 /// Prints the answer of a call with these limits, and returns whether there is such a call.
 pub(crate) fn answer_within(
     alloc: Global,
@@ -100,6 +144,7 @@ pub(crate) fn answer_within(
     match call {
         "header" => answer_header(alloc, limits, input, out)?,
         "syllables" => answer_syllables(alloc, limits, input, out)?,
+        "dump" => answer_dump(alloc, limits, input, out)?,
         _ => return Ok(false),
     }
     Ok(true)

@@ -274,5 +274,6 @@ fn laws_are_called() {
     laws::findings_lie_before_the_body();
     laws::the_body_follows_the_mark();
     laws::book_again();
+    laws::canonical_lines_are_within_the_limits();
     laws::events_make_the_headers();
 }

@@ -7,6 +7,8 @@
 #[cfg(test)]
 mod chain;
 #[cfg(test)]
+mod growing;
+#[cfg(test)]
 mod header_stage;
 #[cfg(test)]
 mod headers;

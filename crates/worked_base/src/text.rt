@@ -190,6 +190,7 @@ fn keeps_texts_and_findings(rt: HostRuntime) -> Result<(), Fail> {
 #[test]
 fn laws_are_called() {
     laws::texts_are_plain();
+    laws::texts_are_scalars_within_the_limit();
     laws::text_again();
     laws::first_place();
     laws::characters_stand_behind_the_text_before();

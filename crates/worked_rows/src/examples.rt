@@ -1,10 +1,14 @@
 //! The examples that the documents of the crates show.
 
 use gabc_headers::headers_whole;
-use gabc_places::{Code, FromReader, Limits, Place, Room, Text, ToWriter, place_of_byte, text_of};
-use gabc_score::{InputEnding, score_whole};
+use gabc_places::{
+    Code, FromReader, Limits, Place, Room, Span, Text, ToWriter, place_of_byte, text_of,
+};
+use gabc_score::{InputEnding, Syllable, score_whole};
 use gabc_text::{kept_chars, text_len, text_whole};
-use gabc_write::{dump_end, dump_header, message_len, message_line};
+use gabc_write::{
+    Scratch, dump_end, dump_header, dump_len, dump_syllable, message_len, message_line,
+};
 use gregorio::{Format, Input, Job, Output, Status, compile};
 use std::alloc::Global;
 use std::test::Fail;
@@ -60,6 +64,46 @@ fn dumps_headers(rt: HostRuntime) -> Result<(), Fail> {
     dump_end(4294967296, &mut out);
     let dump = "dump 1\nheader name:a\\\\b\\nc\nheader user\\\\notes:\nend 4294967296\n";
     assert_eq!(rt; out.slice(), dump.as_bytes());
+    Ok(())
+}
+
+/// The lines of a syllable with this number in a dump, and how many bytes `dump_len` tells, with rooms for 64 bytes.
+fn lines_and_len(
+    alloc: Global,
+    number: u64,
+    syllable: &Syllable,
+) -> Result<(Room<u8>, usize), Fail> {
+    let mut scratch = Scratch::with_limit(alloc, 64)?;
+    if syllable.kept.len() > scratch.limit() {
+        return Err(Fail::from("a longer text"));
+    }
+    let len = dump_len(number, syllable, &mut scratch);
+    let mut out = Room::with_limit(alloc, 256)?;
+    dump_syllable(number, syllable, &mut scratch, &mut out);
+    Ok((out, len))
+}
+
+#[test]
+fn dumps_a_syllable(rt: HostRuntime) -> Result<(), Fail> {
+    let text = Text::from_str(rt.alloc(), "%%\n(hG)")?;
+    let score = score_whole(rt.alloc(), &text, InputEnding::Whole, Limits::DEFAULT)?;
+    let syllable = score.syllables.as_slice().first().ok_or("a syllable")?;
+    let (lines, len) = lines_and_len(rt.alloc(), 4294967296, syllable)?;
+    let wanted =
+        "syllable 4294967296 one\nnotes:hG\nelement\nglyph punctum 1\nnote h punctum h\nglyph inclinata 1\nnote g inclinatum G\n";
+    assert_eq!(rt; lines.slice(), wanted.as_bytes());
+    assert_eq!(rt; len, wanted.len());
+    Ok(())
+}
+
+#[test]
+fn gives_texts_of_spans(rt: HostRuntime) -> Result<(), Fail> {
+    let text = Text::from_str(rt.alloc(), "%%\n\u{e9}(f)")?;
+    let score = score_whole(rt.alloc(), &text, InputEnding::Whole, Limits::DEFAULT)?;
+    let syllable = score.syllables.as_slice().first().ok_or("a syllable")?;
+    assert_eq!(rt; syllable.text_at(Span { from: 1, to: 4 }), "\u{e9}(");
+    assert_eq!(rt; syllable.text_at(Span { from: 2, to: 4 }), "");
+    assert_eq!(rt; syllable.text_at(Span { from: 3, to: 9 }), "");
     Ok(())
 }
 

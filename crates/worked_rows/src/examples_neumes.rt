@@ -1,8 +1,12 @@
-//! The example of `gabc_neumes`, and words of kinds.
+//! The example of `gabc_neumes`, words of kinds, and single items.
 
-use gabc_neumes::{Base, Glyph, GlyphKind, Tail, cut, elements, laws, notes_into, word_of_shape};
-use gabc_notes::{Shape, is_snippet, items_whole};
+use gabc_neumes::{
+    Base, Glyph, GlyphKind, Tail, cut, elements, is_in_element, is_in_segment, notes_into,
+    word_of_base, word_of_shape, word_of_tail,
+};
+use gabc_notes::{Item, ItemKind, Shape, height_of, is_snippet, items_whole};
 use gabc_places::{Room, Span};
+use gabc_write::Scratch;
 use std::alloc::Global;
 use std::test::Fail;
 
@@ -17,7 +21,6 @@ fn elements_and_glyphs(
         return Err("no snippet".into());
     }
     let items = items_whole(alloc, kept)?;
-    laws::items_lie_in_their_text();
     let items = items.as_slice();
     let mut spans = Room::with_limit(alloc, items.len())?;
     elements(kept, items, &mut spans);
@@ -60,5 +63,49 @@ fn kinds_have_words(rt: HostRuntime) -> Result<(), Fail> {
         word_of_shape(Shape::QuilismaQuadratum),
         "quilisma-quadratum"
     );
+    assert_eq!(rt; word_of_base(Base::Climacus), "climacus");
+    assert_eq!(rt; word_of_tail(Base::Climacus, Tail::Resupinus), "-resupinus");
+    Ok(())
+}
+
+/// An item of that kind.
+fn item(kind: ItemKind, from: usize, to: usize) -> Item {
+    Item {
+        kind,
+        span: Span { from, to },
+    }
+}
+
+#[test]
+fn items_tell_where_they_stand(rt: HostRuntime) -> Result<(), Fail> {
+    let kept = "g/0hx/";
+    let inner = Item {
+        kind: ItemKind::Spacing,
+        span: Span { from: 1, to: 3 },
+    };
+    let divider = Item {
+        kind: ItemKind::Spacing,
+        span: Span { from: 5, to: 6 },
+    };
+    assert_eq!(rt; is_in_element(kept, inner), true);
+    assert_eq!(rt; is_in_element(kept, divider), false);
+    assert_eq!(rt; is_in_segment(item(ItemKind::Note, 0, 1)), true);
+    assert_eq!(rt; is_in_segment(item(ItemKind::Alteration, 3, 5)), false);
+    assert_eq!(rt; height_of(b'p'), 14);
+    assert_eq!(rt; height_of(b'C'), 2);
+    Ok(())
+}
+
+#[test]
+fn items_go_as_far_as_one_begins(rt: HostRuntime) -> Result<(), Fail> {
+    let items = items_whole(rt.alloc(), "g(h")?;
+    assert_eq!(rt; items.as_slice(), [item(ItemKind::Note, 0, 1)].as_slice());
+    Ok(())
+}
+
+#[test]
+fn a_scratch_tells_its_limit(rt: HostRuntime) -> Result<(), Fail> {
+    let scratch = Scratch::with_limit(rt.alloc(), 64)?;
+    assert_eq!(rt; scratch.limit(), 64);
     Ok(())
 }

@@ -12,3 +12,5 @@ mod examples_notes;
 mod plans;
 #[cfg(test)]
 mod run;
+#[cfg(test)]
+mod score_stage;

@@ -142,3 +142,13 @@ fn codes_and_names(rt: HostRuntime) -> Result<(), Fail> {
     assert_eq!(rt; Name::new(rt.alloc(), "x.gabc")?.as_str(), "x.gabc");
     Ok(())
 }
+
+#[test]
+fn laws_are_called() {
+    gabc_score::laws::given_syllables_are_within_the_limits();
+    gabc_score::laws::no_limit_is_passed_by_short_units();
+    gabc_score::laws::a_score_warns_as_its_parts_do();
+    gabc_write::laws::score_again();
+    gregorio::laws::canonical_again();
+    gregorio::laws::a_run_over_an_output_repeats_it();
+}

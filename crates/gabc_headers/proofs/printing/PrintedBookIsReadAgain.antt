@@ -3,6 +3,7 @@ use Rattle.std.proofs.Common.{◌≡◌, ℕ, ◌+◌, ◌<◌, ◌≤◌, List,
 use Rattle.std.proofs.lemmas.Bool.Decides.{nat_tests}
 use Rattle.std.proofs.Math.Seq.{take-append_seam, take-append-add}
 use Rattle.gabc_places.specs.declared.limits.Limits.{Limits}
+use Rattle.gabc_places.specs.LargerLimits.{AreNoLess}
 use Rattle.gabc_places.specs.declared.place.Place.{Place}
 use Rattle.gabc_places.specs.declared.code.Code.TheVariants.{W1, F4, F7}
 use Rattle.gabc_places.specs.declared.code.Finding.{Finding}
@@ -16,6 +17,7 @@ use Rattle.gabc_headers.specs.Groups.{Group, valued, AreGroups, value_text, mark
 use Rattle.gabc_headers.specs.Canonical.{header_line, header_lines, canonical_heads}
 use Rattle.gabc_headers.specs.Heads.{head_len, head_parts, open_line, findings_behind, name_findings, head_findings, known_at, stop_at, text_stops, open_stops, score_stops, missing_score, head_stops, body_byte, heads_by, heads_of}
 use Rattle.gabc_headers.specs.HeadsAgain.{nameless, heads_again}
+use Rattle.gabc_headers.proofs.canonical_form.HeadersEndInTwoPercents.{heads_len}
 use Rattle.gabc_headers.proofs.machines.PartsBehindState.{first_line, later_lines, lines_split}
 use Rattle.gabc_headers.proofs.groups.GroupsAreUnique.{some_groups}
 use Rattle.gabc_headers.proofs.groups.GroupsTellParts.{groups_tell}
@@ -224,8 +226,25 @@ within_limits limits t heads ok =
     whole [] e = cc
     whole (s ∷ stops) e = absurd (cc)
 
-pub book_read : (limits : Limits) (t more : List ℕ) (heads : Heads) → heads_of limits t ≡ Ok heads → heads_of limits (canonical_heads heads.book ++ more) ≡ Ok (heads_again heads.book)
-book_read limits t more heads ok = heads_are limits heads.book (within_limits limits t heads ok) more
+within_larger : (limits larger : Limits) (book : List (List ℕ × List ℕ)) → AreNoLess limits larger → Within limits book → Within larger book
+within_larger limits larger book no_less w =
+    let h = w.header in
+    let i = w.input in
+    let more = no_less.header in
+    let most = no_less.input in
+    record { entries = w.entries; once = w.once; header = grind (arith, nat_tests); input = grind (arith, nat_tests) }
+
+pub book_read : (limits larger : Limits) (t more : List ℕ) (heads : Heads) → AreNoLess limits larger → heads_of limits t ≡ Ok heads → heads_of larger (canonical_heads heads.book ++ more) ≡ Ok (heads_again heads.book)
+book_read limits larger t more heads no_less ok = heads_are larger heads.book (within_larger limits larger heads.book no_less (within_limits limits t heads ok)) more
 
 pub book_ends : (limits : Limits) (t more : List ℕ) (heads : Heads) → heads_of limits t ≡ Ok heads → head_len (canonical_heads heads.book ++ more) ≡ length (header_lines heads.book)
 book_ends limits t more heads ok = len_is limits heads.book (within_limits limits t heads ok) more
+
+-- the canonical lines of the book are within the limits, and so is its canonical file without syllables
+pub book_is_short : (limits : Limits) (t : List ℕ) (heads : Heads) → heads_of limits t ≡ Ok heads → (bytes_len (header_lines heads.book) ≤ limits.header) × (bytes_len (canonical_heads heads.book) + 1 ≤ limits.input)
+book_is_short limits t heads ok =
+    let w = within_limits limits t heads ok in
+    let h = w.header in
+    let i = w.input in
+    let size : 2 + bytes_len (header_lines heads.book) ≡ bytes_len (canonical_heads heads.book) = heads_len heads.book in
+    (grind (arith, nat_tests), grind (arith, nat_tests))

@@ -1,35 +1,30 @@
 -- The longest item that begins a text, by its bytes.
 use Rattle.std.specs.Prelude.{Bool}
-use Rattle.std.proofs.Common.{◌≡◌, ℕ, ◌+◌, ◌≤◌, ◌<◌, List, [], ◌∷◌, ◌++◌, length, take, drop, get_or, Option, Some, None, refl, ap, sym, ◌∙◌, subst, arith, IsUtf8, ◌-◌, slice_range, length-append, append_assoc, append-nil, IfSome, IfNone, true}
+use Rattle.std.proofs.Common.{◌≡◌, ℕ, ◌+◌, ◌≤◌, ◌<◌, List, [], ◌∷◌, ◌++◌, length, take, get_or, Option, Some, None, refl, ap, sym, ◌∙◌, subst, arith, IsUtf8, length-append, append_assoc, append-nil}
 use Rattle.std.specs.Str.{chars}
 use Rattle.std.specs.Char.{len_utf8}
-use Rattle.std.proofs.lemmas.List.{take-append-drop, length-take-le}
-use Rattle.std.proofs.Math.Seq.{take-append_seam, drop-append_seam, get_or-append_seam}
-use Rattle.std.proofs.lemmas.Str.{IsUtf8-past_char, encodes-append, encodes-chars, length-encode, scalars-chars, chars-encodes, length-le-encodes}
-use lib.Utf8.{encode, encodes, scalar, scalars}
+use Rattle.std.proofs.Math.Seq.{take-append_seam, get_or-append_seam}
+use Rattle.std.proofs.lemmas.Str.{IsUtf8-past_char, encodes-append, encodes-chars, length-encode}
+use lib.Utf8.{encode, encodes}
 use Rattle.gabc_nabc.specs.Table.{nabc}
 use Rattle.gabc_nabc.specs.Class.{class_of_character}
 use Rattle.gabc_nabc.specs.DescriptorMachine.{going_on}
 use Rattle.gabc_nabc.specs.machine.DescriptorMachine.{is_space_at_end}
-use Rattle.gabc_nabc.specs.machine.Parts.{IsFirstPart}
-use Rattle.gabc_nabc.specs.Parts.{IsNabc}
+use Rattle.gabc_nabc.specs.machine.Parts.{in_bytes, first_part_of}
 use Rattle.gabc_nabc.specs.declared.state.DescriptorState.{DescriptorState}
 use Rattle.gabc_nabc.proofs.machine.MachineReadsTable.{machine, items_read}
 use Rattle.gabc_nabc.proofs.machine.TextIsReadByCharacter.{one_read, one_next, all_read}
 use Rattle.gabc_nabc.specs.declared.state.DescriptorState.TheVariants.{Start}
-use Rattle.gabc_patterns.proofs.BothOfTwoTests.{and_true}
-use Rattle.gabc_patterns.specs.Items.{IsItemAt, ItemSpan}
-use Rattle.gabc_patterns.specs.Reading.{Longest, IsItem, IsItemOf}
-use Rattle.gabc_patterns.proofs.ItemHere.{ItemHere, BestHere, here_start, here_ends, here_on, here_stops, here_end, best_item, best_none}
+use Rattle.gabc_patterns.specs.Function.{longest_item}
+use Rattle.gabc_patterns.specs.Items.{ItemSpan}
+use Rattle.gabc_patterns.proofs.ItemsOneByOne.{longest_is}
+use Rattle.gabc_patterns.proofs.ItemHere.{ItemHere, BestHere, IsFound, here_start, here_ends, here_on, here_stops, here_end}
+use Rattle.gabc_nabc.proofs.grammar.LawsOfEvents.{kinds_are_one}
 
--- how many bytes the first n characters have
-abbrev pub bytes_to : List ℕ → ℕ → ℕ
-bytes_to t n = length (encodes (take n t))
-
--- a first item's kind, with its number of bytes
-abbrev pub in_bytes : List ℕ → Option (ItemSpan Bool) → Option (Bool × ℕ)
-in_bytes t None = None
-in_bytes t (Some b) = Some (b.0, bytes_to t b.2)
+-- a first part with its number of bytes
+abbrev pub spanned : List ℕ → Option (ItemSpan Bool) → Option (Bool × ℕ)
+spanned t None = None
+spanned t (Some b) = in_bytes t (Some (b.0, b.2))
 
 -- Of the text the characters done are read, and rest, as bytes, is not.
 pub record Reading (text done rest : List ℕ) (s : DescriptorState) (read : ℕ) (best : Option (Bool × ℕ)) : Type 0 where
@@ -37,7 +32,7 @@ pub record Reading (text done rest : List ℕ) (s : DescriptorState) (read : ℕ
   pub whole : done ++ chars rest ≡ chars text
   pub count : read ≡ length (encodes done)
   pub longest : Option (ItemSpan Bool)
-  pub bytes : best ≡ in_bytes (chars text) longest
+  pub bytes : best ≡ spanned (chars text) longest
   pub here : ItemHere nabc machine (chars text) 0 (length done) s longest
 
 -- the character behind those that are done
@@ -110,67 +105,32 @@ on_at text done bs rest s z read now c best r e g f n =
       here = subst (λ (x : ℕ). ItemHere nabc machine all 0 x z r.longest) l (here_on nabc machine items_read all 0 (length done) c s z r.longest p q g f r.here);
     }
 
-scalars_split : (a b : List ℕ) → scalars (a ++ b) ≡ true → (scalars a ≡ true) × (scalars b ≡ true)
-scalars_split [] b e = (refl, e)
-scalars_split (c ∷ a) b e =
-    let f = and_true (scalar c) (scalars (a ++ b)) e in
-    let g = scalars_split a b f.1 in
-    (rw (f.0, g.0) refl, g.1)
-
--- What a search for the longest item tells.
-pub record Told (text : List ℕ) (best : Option (Bool × ℕ)) : Type 0 where
-  pub found : IfSome best (λ i. IsFirstPart text i.0 i.1)
-  pub none : IfNone best (0 < length text → ¬ IsNabc text)
-
-first_is : (text : List ℕ) (k : Bool) (n : ℕ) → IsUtf8 text → IsItemAt nabc (chars text) 0 k n → IsFirstPart text k (bytes_to (chars text) n)
-first_is text k n u i =
-    let t : List ℕ = chars text in
-    let a : List ℕ = take n t in
-    let b : List ℕ = drop n t in
-    let split : a ++ b ≡ t = take-append-drop n t in
-    let s = scalars_split a b (ap scalars split ∙ scalars-chars text u) in
-    let bytes : encodes a ++ encodes b ≡ text = sym (encodes-append a b) ∙ (ap encodes split ∙ encodes-chars text u) in
-    let cut : take (length (encodes a)) text ≡ encodes a = ap (take (length (encodes a))) (sym bytes) ∙ take-append_seam (encodes a) (encodes b) in
-    let left : drop (length (encodes a)) text ≡ encodes b = ap (drop (length (encodes a))) (sym bytes) ∙ drop-append_seam (encodes a) (encodes b) in
-    let x : chars (take (length (encodes a)) text) ≡ a = ap chars cut ∙ chars-encodes a s.0 in
-    let y : chars (drop (length (encodes a)) text) ≡ b = ap chars left ∙ chars-encodes b s.1 in
-    let n_less : n - 0 ≡ n = omega arith in
-    let slice : slice_range t 0 n ≡ a = ap (λ (m : ℕ). take m t) n_less in
-    let some = i.after in
-    let within = i.within in
-    let l : length a ≡ n = length-take-le n t within in
-    record {
-      some = omega (arith, length-le-encodes a, l, some);
-      within = omega (arith, ap length bytes, length-append (encodes a) (encodes b));
-      utf8 = rw left (b, (s.1, refl));
-      item = subst (IsItemOf nabc k) (slice ∙ sym x) i.item;
-      longest = rw (x, y) (subst (λ (u : List ℕ). Longest (IsItem nabc) u b) slice i.longest);
-    }
-
-some_chars : (text : List ℕ) → IsUtf8 text → 0 < length text → 0 < length (chars text)
-some_chars text u l = go (chars text) refl
+told : (text : List ℕ) (longest : Option (ItemSpan Bool)) → BestHere nabc (chars text) 0 longest → spanned (chars text) longest ≡ first_part_of text
+told text longest h = go longest h.found h.same (sym (longest_is nabc kinds_are_one (chars text) h.found h.is_best))
   where
-    go : (t : List ℕ) → chars text ≡ t → 0 < length t
-    go [] e = absurd (let f = ap length (sym (encodes-chars text u) ∙ ap encodes e) in omega (arith, f))
-    go (c ∷ t) e = omega arith
-
-told : (text : List ℕ) (longest : Option (ItemSpan Bool)) → IsUtf8 text → BestHere nabc (chars text) 0 longest → Told text (in_bytes (chars text) longest)
-told text None u h = record { found = tt; none = λ l. best_none nabc refl (chars text) 0 (some_chars text u l) h }
-told text (Some (k, m, n)) u h = record { found = first_is text k n u (best_item nabc (chars text) 0 (k, m, n) (omega arith) h).1; none = tt }
+    go : (o : Option (ItemSpan Bool)) (f : Option (Bool × ℕ)) → IsFound 0 o f → f ≡ longest_item nabc (chars text) → spanned (chars text) o ≡ first_part_of text
+    go None None s e = ap (in_bytes (chars text)) e
+    go None (Some f) s e = absurd s
+    go (Some b) None s e = absurd s
+    go (Some (k, b, n)) (Some (j, m)) s e =
+        let p : k ≡ j = s.1 in
+        let z = s.2 in
+        let q : n ≡ m = omega arith in
+        ap (λ (x : Bool). in_bytes (chars text) (Some (x, n))) p ∙ (ap (λ (x : ℕ). in_bytes (chars text) (Some (j, x))) q ∙ ap (in_bytes (chars text)) e)
 
 -- a character at which the item does not go on
-pub stops_at : (text done bs rest : List ℕ) (s : DescriptorState) (read c : ℕ) (best : Option (Bool × ℕ)) → IsUtf8 text → Reading text done bs s read best
-    → bs ≡ encode c ++ rest → going_on s (class_of_character c) ≡ None → Told text best
-stops_at text done bs rest s read c best u r e g =
+pub stops_at : (text done bs rest : List ℕ) (s : DescriptorState) (read c : ℕ) (best : Option (Bool × ℕ)) → Reading text done bs s read best
+    → bs ≡ encode c ++ rest → going_on s (class_of_character c) ≡ None → best ≡ first_part_of text
+stops_at text done bs rest s read c best r e g =
     let whole = one_next done bs rest (chars text) c r.utf8 e r.whole in
     let all : List ℕ = chars text in
     let p : length done < length all = rw whole (seam done (chars rest) c).0 in
     let q : c ≡ get_or all (length done) c = rw whole (seam done (chars rest) c).1 in
-    subst (Told text) (sym r.bytes) (told text r.longest u (here_stops nabc machine items_read all 0 (length done) c s r.longest p q g r.here))
+    r.bytes ∙ told text r.longest (here_stops nabc machine items_read all 0 (length done) c s r.longest p q g r.here)
 
 -- the end of the text
-pub end_at : (text done bs : List ℕ) (s : DescriptorState) (read : ℕ) (best : Option (Bool × ℕ)) → IsUtf8 text → Reading text done bs s read best
-    → length bs ≡ 0 → Told text best
-end_at text done bs s read best u r e =
+pub end_at : (text done bs : List ℕ) (s : DescriptorState) (read : ℕ) (best : Option (Bool × ℕ)) → Reading text done bs s read best
+    → length bs ≡ 0 → best ≡ first_part_of text
+end_at text done bs s read best r e =
     let same = ap length (all_read done bs (chars text) e r.whole) in
-    subst (Told text) (sym r.bytes) (told text r.longest u (here_end nabc machine (chars text) 0 (length done) s r.longest (omega (arith, same)) r.here))
+    r.bytes ∙ told text r.longest (here_end nabc machine (chars text) 0 (length done) s r.longest (omega (arith, same)) r.here)

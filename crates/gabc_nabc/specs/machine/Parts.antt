@@ -1,13 +1,14 @@
--- The parts of a kept text by the bytes where they begin and end.
-use Rattle.std.specs.Prelude.{◌<◌, ◌≤◌, ℕ, List, Bool, length, take, drop}
-use Rattle.std.specs.Str.{chars, IsUtf8}
-use Rattle.gabc_patterns.specs.Reading.{Longest, IsItem, IsItemOf}
+-- The longest part that begins a text, by its bytes.
+use Rattle.std.specs.Prelude.{ℕ, List, Bool, Option, Some, None, length, take, encode_utf8_all}
+use Rattle.std.specs.Str.{chars}
+use Rattle.gabc_patterns.specs.Function.{longest_item}
 use Rattle.gabc_nabc.specs.Table.{nabc}
 
--- The longest part that begins the text is a space or not, as said, and has that many bytes.
-pub record IsFirstPart (bytes : List ℕ) (space : Bool) (len : ℕ) : Type 0 where
-  pub some : 0 < len
-  pub within : len ≤ length bytes
-  pub utf8 : IsUtf8 (drop len bytes)
-  pub item : IsItemOf nabc space (chars (take len bytes))
-  pub longest : Longest (IsItem nabc) (chars (take len bytes)) (chars (drop len bytes))
+-- a part of so many first characters of a text, with its number of bytes
+abbrev pub in_bytes : List ℕ → Option (Bool × ℕ) → Option (Bool × ℕ)
+in_bytes t None = None
+in_bytes t (Some i) = Some (i.0, length (encode_utf8_all (take i.1 t)))
+
+-- the longest part that begins the text: whether it is a space, and its number of bytes
+abbrev pub first_part_of : List ℕ → Option (Bool × ℕ)
+first_part_of bytes = in_bytes (chars bytes) (longest_item nabc (chars bytes))

@@ -1,15 +1,14 @@
--- A segment has one list of glyphs: never two, and always one.
+-- A segment has one list of glyphs.
 use Rattle.std.proofs.Common.{◌≡◌, ℕ, List, [], ◌∷◌, refl, sym, ap, ◌∙◌, subst, length, get_or, drop, take, map, slice_range, ◌≤◌, ◌+◌, ◌-◌, arith, length-take, length-drop, length-append, ◌++◌, take_at, drop_at, drop-drop}
 use Rattle.gabc_notes.specs.declared.note.Note.{Note}
 use Rattle.gabc_patterns.specs.Items.{FollowOn}
 use Rattle.gabc_patterns.specs.Reading.{ReadsBy}
-use Rattle.gabc_patterns.proofs.ReadingExists.{reading_exists}
 use Rattle.gabc_patterns.proofs.OneReading.{one_reading}
 use Rattle.gabc_neumes.specs.Glyphs.{HasKind, AreGlyphsOf, piece_of, read_as}
 use Rattle.gabc_neumes.specs.Letters.{letters}
 use Rattle.gabc_neumes.specs.declared.glyph.Glyph.{Glyph}
 use Rattle.gabc_neumes.specs.declared.glyph.GlyphKind.{GlyphKind}
-use Rattle.gabc_neumes.proofs.glyphs_of_notes.GlyphsOneByOne.{none_empty, begins}
+use Rattle.gabc_neumes.proofs.glyphs_of_notes.GlyphsOneByOne.{none_empty}
 use Rattle.gabc_neumes.proofs.glyphs_of_notes.MachineReadsNeumes.{kinds_are_one}
 
 follow_le : (gs : List Glyph) (from to : ℕ) → FollowOn from (map piece_of gs) to → from ≤ to
@@ -45,13 +44,12 @@ glyphs_are_one ns gs hs a b =
     same_glyphs ns gs hs 0 (one_reading HasKind none_empty (λ t k j h i. kinds_are_one (letters t) k j h i) (map (read_as ns) gs) (map (read_as ns) hs) ns a.reads b.reads) a.joined b.joined
 
 -- the glyphs that these readings are, from a place on
-placed : ℕ → List (GlyphKind × List Note) → List Glyph
+abbrev pub placed : ℕ → List (GlyphKind × List Note) → List Glyph
 placed from [] = []
 placed from (i ∷ is) = record { kind = i.0; first = from; count = length i.1 } ∷ placed (from + length i.1) is
 
-placed_reads : (ns : List Note) (from : ℕ) (is : List (GlyphKind × List Note)) (t : List Note) → from ≤ length ns → drop from ns ≡ t → ReadsBy HasKind is t
+pub placed_reads : (ns : List Note) (from : ℕ) (is : List (GlyphKind × List Note)) (t : List Note) → from ≤ length ns → drop from ns ≡ t → ReadsBy HasKind is t
     → (map (read_as ns) (placed from is) ≡ is) × FollowOn from (map piece_of (placed from is)) (length ns)
-unfolding placed
 placed_reads ns from [] t l e r = (refl, (let n : length (drop from ns) ≡ 0 = ap length (e ∙ r) in omega (arith, length-drop from ns)))
 placed_reads ns from ((k, u) ∷ is) t l e (rest, f, has, long, reads) =
     let here : drop from ns ≡ u ++ rest = e ∙ f in
@@ -61,9 +59,3 @@ placed_reads ns from ((k, u) ∷ is) t l e (rest, f, has, long, reads) =
     let next : drop (from + length u) ns ≡ rest = sym (drop-drop (length u) from ns) ∙ (ap (λ (w : List Note). drop (length u) w) here ∙ drop_at u rest (length u) refl) in
     let later = placed_reads ns (from + length u) is rest (omega (arith, many, length-append u rest, length-drop from ns)) next reads in
     (ap (λ (w : List Note). (k, w) ∷ map (read_as ns) (placed (from + length u) is)) word ∙ ap (λ (w : List (GlyphKind × List Note)). (k, u) ∷ w) later.0, (refl, later.1))
-
-pub glyphs_exist : (ns : List Note) → (glyphs : List Glyph) × AreGlyphsOf ns glyphs
-glyphs_exist ns =
-    let r = reading_exists HasKind begins ns in
-    let p = placed_reads ns 0 r.0 ns (omega arith) refl r.1 in
-    (placed 0 r.0, record { reads = subst (λ (w : List (GlyphKind × List Note)). ReadsBy HasKind w ns) (sym p.0) r.1; joined = p.1 })

@@ -10,7 +10,6 @@ use Rattle.gabc_notes.specs.Table.{gabc}
 use Rattle.gabc_notes.specs.machine.Class.{class_of_character}
 use Rattle.gabc_notes.specs.machine.ItemMachine.{going_on, kind_at_end}
 use Rattle.gabc_notes.specs.machine.Items.{IsFirstItem}
-use Rattle.gabc_notes.specs.Items.{IsKept}
 use Rattle.gabc_notes.specs.declared.item.ItemKind.{ItemKind}
 use Rattle.gabc_notes.specs.declared.state.ItemState.{ItemState}
 use Rattle.gabc_notes.proofs.machine.MachineReadsTable.{machine, items_read}
@@ -19,7 +18,10 @@ use Rattle.gabc_notes.specs.declared.state.ItemState.TheVariants.{Start}
 use Rattle.gabc_patterns.proofs.BothOfTwoTests.{and_true}
 use Rattle.gabc_patterns.specs.Items.{IsItemAt, ItemSpan}
 use Rattle.gabc_patterns.specs.Reading.{Longest, IsItem, IsItemOf}
-use Rattle.gabc_patterns.proofs.ItemHere.{ItemHere, BestHere, here_start, here_ends, here_on, here_stops, here_end, best_item, best_none}
+use Rattle.gabc_patterns.specs.Function.{longest_item}
+use Rattle.gabc_patterns.proofs.ItemHere.{ItemHere, BestHere, here_start, here_ends, here_on, here_stops, here_end, best_item}
+use Rattle.gabc_patterns.proofs.ItemsOneByOne.{none_found}
+use Rattle.gabc_notes.proofs.grammar.LawsOfKeptTexts.{kinds_are_one}
 
 -- how many bytes the first n characters have
 abbrev pub bytes_to : List ℕ → ℕ → ℕ
@@ -109,7 +111,7 @@ on_at text done bs rest s z read now c best r e g f n =
       here = subst (λ (x : ℕ). ItemHere gabc machine all 0 x z r.longest) l (here_on gabc machine items_read all 0 (length done) c s z r.longest p q g f r.here);
     }
 
-scalars_split : (a b : List ℕ) → scalars (a ++ b) ≡ true → (scalars a ≡ true) × (scalars b ≡ true)
+pub scalars_split : (a b : List ℕ) → scalars (a ++ b) ≡ true → (scalars a ≡ true) × (scalars b ≡ true)
 scalars_split [] b e = (refl, e)
 scalars_split (c ∷ a) b e =
     let f = and_true (scalar c) (scalars (a ++ b)) e in
@@ -119,7 +121,7 @@ scalars_split (c ∷ a) b e =
 -- What a search for the longest item tells.
 pub record Told (text : List ℕ) (best : Option (ItemKind × ℕ)) : Type 0 where
   pub found : IfSome best (λ i. IsFirstItem text i.0 i.1)
-  pub none : IfNone best (0 < length text → ¬ IsKept text)
+  pub none : IfNone best (longest_item gabc (chars text) ≡ None)
 
 first_is : (text : List ℕ) (k : ItemKind) (n : ℕ) → IsUtf8 text → IsItemAt gabc (chars text) 0 k n → IsFirstItem text k (bytes_to (chars text) n)
 first_is text k n u i =
@@ -146,15 +148,8 @@ first_is text k n u i =
       longest = rw (x, y) (subst (λ (u : List ℕ). Longest (IsItem gabc) u b) slice i.longest);
     }
 
-some_chars : (text : List ℕ) → IsUtf8 text → 0 < length text → 0 < length (chars text)
-some_chars text u l = go (chars text) refl
-  where
-    go : (t : List ℕ) → chars text ≡ t → 0 < length t
-    go [] e = absurd (let f = ap length (sym (encodes-chars text u) ∙ ap encodes e) in omega (arith, f))
-    go (c ∷ t) e = omega arith
-
 told : (text : List ℕ) (longest : Option (ItemSpan ItemKind)) → IsUtf8 text → BestHere gabc (chars text) 0 longest → Told text (in_bytes (chars text) longest)
-told text None u h = record { found = tt; none = λ l. best_none gabc refl (chars text) 0 (some_chars text u l) h }
+told text None u h = record { found = tt; none = none_found gabc kinds_are_one (chars text) h }
 told text (Some (k, m, n)) u h = record { found = first_is text k n u (best_item gabc (chars text) 0 (k, m, n) (omega arith) h).1; none = tt }
 
 -- a character at which the item does not go on

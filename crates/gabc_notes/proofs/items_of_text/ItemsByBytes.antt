@@ -1,110 +1,133 @@
 -- The items of a text one after the other, by their bytes.
-use Rattle.std.proofs.Common.{◌≡◌, ℕ, List, [], ◌∷◌, ◌++◌, refl, sym, ap, ◌∙◌, subst, append_assoc, append-nil, take, drop, length, map, slice_range, ◌≤◌, ◌<◌, ◌+◌, ◌-◌, arith, length-drop, drop-drop, take-append-drop, IsUtf8, zero, suc}
+use Rattle.std.proofs.Common.{◌≡◌, ℕ, List, [], ◌∷◌, ◌++◌, refl, sym, ap, ◌∙◌, append_assoc, append-nil, take, drop, length, map, slice_range, ◌≤◌, ◌+◌, ◌-◌, arith, length-drop, drop-drop, take-append-drop, IsUtf8, subst, None}
 use Rattle.std.specs.Str.{chars}
-use Rattle.std.proofs.lemmas.Str.{chars-append, IsUtf8-take, IsCharBoundary-from_drop}
-use Rattle.std.proofs.lemmas.List.{map-append, length-append}
+use Rattle.std.proofs.lemmas.Str.{chars-append, IsUtf8-take, IsCharBoundary-from_drop, encodes-chars, encodes-append, scalars-chars, chars-encodes}
+use Rattle.std.proofs.lemmas.List.{length-append, length-take-le}
+use Rattle.std.proofs.lemmas.List.Elements.{All-nil, All-push}
+use Rattle.std.proofs.Math.Seq.{take-append_seam, drop-append_seam}
+use lib.Utf8.{encodes, scalars}
 use Rattle.gabc_places.specs.BoundedList.{BoundedList, Fits, extended_by}
 use Rattle.gabc_notes.specs.Table.{gabc}
 use Rattle.gabc_notes.specs.machine.Items.{IsFirstItem}
-use Rattle.gabc_notes.specs.Items.{IsKept, AreItemsOf, read_as, piece_of}
+use Rattle.gabc_notes.specs.Items.{IsKept, AreItemsOf, AreWithin, read_as, piece_of, placed_items, items_of}
 use Rattle.gabc_notes.specs.declared.item.Item.{Item}
 use Rattle.gabc_notes.specs.declared.item.ItemKind.{ItemKind}
-use Rattle.gabc_patterns.specs.Reading.{Reads, IsSnippet, IsItemOf, IsItem, Longest}
-use Rattle.gabc_patterns.specs.Items.{FollowOn, ItemSpan}
-use Rattle.gabc_notes.proofs.machine.TextIsReadByCharacter.{chars-none}
-use Rattle.gabc_patterns.proofs.RowsAfterACharacter.{rows_end_to}
-use Rattle.gabc_patterns.proofs.OneReading.{after_first}
+use Rattle.gabc_patterns.specs.Reading.{Reads}
+use Rattle.gabc_patterns.specs.Items.{FollowOn}
+use Rattle.gabc_patterns.specs.Function.{items, longest_item}
+use Rattle.gabc_notes.proofs.grammar.LawsOfKeptTexts.{kinds_are_one}
+use Rattle.gabc_notes.proofs.items_of_text.FirstItemByBytes.{scalars_split}
+use Rattle.gabc_patterns.proofs.ItemsFunctionReads.{items_are}
+use Rattle.gabc_patterns.proofs.ItemsOneByOne.{items_first, items_none}
 
--- The items before at are those; what comes from there on has a reading.
-pub record Listed (text : List ℕ) (items : List Item) (at : ℕ) : Type 0 where
+-- the items of what comes from that byte on
+abbrev pub items_from : List ℕ → ℕ → List Item
+items_from text at = placed_items at (items gabc (chars (drop at text)))
+
+-- The items before at are those; more come from there on.
+pub record Listed (text : List ℕ) (listed : List Item) (at : ℕ) : Type 0 where
   pub fits : at ≤ length text
   pub utf8 : IsUtf8 (drop at text)
-  pub rest : IsKept (drop at text)
-  pub reads : (later : List (ItemKind × List ℕ)) → Reads gabc later (chars (drop at text)) → Reads gabc (map (read_as text) items ++ later) (chars text)
-  pub joined : FollowOn 0 (map piece_of items) at
-  pub few : length items ≤ at
+  pub whole : items_of text ≡ listed ++ items_from text at
+  pub within : AreWithin text listed
+  pub few : length listed ≤ at
 
 -- before the first item
-pub listed_first : (text : List ℕ) → IsUtf8 text → IsKept text → Listed text [] 0
-listed_first text u k = record { fits = omega arith; utf8 = u; rest = k; reads = λ later r. r; joined = refl; few = omega arith }
+pub listed_first : (text : List ℕ) → IsUtf8 text → Listed text [] 0
+listed_first text u = record { fits = omega arith; utf8 = u; whole = refl; within = All-nil (λ (i : Item). (i.span.from ≤ i.span.to) × (i.span.to ≤ length text)); few = omega arith }
 
-follow_push : (from at : ℕ) (is : List (ItemSpan ItemKind)) (i : ItemSpan ItemKind) → FollowOn from is at → i.1 ≡ at → FollowOn from (is ++ i ∷ []) i.2
-follow_push from at [] i h e = (e ∙ sym h, refl)
-follow_push from at (j ∷ is) i h e = (h.0, follow_push j.2 at is i h.1 e)
+-- an item of that kind, and of so many bytes
+abbrev pub item_at : ItemKind → ℕ → ℕ → Item
+item_at k at len = record { kind = k; span = record { from = at; to = at + len } }
 
-none_empty : (k : ItemKind) → ¬ IsItemOf gabc k []
-none_empty k h = (let f = rows_end_to gabc k h in absurd (cc))
-
-none_left : (a b : List ℕ) → [] ≡ a ++ b → b ≡ []
-none_left [] b e = sym e
-none_left (c ∷ a) b e = absurd (cc)
-
-rest_after : (bytes a b : List ℕ) → chars bytes ≡ a ++ b → IsKept bytes → Longest (IsItem gabc) a b → IsSnippet gabc b
-rest_after bytes a b e k l = go (a ++ b) refl (subst (IsSnippet gabc) e k)
-  where
-    go : (t : List ℕ) → t ≡ a ++ b → IsSnippet gabc t → IsSnippet gabc b
-    go [] f s = ([], none_left a b f)
-    go (c ∷ t) f s = after_first (IsItemOf gabc) none_empty c t a b s.0 s.1 f l
+-- the first of the items from a byte on, and those behind it
+first_from : (text : List ℕ) (at len : ℕ) (k : ItemKind) → IsUtf8 (drop at text) → IsFirstItem (drop at text) k len
+    → items_from text at ≡ item_at k at len ∷ items_from text (at + len)
+first_from text at len k u h =
+    let here : List ℕ = drop at text in
+    let within = h.within in
+    let boundary = IsCharBoundary-from_drop here len within h.utf8 in
+    let v : IsUtf8 (take len here) = IsUtf8-take here len u boundary in
+    let x : List ℕ = chars (take len here) in
+    let y : List ℕ = chars (drop len here) in
+    let split : chars here ≡ x ++ y = ap chars (sym (take-append-drop len here)) ∙ chars-append (take len here) (drop len here) v in
+    let many : length (encodes x) ≡ len = ap length (encodes-chars (take len here) v) ∙ length-take-le len here within in
+    let next : drop len here ≡ drop (at + len) text = drop-drop len at text in
+    ap (λ (t : List ℕ). placed_items at (items gabc t)) split
+    ∙ (ap (placed_items at) (items_first gabc refl kinds_are_one k x y h.item h.longest)
+    ∙ (ap (λ (n : ℕ). item_at k at n ∷ placed_items (at + n) (items gabc y)) many
+    ∙ ap (λ (t : List ℕ). item_at k at len ∷ placed_items (at + len) (items gabc (chars t))) next))
 
 -- an item more
-pub listed_push : (text : List ℕ) (items : List Item) (at len : ℕ) (i : Item) → i.span.from ≡ at → i.span.to ≡ at + len → IsFirstItem (drop at text) i.kind len
-    → Listed text items at → Listed text (items ++ i ∷ []) (at + len)
-listed_push text items at len i e f h s =
+pub listed_push : (text : List ℕ) (listed : List Item) (at len : ℕ) (k : ItemKind) → IsFirstItem (drop at text) k len
+    → Listed text listed at → Listed text (listed ++ item_at k at len ∷ []) (at + len)
+listed_push text listed at len k h s =
     let fits = s.fits in
     let some = h.some in
     let within = h.within in
-    let here : List ℕ = drop at text in
-    let next : drop (at + len) text ≡ drop len here = sym (drop-drop len at text) in
-    let boundary = IsCharBoundary-from_drop here len within h.utf8 in
-    let u : IsUtf8 (take len here) = IsUtf8-take here len s.utf8 boundary in
-    let split : chars here ≡ chars (take len here) ++ chars (drop len here) = ap chars (sym (take-append-drop len here)) ∙ chars-append (take len here) (drop len here) u in
-    let n : at + len - at ≡ len = omega arith in
-    let facts : read_as text i ≡ (i.kind, chars (take len here)) =
-    ap (λ (m : ℕ). (i.kind, chars (slice_range text m i.span.to))) e ∙ ap (λ (m : ℕ). (i.kind, chars (slice_range text at m))) f ∙ ap (λ (m : ℕ). (i.kind, chars (take m here))) n in
     let few = s.few in
+    let i : Item = item_at k at len in
     record {
       fits = omega (arith, length-drop at text);
-      utf8 = rw next h.utf8;
-      rest = rw next (rest_after here (chars (take len here)) (chars (drop len here)) split s.rest h.longest);
-      reads = λ later r.
-          subst (λ (x : List (ItemKind × List ℕ)). Reads gabc x (chars text))
-          (ap (λ (x : ItemKind × List ℕ). map (read_as text) items ++ x ∷ later) (sym facts) ∙ sym (append_assoc (map (read_as text) items) (read_as text i ∷ []) later) ∙ ap (λ (x : List (ItemKind × List ℕ)). x ++ later) (sym (map-append (read_as text) items (i ∷ []))))
-          (s.reads ((i.kind, chars (take len here)) ∷ later) (chars (drop len here), split, h.item, h.longest, subst (λ (x : List ℕ). Reads gabc later (chars x)) next r));
-      joined = rw (map-append piece_of items (i ∷ [])) (subst (FollowOn 0 (map piece_of items ++ piece_of i ∷ [])) f (follow_push 0 at (map piece_of items) (piece_of i) s.joined e));
-      few = omega (arith, length-append items (i ∷ []), few);
+      utf8 = subst IsUtf8 (drop-drop len at text) h.utf8;
+      whole = s.whole ∙ (ap (λ (x : List Item). listed ++ x) (first_from text at len k s.utf8 h) ∙ sym (append_assoc listed (i ∷ []) (items_from text (at + len))));
+      within = All-push (λ (j : Item). (j.span.from ≤ j.span.to) × (j.span.to ≤ length text)) listed i s.within (omega arith, omega (arith, length-drop at text));
+      few = omega (arith, length-append listed (i ∷ []));
     }
 
 -- after the last item
-pub listed_end : (text : List ℕ) (items : List Item) (at : ℕ) → length (drop at text) ≡ 0 → Listed text items at → AreItemsOf text items
-listed_end text items at l s =
-    let fits = s.fits in
-    let same : at ≡ length text = omega (arith, length-drop at text) in
-    record {
-      reads = subst (λ (x : List (ItemKind × List ℕ)). Reads gabc x (chars text)) (append-nil (map (read_as text) items)) (s.reads [] (chars-none (drop at text) l));
-      joined = subst (FollowOn 0 (map piece_of items)) same s.joined;
-    }
+pub listed_end : (text : List ℕ) (listed : List Item) (at : ℕ) → longest_item gabc (chars (drop at text)) ≡ None → Listed text listed at → listed ≡ items_of text
+listed_end text listed at e s =
+    sym (s.whole ∙ (ap (λ (x : List (ItemKind × List ℕ)). listed ++ placed_items at x) (items_none gabc (chars (drop at text)) e) ∙ append-nil listed))
 
 -- the first item of what is left, whatever names it
 pub first_of_rest : (bytes rest : List ℕ) (k : ItemKind) (len : ℕ) → bytes ≡ rest → IsFirstItem bytes k len → IsFirstItem rest k len
 first_of_rest bytes rest k len e h = subst (λ (x : List ℕ). IsFirstItem x k len) e h
 
--- what has a reading and no first item is empty
-pub none_left_of : (bytes rest : List ℕ) → bytes ≡ rest → IsKept rest → (0 < length bytes → ¬ IsKept bytes) → length rest ≡ 0
-none_left_of bytes rest e k h = go (length bytes) refl
-  where
-    go : (n : ℕ) → length bytes ≡ n → length rest ≡ 0
-    go zero f = ap length (sym e) ∙ f
-    go (suc n) f = absurd (h (omega arith) (subst IsKept (sym e) k))
+-- what has no first item has none, whatever names it
+pub none_left_of : (bytes rest : List ℕ) → bytes ≡ rest → longest_item gabc (chars bytes) ≡ None → longest_item gabc (chars rest) ≡ None
+none_left_of bytes rest e h = subst (λ (x : List ℕ). longest_item gabc (chars x) ≡ None) e h
 
 -- an item more is added
-pub more_added : (r : BoundedList Item) (items : List Item) (i : Item) → extended_by (extended_by r items) (i ∷ []) ≡ extended_by r (items ++ i ∷ [])
-more_added r items i = ap (λ (x : List Item). record r { items = x }) (append_assoc r.items items (i ∷ []))
+pub more_added : (r : BoundedList Item) (listed : List Item) (i : Item) → extended_by (extended_by r listed) (i ∷ []) ≡ extended_by r (listed ++ i ∷ [])
+more_added r listed i = ap (λ (x : List Item). record r { items = x }) (append_assoc r.items listed (i ∷ []))
 
 -- where an item is left of the text, there is room for it
-pub room_for : (text : List ℕ) (items : List Item) (at : ℕ) (k : ItemKind) (len : ℕ) (r : BoundedList Item) → Listed text items at → IsFirstItem (drop at text) k len
-    → Fits r (length text) → Fits (extended_by r items) 1
-room_for text items at k len r s h room =
+pub room_for : (text : List ℕ) (listed : List Item) (at : ℕ) (k : ItemKind) (len : ℕ) (r : BoundedList Item) → Listed text listed at → IsFirstItem (drop at text) k len
+    → Fits r (length text) → Fits (extended_by r listed) 1
+room_for text listed at k len r s h room =
     let few = s.few in
     let some = h.some in
     let within = h.within in
-    omega (arith, length-drop at text, length-append r.items items, few, some, within, room)
+    omega (arith, length-drop at text, length-append r.items listed, few, some, within, room)
+
+-- ---- the items of a snippet read it
+
+placed_reads : (text : List ℕ) (at : ℕ) (is : List (ItemKind × List ℕ)) (t : List ℕ) → at ≤ length text → IsUtf8 (drop at text) → chars (drop at text) ≡ t → Reads gabc is t
+    → (map (read_as text) (placed_items at is) ≡ is) × FollowOn at (map piece_of (placed_items at is)) (length text)
+placed_reads text at [] t l u e r =
+    let none : length (drop at text) ≡ 0 = ap length (sym (encodes-chars (drop at text) u) ∙ ap encodes (e ∙ r)) in
+    (refl, omega (arith, length-drop at text))
+placed_reads text at ((k, w) ∷ is) t l u e (rest, f, has, long, reads) =
+    let here : List ℕ = drop at text in
+    let split : chars here ≡ w ++ rest = e ∙ f in
+    let s = scalars_split w rest (ap scalars (sym split) ∙ scalars-chars here u) in
+    let bytes : here ≡ encodes w ++ encodes rest = sym (encodes-chars here u) ∙ (ap encodes split ∙ encodes-append w rest) in
+    let many : ℕ = length (encodes w) in
+    let size : length here ≡ length (encodes w) + length (encodes rest) = ap length bytes ∙ length-append (encodes w) (encodes rest) in
+    let n : at + many - at ≡ many = omega arith in
+    let word : slice_range text at (at + many) ≡ encodes w = ap (λ (m : ℕ). take m here) n ∙ (ap (take many) bytes ∙ take-append_seam (encodes w) (encodes rest)) in
+    let next : drop (at + many) text ≡ encodes rest = sym (drop-drop many at text) ∙ (ap (drop many) bytes ∙ drop-append_seam (encodes w) (encodes rest)) in
+    let v : IsUtf8 (drop (at + many) text) = rw next (rest, (s.1, refl)) in
+    let later = placed_reads text (at + many) is rest (omega (arith, length-drop at text)) v (ap chars next ∙ chars-encodes rest s.1) reads in (
+      ap (λ (c : List ℕ). (k, chars c) ∷ map (read_as text) (placed_items (at + many) is)) word
+          ∙ (ap (λ (c : List ℕ). (k, c) ∷ map (read_as text) (placed_items (at + many) is)) (chars-encodes w s.0)
+          ∙ ap (λ (c : List (ItemKind × List ℕ)). (k, w) ∷ c) later.0),
+      (refl, later.1),
+    )
+
+pub items_read_text : (text : List ℕ) → IsUtf8 text → IsKept text → AreItemsOf text (items_of text)
+items_read_text text u k =
+    let r : Reads gabc (items gabc (chars text)) (chars text) = items_are gabc refl (chars text) k in
+    let p = placed_reads text 0 (items gabc (chars text)) (chars text) (omega arith) u refl r in
+    record { reads = subst (λ (x : List (ItemKind × List ℕ)). Reads gabc x (chars text)) (sym p.0) r; joined = p.1 }

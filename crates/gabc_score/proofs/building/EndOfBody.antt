@@ -1,24 +1,18 @@
 -- The end of a body: the last text, the fault and the findings of the end.
-use Rattle.std.proofs.Common.{◌≡◌, ℕ, ◌+◌, ◌-◌, ◌<◌, ◌^◌, ◌||◌, ◌&&◌, not, min, nat_lt, Bool, true, false, cond, List, [], ◌∷◌, ◌++◌, length, take, Option, Some, None, refl, sym, ap, ◌∙◌, arith, append_assoc, append-nil}
+use Rattle.std.proofs.Common.{◌≡◌, ℕ, ◌+◌, ◌-◌, ◌<◌, ◌^◌, ◌||◌, ◌&&◌, not, min, nat_lt, Bool, true, false, cond, List, [], ◌∷◌, ◌++◌, Option, Some, None, refl, sym, ap, ◌∙◌, arith}
 use Rattle.std.specs.List.{list_any}
 use Rattle.std.specs.Option.{option_map}
 use Rattle.gabc_places.specs.declared.code.Code.TheVariants.{F5, F7}
-use Rattle.gabc_places.specs.declared.code.Finding.{Finding}
-use Rattle.gabc_places.specs.declared.code.Fault.{Fault}
 use Rattle.gabc_places.specs.declared.limits.Limits.{Limits}
 use Rattle.gabc_places.specs.declared.place.Place.{Place}
 use Rattle.gabc_score.specs.declared.events.BodyEvent.{BodyEvent}
-use Rattle.gabc_score.specs.declared.body_result.BodyResult.{BodyResult}
 use Rattle.gabc_score.specs.Syllable.{UnplacedSyllable, since_close, kept_of, is_eu, is_nlba, all_syllables}
-use Rattle.gabc_score.specs.Canonical.{canonicals, canonical_bytes, with_positions}
-use Rattle.gabc_score.specs.Body.{is_longer, is_none, has_text, events_onto, code_by, findings_of, cut_of, has_last, last_syllable, all_units, fault_at, found_at_end, fault_of_end, result_by_fault}
+use Rattle.gabc_score.specs.Canonical.{canonicals, canonical_bytes}
+use Rattle.gabc_score.specs.Body.{is_longer, is_none, code_by, cut_of, has_last, last_syllable, all_units, fault_at, fault_of_end}
 use Rattle.gabc_score.specs.machine.Gatherer.{Gathered, with_syllable, with_no_notes, with_last}
-use Rattle.gabc_score.specs.machine.BodyBuilder.{BuiltBody, with_all, code_in, result_at, end_fault_by, end_fault, end_findings, past_end, end_of}
+use Rattle.gabc_score.specs.machine.BodyBuilder.{code_in, end_fault_by, end_fault}
 use Rattle.gabc_score.proofs.building.GathererHoldsDefinition.{gathered, over_by, any_push, made_is}
-use Rattle.gabc_score.proofs.building.EventsOfOnePoint.{gathered_all, found_all, code_is, lt_total, made_first}
-
-abbrev body_with : List UnplacedSyllable → List Finding → Option Fault → BodyResult
-body_with ms fs fault = record { syllables = with_positions ms; findings = fs; fault = fault }
+use Rattle.gabc_score.proofs.building.EventsOfOnePoint.{code_is, lt_total}
 
 -- a kept text that is a syllable's counts there
 over_shuffle : (a k c n : Bool) → n ≡ false → (n || ((a || (k || false)) || c)) ≡ (k || ((a || (k || false)) || c))
@@ -81,58 +75,3 @@ module _ (limits : Limits) (head : ℕ) (small : limits.syllable < 2 ^ 64 - 1) (
   fault_is at =
       ap (end_fault_by limits at (with_last holds)) (cut_by_last (has_last all))
       ∙ fault_by_cut at (with_last holds) (code_by_last (has_last all)) (cut_of all)
-
-  findings_is : (at : Place) (found : List Finding) (b : Bool) → b ≡ has_last all
-      → found ++ findings_of all ++ end_findings at b ((last_by b).eu || (last_by b).nlba) ≡ found ++ (findings_of all ++ found_at_end at all)
-  findings_is at found b h =
-      append_assoc found (findings_of all) (end_findings at b ((last_by b).eu || (last_by b).nlba))
-      ∙ ap (λ o. found ++ (findings_of all ++ end_findings at b o)) (open_by_last b)
-      ∙ ap (λ c. found ++ (findings_of all ++ end_findings at c (is_eu all || is_nlba all))) h
-
-  pub ended_open : (at : Place) (found : List Finding)
-      → body_with (with_last holds).made (found ++ findings_of all ++ end_findings at (has_last all) ((with_last holds).eu || (with_last holds).nlba)) None
-      ≡ body_with (all_units all) (found ++ (findings_of all ++ found_at_end at all)) None
-  ended_open at found =
-      ap (λ ms. body_with ms (found ++ findings_of all ++ end_findings at (has_last all) ((with_last holds).eu || (with_last holds).nlba)) None) (made_by_last (has_last all))
-      ∙ ap (λ fs. body_with (all_units all) fs None) (findings_is at found (has_last all) refl)
-
--- what was made before the end
-units_first_by : (now before : List BodyEvent) (b : Bool)
-    → take (length (all_syllables before)) (cond b (all_syllables (events_onto now before) ++ last_syllable (events_onto now before) ∷ []) (all_syllables (events_onto now before))) ≡ all_syllables before
-units_first_by now before true = made_first now before (last_syllable (events_onto now before) ∷ [])
-units_first_by now before false = ap (take (length (all_syllables before))) (sym (append-nil (all_syllables (events_onto now before)))) ∙ made_first now before []
-
--- what the builder holds after the points at which this was emitted
-abbrev pub holding : Limits → ℕ → List Finding → List BodyEvent → BuiltBody
-holding limits head found before = record {
-  gathered = gathered limits.syllable head before;
-  found = found ++ findings_of before;
-  room = record { items = []; limit = 8 };
-}
-
-module _ (limits : Limits) (head : ℕ) (found : List Finding) (small : limits.syllable < 2 ^ 64 - 1) (low : limits.input < 2 ^ 64 - 1) (at : Place) (before now : List BodyEvent) where
-  abbrev s : BuiltBody
-  s = holding limits head found before
-
-  abbrev all : List BodyEvent
-  all = events_onto now before
-
-  emitted_is : with_all s.gathered now ≡ gathered limits.syllable head all
-  emitted_is = gathered_all limits.syllable head before small now
-
-  fault_of_all : end_fault limits at (with_last (with_all s.gathered now)) ≡ fault_of_end limits head at all (cut_of all)
-  fault_of_all = ap (λ g. end_fault limits at (with_last g)) emitted_is ∙ fault_is limits head small low all at
-
-  end_by : (o : Option Fault) → result_at (past_end at s now o) o ≡ result_by_fault found at before all o
-  end_by (Some fault) =
-      ap (λ g. body_with (take (length (all_syllables before)) (with_last g).made) (found ++ findings_of before) (Some fault)) emitted_is
-      ∙ ap (λ (ms : List UnplacedSyllable). body_with ms (found ++ findings_of before) (Some fault))
-      (ap (take (length (all_syllables before))) (made_by_last limits head small low all (has_last all)) ∙ units_first_by now before (has_last all))
-  end_by None =
-      ap (λ g. body_with (with_last g).made ((found ++ findings_of before) ++ findings_of (events_onto now []) ++ end_findings at (has_text g.builder.view) ((with_last g).eu || (with_last g).nlba)) None) emitted_is
-      ∙ ap (λ fs. body_with (with_last (gathered limits.syllable head all)).made (fs ++ end_findings at (has_last all) ((with_last (gathered limits.syllable head all)).eu || (with_last (gathered limits.syllable head all)).nlba)) None)
-      (found_all found before now)
-      ∙ ended_open limits head small low all at found
-
-  pub end_is : end_of limits at s now ≡ result_by_fault found at before all (fault_of_end limits head at all (cut_of all))
-  end_is = ap (λ o. result_at (past_end at s now o) o) fault_of_all ∙ end_by (fault_of_end limits head at all (cut_of all))

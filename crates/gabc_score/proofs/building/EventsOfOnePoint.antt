@@ -55,9 +55,6 @@ found_on before (t ∷ now) =
     ∙ append_assoc (findings_of before) (findings_with [] t) (findings_of (events_onto now []))
     ∙ ap (λ fs. findings_of before ++ fs) (sym (found_on (t ∷ []) now))
 
-pub found_all : (found : List Finding) (before now : List BodyEvent) → (found ++ findings_of before) ++ findings_of (events_onto now []) ≡ found ++ findings_of (events_onto now before)
-found_all found before now = append_assoc found (findings_of before) (findings_of (events_onto now [])) ∙ ap (λ fs. found ++ fs) (sym (found_on before now))
-
 -- what is found among the events of a part, one after the other
 found_then : (xs : List BodyEvent) (t : BodyEvent) → findings_of (events_onto xs []) ++ findings_of (t ∷ []) ≡ findings_of (events_onto (xs ++ t ∷ []) [])
 found_then xs t = sym (found_on (events_onto xs []) (t ∷ [])) ∙ ap findings_of (sym (onto_append xs (t ∷ []) []))
@@ -98,9 +95,3 @@ pub made_before : (now before : List BodyEvent) → take (length (all_syllables 
 made_before now before =
     let more = made_after now before in
     ap (take (length (all_syllables before))) more.1 ∙ take_at (all_syllables before) more.0 (length (all_syllables before)) refl
-
-pub made_first : (now before : List BodyEvent) (more : List UnplacedSyllable) → take (length (all_syllables before)) (all_syllables (events_onto now before) ++ more) ≡ all_syllables before
-made_first now before more =
-    let first = made_after now before in
-    ap (take (length (all_syllables before))) (ap (λ (ms : List UnplacedSyllable). ms ++ more) first.1 ∙ append_assoc (all_syllables before) first.0 more)
-    ∙ take_at (all_syllables before) (first.0 ++ more) (length (all_syllables before)) refl

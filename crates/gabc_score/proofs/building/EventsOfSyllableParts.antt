@@ -2,7 +2,7 @@
 use Rattle.std.proofs.Common.{◌≡◌, ℕ, List, [], ◌∷◌, ◌++◌, map, refl, sym, ap, ◌∙◌, append_assoc, append-nil}
 use lib.Utf8.{encode, encodes}
 use Rattle.gabc_places.specs.declared.place.Place.{Place}
-use Rattle.gabc_text.specs.declared.view.TextView.{TextView}
+use Rattle.gabc_text.specs.TextView.{ViewContent}
 use Rattle.gabc_text.specs.declared.stage.TextEvent.{TextEvent}
 use Rattle.gabc_text.specs.declared.stage.TextEvent.TheVariants as text
 use Rattle.gabc_text.specs.BuiltText.{BuiltText as Gathered, with_events, with_event, with_part}
@@ -23,7 +23,7 @@ onto_append (x ∷ xs) ys before = onto_append xs ys (x ∷ before)
 
 -- what the events of a syllable come to
 pub record Sum : Type 0 where
-  pub view : TextView
+  pub view : ViewContent
   pub ended : List ℕ
   pub part : List ℕ
   pub snippets : List Snippet

@@ -5,7 +5,7 @@ use lib.Utf8.{encode}
 use Rattle.std.proofs.Math.Seq.{take-append-add, drop-append-add}
 use Rattle.std.proofs.lemmas.List.Sums.{sum_by_push}
 use Rattle.std.proofs.lemmas.List.Folds.{list_any-append}
-use Rattle.gabc_text.specs.declared.view.TextView.{TextView}
+use Rattle.gabc_text.specs.TextView.{ViewContent}
 use Rattle.gabc_text.specs.declared.stage.TextPart.TheVariants as part
 use Rattle.gabc_text.specs.declared.stage.TextEnd.TheVariants as text_end
 use Rattle.gabc_text.specs.declared.stage.TextEvent.TheVariants as text
@@ -105,16 +105,16 @@ gathered limit head before =
       cut = cut_of before;
     }
 
-abbrev open_with : List ℕ → List ℕ → TextView → List Snippet → OpenSyllable
+abbrev open_with : List ℕ → List ℕ → ViewContent → List Snippet → OpenSyllable
 open_with ended part view snippets = record { kept = ended ++ part; from = length ended; view = view; snippets = snippets }
 
-marked_is : (ended part mark : List ℕ) (view : TextView) (snippets : List Snippet)
+marked_is : (ended part mark : List ℕ) (view : ViewContent) (snippets : List Snippet)
     → record { kept = (ended ++ part) ++ mark; from = length ((ended ++ part) ++ mark); view = view; snippets = snippets } ≡ open_with (ended ++ (part ++ mark)) [] view snippets
 marked_is ended part mark view snippets =
     ap (λ k. record { kept = k; from = length k; view = view; snippets = snippets }) (append_assoc ended part mark)
     ∙ ap (λ k. record { kept = k; from = length (ended ++ (part ++ mark)); view = view; snippets = snippets }) (sym (append-nil (ended ++ (part ++ mark))))
 
-snippet_is : (ended part : List ℕ) (view : TextView) (snippets : List Snippet) (line count mark : ℕ)
+snippet_is : (ended part : List ℕ) (view : ViewContent) (snippets : List Snippet) (line count mark : ℕ)
     → past_snippet (open_with ended part view snippets) line count mark
     ≡ open_with (ended ++ (prefix_of count part ++ encode_utf8 mark)) [] view (snippets ++ snippet_at line (length ended) (prefix_of count part) ∷ [])
 snippet_is ended part view snippets line count mark =

@@ -1,5 +1,5 @@
 -- What a score finds is an error or a warning, and no fault.
-use Rattle.std.proofs.Common.{◌≡◌, ℕ, ◌+◌, ◌<◌, ◌==◌, ◌&&◌, ◌||◌, nat_lt, not, List, [], ◌∷◌, ◌++◌, map, Bool, true, false, cond, length, codes, if◌then◌else◌, Option, Some, None, Result, Ok, Err, refl, sym, ap, subst, ◌∙◌, arith}
+use Rattle.std.proofs.Common.{◌≡◌, ℕ, ◌+◌, ◌<◌, ◌==◌, ◌&&◌, nat_lt, not, List, [], ◌∷◌, ◌++◌, map, Bool, true, false, cond, length, codes, if◌then◌else◌, Option, Some, None, Result, Ok, Err, sym, subst, arith}
 use Rattle.std.specs.Prelude.{◌≢◌, filter}
 use Rattle.std.specs.List.{All, list_any}
 use Rattle.std.proofs.lemmas.List.Elements.{All-nil, All-cons, All-head, All-tail}
@@ -9,7 +9,6 @@ use Rattle.gabc_places.specs.declared.code.Code.{Code}
 use Rattle.gabc_places.specs.declared.code.Code.TheVariants.{E1, E2, E3, E4, E5, E6, W1, W2, W3, W4, W5, W6, W7, W8, W9, W10, W11, F1, F2, F3, F4, F5, F6, F7}
 use Rattle.gabc_places.specs.declared.severity.Severity.TheVariants.{Fatal}
 use Rattle.gabc_places.specs.declared.code.Finding.{Finding}
-use Rattle.gabc_places.specs.declared.code.Fault.{Fault}
 use Rattle.gabc_places.specs.declared.limits.Limits.{Limits}
 use Rattle.gabc_places.specs.Code.{severity_of, rank_of}
 use Rattle.gabc_places.specs.Findings.{Known, findings_before, Stop, earliest}
@@ -33,16 +32,13 @@ use Rattle.gabc_nabc.specs.Events as nabc
 use Rattle.gabc_nabc.specs.Table.{nabc as nabc_grammar}
 use Rattle.gabc_notes.specs.Table.{gabc}
 use Rattle.gabc_patterns.specs.Derivative.{is_snippet, is_viable}
-use Rattle.gabc_score.specs.declared.events.BodyEvent.{BodyEvent}
 use Rattle.gabc_score.specs.declared.events.BodyEvent.TheVariants as event
 use Rattle.gabc_score.specs.declared.ending.InputEnding.{InputEnding}
-use Rattle.gabc_score.specs.declared.ending.InputEnding.TheVariants.{Whole, Broken, At}
-use Rattle.gabc_score.specs.Syllable.{is_eu, is_nlba}
-use Rattle.gabc_score.specs.Body.{events_onto, findings_of, EventsToStop, result_by, result_at_end, result_by_fault, result_whole, result_stopped, found_at_end, has_last, fault_of_end, cut_of}
 use Rattle.gabc_score.specs.Events.{PartAhead, InComment, InText, InNotes, is_text_end, is_next, is_close, note_event, first_list, other_lists, events_in, events_at_end, texts_by_definition, text_from, snippet_from, next_line, behind_mark, part_at, part_behind, events_from, body_events}
 use Rattle.gabc_score.specs.Score.{macros_of, heads_text, behind_heads, score_of, score_by}
-use Rattle.gabc_score.proofs.order.FindingsOfParts.{found, found_append, found_onto, text_found_append}
-use Rattle.gabc_score.proofs.order.FindingsOfScore.{IsFront, reached_prefix}
+use Rattle.gabc_score.proofs.order.FindingsOfParts.{found, found_append, text_found_append}
+use Rattle.gabc_score.proofs.order.FindingsOfReading.{read_finds}
+use Rattle.gabc_score.proofs.order.FindingsOfScore.{reached_prefix}
 
 abbrev pub IsNoFault : Finding → Type 0
 IsNoFault f = severity_of f.code ≢ Fatal
@@ -312,48 +308,19 @@ module _ (low : (at : Place) (t : List ℕ) → All (λ (f : Finding). rank_of f
       subst NoFaults (sym (found_append (events_in now) (concat_of (events_from texts_by_definition lines macros (part_behind texts_by_definition lines macros now x xs) xs))))
       (both (found (events_in now)) _ (part_emits now s) (events_finds (part_behind texts_by_definition lines macros now x xs) xs (behind_finds now x xs s)))
 
--- ---- of a body
-
-module _ (limits : Limits) (head : ℕ) (fs : List Finding) (at : Place) (ts : List BodyEvent) (heads : NoFaults fs) (body : NoFaults (found ts)) where
-  stopped_finds : (prefix more before : List BodyEvent) (fault : Option Fault) → ts ≡ prefix ++ more → before ≡ events_onto prefix [] → NoFaults (result_stopped fs before fault).findings
-  stopped_finds prefix more before fault e f =
-      both fs (findings_of before) heads
-      (subst NoFaults (sym (ap findings_of f ∙ found_onto prefix [])) (first (found prefix) (found more) (subst NoFaults (ap found e ∙ found_append prefix more) body)))
-
-  whole_finds : (all : List BodyEvent) → all ≡ events_onto ts [] → NoFaults (result_whole fs at all).findings
-  whole_finds all e =
-      both fs (findings_of all ++ found_at_end at all) heads
-      (both (findings_of all) (found_at_end at all) (subst NoFaults (sym (ap findings_of e ∙ found_onto ts [])) body)
-      (both _ _ (by_cond (has_last all) _ _ (λ f. cc, tt) tt) (by_cond (is_eu all || is_nlba all) _ _ (λ f. cc, tt) tt)))
-
-  read_finds : (ending : InputEnding) (r : EventsToStop) → IsFront [] ts r → NoFaults (result_by limits head fs at ending r.before r.last r.fault).findings
-  read_finds ending r i = by r.fault i.last
-    where
-      ended : (o : Option Fault) → events_onto r.last r.before ≡ events_onto ts [] → NoFaults (result_by_fault fs at r.before (events_onto r.last r.before) o).findings
-      ended (Some fault) e = stopped_finds i.prefix i.more r.before (Some fault) i.all i.told
-      ended None e = whole_finds (events_onto r.last r.before) e
-
-      at_end : (how : InputEnding) → events_onto r.last r.before ≡ events_onto ts [] → NoFaults (result_at_end limits head fs at how r.before (events_onto r.last r.before)).findings
-      at_end Whole e = ended (fault_of_end limits head at (events_onto r.last r.before) (cut_of (events_onto r.last r.before))) e
-      at_end Broken e = stopped_finds i.prefix i.more r.before None i.all i.told
-      at_end (At fault) e = stopped_finds i.prefix i.more r.before (Some fault) i.all i.told
-
-      by : (o : Option Fault) → (o ≡ None → events_onto r.last r.before ≡ events_onto ts []) → NoFaults (result_by limits head fs at ending r.before r.last o).findings
-      by (Some fault) e = stopped_finds i.prefix i.more r.before (Some fault) i.all i.told
-      by None e = at_end ending (e refl)
-
 -- ---- of a score
 
 module _ (low : (at : Place) (t : List ℕ) → All (λ (f : Finding). rank_of f.code < rank_of W9) (findings at t))
     (all : (at : Place) (t : List ℕ) → found_in (concat_of (events_by_point at t)) ≡ findings at t) where
-  score_finds : (limits : Limits) (ending : InputEnding) (t : List ℕ) (r : Result Heads HeadFault) → NoFaults (found_in_heads r) → NoFaults (score_by limits ending t r).findings
-  score_finds limits ending t (Err stop) h = h
+  score_finds : (limits : Limits) (ending : InputEnding) (t : List ℕ) (r : Result Heads HeadFault) → NoFaults (found_in_heads r) → All IsNoFault (score_by limits ending t r).findings
+  score_finds limits ending t (Err stop) h = to_all stop.findings h
   score_finds limits ending t (Ok heads) h =
       let xs = placed_characters_behind (heads_text t) (behind_heads t) in
       let lists = body_events (nabc_lines_of heads.book) (macros_of heads.book) xs in
-      read_finds limits _ heads.findings (place_after t) (concat_of lists) h (events_finds low all (nabc_lines_of heads.book) (macros_of heads.book) InComment xs tt)
+      read_finds IsNoFault (λ p e. cc) (λ p e. cc) limits _ heads.findings (place_after t) (concat_of lists) (to_all heads.findings h)
+      (to_all (found (concat_of lists)) (events_finds low all (nabc_lines_of heads.book) (macros_of heads.book) InComment xs tt))
       ending _ (reached_prefix limits _ [] xs lists)
 
   -- no finding of a score is a fault
   pub none_is_a_fault : (limits : Limits) (ending : InputEnding) (t : List ℕ) → All (λ (f : Finding). severity_of f.code ≢ Fatal) (score_of limits ending t).findings
-  none_is_a_fault limits ending t = to_all _ (score_finds limits ending t (heads_of limits t) (heads_found_by t (earliest (head_stops limits t))))
+  none_is_a_fault limits ending t = score_finds limits ending t (heads_of limits t) (heads_found_by t (earliest (head_stops limits t)))

@@ -1,7 +1,9 @@
 -- What a stage emits that holds one whole syllable is what the definition says.
-use Rattle.std.proofs.Common.{◌≡◌, ℕ, ◌+◌, ◌-◌, ◌<◌, ◌≤◌, ◌^◌, ◌||◌, nat_lt, List, [], ◌∷◌, ◌++◌, length, take, drop, Option, Some, None, option_map, refl, ap, subst, ◌∙◌, arith, length-append, length-drop}
+use Rattle.std.proofs.Common.{Bool, true, false, cond, if◌then◌else◌, ◌==◌, ◌≡◌, ℕ, ◌+◌, ◌-◌, ◌<◌, ◌≤◌, ◌^◌, ◌||◌, min, nat_lt, List, [], ◌∷◌, ◌++◌, length, take, drop, Option, Some, None, option_map, refl, ap, subst, ◌∙◌, arith, length-append, length-drop}
 use Rattle.gabc_places.specs.StageLaw.{concat_of, silence}
 use Rattle.gabc_places.specs.Place.{next_place}
+use Rattle.gabc_text.specs.TextStage.{count_plus, place_after_char}
+use Rattle.gabc_score.specs.ScoreStage.{IsPlaceBelow, AreCountsBelow}
 use Rattle.gabc_places.specs.declared.code.Code.{Code}
 use Rattle.gabc_places.specs.declared.code.Fault.{Fault}
 use Rattle.gabc_places.specs.declared.limits.Limits.{Limits}
@@ -9,14 +11,16 @@ use Rattle.gabc_places.specs.declared.place.Char.{Char}
 use Rattle.gabc_places.specs.declared.place.Place.{Place}
 use Rattle.gabc_headers.specs.declared.head_event.HeadEvent.{HeadEvent}
 use Rattle.gabc_headers.specs.declared.head_event.HeadEvent.TheVariants as head_event
-use Rattle.gabc_text.specs.declared.view.TextView.{TextView}
+use Rattle.gabc_text.specs.TextView.{ViewContent}
 use Rattle.gabc_score.specs.declared.events.BodyEvent.{BodyEvent}
+use Rattle.gabc_score.specs.BodyStage.{texts_by_stage}
+use Rattle.gabc_score.specs.Events.{InComment, events_from}
 use Rattle.gabc_score.specs.Body.{events_onto, code_at, fault_at, has_text, has_last, all_units, cut_of, fault_of_end, found_at_end}
-use Rattle.gabc_score.specs.ScoreEvents.{ScoreOutput, Found, Stop, End, findings_now, count_made, outputs_of, outputs_at, held_output, outputs_at_stop, outputs_at_end, outputs_by, body_outputs}
+use Rattle.gabc_score.specs.ScoreEvents.{ScoreOutput, Found, Stop, End, findings_now, count_made, outputs_of, outputs_at, held_output, outputs_at_stop, outputs_at_end, outputs_by, body_outputs, characters_in, first_place, score_outputs}
 use Rattle.gabc_score.specs.Syllable.{UnplacedSyllable, all_syllables}
 use Rattle.gabc_score.specs.machine.BodyBuilder.{with_all, code_in, end_fault_by, end_fault, end_findings}
 use Rattle.gabc_score.specs.machine.Gatherer.{Gathered, with_last}
-use Rattle.gabc_score.specs.machine.ScoreStage.{HeldScore, placed_behind, held_outputs, stop_outputs, point_outputs, with_held, score_past, end_outputs_by, end_outputs, left_by, body_left}
+use Rattle.gabc_score.specs.machine.ScoreStage.{HeldScore, placed_behind, held_outputs, stop_outputs, point_outputs, with_held, score_past, end_outputs_by, end_outputs, left_by, body_left, begun_score, score_left}
 use Rattle.gabc_score.proofs.building.GathererHoldsDefinition.{gathered}
 use Rattle.gabc_score.proofs.building.EventsOfOnePoint.{gathered_all, code_is, made_after}
 use Rattle.gabc_score.proofs.building.EndOfBody.{made_by_last, open_by_last, fault_is}
@@ -59,16 +63,16 @@ module _ (limits : Limits) (head : ℕ) (small : limits.syllable < 2 ^ 64 - 1) (
         ap (λ (g : Gathered). outputs_of (findings_now now) (take (length g.made - 1) (placed_behind (nat_lt 1 (count_made before)) g.made))) now_is
         ∙ ap (outputs_of (findings_now now)) (placed_now (count_made before) (count_made all) (all_syllables all) refl (made_grows before now))
 
-    past_is : (at : Place) (x : Char) → score_past (holding at before) x now ≡ holding (next_place x.place x.c) all
+    past_is : (at : Place) (x : Char) → score_past (holding at before) x now ≡ holding (place_after_char x.place x.c) all
     past_is at x =
-        ap (λ (g : Gathered). record { next = next_place x.place x.c; gathered = with_held g; given = nat_lt 1 (count_made before) || nat_lt 1 (length g.made) }) now_is
+        ap (λ (g : Gathered). record { next = place_after_char x.place x.c; gathered = with_held g; given = nat_lt 1 (count_made before) || nat_lt 1 (length g.made) }) now_is
         ∙ ap (λ (ms : List UnplacedSyllable). record {
-          next = next_place x.place x.c;
+          next = place_after_char x.place x.c;
           gathered = record (gathered limits.syllable head all) { made = ms };
           given = nat_lt 1 (count_made before) || nat_lt 1 (length (drop k (all_syllables all)));
         })
         (held_then (count_made before) (count_made all) (all_syllables all) refl (made_grows before now))
-        ∙ ap (λ b. record { next = next_place x.place x.c; gathered = without (count_made all - 1) (gathered limits.syllable head all); given = b })
+        ∙ ap (λ b. record { next = place_after_char x.place x.c; gathered = without (count_made all - 1) (gathered limits.syllable head all); given = b })
         (given_then_is (count_made before) (count_made all) (length (drop k (all_syllables all))) (length-drop k (all_syllables all)) (made_grows before now))
 
     abbrev last_of : Gathered → Gathered
@@ -93,7 +97,7 @@ module _ (limits : Limits) (head : ℕ) (small : limits.syllable < 2 ^ 64 - 1) (
     stop_is : (at : Place) (fault : Fault) → stop_outputs (holding at before) fault ≡ outputs_at_stop before fault
     stop_is at fault = ap (λ outs. outs ++ Stop fault ∷ []) (held_is at)
 
-    abbrev end_from : Place → TextView → Gathered → List ScoreOutput
+    abbrev end_from : Place → ViewContent → Gathered → List ScoreOutput
     end_from at view g = outputs_of (findings_now now ++ end_findings at (has_text view) (g.eu || g.nlba)) (placed_behind (nat_lt 1 (count_made before)) g.made) ++ End ∷ []
 
     end_by : (at : Place) (fault : Option Fault) → end_outputs_by (holding at before) now fault ≡ outputs_at_end at before now fault
@@ -113,15 +117,50 @@ module _ (limits : Limits) (head : ℕ) (small : limits.syllable < 2 ^ 64 - 1) (
   by_code at before now x xs left later e (Some code) = ap (λ outs. outs ∷ silence xs) (stop_is before now at (fault_at x.place code))
   by_code at before now x xs left later e None = ap (λ outs. outs ∷ left) (point_is before now at) ∙ ap (λ lists. outputs_at before now ∷ lists) e
 
+  -- the place behind a character, where no count reaches its last value
+  abbrev bounded_place : Char → Bool → Place
+  bounded_place x b = cond b (record { line = count_plus x.place.line 1; column = 1 }) (record { line = x.place.line; column = count_plus x.place.column 1 })
+
+  abbrev true_place : Char → Bool → Place
+  true_place x b = if b then record { line = x.place.line + 1; column = 1 } else record { line = x.place.line; column = x.place.column + 1 }
+
+  next_is : (x : Char) → IsPlaceBelow x → place_after_char x.place x.c ≡ next_place x.place x.c
+  next_is x h = by (x.c == 10)
+    where
+      by : (b : Bool) → bounded_place x b ≡ true_place x b
+      by true = let l = h.0 in ap (λ (n : ℕ). let p : Place = record { line = n; column = 1 } in p) (omega (arith, l))
+      by false = let l = h.1 in ap (λ (n : ℕ). let p : Place = record { line = x.place.line; column = n } in p) (omega (arith, l))
+
   -- what it will still emit
-  pub left_is : (at : Place) (before : List BodyEvent) (lists : List (List BodyEvent)) (xs : List HeadEvent) → body_left limits (holding at before) lists xs ≡ body_outputs limits head at before lists xs
-  left_is at before lists [] = ap (λ outs. outs ∷ []) (held_is before [] at)
-  left_is at before (now ∷ lists) (head_event.Body x ∷ xs) =
+  pub left_is : (at : Place) (before : List BodyEvent) (lists : List (List BodyEvent)) (xs : List HeadEvent) → AreCountsBelow xs
+      → body_left limits (holding at before) lists xs ≡ body_outputs limits head at before lists xs
+  left_is at before lists [] p = ap (λ outs. outs ∷ []) (held_is before [] at)
+  left_is at before (now ∷ lists) (head_event.Body x ∷ xs) p =
       ap (λ s. left_by (code_in limits (with_all (holding at before).gathered now)) (holding at before) x now xs (body_left limits s lists xs)) (past_is before now at x)
+      ∙ ap (λ place. left_by (code_in limits (with_all (holding at before).gathered now)) (holding at before) x now xs (body_left limits (holding place (events_onto now before)) lists xs)) (next_is x p.0)
       ∙ ap (λ code. left_by code (holding at before) x now xs (body_left limits (holding (next_place x.place x.c) (events_onto now before)) lists xs)) (code_here before now at)
-      ∙ by_code at before now x xs _ _ (left_is (next_place x.place x.c) (events_onto now before) lists xs) (code_at limits head (events_onto now before))
-  left_is at before [] (head_event.Body x ∷ xs) = refl
-  left_is at before lists (head_event.End ∷ xs) = ap (λ outs. outs ∷ silence xs) (end_is before (concat_of lists) at)
-  left_is at before lists (head_event.Stop fault ∷ xs) = ap (λ outs. outs ∷ silence xs) (stop_is before [] at fault)
-  left_is at before lists (head_event.Found f ∷ xs) = ap (λ outs. (Found f ∷ []) ∷ outs) (left_is at before lists xs)
-  left_is at before lists (head_event.Heads lines macros canonical ∷ xs) = ap (λ outs. [] ∷ outs) (left_is at before lists xs)
+      ∙ by_code at before now x xs _ _ (left_is (next_place x.place x.c) (events_onto now before) lists xs p.1) (code_at limits head (events_onto now before))
+  left_is at before [] (head_event.Body x ∷ xs) p = refl
+  left_is at before lists (head_event.End ∷ xs) p = ap (λ outs. outs ∷ silence xs) (end_is before (concat_of lists) at)
+  left_is at before lists (head_event.Stop fault ∷ xs) p = ap (λ outs. outs ∷ silence xs) (stop_is before [] at fault)
+  left_is at before lists (head_event.Found f ∷ xs) p = ap (λ outs. (Found f ∷ []) ∷ outs) (left_is at before lists xs p)
+  left_is at before lists (head_event.Heads lines macros canonical ∷ xs) p = ap (λ outs. [] ∷ outs) (left_is at before lists xs p.1)
+
+-- ---- from the first event on
+
+-- nothing is held at first
+pub holds_nothing : (limits : Limits) (head : ℕ) (small : limits.syllable < 2 ^ 64 - 1) (low : limits.input < 2 ^ 64 - 1) (at : Place) → head < 2 ^ 64 → begun_score limits at head ≡ holding limits head small low at []
+holds_nothing limits head small low at h =
+    let least : min (head + 0) (2 ^ 64 - 1) ≡ head = omega (arith, h) in
+    rw least refl
+
+pub score_is : (limits : Limits) → limits.syllable < 2 ^ 64 - 1 → limits.input < 2 ^ 64 - 1 → (xs : List HeadEvent) → AreCountsBelow xs → score_left limits xs ≡ score_outputs texts_by_stage limits xs
+score_is limits small low [] p = refl
+score_is limits small low (head_event.Heads lines macros canonical ∷ xs) p =
+    let lists = events_from texts_by_stage lines macros InComment (characters_in xs) in
+    ap (λ s. [] ∷ body_left limits s lists xs) (holds_nothing limits canonical small low first_place (let h = p.0 in omega (arith, h)))
+    ∙ ap (λ outs. [] ∷ outs) (left_is limits canonical small low first_place [] lists xs p.1)
+score_is limits small low (head_event.Found f ∷ xs) p = ap (λ outs. (Found f ∷ []) ∷ outs) (score_is limits small low xs p)
+score_is limits small low (head_event.Stop fault ∷ xs) p = refl
+score_is limits small low (head_event.End ∷ xs) p = refl
+score_is limits small low (head_event.Body x ∷ xs) p = ap (λ outs. [] ∷ outs) (score_is limits small low xs p.1)

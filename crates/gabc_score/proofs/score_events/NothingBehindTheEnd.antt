@@ -18,11 +18,11 @@ use Rattle.gabc_score.specs.Events.{Texts, InComment, events_from}
 use Rattle.gabc_score.specs.ScoreEvents.{ScoreOutput, Found, Stop, Syllable, End, is_last, not_given, given_now, count_made, findings_now, outputs_of, outputs_at_end, outputs_by, characters_in, body_outputs, first_place, score_outputs}
 
 -- behind the first stop or end among these nothing stands
-abbrev Ends : List ScoreOutput → Type 0
+abbrev pub Ends : List ScoreOutput → Type 0
 Ends [] = Unit {0}
 Ends (o ∷ outs) = (is_last o ≡ true → outs ≡ []) × Ends outs
 
-silent : (outs : List ScoreOutput) → outs ≡ [] → Ends outs
+pub silent : (outs : List ScoreOutput) → outs ≡ [] → Ends outs
 silent outs e = subst Ends (sym e) tt
 
 found_ends : (fs : List Finding) (outs : List ScoreOutput) → Ends outs → Ends (map (λ f. Found f) fs ++ outs)
@@ -34,10 +34,10 @@ given_end [] outs h = h
 given_end (s ∷ ss) outs h = (λ l. absurd (cc), given_end ss outs h)
 
 -- what comes behind findings and syllables
-then_end : (fs : List Finding) (ss : List PlacedSyllable) (outs : List ScoreOutput) → Ends outs → Ends (outputs_of fs ss ++ outs)
+pub then_end : (fs : List Finding) (ss : List PlacedSyllable) (outs : List ScoreOutput) → Ends outs → Ends (outputs_of fs ss ++ outs)
 then_end fs ss outs h = subst Ends (sym (append_assoc (map (λ f. Found f) fs) (map (λ s. Syllable s) ss) outs)) (found_ends fs (map (λ s. Syllable s) ss ++ outs) (given_end ss outs h))
 
-last_ends : (fs : List Finding) (ss : List PlacedSyllable) (o : ScoreOutput) (outs : List ScoreOutput) → outs ≡ [] → Ends ((outputs_of fs ss ++ o ∷ []) ++ outs)
+pub last_ends : (fs : List Finding) (ss : List PlacedSyllable) (o : ScoreOutput) (outs : List ScoreOutput) → outs ≡ [] → Ends ((outputs_of fs ss ++ o ∷ []) ++ outs)
 last_ends fs ss o outs e = subst Ends (sym (append_assoc (outputs_of fs ss) (o ∷ []) outs)) (then_end fs ss (o ∷ outs) (λ l. e, silent outs e))
 
 module _ (limits : Limits) (head : ℕ) where

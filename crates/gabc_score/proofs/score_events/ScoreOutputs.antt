@@ -56,7 +56,7 @@ macros_are book =
 
 -- ---- the place of the end
 
-ends_past : (p : Place) (cs : List ℕ) → end_place p (placed_characters_from p cs) ≡ place_past p cs
+pub ends_past : (p : Place) (cs : List ℕ) → end_place p (placed_characters_from p cs) ≡ place_past p cs
 ends_past p [] = refl
 ends_past p (c ∷ cs) = ends_past (next_place p c) cs
 

@@ -34,6 +34,7 @@ pub record LineEmitted (lines line : ℕ) (opened : Place) (prefix : List Char) 
   pub told_are : events ≡ map (note_event line opened) mids ++ Notes line (note.Ended how (size kept)) ∷ []
   pub silent : ends_of mids ≡ []
   pub kept_is : kept_of mids ≡ kept ++ rest
+  pub few : size (kept_of mids) ≤ size (codes_of prefix)
   pub from : kept ≡ kept_on_line line prefix
   pub is_snippet : IsSnippetOf line kept
   pub is_mark : IsMark end.c how
@@ -74,6 +75,7 @@ module _ {K : Type 0} (table : Table K) (lines line : ℕ) (opened : Place) {S :
             (ap (λ ks. g.count (ks ++ all)) none ∙ counts all (prefix_fits all (trim table all) t.0 (size (codes_of prefix)) t.1 e.few fits));
         silent = e.silent;
         kept_is = t.1;
+        few = e.few;
         from = ap (trim table) (sym (ap (λ ks. ks ++ all) none) ∙ e.kept_is) ∙ keeps;
         is_snippet = is (trim table all) t.2;
         is_mark = e.is_mark;

@@ -11,7 +11,7 @@ use Rattle.gabc_text.specs.Events.{codes_of, events_of, events_by_point}
 use Rattle.gabc_text.specs.ViewFacts.{StandsForView}
 use Rattle.gabc_text.specs.View.{kept}
 use Rattle.gabc_text.specs.TextRead.{view_in}
-use Rattle.gabc_text.specs.declared.view.TextView.{TextView}
+use Rattle.gabc_text.specs.TextView.{ViewContent}
 use Rattle.gabc_score.specs.declared.events.BodyEvent.{BodyEvent}
 use Rattle.gabc_score.specs.Syllable.{UnplacedSyllable, PlacedSyllable, since_close, kept_of, view_of, all_syllables, is_eu, is_nlba}
 use Rattle.gabc_score.specs.Body.{events_onto, is_none, has_text, empty_snippet, last_syllable, all_units, cut_of}
@@ -127,11 +127,11 @@ module _ (lines : ℕ) where
   next_is eu nlba [] [] h = refl
   next_is eu nlba [] (m ∷ ms) h = absurd h
   next_is eu nlba (u ∷ us) [] h = absurd h
-  next_is eu nlba (u ∷ us) (m ∷ ms) h = ap (λ (v : TextView). v.word_start) h.0.0.view_is
+  next_is eu nlba (u ∷ us) (m ∷ ms) h = ap (λ (v : ViewContent). v.word_start) h.0.0.view_is
 
   begins_is : (before : List ScoreUnit) (u : ScoreUnit) (m : UnplacedSyllable) → m.text ≡ view_in u.text → (is_none before || m.text.word_start) ≡ begins_word before u
   begins_is [] u m h = refl
-  begins_is (b ∷ before) u m h = ap (λ (v : TextView). v.word_start) h
+  begins_is (b ∷ before) u m h = ap (λ (v : ViewContent). v.word_start) h
 
   some_before : (before : List ScoreUnit) (u : ScoreUnit) → is_none (before ++ u ∷ []) ≡ false
   some_before [] u = refl

@@ -51,14 +51,14 @@ with_ends_append (e ∷ xs) ys =
     ap (λ cs. e.characters ++ e.end ∷ cs) (with_ends_append xs ys) ∙ sym (append_assoc e.characters (e.end ∷ with_ends xs) (with_ends ys))
 
 module _ (lines : ℕ) where
-  snippets_whole : (line : ℕ) (opened_at : Place) (nexts : List EndedPart) (final : EndedPart) (more : List CutPart) (last : List Char)
+  pub snippets_whole : (line : ℕ) (opened_at : Place) (nexts : List EndedPart) (final : EndedPart) (more : List CutPart) (last : List Char)
       → whole (snippets_with lines line opened_at nexts (cut_part final Closes ∷ more)) last ≡ with_ends (nexts ++ final ∷ []) ++ whole more last
   snippets_whole line opened_at [] final more last = sym (append_assoc final.characters (final.end ∷ []) (whole more last))
   snippets_whole line opened_at (e ∷ nexts) final more last =
       ap (λ cs. e.characters ++ e.end ∷ cs) (snippets_whole (next_line lines line) opened_at nexts final more last)
       ∙ sym (append_assoc e.characters (e.end ∷ with_ends (nexts ++ final ∷ [])) (whole more last))
 
-  unit_whole : (u : BodyUnit) (more : List CutPart) (last : List Char)
+  pub unit_whole : (u : BodyUnit) (more : List CutPart) (last : List Char)
       → whole (cut_part u.text Opens ∷ snippets_with lines 0 u.text.end.place u.nexts (cut_part u.final Closes ∷ more)) last ≡ characters_in u ++ whole more last
   unit_whole u more last =
       ap (λ cs. u.text.characters ++ u.text.end ∷ cs) (snippets_whole 0 u.text.end.place u.nexts u.final more last)

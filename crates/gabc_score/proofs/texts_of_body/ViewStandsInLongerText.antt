@@ -2,7 +2,7 @@
 use Rattle.std.proofs.Common.{ℕ, Option, Some, None, List, [], ◌∷◌, ◌++◌, ap, ◌∙◌, append_assoc}
 use Rattle.gabc_places.specs.declared.place.Span.{Span}
 use Rattle.gabc_text.specs.declared.view.Piece.{Piece}
-use Rattle.gabc_text.specs.declared.view.TextView.{TextView}
+use Rattle.gabc_text.specs.TextView.{ViewContent}
 use Rattle.gabc_text.specs.View.{PieceFacts}
 use Rattle.gabc_text.specs.ViewFacts.{StandsFor, ArePiecesOf, IsTranslation, StandsForView}
 
@@ -28,5 +28,5 @@ module _ (text more : List ℕ) where
   translation_more (Some s) None h = absurd h
   translation_more (Some s) (Some t) h = span_more s t h
 
-  pub view_more : (v : TextView) (t : List ℕ) → StandsForView text v t → StandsForView (text ++ more) v t
+  pub view_more : (v : ViewContent) (t : List ℕ) → StandsForView text v t → StandsForView (text ++ more) v t
   view_more v t h = record { pieces = pieces_more v.pieces _ h.pieces; centre = h.centre; translation = translation_more v.translation _ h.translation }

@@ -1,5 +1,5 @@
 -- What the gatherer of syllables does with what is emitted.
-use Rattle.std.specs.Prelude.{ℕ, ◌+◌, ◌||◌, ◌^◌, ◌-◌, min, nat_lt, List, [], ◌∷◌, ◌++◌, Bool, false, cond, length, map, Option, Some, None, codes}
+use Rattle.std.specs.Prelude.{ℕ, ◌+◌, ◌||◌, ◌^◌, ◌-◌, min, nat_lt, List, [], ◌∷◌, ◌++◌, Bool, false, cond, length, Option, Some, None, codes}
 use Rattle.gabc_places.specs.declared.place.Place.{Place}
 use Rattle.gabc_text.specs.declared.view.Piece.{Piece}
 use Rattle.gabc_text.specs.declared.stage.TextPart.{TextPart}
@@ -15,11 +15,10 @@ use Rattle.gabc_notes.specs.declared.stage.NoteEvent.{NoteEvent}
 use Rattle.gabc_notes.specs.declared.stage.NoteEvent.TheVariants as note
 use Rattle.gabc_score.specs.declared.events.BodyEvent.{BodyEvent}
 use Rattle.gabc_score.specs.declared.events.BodyEvent.TheVariants as event
-use Rattle.gabc_score.specs.declared.gatherer.Gatherer.{Gatherer}
-use Rattle.gabc_score.specs.Syllable.{UnplacedSyllable, unplaced_of, slice, is_open_after}
+use Rattle.gabc_score.specs.Syllable.{UnplacedSyllable, slice, is_open_after}
 use Rattle.gabc_score.specs.Canonical.{canonical}
 use Rattle.gabc_score.specs.Body.{is_longer, is_none, empty_snippet, has_text}
-use Rattle.gabc_score.specs.machine.SyllableBuilder.{OpenSyllable, open_of, nothing_open, with_kept, past_text, past_snippet, made_from}
+use Rattle.gabc_score.specs.machine.SyllableBuilder.{OpenSyllable, nothing_open, with_kept, past_text, past_snippet, made_from}
 
 -- What was gathered: `total` counts the canonical bytes of the headers and of the syllables that were made, and `over` tells
 -- whether one of those is longer than the limit.
@@ -32,18 +31,6 @@ pub record Gathered : Type 0 where
   pub total : ℕ
   pub over : Bool
   pub cut : Option Place
-
-abbrev pub gathered_of : Gatherer → Gathered
-gathered_of g = record {
-  limit = g.limit;
-  builder = open_of g.builder;
-  eu = g.eu;
-  nlba = g.nlba;
-  made = map unplaced_of g.made.items;
-  total = g.total;
-  over = g.over;
-  cut = g.cut;
-}
 
 abbrev pub nothing_gathered : ℕ → ℕ → Gathered
 nothing_gathered limit head = record { limit = limit; builder = nothing_open; eu = false; nlba = false; made = []; total = head; over = false; cut = None }

@@ -1,21 +1,25 @@
 -- What a stage over a score does behind the headers. It holds one whole syllable, the one that is being read, and counts.
-use Rattle.std.specs.Prelude.{◌-◌, ◌||◌, not, nat_lt, List, [], ◌∷◌, ◌++◌, Bool, length, take, drop, Option, Some, None}
+use Rattle.std.specs.Prelude.{ℕ, false, ◌-◌, ◌||◌, not, nat_lt, List, [], ◌∷◌, ◌++◌, Bool, length, take, drop, Option, Some, None}
 use Rattle.gabc_places.specs.declared.code.Code.{Code}
 use Rattle.gabc_places.specs.declared.code.Fault.{Fault}
 use Rattle.gabc_places.specs.declared.limits.Limits.{Limits}
 use Rattle.gabc_places.specs.declared.place.Char.{Char}
 use Rattle.gabc_places.specs.declared.place.Place.{Place}
-use Rattle.gabc_places.specs.Place.{next_place}
+use Rattle.gabc_text.specs.TextStage.{place_after_char}
 use Rattle.gabc_places.specs.StageLaw.{concat_of, silence}
 use Rattle.gabc_headers.specs.declared.head_event.HeadEvent.{HeadEvent}
 use Rattle.gabc_headers.specs.declared.head_event.HeadEvent.TheVariants as head_event
 use Rattle.gabc_score.specs.declared.events.BodyEvent.{BodyEvent}
 use Rattle.gabc_score.specs.Body.{fault_at, has_text}
+use Rattle.gabc_score.specs.BodyStage.{BodyStageState, running_events_left, texts_by_stage}
+use Rattle.gabc_score.specs.declared.score_machine.ScorePart.{ScorePart}
+use Rattle.gabc_score.specs.declared.score_machine.ScorePart.TheVariants as score_part
 use Rattle.gabc_score.specs.Canonical.{placed_syllables_by}
-use Rattle.gabc_score.specs.ScoreEvents.{ScoreOutput, Found, Stop, End, findings_now, outputs_of}
+use Rattle.gabc_score.specs.Events.{InComment, events_from}
+use Rattle.gabc_score.specs.ScoreEvents.{ScoreOutput, Found, Stop, End, findings_now, outputs_of, characters_in, first_place}
 use Rattle.gabc_score.specs.Syllable.{UnplacedSyllable, PlacedSyllable}
 use Rattle.gabc_score.specs.machine.BodyBuilder.{with_all, code_in, end_fault, end_findings}
-use Rattle.gabc_score.specs.machine.Gatherer.{Gathered, with_last}
+use Rattle.gabc_score.specs.machine.Gatherer.{Gathered, nothing_gathered, with_last}
 
 -- The place of the next character, and what was gathered: of the syllables made, those not given yet, of which the last is held. And
 -- whether one was given before.
@@ -47,7 +51,7 @@ with_held g = record g { made = drop (length g.made - 1) g.made }
 abbrev pub score_past : HeldScore → Char → List BodyEvent → HeldScore
 score_past s x now =
     let g = with_all s.gathered now in
-    record { next = next_place x.place x.c; gathered = with_held g; given = s.given || nat_lt 1 (length g.made) }
+    record { next = place_after_char x.place x.c; gathered = with_held g; given = s.given || nat_lt 1 (length g.made) }
 
 abbrev pub end_outputs_by : HeldScore → List BodyEvent → Option Fault → List ScoreOutput
 end_outputs_by s now (Some fault) = stop_outputs s fault
@@ -73,3 +77,28 @@ body_left limits s lists (head_event.End ∷ xs) = end_outputs limits s (concat_
 body_left limits s lists (head_event.Stop fault ∷ xs) = stop_outputs s fault ∷ silence xs
 body_left limits s lists (head_event.Found f ∷ xs) = (Found f ∷ []) ∷ body_left limits s lists xs
 body_left limits s lists (head_event.Heads lines macros canonical ∷ xs) = [] ∷ body_left limits s lists xs
+
+-- ---- the stage
+
+-- nothing was read of a body whose canonical headers have so many bytes
+abbrev pub begun_score : Limits → Place → ℕ → HeldScore
+begun_score limits at head = record { next = at; gathered = nothing_gathered limits.syllable head; given = false }
+
+abbrev pub fresh_score : Limits → ℕ → HeldScore
+fresh_score limits head = begun_score limits first_place head
+
+-- what it will still emit before the body: what is found in the headers and what stops them is passed on
+abbrev pub score_left : Limits → List HeadEvent → List (List ScoreOutput)
+score_left limits [] = [] ∷ []
+score_left limits (head_event.Heads lines macros canonical ∷ xs) =
+    [] ∷ body_left limits (fresh_score limits canonical) (events_from texts_by_stage lines macros InComment (characters_in xs)) xs
+score_left limits (head_event.Found f ∷ xs) = (Found f ∷ []) ∷ score_left limits xs
+score_left limits (head_event.Stop fault ∷ xs) = (Stop fault ∷ []) ∷ silence xs
+score_left limits (head_event.End ∷ xs) = (End ∷ []) ∷ silence xs
+score_left limits (head_event.Body x ∷ xs) = [] ∷ score_left limits xs
+
+-- what it will still emit, in each part
+abbrev pub outputs_left : Limits → ScorePart → HeldScore → BodyStageState → List HeadEvent → List (List ScoreOutput)
+outputs_left limits score_part.Heads s body xs = score_left limits xs
+outputs_left limits score_part.Body s body xs = body_left limits s (running_events_left body (characters_in xs)) xs
+outputs_left limits score_part.Over s body xs = silence xs

@@ -1,19 +1,15 @@
 -- What the gatherer does with what is emitted.
-use Rattle.std.specs.Prelude.{ℕ, ◌+◌, List, [], ◌∷◌, ◌++◌, Bool, length, string_bytes, encode_utf8}
-use Rattle.gabc_text.specs.declared.view.TextView.{TextView}
+use Rattle.std.specs.Prelude.{ℕ, ◌+◌, List, [], ◌∷◌, ◌++◌, Bool, length, encode_utf8}
+use Rattle.gabc_text.specs.TextView.{ViewContent}
 use Rattle.gabc_score.specs.declared.snippets.Snippet.{Snippet}
-use Rattle.gabc_score.specs.declared.syllable_builder.SyllableBuilder.{SyllableBuilder}
 use Rattle.gabc_score.specs.Syllable.{UnplacedSyllable, prefix_of, empty_view}
 
 -- a syllable that is being read: its kept text, the bytes of it that stand before the part that is being read, its view and snippets
 pub record OpenSyllable : Type 0 where
   pub kept : List ℕ
   pub from : ℕ
-  pub view : TextView
+  pub view : ViewContent
   pub snippets : List Snippet
-
-abbrev pub open_of : SyllableBuilder → OpenSyllable
-open_of r = record { kept = string_bytes r.kept; from = r.from; view = r.view; snippets = r.snippets }
 
 abbrev pub nothing_open : OpenSyllable
 nothing_open = record { kept = []; from = 0; view = empty_view; snippets = [] }

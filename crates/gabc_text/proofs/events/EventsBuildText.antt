@@ -15,7 +15,7 @@ use Rattle.gabc_text.specs.declared.token.TagEffect.TheVariants.{Opens, Closes, 
 use Rattle.gabc_text.specs.declared.view.PieceKind.{PieceKind}
 use Rattle.gabc_text.specs.declared.view.PieceKind.TheVariants as piece
 use Rattle.gabc_text.specs.declared.view.Piece.{Piece}
-use Rattle.gabc_text.specs.declared.view.TextView.{TextView}
+use Rattle.gabc_text.specs.TextView.{ViewContent}
 use Rattle.gabc_text.specs.declared.stage.TextPart.{TextPart}
 use Rattle.gabc_text.specs.declared.stage.TextPart.TheVariants as part
 use Rattle.gabc_text.specs.declared.stage.TextEnd.TheVariants as ending
@@ -60,7 +60,7 @@ emitted_kept : (t : BuiltText) (cs : List Char) → with_events t (map (λ (c : 
 emitted_kept t [] = ap (λ (x : List ℕ). record t { kept = x }) (sym (append-nil t.kept))
 emitted_kept t (c ∷ cs) = emitted_kept (with_event t (out.Kept c)) cs ∙ ap (λ (x : List ℕ). record t { kept = x }) (append_assoc t.kept (encode c.c) (encodes (map (λ (d : Char). d.c) cs)))
 
-abbrev parts_after : TextView → List TextPart → TextView
+abbrev parts_after : ViewContent → List TextPart → ViewContent
 parts_after v [] = v
 parts_after v (p ∷ ps) = parts_after (with_part v p) ps
 
@@ -91,7 +91,7 @@ abbrev events_pieces : List Token → List Piece
 events_pieces [] = []
 events_pieces (k ∷ before) = emitted_by before k (kind_of k) (events_pieces before)
 
-abbrev view_at : List Token → TextView
+abbrev view_at : List Token → ViewContent
 view_at before = record { word_start = starts_word before; pieces = events_pieces before; centre = None; translation = translation_of before }
 
 abbrev told_at : Place → List Token → BuiltText
@@ -105,7 +105,7 @@ module _ (before : List Token) (k : Token) where
       (cond (is_whole_translation d && not (has_translation before)) (part.Translation (translation_at before k) ∷ [])
       [])
 
-  abbrev view_here : TokenKind → Option PieceKind → TextView
+  abbrev view_here : TokenKind → Option PieceKind → ViewContent
   view_here d o = record {
     word_start = (is_space d && not (has_word before)) || starts_word before;
     pieces = emitted_by before k o (events_pieces before);
@@ -164,10 +164,10 @@ module _ (at : Place) where
       append_assoc (so_far (findings_at at) before) _ _ ∙ ap (λ (x : List Finding). so_far (findings_at at) before ++ x) (sym (map_more (place_of at before) es ls)) in
       let vs : parts_after (view_at before) ps ≡ view_at (k ∷ before) = parts_give before k k.kind (effect k) in
       ap (λ (x : List ℕ). told_by x (parts_after (view_at before) ps) ((so_far (findings_at at) before ++ map (found_at (place_of at before)) es) ++ map (found_at (place_of at before)) ls)) kt
-      ∙ ap (λ (x : TextView). told_by (encodes (kept_of (k ∷ before))) x ((so_far (findings_at at) before ++ map (found_at (place_of at before)) es) ++ map (found_at (place_of at before)) ls)) vs
+      ∙ ap (λ (x : ViewContent). told_by (encodes (kept_of (k ∷ before))) x ((so_far (findings_at at) before ++ map (found_at (place_of at before)) es) ++ map (found_at (place_of at before)) ls)) vs
       ∙ ap (λ (x : List Finding). told_by (encodes (kept_of (k ∷ before))) (view_at (k ∷ before)) x) fs)
     where
-      told_by : List ℕ → TextView → List Finding → BuiltText
+      told_by : List ℕ → ViewContent → List Finding → BuiltText
       told_by x v f = record { kept = x; view = v; findings = f; end = ending.Finished }
 
   events_along : (ks before : List Token) → with_events (told_at at before) (along (events_at at) before ks) ≡ told_at at (onto ks before)

@@ -1,9 +1,10 @@
 -- All that is found of a text is its findings, and their codes are low.
-use Rattle.std.proofs.Common.{◌≡◌, ℕ, ◌<◌, ◌&&◌, not, List, [], ◌∷◌, ◌++◌, Bool, true, false, cond, sym, ap, ◌∙◌, append_assoc, append-nil, map, reverse, arith}
+use Rattle.std.proofs.Common.{◌≡◌, ℕ, ◌<◌, ◌&&◌, ◌||◌, not, refl, List, [], ◌∷◌, ◌++◌, Bool, true, false, cond, sym, ap, ◌∙◌, append_assoc, append-nil, map, reverse, arith}
 use Rattle.std.specs.List.{All, list_any}
 use Rattle.std.proofs.lemmas.List.Elements.{All-nil, All-cons}
 use Rattle.gabc_places.specs.StageLaw.{concat_of}
-use Rattle.gabc_places.specs.Code.{rank_of}
+use Rattle.gabc_places.specs.Code.{rank_of, severity_of}
+use Rattle.gabc_places.specs.declared.severity.Severity.TheVariants.{Warning}
 use Rattle.gabc_places.specs.declared.place.Place.{Place}
 use Rattle.gabc_places.specs.declared.code.Code.{Code}
 use Rattle.gabc_places.specs.declared.code.Code.TheVariants.{W3, W4}
@@ -16,6 +17,7 @@ use Rattle.gabc_text.specs.declared.stage.TextEvent.{TextEvent}
 use Rattle.gabc_text.specs.declared.stage.TextEvent.TheVariants as out
 use Rattle.gabc_text.specs.Token.{Token, tokens}
 use Rattle.gabc_text.specs.View.{along, effect, is_open, all_styles, has_begin, has_end, has_translation, is_cut, early_codes, late_codes, found_at, findings_at, findings_at_end, findings, place_of}
+use Rattle.gabc_text.specs.ViewFacts.{is_error, has_error}
 use Rattle.gabc_text.specs.Events.{events_of, events_by_point}
 use Rattle.gabc_text.specs.BuiltText.{BuiltText, with_event, with_events, empty_text, found_in}
 use Rattle.gabc_text.proofs.events.EventsByPointAreEvents.{points_joined}
@@ -33,8 +35,9 @@ found_all at t = ap found_in (points_joined at t) ∙ sym (gathered empty_text (
 
 -- ---- codes
 
+-- the code stands before W9, and is E2 or that of a warning
 abbrev IsLow : Code → Type 0
-IsLow c = rank_of c < 15
+IsLow c = (rank_of c < 15) × (is_error c ≡ false → severity_of c ≡ Warning)
 
 abbrev AreLow : List Code → Type 0
 AreLow [] = Unit {0}
@@ -53,17 +56,17 @@ neither true c h = tt
 neither false c h = (h, tt)
 
 early_low : (before : List Token) (d : TokenKind) → AreLow (early_codes before d)
-early_low before kind.Translation = either (has_translation before) _ (omega arith)
-early_low before kind.OpenTranslation = either (has_translation before) _ (omega arith)
+early_low before kind.Translation = either (has_translation before) _ (omega arith, λ e. refl)
+early_low before kind.OpenTranslation = either (has_translation before) _ (omega arith, λ e. refl)
 early_low before _ = tt
 
 late_low : (before : List Token) (d : TokenKind) (s : TagEffect) → AreLow (late_codes before d s)
-late_low before kind.Stray s = (omega arith, tt)
-late_low before kind.Begin s = either (has_begin before) _ (omega arith)
-late_low before kind.End s = neither (has_begin before && not (has_end before)) _ (omega arith)
-late_low before kind.Tag (Opens r) = either (is_open r before) _ (omega arith)
-late_low before kind.Tag (Closes r) = neither (is_open r before) _ (omega arith)
-late_low before kind.Tag Other = (omega arith, tt)
+late_low before kind.Stray s = ((omega arith, λ e. absurd (cc)), tt)
+late_low before kind.Begin s = either (has_begin before) _ (omega arith, λ e. refl)
+late_low before kind.End s = neither (has_begin before && not (has_end before)) _ (omega arith, λ e. refl)
+late_low before kind.Tag (Opens r) = either (is_open r before) _ (omega arith, λ e. refl)
+late_low before kind.Tag (Closes r) = neither (is_open r before) _ (omega arith, λ e. refl)
+late_low before kind.Tag Other = ((omega arith, λ e. refl), tt)
 late_low before kind.Tag _ = tt
 late_low before _ s = tt
 
@@ -83,7 +86,15 @@ more_low (f ∷ fs) gs h g = (h.0, more_low fs gs h.1 g)
 
 each_low : (fs : List Finding) → AllLow fs → All (λ (f : Finding). rank_of f.code < 15) fs
 each_low [] h = All-nil (λ (f : Finding). rank_of f.code < 15)
-each_low (f ∷ fs) h = All-cons (λ (g : Finding). rank_of g.code < 15) f fs h.0 (each_low fs h.1)
+each_low (f ∷ fs) h = All-cons (λ (g : Finding). rank_of g.code < 15) f fs h.0.0 (each_low fs h.1)
+
+each_warns : (fs : List Finding) → AllLow fs → has_error fs ≡ false → All (λ (f : Finding). severity_of f.code ≡ Warning) fs
+each_warns [] h e = All-nil (λ (f : Finding). severity_of f.code ≡ Warning)
+each_warns (f ∷ fs) h e = by (is_error f.code) refl e (λ k. each_warns fs h.1 k)
+  where
+    by : (b : Bool) → is_error f.code ≡ b → (b || has_error fs) ≡ false → (has_error fs ≡ false → All (λ (g : Finding). severity_of g.code ≡ Warning) fs) → All (λ (g : Finding). severity_of g.code ≡ Warning) (f ∷ fs)
+    by true g k rest = absurd (cc)
+    by false g k rest = All-cons (λ (g : Finding). severity_of g.code ≡ Warning) f fs (h.0.1 g) (rest k)
 
 module _ (at : Place) where
   along_low : (ks before : List Token) → AllLow (along (findings_at at) before ks)
@@ -99,7 +110,13 @@ module _ (at : Place) where
     where
       by : (x y z : Bool) → AllLow (cond x [] (map (found_at (place_of at before)) (cond y (W3 ∷ []) [] ++ cond z (W4 ∷ []) [])))
       by true y z = tt
-      by false y z = found_low (place_of at before) (cond y (W3 ∷ []) [] ++ cond z (W4 ∷ []) []) (low_append (cond y (W3 ∷ []) []) (cond z (W4 ∷ []) []) (either y W3 (omega arith)) (either z W4 (omega arith)))
+      by false y z = found_low (place_of at before) (cond y (W3 ∷ []) [] ++ cond z (W4 ∷ []) []) (low_append (cond y (W3 ∷ []) []) (cond z (W4 ∷ []) []) (either y W3 (omega arith, λ e. refl)) (either z W4 (omega arith, λ e. refl)))
+
+  all_low : (t : List ℕ) → AllLow (findings at t)
+  all_low t = more_low (along (findings_at at) [] (tokens t)) (findings_at_end at (reverse (tokens t))) (along_low (tokens t) []) (end_low (reverse (tokens t)))
 
   pub findings_low : (t : List ℕ) → All (λ (f : Finding). rank_of f.code < 15) (findings at t)
-  findings_low t = each_low (findings at t) (more_low (along (findings_at at) [] (tokens t)) (findings_at_end at (reverse (tokens t))) (along_low (tokens t) []) (end_low (reverse (tokens t))))
+  findings_low t = each_low (findings at t) (all_low t)
+
+  pub findings_warn : (t : List ℕ) → has_error (findings at t) ≡ false → All (λ (f : Finding). severity_of f.code ≡ Warning) (findings at t)
+  findings_warn t e = each_warns (findings at t) (all_low t) e

@@ -6,9 +6,10 @@ use Rattle.gabc_text.specs.declared.stage.TextEnd.{TextEnd}
 use Rattle.gabc_text.specs.declared.stage.TextEnd.TheVariants as ending
 use Rattle.gabc_text.specs.declared.whole.TextBuilder.{TextBuilder}
 use Rattle.gabc_text.specs.BuiltText.{BuiltText}
+use Rattle.gabc_text.specs.TextView.{content_of}
 
 abbrev pub built_text_of : TextBuilder → BuiltText
-built_text_of r = record { kept = string_bytes r.kept; view = r.view; findings = r.findings; end = r.end }
+built_text_of r = record { kept = string_bytes r.kept; view = content_of r.view; findings = r.findings; end = r.end }
 
 abbrev pub ending_of : TextEnd → ℕ → TextEnding
 ending_of ending.Notes index = text_ending.Notes index

@@ -8,7 +8,7 @@ use Rattle.std.proofs.Math.Numerals.{add-one}
 use lib.Utf8.{encode, encodes}
 use Rattle.gabc_places.specs.declared.place.Span.{Span}
 use Rattle.gabc_places.specs.declared.place.Char.{Char}
-use Rattle.gabc_text.specs.declared.view.TextView.{TextView}
+use Rattle.gabc_text.specs.TextView.{ViewContent}
 use Rattle.gabc_text.specs.View.{kept}
 use Rattle.gabc_text.specs.ViewFacts.{view_facts, StandsFor, StandsForView, IsTranslation}
 use Rattle.gabc_text.specs.Canonical.{span_bytes, canonical_text}
@@ -86,13 +86,13 @@ module _ (printed : (whole t : List ℕ) → StandsForView whole (view_in t) t �
   bytes_are : (m : UnplacedSyllable) (K t : List ℕ) (ss : List (List ℕ)) → m.kept ≡ encodes K → m.text ≡ view_in t → StandsForView K m.text t
       → map (λ (s : Snippet). slice s.span m.kept) m.snippets ≡ map encodes ss → canonical m.text.word_start m ≡ encodes (printed_syllable (view_facts t) ss)
   bytes_are m K t ss kept_is view_is stands texts =
-      let view : StandsForView K (view_in t) t = subst (λ (v : TextView). StandsForView K v t) view_is stands in
+      let view : StandsForView K (view_in t) t = subst (λ (v : ViewContent). StandsForView K v t) view_is stands in
       let start : List ℕ = cond m.text.word_start (10 ∷ []) [] in
       let notes : List ℕ = codes "(" ++ (with_bars m.kept m.snippets ++ codes ")") in
       let own : score.translation_text m.kept m.text.translation ≡ printed_translation m.kept m.text.translation =
       ap (λ (k : List ℕ). score.translation_text k m.text.translation) kept_is
       ∙ translation_is K m.text.translation _ stands.translation ∙ sym (ap (λ (k : List ℕ). printed_translation k m.text.translation) kept_is) in
-      let text : printed_view m.text m.kept ≡ encodes (print (view_facts t)) = ap (printed_view m.text) kept_is ∙ ap (λ (v : TextView). printed_view v (encodes K)) view_is ∙ printed K t view in
+      let text : printed_view m.text m.kept ≡ encodes (print (view_facts t)) = ap (printed_view m.text) kept_is ∙ ap (λ (v : ViewContent). printed_view v (encodes K)) view_is ∙ printed K t view in
       let bracketed : notes ≡ encodes (40 ∷ (barred ss ++ 41 ∷ [])) =
       ap (λ (x : List ℕ). x ++ (with_bars m.kept m.snippets ++ codes ")")) opening
       ∙ ap (λ (x : List ℕ). encodes (40 ∷ []) ++ (x ++ codes ")")) (bars_are m.kept m.snippets ss texts)

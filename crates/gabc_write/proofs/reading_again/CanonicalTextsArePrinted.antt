@@ -9,16 +9,16 @@ use lib.Utf8.{encode, encodes}
 use Rattle.gabc_places.specs.declared.place.Char.{Char}
 use Rattle.gabc_text.specs.Events.{codes_of}
 use Rattle.gabc_text.specs.TextRead.{view_in}
-use Rattle.gabc_text.specs.declared.view.TextView.{TextView}
+use Rattle.gabc_text.specs.TextView.{ViewContent}
 use Rattle.gabc_text.specs.ViewFacts.{ViewFacts, view_facts}
 use Rattle.gabc_score.specs.Body.{has_text}
 use Rattle.gabc_score.specs.Events.{texts_by_definition}
 use Rattle.gabc_score.specs.Syllable.{UnplacedSyllable, PlacedSyllable}
-use Rattle.gabc_score.specs.Canonical.{canonical, starts_word, position_by}
+use Rattle.gabc_score.specs.Canonical.{canonical, canonical_in_place, starts_word, position_by}
 use Rattle.gabc_score.specs.Units.{BodyUnit, LastUnit, JustText, OpenNotes, Units, BodyCutting, cutting_of, BeginsWithLf, IsCutFrom, IsCut}
 use Rattle.gabc_score.specs.SyllablesOfUnits.{ScoreUnit, HoldsUnit, AreSyllablesOf, begins_word, next_begins_word, characters_in, characters_from, closed_units, last_units, score_units}
 use Rattle.gabc_write.specs.SyllableAgain.{printed_syllable, IsPrinted}
-use Rattle.gabc_write.specs.BodyAgain.{SyllableFacts, printed_body, AreSyllables, FirstBeginsWord, FirstTextBeginsWord, AreFactsOf, AreOwnFacts, ArePrinted}
+use Rattle.gabc_write.specs.BodyAgain.{SyllableFacts, printed_body, AreSyllables, FirstBeginsWord, FirstTextBeginsWord, AreFactsOf, AreOwnFacts, ArePrintedTexts, ArePrinted}
 use Rattle.gabc_write.specs.PlainText.{IsText, AreUnitTexts}
 use Rattle.gabc_write.proofs.plain.PlainCharacters.{is_plain, append, is_text, text_plain}
 use Rattle.gabc_write.proofs.reading_again.PrintedSyllableIsOneUnit.{whole_units}
@@ -59,9 +59,6 @@ feed : codes "\n" ≡ encodes (10 ∷ [])
 unfolding encode
 feed = refl
 
-abbrev bytes_of : PlacedSyllable → List ℕ
-bytes_of s = canonical (starts_word s.position) s.made
-
 joined : (s t : List ℕ) → IsText s → IsText t → IsText (s ++ t)
 joined s t h k = is_text (s ++ t) (append is_plain s t (text_plain s h) (text_plain t k))
 
@@ -76,7 +73,8 @@ module _ (lines : ℕ) (one : (u : ScoreUnit) (m : UnplacedSyllable) → HoldsUn
     are_syllables : AreSyllables lines facts
     facts_are : AreFactsOf units ss facts
     own : AreOwnFacts lines units facts
-    bytes : flat_map bytes_of ss ++ codes "\n" ≡ encodes (printed_body facts)
+    texts : ArePrintedTexts ss facts
+    bytes : flat_map canonical_in_place ss ++ codes "\n" ≡ encodes (printed_body facts)
     plain : AreUnitTexts units → IsText (printed_body facts)
 
   -- a unit begins a word where its text does: the first one's does
@@ -86,7 +84,7 @@ module _ (lines : ℕ) (one : (u : ScoreUnit) (m : UnplacedSyllable) → HoldsUn
 
   behind : (before units : List ScoreUnit) (earlier ss : List PlacedSyllable) → all ≡ before ++ units → made ≡ earlier ++ ss → length earlier ≡ length before → length ss ≡ length units
       → (lines ≡ 0 → All IsSingle units) → Behind units ss
-  behind before [] earlier [] e f n m single = record { facts = []; are_syllables = tt; facts_are = tt; own = tt; bytes = feed; plain = λ h. is_text (10 ∷ []) refl }
+  behind before [] earlier [] e f n m single = record { facts = []; are_syllables = tt; facts_are = tt; own = tt; texts = tt; bytes = feed; plain = λ h. is_text (10 ∷ []) refl }
   behind before [] earlier (s ∷ ss) e f n m single = absurd (omega (arith, m))
   behind before (u ∷ units) earlier [] e f n m single = absurd (omega (arith, m))
   behind before (u ∷ units) earlier (s ∷ ss) e f n m single =
@@ -95,14 +93,15 @@ module _ (lines : ℕ) (one : (u : ScoreUnit) (m : UnplacedSyllable) → HoldsUn
       let r = behind (before ++ u ∷ []) units (earlier ++ s ∷ []) ss (e ∙ sym (append_assoc before (u ∷ []) units)) (f ∙ sym (append_assoc earlier (s ∷ []) ss))
       (omega (arith, length-append before (u ∷ []), length-append earlier (s ∷ []), n)) (omega (arith, m)) (λ z. All-tail IsSingle u units (single z)) in
       let starts : starts_word s.position ≡ s.made.text.word_start =
-      ap starts_word h.position_is ∙ starts_by (begins_word before u) (next_begins_word units) ∙ begins_as before units u e ∙ sym (ap (λ (v : TextView). v.word_start) h.holds.view_is) in
-      let here : bytes_of s ≡ encodes (printed_syllable (view_facts u.text) p.snippets) = ap (λ (b : Bool). canonical b s.made) starts ∙ p.bytes in
+      ap starts_word h.position_is ∙ starts_by (begins_word before u) (next_begins_word units) ∙ begins_as before units u e ∙ sym (ap (λ (v : ViewContent). v.word_start) h.holds.view_is) in
+      let here : canonical_in_place s ≡ encodes (printed_syllable (view_facts u.text) p.snippets) = ap (λ (b : Bool). canonical b s.made) starts ∙ p.bytes in
       record {
         facts = record { view = view_facts u.text; snippets = p.snippets } ∷ r.facts;
         are_syllables = (((u.text, refl), p.are_snippets), r.are_syllables);
         facts_are = ((refl, p.texts), r.facts_are);
         own = ((refl, p.own), r.own);
-        bytes = append_assoc (bytes_of s) (flat_map bytes_of ss) (codes "\n") ∙ ap (λ (x : List ℕ). x ++ (flat_map bytes_of ss ++ codes "\n")) here
+        texts = (here, r.texts);
+        bytes = append_assoc (canonical_in_place s) (flat_map canonical_in_place ss) (codes "\n") ∙ ap (λ (x : List ℕ). x ++ (flat_map canonical_in_place ss ++ codes "\n")) here
             ∙ ap (λ (x : List ℕ). encodes (printed_syllable (view_facts u.text) p.snippets) ++ x) r.bytes ∙ sym (encodes-append (printed_syllable (view_facts u.text) p.snippets) (printed_body r.facts));
         plain = λ k. joined (printed_syllable (view_facts u.text) p.snippets) (printed_body r.facts) (p.plain k.0.0 k.0.1) (r.plain k.1);
       }
@@ -118,4 +117,4 @@ module _ (lines : ℕ) (one : (u : ScoreUnit) (m : UnplacedSyllable) → HoldsUn
   pub are_printed : (lines ≡ 0 → All IsSingle all) → ArePrinted lines all made
   are_printed single =
       let r = behind [] all [] made refl refl refl syllables.count single in
-      record { facts = r.facts; are_syllables = r.are_syllables; first = first_is all made r.facts first r.facts_are; facts_are = r.facts_are; own = r.own; bytes = r.bytes; plain = r.plain }
+      record { facts = r.facts; are_syllables = r.are_syllables; first = first_is all made r.facts first r.facts_are; facts_are = r.facts_are; own = r.own; texts = r.texts; bytes = r.bytes; plain = r.plain }

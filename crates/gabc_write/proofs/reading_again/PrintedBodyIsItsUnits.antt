@@ -6,7 +6,7 @@ use Rattle.gabc_places.specs.declared.place.Char.{Char}
 use Rattle.gabc_places.specs.Place.{place_past, placed_characters_from}
 use Rattle.gabc_text.specs.declared.stage.TextEvent.{TextEvent}
 use Rattle.gabc_text.specs.Ends.{EndsOnce, ends_in}
-use Rattle.gabc_text.specs.Events.{after_tokens, events_by_point}
+use Rattle.gabc_text.specs.Events.{codes_of, after_tokens, events_by_point}
 use Rattle.gabc_text.specs.Printed.{print, text_tokens, translation_tokens, text_of_tokens, word_break}
 use Rattle.gabc_text.specs.ViewFacts.{ViewFacts, view_facts}
 use Rattle.gabc_score.specs.Events.{InText, texts_by_definition, text_from, behind_mark}
@@ -48,6 +48,7 @@ module _ (ends_once : (at : Place) (t : List ℕ) → EndsOnce at t) (lines macr
     last : List Char
     cut : (begins : Place) → AreUnitsFrom lines macros begins (placed_characters_from at (printed_body ss)) units (JustText last)
     again : SayAgain lines macros units (JustText last) ss
+    last_is : codes_of last ≡ 10 ∷ []
     no_more : last_units (JustText last) ≡ []
 
   units_from : (at : Place) (ss : List SyllableFacts) → AreSyllables lines ss → From at ss
@@ -58,6 +59,7 @@ module _ (ends_once : (at : Place) (t : List ℕ) → EndsOnce at t) (lines macr
         last = last;
         cut = λ begins. record { characters = refl; cut = text_open lines begins (10 ∷ []) last (ends_once begins (10 ∷ [])) refl refl };
         again = tt;
+        last_is = refl;
         no_more = refl;
       }
   units_from at (s ∷ ss) h =
@@ -70,6 +72,7 @@ module _ (ends_once : (at : Place) (t : List ℕ) → EndsOnce at t) (lines macr
         last = r.last;
         cut = λ begins. o.one_more begins r.units (JustText r.last) behind;
         again = (subst (λ (xs : List Char). SaysAgain lines macros o.unit xs s.view s.snippets) behind.characters o.again, r.again);
+        last_is = r.last_is;
         no_more = r.no_more;
       }
 
@@ -96,5 +99,6 @@ module _ (ends_once : (at : Place) (t : List ℕ) → EndsOnce at t) (lines macr
           ),
         );
         again = r.again;
+        last_is = r.last_is;
         no_more = r.no_more;
       }

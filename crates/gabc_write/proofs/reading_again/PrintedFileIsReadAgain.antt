@@ -35,5 +35,6 @@ file_is limits book facts h e b = record {
   cut = subst (λ (xs : List Char). IsCut texts_by_definition (nabc_lines_of book) (macros_of book) xs (record { comment = []; units = Some (record { closed = b.units; last = JustText b.last }) }))
       (sym (body_is book (printed_body facts) e)) b.cut;
   again = b.again;
+  last_is = b.last_is;
   no_more = b.no_more;
 }

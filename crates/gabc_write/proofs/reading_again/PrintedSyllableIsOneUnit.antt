@@ -1,5 +1,5 @@
 -- A printed syllable is one unit in front of whatever follows.
-use Rattle.std.proofs.Common.{◌≡◌, ℕ, zero, suc, nat_lt, List, [], ◌∷◌, ◌++◌, length, Bool, true, false, cond, refl, sym, ap, subst, ◌∙◌, append_assoc, arith, codes}
+use Rattle.std.proofs.Common.{◌≡◌, ℕ, zero, suc, nat_lt, List, [], ◌∷◌, ◌++◌, length, Bool, true, false, cond, refl, sym, ap, subst, ◌∙◌, append_assoc, append-nil, arith, codes}
 use Rattle.std.proofs.lemmas.Bool.Decides.{nat_tests}
 use Rattle.gabc_places.specs.declared.place.Place.{Place}
 use Rattle.gabc_places.specs.declared.place.Char.{Char}
@@ -105,6 +105,13 @@ module _ (ends_once : (at : Place) (t : List ℕ) → EndsOnce at t)
     codes_are : codes_of (characters_in unit ++ behind) ≡ text ++ 40 ∷ later
     codes_are = ap codes_of (sym characters_are) ∙ codes_placed at (all ++ rest) ∙ text_is
 
+    -- the notes from their `(` on
+    own_notes : codes_of (unit.text.end ∷ with_ends (snippets_in unit)) ≡ 40 ∷ (barred (s ∷ ss) ++ 41 ∷ [])
+    own_notes =
+        let spelled_all : placed_characters_from notes (barred (s ∷ ss) ++ 41 ∷ []) ≡ with_ends (snippets_in unit) =
+        snippets_spelled notes s ss [] ∙ sym (ends_with unit.nexts unit.final []) ∙ append-nil (with_ends (snippets_in unit)) in
+        ap (λ (x : List ℕ). 40 ∷ x) (ap codes_of (sym spelled_all) ∙ codes_placed notes (barred (s ∷ ss) ++ 41 ∷ []))
+
     text_cut : (begins : Place) → EndsBehind lines (text_from texts_by_definition begins (placed_characters_from at (all ++ rest))) unit.text.characters Opens
     text_cut begins =
         let e : codes_of (placed_characters_from at (all ++ rest)) ≡ text ++ 40 ∷ later = codes_placed at (all ++ rest) ∙ text_is in
@@ -138,6 +145,7 @@ module _ (ends_once : (at : Place) (t : List ℕ) → EndsOnce at t)
         errors = λ place. ap (λ (x : List ℕ). has_error (findings place x)) codes_are ∙ none_wrong place t later;
         kept = ap kept codes_are ∙ all_kept t later;
         snippets = snippets_again gabc_again nabc_again lines macros 0 notes s ss rest behind (several (s ∷ ss) single) each behind_is;
+        notes = own_notes;
       };
     }
 

@@ -6,6 +6,7 @@ use Rattle.std.proofs.lemmas.List.Elements.{All-nil, All-cons, All-head, All-tai
 use Rattle.std.proofs.lemmas.Str.{encodes-append}
 use lib.Utf8.{encodes}
 use Rattle.gabc_places.specs.declared.limits.Limits.{Limits}
+use Rattle.gabc_places.specs.LargerLimits.{AreNoLess}
 use Rattle.gabc_places.specs.declared.place.Char.{Char}
 use Rattle.gabc_places.specs.declared.code.Fault.{Fault}
 use Rattle.gabc_places.specs.Place.{placed_characters_behind}
@@ -26,9 +27,13 @@ use Rattle.gabc_score.specs.Units.{BodyUnit, LastUnit, JustText, OpenNotes, Unit
 use Rattle.gabc_score.specs.SyllablesOfUnits.{ScoreUnit, with_ends, snippets_in, characters_in, last_in, characters_from, unit_characters, closed_units, last_units, score_units, count_within, units_within, AreSyllablesOf, body_characters, IsBodyCut, StandBeforeBodyStop}
 use Rattle.gabc_write.specs.PlainText.{IsText, AreUnitTexts}
 use Rattle.gabc_places.specs.Text.{decoded_of}
-use Rattle.gabc_write.specs.BodyAgain.{SyllableFacts, AreSyllables, FirstBeginsWord, FirstTextBeginsWord, ArePrinted, printed_body}
+use Rattle.gabc_write.specs.BodyAgain.{SyllableFacts, AreSyllables, FirstBeginsWord, FirstTextBeginsWord, ArePrinted, printed_body, AreFactsOf}
 use Rattle.gabc_write.specs.FileAgain.{printed_file, IsFileAgain}
 use Rattle.gabc_write.specs.ScoreAgain.{IsPrintedScore, IsSameScore, IsScoreAgain}
+use Rattle.gabc_notes.specs.ReadAgain.{IsWarning}
+use Rattle.gabc_score.specs.WithinLimits.{CanonicalWithin, AreWithin}
+use Rattle.gabc_write.specs.Said.{AreSame}
+use Rattle.gabc_write.proofs.reading_again.NoLimitIsPassedAgain.{AllShort, printed_short, within_larger, file_fits}
 use Rattle.gabc_write.proofs.plain.PlainCharacters.{NoMark, is_plain, plain, append, parts_of, is_text, text_plain}
 use Rattle.gabc_write.proofs.plain.KeptSnippetsArePlain.{codes_append}
 use Rattle.gabc_write.proofs.plain.BookIsPlain.{heads_plain}
@@ -193,6 +198,7 @@ module _ (one : (texts : Texts) (lines macros : ℕ) (xs : List Char) → (cut :
         facts_are = p.facts_are;
         are_syllables = p.are_syllables;
         first = p.first;
+        texts = p.texts;
         bytes = ap (λ (x : List ℕ). encodes (canonical_heads book) ++ x) p.bytes ∙ sym (encodes-append (canonical_heads book) (printed_body p.facts));
         text = λ k. is_text (printed_file book p.facts) (append is_plain (canonical_heads book) (printed_body p.facts)
             (subst (λ (b : List (List ℕ × List ℕ)). plain (canonical_heads b) ≡ true) heads.book_is (heads_plain limits t heads.heads heads.read (text_plain t k)))
@@ -205,26 +211,41 @@ pub score_again : (printed : (limits : Limits) (ending : InputEnding) (t : List 
     → (score_of limits ending t).book ≡ Some book → IsPrintedScore t book (score_of limits ending t).syllables)
     → (decoded : (limits : Limits) (ended : Bool) (text : List ℕ) → All IsScalar text → All (λ c. (c ≢ 13) × (c ≢ 0xFEFF)) text → length (encodes text) ≤ limits.input
     → decoded_of limits ended (encodes text) ≡ record { text = text; fault = None })
-    → (file : (limits : Limits) (t : List ℕ) (heads : Heads) (facts : List SyllableFacts) → heads_of limits t ≡ Ok heads → AreSyllables (nabc_lines_of heads.book) facts
-    → FirstBeginsWord facts → IsFileAgain limits heads.book facts)
+    → (file : (limits larger : Limits) (t : List ℕ) (heads : Heads) (facts : List SyllableFacts) → AreNoLess limits larger → heads_of limits t ≡ Ok heads → AreSyllables (nabc_lines_of heads.book) facts
+    → FirstBeginsWord facts → IsFileAgain larger heads.book facts)
     → (same : (limits : Limits) (book : List (List ℕ × List ℕ)) (facts : List SyllableFacts) → IsFileAgain limits book facts
     → length (encodes (printed_file book facts)) < 2 ^ 63 → (score_of limits Whole (printed_file book facts)).fault ≡ None
     → IsSameScore book facts (score_of limits Whole (printed_file book facts)))
-    → (limits : Limits) (ending : InputEnding) (t : List ℕ) (book : List (List ℕ × List ℕ)) → length (encodes t) < 2 ^ 63 → IsText t
-    → (score_of limits ending t).book ≡ Some book → IsScoreAgain limits t book (score_of limits ending t).syllables
-score_again printed decoded file same limits ending t book short text h =
+    → (given : (limits : Limits) (ending : InputEnding) (t : List ℕ) (book : List (List ℕ × List ℕ)) → (score_of limits ending t).book ≡ Some book
+    → AreWithin limits (length (encodes (canonical_heads book))) (score_of limits ending t).syllables)
+    → (none : (limits : Limits) (book : List (List ℕ × List ℕ)) (facts : List SyllableFacts) → IsFileAgain limits book facts → AllShort limits.syllable facts
+    → length (encodes (printed_file book facts)) ≤ limits.input → (score_of limits Whole (printed_file book facts)).fault ≡ None)
+    → (warns : (limits : Limits) (book : List (List ℕ × List ℕ)) (facts : List SyllableFacts) → IsFileAgain limits book facts → All IsWarning (score_of limits Whole (printed_file book facts)).findings)
+    → (equal : (lines : ℕ) (units others : List ScoreUnit) (ss ts : List PlacedSyllable) (facts : List SyllableFacts) → AreSyllablesOf lines units ss → AreSyllablesOf lines others ts
+    → AreFactsOf units ss facts → AreFactsOf others ts facts → FirstBeginsWord facts → AreSame ss ts)
+    → (limits larger : Limits) (ending : InputEnding) (t : List ℕ) (book : List (List ℕ × List ℕ)) → AreNoLess limits larger → length (encodes t) < 2 ^ 63 → IsText t
+    → (score_of limits ending t).book ≡ Some book → IsScoreAgain larger t book (score_of limits ending t).syllables
+score_again printed decoded file same given none warns equal limits larger ending t book no_less short text h =
+    let syllables = (score_of limits ending t).syllables in
     let p = printed limits ending t book short h in
     let heads = heads_are limits ending t book h in
     let own = p.text text in
-    let read : IsFileAgain limits book p.facts = subst (λ (b : List (List ℕ × List ℕ)). IsFileAgain limits b p.facts) heads.book_is
-    (file limits t heads.heads p.facts heads.read (subst (λ (b : List (List ℕ × List ℕ)). AreSyllables (nabc_lines_of b) p.facts) (sym heads.book_is) p.are_syllables) p.first) in
+    let read : IsFileAgain larger book p.facts = subst (λ (b : List (List ℕ × List ℕ)). IsFileAgain larger b p.facts) heads.book_is
+    (file limits larger t heads.heads p.facts no_less heads.read (subst (λ (b : List (List ℕ × List ℕ)). AreSyllables (nabc_lines_of b) p.facts) (sym heads.book_is) p.are_syllables) p.first) in
+    let w : CanonicalWithin larger (length (encodes (canonical_heads book))) syllables = within_larger limits larger _ syllables no_less (given limits ending t book h).canonical in
+    let fits = file_fits larger book syllables w in
+    let size : length (encodes (printed_file book p.facts)) ≤ larger.input = subst (λ (bytes : List ℕ). length bytes ≤ larger.input) p.bytes fits in
+    let no_fault = none larger book p.facts read (printed_short larger.syllable syllables p.facts p.texts w.texts) size in
+    let again = same larger book p.facts read (omega (arith, size, larger.in_range.input_most)) no_fault in
     record {
       printed = p;
-      decoded = λ ended fits. subst (λ (bytes : List ℕ). decoded_of limits ended bytes ≡ record { text = printed_file book p.facts; fault = None }) (sym p.bytes)
-          (decoded limits ended (printed_file book p.facts) own.scalars own.plain (subst (λ (bytes : List ℕ). length bytes ≤ limits.input) p.bytes fits));
+      fits = fits;
+      decoded = λ ended. subst (λ (bytes : List ℕ). decoded_of larger ended bytes ≡ record { text = printed_file book p.facts; fault = None }) (sym p.bytes)
+          (decoded larger ended (printed_file book p.facts) own.scalars own.plain size);
       file = read;
-      same = λ fits small fault.
-          let size : length (encodes (printed_file book p.facts)) ≤ limits.input = subst (λ (bytes : List ℕ). length bytes ≤ limits.input) p.bytes fits in
-          let again = same limits book p.facts read (omega (arith, size, small)) fault in
-          (again, again.bytes ∙ sym p.bytes);
+      no_fault = no_fault;
+      warnings = warns larger book p.facts read;
+      same = again;
+      said = equal (nabc_lines_of book) again.units p.units _ syllables p.facts again.syllables_are p.syllables_are again.facts_are p.facts_are p.first;
+      same_file = again.bytes ∙ sym p.bytes;
     }

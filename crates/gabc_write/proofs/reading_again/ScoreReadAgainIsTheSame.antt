@@ -34,7 +34,7 @@ module _ (lines macros : ℕ) where
   some_parts [] final e = absurd (cc)
   some_parts (n ∷ nexts) final e = absurd (cc)
 
-  same_facts : (units : List BodyUnit) (last : LastUnit) (facts others : List SyllableFacts) → SayAgain lines macros units last facts
+  pub same_facts : (units : List BodyUnit) (last : LastUnit) (facts others : List SyllableFacts) → SayAgain lines macros units last facts
       → AreOwnFacts lines (closed_units units last ++ []) others → others ≡ facts
   same_facts [] last [] [] h k = refl
   same_facts [] last [] (g ∷ others) h k = absurd k

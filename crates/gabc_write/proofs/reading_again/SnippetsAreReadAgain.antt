@@ -25,7 +25,8 @@ use Rattle.gabc_score.specs.Units as unit
 use Rattle.gabc_score.specs.Units.{EndedPart, CutPart, cut_part, snippets_with, whole, EndsBehind, Cuts}
 use Rattle.gabc_score.specs.Holding.{IsSnippetOf, kept_on_line}
 use Rattle.gabc_score.specs.SyllablesOfUnits.{with_ends}
-use Rattle.gabc_write.specs.SyllableAgain.{barred, AreSnippetsFrom, snippet_events, IsSnippetAgain, AreSnippetsAgain}
+use Rattle.gabc_score.specs.FoundInParts.{snippet_events}
+use Rattle.gabc_write.specs.SyllableAgain.{barred, AreSnippetsFrom, IsSnippetAgain, AreSnippetsAgain}
 use Rattle.gabc_write.proofs.reading_again.PlacedCharacters.{placed_append, past_append, codes_placed}
 use Rattle.gabc_write.proofs.reading_again.PartsEndAtTheirMarks.{mark_of, snippet_ends}
 

@@ -31,10 +31,7 @@ loop-c-preserved c =
 pub returns-in-None-goes_on : goal.returns-in-None-goes_on
 returns-in-None-goes_on c =
     let g : going_on c.loop-c.state (class_of_character c.in-Some.c) ≡ None = cc (c.class_of.ensures, c.goes_on.ensures, c.in-None-goes_on.is) in
-    let t = stops_at c.args.text.now c.loop-c.yielded _ _ c.loop-c.state c.loop-c.read c.in-Some.c c.loop-c.best c.utf8.text c.loop-c.invariant c.in-Some.ensures.steps.0 g in
-    record { found = t.found; none = t.none }
+    stops_at c.args.text.now c.loop-c.yielded _ _ c.loop-c.state c.loop-c.read c.in-Some.c c.loop-c.best c.loop-c.invariant c.in-Some.ensures.steps.0 g
 
 pub returns : goal.returns
-returns c =
-    let t = end_at c.args.text.now c.loop-c.yielded _ c.loop-c.state c.loop-c.read c.loop-c.best c.utf8.text c.loop-c.invariant c.in-None.ensures.steps.0.0 in
-    record { found = t.found; none = t.none }
+returns c = end_at c.args.text.now c.loop-c.yielded _ c.loop-c.state c.loop-c.read c.loop-c.best c.loop-c.invariant c.in-None.ensures.steps.0.0

@@ -2,6 +2,7 @@ use Rattle.std.proofs.Common.{◌≡◌, ◌==◌, ◌+◌, [], ◌∷◌, lengt
 use Rattle.std.specs.Str.{chars, NonePass, IsCharBoundary}
 use Rattle.std.specs.Str.Iter.{chars_rest}
 use Rattle.std.proofs.lemmas.Str.{chars_past_char}
+use Rattle.gabc_text.specs.TextView.{content_of}
 use Rattle.gabc_text.specs.View.{bytes_of}
 use Rattle.gabc_text.specs.machine.TextStage.{events_of_finish}
 use Rattle.gabc_text.specs.machine.BuiltText.{built_text_of}
@@ -78,7 +79,7 @@ returns-then-is_done c =
     (rw past at index) in
     record {
       kept_is = c.into_read.ensures.kept ∙ m.kept_is;
-      view_is = c.into_read.ensures.view ∙ m.view_is;
+      view_is = ap content_of c.into_read.ensures.view ∙ m.view_is;
       findings_are = c.into_read.ensures.findings ∙ m.findings_are;
       how_is = c.into_read.ensures.how ∙ c.ending_of-how.ensures ∙ m.how_is;
     }
@@ -93,7 +94,7 @@ returns c =
     (c.in_ok-close.ensures ∙ ap (with_events (built_text_of c.loop-c.builder)) (sym (append-nil (events_of_finish c.loop-c.stage))) ∙ (rw none at i.told)) (rw none at i.left) index in
     record {
       kept_is = c.into_read-2.ensures.kept ∙ m.kept_is;
-      view_is = c.into_read-2.ensures.view ∙ m.view_is;
+      view_is = ap content_of c.into_read-2.ensures.view ∙ m.view_is;
       findings_are = c.into_read-2.ensures.findings ∙ m.findings_are;
       how_is = c.into_read-2.ensures.how ∙ c.ending_of-how-2.ensures ∙ m.how_is;
     }

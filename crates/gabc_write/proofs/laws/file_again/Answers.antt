@@ -7,6 +7,6 @@ use Rattle.gabc_write.specs.BodyAgain.{printed_body}
 use Rattle.gabc_write.proofs.laws.file_again.Goals as goal
 
 pub returns : goal.returns
-returns c limits t heads facts ok are first =
-    file_is limits heads.book facts (c.book_again.ensures.read limits t (printed_body facts) heads ok) (c.book_again.ensures.ends limits t (printed_body facts) heads ok)
+returns c limits larger t heads facts no_less ok are first =
+    file_is larger heads.book facts (c.book_again.ensures.read limits larger t (printed_body facts) heads no_less ok) (c.book_again.ensures.ends limits t (printed_body facts) heads ok)
     (c.body_again.ensures.read (nabc_lines_of heads.book) (macros_of heads.book) (place_after (canonical_heads heads.book)) facts are first)

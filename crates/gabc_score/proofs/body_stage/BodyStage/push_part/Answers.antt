@@ -1,3 +1,12 @@
+use Rattle.std.proofs.Common.{◌≡◌, ℕ, ◌≤◌, true, false, List, map, length, refl, sym, ap, ◌∙◌, arith}
+use Rattle.std.proofs.lemmas.List.{length-map}
+use Rattle.std.specs.List.{list_any}
+use Rattle.gabc_places.specs.declared.place.Place.{Place}
+use Rattle.gabc_notes.specs.ItemMachine as notes
+use Rattle.gabc_notes.specs.declared.stage.NoteEvent.{NoteEvent}
+use Rattle.gabc_score.specs.Events.{is_next, is_close, note_event}
+use Rattle.gabc_score.proofs.building.EventsOfSnippets.{snippet_emits}
+use Rattle.gabc_score.proofs.building.CountsOfParts.{text_goes, text_ends, notes_go, notes_close}
 use Rattle.gabc_score.proofs.building.SyllableEndsLast.{notes_close_last, texts_close_last}
 use Rattle.gabc_score.proofs.body_stage.BodyStage.push_part.Goals as goal
 
@@ -10,11 +19,101 @@ returns-else-ended-clause-once c = texts_close_last c.push_text-ended.new.events
 pub returns-then-next-clause-once : goal.returns-then-next-clause-once
 returns-then-next-clause-once c = notes_close_last 0 c.in-Notes.opened c.push_notes-next.new.events.items c.push_notes-next.ensures.once
 
+pub returns-then-close-clause-once : goal.returns-then-close-clause-once
+returns-then-close-clause-once c = notes_close_last 0 c.in-Notes.opened c.push_notes-next.new.events.items c.push_notes-next.ensures.once
+
 pub returns-else-close-clause-once : goal.returns-else-close-clause-once
 returns-else-close-clause-once c = notes_close_last 0 c.in-Notes.opened c.push_notes-next.new.events.items c.push_notes-next.ensures.once
 
 pub returns-then-next-2-clause-once : goal.returns-then-next-2-clause-once
 returns-then-next-2-clause-once c = notes_close_last c.in-Nabc.line c.in-Nabc.opened c.push_notes-next-in-Nabc.new.events.items c.push_notes-next-in-Nabc.ensures.once
 
+pub returns-then-close-2-clause-once : goal.returns-then-close-2-clause-once
+returns-then-close-2-clause-once c = notes_close_last c.in-Nabc.line c.in-Nabc.opened c.push_notes-next-in-Nabc.new.events.items c.push_notes-next-in-Nabc.ensures.once
+
 pub returns-else-close-2-clause-once : goal.returns-else-close-2-clause-once
 returns-else-close-2-clause-once c = notes_close_last c.in-Nabc.line c.in-Nabc.opened c.push_notes-next-in-Nabc.new.events.items c.push_notes-next-in-Nabc.ensures.once
+
+-- ---- the counts
+
+pub returns-then-ended-clause-bounds : goal.returns-then-ended-clause-bounds
+returns-then-ended-clause-bounds c =
+    rw (← c.self.view_is, c.in-Text.is)
+    (text_ends c.in-Text.stage c.push_text-ended.new.stage c.push_text-ended.new.events.items c.push_text-ended.ensures.pushes.few c.push_text-ended.ensures.pieces
+    c.snippet-self-inside.result c.snippet-self-inside.ensures.counts)
+
+pub returns-else-ended-clause-bounds : goal.returns-else-ended-clause-bounds
+returns-else-ended-clause-bounds c =
+    rw (← c.self.view_is, c.in-Text.is)
+    (text_goes c.in-Text.stage c.push_text-ended.new.stage c.push_text-ended.new.events.items c.push_text-ended.ensures.pushes.few c.push_text-ended.ensures.pieces)
+
+pub returns-then-next-clause-bounds : goal.returns-then-next-clause-bounds
+returns-then-next-clause-bounds c =
+    rw (← c.self.view_is, c.in-Notes.is)
+    (notes_go 0 c.in-Notes.opened _ c.push_notes-next.new.events.items c.push_notes-next.ensures.pushes.few (λ o h. h)
+    c.next_snippet-self-inside.result c.next_snippet-self-inside.ensures.counts)
+
+pub returns-then-close-clause-bounds : goal.returns-then-close-clause-bounds
+returns-then-close-clause-bounds c =
+    rw (← c.self.view_is, c.in-Notes.is)
+    (notes_close 0 c.in-Notes.opened _ c.push_notes-next.new.events.items c.push_notes-next.ensures.pushes.few (λ o h. h)
+    c.text_behind-self-inside.result c.text_behind-self-inside.ensures.counts c.push_notes-next.ensures.once (sym (ap (λ p. p.1) c.push_notes-next.ensures.pushes.answers) ∙ c.if-close.true))
+
+pub returns-else-close-clause-bounds : goal.returns-else-close-clause-bounds
+returns-else-close-clause-bounds c =
+    rw (← c.self.view_is, c.in-Notes.is)
+    (notes_go 0 c.in-Notes.opened _ c.push_notes-next.new.events.items c.push_notes-next.ensures.pushes.few (λ o h. h) _ (λ o h. h))
+
+pub returns-then-next-2-clause-bounds : goal.returns-then-next-2-clause-bounds
+returns-then-next-2-clause-bounds c =
+    rw (← c.self.view_is, c.in-Nabc.is)
+    (notes_go c.in-Nabc.line c.in-Nabc.opened _ c.push_notes-next-in-Nabc.new.events.items c.push_notes-next-in-Nabc.ensures.pushes.few (λ o h. h)
+    c.next_snippet-self-inside-then-next-2.result c.next_snippet-self-inside-then-next-2.ensures.counts)
+
+pub returns-then-close-2-clause-bounds : goal.returns-then-close-2-clause-bounds
+returns-then-close-2-clause-bounds c =
+    rw (← c.self.view_is, c.in-Nabc.is)
+    (notes_close c.in-Nabc.line c.in-Nabc.opened _ c.push_notes-next-in-Nabc.new.events.items c.push_notes-next-in-Nabc.ensures.pushes.few (λ o h. h)
+    c.text_behind-self-inside-then-close-2.result c.text_behind-self-inside-then-close-2.ensures.counts c.push_notes-next-in-Nabc.ensures.once (sym (ap (λ p. p.1) c.push_notes-next-in-Nabc.ensures.pushes.answers) ∙ c.if-close-2.true))
+
+pub returns-else-close-2-clause-bounds : goal.returns-else-close-2-clause-bounds
+returns-else-close-2-clause-bounds c =
+    rw (← c.self.view_is, c.in-Nabc.is)
+    (notes_go c.in-Nabc.line c.in-Nabc.opened _ c.push_notes-next-in-Nabc.new.events.items c.push_notes-next-in-Nabc.ensures.pushes.few (λ o h. h) _ (λ o h. h))
+
+-- ---- the events
+
+few : (es : List NoteEvent) (line : ℕ) (opened : Place) → length es ≤ 3 → length (map (note_event line opened) es) ≤ 8
+few es line opened h = rw (length-map es (note_event line opened)) (omega (arith, h))
+
+pub returns-then-next-clause-events : goal.returns-then-next-clause-events
+returns-then-next-clause-events c =
+    let p = c.push_notes-next.ensures.pushes in
+    let es = c.push_notes-next.new.events.items in
+    let next : list_any is_next es ≡ true = sym (ap (λ p. p.0) p.answers) ∙ c.if-next.true in
+    rw (← c.self.view_is, c.in-Notes.is) (record {
+      few = few es 0 c.in-Notes.opened p.few;
+      law = snippet_emits c.self.inside.nabc_lines c.self.inside.macros 0 c.in-Notes.opened c.args.x es (notes.events_left c.in-Notes.stage) (notes.events_left c.push_notes-next.new.stage) p.law _ (λ xs. rw next (c.next_snippet-self-inside.ensures.part xs));
+    })
+
+pub returns-then-close-clause-events : goal.returns-then-close-clause-events
+returns-then-close-clause-events c =
+    let p = c.push_notes-next.ensures.pushes in
+    let es = c.push_notes-next.new.events.items in
+    let next : list_any is_next es ≡ false = sym (ap (λ p. p.0) p.answers) ∙ c.if-next.false in
+    let close : list_any is_close es ≡ true = sym (ap (λ p. p.1) p.answers) ∙ c.if-close.true in
+    rw (← c.self.view_is, c.in-Notes.is) (record {
+      few = few es 0 c.in-Notes.opened p.few;
+      law = snippet_emits c.self.inside.nabc_lines c.self.inside.macros 0 c.in-Notes.opened c.args.x es (notes.events_left c.in-Notes.stage) (notes.events_left c.push_notes-next.new.stage) p.law _ (λ xs. rw (next, close) (c.text_behind-self-inside.ensures.part xs));
+    })
+
+pub returns-else-close-clause-events : goal.returns-else-close-clause-events
+returns-else-close-clause-events c =
+    let p = c.push_notes-next.ensures.pushes in
+    let es = c.push_notes-next.new.events.items in
+    let next : list_any is_next es ≡ false = sym (ap (λ p. p.0) p.answers) ∙ c.if-next.false in
+    let close : list_any is_close es ≡ false = sym (ap (λ p. p.1) p.answers) ∙ c.if-close.false in
+    rw (← c.self.view_is, c.in-Notes.is) (record {
+      few = few es 0 c.in-Notes.opened p.few;
+      law = snippet_emits c.self.inside.nabc_lines c.self.inside.macros 0 c.in-Notes.opened c.args.x es (notes.events_left c.in-Notes.stage) (notes.events_left c.push_notes-next.new.stage) p.law _ (λ xs. rw (next, close) refl);
+    })

@@ -1,3 +1,4 @@
+use Rattle.gabc_text.proofs.PiecesFollowCharacters.{finish_is_paid}
 use Rattle.gabc_text.proofs.machine.EventsLeftAreThoseAhead.{finish_ends}
 use Rattle.gabc_text.proofs.NothingBehindTheEnd.{finish_stops, finish_is_over}
 use Rattle.gabc_text.proofs.stage.TextStageStage.finish.Goals as goal
@@ -10,3 +11,6 @@ returns-clause-end c = finish_stops c.args.self.now c.stop.new.self c.args.out.n
 
 pub returns-clause-over : goal.returns-clause-over
 returns-clause-over c = finish_is_over c.args.self.now c.stop.new.self c.stop.ensures.stage
+
+pub returns-clause-pieces : goal.returns-clause-pieces
+returns-clause-pieces c = finish_is_paid c.args.self.now c.args.out.now c.stop.new.out c.stop.ensures.out

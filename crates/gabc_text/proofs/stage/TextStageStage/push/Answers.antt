@@ -1,3 +1,4 @@
+use Rattle.gabc_text.proofs.PiecesFollowCharacters.{push_is_paid}
 use Rattle.gabc_text.proofs.machine.EventsLeftAreThoseAhead.{push_emits}
 use Rattle.gabc_text.proofs.NothingBehindTheEnd.{push_stops}
 use Rattle.gabc_text.proofs.stage.TextStageStage.push.Goals as goal
@@ -7,3 +8,6 @@ returns-clause-events c = push_emits c.args.self.now c.take.new.self c.args.inpu
 
 pub returns-clause-end : goal.returns-clause-end
 returns-clause-end c = push_stops c.args.self.now c.args.input.c c.take.new.self c.args.out.now c.take.new.out c.take.ensures.stage c.take.ensures.out
+
+pub returns-clause-pieces : goal.returns-clause-pieces
+returns-clause-pieces c = push_is_paid c.args.self.now c.args.input.c c.take.new.self c.args.out.now c.take.new.out c.take.ensures.stage c.take.ensures.out

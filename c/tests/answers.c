@@ -1,0 +1,98 @@
+/* Compares what the library answers with tables of cases: texts, lengths, status, messages as records, and buffers that are too small.
+ *
+ * Usage: answers TABLE.. */
+#include <stdlib.h>
+#include <string.h>
+
+#include "../gregorio.h"
+#include "cases.h"
+
+enum { UNTOUCHED = 0xA5 };
+
+static bool is_text(const struct text *wanted, const uint8_t *bytes, size_t length) {
+  return length == wanted->length && memcmp(bytes, wanted->bytes, length) == 0;
+}
+
+/* Compiles into buffers with this much room, and says what the answer has to be for each. */
+static void try_rooms(const struct test_case *it, size_t number, size_t output_room, size_t messages_room) {
+  uint8_t *output = malloc(output_room + 1), *messages = malloc(messages_room + 1);
+  memset(output, UNTOUCHED, output_room + 1);
+  memset(messages, UNTOUCHED, messages_room + 1);
+  struct gregorio_lengths lengths = {0, 0};
+  uint32_t status = gregorio_compile(it->input.bytes, it->input.length, it->format, it->flags, output, output_room, messages,
+                                     messages_room, &lengths);
+  check(status == it->status, "status", number);
+  check(lengths.output == it->output.length && lengths.messages == it->messages.length, "lengths", number);
+  if (output_room >= it->output.length) {
+    check(is_text(&it->output, output, lengths.output), "output", number);
+    check(output[lengths.output] == UNTOUCHED, "the byte behind the output", number);
+  } else {
+    check(output[0] == UNTOUCHED, "an output that does not fit", number);
+  }
+  if (messages_room >= it->messages.length) {
+    check(is_text(&it->messages, messages, lengths.messages), "messages", number);
+    check(messages[lengths.messages] == UNTOUCHED, "the byte behind the messages", number);
+  } else {
+    check(messages[0] == UNTOUCHED, "messages that do not fit", number);
+  }
+  free(output);
+  free(messages);
+}
+
+static const char *const CODES[] = {"",   "E1", "E2", "E3", "E4",  "E5",  "E6", "W1", "W2", "W3", "W4", "W5", "W6",
+                                    "W7", "W8", "W9", "W10", "W11", "F1", "F2", "F3", "F4", "F5", "F6", "F7"};
+static const char *const KINDS[] = {"warning", "error", "fatal"};
+
+/* Compares messages as records with the lines of the text. */
+static void try_records(const struct test_case *it, size_t number) {
+  size_t room = 0, count = 0;
+  check(gregorio_messages(it->input.bytes, it->input.length, it->flags, NULL, 0, &room) == it->status, "status of records", number);
+  struct gregorio_message *list = malloc((room + 1) * sizeof *list);
+  gregorio_messages(it->input.bytes, it->input.length, it->flags, list, room, &count);
+  check(count == room, "number of records", number);
+  const char *at = (const char *)it->messages.bytes, *end = at + it->messages.length;
+  for (size_t i = 0; i < count; i++) {
+    char wanted[100];
+    int length = snprintf(wanted, sizeof wanted, "<stdin>:%llu:%llu: %s: %s: ", (unsigned long long)list[i].line,
+                          (unsigned long long)list[i].column, KINDS[list[i].severity], CODES[list[i].code]);
+    const char *next = memchr(at, '\n', (size_t)(end - at));
+    check(next && end - at >= length && memcmp(at, wanted, (size_t)length) == 0, "a record", number);
+    if (!next) break;
+    at = next + 1;
+  }
+  check(at == end, "a record for each line", number);
+  free(list);
+}
+
+static void try_refusals(void) {
+  uint8_t output[4], messages[4];
+  memset(output, UNTOUCHED, sizeof output);
+  struct gregorio_lengths lengths = {77, 78};
+  size_t count = 79;
+  check(gregorio_compile(NULL, 0, 2, 0, output, 4, messages, 4, &lengths) == GREGORIO_REFUSED, "another format", 0);
+  check(gregorio_compile(NULL, 0, 0, 2, output, 4, messages, 4, &lengths) == GREGORIO_REFUSED, "another flag", 0);
+  check(gregorio_messages(NULL, 0, 4, NULL, 0, &count) == GREGORIO_REFUSED, "another flag of messages", 0);
+  check(lengths.output == 77 && lengths.messages == 78 && count == 79 && output[0] == UNTOUCHED, "nothing written", 0);
+}
+
+int main(int count, char **tables) {
+  size_t number = 0;
+  struct test_case it;
+  for (int i = 1; i < count; i++) {
+    FILE *table = fopen(tables[i], "rb");
+    if (!table) return 2;
+    while (next_case(table, &it)) {
+      number++;
+      try_rooms(&it, number, it.output.length + 9, it.messages.length + 9);
+      try_rooms(&it, number, it.output.length, it.messages.length);
+      if (it.output.length) try_rooms(&it, number, it.output.length - 1, it.messages.length);
+      if (it.messages.length) try_rooms(&it, number, it.output.length, it.messages.length - 1);
+      try_records(&it, number);
+      free_case(&it);
+    }
+    fclose(table);
+  }
+  check(number > 0, "there are cases", 0);
+  try_refusals();
+  return summary("answers");
+}

@@ -1,0 +1,34 @@
+/* Cases of a table: a line each, its columns parted by tabs: words, limits, how the source ended, input, output, messages, status. */
+#ifndef CASES_H
+#define CASES_H
+
+#include <stdbool.h>
+#include <stddef.h>
+#include <stdint.h>
+#include <stdio.h>
+
+struct text {
+  uint8_t *bytes;
+  size_t length;
+};
+
+struct test_case {
+  uint32_t format;
+  uint32_t flags;
+  uint32_t status;
+  struct text input;
+  struct text output;
+  struct text messages;
+};
+
+/* Reads the next case of a whole input under the default limits. Ends the program where a line has other columns. */
+bool next_case(FILE *table, struct test_case *found);
+void free_case(struct test_case *it);
+
+/* Tells of a trial that failed, and counts it. */
+void check(bool passed, const char *what, size_t number);
+
+/* Prints how many trials passed and failed, and returns the exit status. */
+int summary(const char *program);
+
+#endif

@@ -1,0 +1,25 @@
+use Rattle.std.proofs.Common.{◌≤◌, ◌+◌, length, take, take_all, sym, ap, ◌∙◌, arith}
+use Rattle.gabc_score.specs.machine.Collected.{result_past_all}
+use Rattle.gabc_score.proofs.score_events.OutputsAreCollected.{collected, past_more}
+use Rattle.gabc_score.proofs.body_result.BodyResult.add_all.Goals as goal
+
+pub loop-event-preserved : goal.loop-event-preserved
+loop-event-preserved c =
+    let a = c.args.pair.now.first in
+    let b = c.args.pair.now.second in
+    let k = c.loop-event.event-index in
+    let same = c.slice-event-items.ensures in
+    record {
+      past = past_more a b c.args.self.now c.loop-event.self c.add.new.self c.slice-event-items.result.now k _ c.loop-event-test.true
+          (c.loop-event.invariant.past ∙ ap (λ es. result_past_all a b c.args.self.now (take k es)) (sym same)) c.in_ok-add.ensures
+          ∙ ap (λ es. result_past_all a b c.args.self.now (take (k + 1) es)) same;
+    }
+
+pub returns-clause-said : goal.returns-clause-said
+returns-clause-said c outs e l =
+    let a = c.args.pair.now.first in
+    let b = c.args.pair.now.second in
+    let k = c.loop-event.event-index in
+    let items = c.args.out.now.items in
+    let past : length items ≤ k = let t = c.loop-event-test.false in let s = ap length c.slice-event-items.ensures in omega (arith, t, s) in
+    c.loop-event.invariant.past ∙ ap (result_past_all a b c.args.self.now) (take_all k items past ∙ e) ∙ collected a b c.args.self.now outs l

@@ -1,0 +1,233 @@
+-- What is counted of a syllable goes on with the events of a part.
+use Rattle.std.proofs.Common.{◌≡◌, ℕ, ◌+◌, ◌*◌, ◌≤◌, ◌||◌, Bool, true, false, cond, List, [], ◌∷◌, ◌++◌, map, length, take, drop, encode_utf8, refl, sym, ap, subst, ◌∙◌, arith, length-append, length-take}
+use Rattle.std.specs.List.{list_any}
+use Rattle.std.proofs.lemmas.Str.{length-encode, len_utf8_bounds}
+use Rattle.gabc_places.specs.declared.place.Place.{Place}
+use Rattle.gabc_text.specs.declared.stage.TextStage.{TextStage}
+use Rattle.gabc_text.specs.declared.stage.TextEnd.TheVariants as text_end
+use Rattle.gabc_text.specs.declared.stage.TextPart.TheVariants as text_part
+use Rattle.gabc_text.specs.declared.stage.TextEvent.{TextEvent}
+use Rattle.gabc_text.specs.declared.stage.TextEvent.TheVariants as text
+use Rattle.gabc_text.specs.BuiltText.{kept_in}
+use Rattle.gabc_text.specs.PiecesOwed.{pieces_in, PiecesArePaid}
+use Rattle.gabc_notes.specs.declared.stage.NoteEnd.TheVariants as note_end
+use Rattle.gabc_notes.specs.declared.stage.NoteEvent.{NoteEvent}
+use Rattle.gabc_notes.specs.declared.stage.NoteEvent.TheVariants as note
+use Rattle.gabc_score.specs.declared.events.BodyEvent.{BodyEvent}
+use Rattle.gabc_score.specs.declared.events.BodyEvent.TheVariants as event
+use Rattle.gabc_score.specs.declared.body_stage.BodyPart.{BodyPart}
+use Rattle.gabc_score.specs.declared.body_stage.BodyPart.TheVariants as part
+use Rattle.gabc_score.specs.Events.{is_close, note_event}
+use Rattle.gabc_score.specs.Syllable.{prefix_of, is_seam}
+use Rattle.gabc_score.specs.machine.BodyBuilder.{with_all}
+use Rattle.gabc_score.specs.machine.Gatherer.{Gathered, with_text, with_event, with_snippet}
+use Rattle.gabc_score.specs.machine.PartCounts.{CountsInNotes, CountsHold, PartGoesOn}
+use Rattle.gabc_score.specs.machine.PartPushes.{NoteClosesLast}
+use Rattle.gabc_score.specs.machine.Slot.{FitsEvent, FitsText, FitEach}
+use Rattle.gabc_score.specs.machine.SyllableBuilder.{OpenSyllable, nothing_open, snippet_from}
+
+-- a character has one to four bytes
+bytes_of : (c : ℕ) → (1 ≤ length (encode_utf8 c)) × (length (encode_utf8 c) ≤ 4)
+bytes_of c = rw (length-encode c) (len_utf8_bounds c)
+
+kept_more : (kept : List ℕ) (c : ℕ) → (length kept + 1 ≤ length (kept ++ encode_utf8 c)) × (length (kept ++ encode_utf8 c) ≤ length kept + 4)
+kept_more kept c = let b = bytes_of c in let l = length-append kept (encode_utf8 c) in let low = b.0 in let high = b.1 in (omega (arith, low, l), omega (arith, high, l))
+
+-- ---- texts
+
+abbrev of_texts : List TextEvent → List BodyEvent
+of_texts es = map (λ (o : TextEvent). event.Text o) es
+
+-- what some events of a text add
+pub record TextGrows (o p : OpenSyllable) (pieces kept : ℕ) : Type 0 where
+  pub pieces_are : length p.view.pieces ≡ length o.view.pieces + pieces
+  pub kept_grows : length o.kept + kept ≤ length p.kept
+  pub from_stays : o.from ≤ length o.kept → p.from ≤ length p.kept
+  pub snippets_stay : p.snippets ≡ o.snippets
+
+unmoved : (o p : OpenSyllable) (n : ℕ) → p.kept ≡ o.kept → p.from ≡ o.from → p.snippets ≡ o.snippets → length p.view.pieces ≡ length o.view.pieces + n → TextGrows o p n 0
+unmoved o p n k f s e = record { pieces_are = e; kept_grows = rw k (omega arith); from_stays = λ h. rw (k, f) h; snippets_stay = s }
+
+grows_one : (g : Gathered) (e : TextEvent) → TextGrows g.builder (with_text g e).builder (pieces_in (e ∷ [])) (length (kept_in (e ∷ [])))
+grows_one g (text.Kept c) =
+    let b = (kept_more g.builder.kept c.c).0 in record { pieces_are = omega arith; kept_grows = b; from_stays = λ h. omega (arith, h, b); snippets_stay = refl }
+grows_one g (text.Part text_part.WordStart) = unmoved _ _ 0 refl refl refl (omega arith)
+grows_one g (text.Part (text_part.Piece p)) = unmoved _ _ 1 refl refl refl (length-append g.builder.view.pieces (p ∷ []))
+grows_one g (text.Part (text_part.Centre s)) = unmoved _ _ 0 refl refl refl (omega arith)
+grows_one g (text.Part (text_part.Translation s)) = unmoved _ _ 0 refl refl refl (omega arith)
+grows_one g (text.Found f) = unmoved _ _ 0 refl refl refl (omega arith)
+grows_one g (text.Ended text_end.Notes) =
+    let b = (kept_more g.builder.kept 40).0 in record { pieces_are = omega arith; kept_grows = omega (arith, b); from_stays = λ h. omega arith; snippets_stay = refl }
+grows_one g (text.Ended text_end.Finished) = unmoved _ _ 0 refl refl refl (omega arith)
+grows_one g (text.Ended (text_end.Cut p)) = unmoved _ _ 0 refl refl refl (omega arith)
+
+grows_then : (o p q : OpenSyllable) (a b c d : ℕ) → TextGrows o p a b → TextGrows p q c d → TextGrows o q (a + c) (b + d)
+grows_then o p q a b c d h k = record {
+  pieces_are = let x = h.pieces_are in let y = k.pieces_are in omega (arith, x, y);
+  kept_grows = let x = h.kept_grows in let y = k.kept_grows in omega (arith, x, y);
+  from_stays = λ e. k.from_stays (h.from_stays e);
+  snippets_stay = k.snippets_stay ∙ h.snippets_stay;
+}
+
+pieces_cons : (e : TextEvent) (es : List TextEvent) → pieces_in (e ∷ es) ≡ pieces_in (e ∷ []) + pieces_in es
+pieces_cons (text.Kept c) es = omega arith
+pieces_cons (text.Part text_part.WordStart) es = omega arith
+pieces_cons (text.Part (text_part.Piece p)) es = omega arith
+pieces_cons (text.Part (text_part.Centre s)) es = omega arith
+pieces_cons (text.Part (text_part.Translation s)) es = omega arith
+pieces_cons (text.Found f) es = omega arith
+pieces_cons (text.Ended h) es = omega arith
+
+kept_cons : (e : TextEvent) (es : List TextEvent) → length (kept_in (e ∷ es)) ≡ length (kept_in (e ∷ [])) + length (kept_in es)
+kept_cons (text.Kept c) es = omega arith
+kept_cons (text.Part p) es = omega arith
+kept_cons (text.Found f) es = omega arith
+kept_cons (text.Ended h) es = omega arith
+
+grows_all : (g : Gathered) (es : List TextEvent) → TextGrows g.builder (with_all g (of_texts es)).builder (pieces_in es) (length (kept_in es))
+grows_all g [] = unmoved _ _ 0 refl refl refl (omega arith)
+grows_all g (e ∷ es) = rw (pieces_cons e es, kept_cons e es) (grows_then _ _ _ _ _ _ _ (grows_one g e) (grows_all (with_text g e) es))
+
+-- what one event adds to the bytes and to the pieces
+record TextAdds (g h : Gathered) : Type 0 where
+  limit : h.limit ≡ g.limit
+  kept : length h.builder.kept ≤ length g.builder.kept + 4
+  pieces : length h.builder.view.pieces ≤ length g.builder.view.pieces + 1
+
+adds_one : (g : Gathered) (e : TextEvent) → TextAdds g (with_text g e)
+adds_one g (text.Kept c) = record { limit = refl; kept = (kept_more g.builder.kept c.c).1; pieces = omega arith }
+adds_one g (text.Part text_part.WordStart) = record { limit = refl; kept = omega arith; pieces = omega arith }
+adds_one g (text.Part (text_part.Piece p)) = record { limit = refl; kept = omega arith; pieces = let l = length-append g.builder.view.pieces (p ∷ []) in omega (arith, l) }
+adds_one g (text.Part (text_part.Centre s)) = record { limit = refl; kept = omega arith; pieces = omega arith }
+adds_one g (text.Part (text_part.Translation s)) = record { limit = refl; kept = omega arith; pieces = omega arith }
+adds_one g (text.Found f) = record { limit = refl; kept = omega arith; pieces = omega arith }
+adds_one g (text.Ended text_end.Notes) = record { limit = refl; kept = (kept_more g.builder.kept 40).1; pieces = omega arith }
+adds_one g (text.Ended text_end.Finished) = record { limit = refl; kept = omega arith; pieces = omega arith }
+adds_one g (text.Ended (text_end.Cut p)) = record { limit = refl; kept = omega arith; pieces = omega arith }
+
+texts_fit : (g : Gathered) (es : List TextEvent) → length g.builder.kept + 4 * length es ≤ g.limit + 32 → length g.builder.view.pieces + length es ≤ g.limit + 32 → FitEach g (of_texts es)
+texts_fit g [] k p = tt
+texts_fit g (e ∷ es) k p =
+    let a = adds_one g e in
+    let l = a.limit in
+    let more = a.kept in
+    let one = a.pieces in
+    (one_fits e, texts_fit (with_text g e) es (omega (arith, k, l, more)) (omega (arith, p, l, one)))
+  where
+    one_fits : (e : TextEvent) → FitsText g.limit g.builder e
+    one_fits (text.Kept c) = omega (arith, k)
+    one_fits (text.Part q) = omega (arith, p)
+    one_fits (text.Found f) = tt
+    one_fits (text.Ended h) = omega (arith, k)
+
+pub text_fits : (s : TextStage) (es : List TextEvent) → length es ≤ 8 → (g : Gathered) → CountsHold (part.Text s) g.builder → length g.builder.kept ≤ g.limit → FitEach g (of_texts es)
+text_fits s es few g h k = let pieces = h.0 in texts_fit g es (omega (arith, few, k)) (omega (arith, few, k, pieces))
+
+module _ (s t : TextStage) (es : List TextEvent) (few : length es ≤ 8) (paid : PiecesArePaid s es t) where
+  pub text_goes : PartGoesOn (part.Text s) (part.Text t) (of_texts es)
+  text_goes = record {
+    counts = λ g h. let r = grows_all g es in let p = r.pieces_are in let k = r.kept_grows in let pieces = h.0 in
+        (omega (arith, p, k, pieces, paid), (r.from_stays h.1.0, r.snippets_stay ∙ h.1.1));
+    fit = text_fits s es few;
+  }
+
+  pub text_ends : (after : BodyPart) → ((o : OpenSyllable) → CountsInNotes o → CountsHold after o) → PartGoesOn (part.Text s) after (of_texts es)
+  text_ends after into = record {
+    counts = λ g h. let r = grows_all g es in
+        into (with_all g (of_texts es)).builder (let none : length (with_all g (of_texts es)).builder.snippets ≡ 0 = ap length (r.snippets_stay ∙ h.1.1) in omega (arith, none), r.from_stays h.1.0);
+    fit = text_fits s es few;
+  }
+
+-- ---- snippets
+
+-- a prefix of a kept text that ends in a seam, or the text
+prefix_between : (from count : ℕ) (kept : List ℕ) → from ≤ length kept → (from ≤ length (prefix_of (from + count) kept)) × (length (prefix_of (from + count) kept) ≤ length kept)
+prefix_between from count kept h = by (is_seam (drop (from + count) kept))
+  where
+    by : (b : Bool) → (from ≤ length (cond b (take (from + count) kept) kept)) × (length (cond b (take (from + count) kept) kept) ≤ length kept)
+    by true = let l = length-take (from + count) kept in (omega (arith, h, l), omega (arith, l))
+    by false = (h, omega arith)
+
+-- what one event of a snippet adds
+record NoteAdds (g h : Gathered) : Type 0 where
+  limit : h.limit ≡ g.limit
+  kept : length h.builder.kept ≤ length g.builder.kept + 4
+  snippets : length h.builder.snippets ≤ length g.builder.snippets + 1
+  counts : CountsInNotes h.builder
+
+abbrev of_note : ℕ → Place → NoteEvent → BodyEvent
+of_note line opened e = note_event line opened e
+
+snippet_adds : (g : Gathered) (line count mark : ℕ) → CountsInNotes g.builder → NoteAdds g (with_snippet g line count mark)
+snippet_adds g line count mark h =
+    let b = prefix_between g.builder.from count g.builder.kept h.1 in
+    let low = b.0 in
+    let high = b.1 in
+    let m = kept_more (prefix_of (g.builder.from + count) g.builder.kept) mark in
+    let least = m.0 in
+    let most = m.1 in
+    let before = h.0 in
+    let l = length-append g.builder.snippets (snippet_from g.builder line (prefix_of (g.builder.from + count) g.builder.kept) ∷ []) in
+    record {
+      limit = refl;
+      kept = omega (arith, high, most);
+      snippets = omega (arith, l);
+      counts = (omega (arith, l, before, low, least), omega arith);
+    }
+
+note_adds : (line : ℕ) (opened : Place) (g : Gathered) (e : NoteEvent) → CountsInNotes g.builder → NoteAdds g (with_event g (of_note line opened e))
+note_adds line opened g (note.Kept c) h =
+    let m = kept_more g.builder.kept c.c in let low = m.0 in let from = h.1 in
+    record { limit = refl; kept = m.1; snippets = omega arith; counts = (h.0, omega (arith, low, from)) }
+note_adds line opened g (note.Found f) h = record { limit = refl; kept = omega arith; snippets = omega arith; counts = h }
+note_adds line opened g (note.Ended note_end.Next n) h = snippet_adds g line n 124 h
+note_adds line opened g (note.Ended note_end.Close n) h = record { limit = refl; kept = omega arith; snippets = omega arith; counts = (omega arith, omega arith) }
+note_adds line opened g (note.Ended (note_end.Cut p) n) h = record { limit = refl; kept = omega arith; snippets = omega arith; counts = h }
+
+module _ (line : ℕ) (opened : Place) where
+  abbrev of_notes : List NoteEvent → List BodyEvent
+  of_notes es = map (note_event line opened) es
+
+  notes_fit : (g : Gathered) (es : List NoteEvent) → CountsInNotes g.builder → length g.builder.kept + 4 * length es ≤ g.limit + 32 → length g.builder.snippets + length es ≤ g.limit + 32
+      → FitEach g (of_notes es)
+  notes_fit g [] h k s = tt
+  notes_fit g (e ∷ es) h k s =
+      let a = note_adds line opened g e h in
+      let l = a.limit in
+      let more = a.kept in
+      let one = a.snippets in
+      (one_fits e, notes_fit (with_event g (of_note line opened e)) es a.counts (omega (arith, k, l, more)) (omega (arith, s, l, one)))
+    where
+      one_fits : (e : NoteEvent) → FitsEvent g.limit g.builder (note_event line opened e)
+      one_fits (note.Kept c) = omega (arith, k)
+      one_fits (note.Found f) = tt
+      one_fits (note.Ended how n) = (omega (arith, k), omega (arith, s))
+
+  notes_count : (g : Gathered) (es : List NoteEvent) → CountsInNotes g.builder → CountsInNotes (with_all g (of_notes es)).builder
+  notes_count g [] h = h
+  notes_count g (e ∷ es) h = notes_count (with_event g (of_note line opened e)) es (note_adds line opened g e h).counts
+
+  -- a `)` leaves nothing open
+  nothing_left : (g : Gathered) (es : List NoteEvent) → NoteClosesLast es → list_any is_close es ≡ true → (with_all g (of_notes es)).builder ≡ nothing_open
+  nothing_left g [] h e = absurd (cc)
+  nothing_left g (x ∷ es) h e = by x refl (λ n. nothing_left (with_event g (of_note line opened x)) es h.1 (ap (λ b. b || list_any is_close es) (sym n) ∙ e))
+    where
+      by : (y : NoteEvent) → x ≡ y → (is_close x ≡ false → (with_all (with_event g (of_note line opened x)) (of_notes es)).builder ≡ nothing_open)
+          → (with_all (with_event g (of_note line opened x)) (of_notes es)).builder ≡ nothing_open
+      by (note.Kept c) p later = later (ap is_close p)
+      by (note.Found f) p later = later (ap is_close p)
+      by (note.Ended note_end.Next n) p later = later (ap is_close p)
+      by (note.Ended note_end.Close n) p later =
+          ap (λ ys. (with_all (with_event g (of_note line opened x)) (of_notes ys)).builder) (h.0 (ap is_close p))
+          ∙ ap (λ y. (with_event g (of_note line opened y)).builder) p
+      by (note.Ended (note_end.Cut q) n) p later = later (ap is_close p)
+
+  module _ (before : BodyPart) (es : List NoteEvent) (few : length es ≤ 3) (in_notes : (o : OpenSyllable) → CountsHold before o → CountsInNotes o) where
+    pub all_fit : (g : Gathered) → CountsHold before g.builder → length g.builder.kept ≤ g.limit → FitEach g (of_notes es)
+    all_fit g h k = let n = in_notes g.builder h in let s = n.0 in let f = n.1 in notes_fit g es n (omega (arith, few, k)) (omega (arith, few, k, s, f))
+
+    pub notes_go : (after : BodyPart) → ((o : OpenSyllable) → CountsInNotes o → CountsHold after o) → PartGoesOn before after (of_notes es)
+    notes_go after into = record { counts = λ g h. into (with_all g (of_notes es)).builder (notes_count g es (in_notes g.builder h)); fit = all_fit }
+
+    pub notes_close : (after : BodyPart) → CountsHold after nothing_open → NoteClosesLast es → list_any is_close es ≡ true → PartGoesOn before after (of_notes es)
+    notes_close after h o e = record { counts = λ g k. subst (CountsHold after) (sym (nothing_left g es o e)) h; fit = all_fit }

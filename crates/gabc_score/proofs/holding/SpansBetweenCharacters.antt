@@ -1,0 +1,97 @@
+-- The spans of a score's snippets begin and end between characters of the kept text.
+use Rattle.std.proofs.Common.{◌≡◌, ℕ, ◌+◌, ◌/◌, ◌%◌, ◌≤◌, inl, inr, List, [], ◌∷◌, ◌++◌, Bool, true, false, cond, nat_lt, length, length-append, drop, drop_at, map, refl, sym, ap, ◌∙◌, subst, append_assoc, arith}
+use Rattle.std.specs.List.{All}
+use Rattle.std.proofs.lemmas.Bool.{le-leb}
+use Rattle.std.proofs.lemmas.Bool.Decides.{nat_tests}
+use Rattle.std.proofs.lemmas.List.Elements.{All-nil, All-cons, All-head, All-tail}
+use Rattle.std.proofs.lemmas.Str.{encodes-append}
+use lib.Utf8.{encode, encodes}
+use Rattle.gabc_places.specs.declared.place.Span.{Span}
+use Rattle.gabc_text.specs.ViewFacts.{StandsFor}
+use Rattle.gabc_score.proofs.holding.SnippetsAreHeld.{bytes_are_size}
+use Rattle.gabc_score.specs.Body.{empty_snippet}
+use Rattle.gabc_score.specs.Holding.{ReadSnippet, HoldsParts, HasWholeSnippets}
+use Rattle.gabc_score.specs.Syllable.{UnplacedSyllable, PlacedSyllable, begins_character, is_seam, slice, text_at}
+use Rattle.gabc_score.specs.declared.snippets.Snippet.{Snippet}
+
+-- from 192 on a byte begins a character
+begins : (b : ℕ) → 192 ≤ b → begins_character b ≡ true
+begins b l = grind (arith, nat_tests)
+
+-- a character's bytes begin a character
+first_byte : (c : ℕ) (t : List ℕ) → is_seam (encode c ++ t) ≡ true
+unfolding encode
+first_byte c t = by (nat_lt c 128) (nat_lt c 2048) (nat_lt c 65536) refl
+  where
+    by : (x y z : Bool) → nat_lt c 128 ≡ x
+        → is_seam (cond x (c ∷ []) (cond y ((192 + c / 64) ∷ (128 + c % 64) ∷ []) (cond z ((224 + c / 4096) ∷ (128 + c / 64 % 64) ∷ (128 + c % 64) ∷ []) ((240 + c / 262144) ∷ (128 + c / 4096 % 64) ∷ (128 + c / 64 % 64) ∷ (128 + c % 64) ∷ []))) ++ t) ≡ true
+    by true y z e = rw (e) refl
+    by false true z e = begins (192 + c / 64) (omega arith)
+    by false false true e = begins (224 + c / 4096) (omega arith)
+    by false false false e = begins (240 + c / 262144) (omega arith)
+
+seam_of : (t : List ℕ) → is_seam (encodes t) ≡ true
+seam_of [] = refl
+seam_of (c ∷ t) = first_byte c (encodes t)
+
+-- behind a part of a text a character begins, or the text ends
+seam_behind : (a b : List ℕ) → is_seam (drop (length (encodes a)) (encodes (a ++ b))) ≡ true
+seam_behind a b =
+    subst (λ t. is_seam t ≡ true) (sym (ap (drop (length (encodes a))) (encodes-append a b) ∙ drop_at (encodes a) (encodes b) (length (encodes a)) refl)) (seam_of b)
+
+-- a span between characters has its text
+text_is : (span : Span) (bytes : List ℕ) → span.from ≤ span.to → span.to ≤ length bytes → is_seam (drop span.from bytes) ≡ true → is_seam (drop span.to bytes) ≡ true
+    → text_at span bytes ≡ slice span bytes
+text_is span bytes order within from to = rw (le-leb span.from span.to order, le-leb span.to (length bytes) within, from, to) refl
+
+-- so a span that stands for a part of a text
+pub part_text : (whole : List ℕ) (span : Span) (part : List ℕ) → StandsFor whole span part → text_at span (encodes whole) ≡ slice span (encodes whole)
+part_text whole span part h =
+    let from : span.from ≡ length (encodes h.prefix) = h.from_is ∙ bytes_are_size h.prefix in
+    let to : span.to ≡ length (encodes (h.prefix ++ part)) = h.to_is ∙ bytes_are_size (h.prefix ++ part) in
+    let all : whole ≡ (h.prefix ++ part) ++ h.back = h.parts ∙ sym (append_assoc h.prefix part h.back) in
+    let first : is_seam (drop span.from (encodes whole)) ≡ true =
+    subst (λ n. is_seam (drop n (encodes whole)) ≡ true) (sym from) (subst (λ t. is_seam (drop (length (encodes h.prefix)) (encodes t)) ≡ true) (sym h.parts) (seam_behind h.prefix (part ++ h.back))) in
+    let last : is_seam (drop span.to (encodes whole)) ≡ true =
+    subst (λ n. is_seam (drop n (encodes whole)) ≡ true) (sym to) (subst (λ t. is_seam (drop (length (encodes (h.prefix ++ part))) (encodes t)) ≡ true) (sym all) (seam_behind (h.prefix ++ part) h.back)) in
+    let front = ap (length {A = ℕ}) (encodes-append h.prefix part) ∙ length-append (encodes h.prefix) (encodes part) in
+    let size = ap (length {A = ℕ}) (ap encodes all ∙ encodes-append (h.prefix ++ part) h.back) ∙ length-append (encodes (h.prefix ++ part)) (encodes h.back) in
+    text_is span (encodes whole) (omega arith) (omega arith) first last
+
+-- ---- the snippets of a syllable
+
+-- the text of a span is its bytes
+abbrev pub IsWhole : List ℕ → Snippet → Type 0
+IsWhole kept s = text_at s.span kept ≡ slice s.span kept
+
+each_whole : (whole : List ℕ) (before xs : List ReadSnippet) → ((a b : List ReadSnippet) (s : ReadSnippet) → before ++ xs ≡ a ++ s ∷ b → StandsFor whole s.snippet.span s.kept)
+    → All (IsWhole (encodes whole)) (map (λ s. s.snippet) xs)
+each_whole whole before [] h = All-nil (IsWhole (encodes whole))
+each_whole whole before (x ∷ xs) h =
+    All-cons (IsWhole (encodes whole)) x.snippet (map (λ s. s.snippet) xs) (part_text whole x.snippet.span x.kept (h before xs x refl))
+    (each_whole whole (before ++ x ∷ []) xs (λ a b s e. h a b s (sym (append_assoc before (x ∷ []) xs) ∙ e)))
+
+end_seam : (bytes : List ℕ) → is_seam (drop (length bytes) bytes) ≡ true
+end_seam [] = refl
+end_seam (b ∷ bytes) = end_seam bytes
+
+empty_whole : (bytes : List ℕ) → IsWhole bytes (empty_snippet bytes)
+empty_whole bytes = text_is (empty_snippet bytes).span bytes (omega arith) (omega arith) (end_seam bytes) (end_seam bytes)
+
+-- each snippet of a syllable that holds its parts
+snippets_whole : (input : List ℕ) (lines : ℕ) (m : UnplacedSyllable) → HoldsParts input lines m → HasWholeSnippets m
+snippets_whole input lines m (inl h) =
+    let n = h.notes in
+    subst (λ k. All (IsWhole k) m.snippets) (sym h.kept_is)
+    (subst (All (IsWhole (encodes h.whole))) (sym n.snippets_are) (each_whole h.whole [] (n.earlier ++ n.last ∷ []) (λ a b s e. (n.each a b s e).stands)))
+snippets_whole input lines m (inr h) =
+    let n = h.notes in
+    subst (λ k. All (IsWhole k) m.snippets) (sym h.kept_is)
+    (subst (All (IsWhole (encodes h.whole))) (sym n.snippets_are) (All-cons (IsWhole (encodes h.whole)) (empty_snippet (encodes h.whole)) [] (empty_whole (encodes h.whole)) (All-nil (IsWhole (encodes h.whole)))))
+
+pub all_whole : (input : List ℕ) (lines : ℕ) (ss : List PlacedSyllable) → All (λ (s : PlacedSyllable). HoldsParts input lines s.made) ss
+    → All (λ (s : PlacedSyllable). HasWholeSnippets s.made) ss
+all_whole input lines [] h = All-nil (λ (s : PlacedSyllable). HasWholeSnippets s.made)
+all_whole input lines (s ∷ ss) h =
+    All-cons (λ (s : PlacedSyllable). HasWholeSnippets s.made) s ss (snippets_whole input lines s.made (All-head (λ (s : PlacedSyllable). HoldsParts input lines s.made) s ss h))
+    (all_whole input lines ss (All-tail (λ (s : PlacedSyllable). HoldsParts input lines s.made) s ss h))

@@ -1,0 +1,113 @@
+-- Behind a stop or the end a stage gives nothing.
+use Rattle.std.proofs.Common.{◌≡◌, true, List, [], ◌∷◌, ◌++◌, map, Option, Some, None, refl, sym, ap, subst, ◌∙◌}
+use Rattle.std.proofs.lemmas.List.{append_cancel_left}
+use Rattle.gabc_places.specs.BoundedList.{BoundedList, extended_by}
+use Rattle.gabc_places.specs.StageLaw.{concat_of, silence, EmitsNothing, StopsAtEnd}
+use Rattle.gabc_places.proofs.PushesAreOne.{joined_silence}
+use Rattle.gabc_places.specs.declared.code.Code.{Code}
+use Rattle.gabc_places.specs.declared.code.Fault.{Fault}
+use Rattle.gabc_places.specs.declared.limits.Limits.{Limits}
+use Rattle.gabc_places.specs.declared.place.Char.{Char}
+use Rattle.gabc_headers.specs.declared.head_event.HeadEvent.{HeadEvent}
+use Rattle.gabc_headers.specs.declared.head_event.HeadEvent.TheVariants as head_event
+use Rattle.gabc_score.specs.declared.events.BodyEvent.{BodyEvent}
+use Rattle.gabc_score.specs.declared.score_event.LentSyllable.{LentSyllable}
+use Rattle.gabc_score.specs.declared.score_event.LentSyllable.TheVariants.{First, Second}
+use Rattle.gabc_score.specs.declared.score_event.ScoreEvent.{ScoreEvent}
+use Rattle.gabc_score.specs.declared.score_machine.ScoreMachine.{ScoreMachine}
+use Rattle.gabc_score.specs.declared.score_machine.ScorePart.{ScorePart}
+use Rattle.gabc_score.specs.declared.score_machine.ScorePart.TheVariants as score_part
+use Rattle.gabc_score.specs.Body.{fault_at}
+use Rattle.gabc_score.specs.BodyStage.{BodyStageState, running_events_left, texts_by_stage}
+use Rattle.gabc_score.specs.Events.{InComment, events_from}
+use Rattle.gabc_score.specs.ScoreEvents.{ScoreOutput, Found, Stop, Syllable, End, findings_now, characters_in}
+use Rattle.gabc_score.specs.ScoreStage.{left_of, events_lent, events_of, is_last_event}
+use Rattle.gabc_score.specs.machine.BodyBuilder.{with_all, code_in, end_fault}
+use Rattle.gabc_score.specs.machine.Gatherer.{with_last}
+use Rattle.gabc_score.specs.machine.ScoreStage.{HeldScore, placed_behind, score_past, end_outputs_by, left_by, body_left, fresh_score, score_left, outputs_left}
+use Rattle.gabc_score.specs.machine.ScoreMachine.{shown}
+use Rattle.gabc_score.proofs.score_events.NothingBehindTheEnd.{Ends, silent, then_end, last_ends}
+
+-- ---- what is left ends at its first stop or end
+
+module _ (limits : Limits) where
+  end_ends : (s : HeldScore) (now : List BodyEvent) (fault : Option Fault) (outs : List ScoreOutput) → outs ≡ [] → Ends (end_outputs_by s now fault ++ outs)
+  end_ends s now (Some fault) outs e = last_ends [] (placed_behind s.given s.gathered.made) (Stop fault) outs e
+  end_ends s now None outs e = last_ends _ _ End outs e
+
+  by_code : (code : Option Code) (s : HeldScore) (x : Char) (now : List BodyEvent) (xs : List HeadEvent) (later : List (List ScoreOutput)) → Ends (concat_of later) → Ends (concat_of (left_by code s x now xs later))
+  by_code (Some code) s x now xs later h = last_ends [] (placed_behind s.given s.gathered.made) (Stop (fault_at x.place code)) (concat_of (silence xs)) (joined_silence xs)
+  by_code None s x now xs later h = then_end (findings_now now) _ (concat_of later) h
+
+  body_ends : (s : HeldScore) (lists : List (List BodyEvent)) (xs : List HeadEvent) → Ends (concat_of (body_left limits s lists xs))
+  body_ends s lists [] = then_end [] (placed_behind s.given s.gathered.made) [] tt
+  body_ends s (now ∷ lists) (head_event.Body x ∷ xs) = by_code (code_in limits (with_all s.gathered now)) s x now xs _ (body_ends (score_past s x now) lists xs)
+  body_ends s [] (head_event.Body x ∷ xs) = silent _ (joined_silence (head_event.Body x ∷ xs))
+  body_ends s lists (head_event.End ∷ xs) =
+      end_ends s (concat_of lists) (end_fault limits s.next (with_last (with_all s.gathered (concat_of lists)))) (concat_of (silence xs)) (joined_silence xs)
+  body_ends s lists (head_event.Stop fault ∷ xs) = last_ends [] (placed_behind s.given s.gathered.made) (Stop fault) (concat_of (silence xs)) (joined_silence xs)
+  body_ends s lists (head_event.Found f ∷ xs) = (λ l. absurd (cc), body_ends s lists xs)
+  body_ends s lists (head_event.Heads lines macros canonical ∷ xs) = body_ends s lists xs
+
+  score_ends : (xs : List HeadEvent) → Ends (concat_of (score_left limits xs))
+  score_ends [] = tt
+  score_ends (head_event.Heads lines macros canonical ∷ xs) = body_ends (fresh_score limits canonical) (events_from texts_by_stage lines macros InComment (characters_in xs)) xs
+  score_ends (head_event.Found f ∷ xs) = (λ l. absurd (cc), score_ends xs)
+  score_ends (head_event.Stop fault ∷ xs) = (λ l. joined_silence xs, silent _ (joined_silence xs))
+  score_ends (head_event.End ∷ xs) = (λ l. joined_silence xs, silent _ (joined_silence xs))
+  score_ends (head_event.Body x ∷ xs) = score_ends xs
+
+  left_ends : (part : ScorePart) (s : HeldScore) (body : BodyStageState) (xs : List HeadEvent) → Ends (concat_of (outputs_left limits part s body xs))
+  left_ends score_part.Heads s body xs = score_ends xs
+  left_ends score_part.Body s body xs = body_ends s (running_events_left body (characters_in xs)) xs
+  left_ends score_part.Over s body xs = silent _ (joined_silence xs)
+
+pub machine_ends : (m : ScoreMachine) (xs : List HeadEvent) → Ends (concat_of (left_of (shown m) xs))
+machine_ends m xs = left_ends m.limits m.part (record { next = m.next; gathered = m.pair.gathered; given = m.given }) m.body xs
+
+-- ---- the same of events
+
+both_empty : (a b : List ScoreOutput) → a ++ b ≡ [] → (a ≡ []) × (b ≡ [])
+both_empty [] b e = (refl, e)
+both_empty (x ∷ a) b e = absurd (cc)
+
+last_event : (l : LentSyllable) (outs later : List ScoreOutput) (before behind : List ScoreEvent) (e : ScoreEvent) → Ends (outs ++ later) → events_lent l outs ≡ before ++ e ∷ behind → is_last_event e ≡ true
+    → (behind ≡ []) × (later ≡ [])
+last_event l [] later [] behind e h k t = absurd (cc)
+last_event l [] later (p ∷ before) behind e h k t = absurd (cc)
+last_event l (Found f ∷ outs) later [] behind e h k t = absurd (cc)
+last_event l (Found f ∷ outs) later (p ∷ before) behind e h k t = let r : events_lent l outs ≡ before ++ e ∷ behind = cc in last_event l outs later before behind e h.1 r t
+last_event l (Syllable s ∷ outs) later [] behind e h k t = absurd (cc)
+last_event l (Syllable s ∷ outs) later (p ∷ before) behind e h k t = let r : events_lent Second outs ≡ before ++ e ∷ behind = cc in last_event Second outs later before behind e h.1 r t
+last_event l (Stop fault ∷ outs) later [] behind e h k t =
+    let n = both_empty outs later (h.0 refl) in let r : events_lent l outs ≡ behind = cc in (sym r ∙ ap (events_lent l) n.0, n.1)
+last_event l (Stop fault ∷ outs) later (p ∷ before) behind e h k t = let r : events_lent l outs ≡ before ++ e ∷ behind = cc in last_event l outs later before behind e h.1 r t
+last_event l (End ∷ outs) later [] behind e h k t =
+    let n = both_empty outs later (h.0 refl) in let r : events_lent l outs ≡ behind = cc in (sym r ∙ ap (events_lent l) n.0, n.1)
+last_event l (End ∷ outs) later (p ∷ before) behind e h k t = let r : events_lent l outs ≡ before ++ e ∷ behind = cc in last_event l outs later before behind e h.1 r t
+
+-- no outputs are no events
+pub no_events : (lists : List (List ScoreOutput)) → concat_of lists ≡ [] → concat_of (map (λ outs. events_of outs) lists) ≡ []
+no_events [] e = refl
+no_events (outs ∷ lists) e = let n = both_empty outs (concat_of lists) e in ap (λ os. events_of os ++ concat_of (map (λ outs. events_of outs) lists)) n.0 ∙ no_events lists n.1
+
+added : (old new : BoundedList ScoreEvent) (xs ys : List ScoreEvent) → new ≡ extended_by old xs → new ≡ extended_by old ys → xs ≡ ys
+added old new xs ys e h = append_cancel_left old.items xs ys (ap (λ (r : BoundedList ScoreEvent). r.items) (sym e ∙ h))
+
+pub stops : (m : ScoreMachine) (x : HeadEvent) (outs : List ScoreOutput) (after : List HeadEvent → List (List ScoreOutput)) (old new : BoundedList ScoreEvent)
+    → ((xs : List HeadEvent) → left_of (shown m) (x ∷ xs) ≡ outs ∷ after xs) → new ≡ extended_by old (events_of outs)
+    → StopsAtEnd is_last_event (λ (xs : List HeadEvent). map (λ outs. events_of outs) (after xs)) old new
+stops m x outs after old new law e before behind o h t =
+    let events = added old new (events_of outs) (before ++ o ∷ behind) e h in
+    let each : (xs : List HeadEvent) → (behind ≡ []) × (concat_of (after xs) ≡ []) = λ xs. last_event First outs (concat_of (after xs)) before behind o (subst (λ lists. Ends (concat_of lists)) (law xs) (machine_ends m (x ∷ xs))) events t in
+    ((each []).0, λ xs. no_events (after xs) (each xs).1)
+
+pub stops_last : (m : ScoreMachine) (outs : List ScoreOutput) (after : List HeadEvent → List (List ScoreEvent)) (old new : BoundedList ScoreEvent)
+    → left_of (shown m) [] ≡ outs ∷ [] → new ≡ extended_by old (events_of outs) → EmitsNothing after → StopsAtEnd is_last_event after old new
+stops_last m outs after old new law e none before behind o h t =
+    let events = added old new (events_of outs) (before ++ o ∷ behind) e h in
+    ((last_event First outs [] before behind o (subst (λ lists. Ends (concat_of lists)) law (machine_ends m [])) events t).0, none)
+
+-- behind its last event a machine gives nothing
+pub over_is_silent : (m : ScoreMachine) → m.part ≡ score_part.Over → EmitsNothing (λ (xs : List HeadEvent). map (λ outs. events_of outs) (left_of (shown m) xs))
+over_is_silent m e xs = no_events (left_of (shown m) xs) (ap (λ part. concat_of (outputs_left m.limits part (shown m).held m.body xs)) e ∙ joined_silence xs)

@@ -1,0 +1,66 @@
+-- What the events of a point leave within bounds.
+use Rattle.std.proofs.Common.{◌≡◌, ◌≤◌, ◌+◌, ◌||◌, ◌&&◌, not, nat_lt, Bool, true, false, cond, List, [], ◌∷◌, ◌++◌, length, Some, None, refl, ap, ◌∙◌, arith, length-append}
+use Rattle.gabc_places.specs.declared.code.Code.TheVariants.{F5, F7}
+use Rattle.gabc_places.specs.declared.limits.Limits.{Limits}
+use Rattle.gabc_places.specs.declared.code.Finding.{Finding}
+use Rattle.gabc_places.specs.BoundedList.{BoundedList}
+use Rattle.gabc_text.specs.declared.stage.TextEnd.TheVariants as text_end
+use Rattle.gabc_text.specs.declared.stage.TextEvent.TheVariants as text
+use Rattle.gabc_text.specs.declared.stage.TextPart.TheVariants as part
+use Rattle.gabc_notes.specs.declared.stage.NoteEnd.TheVariants as note_end
+use Rattle.gabc_notes.specs.declared.stage.NoteEvent.TheVariants as note
+use Rattle.gabc_score.specs.declared.events.BodyEvent.{BodyEvent}
+use Rattle.gabc_score.specs.declared.events.BodyEvent.TheVariants as event
+use Rattle.gabc_score.specs.Body.{is_none, events_onto, findings_with, findings_of}
+use Rattle.gabc_score.specs.machine.BodyBuilder.{with_all, with_found, code_in}
+use Rattle.gabc_score.specs.machine.Gatherer.{Gathered, with_event}
+
+-- where no limit is passed the kept text is within its limit
+pub within : (limits : Limits) (g : Gathered) → code_in limits g ≡ None → length g.builder.kept ≤ g.limit
+within limits g none = by (nat_lt g.limit (length g.builder.kept)) refl none
+  where
+    by : (b : Bool) → nat_lt g.limit (length g.builder.kept) ≡ b → cond (b || g.over) (Some F5) (cond (not (is_none g.made) && nat_lt limits.input (g.total + 1)) (Some F7) None) ≡ None → length g.builder.kept ≤ g.limit
+    by true e n = absurd (cc)
+    by false e n = grind (arith, e)
+
+-- ---- what events leave as it was
+
+limit_with : (g : Gathered) (t : BodyEvent) → (with_event g t).limit ≡ g.limit
+limit_with g (event.Text (text.Kept c)) = refl
+limit_with g (event.Text (text.Part part.WordStart)) = refl
+limit_with g (event.Text (text.Part (part.Piece p))) = refl
+limit_with g (event.Text (text.Part (part.Centre s))) = refl
+limit_with g (event.Text (text.Part (part.Translation s))) = refl
+limit_with g (event.Text (text.Found f)) = refl
+limit_with g (event.Text (text.Ended text_end.Notes)) = refl
+limit_with g (event.Text (text.Ended text_end.Finished)) = refl
+limit_with g (event.Text (text.Ended (text_end.Cut p))) = refl
+limit_with g (event.Notes line (note.Kept c)) = refl
+limit_with g (event.Notes line (note.Found f)) = refl
+limit_with g (event.Notes line (note.Ended note_end.Next n)) = refl
+limit_with g (event.Notes line (note.Ended note_end.Close n)) = refl
+limit_with g (event.Notes line (note.Ended (note_end.Cut p) n)) = refl
+
+pub limit_stays : (g : Gathered) (now : List BodyEvent) → (with_all g now).limit ≡ g.limit
+limit_stays g [] = refl
+limit_stays g (t ∷ now) = limit_stays (with_event g t) now ∙ limit_with g t
+
+found_one : (found : List Finding) (t : BodyEvent) → length (findings_with found t) ≤ length found + 1
+found_one found (event.Text (text.Kept c)) = omega arith
+found_one found (event.Text (text.Part p)) = omega arith
+found_one found (event.Text (text.Found f)) = let l = length-append found (f ∷ []) in omega (arith, l)
+found_one found (event.Text (text.Ended e)) = omega arith
+found_one found (event.Notes line (note.Kept c)) = omega arith
+found_one found (event.Notes line (note.Found f)) = let l = length-append found (f ∷ []) in omega (arith, l)
+found_one found (event.Notes line (note.Ended e n)) = omega arith
+
+-- no more is found than is emitted
+found_few : (now before : List BodyEvent) → length (findings_of (events_onto now before)) ≤ length (findings_of before) + length now
+found_few [] before = omega arith
+found_few (t ∷ now) before = let h = found_few now (t ∷ before) in let o = found_one (findings_of before) t in omega (arith, h, o)
+
+pub few_found : (old new : BoundedList Finding) (now : List BodyEvent) → old.items ≡ [] → new ≡ with_found old now → length now ≤ 8 → length new.items ≤ 8
+few_found old new now none e few =
+    let is : length new.items ≡ length (findings_of (events_onto now [])) = ap (λ (r : BoundedList Finding). length r.items) e ∙ ap (λ fs. length (fs ++ findings_of (events_onto now []))) none in
+    let h = found_few now [] in
+    omega (arith, is, h, few)

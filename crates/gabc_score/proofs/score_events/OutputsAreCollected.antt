@@ -1,0 +1,103 @@
+-- What is collected of events is what the outputs say.
+use Rattle.std.proofs.Common.{◌≡◌, ◌⊎◌, inl, inr, ℕ, zero, suc, ◌+◌, ◌<◌, List, [], ◌∷◌, ◌++◌, take, length, get_or, Option, Some, None, refl, sym, ap, ◌∙◌, append_assoc, append-nil}
+use Rattle.std.proofs.lemmas.List.{take_more}
+use Rattle.gabc_places.specs.declared.code.Finding.{Finding}
+use Rattle.gabc_places.specs.declared.code.Fault.{Fault}
+use Rattle.gabc_score.specs.declared.body_result.BodyResult.{BodyResult}
+use Rattle.gabc_score.specs.declared.score_event.LentSyllable.{LentSyllable}
+use Rattle.gabc_score.specs.declared.score_event.LentSyllable.TheVariants.{First, Second}
+use Rattle.gabc_score.specs.declared.score_event.ScoreEvent.{ScoreEvent}
+use Rattle.gabc_score.specs.ScoreEvents.{ScoreOutput, Found, Stop, Syllable, End, findings_in, syllables_in, fault_in}
+use Rattle.gabc_score.specs.ScoreStage.{events_lent, events_of}
+use Rattle.gabc_score.specs.Syllable.{PlacedSyllable}
+use Rattle.gabc_score.specs.machine.Collected.{fault_then, result_with, result_past, result_past_all}
+
+no_fault_then : (o : Option Fault) → fault_then o None ≡ o
+no_fault_then (Some f) = refl
+no_fault_then None = refl
+
+then_assoc : (a b c : Option Fault) → fault_then (fault_then a b) c ≡ fault_then a (fault_then b c)
+then_assoc (Some f) b c = refl
+then_assoc None b c = refl
+
+of_parts : List PlacedSyllable → List Finding → Option Fault → BodyResult
+of_parts ss fs o = record { syllables = ss; findings = fs; fault = o }
+
+pub with_none : (r : BodyResult) → result_with r [] ≡ r
+with_none r =
+    ap (λ ss. record { syllables = ss; findings = r.findings ++ []; fault = fault_then r.fault None }) (append-nil r.syllables)
+    ∙ ap (λ fs. record { syllables = r.syllables; findings = fs; fault = fault_then r.fault None }) (append-nil r.findings)
+    ∙ ap (λ o. record { syllables = r.syllables; findings = r.findings; fault = o }) (no_fault_then r.fault)
+
+findings_more : (a b : List ScoreOutput) → findings_in (a ++ b) ≡ findings_in a ++ findings_in b
+findings_more [] b = refl
+findings_more (Found f ∷ a) b = ap (λ fs. f ∷ fs) (findings_more a b)
+findings_more (Stop f ∷ a) b = findings_more a b
+findings_more (Syllable s ∷ a) b = findings_more a b
+findings_more (End ∷ a) b = findings_more a b
+
+syllables_more : (a b : List ScoreOutput) → syllables_in (a ++ b) ≡ syllables_in a ++ syllables_in b
+syllables_more [] b = refl
+syllables_more (Found f ∷ a) b = syllables_more a b
+syllables_more (Stop f ∷ a) b = syllables_more a b
+syllables_more (Syllable s ∷ a) b = ap (λ ss. s ∷ ss) (syllables_more a b)
+syllables_more (End ∷ a) b = syllables_more a b
+
+fault_more : (a b : List ScoreOutput) → fault_in (a ++ b) ≡ fault_then (fault_in a) (fault_in b)
+fault_more [] b = refl
+fault_more (Found f ∷ a) b = fault_more a b
+fault_more (Stop f ∷ a) b = refl
+fault_more (Syllable s ∷ a) b = fault_more a b
+fault_more (End ∷ a) b = fault_more a b
+
+-- outputs behind outputs
+pub with_more : (r : BodyResult) (a b : List ScoreOutput) → result_with (result_with r a) b ≡ result_with r (a ++ b)
+with_more r a b =
+    ap (λ ss. record { syllables = ss; findings = (r.findings ++ findings_in a) ++ findings_in b; fault = fault_then (fault_then r.fault (fault_in a)) (fault_in b) })
+    (append_assoc r.syllables (syllables_in a) (syllables_in b) ∙ ap (λ ss. r.syllables ++ ss) (sym (syllables_more a b)))
+    ∙ ap (λ fs. record { syllables = r.syllables ++ syllables_in (a ++ b); findings = fs; fault = fault_then (fault_then r.fault (fault_in a)) (fault_in b) })
+    (append_assoc r.findings (findings_in a) (findings_in b) ∙ ap (λ fs. r.findings ++ fs) (sym (findings_more a b)))
+    ∙ ap (λ o. record { syllables = r.syllables ++ syllables_in (a ++ b); findings = r.findings ++ findings_in (a ++ b); fault = o })
+    (then_assoc r.fault (fault_in a) (fault_in b) ∙ ap (fault_then r.fault) (sym (fault_more a b)))
+
+module _ (first second : PlacedSyllable) where
+  -- the syllables that these names stand for from here on
+  abbrev AreAhead : LentSyllable → List PlacedSyllable → Type 0
+  AreAhead First ahead = ahead ≡ first ∷ second ∷ []
+  AreAhead Second ahead = (ahead ≡ second ∷ []) ⊎ (ahead ≡ [])
+
+  none_of : (n : ℕ) → take {A = PlacedSyllable} n [] ≡ []
+  none_of zero = refl
+  none_of (suc n) = refl
+
+  collected_from : (l : LentSyllable) (ahead : List PlacedSyllable) (outs : List ScoreOutput) (n : ℕ) → AreAhead l ahead → syllables_in outs ≡ take n ahead → (r : BodyResult)
+      → result_past_all first second r (events_lent l outs) ≡ result_with r outs
+  collected_from l ahead [] n h e r = sym (with_none r)
+  collected_from l ahead (Found f ∷ outs) n h e r = collected_from l ahead outs n h e (record r { findings = r.findings ++ f ∷ [] }) ∙ ap (λ fs. record { syllables = r.syllables ++ syllables_in outs; findings = fs; fault = fault_then r.fault (fault_in outs) }) (append_assoc r.findings (f ∷ []) (findings_in outs))
+  collected_from l ahead (Stop f ∷ outs) n h e r = collected_from l ahead outs n h e (record r { fault = fault_then r.fault (Some f) }) ∙ ap (λ o. record { syllables = r.syllables ++ syllables_in outs; findings = r.findings ++ findings_in outs; fault = o }) (then_assoc r.fault (Some f) (fault_in outs))
+  collected_from l ahead (End ∷ outs) n h e r = collected_from l ahead outs n h e r
+  collected_from First ahead (Syllable s ∷ outs) zero h e r = absurd (cc)
+  collected_from First ahead (Syllable s ∷ outs) (suc n) h e r =
+      let k : s ∷ syllables_in outs ≡ first ∷ take n (second ∷ []) = e ∙ ap (take (suc n)) h in
+      let i : (s ≡ first) × (syllables_in outs ≡ take n (second ∷ [])) = (cc, cc) in
+      collected_from Second (second ∷ []) outs n (inl refl) i.1 (record r { syllables = r.syllables ++ first ∷ [] })
+      ∙ ap (λ ss. record { syllables = ss; findings = r.findings ++ findings_in outs; fault = fault_then r.fault (fault_in outs) }) (append_assoc r.syllables (first ∷ []) (syllables_in outs) ∙ ap (λ t. r.syllables ++ t ∷ syllables_in outs) (sym i.0))
+  collected_from Second ahead (Syllable s ∷ outs) zero h e r = absurd (cc)
+  collected_from Second ahead (Syllable s ∷ outs) (suc n) (inr h) e r = absurd (let k : s ∷ syllables_in outs ≡ [] = e ∙ ap (take (suc n)) h in cc)
+  collected_from Second ahead (Syllable s ∷ outs) (suc n) (inl h) e r =
+      let k : s ∷ syllables_in outs ≡ second ∷ take n [] = e ∙ ap (take (suc n)) h in
+      let i : (s ≡ second) × (syllables_in outs ≡ take n []) = (cc, cc) in
+      collected_from Second [] outs zero (inr refl) (i.1 ∙ none_of n) (record r { syllables = r.syllables ++ second ∷ [] })
+      ∙ ap (λ ss. record { syllables = ss; findings = r.findings ++ findings_in outs; fault = fault_then r.fault (fault_in outs) }) (append_assoc r.syllables (second ∷ []) (syllables_in outs) ∙ ap (λ t. r.syllables ++ t ∷ syllables_in outs) (sym i.0))
+
+  pub collected : (r : BodyResult) (outs : List ScoreOutput) → syllables_in outs ≡ take (length (syllables_in outs)) (first ∷ second ∷ []) → result_past_all first second r (events_of outs) ≡ result_with r outs
+  collected r outs e = collected_from First (first ∷ second ∷ []) outs (length (syllables_in outs)) refl e r
+
+  past_append : (r : BodyResult) (xs ys : List ScoreEvent) → result_past_all first second r (xs ++ ys) ≡ result_past_all first second (result_past_all first second r xs) ys
+  past_append r [] ys = refl
+  past_append r (x ∷ xs) ys = past_append (result_past first second r x) xs ys
+
+  pub past_more : (r now next : BodyResult) (es : List ScoreEvent) (i : ℕ) (d : ScoreEvent) → i < length es → now ≡ result_past_all first second r (take i es)
+      → next ≡ result_past first second now (get_or es i d) → next ≡ result_past_all first second r (take (i + 1) es)
+  past_more r now next es i d h e k =
+      k ∙ ap (λ r. result_past first second r (get_or es i d)) e ∙ sym (past_append r (take i es) (get_or es i d ∷ [])) ∙ ap (result_past_all first second r) (sym (take_more es i d h))

@@ -1,0 +1,99 @@
+-- Events that lend syllables tell the outputs.
+use Rattle.std.proofs.Common.{◌≡◌, ℕ, zero, suc, ◌≤◌, Bool, true, false, cond, List, [], ◌∷◌, ◌++◌, map, take, length, refl, sym, ap, subst, ◌∙◌, arith, length-append, append-nil, append_assoc}
+use Rattle.std.proofs.lemmas.List.{length-map, map-append}
+use Rattle.gabc_places.specs.declared.code.Finding.{Finding}
+use Rattle.gabc_places.specs.BoundedList.{BoundedList, extended_by}
+use Rattle.gabc_score.specs.declared.score_event.LentSyllable.{LentSyllable}
+use Rattle.gabc_score.specs.declared.score_event.LentSyllable.TheVariants.{First, Second}
+use Rattle.gabc_score.specs.declared.score_event.ScoreEvent.{ScoreEvent}
+use Rattle.gabc_score.specs.declared.score_event.ScoreEvent.TheVariants as event
+use Rattle.gabc_score.specs.ScoreEvents.{ScoreOutput, Found, Syllable, outputs_of, syllables_in}
+use Rattle.gabc_score.specs.ScoreStage.{events_lent, events_of, Tells}
+use Rattle.gabc_score.specs.Syllable.{PlacedSyllable}
+use Rattle.gabc_score.specs.machine.SlotPair.{lent_of}
+
+abbrev pub found_events : List Finding → List ScoreEvent
+found_events fs = map (λ (f : Finding). event.Found f) fs
+
+found_lent : (l : LentSyllable) (fs : List Finding) (outs : List ScoreOutput) → events_lent l (map (λ f. Found f) fs ++ outs) ≡ found_events fs ++ events_lent l outs
+found_lent l [] outs = refl
+found_lent l (f ∷ fs) outs = ap (λ es. event.Found f ∷ es) (found_lent l fs outs)
+
+found_syllables : (fs : List Finding) (outs : List ScoreOutput) → syllables_in (map (λ f. Found f) fs ++ outs) ≡ syllables_in outs
+found_syllables [] outs = refl
+found_syllables (f ∷ fs) outs = found_syllables fs outs
+
+module _ (fs : List Finding) (tail : List ScoreOutput) (last : List ScoreEvent) (none : syllables_in tail ≡ []) (last_is : (l : LentSyllable) → events_lent l tail ≡ last) (first second : PlacedSyllable) where
+  abbrev outs_of : ℕ → List ScoreOutput
+  outs_of n = outputs_of fs (take n (first ∷ second ∷ [])) ++ tail
+
+  assoc : (n : ℕ) → outs_of n ≡ map (λ f. Found f) fs ++ (map (λ s. Syllable s) (take n (first ∷ second ∷ [])) ++ tail)
+  assoc n = append_assoc (map (λ f. Found f) fs) (map (λ s. Syllable s) (take n (first ∷ second ∷ []))) tail
+
+  lent_are : (n : ℕ) → n ≤ 2 → events_of (map (λ s. Syllable s) (take n (first ∷ second ∷ [])) ++ tail) ≡ lent_of n ++ last
+  lent_are zero h = last_is First
+  lent_are (suc zero) h = ap (λ es. event.Syllable First ∷ es) (last_is Second)
+  lent_are (suc (suc zero)) h = ap (λ es. event.Syllable First ∷ event.Syllable Second ∷ es) (last_is Second)
+  lent_are (suc (suc (suc n))) h = absurd (omega (arith, h))
+
+  syllables_are : (n : ℕ) → n ≤ 2 → syllables_in (map (λ s. Syllable s) (take n (first ∷ second ∷ [])) ++ tail) ≡ take n (first ∷ second ∷ [])
+  syllables_are zero h = none
+  syllables_are (suc zero) h = ap (λ ss. first ∷ ss) none
+  syllables_are (suc (suc zero)) h = ap (λ ss. first ∷ second ∷ ss) none
+  syllables_are (suc (suc (suc n))) h = absurd (omega (arith, h))
+
+  count_is : (n : ℕ) → n ≤ 2 → length (take n (first ∷ second ∷ [])) ≡ n
+  count_is zero h = refl
+  count_is (suc zero) h = refl
+  count_is (suc (suc zero)) h = refl
+  count_is (suc (suc (suc n))) h = absurd (omega (arith, h))
+
+  lent_count : (n : ℕ) → n ≤ 2 → length (lent_of n) ≡ n
+  lent_count zero h = refl
+  lent_count (suc zero) h = refl
+  lent_count (suc (suc zero)) h = refl
+  lent_count (suc (suc (suc n))) h = absurd (omega (arith, h))
+
+  all_syllables : (n : ℕ) → n ≤ 2 → syllables_in (outs_of n) ≡ take n (first ∷ second ∷ [])
+  all_syllables n h = ap syllables_in (assoc n) ∙ found_syllables fs _ ∙ syllables_are n h
+
+  all_events : (n : ℕ) → n ≤ 2 → events_of (outs_of n) ≡ found_events fs ++ (lent_of n ++ last)
+  all_events n h = ap events_of (assoc n) ∙ found_lent First fs _ ∙ ap (λ es. found_events fs ++ es) (lent_are n h)
+
+  pub told : (n : ℕ) (ss : List PlacedSyllable) → take n (first ∷ second ∷ []) ≡ ss → n ≤ 2 → length fs ≤ 10 → length last ≤ 1 → (old new : BoundedList ScoreEvent)
+      → new ≡ extended_by old (found_events fs ++ (lent_of n ++ last)) → Tells (outputs_of fs ss ++ tail) old new first second
+  told n ss e h few one old new k =
+      subst (λ ss. Tells (outputs_of fs ss ++ tail) old new first second) e (record {
+        events = k ∙ ap (extended_by old) (sym (all_events n h));
+        few = let l = length-append (found_events fs) (lent_of n ++ last) in
+            let m = length-append (lent_of n) last in
+            let f = length-map fs (λ (f : Finding). event.Found f) in
+            let c = lent_count n h in
+            rw (all_events n h) (omega (arith, l, m, f, c, h, few, one));
+        lent = all_syllables n h ∙ ap (λ k. take k (first ∷ second ∷ [])) (sym (ap length (all_syllables n h) ∙ count_is n h));
+      })
+
+-- without anything behind the syllables
+pub told_now : (fs : List Finding) (first second : PlacedSyllable) (n : ℕ) (ss : List PlacedSyllable) → take n (first ∷ second ∷ []) ≡ ss → n ≤ 2 → length fs ≤ 10 → (old new : BoundedList ScoreEvent)
+    → new ≡ extended_by old (found_events fs ++ lent_of n) → Tells (outputs_of fs ss) old new first second
+told_now fs first second n ss e h few old new k =
+    subst (λ outs. Tells outs old new first second) (append-nil (outputs_of fs ss))
+    (told fs [] [] refl (λ l. refl) first second n ss e h few (omega arith) old new (k ∙ ap (λ es. extended_by old (found_events fs ++ es)) (sym (append-nil (lent_of n)))))
+
+-- ---- a room that is extended step by step
+
+pub then_more : {T : Type 0} (old mid new : BoundedList T) (a b : List T) → mid ≡ extended_by old a → new ≡ extended_by mid b → new ≡ extended_by old (a ++ b)
+then_more old mid new a b h k = k ∙ ap (λ r. extended_by r b) h ∙ ap (λ xs. record old { items = xs }) (append_assoc old.items a b)
+
+-- what is found at the end stands behind what was found before
+pub found_then : (old first second third : BoundedList ScoreEvent) (fs gs hs : List Finding) → first ≡ extended_by old (found_events fs) → second ≡ extended_by first (found_events gs) → third ≡ extended_by second (found_events hs)
+    → third ≡ extended_by old (found_events (fs ++ (gs ++ hs)))
+found_then old first second third fs gs hs a b c =
+    then_more old first third (found_events fs) (found_events gs ++ found_events hs) a (then_more first second third (found_events gs) (found_events hs) b c)
+    ∙ ap (extended_by old) (ap (λ es. found_events fs ++ es) (sym (map-append (λ (f : Finding). event.Found f) gs hs)) ∙ sym (map-append (λ (f : Finding). event.Found f) fs (gs ++ hs)))
+
+pub few_at_end : (fs : List Finding) (f g : Finding) (a b : Bool) → length fs ≤ 8 → length (fs ++ (cond a (f ∷ []) [] ++ cond b (g ∷ []) [])) ≤ 10
+few_at_end fs f g true true h = let l = length-append fs (f ∷ g ∷ []) in omega (arith, h, l)
+few_at_end fs f g true false h = let l = length-append fs (f ∷ []) in omega (arith, h, l)
+few_at_end fs f g false true h = let l = length-append fs (g ∷ []) in omega (arith, h, l)
+few_at_end fs f g false false h = let l = length-append {A = Finding} fs [] in omega (arith, h, l)

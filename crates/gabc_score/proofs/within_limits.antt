@@ -1,0 +1,5 @@
+pub mod CodesOfLimits
+pub mod GivenAreWithin
+pub mod KeptSoFar
+pub mod NoLimitIsPassed
+pub mod UnitsKeepFew

@@ -1,0 +1,91 @@
+-- What a stage over a score gives: each syllable in a slot that it lends.
+use Rattle.std.specs.Prelude.{◌≡◌, ◌+◌, ◌<◌, ◌≤◌, ◌^◌, List, [], ◌∷◌, Bool, true, false, length, map, take}
+use Rattle.gabc_places.specs.BoundedList.{BoundedList, extended_by}
+use Rattle.gabc_places.specs.declared.limits.Limits.{Limits}
+use Rattle.gabc_places.specs.declared.place.Char.{Char}
+use Rattle.gabc_headers.specs.declared.head_event.HeadEvent.{HeadEvent}
+use Rattle.gabc_headers.specs.declared.head_event.HeadEvent.TheVariants as head_event
+use Rattle.gabc_score.specs.declared.score_event.LentSyllable.{LentSyllable}
+use Rattle.gabc_score.specs.declared.score_event.LentSyllable.TheVariants.{First, Second}
+use Rattle.gabc_score.specs.declared.score_event.ScoreEvent.{ScoreEvent}
+use Rattle.gabc_score.specs.declared.score_event.ScoreEvent.TheVariants as event
+use Rattle.gabc_score.specs.declared.score_machine.ScorePart.{ScorePart}
+use Rattle.gabc_score.specs.BodyStage.{BodyStageState}
+use Rattle.gabc_score.specs.machine.ScoreStage.{HeldScore, outputs_left}
+use Rattle.gabc_score.specs.ScoreEvents.{ScoreOutput, Found, Stop, Syllable, End, syllables_in}
+use Rattle.gabc_score.specs.Syllable.{PlacedSyllable}
+
+-- What a stage shows: its limits, the part of the score in which it stands, what it holds of the body and its machine, and the two
+-- syllables that it may lend.
+pub record ScoreStageState : Type 0 where
+  pub limits : Limits
+  pub part : ScorePart
+  pub held : HeldScore
+  pub body : BodyStageState
+  pub first : PlacedSyllable
+  pub second : PlacedSyllable
+
+-- What it will still emit for these inputs and their end. It is no promise but by the clause of the stage's maker.
+abbrev pub left_of : ScoreStageState → List HeadEvent → List (List ScoreOutput)
+left_of s xs = outputs_left s.limits s.part s.held s.body xs
+
+-- outputs as events: the first syllable of a call is lent as this one
+abbrev pub events_lent : LentSyllable → List ScoreOutput → List ScoreEvent
+events_lent lent [] = []
+events_lent lent (Found f ∷ outs) = event.Found f ∷ events_lent lent outs
+events_lent lent (Stop fault ∷ outs) = event.Stop fault ∷ events_lent lent outs
+events_lent lent (Syllable s ∷ outs) = event.Syllable lent ∷ events_lent Second outs
+events_lent lent (End ∷ outs) = event.End ∷ events_lent lent outs
+
+abbrev pub events_of : List ScoreOutput → List ScoreEvent
+events_of outs = events_lent First outs
+
+-- a call gave these outputs as events, and lends their syllables
+pub record Tells (outs : List ScoreOutput) (old new : BoundedList ScoreEvent) (first second : PlacedSyllable) : Type 0 where
+  pub events : new ≡ extended_by old (events_of outs)
+  pub few : length (events_of outs) ≤ 16
+  pub lent : syllables_in outs ≡ take (length (syllables_in outs)) (first ∷ second ∷ [])
+
+-- At an input it gave what was to come for it, and goes on with what follows.
+pub record GivesAt (before : ScoreStageState) (x : HeadEvent) (after : ScoreStageState) (old new : BoundedList ScoreEvent) : Type 0 where
+  pub outs : List ScoreOutput
+  pub law : (xs : List HeadEvent) → left_of before (x ∷ xs) ≡ outs ∷ left_of after xs
+  pub told : Tells outs old new after.first after.second
+
+-- At the end of the inputs it gave what was still to come.
+pub record GivesLast (before after : ScoreStageState) (old new : BoundedList ScoreEvent) : Type 0 where
+  pub outs : List ScoreOutput
+  pub law : left_of before [] ≡ outs ∷ []
+  pub told : Tells outs old new after.first after.second
+
+-- ---- counts that have not reached their last value
+
+abbrev pub IsPlaceBelow : Char → Type 0
+IsPlaceBelow x = (x.place.line + 1 < 2 ^ 64) × (x.place.column + 1 < 2 ^ 64)
+
+-- neither the characters of the body among these nor what was counted of the headers
+abbrev pub AreCountsBelow : List HeadEvent → Type 0
+AreCountsBelow [] = Unit {0}
+AreCountsBelow (head_event.Body x ∷ xs) = IsPlaceBelow x × AreCountsBelow xs
+AreCountsBelow (head_event.Found f ∷ xs) = AreCountsBelow xs
+AreCountsBelow (head_event.Stop fault ∷ xs) = AreCountsBelow xs
+AreCountsBelow (head_event.End ∷ xs) = AreCountsBelow xs
+AreCountsBelow (head_event.Heads lines macros canonical ∷ xs) = (canonical + 1 < 2 ^ 64) × AreCountsBelow xs
+
+-- ---- as a stage
+
+-- what it will still give
+abbrev pub events_left : ScoreStageState → List HeadEvent → List (List ScoreEvent)
+events_left s xs = map (λ outs. events_of outs) (left_of s xs)
+
+-- a stop or the end ends a stage
+abbrev pub is_last_event : ScoreEvent → Bool
+is_last_event (event.Found f) = false
+is_last_event (event.Stop fault) = true
+is_last_event (event.Syllable lent) = false
+is_last_event event.End = true
+
+-- the syllable of this name
+abbrev pub lent_in : LentSyllable → ScoreStageState → PlacedSyllable
+lent_in First s = s.first
+lent_in Second s = s.second

@@ -1,0 +1,26 @@
+-- What is counted of the syllable that is read, by the part in which the next character stands.
+use Rattle.std.specs.Prelude.{◌≡◌, ◌+◌, ◌≤◌, List, [], length}
+use Rattle.gabc_text.specs.PiecesOwed.{pieces_owed}
+use Rattle.gabc_score.specs.declared.events.BodyEvent.{BodyEvent}
+use Rattle.gabc_score.specs.declared.body_stage.BodyPart.{BodyPart}
+use Rattle.gabc_score.specs.declared.body_stage.BodyPart.TheVariants as part
+use Rattle.gabc_score.specs.machine.BodyBuilder.{with_all}
+use Rattle.gabc_score.specs.machine.Gatherer.{Gathered}
+use Rattle.gabc_score.specs.machine.Slot.{FitEach}
+use Rattle.gabc_score.specs.machine.SyllableBuilder.{OpenSyllable, nothing_open}
+
+-- each snippet has its mark before the part that is read
+abbrev pub CountsInNotes : OpenSyllable → Type 0
+CountsInNotes o = (length o.snippets ≤ o.from) × (o.from ≤ length o.kept)
+
+-- in a text there are no more pieces, with those that it owes, than characters were kept
+abbrev pub CountsHold : BodyPart → OpenSyllable → Type 0
+CountsHold part.Comment o = o ≡ nothing_open
+CountsHold (part.Text stage) o = (length o.view.pieces + pieces_owed stage ≤ length o.kept) × ((o.from ≤ length o.kept) × (o.snippets ≡ []))
+CountsHold (part.Notes opened stage) o = CountsInNotes o
+CountsHold (part.Nabc line opened stage) o = CountsInNotes o
+
+-- With these events a part goes on as this one: the counts hold again, and the events fit where the kept text is within the limit.
+pub record PartGoesOn (before after : BodyPart) (now : List BodyEvent) : Type 0 where
+  pub counts : (g : Gathered) → CountsHold before g.builder → CountsHold after (with_all g now).builder
+  pub fit : (g : Gathered) → CountsHold before g.builder → length g.builder.kept ≤ g.limit → FitEach g now

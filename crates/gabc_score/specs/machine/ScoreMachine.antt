@@ -1,0 +1,44 @@
+-- What a machine over a score shows, and what holds of it between two calls.
+use Rattle.std.specs.Prelude.{◌≡◌, ◌≤◌, false, [], length}
+use Rattle.gabc_score.specs.declared.score_machine.ScoreMachine.{ScoreMachine}
+use Rattle.gabc_score.specs.declared.score_machine.ScorePart.{ScorePart}
+use Rattle.gabc_score.specs.declared.score_machine.ScorePart.TheVariants as score_part
+use Rattle.gabc_score.specs.ScoreStage.{ScoreStageState}
+use Rattle.gabc_score.specs.machine.Gatherer.{nothing_gathered}
+use Rattle.gabc_score.specs.machine.PartCounts.{CountsHold}
+use Rattle.gabc_score.specs.machine.ScoreStage.{HeldScore}
+use Rattle.gabc_score.specs.machine.SlotPair.{is_made}
+
+-- what was read
+abbrev pub held_score : ScoreMachine → HeldScore
+held_score m = record { next = m.next; gathered = m.pair.gathered; given = m.given }
+
+abbrev pub shown : ScoreMachine → ScoreStageState
+shown m = record { limits = m.limits; part = m.part; held = held_score m; body = m.body; first = m.pair.first; second = m.pair.second }
+
+-- between two calls: nothing found is kept, and the slots are those of the limits
+pub record IsAtRest (m : ScoreMachine) : Type 0 where
+  pub none : m.found.items ≡ []
+  pub room : 8 ≤ m.found.limit
+  pub limit : m.pair.gathered.limit ≡ m.limits.syllable
+  pub used : is_made m.pair.used ≡ false
+
+-- before the body nothing is gathered
+pub record IsBeforeBody (m : ScoreMachine) : Type 0 where
+  pub rests : IsAtRest m
+  pub nothing : m.pair.gathered ≡ nothing_gathered m.limits.syllable 0
+  pub none_given : m.given ≡ false
+
+-- in the body what is counted holds, and the kept text is within the limit
+pub record IsInBody (m : ScoreMachine) : Type 0 where
+  pub rests : IsAtRest m
+  pub counts : CountsHold m.body.part m.pair.gathered.builder
+  pub kept : length m.pair.gathered.builder.kept ≤ m.limits.syllable
+
+abbrev pub IsScoreAt : ScorePart → ScoreMachine → Type 0
+IsScoreAt score_part.Heads m = IsBeforeBody m
+IsScoreAt score_part.Body m = IsInBody m
+IsScoreAt score_part.Over m = Unit {0}
+
+abbrev pub IsScore : ScoreMachine → Type 0
+IsScore m = IsScoreAt m.part m

@@ -1,0 +1,22 @@
+//! What a stage over a score gives.
+
+use gabc_places::{Fault, Finding};
+
+/// Which of the syllables that a stage gave with one call.
+#[derive(Clone, Copy, Debug, PartialEq, Eq)]
+pub enum LentSyllable {
+    First,
+    Second,
+}
+
+/// What is given of a score.
+#[derive(Clone, Copy, Debug, PartialEq, Eq)]
+pub enum ScoreEvent {
+    Found(Finding),
+    /// The score is stopped here. Nothing follows.
+    Stop(Fault),
+    /// A whole syllable with its position, which the stage lends until its next call.
+    Syllable(LentSyllable),
+    /// The score has ended. Nothing follows.
+    End,
+}

@@ -1,0 +1,234 @@
+//! A machine from what a stage of headers gives to the score.
+
+ghost use Rattle.std.specs.Prelude.{◌≡◌, ◌≢◌, ◌<◌, ◌^◌, List, [], ◌∷◌, ◌++◌, false, IfOk};
+ghost use Rattle.gabc_headers.specs.declared.head_event.HeadEvent.{HeadEvent as Given};
+ghost use Rattle.gabc_score.specs.declared.body_stage.BodyPart.{BodyPart};
+ghost use Rattle.gabc_score.specs.BodyStage.{running_events_left};
+ghost use Rattle.gabc_places.specs.BoundedList.{Fits};
+ghost use Rattle.gabc_text.specs.TextStage.{place_after_char};
+ghost use Rattle.gabc_score.specs.ScoreEvents.{outputs_of, Stop, characters_in};
+ghost use Rattle.gabc_score.specs.ScoreStage.{Tells, GivesAt, GivesLast, left_of};
+ghost use Rattle.gabc_score.specs.machine.ScoreStage.{placed_behind, begun_score, body_left};
+ghost use Rattle.gabc_score.specs.machine.ScoreMachine.{shown, IsInBody, IsBeforeBody, IsScore};
+ghost use Rattle.gabc_score.specs.machine.SlotPair.{is_made};
+
+use crate::body_stage::{BodyPart, BodyStage};
+use crate::score_event::ScoreEvent;
+use crate::slot_pair::{SlotPair, SlotUse};
+use crate::telling::{tell_broken, tell_end, tell_point, tell_stop};
+use gabc_headers::HeadEvent;
+use gabc_places::{Char, Fault, Finding, Limits, Place, Room};
+use std::alloc::{AllocError, Global};
+
+/// Where a machine stands: before the body, in it, or behind its last event.
+#[derive(Clone, Copy)]
+pub(crate) enum ScorePart {
+    Heads,
+    Body,
+    Over,
+}
+
+/// Reads what a stage of headers gives.
+#[derive(Drop)]
+pub(crate) struct ScoreMachine {
+    pub(crate) limits: Limits,
+    pub(crate) part: ScorePart,
+    pub(crate) body: BodyStage,
+    pub(crate) pair: SlotPair,
+    /// What is found with the input that is read.
+    pub(crate) found: Room<Finding>,
+    /// The place behind the last character of the body.
+    pub(crate) next: Place,
+    /// Whether a syllable was given.
+    pub(crate) given: bool,
+}
+
+/// Returns the place behind a character. A count that has reached its last value stays there.
+fn place_behind(x: Char) -> Place
+    ensures { result ≡ place_after_char x.place x.c }
+{
+    if x.c == '\n' {
+        Place {
+            line: x.place.line.saturating_add(1),
+            column: 1,
+        }
+    } else {
+        Place {
+            line: x.place.line,
+            column: x.place.column.saturating_add(1),
+        }
+    }
+}
+
+impl ScoreMachine {
+    /// Reserves the memory that the reading of a body ever takes, whose first character stands at `at`. Its canonical headers
+    /// have `head` bytes, and `body` is a new stage.
+    pub(crate) fn in_body(
+        alloc: Global,
+        limits: Limits,
+        body: BodyStage,
+        at: Place,
+        head: usize,
+    ) -> Result<ScoreMachine, AllocError>
+        requires { body.part ≡ BodyPart.Comment }
+        ensures left { IfOk result (λ m. (xs : List Given) → left_of (shown m) xs
+            ≡ body_left limits (begun_score limits at head) (running_events_left body (characters_in xs)) xs) }
+        ensures rests { IfOk result (λ m. IsScore m) }
+        ensures head { head < 2 ^ 64 }
+    {
+        let mut pair = SlotPair::with_limit(alloc, limits.syllable as usize)?;
+        pair.start(head);
+        let found = Room::with_limit(alloc, 8)?;
+        Ok(ScoreMachine {
+            limits,
+            part: ScorePart::Body,
+            body,
+            pair,
+            found,
+            next: at,
+            given: false,
+        })
+    }
+
+    /// Gives the last whole syllable and the fault. Nothing follows.
+    fn stop(&mut self, fault: Fault, out: &mut Room<ScoreEvent>)
+        requires used { self.old.pair.used ≢ SlotUse.Lent }
+        requires fits { Fits out.old 16 }
+        ensures part { self.new.part ≡ ScorePart.Over }
+        ensures limits { self.new.limits ≡ self.old.limits }
+        ensures told { Tells (outputs_of [] (placed_behind self.old.given self.old.pair.held) ++ Stop fault ∷ [])
+            out.old out.new self.new.pair.first self.new.pair.second }
+    {
+        tell_stop(&mut self.pair, self.given, fault, out);
+        self.part = ScorePart::Over;
+    }
+
+    /// Reads a character of the body.
+    fn read(&mut self, x: Char, out: &mut Room<ScoreEvent>)
+        requires part { self.old.part ≡ ScorePart.Body }
+        requires rests { IsInBody self.old }
+        requires fits { Fits out.old 16 }
+        ensures gives { GivesAt (shown self.old) (HeadEvent.Body x) (shown self.new) out.old out.new }
+        ensures rests { IsScore self.new }
+    {
+        self.pair.free();
+        self.body.take(x);
+        self.body.hold(&mut self.pair, &mut self.found);
+        match self.pair.code(self.limits) {
+            Some(code) => self.stop(
+                Fault {
+                    place: x.place,
+                    code,
+                },
+                out,
+            ),
+            None => {
+                let gave = tell_point(&mut self.pair, self.given, &mut self.found, out);
+                self.given = self.given || gave;
+                self.next = place_behind(x);
+            }
+        }
+    }
+
+    /// Reads the end of the body.
+    fn end(&mut self, out: &mut Room<ScoreEvent>)
+        requires part { self.old.part ≡ ScorePart.Body }
+        requires rests { IsInBody self.old }
+        requires fits { Fits out.old 16 }
+        ensures gives { GivesAt (shown self.old) HeadEvent.End (shown self.new) out.old out.new }
+        ensures part { self.new.part ≡ ScorePart.Over }
+    {
+        self.pair.free();
+        self.body.close();
+        self.body.hold(&mut self.pair, &mut self.found);
+        let has_last = self.pair.close_last();
+        match self.pair.end_fault(self.limits, self.next) {
+            Some(fault) => self.stop(fault, out),
+            None => {
+                let found = self.found.slice();
+                tell_end(&mut self.pair, self.given, has_last, self.next, found, out);
+                self.part = ScorePart::Over;
+            }
+        }
+    }
+
+    /// Reads an input in the body.
+    fn push_in_body(&mut self, input: HeadEvent, out: &mut Room<ScoreEvent>)
+        requires part { self.old.part ≡ ScorePart.Body }
+        requires rests { IsInBody self.old }
+        requires fits { Fits out.old 16 }
+        ensures gives { GivesAt (shown self.old) input (shown self.new) out.old out.new }
+        ensures rests { IsScore self.new }
+    {
+        match input {
+            HeadEvent::Body(x) => self.read(x, out),
+            HeadEvent::End => self.end(out),
+            HeadEvent::Stop(fault) => {
+                self.pair.free();
+                self.stop(fault, out);
+            }
+            HeadEvent::Found(finding) => out.push(ScoreEvent::Found(finding)),
+            HeadEvent::Heads { .. } => {}
+        }
+    }
+
+    /// Reads an input before the body.
+    fn push_in_heads(&mut self, input: HeadEvent, out: &mut Room<ScoreEvent>)
+        requires part { self.old.part ≡ ScorePart.Heads }
+        requires rests { IsBeforeBody self.old }
+        requires fits { Fits out.old 16 }
+        ensures gives { GivesAt (shown self.old) input (shown self.new) out.old out.new }
+        ensures rests { IsScore self.new }
+    {
+        match input {
+            HeadEvent::Found(finding) => out.push(ScoreEvent::Found(finding)),
+            HeadEvent::Heads {
+                nabc_lines,
+                macros,
+                canonical,
+            } => {
+                self.body.restart(nabc_lines, macros);
+                self.pair.start(canonical as usize);
+                self.next = Place::START;
+                self.part = ScorePart::Body;
+            }
+            HeadEvent::Body(_) => {}
+            HeadEvent::Stop(fault) => {
+                out.push(ScoreEvent::Stop(fault));
+                self.part = ScorePart::Over;
+            }
+            HeadEvent::End => {
+                out.push(ScoreEvent::End);
+                self.part = ScorePart::Over;
+            }
+        }
+    }
+
+    /// Reads an input.
+    pub(crate) fn push(&mut self, input: HeadEvent, out: &mut Room<ScoreEvent>)
+        requires rests { IsScore self.old }
+        requires fits { Fits out.old 16 }
+        ensures gives { GivesAt (shown self.old) input (shown self.new) out.old out.new }
+        ensures rests { IsScore self.new }
+    {
+        match self.part {
+            ScorePart::Heads => self.push_in_heads(input, out),
+            ScorePart::Body => self.push_in_body(input, out),
+            ScorePart::Over => {}
+        }
+    }
+
+    /// Ends the inputs. Where neither a stop nor the end has come, the source has failed.
+    pub(crate) fn finish(&mut self, out: &mut Room<ScoreEvent>)
+        requires rests { IsScore self.old }
+        requires fits { Fits out.old 16 }
+        ensures gives { GivesLast (shown self.old) (shown self.new) out.old out.new }
+        ensures part { self.new.part ≡ ScorePart.Over }
+    {
+        if let ScorePart::Body = self.part {
+            self.pair.free();
+            tell_broken(&mut self.pair, self.given, out);
+        }
+        self.part = ScorePart::Over;
+    }
+}

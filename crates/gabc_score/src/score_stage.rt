@@ -1,0 +1,110 @@
+//! A stage from what a stage of headers gives to the score.
+
+ghost use Rattle.std.specs.Prelude.{◌≡◌, List, IfOk};
+ghost use Rattle.gabc_headers.specs.declared.head_event.HeadEvent.{HeadEvent};
+ghost use Rattle.gabc_score.specs.BodyStage.{texts_by_stage};
+ghost use Rattle.gabc_score.specs.ScoreEvents.{score_outputs};
+ghost use Rattle.gabc_score.specs.ScoreStage.{AreCountsBelow, left_of, lent_in};
+ghost use Rattle.gabc_score.specs.Syllable.{placed_of};
+
+use crate::body_stage::BodyStage;
+use crate::score_event::{LentSyllable, ScoreEvent};
+use crate::score_machine::{ScoreMachine, ScorePart};
+use crate::slot_pair::SlotPair;
+use crate::syllable::Syllable;
+use gabc_headers::HeadEvent;
+use gabc_places::{Limits, Place, Room, Stage};
+use std::alloc::{AllocError, Global};
+use std::marker::Model;
+
+/// Reads a score from what a stage of headers gives: what is found, each whole syllable with its position, and what stops the
+/// reading (GregorioRef, "Syllable Text Syntax"). It asks for no memory once made.
+#[derive(Drop)]
+pub struct ScoreStage {
+    machine: ScoreMachine,
+}
+
+impl Model for ScoreStage {
+    ghost use Rattle.gabc_score.specs.ScoreStage.{ScoreStageState};
+    ghost use Rattle.gabc_score.specs.machine.ScoreMachine.{shown, IsScore};
+
+    ghost Value = { ScoreStageState };
+
+    ghost view = { λ s. shown s.machine };
+
+    ghost invariant = { λ s. IsScore s.machine };
+}
+
+impl ScoreStage {
+    /// Returns a stage before the first event of the headers, and reserves the memory that it ever takes: for two syllables of
+    /// `limits.syllable` bytes. It gives what the definition gives of all events of which no count reaches its last value.
+    pub fn with_limits(alloc: Global, limits: Limits) -> Result<ScoreStage, AllocError>
+        ensures { IfOk result (λ stage. (xs : List HeadEvent) → AreCountsBelow xs →
+            left_of stage xs ≡ score_outputs texts_by_stage limits xs) }
+    {
+        let body = BodyStage::new(alloc, 0, 0)?;
+        let pair = SlotPair::with_limit(alloc, limits.syllable as usize)?;
+        let found = Room::with_limit(alloc, 8)?;
+        Ok(ScoreStage {
+            machine: ScoreMachine {
+                limits,
+                part: ScorePart::Heads,
+                body,
+                pair,
+                found,
+                next: Place::START,
+                given: false,
+            },
+        })
+    }
+
+    /// Returns the syllable that the last call gave as `lent`. What it returns where none was given is not said.
+    pub fn syllable(&self, lent: LentSyllable) -> &Syllable
+        ensures { placed_of result.now ≡ lent_in lent self.now }
+    {
+        match lent {
+            LentSyllable::First => self.machine.pair.first(),
+            LentSyllable::Second => self.machine.pair.second(),
+        }
+    }
+}
+
+impl Stage for ScoreStage {
+    type Input = HeadEvent;
+
+    type Output = ScoreEvent;
+
+    ghost use Rattle.gabc_places.specs.BoundedList.{Fits};
+    ghost use Rattle.gabc_places.specs.StageLaw.{Pushes, Finishes, EmitsNothing, StopsAtEnd};
+    ghost use Rattle.gabc_score.specs.ScoreStage.{GivesAt, GivesLast, events_left, is_last_event};
+
+    ghost rest = { events_left };
+
+    ghost most_of = { λ _. 16 };
+
+    ghost is_end = { is_last_event };
+
+    fn most(&self) -> usize {
+        16
+    }
+
+    fn push(&mut self, input: HeadEvent, out: &mut Room<ScoreEvent>)
+        requires { Fits out.old 16 }
+        ensures events { Pushes (events_left self.old) (events_left self.new)
+            input 16 out.old out.new }
+        ensures end { StopsAtEnd is_last_event (events_left self.new) out.old out.new }
+        ensures gives { GivesAt self.old input self.new out.old out.new }
+    {
+        self.machine.push(input, out);
+    }
+
+    fn finish(&mut self, out: &mut Room<ScoreEvent>)
+        requires { Fits out.old 16 }
+        ensures ends { Finishes (events_left self.old) 16 out.old out.new }
+        ensures end { StopsAtEnd is_last_event (events_left self.new) out.old out.new }
+        ensures over { EmitsNothing (events_left self.new) }
+        ensures gives { GivesLast self.old self.new out.old out.new }
+    {
+        self.machine.finish(out);
+    }
+}

@@ -1,0 +1,195 @@
+//! A syllable that is read in room reserved for it.
+
+use crate::slice::slice_of;
+use crate::snippets::{Snippet, Snippets};
+use crate::syllable::{Position, Syllable};
+use gabc_places::Span;
+use gabc_text::{TextPart, TextView};
+use std::alloc::{AllocError, Global};
+use std::marker::Model;
+
+/// A syllable that is being read, or was read. Its memory is reserved: so many bytes as a syllable may have, and what one
+/// character can add.
+#[derive(Drop)]
+pub(crate) struct Slot {
+    syllable: Syllable,
+    /// The bytes of the kept text before the part that is being read, which is the text or a snippet.
+    from: usize,
+    limit: usize,
+}
+
+impl Model for Slot {
+    ghost use Rattle.gabc_score.specs.machine.Slot.{ReadSyllable, read_syllable, IsReserved};
+
+    ghost Value = { ReadSyllable };
+
+    ghost view = { λ s. read_syllable s.syllable s.from s.limit };
+
+    ghost invariant = { λ s. IsReserved s.limit s.syllable };
+}
+
+impl Slot {
+    ghost use Rattle.std.specs.Prelude.{◌≡◌, ◌+◌, ◌<◌, ◌^◌, [], ◌∷◌, IfOk, string_bytes};
+    ghost use Rattle.gabc_text.specs.BuiltText.{with_part};
+    ghost use Rattle.gabc_score.specs.Body.{empty_snippet};
+    ghost use Rattle.gabc_score.specs.Syllable.{slice, placed_of, unplaced_of};
+    ghost use Rattle.gabc_score.specs.machine.Slot.{placed_in, made_in, FitsKept, FitsPiece, FitsSnippet};
+    ghost use Rattle.gabc_score.specs.machine.SyllableBuilder.{nothing_open, with_kept, past_mark, past_text, past_snippet};
+
+    /// Returns a slot in which nothing was read, and reserves room for a syllable of `limit` bytes.
+    pub(crate) fn with_limit(alloc: Global, limit: usize) -> Result<Slot, AllocError>
+        requires { limit < 2 ^ 32 }
+        ensures reading { IfOk result (λ slot. slot.reading ≡ nothing_open) }
+        ensures limit { IfOk result (λ slot. slot.limit ≡ limit) }
+    {
+        let room = limit + 32;
+        Ok(Slot {
+            syllable: Syllable {
+                text: TextView::with_capacity(alloc, room)?,
+                kept: String::with_capacity(alloc, room)?,
+                snippets: Snippets::with_capacity(alloc, room)?,
+                position: Position::One,
+                eu: false,
+                nlba: false,
+            },
+            from: 0,
+            limit,
+        })
+    }
+
+    /// Forgets what was read. The memory stays reserved.
+    pub(crate) fn clear(&mut self)
+        ensures { self.new ≡ record self.old { reading = nothing_open } }
+    {
+        self.syllable.text.clear();
+        self.syllable.kept.clear();
+        self.syllable.snippets.clear();
+        self.from = 0;
+    }
+
+    /// A character is kept.
+    pub(crate) fn keep(&mut self, c: char)
+        requires { FitsKept self.old.limit self.old.reading 4 }
+        ensures { self.new ≡ record self.old { reading = with_kept self.old.reading c } }
+    {
+        let Ok(()) = self.syllable.kept.push(c) else {
+            unreachable!()
+        };
+    }
+
+    /// Adds a part of the view.
+    pub(crate) fn add(&mut self, part: TextPart)
+        requires { FitsPiece self.old.limit self.old.reading }
+        ensures { self.new ≡ record self.old {
+          reading = record self.old.reading { view = with_part self.old.reading.view part };
+        } }
+    {
+        let Ok(()) = self.syllable.text.add(part) else {
+            unreachable!()
+        };
+    }
+
+    /// Ends the part that is being read with this mark.
+    fn mark(&mut self, mark: char)
+        requires { FitsKept self.old.limit self.old.reading 4 }
+        ensures { self.new ≡ record self.old {
+          reading = past_mark self.old.reading.kept mark self.old.reading;
+        } }
+    {
+        let Ok(()) = self.syllable.kept.push(mark) else {
+            unreachable!()
+        };
+        self.from = self.syllable.kept.len();
+    }
+
+    /// Ends the text at its `(`.
+    pub(crate) fn end_text(&mut self)
+        requires { FitsKept self.old.limit self.old.reading 4 }
+        ensures { self.new ≡ record self.old { reading = past_text self.old.reading } }
+    {
+        self.mark('(');
+    }
+
+    /// Ends the snippet of this line at this mark; `count` bytes of it are kept.
+    pub(crate) fn end_snippet(&mut self, line: u8, count: usize, mark: char)
+        requires kept { FitsKept self.old.limit self.old.reading 4 }
+        requires snippet { FitsSnippet self.old.limit self.old.reading }
+        ensures { self.new ≡ record self.old {
+          reading = past_snippet self.old.reading line count mark;
+        } }
+    {
+        cut_text(&mut self.syllable.kept, self.from.saturating_add(count));
+        let Ok(()) = self.syllable.snippets.push(Snippet {
+            line,
+            span: Span {
+                from: self.from,
+                to: self.syllable.kept.len(),
+            },
+        })
+        else {
+            unreachable!()
+        };
+        self.mark(mark);
+    }
+
+    /// Adds the notes of a last text, one empty snippet.
+    pub(crate) fn add_no_notes(&mut self)
+        ensures { self.new ≡ record self.old {
+          reading = record self.old.reading { snippets = empty_snippet self.old.reading.kept ∷ [] };
+        } }
+    {
+        let end = self.syllable.kept.len();
+        self.syllable.snippets.clear();
+        let Ok(()) = self.syllable.snippets.push(Snippet {
+            line: 0,
+            span: Span { from: end, to: end },
+        })
+        else {
+            unreachable!()
+        };
+    }
+
+    /// Makes the syllable that was read whole.
+    pub(crate) fn close(&mut self, eu: bool, nlba: bool)
+        ensures { self.new ≡ record self.old { eu = eu; nlba = nlba } }
+    {
+        self.syllable.eu = eu;
+        self.syllable.nlba = nlba;
+    }
+
+    /// Gives the syllable its position.
+    pub(crate) fn place(&mut self, position: Position)
+        ensures { self.new ≡ record self.old { position = position } }
+    {
+        self.syllable.position = position;
+    }
+
+    /// The bytes of a span of the kept text.
+    pub(crate) fn slice(&self, span: Span) -> &[u8]
+        ensures { result.now ≡ slice span self.now.reading.kept }
+    {
+        slice_of(self.syllable.kept.as_str(), span)
+    }
+
+    /// Returns the syllable.
+    pub(crate) fn syllable(&self) -> &Syllable
+        ensures placed { placed_of result.now ≡ placed_in self.now }
+        ensures made { unplaced_of result.now ≡ made_in self.now }
+    {
+        &self.syllable
+    }
+}
+
+ghost use Rattle.std.specs.Prelude.{◌≡◌, ◌≤◌, string_bytes};
+ghost use Rattle.std.specs.String.{string_capacity};
+ghost use Rattle.gabc_score.specs.Syllable.{prefix_of};
+
+/// Cuts a text to its first bytes, if a character ends there.
+fn cut_text(kept: &mut String, to: usize)
+    ensures bytes { string_bytes kept.new ≡ prefix_of to (string_bytes kept.old) }
+    ensures capacity { string_capacity kept.new ≡ string_capacity kept.old }
+{
+    if kept.as_str().is_char_boundary(to) {
+        kept.truncate(to);
+    }
+}

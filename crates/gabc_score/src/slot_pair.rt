@@ -1,0 +1,424 @@
+//! Two slots: one for the syllable that is read, and one for the last whole one.
+
+use crate::canonical::canonical_len;
+use crate::events::BodyEvent;
+use crate::slot::Slot;
+use crate::syllable::Syllable;
+use crate::syllables::position_by;
+use gabc_notes::{NoteEnd, NoteEvent};
+use gabc_places::{Code, Fault, Limits, Place};
+use gabc_text::{Piece, PieceKind, TextEnd, TextEvent, TextPart, TextView};
+use std::alloc::{AllocError, Global};
+use std::marker::Model;
+use std::mem::swap;
+
+/// How the slot is used that reads.
+#[derive(Clone, Copy)]
+pub(crate) enum SlotUse {
+    /// It holds what is read of a syllable.
+    Reads,
+    /// It holds the whole syllable that was made last.
+    Made,
+    /// It holds a syllable that was given, and is cleared before it reads on.
+    Lent,
+}
+
+/// What was gathered of a body, of which only the last whole syllable is held.
+#[derive(Drop)]
+pub(crate) struct SlotPair {
+    /// The most bytes that a syllable may have.
+    limit: usize,
+    reader: Slot,
+    used: SlotUse,
+    /// The last whole syllable, if it is held.
+    holder: Slot,
+    held: bool,
+    /// Whether the span of `<eu>` is open, and that of `<nlba>`.
+    eu: bool,
+    nlba: bool,
+    /// The bytes of the canonical headers and of all syllables that were made, or the last value.
+    total: usize,
+    /// Whether one of them is longer than the limit.
+    over: bool,
+    /// Where the bracket stands that the end of the input leaves open.
+    cut: Option<Place>,
+}
+
+impl Model for SlotPair {
+    ghost use Rattle.std.specs.Prelude.{◌≡◌, ◌++◌};
+    ghost use Rattle.gabc_score.specs.machine.Slot.{placed_in};
+    ghost use Rattle.gabc_score.specs.machine.SlotPair.{SlotPairState, reading_in, held_in, made_last, first_in};
+
+    ghost Value = { SlotPairState };
+
+    ghost view = { λ s. record {
+      gathered = record {
+        limit = s.limit;
+        builder = reading_in s.used s.reader;
+        eu = s.eu;
+        nlba = s.nlba;
+        made = held_in s.held s.holder ++ made_last s.used s.reader;
+        total = s.total;
+        over = s.over;
+        cut = s.cut;
+      };
+      held = held_in s.held s.holder;
+      used = s.used;
+      first = first_in s.used s.reader s.holder;
+      second = placed_in s.reader;
+    } };
+
+    ghost invariant = { λ s. (s.reader.limit ≡ s.limit) × (s.holder.limit ≡ s.limit) };
+}
+
+impl SlotPair {
+    ghost use Rattle.std.specs.Prelude.{◌≡◌, ◌≢◌, ◌||◌, ◌-◌, ◌<◌, ◌≤◌, ◌^◌, not, nat_lt, [], take, length, false, IfOk, if◌then◌else◌};
+    ghost use Rattle.gabc_score.specs.Body.{has_text, is_none};
+    ghost use Rattle.gabc_score.specs.Syllable.{placed_of, closes};
+    ghost use Rattle.gabc_score.specs.machine.BodyBuilder.{code_in, end_fault};
+    ghost use Rattle.gabc_score.specs.machine.Gatherer.{nothing_gathered, with_mark, with_mark_of, with_view_part, with_text_end, with_text, with_syllable, with_note_end, with_note, with_event, with_last};
+    ghost use Rattle.gabc_score.specs.machine.ScoreStage.{placed_behind, with_held};
+    ghost use Rattle.gabc_score.specs.machine.Slot.{FitsEvent, FitsText, FitsNote, FitsKept, FitsPiece, FitsSnippet};
+    ghost use Rattle.gabc_score.specs.machine.SlotPair.{is_made, used_by, used_past, given_of};
+
+    /// Returns two slots in which nothing was read, and reserves room for syllables of `limit` bytes.
+    pub(crate) fn with_limit(alloc: Global, limit: usize) -> Result<SlotPair, AllocError>
+        requires { limit < 2 ^ 32 }
+        ensures gathered { IfOk result (λ pair. pair.gathered ≡ nothing_gathered limit 0) }
+        ensures used { IfOk result (λ pair. pair.used ≡ SlotUse.Reads) }
+    {
+        Ok(SlotPair {
+            limit,
+            reader: Slot::with_limit(alloc, limit)?,
+            used: SlotUse::Reads,
+            holder: Slot::with_limit(alloc, limit)?,
+            held: false,
+            eu: false,
+            nlba: false,
+            total: 0,
+            over: false,
+            cut: None,
+        })
+    }
+
+    /// Begins the count of canonical bytes with `head`, those of the headers.
+    pub(crate) fn start(&mut self, head: usize)
+        ensures { self.new ≡ record self.old {
+          gathered = record self.old.gathered { total = head };
+        } }
+    {
+        self.total = head;
+    }
+
+    /// Takes back what was lent.
+    pub(crate) fn free(&mut self)
+        requires { is_made self.old.used ≡ false }
+        ensures gathered { self.new.gathered ≡ self.old.gathered }
+        ensures held { self.new.held ≡ self.old.gathered.made }
+        ensures used { self.new.used ≡ SlotUse.Reads }
+    {
+        match self.used {
+            SlotUse::Lent => self.reader.clear(),
+            _ => {}
+        }
+        self.used = SlotUse::Reads;
+    }
+
+    /// Adds what is emitted next.
+    pub(crate) fn add(&mut self, event: BodyEvent)
+        requires reads { self.old.used ≡ SlotUse.Reads }
+        requires fits { FitsEvent self.old.gathered.limit self.old.gathered.builder event }
+        ensures gathered { self.new.gathered ≡ with_event self.old.gathered event }
+        ensures held { self.new.held ≡ self.old.held }
+        ensures used { self.new.used ≡ used_by (closes event) }
+    {
+        match event {
+            BodyEvent::Text(event) => self.add_text(event),
+            BodyEvent::Notes { line, out } => self.add_note(line, out),
+        }
+    }
+
+    /// Adds what a text emits next.
+    fn add_text(&mut self, event: TextEvent)
+        requires reads { self.old.used ≡ SlotUse.Reads }
+        requires fits { FitsText self.old.gathered.limit self.old.gathered.builder event }
+        ensures gathered { self.new.gathered ≡ with_text self.old.gathered event }
+        ensures held { self.new.held ≡ self.old.held }
+        ensures used { self.new.used ≡ SlotUse.Reads }
+    {
+        match event {
+            TextEvent::Kept(kept) => self.reader.keep(kept.c),
+            TextEvent::Part(part) => {
+                self.add_mark_of(part);
+                self.reader.add(part);
+            }
+            TextEvent::Found(_) => {}
+            TextEvent::Ended(end) => self.end_text(end),
+        }
+    }
+
+    /// Opens or closes a span, where the part is a mark that does.
+    fn add_mark_of(&mut self, part: TextPart)
+        requires { self.old.used ≡ SlotUse.Reads }
+        ensures { self.new ≡ record self.old {
+          gathered = with_mark_of self.old.gathered part;
+        } }
+    {
+        if let TextPart::Piece(piece) = part {
+            self.add_mark(piece);
+        }
+    }
+
+    fn add_mark(&mut self, piece: Piece)
+        requires { self.old.used ≡ SlotUse.Reads }
+        ensures { self.new ≡ record self.old { gathered = with_mark self.old.gathered piece } }
+    {
+        let spelled = self.reader.slice(piece.span);
+        let eu = is_open_after(b"<eu>", b"</eu>", self.eu, piece.kind, spelled);
+        let nlba = is_open_after(b"<nlba>", b"</nlba>", self.nlba, piece.kind, spelled);
+        self.eu = eu;
+        self.nlba = nlba;
+    }
+
+    fn end_text(&mut self, end: TextEnd)
+        requires reads { self.old.used ≡ SlotUse.Reads }
+        requires fits { FitsKept self.old.gathered.limit self.old.gathered.builder 4 }
+        ensures gathered { self.new.gathered ≡ with_text_end self.old.gathered end }
+        ensures held { self.new.held ≡ self.old.held }
+        ensures used { self.new.used ≡ SlotUse.Reads }
+    {
+        match end {
+            TextEnd::Notes => self.reader.end_text(),
+            TextEnd::Finished => {}
+            TextEnd::Cut(place) => self.cut = Some(place),
+        }
+    }
+
+    /// Adds what a snippet of that line emits next.
+    fn add_note(&mut self, line: u8, event: NoteEvent)
+        requires reads { self.old.used ≡ SlotUse.Reads }
+        requires fits { FitsNote self.old.gathered.limit self.old.gathered.builder event }
+        ensures gathered { self.new.gathered ≡ with_note self.old.gathered line event }
+        ensures held { self.new.held ≡ self.old.held }
+        ensures used { self.new.used ≡ used_past event }
+    {
+        match event {
+            NoteEvent::Kept(kept) => self.reader.keep(kept.c),
+            NoteEvent::Found(_) => {}
+            NoteEvent::Ended { how, kept } => self.end_snippet(line, how, kept),
+        }
+    }
+
+    fn end_snippet(&mut self, line: u8, how: NoteEnd, count: usize)
+        requires reads { self.old.used ≡ SlotUse.Reads }
+        requires kept { FitsKept self.old.gathered.limit self.old.gathered.builder 4 }
+        requires snippet { FitsSnippet self.old.gathered.limit self.old.gathered.builder }
+        ensures gathered { self.new.gathered ≡ with_note_end self.old.gathered line how count }
+        ensures held { self.new.held ≡ self.old.held }
+        ensures used { self.new.used ≡ used_past (NoteEvent.Ended how count) }
+    {
+        match how {
+            NoteEnd::Next => self.reader.end_snippet(line, count, '|'),
+            NoteEnd::Close => {
+                self.reader.end_snippet(line, count, ')');
+                self.close();
+            }
+            NoteEnd::Cut(place) => self.cut = Some(place),
+        }
+    }
+
+    /// Makes the syllable that was read whole.
+    fn close(&mut self)
+        requires { self.old.used ≡ SlotUse.Reads }
+        ensures gathered { self.new.gathered ≡ with_syllable self.old.gathered }
+        ensures held { self.new.held ≡ self.old.held }
+        ensures used { self.new.used ≡ SlotUse.Made }
+    {
+        self.reader.close(self.eu, self.nlba);
+        let starts = !self.held || self.reader.syllable().text.word_start;
+        let len = canonical_len(self.reader.syllable(), starts);
+        let kept = self.reader.syllable().kept.len();
+        self.over = self.over || kept > self.limit || len > self.limit;
+        self.total = self.total.saturating_add(len);
+        self.used = SlotUse::Made;
+    }
+
+    /// Closes the last text, where it has a piece, a centre or a translation: its notes are one empty snippet. Tells whether
+    /// it has.
+    pub(crate) fn close_last(&mut self) -> bool
+        requires { self.old.used ≢ SlotUse.Lent }
+        ensures gathered { self.new.gathered ≡ with_last self.old.gathered }
+        ensures has_last { result ≡ has_text self.old.gathered.builder.view }
+        ensures held { self.new.held ≡ self.old.held }
+        ensures used { self.new.used ≢ SlotUse.Lent }
+    {
+        let has_last = match self.used {
+            SlotUse::Reads => has_text(&self.reader.syllable().text),
+            _ => false,
+        };
+        if has_last {
+            self.reader.add_no_notes();
+            self.close();
+        }
+        has_last
+    }
+
+    /// Returns which limit is passed, if one is: at one point the one with the lower number.
+    pub(crate) fn code(&self, limits: Limits) -> Option<Code>
+        ensures code { result ≡ code_in limits self.now.gathered }
+    {
+        let most = limits.input as usize;
+        let is_made = match self.used {
+            SlotUse::Made => true,
+            _ => self.held,
+        };
+        if self.over || self.kept_len() > self.limit {
+            Some(Code::F5)
+        } else if is_made && self.total >= most {
+            Some(Code::F7)
+        } else {
+            None
+        }
+    }
+
+    /// The bytes of the syllable that is read.
+    fn kept_len(&self) -> usize
+        ensures { result ≡ length self.now.gathered.builder.kept }
+    {
+        match self.used {
+            SlotUse::Reads => self.reader.syllable().kept.len(),
+            _ => 0,
+        }
+    }
+
+    /// Returns the fault of the end, which is at this place: of an open bracket, or of a limit.
+    pub(crate) fn end_fault(&self, limits: Limits, at: Place) -> Option<Fault>
+        ensures fault { result ≡ end_fault limits at self.now.gathered }
+    {
+        let passed = self.code(limits);
+        match self.cut {
+            Some(place) => Some(Fault {
+                place,
+                code: Code::F6,
+            }),
+            None => match passed {
+                Some(code) => Some(Fault { place: at, code }),
+                None => None,
+            },
+        }
+    }
+
+    /// Whether a span is open.
+    pub(crate) fn has_open(&self) -> bool
+        ensures { result ≡ (self.now.gathered.eu || self.now.gathered.nlba) }
+    {
+        self.eu || self.nlba
+    }
+
+    /// Whether the syllable in the slot that reads begins a word.
+    fn starts(&self) -> bool
+        ensures { result ≡ self.now.second.made.text.word_start }
+    {
+        self.reader.syllable().text.word_start
+    }
+
+    /// Gives the held syllable where the one that was read is whole, which is held from then on. `given` tells whether one was
+    /// given before. Tells how many it gave, one or none.
+    pub(crate) fn turn(&mut self, given: bool) -> usize
+        ensures gathered { self.new.gathered ≡ with_held self.old.gathered }
+        ensures given { given_of result self.new ≡ take (length self.old.gathered.made - 1)
+            (placed_behind given self.old.gathered.made) }
+        ensures most { result ≤ 2 }
+        ensures some { nat_lt 0 result ≡ nat_lt 1 (length self.old.gathered.made) }
+        ensures used { is_made self.new.used ≡ false }
+    {
+        let SlotUse::Made = self.used else {
+            return 0;
+        };
+        let next_starts = self.starts();
+        swap(&mut self.reader, &mut self.holder);
+        if self.held {
+            let starts = !given || self.starts();
+            self.reader.place(position_by(starts, next_starts));
+            self.used = SlotUse::Lent;
+            1
+        } else {
+            self.reader.clear();
+            self.used = SlotUse::Reads;
+            self.held = true;
+            0
+        }
+    }
+
+    /// Gives the held syllable as the last one. Tells how many it gave, one or none.
+    pub(crate) fn give_held(&mut self, given: bool) -> usize
+        requires { self.old.used ≢ SlotUse.Lent }
+        ensures given { given_of result self.new ≡ placed_behind given self.old.held }
+        ensures most { result ≤ 2 }
+    {
+        let starts = !given || self.holder.syllable().text.word_start;
+        self.holder.place(position_by(starts, true));
+        if self.held { 1 } else { 0 }
+    }
+
+    /// Gives the held syllable, and behind it the one that was made last. Tells how many it gave.
+    pub(crate) fn give_all(&mut self, given: bool) -> usize
+        requires { self.old.used ≢ SlotUse.Lent }
+        ensures given { given_of result self.new ≡ placed_behind given self.old.gathered.made }
+        ensures most { result ≤ 2 }
+    {
+        let SlotUse::Made = self.used else {
+            return self.give_held(given);
+        };
+        let starts = self.starts();
+        if self.held {
+            let first_starts = !given || self.holder.syllable().text.word_start;
+            self.holder.place(position_by(first_starts, starts));
+            self.reader.place(position_by(starts, true));
+            2
+        } else {
+            self.reader.place(position_by(!given || starts, true));
+            swap(&mut self.reader, &mut self.holder);
+            1
+        }
+    }
+
+    /// Returns the first syllable that may be lent.
+    pub(crate) fn first(&self) -> &Syllable
+        ensures { placed_of result.now ≡ self.now.first }
+    {
+        match self.used {
+            SlotUse::Lent => self.reader.syllable(),
+            _ => self.holder.syllable(),
+        }
+    }
+
+    /// Returns the second syllable that may be lent.
+    pub(crate) fn second(&self) -> &Syllable
+        ensures { placed_of result.now ≡ self.now.second }
+    {
+        self.reader.syllable()
+    }
+}
+
+ghost use Rattle.std.specs.Prelude.{◌≡◌};
+ghost use Rattle.gabc_score.specs.Syllable.{is_open_after};
+ghost use Rattle.gabc_score.specs.Body.{has_text};
+ghost use Rattle.gabc_text.specs.TextView.{content_of};
+
+/// Whether a last text is a syllable.
+fn has_text(view: &TextView) -> bool
+    ensures { result ≡ has_text (content_of view.now) }
+{
+    !view.pieces.as_slice().is_empty() || view.centre.is_some() || view.translation.is_some()
+}
+
+/// Whether a span is open behind a piece of this kind and spelling, by the tags that open and close it.
+fn is_open_after(opening: &[u8], closing: &[u8], was: bool, kind: PieceKind, spelled: &[u8]) -> bool
+    ensures { result ≡ is_open_after opening.now closing.now was kind spelled.now }
+{
+    match kind {
+        PieceKind::Mark => spelled == opening || (was && spelled != closing),
+        _ => was,
+    }
+}

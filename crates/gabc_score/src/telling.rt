@@ -1,0 +1,121 @@
+//! What a stage over a score gives at a point.
+
+ghost use Rattle.std.specs.Prelude.{◌≡◌, ◌≢◌, ◌+◌, ◌-◌, ◌≤◌, ◌||◌, nat_lt, [], ◌∷◌, ◌++◌, map, take, length, cond, false};
+ghost use Rattle.gabc_places.specs.BoundedList.{Fits, extended_by};
+ghost use Rattle.gabc_score.specs.ScoreEvents.{outputs_of, Stop, End};
+ghost use Rattle.gabc_score.specs.ScoreStage.{Tells};
+ghost use Rattle.gabc_score.specs.machine.BodyBuilder.{end_findings};
+ghost use Rattle.gabc_score.specs.machine.ScoreStage.{placed_behind, with_held};
+ghost use Rattle.gabc_score.specs.machine.SlotPair.{is_made, lent_of};
+
+use crate::score_event::{LentSyllable, ScoreEvent};
+use crate::slot_pair::{SlotPair, SlotUse};
+use gabc_places::{Code, Fault, Finding, Place, Room};
+
+/// Gives what is found.
+fn tell_found(found: &[Finding], out: &mut Room<ScoreEvent>)
+    requires { Fits out.old (length found.now) }
+    ensures { out.new ≡ extended_by out.old (map (λ f. ScoreEvent.Found f) found.now) }
+{
+    for finding in found {
+        out.push(ScoreEvent::Found(*finding));
+    }
+}
+
+/// Gives the finding of this code, if it is found.
+fn tell_code(is_found: bool, place: Place, code: Code, out: &mut Room<ScoreEvent>)
+    requires { Fits out.old 1 }
+    ensures { out.new ≡ extended_by out.old
+        (map (λ f. ScoreEvent.Found f) (cond is_found (record { place = place; code = code } ∷ []) [])) }
+{
+    if is_found {
+        out.push(ScoreEvent::Found(Finding { place, code }));
+    }
+}
+
+/// Gives so many of the syllables that are lent.
+fn tell_lent(count: usize, out: &mut Room<ScoreEvent>)
+    requires most { count ≤ 2 }
+    requires fits { Fits out.old count }
+    ensures { out.new ≡ extended_by out.old (lent_of count) }
+{
+    if count > 0 {
+        out.push(ScoreEvent::Syllable(LentSyllable::First));
+    }
+    if count > 1 {
+        out.push(ScoreEvent::Syllable(LentSyllable::Second));
+    }
+}
+
+/// Gives what was found at a point, and the held syllable if another is whole, which is held then. `given` tells whether one was
+/// given before. Tells whether it gave one.
+pub(crate) fn tell_point(
+    pair: &mut SlotPair,
+    given: bool,
+    found: &mut Room<Finding>,
+    out: &mut Room<ScoreEvent>,
+) -> bool
+    requires few { length found.old.items ≤ 8 }
+    requires fits { Fits out.old 16 }
+    ensures gathered { pair.new.gathered ≡ with_held pair.old.gathered }
+    ensures used { is_made pair.new.used ≡ false }
+    ensures gave { result ≡ nat_lt 1 (length pair.old.gathered.made) }
+    ensures told { let made = pair.old.gathered.made in
+        Tells (outputs_of found.old.items (take (length made - 1) (placed_behind given made)))
+        out.old out.new pair.new.first pair.new.second }
+    ensures found { found.new ≡ record found.old { items = [] } }
+{
+    tell_found(found.slice(), out);
+    found.clear();
+    let count = pair.turn(given);
+    tell_lent(count, out);
+    count > 0
+}
+
+/// Gives the held syllable as the last one, and the fault that stops the score.
+pub(crate) fn tell_stop(pair: &mut SlotPair, given: bool, fault: Fault, out: &mut Room<ScoreEvent>)
+    requires used { pair.old.used ≢ SlotUse.Lent }
+    requires fits { Fits out.old 16 }
+    ensures told { Tells (outputs_of [] (placed_behind given pair.old.held) ++ Stop fault ∷ [])
+        out.old out.new pair.new.first pair.new.second }
+{
+    let count = pair.give_held(given);
+    tell_lent(count, out);
+    out.push(ScoreEvent::Stop(fault));
+}
+
+/// Gives the held syllable as the last one, where the source has failed.
+pub(crate) fn tell_broken(pair: &mut SlotPair, given: bool, out: &mut Room<ScoreEvent>)
+    requires used { pair.old.used ≢ SlotUse.Lent }
+    requires fits { Fits out.old 16 }
+    ensures told { Tells (outputs_of [] (placed_behind given pair.old.held))
+        out.old out.new pair.new.first pair.new.second }
+{
+    let count = pair.give_held(given);
+    tell_lent(count, out);
+}
+
+/// Gives what was found at the end, which is at this place, the syllables that are left, and the end. `has_last` tells
+/// whether a last text is a syllable.
+pub(crate) fn tell_end(
+    pair: &mut SlotPair,
+    given: bool,
+    has_last: bool,
+    at: Place,
+    found: &[Finding],
+    out: &mut Room<ScoreEvent>,
+)
+    requires used { pair.old.used ≢ SlotUse.Lent }
+    requires few { length found.now ≤ 8 }
+    requires fits { Fits out.old 16 }
+    ensures told { let g = pair.old.gathered in
+        Tells (outputs_of (found.now ++ end_findings at has_last (g.eu || g.nlba)) (placed_behind given g.made) ++ End ∷ [])
+        out.old out.new pair.new.first pair.new.second }
+{
+    tell_found(found, out);
+    tell_code(has_last, at, Code::W9, out);
+    tell_code(pair.has_open(), at, Code::W11, out);
+    let count = pair.give_all(given);
+    tell_lent(count, out);
+    out.push(ScoreEvent::End);
+}

@@ -1,0 +1,7 @@
+pub mod LineOfGlyph
+pub mod LineOfItem
+pub mod LinesOfGlyphs
+pub mod LinesOfItems
+pub mod LinesOfSnippets
+pub mod LinesOfSyllable
+pub mod PiecesOfText

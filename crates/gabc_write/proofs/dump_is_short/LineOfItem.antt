@@ -1,0 +1,108 @@
+-- The line of an item is short: an item of b bytes has a line of at most 24 * b.
+use Rattle.std.proofs.Common.{ℕ, ◌+◌, ◌*◌, ◌≤◌, ◌==◌, ◌||◌, ◌-◌, List, [], ◌∷◌, ◌++◌, Bool, true, false, length, length-append, length-take, length-drop, drop, codes, arith, if◌then◌else◌}
+use Rattle.gabc_notes.specs.Notes.{begins_with, is_capital, from_pitch, height_at, shape_at}
+use Rattle.gabc_notes.specs.declared.item.ItemKind.{ItemKind}
+use Rattle.gabc_notes.specs.declared.item.ItemKind.TheVariants as kind
+use Rattle.gabc_notes.specs.declared.note.Shape.{Shape}
+use Rattle.gabc_notes.specs.declared.note.Shape.TheVariants as shape
+use Rattle.gabc_neumes.specs.Words.{shape_word}
+use Rattle.gabc_write.specs.DumpLines.{escaped}
+use Rattle.gabc_write.specs.DumpOfNotes.{last_text, pitch_letter, line_of_note, sign_word, bar_word, is_blank_run, line_of_spacing, line_of_custos, raw_of, line_by}
+use Rattle.gabc_write.proofs.DumpOfHeadersIsShort.{escaped_short}
+
+-- ---- words
+
+word_short : (s : Shape) → length (shape_word s) ≤ 18
+word_short shape.Punctum = omega arith
+word_short shape.Inclinatum = omega arith
+word_short shape.Virga = omega arith
+word_short shape.Bivirga = omega arith
+word_short shape.Trivirga = omega arith
+word_short shape.VirgaReversa = omega arith
+word_short shape.Stropha = omega arith
+word_short shape.Distropha = omega arith
+word_short shape.Tristropha = omega arith
+word_short shape.Oriscus = omega arith
+word_short shape.OriscusScapus = omega arith
+word_short shape.Quilisma = omega arith
+word_short shape.QuilismaQuadratum = omega arith
+word_short shape.Quadratum = omega arith
+word_short shape.Cavum = omega arith
+word_short shape.Lined = omega arith
+word_short shape.Linea = omega arith
+
+-- a note of one character is a punctum or an inclinatum
+one_character : (c : ℕ) → length (shape_word (shape_at (from_pitch (c ∷ [])))) ≤ 10
+one_character c = by (c == 45)
+  where
+    capital : (b : Bool) → length (shape_word (if b then shape.Inclinatum else shape.Punctum)) ≤ 10
+    capital true = omega arith
+    capital false = omega arith
+
+    by : (b : Bool) → length (shape_word (shape_at (if b then [] else c ∷ []))) ≤ 10
+    by true = omega arith
+    by false = capital (is_capital c)
+
+-- the word of a note's shape, by the number of its bytes
+pub shape_short : (t : List ℕ) (b : ℕ) → length t ≤ b → 1 ≤ b → length (shape_word (shape_at (from_pitch t))) ≤ 10 * b
+shape_short [] b l m = omega arith
+shape_short (c ∷ []) b l m = omega (arith, one_character c)
+shape_short (c ∷ d ∷ t) b l m = omega (arith, word_short (shape_at (from_pitch (c ∷ d ∷ t))))
+
+-- ---- lines
+
+pub last_short : (t : List ℕ) → length (last_text t) ≤ 2 * length t + 1
+last_short t = omega (arith, length-append (escaped t) (codes "\n"), escaped_short t)
+
+note_short : (t : List ℕ) (b : ℕ) → length t ≤ b → 1 ≤ b → length (line_of_note t) ≤ 24 * b
+note_short t b l m =
+    let word = shape_word (shape_at (from_pitch t)) in
+    omega (arith, length-append word (codes " " ++ last_text t), last_short t, shape_short t b l m)
+
+sign_short : (t : List ℕ) → length (sign_word t) ≤ 7
+sign_short t = by (begins_with (codes "x") t || begins_with (codes "X") t) (begins_with (codes "y") t || begins_with (codes "Y") t)
+  where
+    by : (a b : Bool) → length (if a then codes "flat" else if b then codes "natural" else codes "sharp") ≤ 7
+    by true b = omega arith
+    by false true = omega arith
+    by false false = omega arith
+
+bar_short : (t : List ℕ) → length (bar_word t) ≤ 7
+bar_short t = by (begins_with (codes "::") t) (begins_with (codes ":") t) (begins_with (codes ";") t) (begins_with (codes ",") t) (begins_with (codes "^") t)
+  where
+    by : (a b c d e : Bool) → length (if a then codes "finalis" else if b then codes "maior" else if c then codes "minor" else if d then codes "minima" else if e then codes "minimis" else codes "virgula") ≤ 7
+    by true b c d e = omega arith
+    by false true c d e = omega arith
+    by false false true d e = omega arith
+    by false false false true e = omega arith
+    by false false false false true = omega arith
+    by false false false false false = omega arith
+
+spacing_short : (t : List ℕ) → length (line_of_spacing t) ≤ 2 * length t + 12
+spacing_short t = by (is_blank_run t)
+  where
+    by : (b : Bool) → length (codes "space " ++ (if b then codes "blank\n" else last_text t)) ≤ 2 * length t + 12
+    by true = omega arith
+    by false = omega (arith, last_short t)
+
+custos_short : (t : List ℕ) → length (line_of_custos t) ≤ 12
+custos_short t = by (begins_with (codes "z") t)
+  where
+    by : (b : Bool) → length (codes "custos " ++ (if b then codes "auto\n" else pitch_letter (height_at t) ∷ codes "\n")) ≤ 12
+    by true = omega arith
+    by false = omega arith
+
+raw_short : (t : List ℕ) → length (raw_of t) ≤ length t
+raw_short t = omega (arith, length-take (length t - 1 - 1) (drop 1 t), length-drop 1 t)
+
+-- the line of an item of that spelling, which has at most b bytes
+pub line_short : (k : ItemKind) (t : List ℕ) (b : ℕ) → length t ≤ b → 1 ≤ b → length (line_by k t) ≤ 24 * b
+line_short kind.Note t b l m = note_short t b l m
+line_short kind.Alteration t b l m = omega (arith, length-append (sign_word (drop 1 t)) (codes " " ++ last_text t), sign_short (drop 1 t), last_short t)
+line_short kind.Clef t b l m = omega (arith, last_short t)
+line_short kind.Bar t b l m = omega (arith, length-append (bar_word t) (codes " " ++ last_text t), bar_short t, last_short t)
+line_short kind.Spacing t b l m = omega (arith, spacing_short t)
+line_short kind.Custos t b l m = omega (arith, custos_short t)
+line_short kind.Break t b l m = omega (arith, last_short t)
+line_short kind.Attribute t b l m = omega (arith, last_short (raw_of t), raw_short t)
+line_short kind.Fusion t b l m = omega (arith, last_short t)

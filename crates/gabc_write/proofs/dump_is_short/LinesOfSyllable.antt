@@ -1,0 +1,143 @@
+-- The dump of a syllable is short: at most 64 bytes for each byte of its canonical text, and 256.
+use Rattle.std.proofs.Common.{◌≡◌, ℕ, zero, suc, ◌+◌, ◌*◌, ◌-◌, ◌≤◌, ◌<◌, ◌^◌, ◌&&◌, ◌==◌, List, [], ◌∷◌, ◌++◌, Bool, true, false, cond, nat_le, Option, Some, None, length, length-append, length-take, length-drop, drop, codes, arith, refl, IsUtf8, if◌then◌else◌}
+use Rattle.std.specs.Str.{IsCharBoundary}
+use Rattle.std.specs.List.{All, flat_map}
+use Rattle.std.specs.Fmt.{decimal}
+use Rattle.std.proofs.lemmas.Bool.{leb-true}
+use Rattle.std.proofs.lemmas.Bool.Decides.{nat_tests}
+use Rattle.std.proofs.lemmas.Fmt.{length-decimal-le}
+use Rattle.std.proofs.lemmas.List.Elements.{All-head, All-tail}
+use Rattle.std.proofs.lemmas.Str.{IsUtf8-between}
+use Rattle.gabc_places.specs.declared.place.Span.{Span}
+use Rattle.gabc_text.specs.Canonical.{canonical_text}
+use Rattle.gabc_score.specs.Canonical.{translation_text, with_bars, canonical, starts_word}
+use Rattle.gabc_score.specs.Syllable.{PlacedSyllable, is_seam, slice, text_at}
+use Rattle.gabc_score.specs.declared.snippets.Snippet.{Snippet}
+use Rattle.gabc_score.specs.declared.syllable.Position.{Position}
+use Rattle.gabc_score.specs.declared.syllable.Position.TheVariants.{One, Beginning, Middle, End}
+use Rattle.gabc_patterns.proofs.BothOfTwoTests.{and_true}
+use Rattle.gabc_write.specs.DumpOfNotes.{lines_of_notes}
+use Rattle.gabc_write.specs.DumpOfNabc.{lines_of_nabc}
+use Rattle.gabc_write.specs.DumpOfSyllables.{position_word, first_line, line_of_text, line_of_translation, lines_of_snippet, lines_of_syllable}
+use Rattle.gabc_write.proofs.dump_is_short.LineOfItem.{last_short}
+use Rattle.gabc_write.proofs.dump_is_short.LinesOfSnippets.{NamesAreShort, notes_short, nabc_short}
+
+-- ---- the text of a span
+
+boundary : (bytes : List ℕ) (i : ℕ) → i ≤ length bytes → is_seam (drop i bytes) ≡ true → IsCharBoundary bytes i
+boundary [] zero l e = (l, λ x y. absurd (omega arith))
+boundary [] (suc i) l e = absurd (omega arith)
+boundary (b ∷ bytes) zero l e = (l, λ x y. grind (arith, nat_tests))
+boundary (b ∷ bytes) (suc i) l e = let h = boundary bytes i (omega arith) e in (l, λ x y. h.1 (omega arith) y)
+
+-- it is a text, with no more bytes than the span has
+pub text_short : (span : Span) (bytes : List ℕ) → IsUtf8 bytes → IsUtf8 (text_at span bytes) × (length (text_at span bytes) ≤ length (slice span bytes))
+unfolding slice
+text_short span bytes u = by (nat_le span.from span.to && (nat_le span.to (length bytes) && (is_seam (drop span.from bytes) && is_seam (drop span.to bytes)))) refl
+  where
+    by : (b : Bool) → (nat_le span.from span.to && (nat_le span.to (length bytes) && (is_seam (drop span.from bytes) && is_seam (drop span.to bytes)))) ≡ b
+        → IsUtf8 (cond b (slice span bytes) []) × (length (cond b (slice span bytes) []) ≤ length (slice span bytes))
+    by true e =
+        let x = and_true _ _ e in
+        let y = and_true _ _ x.1 in
+        let z = and_true _ _ y.1 in
+        let order = leb-true span.from span.to x.0 in
+        let within = leb-true span.to (length bytes) y.0 in
+        (IsUtf8-between bytes span.from span.to u order (boundary bytes span.from (omega arith) z.0) (boundary bytes span.to within z.1), omega arith)
+    by false e = (([], (refl, refl)), omega arith)
+
+-- ---- the lines of a syllable
+
+position_short : (p : Position) → length (position_word p) ≤ 9
+position_short One = omega arith
+position_short Beginning = omega arith
+position_short Middle = omega arith
+position_short End = omega arith
+
+flag_short : (b : Bool) (word : List ℕ) → length (if b then word else []) ≤ length word
+flag_short true word = omega arith
+flag_short false word = omega arith
+
+first_short : (number : ℕ) (s : PlacedSyllable) → number < 2 ^ 64 → length (first_line number s) ≤ 48
+first_short number s l =
+    let digits : length (decimal number) ≤ 20 = length-decimal-le 20 number (omega arith) (omega arith) l in
+    let eu : List ℕ = if s.made.eu then codes " eu" else [] in
+    let nlba : List ℕ = if s.made.nlba then codes " nlba" else [] in
+    omega (
+      arith,
+      length-append (decimal number) (codes " " ++ (position_word s.position ++ (eu ++ (nlba ++ codes "\n")))),
+      length-append (position_word s.position) (eu ++ (nlba ++ codes "\n")),
+      length-append eu (nlba ++ codes "\n"),
+      length-append nlba (codes "\n"),
+      position_short s.position,
+      flag_short s.made.eu (codes " eu"),
+      flag_short s.made.nlba (codes " nlba"),
+      digits,
+    )
+
+text_line_short : (t : List ℕ) → length (line_of_text t) ≤ 64 * length t
+text_line_short [] = omega arith
+text_line_short (c ∷ t) = omega (arith, last_short (c ∷ t))
+
+translation_short : (kept : List ℕ) (span : Option Span) → length (line_of_translation kept span) ≤ 64 * length (translation_text kept span)
+translation_short kept None = omega arith
+translation_short kept (Some span) = omega (arith, last_short (slice span kept), length-append (slice span kept) (codes "]"))
+
+module _ (short : NamesAreShort) (kept : List ℕ) (u : IsUtf8 kept) (l : length kept < 2 ^ 64) where
+  slice_within : (span : Span) → length (slice span kept) ≤ length kept
+  unfolding slice
+  slice_within span = omega (arith, length-take (span.to - span.from) (drop span.from kept), length-drop span.from kept)
+
+  snippet_short : (s : Snippet) → s.line < 256 → length (lines_of_snippet kept s) ≤ 64 * (length (slice s.span kept) + 1)
+  snippet_short s m = by (s.line == 0)
+    where
+      by : (b : Bool) → length (if b then lines_of_notes (text_at s.span kept) else lines_of_nabc s.line (text_at s.span kept)) ≤ 64 * (length (slice s.span kept) + 1)
+      by true =
+          let t = text_short s.span kept u in
+          let few = t.1 in
+          omega (arith, notes_short (text_at s.span kept) t.0 (omega (arith, slice_within s.span)), few)
+      by false =
+          let t = text_short s.span kept u in
+          let few = t.1 in
+          omega (arith, nabc_short short s.line (text_at s.span kept) m t.0, few)
+
+  snippets_short : (ss : List Snippet) → All (λ s. s.line < 256) ss → length (flat_map (lines_of_snippet kept) ss) ≤ 64 * (length (with_bars kept ss) + 1)
+  snippets_short [] h = omega arith
+  snippets_short (s ∷ []) h = omega (arith, length-append (lines_of_snippet kept s) [], snippet_short s (All-head (λ (x : Snippet). x.line < 256) s [] h))
+  snippets_short (s ∷ t ∷ ss) h =
+      let first = snippet_short s (All-head (λ (x : Snippet). x.line < 256) s (t ∷ ss) h) in
+      let later = snippets_short (t ∷ ss) (All-tail (λ (x : Snippet). x.line < 256) s (t ∷ ss) h) in
+      omega (
+        arith,
+        length-append (lines_of_snippet kept s) (flat_map (lines_of_snippet kept) (t ∷ ss)),
+        length-append (slice s.span kept) (codes "|" ++ with_bars kept (t ∷ ss)),
+        first,
+        later,
+      )
+
+-- the lines of a syllable, by its canonical text
+pub syllable_short : NamesAreShort → (number : ℕ) (s : PlacedSyllable) → number < 2 ^ 64 → IsUtf8 s.made.kept → length s.made.kept < 2 ^ 64
+    → All (λ (x : Snippet). x.line < 256) s.made.snippets → length (lines_of_syllable number s) ≤ 64 * length (canonical (starts_word s.position) s.made) + 256
+syllable_short short number s l u k h =
+    let m = s.made in
+    let start : List ℕ = cond (starts_word s.position) (10 ∷ []) [] in
+    let text = canonical_text m.text m.kept in
+    let translation = translation_text m.kept m.text.translation in
+    let notes = with_bars m.kept m.snippets in
+    let text_line = line_of_text text in
+    let translation_line = line_of_translation m.kept m.text.translation in
+    let snippets = flat_map (lines_of_snippet m.kept) m.snippets in
+    omega (
+      arith,
+      length-append start (text ++ (translation ++ (codes "(" ++ (notes ++ codes ")")))),
+      length-append text (translation ++ (codes "(" ++ (notes ++ codes ")"))),
+      length-append translation (codes "(" ++ (notes ++ codes ")")),
+      length-append notes (codes ")"),
+      length-append (first_line number s) (text_line ++ (translation_line ++ snippets)),
+      length-append text_line (translation_line ++ snippets),
+      length-append translation_line snippets,
+      first_short number s l,
+      text_line_short text,
+      translation_short m.kept m.text.translation,
+      snippets_short short m.kept u k m.snippets h,
+    )

@@ -1,0 +1,132 @@
+-- The lines of a GABC snippet in a dump. In these definitions `before` is what stands before an item, the nearest first.
+use Rattle.std.specs.Prelude.{ℕ, ◌+◌, ◌-◌, ◌==◌, List, [], ◌∷◌, ◌++◌, Bool, true, false, ◌&&◌, ◌||◌, not, length, drop, reverse, slice_range, codes, if◌then◌else◌}
+use Rattle.std.specs.List.{flat_map, take_while}
+use Rattle.std.specs.Fmt.{decimal}
+use Rattle.gabc_notes.specs.Items.{items_of, bytes_of}
+use Rattle.gabc_notes.specs.Notes.{begins_with, from_pitch, height_at, shape_at}
+use Rattle.gabc_notes.specs.declared.item.Item.{Item}
+use Rattle.gabc_notes.specs.declared.item.ItemKind.{ItemKind}
+use Rattle.gabc_notes.specs.declared.item.ItemKind.TheVariants as kind
+use Rattle.gabc_notes.specs.declared.note.Note.{Note}
+use Rattle.gabc_neumes.specs.Cut.{glyphs_of}
+use Rattle.gabc_neumes.specs.Elements.{is_in_element, is_in_segment, notes_in}
+use Rattle.gabc_neumes.specs.Words.{shape_word, kind_word}
+use Rattle.gabc_neumes.specs.declared.glyph.Glyph.{Glyph}
+use Rattle.gabc_write.specs.DumpLines.{escaped}
+
+-- ---- the line of an item, by its spelling
+
+-- a spelling as the last thing of a line
+abbrev pub last_text : List ℕ → List ℕ
+last_text t = escaped t ++ codes "\n"
+
+-- the small letter of a height: `a` is 0 and `n` is 13; there is no `o`, and 14 is `p`
+abbrev pub pitch_letter : ℕ → ℕ
+pitch_letter height = if height == 14 then 112 else height + 97
+
+-- `note PITCH SHAPE S`
+abbrev pub line_of_note : List ℕ → List ℕ
+line_of_note t =
+    codes "note " ++ (pitch_letter (height_at (from_pitch t)) ∷ (codes " " ++ (shape_word (shape_at (from_pitch t)) ++ (codes " " ++ last_text t))))
+
+-- the sign stands behind its pitch
+abbrev pub sign_word : List ℕ → List ℕ
+sign_word t =
+    if begins_with (codes "x") t || begins_with (codes "X") t then codes "flat" else
+    if begins_with (codes "y") t || begins_with (codes "Y") t then codes "natural" else codes "sharp"
+
+-- `alteration PITCH flat|natural|sharp S`
+abbrev pub line_of_alteration : List ℕ → List ℕ
+line_of_alteration t = codes "alteration " ++ (pitch_letter (height_at t) ∷ (codes " " ++ (sign_word (drop 1 t) ++ (codes " " ++ last_text t))))
+
+abbrev pub bar_word : List ℕ → List ℕ
+bar_word t =
+    if begins_with (codes "::") t then codes "finalis" else
+    if begins_with (codes ":") t then codes "maior" else
+    if begins_with (codes ";") t then codes "minor" else
+    if begins_with (codes ",") t then codes "minima" else
+    if begins_with (codes "^") t then codes "minimis" else codes "virgula"
+
+-- `bar NAME S`
+abbrev pub line_of_bar : List ℕ → List ℕ
+line_of_bar t = codes "bar " ++ (bar_word t ++ (codes " " ++ last_text t))
+
+-- blanks are U+0020, U+0009 and LF
+abbrev pub is_blank_run : List ℕ → Bool
+is_blank_run t = begins_with (32 ∷ []) t || begins_with (9 ∷ []) t || begins_with (10 ∷ []) t
+
+-- `space S`, and `space blank` for a run of blanks
+abbrev pub line_of_spacing : List ℕ → List ℕ
+line_of_spacing t = codes "space " ++ (if is_blank_run t then codes "blank\n" else last_text t)
+
+-- `custos auto`, or `custos PITCH`
+abbrev pub line_of_custos : List ℕ → List ℕ
+line_of_custos t = codes "custos " ++ (if begins_with (codes "z") t then codes "auto\n" else pitch_letter (height_at t) ∷ codes "\n")
+
+-- what stands between the brackets of an attribute
+abbrev pub raw_of : List ℕ → List ℕ
+raw_of t = slice_range t 1 (length t - 1)
+
+abbrev pub line_by : ItemKind → List ℕ → List ℕ
+line_by kind.Note t = line_of_note t
+line_by kind.Alteration t = line_of_alteration t
+line_by kind.Clef t = codes "clef " ++ last_text t
+line_by kind.Bar t = line_of_bar t
+line_by kind.Spacing t = line_of_spacing t
+line_by kind.Custos t = line_of_custos t
+line_by kind.Break t = codes "break " ++ last_text t
+line_by kind.Attribute t = codes "attribute " ++ last_text (raw_of t)
+line_by kind.Fusion t = codes "fusion " ++ last_text t
+
+abbrev pub line_of_item : List ℕ → Item → List ℕ
+line_of_item kept i = line_by i.kind (bytes_of kept i)
+
+-- ---- what stands before the line of an item
+
+-- the nearest item is part of an element
+abbrev pub is_behind_element : List ℕ → List Item → Bool
+is_behind_element kept [] = false
+is_behind_element kept (i ∷ before) = is_in_element kept i
+
+-- `element`, before the first item of an element
+abbrev pub element_line : List ℕ → List Item → Item → List ℕ
+element_line kept before i = if is_in_element kept i && not (is_behind_element kept before) then codes "element\n" else []
+
+-- `glyph KIND COUNT`
+abbrev pub line_of_glyph : Glyph → List ℕ
+line_of_glyph g = codes "glyph " ++ (kind_word g.kind ++ (codes " " ++ (decimal g.count ++ codes "\n")))
+
+-- the line of the glyph whose first note is the one with that index
+abbrev pub line_of_glyph_at : List Glyph → ℕ → List ℕ
+line_of_glyph_at glyphs index = flat_map (λ (g : Glyph). if g.first == index then line_of_glyph g else []) glyphs
+
+-- the notes of the segment that stand before a place, and those from there on
+abbrev pub notes_before : List ℕ → List Item → List Note
+notes_before kept before = notes_in kept (reverse (take_while is_in_segment before))
+
+abbrev pub notes_behind : List ℕ → List Item → List Note
+notes_behind kept items = notes_in kept (take_while is_in_segment items)
+
+-- the line of the glyph, of the cut of its segment, that begins with the note at the head of the items
+abbrev pub line_of_first_glyph : List ℕ → List Item → List Item → List ℕ
+line_of_first_glyph kept before items =
+    line_of_glyph_at (glyphs_of (notes_before kept before ++ notes_behind kept items)) (length (notes_before kept before))
+
+abbrev pub is_note : ItemKind → Bool
+is_note kind.Note = true
+is_note _ = false
+
+-- `glyph KIND COUNT`, before the first note of a glyph
+abbrev pub glyph_line : List ℕ → List Item → Item → List Item → List ℕ
+glyph_line kept before i items = if is_note i.kind then line_of_first_glyph kept before (i ∷ items) else []
+
+-- ---- the lines of a snippet
+
+abbrev pub lines_behind : List ℕ → List Item → List Item → List ℕ
+lines_behind kept before [] = []
+lines_behind kept before (i ∷ items) =
+    element_line kept before i ++ (glyph_line kept before i items ++ (line_of_item kept i ++ lines_behind kept (i ∷ before) items))
+
+-- `notes:S`, and the lines of its items
+abbrev pub lines_of_notes : List ℕ → List ℕ
+lines_of_notes kept = codes "notes:" ++ (last_text kept ++ lines_behind kept [] (items_of kept))

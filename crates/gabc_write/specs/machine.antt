@@ -1,0 +1,2 @@
+pub mod NamesBehindFirst
+pub mod NoteLines

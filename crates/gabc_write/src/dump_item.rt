@@ -1,0 +1,192 @@
+//! The line of one item of a snippet in the dump.
+
+ghost use Rattle.std.specs.Prelude.{◌≡◌, ◌≤◌, ◌<◌, ◌++◌, codes, drop, length, false};
+ghost use Rattle.gabc_notes.specs.Notes.{from_pitch, height_at, shape_at};
+ghost use Rattle.gabc_write.specs.DumpOfNotes.{last_text, pitch_letter, line_of_note, sign_word, line_of_alteration, bar_word, line_of_bar, is_blank_run, line_of_spacing, line_of_custos, raw_of, is_note, line_by, line_of_item};
+
+use crate::escape::put_escaped;
+use gabc_neumes::word_of_shape;
+use gabc_notes::{Item, ItemKind, Shape, height_of, note_of};
+use gabc_places::Put;
+
+/// Puts `text` as the last thing of a line, and the LF behind it.
+pub(crate) fn put_last<S: Put>(text: &[u8], out: &mut S)
+    ensures { out.new ≡ S.taken out.old (last_text text.now) }
+{
+    put_escaped(text, out);
+    out.put(b"\n");
+}
+
+/// Puts `word`, and behind it `text` as the last thing of the line.
+fn put_word_and_last<S: Put>(word: &str, text: &[u8], out: &mut S)
+    ensures { out.new ≡ S.taken out.old (word.now ++ (codes " " ++ last_text text.now)) }
+{
+    out.put(word.as_bytes());
+    out.put(b" ");
+    put_last(text, out);
+}
+
+/// Returns the small letter of `height`.
+fn letter_of_height(height: u8) -> u8
+    requires { height < 159 }
+    ensures { result ≡ pitch_letter height }
+{
+    if height == 14 { b'p' } else { height + b'a' }
+}
+
+/// Returns the small letter of the pitch with which `text` begins.
+fn letter_of(text: &[u8]) -> u8
+    ensures { result ≡ pitch_letter (height_at text.now) }
+{
+    match text {
+        [pitch, ..] => letter_of_height(height_of(*pitch)),
+        [] => b'a',
+    }
+}
+
+/// Returns the small letter of the pitch of `text`, a note: a `-` may stand before it.
+fn letter_of_note(text: &[u8]) -> u8
+    ensures { result ≡ pitch_letter (height_at (from_pitch text.now)) }
+{
+    match text {
+        [b'-', pitch @ ..] => letter_of(pitch),
+        _ => letter_of(text),
+    }
+}
+
+/// Puts the line of a note of that shape and text: `note PITCH SHAPE S`.
+fn put_note<S: Put>(shape: Shape, text: &[u8], out: &mut S)
+    requires { shape ≡ shape_at (from_pitch text.now) }
+    ensures { out.new ≡ S.taken out.old (line_of_note text.now) }
+{
+    out.put(b"note ");
+    out.put(&[letter_of_note(text), b' ']);
+    put_word_and_last(word_of_shape(shape), text, out);
+}
+
+/// Returns the word of the sign that stands behind the pitch of `text`, an alteration.
+fn word_of_sign(text: &[u8]) -> &'static str
+    ensures { result.now ≡ sign_word (drop 1 text.now) }
+{
+    match text {
+        [_, b'x' | b'X', ..] => "flat",
+        [_, b'y' | b'Y', ..] => "natural",
+        _ => "sharp",
+    }
+}
+
+/// Puts the line of an alteration: `alteration PITCH flat|natural|sharp S`.
+fn put_alteration<S: Put>(text: &[u8], out: &mut S)
+    ensures { out.new ≡ S.taken out.old (line_of_alteration text.now) }
+{
+    out.put(b"alteration ");
+    out.put(&[letter_of(text), b' ']);
+    put_word_and_last(word_of_sign(text), text, out);
+}
+
+/// Returns the name of the bar `text`.
+fn name_of_bar(text: &[u8]) -> &'static str
+    ensures { result.now ≡ bar_word text.now }
+{
+    match text {
+        [b':', b':', ..] => "finalis",
+        [b':', ..] => "maior",
+        [b';', ..] => "minor",
+        [b',', ..] => "minima",
+        [b'^', ..] => "minimis",
+        _ => "virgula",
+    }
+}
+
+/// Puts the line of a bar: `bar NAME S`.
+fn put_bar<S: Put>(text: &[u8], out: &mut S)
+    ensures { out.new ≡ S.taken out.old (line_of_bar text.now) }
+{
+    out.put(b"bar ");
+    put_word_and_last(name_of_bar(text), text, out);
+}
+
+/// Returns whether `text`, a spacing, is a run of blanks.
+fn is_blank(text: &[u8]) -> bool
+    ensures { result ≡ is_blank_run text.now }
+{
+    match text {
+        [b' ' | b'\t' | b'\n', ..] => true,
+        _ => false,
+    }
+}
+
+/// Puts the line of a spacing: `space S`, and `space blank` for a run of blanks.
+fn put_spacing<S: Put>(text: &[u8], out: &mut S)
+    ensures { out.new ≡ S.taken out.old (line_of_spacing text.now) }
+{
+    out.put(b"space ");
+    if is_blank(text) {
+        out.put(b"blank\n");
+    } else {
+        put_last(text, out);
+    }
+}
+
+/// Puts the line of a custos: `custos PITCH`, or `custos auto`.
+fn put_custos<S: Put>(text: &[u8], out: &mut S)
+    ensures { out.new ≡ S.taken out.old (line_of_custos text.now) }
+{
+    out.put(b"custos ");
+    match text {
+        [b'z', ..] => out.put(b"auto\n"),
+        _ => out.put(&[letter_of(text), b'\n']),
+    }
+}
+
+/// Returns what stands between the brackets of `text`, an attribute.
+fn raw(text: &[u8]) -> &[u8]
+    ensures { result.now ≡ raw_of text.now }
+{
+    match text {
+        [_, raw @ .., _] => raw,
+        _ => &[],
+    }
+}
+
+/// Puts the line of an item of that kind and text that is no note.
+fn put_other<S: Put>(kind: ItemKind, text: &[u8], out: &mut S)
+    requires { is_note kind ≡ false }
+    ensures { out.new ≡ S.taken out.old (line_by kind text.now) }
+{
+    match kind {
+        ItemKind::Note => {}
+        ItemKind::Alteration => put_alteration(text, out),
+        ItemKind::Clef => {
+            out.put(b"clef ");
+            put_last(text, out);
+        }
+        ItemKind::Bar => put_bar(text, out),
+        ItemKind::Spacing => put_spacing(text, out),
+        ItemKind::Custos => put_custos(text, out),
+        ItemKind::Break => {
+            out.put(b"break ");
+            put_last(text, out);
+        }
+        ItemKind::Attribute => {
+            out.put(b"attribute ");
+            put_last(raw(text), out);
+        }
+        ItemKind::Fusion => {
+            out.put(b"fusion ");
+            put_last(text, out);
+        }
+    }
+}
+
+/// Puts the line of `item`, which has to lie in `kept`.
+pub(crate) fn put_item<S: Put>(kept: &str, item: Item, out: &mut S)
+    requires { (item.span.from ≤ item.span.to) × (item.span.to ≤ length kept.now) }
+    ensures { out.new ≡ S.taken out.old (line_of_item kept.now item) }
+{
+    let text = &kept.as_bytes()[item.span.from..item.span.to];
+    match note_of(kept, item) {
+        Some(note) => put_note(note.shape, text, out),
+        None => put_other(item.kind, text, out),
+    }
+}

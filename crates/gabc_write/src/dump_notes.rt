@@ -1,0 +1,212 @@
+//! The lines of a GABC snippet in the dump.
+
+ghost use Rattle.std.specs.Prelude.{◌≡◌, ◌≤◌, ◌<◌, ◌+◌, ◌^◌, [], length};
+ghost use Rattle.std.specs.List.{prefix_len};
+ghost use Rattle.gabc_notes.specs.Items.{AreWithin};
+ghost use Rattle.gabc_neumes.specs.Cut.{glyphs_of};
+ghost use Rattle.gabc_neumes.specs.Elements.{is_in_segment};
+ghost use Rattle.gabc_write.specs.DumpOfNotes.{line_of_glyph, notes_behind, lines_behind, lines_of_notes};
+ghost use Rattle.gabc_write.specs.machine.NoteLines.{glyphs_from, begins_at, line_of_next, lines_at, place_after, place_behind};
+
+use crate::dump_item::{put_item, put_last};
+use crate::scratch::Scratch;
+use gabc_neumes::{
+    Glyph, cut, is_in_element, is_in_segment, notes_into, word_of_base, word_of_tail,
+};
+use gabc_notes::{Item, ItemKind, Note, items_into};
+use gabc_places::{Put, Room};
+use itoa::Buffer;
+
+/// Where a writer stands between the items of a snippet.
+#[derive(Clone, Copy)]
+struct ItemPlace {
+    /// Whether the item before is part of an element.
+    in_element: bool,
+    /// Whether the item before is part of a segment.
+    in_segment: bool,
+    /// How many notes of the segment stand before.
+    notes: usize,
+    /// How many glyphs of the segment have their lines.
+    glyphs: usize,
+}
+
+impl ItemPlace {
+    /// Before the first item.
+    const START: ItemPlace = ItemPlace {
+        in_element: false,
+        in_segment: false,
+        notes: 0,
+        glyphs: 0,
+    };
+
+    /// Returns the place behind `item`. It is part of an element if `in_element`, and a glyph's line was put before it if `told`.
+    fn behind(self, item: Item, in_element: bool, told: bool) -> ItemPlace
+        requires notes { self.notes + 1 < 2 ^ 64 }
+        requires glyphs { self.glyphs ≤ self.notes }
+        ensures { result ≡ place_after self item in_element told }
+    {
+        if !is_in_segment(item) {
+            return ItemPlace {
+                in_element,
+                ..ItemPlace::START
+            };
+        }
+        let note = match item.kind {
+            ItemKind::Note => 1,
+            _ => 0,
+        };
+        let glyph = if told { 1 } else { 0 };
+        ItemPlace {
+            in_element,
+            in_segment: true,
+            notes: self.notes + note,
+            glyphs: self.glyphs + glyph,
+        }
+    }
+}
+
+/// Returns how many items of a segment begin `items`.
+fn count_in_segment(items: &[Item]) -> usize
+    ensures within { result ≤ length items.now }
+    ensures count { result ≡ prefix_len is_in_segment items.now }
+{
+    items
+        .iter()
+        .take_while(|item| is_in_segment(**item))
+        .count()
+}
+
+/// Puts the glyphs of the segment that begins `items` in place of `glyphs`. Both rooms have to take as many as there are items.
+fn read_segment(kept: &str, items: &[Item], notes: &mut Room<Note>, glyphs: &mut Room<Glyph>)
+    requires within { AreWithin kept.now items.now }
+    requires notes { length items.now ≤ notes.old.limit }
+    requires glyphs { length items.now ≤ glyphs.old.limit }
+    ensures glyphs { glyphs.new ≡ record glyphs.old { items = glyphs_of (notes_behind kept.now items.now) } }
+    ensures notes { notes.new.limit ≡ notes.old.limit }
+{
+    let segment = &items[..count_in_segment(items)];
+    notes.clear();
+    notes_into(kept, segment, notes);
+    glyphs.clear();
+    cut(notes.slice(), glyphs);
+}
+
+/// Puts the line of `glyph`: `glyph KIND COUNT`.
+fn put_glyph<S: Put>(glyph: Glyph, out: &mut S)
+    ensures { out.new ≡ S.taken out.old (line_of_glyph glyph) }
+{
+    let kind = glyph.kind;
+    out.put(b"glyph ");
+    out.put(word_of_base(kind.base).as_bytes());
+    out.put(word_of_tail(kind.base, kind.tail).as_bytes());
+    out.put(b" ");
+    out.put(Buffer::new().format(glyph.count).as_bytes());
+    out.put(b"\n");
+}
+
+/// Puts the line of the first of `glyphs` if it begins with the note of the index `note`, and returns whether it does.
+fn put_next_glyph<S: Put>(note: usize, glyphs: &[Glyph], out: &mut S) -> bool
+    ensures line { out.new ≡ S.taken out.old (line_of_next note glyphs.now) }
+    ensures told { result ≡ begins_at note glyphs.now }
+{
+    match glyphs {
+        [glyph, ..] if glyph.first == note => {
+            put_glyph(*glyph, out);
+            true
+        }
+        _ => false,
+    }
+}
+
+/// Reads the segment that begins `items`, if one does: where the first item is part of one, and the item before it, by
+/// `in_segment`, is not.
+fn enter_segment(
+    kept: &str,
+    items: &[Item],
+    in_segment: bool,
+    notes: &mut Room<Note>,
+    glyphs: &mut Room<Glyph>,
+)
+    requires within { AreWithin kept.now items.now }
+    requires notes { length items.now ≤ notes.old.limit }
+    requires glyphs { length items.now ≤ glyphs.old.limit }
+    ensures glyphs { glyphs.new ≡
+        record glyphs.old { items = glyphs_from kept.now in_segment items.now glyphs.old.items } }
+    ensures notes { notes.new.limit ≡ notes.old.limit }
+{
+    match items {
+        [item, ..] if is_in_segment(*item) && !in_segment => {
+            read_segment(kept, items, notes, glyphs);
+        }
+        _ => {}
+    }
+}
+
+/// Puts the lines of `item` at `place`: before its own those of an element and of a glyph that it begins. `glyphs` are those of the
+/// segment that have no lines yet. Returns the place behind the item.
+fn put_at<S: Put>(
+    kept: &str,
+    place: ItemPlace,
+    glyphs: &[Glyph],
+    item: Item,
+    out: &mut S,
+) -> ItemPlace
+    requires within { (item.span.from ≤ item.span.to) × (item.span.to ≤ length kept.now) }
+    requires notes { place.notes + 1 < 2 ^ 64 }
+    requires glyphs { place.glyphs ≤ place.notes }
+    ensures lines { out.new ≡ S.taken out.old (lines_at kept.now place glyphs.now item) }
+    ensures place { result ≡ place_behind kept.now place glyphs.now item }
+{
+    let in_element = is_in_element(kept, item);
+    if in_element && !place.in_element {
+        out.put(b"element\n");
+    }
+    let told = match item.kind {
+        ItemKind::Note => put_next_glyph(place.notes, glyphs, out),
+        _ => false,
+    };
+    put_item(kept, item, out);
+    place.behind(item, in_element, told)
+}
+
+/// Puts the lines of `items`, which are those of `kept`. Both rooms have to take as many as there are items.
+fn put_items<S: Put>(
+    kept: &str,
+    items: &[Item],
+    notes: &mut Room<Note>,
+    glyphs: &mut Room<Glyph>,
+    out: &mut S,
+)
+    requires within { AreWithin kept.now items.now }
+    requires notes { length items.now ≤ notes.old.limit }
+    requires glyphs { length items.now ≤ glyphs.old.limit }
+    ensures lines { out.new ≡ S.taken out.old (lines_behind kept.now [] items.now) }
+    ensures notes { notes.new.limit ≡ notes.old.limit }
+    ensures glyphs { glyphs.new.limit ≡ glyphs.old.limit }
+{
+    let mut place = ItemPlace::START;
+    for (i, item) in items.iter().enumerate() {
+        enter_segment(kept, &items[i..], place.in_segment, notes, glyphs);
+        place = put_at(kept, place, &glyphs.slice()[place.glyphs..], *item, out);
+    }
+}
+
+/// Puts the lines of a snippet of notes, `notes:S` and those of its items. `kept` has to have at most as many bytes as `scratch` is
+/// for; it may be any text, whose lines go as far as an item begins.
+pub(crate) fn put_notes<S: Put>(kept: &str, scratch: &mut Scratch, out: &mut S)
+    requires { length kept.now ≤ scratch.old }
+    ensures lines { out.new ≡ S.taken out.old (lines_of_notes kept.now) }
+    ensures scratch { scratch.new ≡ scratch.old }
+{
+    out.put(b"notes:");
+    put_last(kept.as_bytes(), out);
+    scratch.items.clear();
+    items_into(kept, &mut scratch.items);
+    put_items(
+        kept,
+        scratch.items.slice(),
+        &mut scratch.notes,
+        &mut scratch.glyphs,
+        out,
+    );
+}

@@ -1,0 +1,121 @@
+-- An output whose headers are whole is compiled again as itself.
+use Rattle.std.proofs.Common.{◌≡◌, ◌≢◌, ℕ, ◌≤◌, ◌<◌, ◌^◌, List, [], ◌∷◌, ◌++◌, length, true, false, not, ◌||◌, Option, Some, None, is_some, IsSome, refl, sym, ap, subst, ◌∙◌, arith}
+use Rattle.std.specs.Char.{IsScalar}
+use Rattle.std.specs.List.{All, list_any}
+use Rattle.std.proofs.lemmas.List.Elements.{All-head, All-tail}
+use Rattle.std.proofs.lemmas.List.{length-map}
+use lib.Utf8.{encodes}
+use Rattle.gabc_places.specs.declared.limits.Limits.{Limits}
+use Rattle.gabc_places.specs.LargerLimits.{AreNoLess}
+use Rattle.gabc_places.specs.declared.code.Finding.{Finding}
+use Rattle.gabc_places.specs.declared.decoded.Decoded.{Decoded}
+use Rattle.gabc_places.specs.Code.{severity_of}
+use Rattle.gabc_places.specs.Text.{text_of_bytes, decoded_of}
+use Rattle.gabc_places.specs.declared.severity.Severity.TheVariants.{Warning}
+use Rattle.gabc_score.specs.declared.ending.InputEnding as score
+use Rattle.gabc_score.specs.declared.ending.InputEnding.TheVariants.{Whole as WholeInput}
+use Rattle.gabc_score.specs.Holding.{HasWholeSnippets}
+use Rattle.gabc_score.specs.Score.{score_of}
+use Rattle.gabc_score.specs.Syllable.{PlacedSyllable}
+use Rattle.gabc_write.specs.CanonicalFile.{score_text}
+use Rattle.gabc_write.specs.DumpLines.{dump_heads, end_line}
+use Rattle.gabc_write.specs.DumpOfSyllables.{lines_of_syllables, dump_text}
+use Rattle.gabc_write.specs.FileAgain.{printed_file}
+use Rattle.gabc_write.specs.Said.{SyllableSaid, said, AreSame}
+use Rattle.gabc_write.specs.PlainText.{IsText}
+use Rattle.gabc_write.specs.ScoreAgain.{IsScoreAgain}
+use Rattle.gregorio_jobs.specs.declared.job.Format.TheVariants.{Gabc, Dump}
+use Rattle.gregorio_jobs.specs.declared.job.Status.TheVariants.{Whole}
+use Rattle.gregorio.specs.declared.outcome.Outcome.{Outcome}
+use Rattle.gregorio.specs.declared.source_bytes.SourceEnding.{SourceEnding}
+use Rattle.gregorio.specs.declared.source_bytes.SourceEnding.TheVariants.{Whole as Ended}
+use Rattle.gregorio.specs.CanonicalAgain.{IsOutcomeAgain}
+use Rattle.gregorio.specs.Outcome.{is_whole, ending_by, is_cut_short, outcome_of, output_by, output_of, is_read_whole, is_error, is_error_finding, status_by, status_of}
+
+abbrev IsWarning : Finding → Type 0
+IsWarning f = severity_of f.code ≡ Warning
+
+no_error : (f : Finding) → IsWarning f → is_error_finding f ≡ false
+no_error f h = ap is_error h
+
+no_errors : (fs : List Finding) → All IsWarning fs → list_any is_error_finding fs ≡ false
+no_errors [] h = refl
+no_errors (f ∷ fs) h = ap (λ b. b || list_any is_error_finding fs) (no_error f (All-head IsWarning f fs h)) ∙ no_errors fs (All-tail IsWarning f fs h)
+
+-- what is made of an input that ended, by its text
+abbrev made_of : Limits → Decoded → Outcome
+made_of limits decoded =
+    let score = score_of limits (ending_by Ended decoded.fault) decoded.text in
+    record { score = score; broken = is_cut_short Ended score.fault }
+
+-- an outcome that is whole
+whole_status : (m : Outcome) → m.score.fault ≡ None → m.broken ≡ false → list_any is_error_finding m.score.findings ≡ false → status_of m ≡ Whole
+whole_status m f b e = ap (λ o. status_by o m.broken (list_any is_error_finding m.score.findings)) f ∙ ap (λ x. status_by None x (list_any is_error_finding m.score.findings)) b ∙ ap (λ x. status_by None false x) e
+
+not_cut_short : (limits : Limits) (decoded : Decoded) → (made_of limits decoded).broken ≡ false
+not_cut_short limits decoded = refl
+
+-- the dump of an outcome that is whole
+dump_is : (m : Outcome) (syllables : List PlacedSyllable) (book : List (List ℕ × List ℕ)) → m.score.fault ≡ None → m.broken ≡ false → m.score.book ≡ Some book
+    → lines_of_syllables 1 m.score.syllables ≡ lines_of_syllables 1 syllables → AreSame m.score.syllables syllables → output_of Dump m ≡ dump_text true book syllables
+dump_is m syllables book f b h lines same =
+    let count : length m.score.syllables ≡ length syllables = sym (length-map m.score.syllables said) ∙ (ap (length {A = SyllableSaid}) same ∙ length-map syllables said) in
+    let whole : is_read_whole m ≡ true = ap (λ o. not (is_some o || m.broken)) f ∙ ap (λ x. not (false || x)) b in
+    ap (λ x. output_by Dump x m.score.book m.score.syllables) whole
+    ∙ (ap (λ o. output_by Dump true o m.score.syllables) h
+    ∙ (ap (λ (t : List ℕ). dump_heads book ++ (t ++ end_line (length m.score.syllables))) lines
+    ∙ ap (λ n. dump_heads book ++ (lines_of_syllables 1 syllables ++ end_line n)) count))
+
+module _ (plain : (limit : ℕ) (bytes : List ℕ) → All (λ c. (c ≢ 13) × (c ≢ 0xFEFF)) (text_of_bytes limit bytes)) (scalars : (limit : ℕ) (bytes : List ℕ) → All IsScalar (text_of_bytes limit bytes))
+    (short : (limit : ℕ) (bytes : List ℕ) → length (encodes (text_of_bytes limit bytes)) ≤ limit)
+    (read_again : (limits larger : Limits) (ending : score.InputEnding) (t : List ℕ) (book : List (List ℕ × List ℕ)) → AreNoLess limits larger → length (encodes t) < 2 ^ 63 → IsText t
+    → (score_of limits ending t).book ≡ Some book → IsScoreAgain larger t book (score_of limits ending t).syllables)
+    (between : (limits : Limits) (ending : score.InputEnding) (t : List ℕ) → length (encodes t) < 2 ^ 63 → All (λ (s : PlacedSyllable). HasWholeSnippets s.made) (score_of limits ending t).syllables)
+    (one_dump : (number : ℕ) (ss ts : List PlacedSyllable) → All (λ (s : PlacedSyllable). HasWholeSnippets s.made) ss → All (λ (s : PlacedSyllable). HasWholeSnippets s.made) ts
+    → AreSame ss ts → lines_of_syllables number ss ≡ lines_of_syllables number ts)
+    (limits larger : Limits) (ending : SourceEnding) (bytes : List ℕ) (no_less : AreNoLess limits larger) where
+  abbrev first : Outcome
+  first = outcome_of limits ending bytes
+
+  abbrev text : List ℕ
+  text = text_of_bytes limits.input bytes
+
+  with_book : (book : List (List ℕ × List ℕ)) → first.score.book ≡ Some book → IsOutcomeAgain first (outcome_of larger Ended (output_of Gabc first))
+  with_book book h =
+      let small : length (encodes text) < 2 ^ 63 = omega (arith, short limits.input bytes, limits.in_range.input_most) in
+      let s = read_again limits larger (ending_by ending (decoded_of limits (is_whole ending) bytes).fault) text book no_less small (record { scalars = scalars limits.input bytes; plain = plain limits.input bytes }) h in
+      let file = printed_file book s.printed.facts in
+      let output : output_of Gabc first ≡ score_text book first.score.syllables = ap (λ b. output_by Gabc (is_read_whole first) b first.score.syllables) h in
+      let made : outcome_of larger Ended (output_of Gabc first) ≡ made_of larger (record { text = file; fault = None }) = ap (λ c. outcome_of larger Ended c) output ∙ ap (made_of larger) (s.decoded true) in
+      let again = made_of larger (record { text = file; fault = None }) in
+      let fits = s.fits in
+      let file_small : length (encodes file) < 2 ^ 63 = omega (arith, ap (length {A = ℕ}) s.printed.bytes, fits, larger.in_range.input_most) in
+      let how = ending_by ending (decoded_of limits (is_whole ending) bytes).fault in
+      subst (IsOutcomeAgain first) (sym made) (record {
+        fault = s.no_fault;
+        errors = no_errors again.score.findings s.warnings;
+        status = whole_status again s.no_fault (not_cut_short larger (record { text = file; fault = None })) (no_errors again.score.findings s.warnings);
+        book = s.same.book_is ∙ sym h;
+        syllables = s.said;
+        output = ap (λ b. output_by Gabc (is_read_whole again) b again.score.syllables) s.same.book_is ∙ s.same_file ∙ sym output;
+        dump = λ other e. dump_is again first.score.syllables other s.no_fault (not_cut_short larger (record { text = file; fault = None })) (s.same.book_is ∙ sym h ∙ e)
+            (one_dump 1 again.score.syllables first.score.syllables (between larger WholeInput file file_small) (between limits how text small) s.said) s.said;
+      })
+
+  pub compiled_again : IsSome first.score.book → IsOutcomeAgain first (outcome_of larger Ended (output_of Gabc first))
+  compiled_again h = by first.score.book refl h
+    where
+      by : (o : Option (List (List ℕ × List ℕ))) → first.score.book ≡ o → IsSome o → IsOutcomeAgain first (outcome_of larger Ended (output_of Gabc first))
+      by None e k = absurd (cc)
+      by (Some book) e k = with_book book e
+
+  pub output_short : length (output_of Gabc first) ≤ larger.input
+  output_short = by first.score.book refl
+    where
+      by : (o : Option (List (List ℕ × List ℕ))) → first.score.book ≡ o → length (output_of Gabc first) ≤ larger.input
+      by None e = let size : length (output_of Gabc first) ≡ 0 = ap (λ b. length (output_by Gabc (is_read_whole first) b first.score.syllables)) e in omega arith
+      by (Some book) e =
+          let small : length (encodes text) < 2 ^ 63 = omega (arith, short limits.input bytes, limits.in_range.input_most) in
+          let s = read_again limits larger (ending_by ending (decoded_of limits (is_whole ending) bytes).fault) text book no_less small (record { scalars = scalars limits.input bytes; plain = plain limits.input bytes }) e in
+          let size : length (output_of Gabc first) ≡ length (score_text book first.score.syllables) = ap (λ b. length (output_by Gabc (is_read_whole first) b first.score.syllables)) e in
+          omega (arith, s.fits)

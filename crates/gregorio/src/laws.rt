@@ -1,0 +1,47 @@
+//! Laws of the definitions that contracts speak of. Each function's contract is a law; its body calls the laws below that it stands on.
+
+ghost use Rattle.std.specs.Prelude.{◌≡◌, ℕ, ◌≤◌, List, length, IsSome, Some};
+ghost use Rattle.std.specs.Io.KnownBytes.{Appends};
+ghost use Rattle.gabc_places.specs.declared.limits.Limits.{Limits};
+ghost use Rattle.gabc_places.specs.LargerLimits.{AreNoLess};
+ghost use Rattle.gregorio_jobs.specs.declared.job.Job.{Job};
+ghost use Rattle.gregorio_jobs.specs.declared.job.Status.{Status};
+ghost use Rattle.gregorio_jobs.specs.declared.job.Status.TheVariants.{Whole as RunWhole};
+ghost use Rattle.gregorio.specs.declared.source_bytes.SourceEnding.{SourceEnding};
+ghost use Rattle.gregorio.specs.declared.source_bytes.SourceEnding.TheVariants.{Whole};
+ghost use Rattle.gregorio_jobs.specs.declared.job.Format.TheVariants.{Gabc};
+ghost use Rattle.gregorio.specs.CanonicalAgain.{IsOutcomeAgain};
+ghost use Rattle.gregorio.specs.Outcome.{outcome_of, output_of};
+ghost use Rattle.gregorio.specs.Run.{Use, Done};
+
+/// A canonical output whose headers are whole, also that of a run that was stopped or broken off, is compiled again under the same
+/// limits, or larger ones, without a fault and without an error: it has the same book, its syllables say the same, its canonical
+/// output is the same, and its dump is that of this book and these syllables. No canonical output has more bytes than the input may have.
+pub fn canonical_again()
+    ensures again { (limits larger : Limits) (ending : SourceEnding) (bytes : List ℕ) →
+        let first = outcome_of limits ending bytes in
+        AreNoLess limits larger → IsSome first.score.book →
+        IsOutcomeAgain first (outcome_of larger Whole (output_of Gabc first)) }
+    ensures short { (limits : Limits) (ending : SourceEnding) (bytes : List ℕ) →
+        length (output_of Gabc (outcome_of limits ending bytes)) ≤ limits.input }
+{
+    gabc_places::laws::texts_are_plain();
+    gabc_places::laws::texts_are_scalars_within_the_limit();
+    gabc_score::laws::snippets_stand_between_characters();
+    gabc_write::laws::score_again();
+    gabc_write::laws::syllables_that_say_the_same_have_one_dump();
+}
+
+/// A run to canonical form over a source that holds a canonical output whose headers are whole, and that does not fail, writes this
+/// output again under the same limits or larger ones, if it writes all, and its status is `Whole`.
+pub fn a_run_over_an_output_repeats_it()
+    ensures { (job : Job) (limits larger : Limits) (ending : SourceEnding) (bytes : List ℕ)
+        (source out messages : Use) (status : Status) →
+        let first = outcome_of limits ending bytes in
+        AreNoLess limits larger → IsSome first.score.book → job.format ≡ Gabc →
+        source.old ≡ Some (output_of Gabc first) → source.failed_new ≡ source.failed_old →
+        Done job larger source out messages status →
+        Appends out.old out.new (output_of Gabc first) × (status ≡ RunWhole) }
+{
+    canonical_again();
+}

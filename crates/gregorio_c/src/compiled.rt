@@ -1,0 +1,79 @@
+//! What is made of a score.
+
+ghost use Rattle.std.specs.Prelude.{◌≡◌, IfOk};
+ghost use Rattle.gregorio.specs.Outcome.{output_of, lines_of};
+ghost use Rattle.gregorio_c.specs.Answers.{stdin_name, status_number, IsOutcomeOf};
+ghost use Rattle.gregorio_c.specs.Messages.{messages_by};
+
+use crate::messages::{Message, messages_of_score};
+use crate::request::Request;
+use gabc_places::{Limits, Room};
+use gregorio::{Outcome, SourceEnding};
+use std::alloc::{AllocError, Global};
+
+/// The name that messages give the input.
+const NAME: &str = "<stdin>";
+
+/// The output of a score, the lines of its messages, and the exit status.
+#[derive(Drop)]
+pub(crate) struct Compiled {
+    pub output: Room<u8>,
+    pub messages: Room<u8>,
+    pub status: u32,
+}
+
+/// The messages of a score, and the exit status.
+#[derive(Drop)]
+pub(crate) struct Messages {
+    pub list: Vec<Message>,
+    pub status: u32,
+}
+
+/// Reads `score`, a whole input, under the default limits. It fails only for want of memory.
+pub(crate) fn outcome_of_whole(alloc: Global, score: &[u8]) -> Result<Outcome, AllocError>
+    ensures { IfOk result (λ outcome. IsOutcomeOf score.now outcome) }
+{
+    Outcome::of(alloc, score, SourceEnding::Whole, Limits::default())
+}
+
+/// Returns the exit status of a run with this `outcome`.
+fn status_of(outcome: &Outcome) -> u32
+    ensures { result ≡ status_number outcome.now }
+{
+    u32::from(outcome.status().code())
+}
+
+/// Returns what is written of `outcome` for this `request`. It fails only for want of memory.
+pub(crate) fn write_outcome(
+    alloc: Global,
+    request: Request,
+    outcome: &Outcome,
+) -> Result<Compiled, AllocError>
+    ensures output { IfOk result (λ made. made.output.items ≡ output_of request.format outcome.now) }
+    ensures messages { IfOk result (λ made. made.messages.items
+        ≡ lines_of stdin_name request.all_warnings outcome.now.score) }
+    ensures status { IfOk result (λ made. made.status ≡ status_number outcome.now) }
+{
+    let output = outcome.output(alloc, request.format)?;
+    let messages = outcome.messages(alloc, NAME, request.all_warnings)?;
+    let status = status_of(outcome);
+    Ok(Compiled {
+        output,
+        messages,
+        status,
+    })
+}
+
+/// Returns the messages of `outcome`. It fails only for want of memory.
+pub(crate) fn messages_of(
+    alloc: Global,
+    all_warnings: bool,
+    outcome: &Outcome,
+) -> Result<Messages, AllocError>
+    ensures list { IfOk result (λ made. made.list.items ≡ messages_by all_warnings outcome.now.score) }
+    ensures status { IfOk result (λ made. made.status ≡ status_number outcome.now) }
+{
+    let list = messages_of_score(alloc, all_warnings, &outcome.score)?;
+    let status = status_of(outcome);
+    Ok(Messages { list, status })
+}

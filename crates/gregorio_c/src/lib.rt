@@ -1,0 +1,99 @@
+//! The compiler as a static library for programs in C. `c/gregorio.h` says what a caller in C has to keep to.
+//!
+//! A slice crosses as a pointer and a count. Each call reads a whole score under the default limits and asks for memory while it
+//! works; it gives back all of it, keeps nothing between calls, and may be made in any number of threads at once.
+#![tactic(auto)]
+
+mod buffers;
+mod compiled;
+mod lengths;
+mod messages;
+mod request;
+
+ghost use Rattle.std.specs.Prelude.{◌≡◌, ◌≤◌, ◌⊎◌, None, IfSome};
+ghost use Rattle.gregorio_c.specs.Answers.{Answer, MessagesAnswer};
+ghost use Rattle.gregorio_c.specs.Request.{request_by, warnings_by};
+
+use buffers::put;
+use compiled::{messages_of, outcome_of_whole, write_outcome};
+pub use lengths::Lengths;
+pub use messages::Message;
+use request::{request_of, warnings_of};
+use std::alloc::Global;
+
+/// What is answered where a number of the format or of the flags is not known.
+const REFUSED: u32 = 3;
+
+/// What is answered where there is no memory.
+const NO_MEMORY: u32 = 5;
+
+/// Compiles `score`: puts its output into `output`, the lines of its messages into `messages`, and their exact lengths in bytes into
+/// `lengths`. A text that is longer than its buffer is left out whole, and the buffer stays as it was. `format` is 0 for canonical
+/// GABC and 1 for the dump, and `flags` is 1 for all warnings, else 0.
+///
+/// Returns the exit status that the program would have: 0, 1 or 2. It returns 3 for another format or flag, and 5 where there is no
+/// memory; buffers and lengths stay as they were then.
+#[unsafe(no_mangle)]
+pub extern "C" fn gregorio_compile(
+    alloc: Global,
+    score: &[u8],
+    format: u32,
+    flags: u32,
+    output: &mut [u8],
+    messages: &mut [u8],
+    lengths: &mut Lengths,
+) -> u32
+    ensures refused { request_by format flags ≡ None → result ≡ 3 }
+    ensures unchanged { 3 ≤ result → (output.new ≡ output.old) ×
+        ((messages.new ≡ messages.old) × (lengths.new ≡ lengths.old)) }
+    ensures answered { IfSome (request_by format flags) (λ request. (result ≡ 5) ⊎
+        Answer request score.now output.old output.new messages.old messages.new lengths.new result) }
+{
+    let Some(request) = request_of(format, flags) else {
+        return REFUSED;
+    };
+    let Ok(outcome) = outcome_of_whole(alloc, score) else {
+        return NO_MEMORY;
+    };
+    let Ok(made) = write_outcome(alloc, request, &outcome) else {
+        return NO_MEMORY;
+    };
+    put(made.output.slice(), output);
+    put(made.messages.slice(), messages);
+    *lengths = Lengths {
+        output: made.output.slice().len(),
+        messages: made.messages.slice().len(),
+    };
+    made.status
+}
+
+/// Reads `score`, puts its messages into `messages`, those of the findings and last that of a fatal fault, and their number into
+/// `count`. Where there are more of them than `messages` takes, that stays as it was. `flags` is 1 for all warnings, else 0.
+///
+/// Returns what `gregorio_compile` does.
+#[unsafe(no_mangle)]
+pub extern "C" fn gregorio_messages(
+    alloc: Global,
+    score: &[u8],
+    flags: u32,
+    messages: &mut [Message],
+    count: &mut usize,
+) -> u32
+    ensures refused { warnings_by flags ≡ None → result ≡ 3 }
+    ensures unchanged { 3 ≤ result → (messages.new ≡ messages.old) × (count.new ≡ count.old) }
+    ensures answered { IfSome (warnings_by flags) (λ all. (result ≡ 5) ⊎
+        MessagesAnswer all score.now messages.old messages.new count.new result) }
+{
+    let Some(all_warnings) = warnings_of(flags) else {
+        return REFUSED;
+    };
+    let Ok(outcome) = outcome_of_whole(alloc, score) else {
+        return NO_MEMORY;
+    };
+    let Ok(made) = messages_of(alloc, all_warnings, &outcome) else {
+        return NO_MEMORY;
+    };
+    put(made.list.as_slice(), messages);
+    *count = made.list.len();
+    made.status
+}

@@ -1,0 +1,85 @@
+//! Messages as records.
+
+ghost use Rattle.std.specs.Prelude.{◌≡◌, ◌++◌, IfOk};
+ghost use Rattle.std.specs.List.{flat_map};
+ghost use Rattle.gregorio_c.specs.Messages.{severity_number, message_at, shown_message, fault_message, messages_by};
+
+use gabc_places::{Code, Fault, Finding, Place, Severity};
+use gabc_score::Score;
+use gregorio::is_shown;
+use std::alloc::{AllocError, Global};
+
+/// A message: the line and the column in characters, both from 1, how grave it is (0 a warning, 1 an error, 2 a fatal fault), and its
+/// code: E1 to E6 are 1 to 6, W1 to W11 are 7 to 17, F1 to F7 are 18 to 24.
+#[repr(C)]
+#[derive(Clone, Copy, Debug, PartialEq, Eq)]
+pub struct Message {
+    pub line: u64,
+    pub column: u64,
+    pub severity: u32,
+    pub code: u32,
+}
+
+/// Returns the number of `severity`.
+fn number_of_severity(severity: Severity) -> u32
+    ensures { result ≡ severity_number severity }
+{
+    match severity {
+        Severity::Warning => 0,
+        Severity::Error => 1,
+        Severity::Fatal => 2,
+    }
+}
+
+/// Returns the message of `code` at `place`.
+fn message_of(place: Place, code: Code) -> Message
+    ensures { result ≡ message_at place code }
+{
+    Message {
+        line: place.line,
+        column: place.column,
+        severity: number_of_severity(code.severity()),
+        code: code as u32 + 1,
+    }
+}
+
+/// Adds the messages of `findings` to `list`: warnings only if `all_warnings` are wanted.
+fn add_findings(
+    all_warnings: bool,
+    findings: &[Finding],
+    list: &mut Vec<Message>,
+) -> Result<(), AllocError>
+    ensures { IfOk result (λ _. list.new.items
+        ≡ list.old.items ++ flat_map (shown_message all_warnings) findings.now) }
+{
+    for finding in findings {
+        if is_shown(all_warnings, *finding) {
+            list.push(message_of(finding.place, finding.code))?;
+        }
+    }
+    Ok(())
+}
+
+/// Adds the message of `fault` to `list`, if there is one.
+fn add_fault(fault: Option<Fault>, list: &mut Vec<Message>) -> Result<(), AllocError>
+    ensures { IfOk result (λ _. list.new.items ≡ list.old.items ++ fault_message fault) }
+{
+    if let Some(fault) = fault {
+        list.push(message_of(fault.place, fault.code))?;
+    }
+    Ok(())
+}
+
+/// Returns the messages of `score`: those of what it found, warnings only if `all_warnings` are wanted, and last that of its fault.
+pub(crate) fn messages_of_score(
+    alloc: Global,
+    all_warnings: bool,
+    score: &Score,
+) -> Result<Vec<Message>, AllocError>
+    ensures { IfOk result (λ list. list.items ≡ messages_by all_warnings score.now) }
+{
+    let mut list = Vec::new(alloc);
+    add_findings(all_warnings, score.findings.as_slice(), &mut list)?;
+    add_fault(score.fault, &mut list)?;
+    Ok(list)
+}

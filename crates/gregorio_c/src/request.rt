@@ -1,0 +1,47 @@
+//! What a call asks for.
+
+ghost use Rattle.std.specs.Prelude.{◌≡◌};
+ghost use Rattle.gregorio_c.specs.Request.{request_by, warnings_by, format_by};
+
+use gregorio::Format;
+
+/// A format of the output, and whether all warnings are wanted.
+#[derive(Clone, Copy)]
+pub(crate) struct Request {
+    pub format: Format,
+    pub all_warnings: bool,
+}
+
+/// Returns the format of this number.
+fn format_of(number: u32) -> Option<Format>
+    ensures { result ≡ format_by number }
+{
+    match number {
+        0 => Some(Format::Gabc),
+        1 => Some(Format::Dump),
+        _ => None,
+    }
+}
+
+/// Returns whether `flags` want all warnings, if they are known.
+pub(crate) fn warnings_of(flags: u32) -> Option<bool>
+    ensures { result ≡ warnings_by flags }
+{
+    match flags {
+        0 => Some(false),
+        1 => Some(true),
+        _ => None,
+    }
+}
+
+/// Returns what a format's number and `flags` ask for, if both are known.
+pub(crate) fn request_of(format: u32, flags: u32) -> Option<Request>
+    ensures { result ≡ request_by format flags }
+{
+    let format = format_of(format)?;
+    let all_warnings = warnings_of(flags)?;
+    Some(Request {
+        format,
+        all_warnings,
+    })
+}
