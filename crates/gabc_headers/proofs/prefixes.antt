@@ -1,3 +1,5 @@
+pub mod BookIsRead
 pub mod EventsGrow
 pub mod EventsMakeHeads
+pub mod EventsNeedNoEnd
 pub mod HeadsSoFar

@@ -1,5 +1,5 @@
 -- What a header stage gives: for each character what the text with it tells more than the text before it.
-use Rattle.std.specs.Prelude.{ℕ, ◌+◌, ◌*◌, List, [], ◌∷◌, ◌++◌, Bool, true, false, if◌then◌else◌, length, drop, map, Result, Ok, Err, zero, suc}
+use Rattle.std.specs.Prelude.{ℕ, ◌+◌, ◌*◌, List, [], ◌∷◌, ◌++◌, Bool, true, false, if◌then◌else◌, length, take, drop, map, Result, Ok, Err, zero, suc}
 use Rattle.gabc_places.specs.declared.place.Char.{Char}
 use Rattle.gabc_places.specs.declared.code.Fault.{Fault}
 use Rattle.gabc_places.specs.declared.code.Finding.{Finding}
@@ -12,6 +12,7 @@ use Rattle.gabc_headers.specs.Book.{nabc_lines_of, has_header, macro_name}
 use Rattle.gabc_headers.specs.Canonical.{canonical_heads}
 use Rattle.gabc_headers.specs.Heads.{heads_of, findings_of, head_len}
 use Rattle.gabc_places.specs.Place.{placed_characters, placed_characters_behind}
+use Rattle.gabc_places.specs.StageLaw.{concat_of}
 use Rattle.gabc_headers.specs.Lines.{bytes_len}
 
 -- where a header stage stands
@@ -117,6 +118,11 @@ stage_at s progress = record s { progress = progress; book = book_at progress s.
 abbrev pub stage_after : HeaderStageState → Result Char Fault → HeaderStageState
 stage_after s x = stage_at s (progress_after s.limits s.progress x)
 
+-- behind all of these
+abbrev pub stage_past : HeaderStageState → List (Result Char Fault) → HeaderStageState
+stage_past s [] = s
+stage_past s (x ∷ xs) = stage_past (stage_after s x) xs
+
 -- the headers are read whole, and nothing has stopped the text
 abbrev pub IsBehind : HeadProgress → Type 0
 IsBehind (reading t) = ⊥
@@ -141,3 +147,18 @@ body_characters t = drop (head_len t + 2) (placed_characters t)
 abbrev pub events_of_heads : List ℕ → Result Heads HeadFault → List HeadEvent
 events_of_heads t (Ok heads) = map (λ f. Found f) heads.findings ++ heads_told heads.book ∷ (map (λ c. Body c) (body_characters t) ++ End ∷ [])
 events_of_heads t (Err stopped) = map (λ f. Found f) stopped.findings ++ Stop stopped.fault ∷ []
+
+-- What they tell of a text that breaks off: neither its end nor a stop at this end.
+abbrev pub events_of_broken : List ℕ → Result Heads HeadFault → List HeadEvent
+events_of_broken t (Ok heads) = map (λ f. Found f) heads.findings ++ heads_told heads.book ∷ map (λ c. Body c) (body_characters t)
+events_of_broken t (Err stopped) = map (λ f. Found f) stopped.findings ++ (if stopped.at_end then [] else Stop stopped.fault ∷ [])
+
+-- What they tell of a text that a fault stops. This fault takes the place of one that has the end as its point.
+abbrev pub events_of_stopped : Fault → List ℕ → Result Heads HeadFault → List HeadEvent
+events_of_stopped fault t (Ok heads) = map (λ f. Found f) heads.findings ++ heads_told heads.book ∷ (map (λ c. Body c) (body_characters t) ++ Stop fault ∷ [])
+events_of_stopped fault t (Err stopped) = map (λ f. Found f) stopped.findings ++ Stop (if stopped.at_end then fault else stopped.fault) ∷ []
+
+-- what is emitted of these inputs, whose end has come or not: the list of the end is the last one
+abbrev pub emitted_by : {I O : Type 0} → Bool → List I → List (List O) → List O
+emitted_by true xs lists = concat_of lists
+emitted_by false xs lists = concat_of (take (length xs) lists)

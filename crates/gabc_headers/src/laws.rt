@@ -1,7 +1,9 @@
 //! Laws of the definitions alone. Each function's contract is a law, and its body does nothing.
 
-ghost use Rattle.std.specs.Prelude.{◌≡◌, ◌+◌, ◌≤◌, ℕ, List, [], ◌++◌, length, take, Ok, IsUtf8};
-ghost use Rattle.std.specs.Str.{chars};
+ghost use Rattle.std.specs.Prelude.{◌≡◌, ◌+◌, ◌≤◌, ℕ, Bool, false, List, [], ◌∷◌, ◌++◌, length, take, Option, Ok, Err};
+ghost use Rattle.std.specs.Char.{IsScalar};
+ghost use Rattle.std.specs.List.{All};
+ghost use Rattle.gabc_places.specs.declared.code.Fault.{Fault};
 ghost use Rattle.gabc_places.specs.declared.limits.Limits.{Limits};
 ghost use Rattle.gabc_places.specs.LargerLimits.{AreNoLess};
 ghost use Rattle.gabc_places.specs.Findings.{AreInOrder, LieBetween};
@@ -15,7 +17,8 @@ ghost use Rattle.gabc_headers.specs.Lines.{bytes_len};
 ghost use Rattle.gabc_headers.specs.HeadsAgain.{heads_again};
 ghost use Rattle.gabc_headers.specs.EntryMap.{put_all};
 ghost use Rattle.gabc_headers.specs.Groups.{Group, AreGroups, parts_of_groups};
-ghost use Rattle.gabc_headers.specs.HeadEvents.{events_left, events_of_heads, given_behind, reading};
+ghost use Rattle.gabc_headers.specs.HeadEvents.{emitted_by, events_left, events_of_broken, events_of_heads, events_of_stopped, fresh_stage, given_behind, reading, stage_past};
+ghost use Rattle.gabc_places.specs.Decoder.{fault_items};
 ghost use Rattle.gabc_headers.specs.Parts.{outside, parts};
 
 /// The lines of the headers, whatever they are, can be cut into groups.
@@ -92,7 +95,29 @@ pub fn canonical_lines_are_within_the_limits()
 /// Told character by character, the headers of a text are what they are when they are read whole, followed by the characters
 /// of its body and its end: no finding, stop or character comes twice, and none is left out.
 pub fn events_make_the_headers()
-    ensures { (limits : Limits) (bytes : List ℕ) → IsUtf8 bytes → let t = chars bytes in
+    ensures { (limits : Limits) (t : List ℕ) → All IsScalar t →
         concat_of (events_left limits (reading []) (given_behind [] t))
         ≡ events_of_heads t (heads_of limits t) }
+{}
+
+/// The events of a text's characters do not wait for the end of the input. A text that breaks off gives its findings, its headers and
+/// each character of its body. If a fault stops it, this fault comes behind them, unless the headers were stopped before. Then the
+/// end gives nothing more.
+pub fn events_need_no_end()
+    ensures broken { (limits : Limits) (t : List ℕ) → All IsScalar t →
+        let xs = given_behind [] t in
+        emitted_by false xs (events_left limits (reading []) xs)
+        ≡ events_of_broken t (heads_of limits t) }
+    ensures stopped { (limits : Limits) (t : List ℕ) (fault : Fault) (ended : Bool) →
+        All IsScalar t → let xs = given_behind [] t ++ Err fault ∷ [] in
+        emitted_by ended xs (events_left limits (reading []) xs)
+        ≡ events_of_stopped fault t (heads_of limits t) }
+{}
+
+/// Once a stage has read the characters of a text whose headers are whole, it holds their book; a fault behind them changes nothing of it.
+pub fn the_book_is_read()
+    ensures { (limits : Limits) (t : List ℕ) (heads : Heads) (fault : Option Fault) →
+        All IsScalar t → heads_of limits t ≡ Ok heads →
+        (stage_past (fresh_stage limits) (given_behind [] t ++ fault_items fault)).book
+        ≡ heads.book }
 {}

@@ -2,12 +2,16 @@ pub mod AStageStops
 pub mod BodyIsCollected
 pub mod EventsStayWithinBounds
 pub mod BodyOutputs
+pub mod FewAndShortAreLent
 pub mod GivenByHeaders
 pub mod GivenSyllables
 pub mod HeldScoreIsDefinition
 pub mod HeldSyllables
+pub mod NoStopWhereInputsCease
+pub mod NothingBehindAStop
 pub mod NothingBehindTheEnd
 pub mod OutputsAreCollected
 pub mod OutputsAreTold
 pub mod ScoreOutputs
+pub mod TextsAreReadInFull
 pub mod WhatOutputsSay

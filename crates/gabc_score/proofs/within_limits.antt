@@ -2,4 +2,5 @@ pub mod CodesOfLimits
 pub mod GivenAreWithin
 pub mod KeptSoFar
 pub mod NoLimitIsPassed
+pub mod SyllablesAreFew
 pub mod UnitsKeepFew

@@ -1,5 +1,5 @@
 -- What a stage over a score gives: each syllable in a slot that it lends.
-use Rattle.std.specs.Prelude.{◌≡◌, ◌+◌, ◌<◌, ◌≤◌, ◌^◌, List, [], ◌∷◌, Bool, true, false, length, map, take}
+use Rattle.std.specs.Prelude.{◌≡◌, ℕ, ◌+◌, ◌<◌, ◌≤◌, ◌^◌, List, [], ◌∷◌, Bool, true, false, length, map, take}
 use Rattle.gabc_places.specs.BoundedList.{BoundedList, extended_by}
 use Rattle.gabc_places.specs.declared.limits.Limits.{Limits}
 use Rattle.gabc_places.specs.declared.place.Char.{Char}
@@ -13,7 +13,9 @@ use Rattle.gabc_score.specs.declared.score_machine.ScorePart.{ScorePart}
 use Rattle.gabc_score.specs.BodyStage.{BodyStageState}
 use Rattle.gabc_score.specs.machine.ScoreStage.{HeldScore, outputs_left}
 use Rattle.gabc_score.specs.ScoreEvents.{ScoreOutput, Found, Stop, Syllable, End, syllables_in}
+use Rattle.gabc_score.specs.Canonical.{canonical_in_place}
 use Rattle.gabc_score.specs.Syllable.{PlacedSyllable}
+use Rattle.std.specs.List.{All}
 
 -- What a stage shows: its limits, the part of the score in which it stands, what it holds of the body and its machine, and the two
 -- syllables that it may lend.
@@ -46,15 +48,37 @@ pub record Tells (outs : List ScoreOutput) (old new : BoundedList ScoreEvent) (f
   pub few : length (events_of outs) ≤ 16
   pub lent : syllables_in outs ≡ take (length (syllables_in outs)) (first ∷ second ∷ [])
 
--- At an input it gave what was to come for it, and goes on with what follows.
+-- The kept text of a syllable is within the limits, and so is its canonical text, but for the LF before it.
+pub record IsWithin (limits : Limits) (s : PlacedSyllable) : Type 0 where
+  pub kept : length s.made.kept ≤ limits.syllable
+  pub canonical : length (canonical_in_place s) ≤ limits.syllable + 1
+
+-- so many syllables at most are lent, and they are within the limits
+pub record Lends (limits : Limits) (most : ℕ) (outs : List ScoreOutput) : Type 0 where
+  pub few : length (syllables_in outs) ≤ most
+  pub within : All (IsWithin limits) (syllables_in outs)
+
+-- how many syllables an input may bring
+abbrev pub most_lent : HeadEvent → ℕ
+most_lent (head_event.Body x) = 1
+most_lent (head_event.Stop fault) = 1
+most_lent head_event.End = 2
+most_lent (head_event.Found f) = 0
+most_lent (head_event.Heads lines macros canonical) = 0
+
+-- At an input it gave what was to come for it, and goes on with what follows under the same limits.
 pub record GivesAt (before : ScoreStageState) (x : HeadEvent) (after : ScoreStageState) (old new : BoundedList ScoreEvent) : Type 0 where
   pub outs : List ScoreOutput
+  pub lends : Lends before.limits (most_lent x) outs
+  pub limits : after.limits ≡ before.limits
   pub law : (xs : List HeadEvent) → left_of before (x ∷ xs) ≡ outs ∷ left_of after xs
   pub told : Tells outs old new after.first after.second
 
 -- At the end of the inputs it gave what was still to come.
 pub record GivesLast (before after : ScoreStageState) (old new : BoundedList ScoreEvent) : Type 0 where
   pub outs : List ScoreOutput
+  pub lends : Lends before.limits 1 outs
+  pub limits : after.limits ≡ before.limits
   pub law : left_of before [] ≡ outs ∷ []
   pub told : Tells outs old new after.first after.second
 

@@ -1,10 +1,12 @@
 //! Laws of the definitions that contracts speak of. The functions do nothing, or call the laws below that they stand on: each is
 //! there for its clauses.
 
-ghost use Rattle.std.specs.Prelude.{◌≡◌, ◌≢◌, ◌+◌, ◌-◌, ◌<◌, ◌≤◌, ◌^◌, ℕ, List, [], ◌∷◌, ◌++◌, length, ◌⊎◌, encode_utf8_all, Some, None, true, IsUtf8};
+ghost use Rattle.std.specs.Prelude.{◌≡◌, ◌≢◌, ◌+◌, ◌-◌, ◌*◌, ◌<◌, ◌≤◌, ◌^◌, ℕ, List, [], ◌∷◌, ◌++◌, length, ◌⊎◌, encode_utf8_all, Some, None, Err, Bool, true, false};
+ghost use Rattle.std.specs.Char.{IsScalar};
 ghost use Rattle.std.specs.List.{All};
 ghost use Rattle.gabc_places.specs.Findings.{AreInOrder};
 ghost use Rattle.gabc_places.specs.Code.{severity_of};
+ghost use Rattle.gabc_places.specs.declared.code.Fault.{Fault};
 ghost use Rattle.gabc_places.specs.declared.code.Finding.{Finding};
 ghost use Rattle.gabc_places.specs.declared.severity.Severity.TheVariants.{Fatal};
 ghost use Rattle.gabc_places.specs.declared.place.Char.{Char};
@@ -21,7 +23,7 @@ ghost use Rattle.gabc_notes.specs.ReadAgain.{IsWarning};
 ghost use Rattle.gabc_score.specs.FoundInParts.{TextWarns, UnitsWarn};
 ghost use Rattle.gabc_headers.specs.Canonical.{canonical_heads};
 ghost use Rattle.gabc_text.specs.Events.{codes_of};
-ghost use Rattle.gabc_score.specs.declared.ending.InputEnding.TheVariants.{Whole};
+ghost use Rattle.gabc_score.specs.declared.ending.InputEnding.TheVariants.{Whole, Broken, At};
 ghost use Rattle.gabc_score.specs.Score.{macros_of, score_of};
 ghost use Rattle.gabc_score.specs.SyllablesOfUnits.{ScoreUnit, unit_characters, closed_units, score_units, units_within, whole_prefix, AreSyllablesOf, IsBodyCut, StandBeforeBodyStop};
 ghost use Rattle.gabc_score.specs.Body.{events_to_stop, events_onto, code_at};
@@ -33,9 +35,8 @@ ghost use Rattle.gabc_score.specs.Units.{BodyUnit, JustText, BodyCutting, IsCut,
 ghost use Rattle.gabc_score.specs.WithinLimits.{CanonicalWithin, AreWithin, KeepsWithin};
 ghost use Rattle.gabc_score.specs.ScoreEvents.{ScoreOutput, score_outputs, head_events, outputs_of_text, findings_in, syllables_in, fault_in, has_end, is_whole, is_last};
 ghost use Rattle.gabc_headers.specs.declared.head_event.HeadEvent.{HeadEvent};
-ghost use Rattle.gabc_headers.specs.HeadEvents.{events_left, given_behind, reading};
+ghost use Rattle.gabc_headers.specs.HeadEvents.{emitted_by, events_left, given_behind, reading};
 ghost use Rattle.gabc_places.specs.StageLaw.{concat_of};
-ghost use Rattle.std.specs.Str.{chars};
 
 /// Each body has one cutting into a comment, units and what stands behind the last `)`, however its texts are read.
 pub fn a_body_has_one_cutting()
@@ -231,6 +232,14 @@ pub fn given_syllables_are_within_the_limits()
     gabc_text::laws::a_text_ends_once();
 }
 
+/// A score has at most half as many syllables as the input may have bytes: each has at least two bytes of the canonical file.
+pub fn syllables_are_fewer_than_bytes()
+    ensures { (limits : Limits) (ending : InputEnding) (t : List ℕ) →
+        2 * length (score_of limits ending t).syllables ≤ limits.input }
+{
+    given_syllables_are_within_the_limits();
+}
+
 /// A score has no fault whose text ends with an LF behind the last `)`, if no unit keeps more bytes than a syllable may have, and if
 /// the canonical texts of its units' syllables, and the file of these, are within the limits.
 pub fn no_limit_is_passed_by_short_units()
@@ -254,7 +263,7 @@ pub fn no_limit_is_passed_by_short_units()
 
 /// What a score emits, character by character, is what the score says: no finding and no syllable comes twice or is left out,
 /// the syllables have their positions, and a stop is the fault. The end is emitted where the input has ended and nothing
-/// stopped the reading. What a score is given is what a stage of headers gives of a text that has ended.
+/// stopped the reading.
 pub fn a_score_says_what_it_emits()
     ensures findings { (limits : Limits) (ending : InputEnding) (t : List ℕ) →
         findings_in (outputs_of_text limits ending t) ≡ (score_of limits ending t).findings }
@@ -265,11 +274,24 @@ pub fn a_score_says_what_it_emits()
     ensures end { (limits : Limits) (ending : InputEnding) (t : List ℕ) →
         has_end (outputs_of_text limits ending t)
         ≡ is_whole ending (score_of limits ending t).fault }
-    ensures given { (limits : Limits) (bytes : List ℕ) → IsUtf8 bytes → let t = chars bytes in
-        head_events limits Whole t
-        ≡ concat_of (events_left limits (reading []) (given_behind [] t)) }
+{}
+
+/// What a score is given of a text is what a stage of headers gives of it, whether the text has ended, breaks off or is stopped by a
+/// fault. Behind this fault it is no matter whether the end has come.
+pub fn a_stage_of_headers_gives_the_events()
+    ensures whole { (limits : Limits) (t : List ℕ) → All IsScalar t →
+        let xs = given_behind [] t in
+        head_events limits Whole t ≡ emitted_by true xs (events_left limits (reading []) xs) }
+    ensures broken { (limits : Limits) (t : List ℕ) → All IsScalar t →
+        let xs = given_behind [] t in
+        head_events limits Broken t ≡ emitted_by false xs (events_left limits (reading []) xs) }
+    ensures stopped { (limits : Limits) (t : List ℕ) (fault : Fault) (ended : Bool) →
+        All IsScalar t → let xs = given_behind [] t ++ Err fault ∷ [] in
+        head_events limits (At fault) t
+        ≡ emitted_by ended xs (events_left limits (reading []) xs) }
 {
     gabc_headers::laws::events_make_the_headers();
+    gabc_headers::laws::events_need_no_end();
 }
 
 /// Behind a stop or the end a score emits nothing, whatever it is given.

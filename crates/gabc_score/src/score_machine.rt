@@ -1,6 +1,6 @@
 //! A machine from what a stage of headers gives to the score.
 
-ghost use Rattle.std.specs.Prelude.{◌≡◌, ◌≢◌, ◌<◌, ◌^◌, List, [], ◌∷◌, ◌++◌, false, IfOk};
+ghost use Rattle.std.specs.Prelude.{◌≡◌, ◌≢◌, ◌<◌, ◌≤◌, ◌^◌, List, [], ◌∷◌, ◌++◌, false, length, IfOk};
 ghost use Rattle.gabc_headers.specs.declared.head_event.HeadEvent.{HeadEvent as Given};
 ghost use Rattle.gabc_score.specs.declared.body_stage.BodyPart.{BodyPart};
 ghost use Rattle.gabc_score.specs.BodyStage.{running_events_left};
@@ -98,6 +98,7 @@ impl ScoreMachine {
         ensures limits { self.new.limits ≡ self.old.limits }
         ensures told { Tells (outputs_of [] (placed_behind self.old.given self.old.pair.held) ++ Stop fault ∷ [])
             out.old out.new self.new.pair.first self.new.pair.second }
+        ensures few { length (placed_behind self.old.given self.old.pair.held) ≤ 1 }
     {
         tell_stop(&mut self.pair, self.given, fault, out);
         self.part = ScorePart::Over;
@@ -218,6 +219,19 @@ impl ScoreMachine {
         }
     }
 
+    /// Breaks off in the body: the source has failed.
+    fn break_off(&mut self, out: &mut Room<ScoreEvent>)
+        requires part { self.old.part ≡ ScorePart.Body }
+        requires rests { IsInBody self.old }
+        requires fits { Fits out.old 16 }
+        ensures gives { GivesLast (shown self.old) (shown self.new) out.old out.new }
+        ensures part { self.new.part ≡ ScorePart.Over }
+    {
+        self.pair.free();
+        tell_broken(&mut self.pair, self.given, out);
+        self.part = ScorePart::Over;
+    }
+
     /// Ends the inputs. Where neither a stop nor the end has come, the source has failed.
     pub(crate) fn finish(&mut self, out: &mut Room<ScoreEvent>)
         requires rests { IsScore self.old }
@@ -225,10 +239,9 @@ impl ScoreMachine {
         ensures gives { GivesLast (shown self.old) (shown self.new) out.old out.new }
         ensures part { self.new.part ≡ ScorePart.Over }
     {
-        if let ScorePart::Body = self.part {
-            self.pair.free();
-            tell_broken(&mut self.pair, self.given, out);
+        match self.part {
+            ScorePart::Body => self.break_off(out),
+            ScorePart::Heads | ScorePart::Over => self.part = ScorePart::Over,
         }
-        self.part = ScorePart::Over;
     }
 }

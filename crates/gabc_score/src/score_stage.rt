@@ -39,8 +39,9 @@ impl ScoreStage {
     /// Returns a stage before the first event of the headers, and reserves the memory that it ever takes: for two syllables of
     /// `limits.syllable` bytes. It gives what the definition gives of all events of which no count reaches its last value.
     pub fn with_limits(alloc: Global, limits: Limits) -> Result<ScoreStage, AllocError>
-        ensures { IfOk result (λ stage. (xs : List HeadEvent) → AreCountsBelow xs →
+        ensures outputs { IfOk result (λ stage. (xs : List HeadEvent) → AreCountsBelow xs →
             left_of stage xs ≡ score_outputs texts_by_stage limits xs) }
+        ensures limits { IfOk result (λ stage. stage.limits ≡ limits) }
     {
         let body = BodyStage::new(alloc, 0, 0)?;
         let pair = SlotPair::with_limit(alloc, limits.syllable as usize)?;

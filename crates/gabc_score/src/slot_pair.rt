@@ -328,7 +328,7 @@ impl SlotPair {
         ensures gathered { self.new.gathered ≡ with_held self.old.gathered }
         ensures given { given_of result self.new ≡ take (length self.old.gathered.made - 1)
             (placed_behind given self.old.gathered.made) }
-        ensures most { result ≤ 2 }
+        ensures most { result ≤ 1 }
         ensures some { nat_lt 0 result ≡ nat_lt 1 (length self.old.gathered.made) }
         ensures used { is_made self.new.used ≡ false }
     {
@@ -354,7 +354,7 @@ impl SlotPair {
     pub(crate) fn give_held(&mut self, given: bool) -> usize
         requires { self.old.used ≢ SlotUse.Lent }
         ensures given { given_of result self.new ≡ placed_behind given self.old.held }
-        ensures most { result ≤ 2 }
+        ensures most { result ≤ 1 }
     {
         let starts = !given || self.holder.syllable().text.word_start;
         self.holder.place(position_by(starts, true));

@@ -1,12 +1,17 @@
 //! Laws of a stage over a score. Each function's contract is a law, and its body drives a stage or gives it one input.
 
-ghost use Rattle.std.specs.Prelude.{◌≡◌, ◌+◌, ◌*◌, ◌≤◌, List, ◌∷◌, length, map, OnOk};
+ghost use Rattle.std.specs.Prelude.{◌≡◌, ◌+◌, ◌*◌, ◌<◌, ◌≤◌, ◌^◌, ℕ, List, [], ◌∷◌, None, false, length, map, encode_utf8_all, IfOk, OnOk};
 ghost use Rattle.gabc_headers.specs.declared.head_event.HeadEvent.{HeadEvent};
+ghost use Rattle.gabc_headers.specs.declared.head_event.HeadEvent.TheVariants.{Stop};
+ghost use Rattle.gabc_places.specs.declared.code.Fault.{Fault};
+ghost use Rattle.gabc_places.specs.declared.limits.Limits.{Limits};
 ghost use Rattle.gabc_places.specs.BoundedList.{Fits, extended_by};
 ghost use Rattle.gabc_places.specs.StageLaw.{concat_of};
 ghost use Rattle.gabc_score.specs.BodyStage.{texts_by_stage};
-ghost use Rattle.gabc_score.specs.ScoreEvents.{ScoreOutput, score_outputs};
-ghost use Rattle.gabc_score.specs.ScoreStage.{AreCountsBelow, GivesAt, events_of};
+ghost use Rattle.gabc_score.specs.declared.ending.InputEnding.{InputEnding};
+ghost use Rattle.gabc_score.specs.Events.{texts_by_definition};
+ghost use Rattle.gabc_score.specs.ScoreEvents.{ScoreOutput, fault_in, has_end, head_events, outputs_of_text, score_outputs};
+ghost use Rattle.gabc_score.specs.ScoreStage.{AreCountsBelow, GivesAt, ScoreStageState, events_of, left_of};
 
 use crate::score_event::ScoreEvent;
 use crate::score_stage::ScoreStage;
@@ -38,4 +43,41 @@ pub fn an_input_is_taken(stage: &mut ScoreStage, input: HeadEvent, out: &mut Roo
     ensures { GivesAt stage.old input stage.new out.old out.new }
 {
     stage.push(input, out);
+}
+
+/// Where the inputs of a stage just cease, it gives neither a stop nor the end then, whatever it has read.
+pub fn inputs_that_cease_give_no_stop()
+    ensures stop { (s : ScoreStageState) → fault_in (concat_of (left_of s [])) ≡ None }
+    ensures end { (s : ScoreStageState) → has_end (concat_of (left_of s [])) ≡ false }
+{}
+
+/// Behind a stop a stage gives nothing, whatever it has read and whatever follows.
+pub fn nothing_follows_a_stop()
+    ensures { (s : ScoreStageState) (fault : Fault) (given : List HeadEvent) →
+        concat_of (left_of s (Stop fault ∷ given)) ≡ concat_of (left_of s (Stop fault ∷ [])) }
+{}
+
+/// Of whatever a stage of headers gives of a text with fewer than 2^63 bytes no count reaches its last value, and a score reads the
+/// texts of its body by their machine as by their definition.
+pub fn texts_are_read_in_full()
+    ensures counts { (limits : Limits) (ending : InputEnding) (t : List ℕ) →
+        length (encode_utf8_all t) < 2 ^ 63 → AreCountsBelow (head_events limits ending t) }
+    ensures outputs { (limits : Limits) (ending : InputEnding) (t : List ℕ) →
+        length (encode_utf8_all t) < 2 ^ 63 →
+        score_outputs texts_by_stage limits (head_events limits ending t)
+        ≡ score_outputs texts_by_definition limits (head_events limits ending t) }
+{
+    gabc_headers::laws::canonical_lines_are_within_the_limits();
+    gabc_text::laws::a_fresh_stage_emits_the_events_by_point();
+}
+
+/// A fresh stage over a score gives what the definition says of a text with fewer than 2^63 bytes, however its input ended, once it takes
+/// what a stage of headers gives of this text. Returns this stage.
+pub fn a_fresh_stage_reads_texts(alloc: Global, limits: Limits) -> Result<ScoreStage, AllocError>
+    ensures { IfOk result (λ stage. (ending : InputEnding) (t : List ℕ) →
+        length (encode_utf8_all t) < 2 ^ 63 →
+        concat_of (left_of stage (head_events limits ending t)) ≡ outputs_of_text limits ending t) }
+{
+    texts_are_read_in_full();
+    ScoreStage::with_limits(alloc, limits)
 }

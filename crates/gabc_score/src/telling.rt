@@ -63,6 +63,8 @@ pub(crate) fn tell_point(
     ensures told { let made = pair.old.gathered.made in
         Tells (outputs_of found.old.items (take (length made - 1) (placed_behind given made)))
         out.old out.new pair.new.first pair.new.second }
+    ensures few { length (take (length pair.old.gathered.made - 1)
+        (placed_behind given pair.old.gathered.made)) ≤ 1 }
     ensures found { found.new ≡ record found.old { items = [] } }
 {
     tell_found(found.slice(), out);
@@ -78,6 +80,7 @@ pub(crate) fn tell_stop(pair: &mut SlotPair, given: bool, fault: Fault, out: &mu
     requires fits { Fits out.old 16 }
     ensures told { Tells (outputs_of [] (placed_behind given pair.old.held) ++ Stop fault ∷ [])
         out.old out.new pair.new.first pair.new.second }
+    ensures few { length (placed_behind given pair.old.held) ≤ 1 }
 {
     let count = pair.give_held(given);
     tell_lent(count, out);
@@ -90,6 +93,7 @@ pub(crate) fn tell_broken(pair: &mut SlotPair, given: bool, out: &mut Room<Score
     requires fits { Fits out.old 16 }
     ensures told { Tells (outputs_of [] (placed_behind given pair.old.held))
         out.old out.new pair.new.first pair.new.second }
+    ensures few { length (placed_behind given pair.old.held) ≤ 1 }
 {
     let count = pair.give_held(given);
     tell_lent(count, out);
@@ -111,6 +115,7 @@ pub(crate) fn tell_end(
     ensures told { let g = pair.old.gathered in
         Tells (outputs_of (found.now ++ end_findings at has_last (g.eu || g.nlba)) (placed_behind given g.made) ++ End ∷ [])
         out.old out.new pair.new.first pair.new.second }
+    ensures few { length (placed_behind given pair.old.gathered.made) ≤ 2 }
 {
     tell_found(found, out);
     tell_code(has_last, at, Code::W9, out);

@@ -1,74 +1,31 @@
 -- How a run ends.
-use Rattle.std.proofs.Common.{◌≡◌, ℕ, ◌<◌, List, [], length, take, take_all, inl, inr, arith, Bool, true, false, Option, Some, None, refl, sym, ap, ◌∙◌, subst}
+use Rattle.std.proofs.Common.{◌≡◌, ℕ, ◌<◌, List, [], ◌++◌, append-nil, Bool, true, false, Option, Some, None, refl, sym, ap, ◌∙◌, subst}
 use Rattle.std.specs.Io.KnownBytes.{Appends}
 use Rattle.std.specs.List.{list_any}
 use Rattle.gabc_places.specs.declared.limits.Limits.{Limits}
 use Rattle.gabc_places.specs.declared.code.Fault.{Fault}
 use Rattle.gabc_places.specs.declared.decoded.Decoded.{Decoded}
+use Rattle.gabc_places.specs.Text.{decoded_of}
 use Rattle.gabc_score.specs.declared.ending.InputEnding as score
 use Rattle.gabc_score.specs.declared.score.Score.{Score}
 use Rattle.gabc_score.specs.Score.{score_of}
-use Rattle.gabc_places.specs.Text.{decoded_of}
 use Rattle.gregorio.specs.declared.source_bytes.SourceEnding.{SourceEnding}
 use Rattle.gregorio.specs.declared.source_bytes.SourceEnding.TheVariants.{Whole as Ended, Broken}
 use Rattle.gregorio_jobs.specs.declared.job.Job.{Job}
 use Rattle.gregorio_jobs.specs.declared.job.Status.{Status}
-use Rattle.gregorio_jobs.specs.declared.job.Status.TheVariants.{ReadFault}
+use Rattle.gregorio_jobs.specs.declared.job.Status.TheVariants.{ReadFault, WriteFault}
 use Rattle.gregorio.specs.declared.outcome.Outcome.{Outcome}
-use Rattle.gregorio.specs.Run.{Use, Done, Taken, SinkCut, Compiles}
-use Rattle.gregorio.specs.Outcome.{is_whole, ending_by, is_cut_short, outcome_of, output_of, messages_of, status_by, status_of, is_error_finding}
-use Rattle.gregorio.specs.SourceBytes.{ReadsSource, TakesSource}
+use Rattle.gregorio.specs.Engine.{EngineState, Streams, behind_bytes, ended_with, streams_left, streams_of_outcome, with_waiting}
+use Rattle.gregorio.specs.Run.{Use, Done, SinkCut, Compiles}
+use Rattle.gregorio.specs.Outcome.{is_whole, ending_by, is_cut_short, outcome_of, status_by, status_of, is_error_finding}
+use Rattle.gregorio.specs.machine.Compile.{used, AreSent, AreCut, StreamsAreCut, IsFedAll, IsFedInPart}
+use Rattle.gregorio.proofs.PiecesAreSent.{behind_twice, sent_on, cut_by, cut_longer}
 
-module _ (job : Job) (limits : Limits) (source out messages : Use) where
-  done_by : (o : Option Fault) (b e : Bool) → Done job limits source out messages (status_by o b e) → Compiles job limits source out messages (status_by o b e)
-  done_by (Some f) b e d = d
-  done_by None true e d = d
-  done_by None false true d = d
-  done_by None false false d = d
-
-  abbrev taken : (bytes : List ℕ) (ending : SourceEnding) → ReadsSource source.old source.new source.failed_old source.failed_new limits.input bytes ending → Taken limits source
-  taken bytes ending r = record { bytes = bytes; ending = ending; consumed = r.consumed; within = r.within; whole = r.whole }
-
-  -- a run that wrote all
-  pub runs_whole : (bytes : List ℕ) (ending : SourceEnding) (outcome : Outcome) (status : Status) (output events : List ℕ)
-      → ReadsSource source.old source.new source.failed_old source.failed_new limits.input bytes ending → outcome ≡ outcome_of limits ending bytes
-      → Appends out.old out.new output → output ≡ output_of job.format outcome → Appends messages.old messages.new events → events ≡ messages_of job outcome → status ≡ status_of outcome
-      → Compiles job limits source out messages status
-  runs_whole bytes ending outcome status output events r o w we t te s =
-      let w' : Appends out.old out.new (output_of job.format (outcome_of limits ending bytes)) = subst (λ (x : List ℕ). Appends out.old out.new x) (we ∙ ap (output_of job.format) o) w in
-      let t' : Appends messages.old messages.new (messages_of job (outcome_of limits ending bytes)) = subst (λ (x : List ℕ). Appends messages.old messages.new x) (te ∙ ap (messages_of job) o) t in
-      let m : Outcome = outcome_of limits ending bytes in
-      let e : status ≡ status_of m = s ∙ ap status_of o in
-      let d : Done job limits source out messages (status_of m) = record { input = record { bytes = bytes; ending = ending; reads = r }; written = w'; messages_written = t'; ends = refl } in
-      subst (λ (x : Status). Compiles job limits source out messages x) (sym e) (done_by m.score.fault m.broken (list_any is_error_finding m.score.findings) d)
-
-  -- a run whose messages were cut
-  pub runs_cut : (bytes : List ℕ) (ending : SourceEnding) (outcome : Outcome) (output events : List ℕ) (n : ℕ)
-      → ReadsSource source.old source.new source.failed_old source.failed_new limits.input bytes ending → outcome ≡ outcome_of limits ending bytes
-      → Appends out.old out.new output → output ≡ output_of job.format outcome → Appends messages.old messages.new (take n events) → events ≡ messages_of job outcome
-      → messages.failed_old < messages.failed_new → SinkCut job limits source out messages
-  runs_cut bytes ending outcome output events n r o w we t te f = record {
-    input = taken bytes ending r;
-    written_count = length output;
-    messages_count = n;
-    written = subst (λ (x : List ℕ). Appends out.old out.new x) (sym (take_all (length output) output (omega arith)) ∙ ap (take (length output)) (we ∙ ap (output_of job.format) o)) w;
-    messages_written = subst (λ (x : List ℕ). Appends messages.old messages.new (take n x)) (te ∙ ap (messages_of job) o) t;
-    failed = inr f;
-  }
-
-  -- a run whose output was cut
-  pub runs_short : (bytes : List ℕ) (ending : SourceEnding) (outcome : Outcome) (output : List ℕ) (n : ℕ)
-      → ReadsSource source.old source.new source.failed_old source.failed_new limits.input bytes ending → outcome ≡ outcome_of limits ending bytes
-      → Appends out.old out.new (take n output) → output ≡ output_of job.format outcome → Appends messages.old messages.new []
-      → out.failed_old < out.failed_new → SinkCut job limits source out messages
-  runs_short bytes ending outcome output n r o w we t f = record {
-    input = taken bytes ending r;
-    written_count = n;
-    messages_count = 0;
-    written = subst (λ (x : List ℕ). Appends out.old out.new (take n x)) (we ∙ ap (output_of job.format) o) w;
-    messages_written = t;
-    failed = inl f;
-  }
+done_by : (job : Job) (limits : Limits) (source out messages : Use) (o : Option Fault) (b e : Bool) → Done job limits source out messages (status_by o b e) → Compiles job limits source out messages (status_by o b e)
+done_by job limits source out messages (Some f) b e d = d
+done_by job limits source out messages None true e d = d
+done_by job limits source out messages None false true d = d
+done_by job limits source out messages None false false d = d
 
 -- what is made of an input, part by part
 pub outcome_by_parts : (limits : Limits) (ending : SourceEnding) (bytes : List ℕ) (ended : Bool) (decoded : Decoded) (how : score.InputEnding) (made : Score) (broken : Bool)
@@ -83,11 +40,93 @@ broken_by Ended (Some fault) errors s = cc
 broken_by Ended None true s = cc
 broken_by Ended None false s = cc
 
-pub read_fault_broken : (limits : Limits) (ending : SourceEnding) (bytes : List ℕ) → status_of (outcome_of limits ending bytes) ≡ ReadFault → ending ≡ Broken
+read_fault_broken : (limits : Limits) (ending : SourceEnding) (bytes : List ℕ) → status_of (outcome_of limits ending bytes) ≡ ReadFault → ending ≡ Broken
 read_fault_broken limits ending bytes s =
     let m = outcome_of limits ending bytes in
     broken_by ending m.score.fault (list_any is_error_finding m.score.findings) s
 
--- what was read was taken
-pub takes_read : (limits : Limits) (source : Use) (bytes : List ℕ) (ending : SourceEnding) → ReadsSource source.old source.new source.failed_old source.failed_new limits.input bytes ending → TakesSource source.old source.new limits.input
-takes_read limits source bytes ending r = record { bytes = bytes; consumed = r.consumed; within = r.within }
+-- no run that wrote all has the status of a sink's failure
+never_sunk : (fault : Option Fault) (broken errors : Bool) → status_by fault broken errors ≡ WriteFault → ⊥
+never_sunk (Some fault) broken errors s = cc
+never_sunk None true errors s = cc
+never_sunk None false true s = cc
+never_sunk None false false s = cc
+
+-- what an engine says of every input
+abbrev SaysOutcomes : Job → Limits → EngineState → Type 0
+SaysOutcomes job limits e = (bytes : List ℕ) (ending : SourceEnding) → streams_left e ending bytes ≡ streams_of_outcome job (outcome_of limits ending bytes)
+
+module _ {A B C : Type 0} (wrote : A → Option (List ℕ)) (failed : A → ℕ) (told : B → Option (List ℕ)) (untold : B → ℕ) (left : C → Option (List ℕ)) (broke : C → ℕ) (job : Job) (limits : Limits) where
+  -- what an engine wrote of an input is its outcome's
+  streams_are : (s t : C) (o p : A) (m n : B) (e f g : EngineState) (ending : SourceEnding) (status : Status) → SaysOutcomes job limits e
+      → (a : IsFedAll limits.input (used left broke s t) (used wrote failed o p) (used told untold m n) e f ending) → streams_left f ending [] ≡ with_waiting g (ended_with status)
+      → streams_of_outcome job (outcome_of limits ending a.bytes) ≡ behind_bytes (a.fed.output ++ g.output) (a.fed.lines ++ g.messages) (ended_with status)
+  streams_are s t o p m n e f g ending status all a last =
+      sym (all a.bytes ending) ∙ (ap (streams_left e ending) (sym (append-nil a.bytes)) ∙ (a.fed.law [] ending
+      ∙ (ap (behind_bytes a.fed.output a.fed.lines) last ∙ behind_twice a.fed.output a.fed.lines g.output g.messages (ended_with status))))
+
+  -- a run that wrote all
+  pub runs_whole : (s t : C) (o p q : A) (m n r : B) (e f g : EngineState) (ending : SourceEnding) (status : Status) → SaysOutcomes job limits e
+      → IsFedAll limits.input (used left broke s t) (used wrote failed o p) (used told untold m n) e f ending → streams_left f ending [] ≡ with_waiting g (ended_with status)
+      → AreSent (used wrote failed p q) (used told untold n r) g.output g.messages
+      → Compiles job limits (used left broke s t) (used wrote failed o q) (used told untold m r) status
+  runs_whole s t o p q m n r e f g ending status all a last sent =
+      let made : Outcome = outcome_of limits ending a.bytes in
+      let are = streams_are s t o p m n e f g ending status all a last in
+      let x = sent_on wrote failed told untold o p q m n r a.fed.output a.fed.lines g.output g.messages a.fed.sent sent in
+      let d : Done job limits (used left broke s t) (used wrote failed o q) (used told untold m r) (status_of made) = record {
+        input = record { bytes = a.bytes; ending = ending; reads = a.reads };
+        written = subst (Appends (wrote o) (wrote q)) (sym (ap (λ (y : Streams). y.output) are ∙ append-nil (a.fed.output ++ g.output))) x.written;
+        messages_written = subst (Appends (told m) (told r)) (sym (ap (λ (y : Streams). y.messages) are ∙ append-nil (a.fed.lines ++ g.messages))) x.messages_written;
+        ends = refl;
+      } in
+      subst (λ (y : Status). Compiles job limits (used left broke s t) (used wrote failed o q) (used told untold m r) y) (ap (λ (y : Streams). y.status) are)
+      (done_by job limits (used left broke s t) (used wrote failed o q) (used told untold m r) made.score.fault made.broken (list_any is_error_finding made.score.findings) d)
+
+  -- a run whose source failed
+  pub runs_broken : (s t : C) (o p : A) (m n : B) (e f g : EngineState) (ending : SourceEnding) (status : Status) → SaysOutcomes job limits e
+      → IsFedAll limits.input (used left broke s t) (used wrote failed o p) (used told untold m n) e f ending → streams_left f ending [] ≡ with_waiting g (ended_with status)
+      → status ≡ ReadFault → broke s < broke t
+  runs_broken s t o p m n e f g ending status all a last is =
+      a.reads.broken (read_fault_broken limits ending a.bytes (ap (λ (y : Streams). y.status) (streams_are s t o p m n e f g ending status all a last) ∙ is))
+
+  -- a run that wrote all is not one that a sink's failure cut
+  pub runs_sunk : (s t : C) (o p : A) (m n : B) (e f g : EngineState) (ending : SourceEnding) (status : Status) → SaysOutcomes job limits e
+      → IsFedAll limits.input (used left broke s t) (used wrote failed o p) (used told untold m n) e f ending → streams_left f ending [] ≡ with_waiting g (ended_with status)
+      → status ≡ WriteFault → ⊥
+  runs_sunk s t o p m n e f g ending status all a last is =
+      let made : Outcome = outcome_of limits ending a.bytes in
+      never_sunk made.score.fault made.broken (list_any is_error_finding made.score.findings) (ap (λ (y : Streams). y.status) (streams_are s t o p m n e f g ending status all a last) ∙ is)
+
+  -- a run that a sink's failure cut while its source was read
+  pub runs_short : (s t : C) (o p : A) (m n : B) (e : EngineState) → SaysOutcomes job limits e → IsFedInPart limits.input (used left broke s t) (used wrote failed o p) (used told untold m n) e
+      → SinkCut job limits (used left broke s t) (used wrote failed o p) (used told untold m n)
+  runs_short s t o p m n e all a =
+      let c = subst (StreamsAreCut (used wrote failed o p) (used told untold m n)) (all a.bytes Broken) a.cut in
+      record {
+        input = record { bytes = a.bytes; ending = Broken; consumed = a.consumed; within = a.within; whole = λ no. cc };
+        written_count = c.output_count;
+        messages_count = c.lines_count;
+        written = c.written;
+        messages_written = c.messages_written;
+        failed = c.failed;
+      }
+
+  -- a run that a sink's failure cut at its end
+  pub runs_cut : (s t : C) (o p q : A) (m n r : B) (e f g : EngineState) (ending : SourceEnding) (status : Status) → SaysOutcomes job limits e
+      → IsFedAll limits.input (used left broke s t) (used wrote failed o p) (used told untold m n) e f ending → streams_left f ending [] ≡ with_waiting g (ended_with status)
+      → AreCut (used wrote failed p q) (used told untold n r) g.output g.messages
+      → SinkCut job limits (used left broke s t) (used wrote failed o q) (used told untold m r)
+  runs_cut s t o p q m n r e f g ending status all a last cut =
+      let longer : StreamsAreCut (used wrote failed p q) (used told untold n r) (streams_left f ending []) =
+      subst (StreamsAreCut (used wrote failed p q) (used told untold n r)) (sym last) (cut_longer wrote failed told untold p q n r g.output g.messages [] [] cut) in
+      let c = subst (StreamsAreCut (used wrote failed o q) (used told untold m r)) (ap (streams_left e ending) (append-nil a.bytes) ∙ all a.bytes ending)
+      (cut_by wrote failed told untold o p q m n r e f a.bytes [] ending a.fed longer) in
+      record {
+        input = record { bytes = a.bytes; ending = ending; consumed = a.reads.consumed; within = a.reads.within; whole = a.reads.whole };
+        written_count = c.output_count;
+        messages_count = c.lines_count;
+        written = c.written;
+        messages_written = c.messages_written;
+        failed = c.failed;
+      }

@@ -8,7 +8,7 @@ use Rattle.gregorio_jobs.specs.declared.job.Job.{Job}
 use Rattle.gregorio_jobs.specs.declared.job.Status.{Status}
 use Rattle.gregorio_jobs.specs.declared.job.Status.TheVariants.{NoMemory, WriteFault}
 use Rattle.gregorio.specs.Outcome.{outcome_of, output_of, messages_of, status_of}
-use Rattle.gregorio.specs.SourceBytes.{ReadsSource, TakesSource}
+use Rattle.gregorio.specs.SourceBytes.{ReadsSource}
 
 -- An end before and after a run: its bytes, where they are known, and the number of its failures.
 pub record Use : Type 0 where
@@ -47,8 +47,13 @@ pub record SinkCut (job : Job) (limits : Limits) (source out messages : Use) : T
   pub messages_written : Appends messages.old messages.new (take messages_count (messages_of job (outcome_of limits input.ending input.bytes)))
   pub failed : (out.failed_old < out.failed_new) ⊎ (messages.failed_old < messages.failed_new)
 
--- By how the run ended: there was no memory, nothing was written, and no more of the source was taken than may be; a sink failed; or all was written.
+-- An end was not touched: it has the bytes, where they are known, and the failures that it had.
+pub record IsUntouched (end : Use) : Type 0 where
+  pub keeps : Keeps end.old end.new
+  pub steady : end.failed_new ≡ end.failed_old
+
+-- By how the run ended: there was no memory, and nothing was read or written; a sink failed; or all was written.
 abbrev pub Compiles : Job → Limits → Use → Use → Use → Status → Type 0
-Compiles job limits source out messages NoMemory = Keeps out.old out.new × (Keeps messages.old messages.new × TakesSource source.old source.new limits.input)
+Compiles job limits source out messages NoMemory = IsUntouched source × (IsUntouched out × IsUntouched messages)
 Compiles job limits source out messages WriteFault = SinkCut job limits source out messages
 Compiles job limits source out messages status = Done job limits source out messages status

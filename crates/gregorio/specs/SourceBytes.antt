@@ -12,9 +12,3 @@ pub record ReadsSource (old new : Option (List ℕ)) (failed_old failed_new limi
   pub whole : ending ≡ Whole → length bytes ≤ limit → IsAtEnd new
   pub broken : ending ≡ Broken → failed_old < failed_new
   pub steady : ending ≡ Whole → failed_new ≡ failed_old
-
--- Of the source these bytes were taken, at most one more than the limit.
-pub record TakesSource (old new : Option (List ℕ)) (limit : ℕ) : Type 0 where
-  pub bytes : List ℕ
-  pub consumed : Consumes old new bytes
-  pub within : length bytes ≤ limit + 1

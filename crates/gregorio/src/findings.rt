@@ -1,6 +1,6 @@
 //! What is told of findings and the fault.
 
-ghost use Rattle.std.specs.Prelude.{◌≡◌};
+ghost use Rattle.std.specs.Prelude.{◌≡◌, ◌+◌, ◌≤◌, length};
 ghost use Rattle.std.specs.List.{flat_map, list_any};
 ghost use Rattle.gregorio.specs.Outcome.{lines_of, status_with as status_with_findings, input_name as name_of_input, is_shown as shown, shown_line, fault_line, is_error_finding};
 
@@ -27,8 +27,9 @@ pub fn is_shown(all_warnings: bool, finding: Finding) -> bool
 }
 
 /// Puts the line of a finding, if it is written.
-fn put_finding<S: Put>(name: &str, all_warnings: bool, finding: Finding, out: &mut S)
-    ensures { out.new ≡ S.taken out.old (shown_line name.now all_warnings finding) }
+pub(crate) fn put_finding<S: Put>(name: &str, all_warnings: bool, finding: Finding, out: &mut S)
+    ensures put { out.new ≡ S.taken out.old (shown_line name.now all_warnings finding) }
+    ensures short { length (shown_line name.now all_warnings finding) ≤ length name.now + 128 }
 {
     if is_shown(all_warnings, finding) {
         message_line(name, finding.place, finding.code, out);
@@ -60,6 +61,13 @@ pub(crate) fn put_messages<S: Put>(name: &str, all_warnings: bool, score: &Score
 {
     put_findings(name, all_warnings, score.findings.as_slice(), out);
     put_fault(name, score.fault, out);
+}
+
+/// Returns whether `finding` is an error.
+pub(crate) fn is_error(finding: Finding) -> bool
+    ensures { result ≡ is_error_finding finding }
+{
+    finding.code.severity() == Severity::Error
 }
 
 /// Whether one of the findings is an error.

@@ -15,14 +15,18 @@
 
 mod canonical;
 mod dump;
+mod engine;
 mod findings;
 pub mod laws;
 mod outcome;
 mod output;
-mod read_all;
 mod run;
+mod run_part;
+mod run_writer;
+mod score_writer;
 mod source_bytes;
 
+pub use engine::Engine;
 pub use findings::is_shown;
 pub use gregorio_jobs::{Format, Input, Job, Name, Output, Plan, Refusal, Status, Words, plan};
 pub use outcome::Outcome;

@@ -1,18 +1,120 @@
 //! A run from its source to its sinks.
 
-ghost use Rattle.std.specs.Prelude.{◌≡◌, ◌≢◌, ◌<◌, ◌⊎◌};
+ghost use Rattle.std.specs.Prelude.{◌≡◌, ◌≢◌, ◌<◌, ◌⊎◌, [], IfOk, OnOk, OnErr};
 ghost use Rattle.gregorio_jobs.specs.declared.job.Status.TheVariants.{ReadFault, WriteFault};
+ghost use Rattle.gregorio.specs.declared.source_bytes.SourceEnding.{SourceEnding as Ending};
+ghost use Rattle.gregorio.specs.Engine.{NothingWaits, ended_with, streams_left, with_waiting};
 ghost use Rattle.gregorio.specs.Run.{Compiles, Use};
+ghost use Rattle.gregorio.specs.machine.Compile.{AreCut, AreSent, IsFed, IsFedAll, IsFedInPart, StreamsAreCut, used};
 
-use crate::findings::input_name;
-use crate::outcome::Outcome;
-use crate::read_all::read_all;
-use gabc_places::{Limits, Sink, Source, send_all};
+use crate::engine::Engine;
+use crate::source_bytes::SourceEnding;
+use gabc_places::{Limits, Sink, Source, Unsent, send_all};
 use gregorio_jobs::{Job, Status};
 use std::alloc::Global;
 
+/// How many bytes one read asks for at most.
+const PIECE: usize = 8192;
+
+/// Sends what waits: the output, and then the messages.
+fn send_waiting<O: Sink, M: Sink>(
+    engine: &mut Engine,
+    out: &mut O,
+    messages: &mut M,
+) -> Result<(), Unsent>
+    ensures all { OnOk result (AreSent (used O.written O.failures out.old out.new)
+        (used M.written M.failures messages.old messages.new)
+        engine.old.output engine.old.messages) }
+    ensures forgets { OnOk result (engine.new ≡ record engine.old { output = []; messages = [] }) }
+    ensures cut { OnErr result (AreCut (used O.written O.failures out.old out.new)
+        (used M.written M.failures messages.old messages.new)
+        engine.old.output engine.old.messages) }
+{
+    send_all(out, engine.out())?;
+    send_all(messages, engine.messages())?;
+    engine.taken();
+    Ok(())
+}
+
+/// Feeds all of `piece` to `engine`, and sends what it writes.
+fn feed_piece<O: Sink, M: Sink>(
+    engine: &mut Engine,
+    piece: &[u8],
+    out: &mut O,
+    messages: &mut M,
+) -> Result<(), Unsent>
+    requires waits { NothingWaits engine.old }
+    ensures waits { OnOk result (NothingWaits engine.new) }
+    ensures fed { OnOk result (IsFed (used O.written O.failures out.old out.new)
+        (used M.written M.failures messages.old messages.new)
+        engine.old engine.new piece.now) }
+    ensures cut { OnErr result ((ending : Ending) →
+        StreamsAreCut (used O.written O.failures out.old out.new)
+        (used M.written M.failures messages.old messages.new)
+        (streams_left engine.old ending piece.now)) }
+{
+    let mut count = 0;
+    while count < piece.len() {
+        count += engine.feed(&piece[count..]);
+        send_waiting(engine, out, messages)?;
+    }
+    Ok(())
+}
+
+/// Reads a source up to its end, its first failure or one byte more than `limit`, feeds all to `engine`, and sends what it writes.
+fn feed_all<S: Source, O: Sink, M: Sink>(
+    engine: &mut Engine,
+    limit: u32,
+    source: &mut S,
+    out: &mut O,
+    messages: &mut M,
+) -> Result<SourceEnding, Unsent>
+    requires waits { NothingWaits engine.old }
+    ensures waits { OnOk result (NothingWaits engine.new) }
+    ensures fed { IfOk result (λ ending.
+        IsFedAll limit (used S.remaining S.failures source.old source.new)
+        (used O.written O.failures out.old out.new)
+        (used M.written M.failures messages.old messages.new)
+        engine.old engine.new ending) }
+    ensures cut { OnErr result (IsFedInPart limit
+        (used S.remaining S.failures source.old source.new)
+        (used O.written O.failures out.old out.new)
+        (used M.written M.failures messages.old messages.new)
+        engine.old) }
+{
+    let most = limit as usize + 1;
+    let mut taken = 0;
+    let mut buffer = [0; PIECE];
+    while taken < most {
+        let asked = PIECE.min(most - taken);
+        let piece = &mut buffer[..asked];
+        match source.read(piece) {
+            Ok(0) => break,
+            Ok(n) => {
+                feed_piece(engine, &piece[..n], out, messages)?;
+                taken += n;
+            }
+            Err(_) => return Ok(SourceEnding::Broken),
+        }
+    }
+    Ok(SourceEnding::Whole)
+}
+
+/// Ends the run of an input that stopped so, and returns how it ended.
+fn end_by(engine: &mut Engine, ending: SourceEnding) -> Status
+    requires waits { NothingWaits engine.old }
+    ensures { streams_left engine.old ending []
+        ≡ with_waiting engine.new (ended_with result) }
+{
+    match ending {
+        SourceEnding::Whole => engine.end(),
+        SourceEnding::Broken => engine.broken(),
+    }
+}
+
 /// Reads a score from `source`, at most `limits.input` bytes and one more, writes it in the format of `job` to `out`, and its
-/// messages to `messages`. Returns how it went. At `WriteFault` each sink holds a prefix of its text; at `NoMemory` nothing was written.
+/// messages to `messages`. Returns how it went. At `WriteFault` each sink holds a prefix of its text; at `NoMemory` nothing was read
+/// or written. What is known of the score is written before the next bytes are read.
 pub fn compile<S: Source, O: Sink, M: Sink>(
     alloc: Global,
     job: &Job,
@@ -47,24 +149,15 @@ pub fn compile<S: Source, O: Sink, M: Sink>(
     ensures steady { result ≢ WriteFault → (O.failures out.new ≡ O.failures out.old) ×
         (M.failures messages.new ≡ M.failures messages.old) }
 {
-    let Ok(bytes) = read_all(alloc, source, limits.input) else {
+    let Ok(mut engine) = Engine::new(alloc, job, limits) else {
         return Status::NoMemory;
     };
-    let Ok(outcome) = Outcome::of(alloc, bytes.bytes.as_slice(), bytes.ending, limits) else {
-        return Status::NoMemory;
-    };
-    let Ok(output) = outcome.output(alloc, job.format) else {
-        return Status::NoMemory;
-    };
-    let name = input_name(&job.input);
-    let Ok(lines) = outcome.messages(alloc, name, job.all_warnings) else {
-        return Status::NoMemory;
-    };
-    if let Err(_) = send_all(out, output.slice()) {
+    let Ok(ending) = feed_all(&mut engine, limits.input, source, out, messages) else {
         return Status::WriteFault;
+    };
+    let status = end_by(&mut engine, ending);
+    match send_waiting(&mut engine, out, messages) {
+        Ok(()) => status,
+        Err(_) => Status::WriteFault,
     }
-    if let Err(_) = send_all(messages, lines.slice()) {
-        return Status::WriteFault;
-    }
-    outcome.status()
 }

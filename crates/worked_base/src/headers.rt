@@ -276,4 +276,7 @@ fn laws_are_called() {
     laws::book_again();
     laws::canonical_lines_are_within_the_limits();
     laws::events_make_the_headers();
+    laws::events_need_no_end();
+    laws::the_headers_end_at_their_mark();
+    laws::the_book_is_read();
 }

@@ -3,8 +3,10 @@ use Rattle.std.proofs.Common.{◌≡◌, ℕ, List, [], ◌∷◌, ◌++◌, ◌
 use Rattle.std.specs.Cmp.Lexicographic.{same_text}
 use Rattle.std.specs.Str.{chars, is_utf8, IsAscii}
 use Rattle.std.proofs.lemmas.Str.{encodes-chars, length-encode, chars-IsAscii, IsUtf8-from_is_utf8}
-use lib.Utf8.{encode, encodes}
-use Rattle.std.specs.Char.{len_utf8}
+use Rattle.std.proofs.lemmas.List.Elements.{All-head, All-tail}
+use Rattle.std.specs.List.{All}
+use lib.Utf8.{encode, encodes, scalars}
+use Rattle.std.specs.Char.{IsScalar, len_utf8}
 use Rattle.std.proofs.lemmas.List.Sums.{sum_by-append}
 use Rattle.gabc_headers.specs.Lines.{bytes_len}
 use Rattle.gabc_headers.specs.Book.{macro_name}
@@ -125,3 +127,8 @@ macro_ascii d h (suc (suc (suc (suc (suc (suc i)))))) = lit< tt
 
 pub chars-macro : (d : ℕ) → d < 10 → chars (macro_name d) ≡ macro_name d
 chars-macro d h = chars-IsAscii (macro_name d) (macro_ascii d h)
+
+-- characters that are scalar values
+pub all_scalars : (cs : List ℕ) → All IsScalar cs → scalars cs ≡ true
+all_scalars [] h = refl
+all_scalars (c ∷ cs) h = rw (All-head IsScalar c cs h, all_scalars cs (All-tail IsScalar c cs h)) refl

@@ -68,7 +68,7 @@ no_text_push r c =
 
 -- ---- lists
 
-concat-cons : {T : Type 0} (a : List T) (rest : List (List T)) → concat_of (a ∷ rest) ≡ a ++ concat_of rest
+pub concat-cons : {T : Type 0} (a : List T) (rest : List (List T)) → concat_of (a ∷ rest) ≡ a ++ concat_of rest
 concat-cons a rest = flat_map-cons (λ xs. xs) a rest
 
 -- behind the last event
@@ -94,7 +94,7 @@ placed_drop t xs n e =
 -- ---- the headers' end
 
 -- The headers that end here: they are stopped, with what was found, or are whole, with what was found and perhaps more.
-data EndsWith (found : List Finding) (result : Result Heads HeadFault) : Type 0 where
+pub data EndsWith (found : List Finding) (result : Result Heads HeadFault) : Type 0 where
   stopped : (f : HeadFault) → result ≡ Err f → f.at_end ≡ false → f.findings ≡ found → EndsWith found result
   whole : (heads : Heads) (more : List Finding) → result ≡ Ok heads → heads.findings ≡ found ++ more → EndsWith found result
 
@@ -107,7 +107,7 @@ ends_body place body book found false true z = stopped _ refl refl refl
 ends_body place body book found false false true = whole _ [] refl (sym (append-nil found))
 ends_body place body book found false false false = whole _ _ refl refl
 
-ends_with : (limits : Limits) (t : List ℕ) (c : Collected) (end : HeaderEnding) → IsNoText (Ended end) → EndsWith c.findings (heads_at limits t c end)
+pub ends_with : (limits : Limits) (t : List ℕ) (c : Collected) (end : HeaderEnding) → IsNoText (Ended end) → EndsWith c.findings (heads_at limits t c end)
 ends_with limits t c (Limit place) h = stopped _ refl refl refl
 ends_with limits t c (Score place body (Some k)) h = stopped _ refl refl refl
 ends_with limits t c (Score place body None) h = ends_body place body (spelled_entries (encodes t) c.headers) c.findings _ _ _
@@ -162,20 +162,20 @@ Makes limits held es xs = map (λ f. Found f) (collected_of held es).findings ++
 open_events : (found : List Finding) (f : HeadFault) → f.at_end ≡ true → events_by found (Err f) ≡ map (λ f. Found f) found
 open_events found f e = rw e refl
 
-open_progress : (t : List ℕ) (f : HeadFault) → f.at_end ≡ true → progress_by t (Err f) ≡ reading t
+pub open_progress : (t : List ℕ) (f : HeadFault) → f.at_end ≡ true → progress_by t (Err f) ≡ reading t
 open_progress t f e = rw e refl
 
 closed_events : (found : List Finding) (f : HeadFault) → f.at_end ≡ false → events_by found (Err f) ≡ Stop f.fault ∷ []
 closed_events found f e = rw e refl
 
-closed_progress : (t : List ℕ) (f : HeadFault) → f.at_end ≡ false → progress_by t (Err f) ≡ over
+pub closed_progress : (t : List ℕ) (f : HeadFault) → f.at_end ≡ false → progress_by t (Err f) ≡ over
 closed_progress t f e = rw e refl
 
 module _ (limits : Limits) (held xs : List ℕ) (c : ℕ) (r new : HeaderMachine) (es : List HeaderEvent) (u : scalars (held ++ c ∷ xs) ≡ true) (h : HasRead limits.header held r es) where
   abbrev longer : List ℕ
   longer = held ++ c ∷ []
 
-  whole_is : longer ++ xs ≡ held ++ c ∷ xs
+  pub whole_is : longer ++ xs ≡ held ++ c ∷ xs
   whole_is = append_assoc held (c ∷ []) xs
 
   u_longer : scalars longer ≡ true
@@ -245,7 +245,7 @@ module _ (limits : Limits) (held xs : List ℕ) (c : ℕ) (r new : HeaderMachine
       ∙ spelled_longer (encodes longer) (encodes xs) (collected_of held es).headers
       (subst (λ (x : Collected). AreWithin (encodes longer) x.headers) same_collected (read_within limits longer es end u_longer (read_ended limits.header held r new es c end h p [])))
 
-  same_heads : (end : HeaderEnding) → IsNoText (Ended end) → push_one r c ≡ (new, Ended end) → heads_of limits (held ++ c ∷ xs) ≡ heads_of limits longer
+  pub same_heads : (end : HeaderEnding) → IsNoText (Ended end) → push_one r c ≡ (new, Ended end) → heads_of limits (held ++ c ∷ xs) ≡ heads_of limits longer
   same_heads (Limit place) n p = sym (whole_at (Limit place) p) ∙ now_is (Limit place) p
   same_heads (Score place body line) n p = sym (whole_at (Score place body line) p)
       ∙ (ap (λ (x : List (List ℕ × List ℕ)). heads_at_score limits place body line x (collected_of held es).findings) (same_spelled (Score place body line) p)

@@ -1,9 +1,5 @@
 -- What a decoder and a stage of headers give in a row.
-use Rattle.std.proofs.Common.{◌≡◌, ℕ, List, [], ◌∷◌, ◌++◌, map, filter, length, take, Bool, true, false, not, cond, ◌&&◌, ◌==◌, refl, sym, ap, ◌∙◌, append-nil, Option, None, Result, Ok}
-use Rattle.std.specs.List.{zip}
-use Rattle.std.specs.Str.Lossy.{utf8_valid_len}
-use Rattle.std.proofs.lemmas.Str.{scalars-chars}
-use lib.Utf8.{scalar, scalars}
+use Rattle.std.proofs.Common.{◌≡◌, ℕ, List, [], ◌∷◌, ◌++◌, map, length, true, refl, sym, ap, ◌∙◌, append-nil, Option, None, Result, Ok}
 use Rattle.gabc_places.specs.declared.code.Fault.{Fault}
 use Rattle.gabc_places.specs.declared.limits.Limits.{Limits}
 use Rattle.gabc_places.specs.declared.place.Char.{Char}
@@ -12,49 +8,15 @@ use Rattle.gabc_places.specs.Decoder.{known_at_end, fault_items}
 use Rattle.gabc_places.specs.Place.{placed_characters}
 use Rattle.gabc_places.specs.StageLaw.{concat_of, Pushes}
 use Rattle.gabc_places.specs.BoundedList.{BoundedList, extended_by}
-use Rattle.gabc_places.specs.Text.{decoded_of, is_left_out, read_as, text_of_bytes, utf8_prefix_of}
+use Rattle.gabc_places.specs.Text.{decoded_of, text_of_bytes}
 use Rattle.gabc_places.proofs.ChainKeepsEvents.{joined-regrouped}
-use Rattle.gabc_places.proofs.utf8.CharacterByCharacter.{valid_len-front}
+use Rattle.gabc_places.proofs.texts.TextsAreScalars.{text_scalars}
 use Rattle.gabc_headers.specs.declared.head_event.HeadEvent.{HeadEvent}
 use Rattle.gabc_headers.specs.declared.head_event.HeadEvent.TheVariants.{Body}
 use Rattle.gabc_headers.specs.Heads.{heads_of}
 use Rattle.gabc_headers.specs.HeadEvents.{HeadProgress, reading, behind, over, IsBehind, events_left, events_of_input, events_of_heads}
+use Rattle.gabc_headers.proofs.entries.TextsAsBytes.{all_scalars}
 use Rattle.gabc_headers.proofs.prefixes.EventsMakeHeads.{events_make_heads}
-
--- ---- the text of bytes is of characters
-
-both : (a b : Bool) → (a && b) ≡ true → (a ≡ true) × (b ≡ true)
-both true b h = (refl, h)
-both false b h = absurd (cc)
-
-joined : (c : ℕ) (cs : List ℕ) → scalar c ≡ true → scalars cs ≡ true → scalars (c ∷ cs) ≡ true
-joined c cs h k = rw (h, k) refl
-
-read_scalar : (c : ℕ) → scalar c ≡ true → scalar (read_as c) ≡ true
-read_scalar c h = by (c == 13)
-  where
-    by : (b : Bool) → scalar (cond b 10 c) ≡ true
-    by true = refl
-    by false = h
-
-shown_scalars : (ps cs : List ℕ) → scalars cs ≡ true → scalars (map (λ (p : ℕ × ℕ). read_as p.1) (filter (λ (p : ℕ × ℕ). not (is_left_out p)) (zip ps cs))) ≡ true
-shown_scalars [] cs h = refl
-shown_scalars (p ∷ ps) [] h = refl
-shown_scalars (p ∷ ps) (c ∷ cs) h = by (not (is_left_out (p, c))) (shown_scalars ps cs (both (scalar c) (scalars cs) h).1)
-  where
-    rest : List (ℕ × ℕ)
-    rest = filter (λ (p : ℕ × ℕ). not (is_left_out p)) (zip ps cs)
-
-    by : (x : Bool) → scalars (map (λ (p : ℕ × ℕ). read_as p.1) rest) ≡ true → scalars (map (λ (p : ℕ × ℕ). read_as p.1) (cond {A = List (ℕ × ℕ)} x ((p, c) ∷ rest) rest)) ≡ true
-    by true k = joined (read_as c) (map (λ (p : ℕ × ℕ). read_as p.1) rest) (read_scalar c (both (scalar c) (scalars cs) h).0) k
-    by false k = k
-
-prefix_scalars : (bytes : List ℕ) → scalars (utf8_prefix_of bytes) ≡ true
-unfolding utf8_prefix_of
-prefix_scalars bytes = scalars-chars (take (utf8_valid_len bytes) bytes) (valid_len-front bytes)
-
-text_scalars : (limit : ℕ) (bytes : List ℕ) → scalars (text_of_bytes limit bytes) ≡ true
-text_scalars limit bytes = shown_scalars (0 ∷ utf8_prefix_of (take limit bytes)) (utf8_prefix_of (take limit bytes)) (prefix_scalars (take limit bytes))
 
 -- ---- both stages
 
@@ -71,7 +33,7 @@ pub known_text : (limits : Limits) (bytes : List ℕ) → (decoded_of limits tru
 known_text limits bytes e =
     ap (λ (x : List (Result Char Fault)). concat_of (events_left limits (reading []) x))
     (ap (λ (f : Option Fault). map (λ c. Ok c) (placed_characters (text_of_bytes limits.input bytes)) ++ fault_items f) e ∙ append-nil (map (λ c. Ok c) (placed_characters (text_of_bytes limits.input bytes))))
-    ∙ events_make_heads limits (text_of_bytes limits.input bytes) (text_scalars limits.input bytes)
+    ∙ events_make_heads limits (text_of_bytes limits.input bytes) (all_scalars (text_of_bytes limits.input bytes) (text_scalars limits.input bytes))
 
 -- ---- one input
 

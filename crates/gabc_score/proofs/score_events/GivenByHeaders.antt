@@ -1,4 +1,4 @@
--- What a stage of headers gives of a text that has ended.
+-- What a score is given of a text is what a stage of headers gives of it.
 use Rattle.std.proofs.Common.{◌≡◌, ℕ, zero, suc, ◌+◌, Bool, true, false, List, [], ◌∷◌, ◌++◌, map, take, drop, Result, Ok, Err, refl, sym, ap, ◌∙◌, append_assoc, append-nil}
 use Rattle.gabc_places.specs.Place.{placed_characters_behind}
 use Rattle.gabc_places.specs.declared.limits.Limits.{Limits}
@@ -7,10 +7,13 @@ use Rattle.gabc_headers.specs.declared.heads.Heads.{Heads}
 use Rattle.gabc_headers.specs.declared.heads.HeadFault.{HeadFault}
 use Rattle.gabc_headers.specs.declared.head_event.HeadEvent.TheVariants as head_event
 use Rattle.gabc_headers.specs.Heads.{heads_of, head_len}
-use Rattle.gabc_headers.specs.HeadEvents.{heads_told, events_of_heads}
-use Rattle.gabc_score.specs.declared.ending.InputEnding.TheVariants.{Whole}
+use Rattle.gabc_headers.specs.declared.head_event.HeadEvent.{HeadEvent}
+use Rattle.gabc_headers.specs.HeadEvents.{heads_told, events_of_heads, events_of_broken, events_of_stopped, body_characters as characters_behind}
+use Rattle.gabc_score.specs.declared.ending.InputEnding.{InputEnding}
+use Rattle.gabc_score.specs.declared.ending.InputEnding.TheVariants.{Whole, Broken, At}
 use Rattle.gabc_score.specs.Score.{head_fault_by}
 use Rattle.gabc_score.specs.ScoreEvents.{stop_events, head_events_by, head_events}
+use Rattle.gabc_score.specs.SyllablesOfUnits.{body_characters}
 
 -- the characters from some point on stand behind those before it
 placed_on : (n : ℕ) (prefix t : List ℕ) → drop n (placed_characters_behind prefix t) ≡ placed_characters_behind (prefix ++ take n t) (drop n t)
@@ -18,15 +21,38 @@ placed_on zero prefix t = ap (λ p. placed_characters_behind p t) (sym (append-n
 placed_on (suc n) prefix [] = refl
 placed_on (suc n) prefix (c ∷ cs) = placed_on n (prefix ++ c ∷ []) cs ∙ ap (λ p. placed_characters_behind p (drop n cs)) (append_assoc prefix (c ∷ []) (take n cs))
 
-given_by : (t : List ℕ) (r : Result Heads HeadFault) → head_events_by Whole t r ≡ events_of_heads t r
-given_by t (Ok heads) =
-    ap (λ (xs : List Char). map (λ f. head_event.Found f) heads.findings ++ heads_told heads.book ∷ (map (λ x. head_event.Body x) xs ++ head_event.End ∷ []))
-    (sym (placed_on (head_len t + 2) [] t))
-given_by t (Err stop) = by stop.at_end
-  where
-    by : (at_end : Bool) → map (λ f. head_event.Found f) stop.findings ++ stop_events (head_fault_by Whole at_end stop.fault) ≡ map (λ f. head_event.Found f) stop.findings ++ head_event.Stop stop.fault ∷ []
-    by true = refl
-    by false = refl
+-- what a stage of headers gives of a text that ended so
+abbrev pub given_of : InputEnding → List ℕ → Result Heads HeadFault → List HeadEvent
+given_of Whole t r = events_of_heads t r
+given_of Broken t r = events_of_broken t r
+given_of (At fault) t r = events_of_stopped fault t r
 
-pub given_is : (limits : Limits) (t : List ℕ) → head_events limits Whole t ≡ events_of_heads t (heads_of limits t)
-given_is limits t = given_by t (heads_of limits t)
+module _ (t : List ℕ) where
+  -- the characters of the body, from the text's first character or from the body's
+  same_body : body_characters t ≡ characters_behind t
+  same_body = sym (placed_on (head_len t + 2) [] t)
+
+  heads_given : (ending : InputEnding) (heads : Heads) → head_events_by ending t (Ok heads) ≡ given_of ending t (Ok heads)
+  heads_given Whole heads =
+      ap (λ (xs : List Char). map (λ f. head_event.Found f) heads.findings ++ heads_told heads.book ∷ (map (λ x. head_event.Body x) xs ++ head_event.End ∷ [])) same_body
+  heads_given Broken heads =
+      ap (λ (xs : List HeadEvent). map (λ f. head_event.Found f) heads.findings ++ heads_told heads.book ∷ xs)
+      (append-nil (map (λ x. head_event.Body x) (body_characters t)) ∙ ap (λ (xs : List Char). map (λ x. head_event.Body x) xs) same_body)
+  heads_given (At fault) heads =
+      ap (λ (xs : List Char). map (λ f. head_event.Found f) heads.findings ++ heads_told heads.book ∷ (map (λ x. head_event.Body x) xs ++ head_event.Stop fault ∷ [])) same_body
+
+  stop_given : (ending : InputEnding) (stop : HeadFault) (at_end : Bool)
+      → map (λ f. head_event.Found f) stop.findings ++ stop_events (head_fault_by ending at_end stop.fault) ≡ given_of ending t (Err (record stop { at_end = at_end }))
+  stop_given Whole stop true = refl
+  stop_given Whole stop false = refl
+  stop_given Broken stop true = refl
+  stop_given Broken stop false = refl
+  stop_given (At fault) stop true = refl
+  stop_given (At fault) stop false = refl
+
+  given_by : (ending : InputEnding) (r : Result Heads HeadFault) → head_events_by ending t r ≡ given_of ending t r
+  given_by ending (Ok heads) = heads_given ending heads
+  given_by ending (Err stop) = stop_given ending stop stop.at_end
+
+pub given_is : (limits : Limits) (ending : InputEnding) (t : List ℕ) → head_events limits ending t ≡ given_of ending t (heads_of limits t)
+given_is limits ending t = given_by t ending (heads_of limits t)

@@ -1,12 +1,14 @@
 -- Texts as their machine reads them and by their definition are the same, where no count of a body reaches its last value.
-use Rattle.std.proofs.Common.{◌≡◌, ℕ, ◌+◌, ◌<◌, ◌^◌, ◌==◌, Bool, true, false, if◌then◌else◌, List, [], ◌∷◌, length, refl, ap, ◌∙◌, arith, length-append, IsUtf8, ◌≤◌}
+use Rattle.std.proofs.Common.{◌≡◌, ℕ, ◌+◌, ◌<◌, ◌^◌, ◌==◌, Bool, true, false, if◌then◌else◌, List, [], ◌∷◌, ◌++◌, length, refl, sym, ap, subst, ◌∙◌, arith, length-append, take-append-drop, IsUtf8, ◌≤◌}
 use Rattle.std.specs.List.{list_any}
 use Rattle.std.specs.Str.{chars}
 use Rattle.std.proofs.lemmas.Str.{encodes-chars, length-encode, length-le-encodes}
 use lib.Utf8.{encode, encodes}
 use Rattle.gabc_places.specs.declared.place.Place.{Place}
 use Rattle.gabc_places.specs.declared.place.Char.{Char}
-use Rattle.gabc_places.specs.Place.{next_place, is_line_feed, placed_characters_from}
+use Rattle.gabc_places.specs.Place.{next_place, is_line_feed, place_after, place_past, placed_characters_from}
+use Rattle.gabc_places.proofs.PlacesOfAText.{behind_after}
+use Rattle.gabc_headers.specs.Heads.{head_len}
 use Rattle.gabc_text.specs.declared.stage.TextEvent.{TextEvent}
 use Rattle.gabc_text.specs.Events.{CountsFit, codes_of, events_by_point}
 use Rattle.gabc_text.specs.View.{bytes_of}
@@ -15,6 +17,7 @@ use Rattle.gabc_text.specs.TextStage.{fresh_stage}
 use Rattle.gabc_score.specs.declared.events.BodyEvent.{BodyEvent}
 use Rattle.gabc_score.specs.Events.{PartAhead, InComment, InText, InNotes, is_next, is_close, first_list, other_lists, events_in, snippet_from, next_line, behind_mark, part_at, part_behind, events_from, texts_by_definition}
 use Rattle.gabc_score.specs.BodyStage.{texts_by_stage}
+use Rattle.gabc_score.specs.Score.{heads_text, behind_heads}
 
 codes_placed : (at : Place) (t : List ℕ) → codes_of (placed_characters_from at t) ≡ t
 codes_placed at [] = refl
@@ -47,6 +50,18 @@ fits_behind_prefix at prefix bytes utf8 line column few =
       column = omega (arith, column, few, less, same);
       bytes = omega (arith, few, same, bytes_encodes (chars bytes));
     }
+
+fits_past : (at : Place) (prefix t : List ℕ) → CountsFit at (prefix ++ t) → CountsFit (place_past at prefix) t
+fits_past at [] t f = f
+fits_past at (c ∷ prefix) t f = fits_past (next_place at c) prefix t (fits_next at c (prefix ++ t) f)
+
+-- the body of a text fits behind its headers if the text has few bytes
+pub body_fits : (t : List ℕ) → length (encodes t) < 2 ^ 63 → CountsFit (place_after (heads_text t)) (behind_heads t)
+body_fits t few =
+    let less = length-le-encodes t in
+    let whole : CountsFit (place_after []) t = record { line = omega (arith, few, less); column = omega (arith, few, less); bytes = omega (arith, few, bytes_encodes t) } in
+    subst (λ p. CountsFit p (behind_heads t)) (behind_after [] (heads_text t))
+    (fits_past (place_after []) (heads_text t) (behind_heads t) (subst (CountsFit (place_after [])) (sym (take-append-drop (head_len t + 2) t)) whole))
 
 module _ (gives : (at : Place) (t : List ℕ) → CountsFit at t → events_left (fresh_stage at) t ≡ events_by_point at t) (lines macros : ℕ) where
   same_texts : (at from : Place) (t : List ℕ) → CountsFit at t → texts_by_stage at (placed_characters_from from t) ≡ texts_by_definition at (placed_characters_from from t)

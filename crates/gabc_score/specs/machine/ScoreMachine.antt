@@ -1,5 +1,8 @@
 -- What a machine over a score shows, and what holds of it between two calls.
-use Rattle.std.specs.Prelude.{◌≡◌, ◌≤◌, false, [], length}
+use Rattle.std.specs.Prelude.{◌≡◌, ℕ, ◌≤◌, false, [], length}
+use Rattle.std.specs.List.{All}
+use Rattle.gabc_score.specs.Canonical.{canonical}
+use Rattle.gabc_score.specs.Syllable.{UnplacedSyllable}
 use Rattle.gabc_score.specs.declared.score_machine.ScoreMachine.{ScoreMachine}
 use Rattle.gabc_score.specs.declared.score_machine.ScorePart.{ScorePart}
 use Rattle.gabc_score.specs.declared.score_machine.ScorePart.TheVariants as score_part
@@ -16,12 +19,19 @@ held_score m = record { next = m.next; gathered = m.pair.gathered; given = m.giv
 abbrev pub shown : ScoreMachine → ScoreStageState
 shown m = record { limits = m.limits; part = m.part; held = held_score m; body = m.body; first = m.pair.first; second = m.pair.second }
 
--- between two calls: nothing found is kept, and the slots are those of the limits
+-- a syllable is within the limit, its canonical text without the LF before it
+pub record IsShort (limit : ℕ) (m : UnplacedSyllable) : Type 0 where
+  pub kept : length m.kept ≤ limit
+  pub canonical : length (canonical false m) ≤ limit
+
+-- between two calls: nothing found is kept, the slots are those of the limits, and what is held is within them
 pub record IsAtRest (m : ScoreMachine) : Type 0 where
   pub none : m.found.items ≡ []
   pub room : 8 ≤ m.found.limit
   pub limit : m.pair.gathered.limit ≡ m.limits.syllable
   pub used : is_made m.pair.used ≡ false
+  pub over : m.pair.gathered.over ≡ false
+  pub short : All (IsShort m.limits.syllable) m.pair.gathered.made
 
 -- before the body nothing is gathered
 pub record IsBeforeBody (m : ScoreMachine) : Type 0 where

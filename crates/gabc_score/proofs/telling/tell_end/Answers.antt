@@ -4,6 +4,7 @@ use Rattle.gabc_places.specs.declared.code.Code.TheVariants.{W9, W11}
 use Rattle.gabc_score.specs.declared.score_event.ScoreEvent.TheVariants as event
 use Rattle.gabc_score.specs.ScoreEvents.{End}
 use Rattle.gabc_score.specs.machine.SlotPair.{lent_of}
+use Rattle.gabc_score.proofs.score_events.FewAndShortAreLent.{few_given}
 use Rattle.gabc_score.proofs.score_events.OutputsAreTold.{told, then_more, found_then, few_at_end, found_events}
 use Rattle.gabc_score.proofs.telling.tell_end.Goals as goal
 
@@ -27,4 +28,5 @@ returns c =
           (few_at_end fs _ _ c.args.has_last is_open c.requires.few) only_one out c.push.new.self
           (then_more out c.tell_code-2.new.out c.push.new.self (found_events (fs ++ (w9 ++ w11))) (lent_of n ++ event.End ∷ []) found
           (then_more c.tell_code-2.new.out c.tell_lent.new.out c.push.new.self (lent_of n) (event.End ∷ []) c.tell_lent.ensures c.push.ensures));
+      few = let most = c.give_all-count.ensures.most in let n = few_given c.give_all-count.result p.first p.second _ c.give_all-count.ensures.given in omega (arith, most, n);
     }

@@ -1,27 +1,22 @@
-use Rattle.std.proofs.Common.{List, ℕ, ◌∙◌, ap, sym}
-use Rattle.std.proofs.KnownBytes.{Appends-nil}
-use Rattle.gregorio.specs.Outcome.{outcome_of, lines_of, status_of}
-use Rattle.gregorio.proofs.RunsByOutcome.{runs_whole, runs_cut, runs_short, read_fault_broken}
+use Rattle.gregorio.proofs.RunsByOutcome.{runs_whole, runs_broken, runs_sunk, runs_short, runs_cut}
 use Rattle.gregorio.proofs.run.compile.Goals as goal
+
+pub returns-in_default-feed_all-clause-runs : goal.returns-in_default-feed_all-clause-runs
+returns-in_default-feed_all-clause-runs g c =
+    runs_short g.O.Sink.written g.O.Sink.failures g.M.Sink.written g.M.Sink.failures g.S.Source.remaining g.S.Source.failures c.args.job.now c.args.limits _ _ _ _ _ _ c.in-Ok.engine c.in-Ok.ensures.all c.in_default-feed_all.ensures.cut
+
+pub returns-in-Ok-send_waiting-clause-runs : goal.returns-in-Ok-send_waiting-clause-runs
+returns-in-Ok-send_waiting-clause-runs g c =
+    runs_whole g.O.Sink.written g.O.Sink.failures g.M.Sink.written g.M.Sink.failures g.S.Source.remaining g.S.Source.failures c.args.job.now c.args.limits _ _ _ _ _ _ _ _ c.in-Ok.engine c.feed_all.new.engine c.end_by-status.new.engine _ _ c.in-Ok.ensures.all c.in-Ok-feed_all.ensures.fed c.end_by-status.ensures c.in-Ok-send_waiting.ensures.all
+
+pub returns-in-Ok-send_waiting-clause-read_fault : goal.returns-in-Ok-send_waiting-clause-read_fault
+returns-in-Ok-send_waiting-clause-read_fault g c =
+    runs_broken g.O.Sink.written g.O.Sink.failures g.M.Sink.written g.M.Sink.failures g.S.Source.remaining g.S.Source.failures c.args.job.now c.args.limits _ _ _ _ _ _ c.in-Ok.engine c.feed_all.new.engine c.end_by-status.new.engine _ _ c.in-Ok.ensures.all c.in-Ok-feed_all.ensures.fed c.end_by-status.ensures
+
+pub returns-in-Ok-send_waiting-clause-write_fault : goal.returns-in-Ok-send_waiting-clause-write_fault
+returns-in-Ok-send_waiting-clause-write_fault g c = λ e.
+    absurd (runs_sunk g.O.Sink.written g.O.Sink.failures g.M.Sink.written g.M.Sink.failures g.S.Source.remaining g.S.Source.failures c.args.job.now c.args.limits _ _ _ _ _ _ c.in-Ok.engine c.feed_all.new.engine c.end_by-status.new.engine _ _ c.in-Ok.ensures.all c.in-Ok-feed_all.ensures.fed c.end_by-status.ensures e)
 
 pub returns-clause-runs : goal.returns-clause-runs
 returns-clause-runs g c =
-    let made = c.in-Ok-of.ensures ∙ ap (λ (x : List ℕ). outcome_of c.args.limits c.in-Ok.bytes.ending x) c.as_slice.ensures.value in
-    let lines = c.slice-2.ensures ∙ c.in-Ok-messages.ensures ∙ ap (λ (x : List ℕ). lines_of x c.args.job.now.all_warnings c.in-Ok-of.outcome.score) c.input_name-name.ensures in
-    runs_whole _ _ _ _ _ _ _ _ _ _ _ c.in-Ok.ensures.read made c.in_default-send_all.ensures.all (c.slice.ensures ∙ c.in-Ok-output.ensures) c.in_default-send_all-2.ensures.all lines c.status.ensures
-
-pub returns-in-Err-send_all-clause-runs : goal.returns-in-Err-send_all-clause-runs
-returns-in-Err-send_all-clause-runs g c =
-    let made = c.in-Ok-of.ensures ∙ ap (λ (x : List ℕ). outcome_of c.args.limits c.in-Ok.bytes.ending x) c.as_slice.ensures.value in
-    let lines = c.slice-2.ensures ∙ c.in-Ok-messages.ensures ∙ ap (λ (x : List ℕ). lines_of x c.args.job.now.all_warnings c.in-Ok-of.outcome.score) c.input_name-name.ensures in
-    runs_cut _ _ _ _ _ _ _ _ _ _ _ c.in-Ok.ensures.read made c.in_default-send_all.ensures.all (c.slice.ensures ∙ c.in-Ok-output.ensures) c.in-Err-send_all.ensures.prefix lines c.in-Err-send_all.ensures.fails
-
-pub returns-clause-read_fault : goal.returns-clause-read_fault
-returns-clause-read_fault g c =
-    let made = c.in-Ok-of.ensures ∙ ap (λ (x : List ℕ). outcome_of c.args.limits c.in-Ok.bytes.ending x) c.as_slice.ensures.value in
-    λ e. c.in-Ok.ensures.read.broken (read_fault_broken c.args.limits c.in-Ok.bytes.ending c.in-Ok.bytes.bytes.items (sym (c.status.ensures ∙ ap status_of made) ∙ e))
-
-pub returns-in-Err-clause-runs : goal.returns-in-Err-clause-runs
-returns-in-Err-clause-runs g c =
-    let made = c.in-Ok-of.ensures ∙ ap (λ (x : List ℕ). outcome_of c.args.limits c.in-Ok.bytes.ending x) c.as_slice.ensures.value in
-    runs_short c.args.job.now _ _ _ _ _ _ _ _ _ c.in-Ok.ensures.read made c.in-Err.ensures.prefix (c.slice.ensures ∙ c.in-Ok-output.ensures) (Appends-nil _) c.in-Err.ensures.fails
+    runs_cut g.O.Sink.written g.O.Sink.failures g.M.Sink.written g.M.Sink.failures g.S.Source.remaining g.S.Source.failures c.args.job.now c.args.limits _ _ _ _ _ _ _ _ c.in-Ok.engine c.feed_all.new.engine c.end_by-status.new.engine _ _ c.in-Ok.ensures.all c.in-Ok-feed_all.ensures.fed c.end_by-status.ensures c.in-Err.ensures.cut

@@ -1,7 +1,15 @@
-use Rattle.std.proofs.Common.{sym, ap, subst, ◌∙◌, arith}
+use Rattle.std.proofs.Common.{rules, ◌≡◌, ◌-◌, ◌++◌, ◌∷◌, [], List, None, length, not, take, refl, sym, ap, subst, ◌∙◌, append-nil, arith}
+use Rattle.std.specs.List.{All}
+use Rattle.std.proofs.lemmas.List.Elements.{All-drop, All-take}
+use Rattle.gabc_score.specs.Body.{fault_at}
+use Rattle.gabc_score.specs.ScoreEvents.{ScoreOutput, Stop, outputs_of}
+use Rattle.gabc_score.specs.ScoreStage.{IsWithin, Lends}
+use Rattle.gabc_score.specs.machine.ScoreMachine.{IsShort}
+use Rattle.gabc_score.specs.machine.ScoreStage.{placed_behind}
+use Rattle.gabc_score.proofs.score_events.FewAndShortAreLent.{short_now, held_lends, lends_these, not_over, placed_within}
 use Rattle.gabc_places.specs.declared.code.Finding.{Finding}
 use Rattle.gabc_places.specs.BoundedList.{BoundedList}
-use Rattle.gabc_score.specs.machine.BodyBuilder.{with_all}
+use Rattle.gabc_score.specs.machine.BodyBuilder.{code_in, with_all}
 use Rattle.gabc_score.specs.machine.Gatherer.{Gathered}
 use Rattle.gabc_score.specs.machine.PartCounts.{CountsHold}
 use Rattle.gabc_score.proofs.score_events.EventsStayWithinBounds.{few_found, limit_stays, within}
@@ -9,6 +17,41 @@ use Rattle.gabc_score.proofs.score_machine.ScoreMachine.read.Goals as goal
 
 pub tell_point-gave-requires-clause-few : goal.tell_point-gave-requires-clause-few
 tell_point-gave-requires-clause-few c = few_found c.args.self.now.found c.hold.new.found c.take.new.self.events c.requires.rests.rests.none c.hold.ensures.found c.take.ensures.events.few
+
+pub returns-in-Some-clause-gives : goal.returns-in-Some-clause-gives
+returns-in-Some-clause-gives c =
+    let held = c.hold.new.pair.held in
+    let rests = c.requires.rests.rests in
+    let same = c.hold.ensures.held ∙ c.free.ensures.held in
+    let fault = fault_at c.args.x.place c.in-Some.code in
+    record {
+      outs = outputs_of [] (placed_behind c.args.self.now.given held) ++ Stop fault ∷ [];
+      lends = held_lends c.args.self.now.limits 1 c.args.self.now.given held c.args.self.now.pair.gathered.made (Stop fault ∷ []) refl same rests.short c.stop.ensures.few (omega arith);
+      limits = c.stop.ensures.limits;
+      law = search rules;
+      told = c.stop.ensures.told;
+    }
+
+pub returns-after-self-clause-gives : goal.returns-after-self-clause-gives
+returns-after-self-clause-gives c =
+    let made = c.hold.new.pair.gathered.made in
+    let fs = c.hold.new.found.items in
+    let given = take (length made - 1) (placed_behind c.args.self.now.given made) in
+    let rests = c.requires.rests.rests in
+    let limits = c.args.self.now.limits in
+    let now = c.take.new.self.events in
+    let old = c.args.self.now.pair.gathered in
+    let is : c.hold.new.pair.gathered ≡ with_all old now = c.hold.ensures.gathered ∙ ap (λ (k : Gathered). with_all k now) c.free.ensures.gathered in
+    let none : code_in limits (with_all old now) ≡ None = sym (ap (code_in limits) is) ∙ (sym c.code.ensures.code ∙ c.in-None.is) in
+    let short : All (IsShort limits.syllable) made = subst (λ (k : Gathered). All (IsShort limits.syllable) k.made) (sym is) (short_now limits old now rests.limit rests.over rests.short none) in
+    let within : All (IsWithin limits) given = All-take (IsWithin limits) (length made - 1) (placed_behind c.args.self.now.given made) (placed_within limits (not c.args.self.now.given) made short) in
+    record {
+      outs = outputs_of fs given;
+      lends = subst (λ (outs : List ScoreOutput). Lends limits 1 outs) (append-nil (outputs_of fs given)) (lends_these limits 1 fs given [] refl c.tell_point-gave.ensures.few within);
+      limits = refl;
+      law = search rules;
+      told = c.tell_point-gave.ensures.told;
+    }
 
 pub returns-after-self-clause-rests : goal.returns-after-self-clause-rests
 returns-after-self-clause-rests c =
@@ -22,6 +65,10 @@ returns-after-self-clause-rests c =
     let room = old.rests.room in
     let same = ap (λ (k : Gathered). k.limit) t.gathered in
     let limit = ap (λ (k : Gathered). k.limit) h.gathered ∙ limit_stays c.free.new.self.gathered now ∙ ap (λ (k : Gathered). k.limit) c.free.ensures.gathered ∙ old.rests.limit in
+    let was = c.args.self.now.pair.gathered in
+    let is : g ≡ with_all was now = h.gathered ∙ ap (λ (k : Gathered). with_all k now) c.free.ensures.gathered in
+    let none : code_in c.args.self.now.limits (with_all was now) ≡ None = sym (ap (code_in c.args.self.now.limits) is) ∙ (sym c.code.ensures.code ∙ c.in-None.is) in
+    let short : All (IsShort c.args.self.now.limits.syllable) g.made = subst (λ (k : Gathered). All (IsShort c.args.self.now.limits.syllable) k.made) (sym is) (short_now c.args.self.now.limits was now old.rests.limit old.rests.over old.rests.short none) in
     let kept = within c.args.self.now.limits g (sym c.code.ensures.code ∙ c.in-None.is) in
     rw c.requires.part (record {
       rests = record {
@@ -29,6 +76,8 @@ returns-after-self-clause-rests c =
         room = omega (arith, limits, before, room);
         limit = same ∙ limit;
         used = t.used;
+        over = ap (λ (k : Gathered). k.over) t.gathered ∙ not_over c.args.self.now.limits g (sym c.code.ensures.code ∙ c.in-None.is);
+        short = subst (λ (k : Gathered). All (IsShort c.args.self.now.limits.syllable) k.made) (sym t.gathered) (All-drop (IsShort c.args.self.now.limits.syllable) (length g.made - 1) g.made short);
       };
       counts = subst (CountsHold c.take.new.self.part)
           (sym (ap (λ (k : Gathered). k.builder) t.gathered ∙ ap (λ (k : Gathered). k.builder) h.gathered ∙ ap (λ (k : Gathered). (with_all k now).builder) c.free.ensures.gathered))

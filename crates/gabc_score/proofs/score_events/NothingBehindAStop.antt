@@ -1,0 +1,23 @@
+-- Behind a stop a stage of scores gives nothing.
+use Rattle.std.proofs.Common.{◌≡◌, List, [], ◌∷◌, ◌++◌, ap}
+use Rattle.gabc_places.specs.StageLaw.{concat_of}
+use Rattle.gabc_places.specs.declared.code.Fault.{Fault}
+use Rattle.gabc_places.specs.declared.limits.Limits.{Limits}
+use Rattle.gabc_places.proofs.PushesAreOne.{joined_silence}
+use Rattle.gabc_headers.specs.declared.head_event.HeadEvent.{HeadEvent}
+use Rattle.gabc_headers.specs.declared.head_event.HeadEvent.TheVariants as head_event
+use Rattle.gabc_score.specs.BodyStage.{BodyStageState}
+use Rattle.gabc_score.specs.declared.score_machine.ScorePart.{ScorePart}
+use Rattle.gabc_score.specs.declared.score_machine.ScorePart.TheVariants as score_part
+use Rattle.gabc_score.specs.ScoreEvents.{ScoreOutput, Stop}
+use Rattle.gabc_score.specs.ScoreStage.{ScoreStageState, left_of}
+use Rattle.gabc_score.specs.machine.ScoreStage.{HeldScore, outputs_left, stop_outputs}
+
+by_part : (limits : Limits) (part : ScorePart) (s : HeldScore) (body : BodyStageState) (fault : Fault) (given : List HeadEvent)
+    → concat_of (outputs_left limits part s body (head_event.Stop fault ∷ given)) ≡ concat_of (outputs_left limits part s body (head_event.Stop fault ∷ []))
+by_part limits score_part.Heads s body fault given = ap (λ (more : List ScoreOutput). Stop fault ∷ more) (joined_silence {O = ScoreOutput} given)
+by_part limits score_part.Body s body fault given = ap (λ (more : List ScoreOutput). stop_outputs s fault ++ more) (joined_silence {O = ScoreOutput} given)
+by_part limits score_part.Over s body fault given = joined_silence {O = ScoreOutput} given
+
+pub nothing_behind : (s : ScoreStageState) (fault : Fault) (given : List HeadEvent) → concat_of (left_of s (head_event.Stop fault ∷ given)) ≡ concat_of (left_of s (head_event.Stop fault ∷ []))
+nothing_behind s fault given = by_part s.limits s.part s.held s.body fault given

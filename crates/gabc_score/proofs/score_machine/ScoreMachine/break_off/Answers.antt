@@ -1,0 +1,21 @@
+use Rattle.std.proofs.Common.{rules, List, [], refl, subst, append-nil, arith}
+use Rattle.gabc_score.specs.ScoreEvents.{ScoreOutput, outputs_of}
+use Rattle.gabc_score.specs.ScoreStage.{Lends}
+use Rattle.gabc_score.specs.machine.ScoreStage.{placed_behind}
+use Rattle.gabc_score.proofs.score_events.FewAndShortAreLent.{held_lends}
+use Rattle.gabc_score.proofs.score_machine.ScoreMachine.break_off.Goals as goal
+
+pub returns-clause-gives : goal.returns-clause-gives
+returns-clause-gives c =
+    let held = c.free.new.self.held in
+    let rests = c.requires.rests.rests in
+    let limits = c.args.self.now.limits in
+    let outs = outputs_of [] (placed_behind c.args.self.now.given held) in
+    record {
+      outs = outs;
+      lends = subst (λ (outs : List ScoreOutput). Lends limits 1 outs) (append-nil outs)
+          (held_lends limits 1 c.args.self.now.given held c.args.self.now.pair.gathered.made [] refl c.free.ensures.held rests.short c.tell_broken.ensures.few (omega arith));
+      limits = refl;
+      law = search rules;
+      told = c.tell_broken.ensures.told;
+    }

@@ -1,0 +1,150 @@
+-- An engine that has taken nothing will write what a run writes of its whole input.
+use Rattle.std.proofs.Common.{◌≡◌, ℕ, ◌*◌, ◌≤◌, ◌<◌, ◌^◌, List, [], ◌∷◌, ◌++◌, length, take, Bool, true, false, Option, Some, None, Result, Ok, Err, IfSome, refl, sym, ap, ◌∙◌, subst, arith, append-nil, encode_utf8_all}
+use Rattle.std.specs.Char.{IsScalar}
+use Rattle.std.specs.List.{All}
+use Rattle.gabc_places.specs.Decoder.{fault_items, items_of, known_of, known_at_end}
+use Rattle.gabc_places.specs.DecoderMachine.{DecoderState}
+use Rattle.gabc_places.specs.DecoderMachine as decoder
+use Rattle.gabc_places.specs.StageLaw.{concat_of}
+use Rattle.gabc_places.specs.Text.{decoded_of, text_of_bytes}
+use Rattle.gabc_places.specs.declared.code.Fault.{Fault}
+use Rattle.gabc_places.specs.declared.decoded.Decoded.{Decoded}
+use Rattle.gabc_places.specs.declared.limits.Limits.{Limits}
+use Rattle.gabc_places.specs.declared.place.Char.{Char}
+use Rattle.gabc_headers.specs.declared.head_event.HeadEvent.{HeadEvent}
+use Rattle.gabc_headers.specs.declared.heads.Heads.{Heads}
+use Rattle.gabc_headers.specs.declared.heads.HeadFault.{HeadFault}
+use Rattle.gabc_headers.specs.Heads.{heads_of}
+use Rattle.gabc_headers.specs.HeadEvents.{emitted_by, events_left, fresh_stage, given_behind, reading, stage_past}
+use Rattle.gabc_score.specs.BodyStage.{texts_by_stage}
+use Rattle.gabc_score.specs.Events.{texts_by_definition}
+use Rattle.gabc_score.specs.declared.ending.InputEnding.{InputEnding}
+use Rattle.gabc_score.specs.declared.ending.InputEnding.TheVariants as score_ending
+use Rattle.gabc_score.specs.declared.score.Score.{Score}
+use Rattle.gabc_score.specs.Score.{score_of, score_by}
+use Rattle.gabc_score.specs.ScoreEvents.{ScoreOutput, findings_in, syllables_in, fault_in, has_end, head_events, outputs_of_text, score_outputs, is_whole as is_whole_score}
+use Rattle.gabc_score.specs.ScoreStage.{ScoreStageState, AreCountsBelow, left_of}
+use Rattle.gregorio_jobs.specs.declared.job.Job.{Job}
+use Rattle.gregorio.specs.declared.run_part.RunPart.TheVariants as part
+use Rattle.gregorio.specs.declared.source_bytes.SourceEnding.{SourceEnding}
+use Rattle.gregorio.specs.declared.source_bytes.SourceEnding.TheVariants.{Whole as Ended, Broken}
+use Rattle.gregorio.specs.Outcome.{is_whole, is_cut_short, ending_by, outcome_of}
+use Rattle.gregorio.specs.Engine.{given_left, has_heads, outputs_from_heads, streams_given, streams_of_outcome}
+use Rattle.gregorio.specs.machine.ScoreWriter.{fresh_writer}
+use Rattle.gregorio.proofs.OutputsOfAFreshScore.{has_book, outputs_same}
+use Rattle.gregorio.proofs.StreamsOfAFreshEngine.{SaysScore, stops_at, streams_same}
+
+-- what the decoder gives, whether the input has ended or its source failed
+pub items_are : (d : DecoderState) (limits : Limits) → ((bytes more : List ℕ) → concat_of (take (length bytes) (decoder.events_left d (bytes ++ more))) ≡ known_of limits bytes)
+    → ((bytes : List ℕ) → concat_of (decoder.events_left d bytes) ≡ known_at_end limits bytes)
+    → (ending : SourceEnding) (bytes : List ℕ) → emitted_by (is_whole ending) bytes (decoder.events_left d bytes) ≡ items_of (decoded_of limits (is_whole ending) bytes)
+items_are d limits known at_end Ended bytes = at_end bytes
+items_are d limits known at_end Broken bytes = ap (λ (xs : List ℕ). concat_of (take (length bytes) (decoder.events_left d xs))) (sym (append-nil bytes)) ∙ known bytes []
+
+-- what a stage of headers gives of a text, by how its input ended
+pub record GivesHeads (limits : Limits) (t : List ℕ) : Type 0 where
+  pub whole : head_events limits score_ending.Whole t ≡ emitted_by true (given_behind [] t) (events_left limits (reading []) (given_behind [] t))
+  pub broken : head_events limits score_ending.Broken t ≡ emitted_by false (given_behind [] t) (events_left limits (reading []) (given_behind [] t))
+  pub stopped : (fault : Fault) (ended : Bool) → head_events limits (score_ending.At fault) t ≡ emitted_by ended (given_behind [] t ++ Err fault ∷ []) (events_left limits (reading []) (given_behind [] t ++ Err fault ∷ []))
+
+pub given_are : (limits : Limits) (ending : SourceEnding) (t : List ℕ) (stop : Option Fault) → GivesHeads limits t
+    → given_left (fresh_stage limits) ending (given_behind [] t ++ fault_items stop) ≡ head_events limits (ending_by ending stop) t
+given_are limits Ended t None g =
+    ap (λ (xs : List (Result Char Fault)). emitted_by true xs (events_left limits (reading []) xs)) (append-nil (given_behind [] t)) ∙ sym g.whole
+given_are limits Broken t None g =
+    ap (λ (xs : List (Result Char Fault)). emitted_by false xs (events_left limits (reading []) xs)) (append-nil (given_behind [] t)) ∙ sym g.broken
+given_are limits Ended t (Some fault) g = sym (g.stopped fault true)
+given_are limits Broken t (Some fault) g = sym (g.stopped fault false)
+
+-- the book is that of the headers, and where there is none there is no syllable
+book_by : (limits : Limits) (e : InputEnding) (t : List ℕ) (r : Result Heads HeadFault) (read : List (List ℕ × List ℕ)) → ((heads : Heads) → r ≡ Ok heads → read ≡ heads.book)
+    → IfSome (score_by limits e t r).book (λ book. read ≡ book) × ((score_by limits e t r).book ≡ None → (score_by limits e t r).syllables ≡ [])
+book_by limits e t (Ok heads) read is = (is heads refl, λ h. absurd (cc h))
+book_by limits e t (Err stop) read is = (tt, λ h. refl)
+
+-- what holds of a text and a stage of scores that has taken nothing
+pub record ReadsText (limits : Limits) (score : ScoreStageState) (e : InputEnding) (t : List ℕ) : Type 0 where
+  pub fresh : (xs : List HeadEvent) → AreCountsBelow xs → left_of score xs ≡ score_outputs texts_by_stage limits xs
+  pub counts : AreCountsBelow (head_events limits e t)
+  pub outputs : score_outputs texts_by_stage limits (head_events limits e t) ≡ score_outputs texts_by_definition limits (head_events limits e t)
+  pub says : SaysScore e (outputs_of_text limits e t) (score_of limits e t)
+  pub few : length (score_of limits e t).syllables < 2 ^ 64
+
+module _ (job : Job) (limits : Limits) (score : ScoreStageState) (ending : SourceEnding) (decoded : Decoded) (r : ReadsText limits score (ending_by ending decoded.fault) decoded.text)
+    (read : List (List ℕ × List ℕ)) (book : (heads : Heads) → heads_of limits decoded.text ≡ Ok heads → read ≡ heads.book) where
+  abbrev e : InputEnding
+  e = ending_by ending decoded.fault
+
+  abbrev given : List HeadEvent
+  given = head_events limits e decoded.text
+
+  abbrev made : Score
+  made = score_of limits e decoded.text
+
+  outs_are : outputs_from_heads score given ≡ outputs_of_text limits e decoded.text
+  outs_are = outputs_same limits score r.fresh e decoded.text (heads_of limits decoded.text) r.counts ∙ ap (λ (lists : List (List ScoreOutput)). concat_of lists) r.outputs
+
+  says : SaysScore e (outputs_from_heads score given) made
+  says = subst (λ (outs : List ScoreOutput). SaysScore e outs made) (sym outs_are) r.says
+
+  pub says_outcome : streams_given part.Heads score (fresh_writer job) read given ≡ streams_of_outcome job (record { score = made; broken = is_cut_short ending made.fault })
+  says_outcome =
+      let b = book_by limits e decoded.text (heads_of limits decoded.text) read book in
+      streams_same (fresh_writer job) refl refl ending decoded.fault (outputs_from_heads score given) made says (stops_at limits e decoded.text (heads_of limits decoded.text)) r.few
+      made.book read (has_heads given) (has_book limits e decoded.text (heads_of limits decoded.text)) b.0 b.1
+
+-- ---- by the laws of the crates below
+
+pub record LawsBelow : Type 0 where
+  pub scalars : (limit : ℕ) (bytes : List ℕ) → All IsScalar (text_of_bytes limit bytes)
+  pub short : (limit : ℕ) (bytes : List ℕ) → length (encode_utf8_all (text_of_bytes limit bytes)) ≤ limit
+  pub book : (limits : Limits) (t : List ℕ) (heads : Heads) (fault : Option Fault) → All IsScalar t → heads_of limits t ≡ Ok heads → (stage_past (fresh_stage limits) (given_behind [] t ++ fault_items fault)).book ≡ heads.book
+  pub whole : (limits : Limits) (t : List ℕ) → All IsScalar t → let xs = given_behind [] t in head_events limits score_ending.Whole t ≡ emitted_by true xs (events_left limits (reading []) xs)
+  pub broken : (limits : Limits) (t : List ℕ) → All IsScalar t → let xs = given_behind [] t in head_events limits score_ending.Broken t ≡ emitted_by false xs (events_left limits (reading []) xs)
+  pub stopped : (limits : Limits) (t : List ℕ) (fault : Fault) (ended : Bool) → All IsScalar t → let xs = given_behind [] t ++ Err fault ∷ [] in head_events limits (score_ending.At fault) t ≡ emitted_by ended xs (events_left limits (reading []) xs)
+  pub counts : (limits : Limits) (e : InputEnding) (t : List ℕ) → length (encode_utf8_all t) < 2 ^ 63 → AreCountsBelow (head_events limits e t)
+  pub outputs : (limits : Limits) (e : InputEnding) (t : List ℕ) → length (encode_utf8_all t) < 2 ^ 63
+      → score_outputs texts_by_stage limits (head_events limits e t) ≡ score_outputs texts_by_definition limits (head_events limits e t)
+  pub findings : (limits : Limits) (e : InputEnding) (t : List ℕ) → findings_in (outputs_of_text limits e t) ≡ (score_of limits e t).findings
+  pub syllables : (limits : Limits) (e : InputEnding) (t : List ℕ) → syllables_in (outputs_of_text limits e t) ≡ (score_of limits e t).syllables
+  pub fault : (limits : Limits) (e : InputEnding) (t : List ℕ) → fault_in (outputs_of_text limits e t) ≡ (score_of limits e t).fault
+  pub end : (limits : Limits) (e : InputEnding) (t : List ℕ) → has_end (outputs_of_text limits e t) ≡ is_whole_score e (score_of limits e t).fault
+  pub few : (limits : Limits) (e : InputEnding) (t : List ℕ) → 2 * length (score_of limits e t).syllables ≤ limits.input
+
+module _ (below : LawsBelow) (job : Job) (limits : Limits) (d : DecoderState) (score : ScoreStageState)
+    (known : (bytes more : List ℕ) → concat_of (take (length bytes) (decoder.events_left d (bytes ++ more))) ≡ known_of limits bytes)
+    (at_end : (bytes : List ℕ) → concat_of (decoder.events_left d bytes) ≡ known_at_end limits bytes)
+    (fresh : (xs : List HeadEvent) → AreCountsBelow xs → left_of score xs ≡ score_outputs texts_by_stage limits xs) where
+  reads : (e : InputEnding) (bytes : List ℕ) → ReadsText limits score e (text_of_bytes limits.input bytes)
+  reads e bytes =
+      let t = text_of_bytes limits.input bytes in
+      let most = limits.in_range.input_most in
+      let short : length (encode_utf8_all t) ≤ limits.input = below.short limits.input bytes in
+      let small : length (encode_utf8_all t) < 2 ^ 63 = omega (arith, short, most) in
+      let few : 2 * length (score_of limits e t).syllables ≤ limits.input = below.few limits e t in
+      record {
+        fresh = fresh;
+        counts = below.counts limits e t small;
+        outputs = below.outputs limits e t small;
+        says = record {
+          findings = below.findings limits e t;
+          syllables = below.syllables limits e t;
+          fault = below.fault limits e t;
+          end = below.end limits e t;
+        };
+        few = omega (arith, few, most);
+      }
+
+  pub streams_are : (bytes : List ℕ) (ending : SourceEnding)
+      → (let items = emitted_by (is_whole ending) bytes (decoder.events_left d bytes) in
+      streams_given part.Heads score (fresh_writer job) (stage_past (fresh_stage limits) items).book (given_left (fresh_stage limits) ending items))
+      ≡ streams_of_outcome job (outcome_of limits ending bytes)
+  streams_are bytes ending =
+      let decoded = decoded_of limits (is_whole ending) bytes in
+      let t = decoded.text in
+      let xs = given_behind [] t ++ fault_items decoded.fault in
+      let scalars : All IsScalar t = below.scalars limits.input bytes in
+      let gives : GivesHeads limits t = record { whole = below.whole limits t scalars; broken = below.broken limits t scalars; stopped = λ fault ended. below.stopped limits t fault ended scalars } in
+      ap (λ (items : List (Result Char Fault)). streams_given part.Heads score (fresh_writer job) (stage_past (fresh_stage limits) items).book (given_left (fresh_stage limits) ending items)) (items_are d limits known at_end ending bytes)
+      ∙ (ap (λ (given : List HeadEvent). streams_given part.Heads score (fresh_writer job) (stage_past (fresh_stage limits) xs).book given) (given_are limits ending t decoded.fault gives)
+      ∙ says_outcome job limits score ending decoded (reads (ending_by ending decoded.fault) bytes) (stage_past (fresh_stage limits) xs).book (λ heads h. below.book limits t heads decoded.fault scalars h))

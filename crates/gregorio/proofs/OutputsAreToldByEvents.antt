@@ -1,0 +1,99 @@
+-- The events of a stage, with the syllables that it lends, tell its outputs.
+use Rattle.std.proofs.Common.{◌≡◌, ℕ, zero, suc, List, [], ◌∷◌, ◌++◌, map, length, take, refl, sym, ap, ◌∙◌, append_assoc}
+use Rattle.gabc_places.specs.BoundedList.{BoundedList, extended_by}
+use Rattle.gabc_places.specs.StageLaw.{concat_of, EmitsNothing, StopsAtEnd}
+use Rattle.gabc_headers.specs.declared.head_event.HeadEvent.{HeadEvent}
+use Rattle.gabc_score.specs.declared.score_event.LentSyllable.{LentSyllable}
+use Rattle.gabc_score.specs.declared.score_event.LentSyllable.TheVariants.{Second}
+use Rattle.gabc_score.specs.declared.score_event.ScoreEvent.{ScoreEvent}
+use Rattle.gabc_score.specs.declared.score_event.ScoreEvent.TheVariants as event
+use Rattle.gabc_score.specs.ScoreEvents.{ScoreOutput, Found, Stop, Syllable, End, syllables_in}
+use Rattle.gabc_score.specs.ScoreStage.{ScoreStageState, events_lent, events_of, is_last_event, left_of, events_left}
+use Rattle.gabc_score.specs.Syllable.{PlacedSyllable}
+use Rattle.gregorio.specs.machine.ScoreWriter.{told_by}
+use Rattle.gregorio.proofs.WhatIsToldIsStillToBeWritten.{EndsAtLast, no_item}
+
+abbrev head_or : PlacedSyllable → List PlacedSyllable → PlacedSyllable
+head_or d [] = d
+head_or d (x ∷ xs) = x
+
+abbrev tail_of : List PlacedSyllable → List PlacedSyllable
+tail_of [] = []
+tail_of (x ∷ xs) = xs
+
+take_none : (n : ℕ) → take {A = PlacedSyllable} n [] ≡ []
+take_none zero = refl
+take_none (suc n) = refl
+
+-- ---- what is told
+
+module _ (s : ScoreStageState) where
+  told_none : (outs : List ScoreOutput) → syllables_in outs ≡ [] → told_by s (events_lent Second outs) ≡ outs
+  told_none [] h = refl
+  told_none (Found f ∷ outs) h = ap (λ (l : List ScoreOutput). Found f ∷ l) (told_none outs h)
+  told_none (Stop fault ∷ outs) h = ap (λ (l : List ScoreOutput). Stop fault ∷ l) (told_none outs h)
+  told_none (Syllable x ∷ outs) h = no_item x (syllables_in outs) h
+  told_none (End ∷ outs) h = ap (λ (l : List ScoreOutput). End ∷ l) (told_none outs h)
+
+  told_second : (outs : List ScoreOutput) → syllables_in outs ≡ take (length (syllables_in outs)) (s.second ∷ []) → told_by s (events_lent Second outs) ≡ outs
+  told_second [] h = refl
+  told_second (Found f ∷ outs) h = ap (λ (l : List ScoreOutput). Found f ∷ l) (told_second outs h)
+  told_second (Stop fault ∷ outs) h = ap (λ (l : List ScoreOutput). Stop fault ∷ l) (told_second outs h)
+  told_second (Syllable x ∷ outs) h =
+      ap (λ (y : PlacedSyllable). Syllable y ∷ told_by s (events_lent Second outs)) (sym (ap (head_or x) h))
+      ∙ ap (λ (l : List ScoreOutput). Syllable x ∷ l) (told_none outs (ap tail_of h ∙ take_none (length (syllables_in outs))))
+  told_second (End ∷ outs) h = ap (λ (l : List ScoreOutput). End ∷ l) (told_second outs h)
+
+  pub told_is : (outs : List ScoreOutput) → syllables_in outs ≡ take (length (syllables_in outs)) (s.first ∷ s.second ∷ []) → told_by s (events_of outs) ≡ outs
+  told_is [] h = refl
+  told_is (Found f ∷ outs) h = ap (λ (l : List ScoreOutput). Found f ∷ l) (told_is outs h)
+  told_is (Stop fault ∷ outs) h = ap (λ (l : List ScoreOutput). Stop fault ∷ l) (told_is outs h)
+  told_is (Syllable x ∷ outs) h =
+      ap (λ (y : PlacedSyllable). Syllable y ∷ told_by s (events_lent Second outs)) (sym (ap (head_or x) h))
+      ∙ ap (λ (l : List ScoreOutput). Syllable x ∷ l) (told_second outs (ap tail_of h))
+  told_is (End ∷ outs) h = ap (λ (l : List ScoreOutput). End ∷ l) (told_is outs h)
+
+-- ---- how many
+
+pub as_many_told : (lent : LentSyllable) (outs : List ScoreOutput) → length (events_lent lent outs) ≡ length outs
+as_many_told lent [] = refl
+as_many_told lent (Found f ∷ outs) = ap suc (as_many_told lent outs)
+as_many_told lent (Stop fault ∷ outs) = ap suc (as_many_told lent outs)
+as_many_told lent (Syllable x ∷ outs) = ap suc (as_many_told Second outs)
+as_many_told lent (End ∷ outs) = ap suc (as_many_told lent outs)
+
+none_told : (lent : LentSyllable) (outs : List ScoreOutput) → events_lent lent outs ≡ [] → outs ≡ []
+none_told lent [] h = refl
+none_told lent (Found f ∷ outs) h = no_item _ _ h
+none_told lent (Stop fault ∷ outs) h = no_item _ _ h
+none_told lent (Syllable x ∷ outs) h = no_item _ _ h
+none_told lent (End ∷ outs) h = no_item _ _ h
+
+-- ---- where they stop
+
+module _ {P : Type 0} (after : List HeadEvent → List (List ScoreEvent)) (old new : BoundedList ScoreEvent) (stops : StopsAtEnd is_last_event after old new) (says : EmitsNothing after → P) where
+  one_on : (before : List ScoreEvent) (x : ScoreEvent) (behind : List ScoreEvent) → new ≡ extended_by old (before ++ x ∷ behind) → new ≡ extended_by old ((before ++ x ∷ []) ++ behind)
+  one_on before x behind e = e ∙ ap (λ (l : List ScoreEvent). extended_by old l) (sym (append_assoc before (x ∷ []) behind))
+
+  pub ends_at_last : (lent : LentSyllable) (before : List ScoreEvent) (outs : List ScoreOutput) → new ≡ extended_by old (before ++ events_lent lent outs) → EndsAtLast P outs
+  ends_at_last lent before [] e = tt
+  ends_at_last lent before (Found f ∷ outs) e = ends_at_last lent (before ++ event.Found f ∷ []) outs (one_on before (event.Found f) (events_lent lent outs) e)
+  ends_at_last lent before (Stop fault ∷ outs) e =
+      let r = stops before (events_lent lent outs) (event.Stop fault) e refl in
+      (none_told lent outs r.0, says r.1)
+  ends_at_last lent before (Syllable x ∷ outs) e = ends_at_last Second (before ++ event.Syllable lent ∷ []) outs (one_on before (event.Syllable lent) (events_lent Second outs) e)
+  ends_at_last lent before (End ∷ outs) e =
+      let r = stops before (events_lent lent outs) event.End e refl in
+      (none_told lent outs r.0, says r.1)
+
+nothing_told : (lists : List (List ScoreOutput)) → concat_of (map (λ outs. events_of outs) lists) ≡ [] → concat_of lists ≡ []
+nothing_told [] h = refl
+nothing_told ([] ∷ lists) h = nothing_told lists h
+nothing_told ((Found f ∷ outs) ∷ lists) h = no_item _ _ h
+nothing_told ((Stop fault ∷ outs) ∷ lists) h = no_item _ _ h
+nothing_told ((Syllable x ∷ outs) ∷ lists) h = no_item _ _ h
+nothing_told ((End ∷ outs) ∷ lists) h = no_item _ _ h
+
+-- a stage that emits no event has no output left
+pub nothing_left : (s : ScoreStageState) (xs : List HeadEvent) → EmitsNothing (events_left s) → concat_of (left_of s xs) ≡ []
+nothing_left s xs h = nothing_told (left_of s xs) (h xs)

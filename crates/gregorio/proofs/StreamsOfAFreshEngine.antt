@@ -1,0 +1,182 @@
+-- What a fresh engine will write of an input is what a run writes of it as a whole.
+use Rattle.std.proofs.Common.{◌≡◌, ℕ, ◌+◌, ◌<◌, ◌^◌, List, [], ◌∷◌, ◌++◌, length, Bool, true, false, not, ◌||◌, Option, Some, None, is_some, Result, Ok, Err, if◌then◌else◌, refl, ap, ◌∙◌, arith, codes, encode_utf8_all, IfSome}
+use Rattle.std.proofs.lemmas.Bool.{false≢true, true≢false}
+use Rattle.std.proofs.lemmas.Bool.Decides.{nat_tests}
+use Rattle.std.specs.List.{flat_map}
+use Rattle.gabc_places.specs.declared.code.Fault.{Fault}
+use Rattle.gabc_places.specs.declared.code.Finding.{Finding}
+use Rattle.gabc_places.specs.declared.limits.Limits.{Limits}
+use Rattle.gabc_headers.specs.declared.heads.Heads.{Heads}
+use Rattle.gabc_headers.specs.declared.heads.HeadFault.{HeadFault}
+use Rattle.gabc_headers.specs.Canonical.{canonical_heads}
+use Rattle.gabc_score.specs.Canonical.{canonical_in_place}
+use Rattle.gabc_score.specs.declared.ending.InputEnding.{InputEnding}
+use Rattle.gabc_score.specs.declared.ending.InputEnding.TheVariants as score_ending
+use Rattle.gabc_score.specs.declared.score.Score.{Score}
+use Rattle.gabc_headers.specs.Book.{nabc_lines_of}
+use Rattle.gabc_headers.specs.Lines.{bytes_len}
+use Rattle.gabc_places.specs.Place.{place_after, placed_characters_behind}
+use Rattle.gabc_places.specs.declared.place.Char.{Char}
+use Rattle.gabc_score.specs.Events.{body_events}
+use Rattle.gabc_score.specs.Score.{score_by, head_fault_by, macros_of, behind_heads, heads_text as heads_text_of}
+use Rattle.gabc_score.specs.Body.{body_of, events_to_stop, result_by}
+use Rattle.gabc_score.specs.declared.events.BodyEvent.{BodyEvent}
+use Rattle.gabc_places.specs.declared.place.Place.{Place}
+use Rattle.gabc_score.specs.ScoreEvents.{ScoreOutput, findings_in, syllables_in, fault_in, has_end, is_whole as is_whole_score}
+use Rattle.gabc_score.specs.Syllable.{PlacedSyllable}
+use Rattle.gabc_write.specs.DumpOfSyllables.{lines_of_syllable, lines_of_syllables}
+use Rattle.gregorio_jobs.specs.declared.job.Format.{Format}
+use Rattle.gregorio_jobs.specs.declared.job.Format.TheVariants.{Gabc, Dump}
+use Rattle.gregorio_jobs.specs.declared.job.Status.{Status}
+use Rattle.gregorio.specs.declared.source_bytes.SourceEnding.{SourceEnding}
+use Rattle.gregorio.specs.declared.source_bytes.SourceEnding.TheVariants.{Whole as Ended, Broken}
+use Rattle.gregorio.specs.Outcome.{ending_by, is_cut_short, text_in, output_by, fault_line, shown_line, lines_of, status_by, status_with}
+use Rattle.gregorio.specs.Engine.{Streams, Written, heads_text, last_text, next_number, texts_behind, count_behind, has_errors, status_in, streams_in}
+
+-- ---- numbers
+
+next_is : (n : ℕ) → n + 1 < 2 ^ 64 → next_number n ≡ n + 1
+next_is n h = grind (arith, nat_tests)
+
+-- no count saturates where there are fewer syllables than that
+pub count_is : (n : ℕ) (ss : List PlacedSyllable) → n + length ss < 2 ^ 64 → count_behind n ss ≡ n + length ss
+count_is n [] h = omega arith
+count_is n (s ∷ ss) h =
+    let e = next_is n (omega (arith, h)) in
+    ap (λ (k : ℕ). count_behind k ss) e ∙ (count_is (n + 1) ss (omega (arith, h)) ∙ omega arith)
+
+lines_are : (n : ℕ) (ss : List PlacedSyllable) → n + length ss < 2 ^ 64 → texts_behind Dump n ss ≡ lines_of_syllables (n + 1) ss
+lines_are n [] h = refl
+lines_are n (s ∷ ss) h =
+    let e = next_is n (omega (arith, h)) in
+    ap (λ (k : ℕ). lines_of_syllable k s ++ texts_behind Dump k ss) e ∙ ap (λ (t : List ℕ). lines_of_syllable (n + 1) s ++ t) (lines_are (n + 1) ss (omega (arith, h)))
+
+canonical_are : (n : ℕ) (ss : List PlacedSyllable) → texts_behind Gabc n ss ≡ flat_map canonical_in_place ss
+canonical_are n [] = refl
+canonical_are n (s ∷ ss) = ap (λ (t : List ℕ). canonical_in_place s ++ t) (canonical_are (next_number n) ss)
+
+-- the text behind the headers
+pub text_is : (format : Format) (whole : Bool) (book : List (List ℕ × List ℕ)) (ss : List PlacedSyllable) → length ss < 2 ^ 64
+    → heads_text format book ++ (texts_behind format 0 ss ++ last_text format whole (count_behind 0 ss)) ≡ text_in format whole book ss
+text_is Gabc whole book ss h = ap (λ (t : List ℕ). encode_utf8_all (canonical_heads book) ++ (t ++ codes "\n")) (canonical_are 0 ss)
+text_is Dump whole book ss h =
+    ap (λ (t : List ℕ). heads_text Dump book ++ (t ++ last_text Dump whole (count_behind 0 ss))) (lines_are 0 ss (omega (arith, h)))
+    ∙ ap (λ (n : ℕ). heads_text Dump book ++ (lines_of_syllables 1 ss ++ last_text Dump whole n)) (count_is 0 ss (omega (arith, h)) ∙ (let z : 0 + length ss ≡ length ss = omega arith in z))
+
+-- ---- how a run ended
+
+-- a fault that stopped the text is one of the score, or another is
+abbrev StopsAt : InputEnding → Option Fault → Type 0
+StopsAt (score_ending.At fault) None = ⊥
+StopsAt (score_ending.At fault) (Some other) = Unit {0}
+StopsAt score_ending.Whole o = Unit {0}
+StopsAt score_ending.Broken o = Unit {0}
+
+-- whether a score is whole is what the outcome says
+pub whole_is : (ending : SourceEnding) (stop o : Option Fault) → StopsAt (ending_by ending stop) o → is_whole_score (ending_by ending stop) o ≡ not (is_some o || is_cut_short ending o)
+whole_is Ended (Some f) (Some g) h = refl
+whole_is Broken (Some f) (Some g) h = refl
+whole_is Ended (Some f) None h = absurd h
+whole_is Broken (Some f) None h = absurd h
+whole_is Ended None None h = refl
+whole_is Ended None (Some g) h = refl
+whole_is Broken None None h = refl
+whole_is Broken None (Some g) h = refl
+
+pub status_is : (ending : SourceEnding) (stop o : Option Fault) (errors : Bool) → StopsAt (ending_by ending stop) o
+    → status_by o (if is_whole_score (ending_by ending stop) o then false else true) errors ≡ status_by o (is_cut_short ending o) errors
+status_is Ended (Some f) (Some g) errors h = refl
+status_is Broken (Some f) (Some g) errors h = refl
+status_is Ended (Some f) None errors h = absurd h
+status_is Broken (Some f) None errors h = absurd h
+status_is Ended None None errors h = refl
+status_is Ended None (Some g) errors h = refl
+status_is Broken None None errors h = refl
+status_is Broken None (Some g) errors h = refl
+
+-- a score whose text a fault stops has a fault
+stops_by : (limits : Limits) (head : ℕ) (found : List Finding) (at : Place) (fault : Fault) (before last : List BodyEvent) (o : Option Fault)
+    → StopsAt (score_ending.At fault) (result_by limits head found at (score_ending.At fault) before last o).fault
+stops_by limits head found at fault before last (Some f) = tt
+stops_by limits head found at fault before last None = tt
+
+body_stops : (limits : Limits) (head : ℕ) (found : List Finding) (at : Place) (fault : Fault) (xs : List Char) (lists : List (List BodyEvent))
+    → StopsAt (score_ending.At fault) (body_of limits head found at (score_ending.At fault) xs lists).fault
+body_stops limits head found at fault xs lists =
+    let r = events_to_stop limits head [] xs lists in
+    stops_by limits head found at fault r.before r.last r.fault
+
+pub stops_at : (limits : Limits) (ending : InputEnding) (t : List ℕ) (r : Result Heads HeadFault) → StopsAt ending (score_by limits ending t r).fault
+stops_at limits score_ending.Whole t r = tt
+stops_at limits score_ending.Broken t r = tt
+stops_at limits (score_ending.At fault) t (Ok heads) =
+    let xs = placed_characters_behind (heads_text_of t) (behind_heads t) in
+    body_stops limits (bytes_len (canonical_heads heads.book)) heads.findings (place_after t) fault xs (body_events (nabc_lines_of heads.book) (macros_of heads.book) xs)
+stops_at limits (score_ending.At fault) t (Err stop) = by stop.at_end
+  where
+    by : (at_end : Bool) → StopsAt (score_ending.At fault) (head_fault_by (score_ending.At fault) at_end stop.fault)
+    by true = tt
+    by false = tt
+
+-- ---- the streams
+
+abbrev streams_of : List ℕ → List ℕ → Status → Streams
+streams_of output messages status = record { output = output; messages = messages; status = status }
+
+-- what outputs say of a score
+pub record SaysScore (ending : InputEnding) (outs : List ScoreOutput) (score : Score) : Type 0 where
+  pub findings : findings_in outs ≡ score.findings
+  pub syllables : syllables_in outs ≡ score.syllables
+  pub fault : fault_in outs ≡ score.fault
+  pub end : has_end outs ≡ is_whole_score ending score.fault
+
+module _ (w : Written) (format : w.count ≡ 0) (no_error : w.errors ≡ false) (ending : SourceEnding) (stop : Option Fault) (outs : List ScoreOutput) (score : Score)
+    (says : SaysScore (ending_by ending stop) outs score) (stops : StopsAt (ending_by ending stop) score.fault) (few : length score.syllables < 2 ^ 64) where
+  messages_are : flat_map (shown_line w.name w.all_warnings) (findings_in outs) ++ fault_line w.name (fault_in outs) ≡ lines_of w.name w.all_warnings score
+  messages_are =
+      ap (λ (fs : List Finding). flat_map (shown_line w.name w.all_warnings) fs ++ fault_line w.name (fault_in outs)) says.findings
+      ∙ ap (λ (o : Option Fault). flat_map (shown_line w.name w.all_warnings) score.findings ++ fault_line w.name o) says.fault
+
+  status_same : status_in (w.errors || has_errors (findings_in outs)) outs ≡ status_with score (is_cut_short ending score.fault)
+  status_same =
+      ap (λ (b : Bool). status_in (b || has_errors (findings_in outs)) outs) no_error
+      ∙ (ap (λ (fs : List Finding). status_by (fault_in outs) (if has_end outs then false else true) (has_errors fs)) says.findings
+      ∙ (ap (λ (o : Option Fault). status_by o (if has_end outs then false else true) (has_errors score.findings)) says.fault
+      ∙ (ap (λ (b : Bool). status_by score.fault (if b then false else true) (has_errors score.findings)) says.end
+      ∙ status_is ending stop score.fault (has_errors score.findings) stops)))
+
+  whole_same : has_end outs ≡ not (is_some score.fault || is_cut_short ending score.fault)
+  whole_same = says.end ∙ whole_is ending stop score.fault stops
+
+  -- with headers
+  output_with : (book : List (List ℕ × List ℕ)) → heads_text w.format book ++ (texts_behind w.format w.count (syllables_in outs) ++ last_text w.format (has_end outs) (count_behind w.count (syllables_in outs)))
+      ≡ text_in w.format (not (is_some score.fault || is_cut_short ending score.fault)) book score.syllables
+  output_with book =
+      ap (λ (n : ℕ). heads_text w.format book ++ (texts_behind w.format n (syllables_in outs) ++ last_text w.format (has_end outs) (count_behind n (syllables_in outs)))) format
+      ∙ (ap (λ (ss : List PlacedSyllable). heads_text w.format book ++ (texts_behind w.format 0 ss ++ last_text w.format (has_end outs) (count_behind 0 ss))) says.syllables
+      ∙ (ap (λ (b : Bool). heads_text w.format book ++ (texts_behind w.format 0 score.syllables ++ last_text w.format b (count_behind 0 score.syllables))) whole_same
+      ∙ text_is w.format (not (is_some score.fault || is_cut_short ending score.fault)) book score.syllables few))
+
+  output_without : score.syllables ≡ [] → texts_behind w.format w.count (syllables_in outs) ++ [] ≡ []
+  output_without none = ap (λ (ss : List PlacedSyllable). texts_behind w.format w.count ss ++ []) (says.syllables ∙ none)
+
+  same : (one other : List ℕ) → one ≡ other
+      → streams_of one (flat_map (shown_line w.name w.all_warnings) (findings_in outs) ++ fault_line w.name (fault_in outs)) (status_in (w.errors || has_errors (findings_in outs)) outs)
+      ≡ streams_of other (lines_of w.name w.all_warnings score) (status_with score (is_cut_short ending score.fault))
+  same one other e =
+      ap (λ (t : List ℕ). streams_of t (flat_map (shown_line w.name w.all_warnings) (findings_in outs) ++ fault_line w.name (fault_in outs)) (status_in (w.errors || has_errors (findings_in outs)) outs)) e
+      ∙ (ap (λ (t : List ℕ). streams_of other t (status_in (w.errors || has_errors (findings_in outs)) outs)) messages_are
+      ∙ ap (λ (s : Status). streams_of other (lines_of w.name w.all_warnings score) s) status_same)
+
+  -- the headers are a book, which `read` is, or there is none and no syllable
+  pub streams_same : (o : Option (List (List ℕ × List ℕ))) (read : List (List ℕ × List ℕ)) (headed : Bool) → headed ≡ is_some o → IfSome o (λ book. read ≡ book) → (o ≡ None → score.syllables ≡ [])
+      → streams_in w (if headed then heads_text w.format read else []) headed outs
+      ≡ record {
+        output = output_by w.format (not (is_some score.fault || is_cut_short ending score.fault)) o score.syllables;
+        messages = lines_of w.name w.all_warnings score;
+        status = status_with score (is_cut_short ending score.fault);
+      }
+  streams_same (Some book) read true h e none = same _ _ (ap (λ (b : List (List ℕ × List ℕ)). heads_text w.format b ++ (texts_behind w.format w.count (syllables_in outs) ++ last_text w.format (has_end outs) (count_behind w.count (syllables_in outs)))) e ∙ output_with book)
+  streams_same None read false h e none = same _ _ (output_without (none refl))
+  streams_same (Some book) read false h e none = absurd (false≢true h)
+  streams_same None read true h e none = absurd (true≢false h)

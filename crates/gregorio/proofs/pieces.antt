@@ -1,0 +1,8 @@
+-- What an engine writes of the pieces of its input.
+pub mod BytesAreJoined
+pub mod EventsAreWritten
+pub mod RoomIsLeft
+pub mod ItemsAreRead
+pub mod HeadersAreRead
+pub mod BytesAreTaken
+pub mod InputsAreEnded

@@ -1,0 +1,31 @@
+-- What is written in two steps is what is written in one.
+use Rattle.std.proofs.Common.{◌≡◌, ℕ, List, [], ◌++◌, ap, sym, ◌∙◌, append_assoc, append-nil}
+use Rattle.std.proofs.lemmas.List.{append_cancel_left}
+use Rattle.gabc_places.specs.BoundedList.{BoundedList, extended_by}
+use Rattle.gregorio.specs.Engine.{Streams, behind_bytes}
+use Rattle.gregorio_jobs.specs.declared.job.Status.{Status}
+
+pub behind_both : (output lines more_output more_lines : List ℕ) (s : Streams) → behind_bytes (output ++ more_output) (lines ++ more_lines) s ≡ behind_bytes output lines (behind_bytes more_output more_lines s)
+behind_both output lines more_output more_lines s =
+    ap (λ (o : List ℕ). record s { output = o; messages = (lines ++ more_lines) ++ s.messages }) (append_assoc output more_output s.output)
+    ∙ ap (λ (l : List ℕ). record s { output = output ++ (more_output ++ s.output); messages = l }) (append_assoc lines more_lines s.messages)
+
+pub same_streams : (s t : Streams) → s.output ≡ t.output → s.messages ≡ t.messages → s.status ≡ t.status → s ≡ t
+same_streams s t output messages status =
+    ap (λ (o : List ℕ). record s { output = o }) output
+    ∙ (ap (λ (l : List ℕ). record s { output = t.output; messages = l }) messages
+    ∙ ap (λ (x : Status). record t { status = x }) status)
+
+-- what stands behind the same bytes is the same
+pub behind_same : (output lines : List ℕ) (s t : Streams) → behind_bytes output lines s ≡ behind_bytes output lines t → s ≡ t
+behind_same output lines s t e = same_streams s t
+    (append_cancel_left output s.output t.output (ap (λ (x : Streams). x.output) e))
+    (append_cancel_left lines s.messages t.messages (ap (λ (x : Streams). x.messages) e))
+    (ap (λ (x : Streams). x.status) e)
+
+pub extended_by_none : {T : Type 0} (r : BoundedList T) → r ≡ extended_by r []
+extended_by_none r = ap (λ (xs : List _). record r { items = xs }) (sym (append-nil r.items))
+
+pub extended_by_both : {T : Type 0} (r s t : BoundedList T) (xs ys : List T) → s ≡ extended_by r xs → t ≡ extended_by s ys → t ≡ extended_by r (xs ++ ys)
+extended_by_both r s t xs ys first second =
+    second ∙ (ap (λ (x : BoundedList _). extended_by x ys) first ∙ ap (λ (items : List _). record r { items = items }) (append_assoc r.items xs ys))

@@ -1,0 +1,93 @@
+-- Events that are taken one after the other are written one after the other.
+use Rattle.std.proofs.Common.{◌≡◌, ℕ, List, [], ◌∷◌, ◌++◌, length, drop, slice_index_or, ◌+◌, ◌<◌, refl, ap, sym, subst, ◌∙◌, add-one, drop-cons}
+use Rattle.gabc_headers.specs.declared.head_event.HeadEvent.{HeadEvent}
+use Rattle.gabc_headers.specs.declared.head_event.HeadEvent.TheVariants as head_event
+use Rattle.gregorio.specs.declared.run_part.RunPart.{RunPart}
+use Rattle.gregorio.specs.declared.run_part.RunPart.TheVariants as part
+use Rattle.gregorio.specs.Engine.{Streams, behind_bytes}
+use Rattle.gregorio.specs.machine.ScoreWriter.{ScoreWriterState, HasRoom, IsSteady, WritesAt, IsBodyBehind, streams_of}
+use Rattle.gregorio.specs.machine.Engine.{WritesAll, IsBodyPast, HasMark}
+use Rattle.gregorio.proofs.pieces.RoomIsLeft.{room_for_first}
+use Rattle.gregorio.proofs.pieces.BytesAreJoined.{behind_both, extended_by_none, extended_by_both}
+
+pub writes_none : (w : ScoreWriterState) (read : List (List ℕ × List ℕ)) → WritesAll w [] read w
+writes_none w read = record {
+  output = [];
+  lines = [];
+  out = extended_by_none w.writer.out;
+  messages = extended_by_none w.writer.messages;
+  law = λ book given same. refl;
+}
+
+pub writes_next : (x : HeadEvent) (events : List HeadEvent) (read : List (List ℕ × List ℕ)) (old mid new : ScoreWriterState) → WritesAt old x read mid → WritesAll mid events read new
+    → WritesAll old (x ∷ events) read new
+writes_next x events read old mid new a b = record {
+  output = a.output ++ b.output;
+  lines = a.lines ++ b.lines;
+  out = extended_by_both old.writer.out mid.writer.out new.writer.out a.output b.output a.out b.out;
+  messages = extended_by_both old.writer.messages mid.writer.messages new.writer.messages a.lines b.lines a.messages b.messages;
+  law = λ book given same. a.law book (events ++ given) same.0
+      ∙ (ap (λ (s : Streams). behind_bytes a.output a.lines s) (b.law book given same.1)
+      ∙ sym (behind_both a.output a.lines b.output b.lines (streams_of new book given)));
+}
+
+-- ---- the line `%%`
+
+mark_later : (x : HeadEvent) (events : List HeadEvent) → HasMark events → HasMark (x ∷ events)
+mark_later (head_event.Heads lines macros canonical) events h = tt
+mark_later (head_event.Found f) events h = h
+mark_later (head_event.Stop fault) events h = h
+mark_later (head_event.Body c) events h = h
+mark_later head_event.End events h = h
+
+past_later : (p : RunPart) (x : HeadEvent) (events : List HeadEvent) → HasMark events → IsBodyPast p (x ∷ events)
+past_later part.Body x events h = tt
+past_later part.Heads x events h = mark_later x events h
+past_later (part.Over status) x events h = mark_later x events h
+
+past_now : (p : RunPart) (x : HeadEvent) (events : List HeadEvent) → IsBodyBehind p x → IsBodyPast p (x ∷ events)
+past_now part.Body x events h = tt
+past_now part.Heads (head_event.Heads lines macros canonical) events h = tt
+past_now part.Heads (head_event.Found f) events h = absurd h
+past_now part.Heads (head_event.Stop fault) events h = absurd h
+past_now part.Heads (head_event.Body c) events h = absurd h
+past_now part.Heads head_event.End events h = absurd h
+past_now (part.Over status) x events h = absurd h
+
+pub past_next : (p q : RunPart) (x : HeadEvent) (events : List HeadEvent) → (q ≡ part.Body → IsBodyBehind p x) → IsBodyPast q events → IsBodyPast p (x ∷ events)
+past_next p part.Body x events at h = past_now p x events (at refl)
+past_next p part.Heads x events at h = past_later p x events h
+past_next p (part.Over status) x events at h = past_later p x events h
+
+-- ---- what no call changes
+
+pub steady_both : (old mid new : ScoreWriterState) → IsSteady old mid → IsSteady mid new → IsSteady old new
+steady_both old mid new a b = record {
+  limits = b.limits ∙ a.limits;
+  format = b.format ∙ a.format;
+  name = b.name ∙ a.name;
+  out = b.out ∙ a.out;
+  messages = b.messages ∙ a.messages;
+  scratch = b.scratch ∙ a.scratch;
+}
+
+-- ---- one of a list of events, and those behind it
+
+module _ (given : List HeadEvent) (i : ℕ) (d : HeadEvent) (within : i < length given) where
+  abbrev now : HeadEvent
+  now = slice_index_or given i d
+
+  left_is : drop i given ≡ now ∷ drop (i + 1) given
+  left_is = drop-cons given i d within ∙ ap (λ (k : ℕ). now ∷ drop k given) (sym (add-one i))
+
+  pub room_now : (w : ScoreWriterState) → HasRoom w (drop i given) → HasRoom w (now ∷ [])
+  room_now w room = room_for_first w now (drop (i + 1) given) (subst (λ (left : List HeadEvent). HasRoom w left) left_is room)
+
+  pub writes_left : (read : List (List ℕ × List ℕ)) (old mid new : ScoreWriterState) → WritesAt old now read mid → WritesAll mid (drop (i + 1) given) read new → WritesAll old (drop i given) read new
+  writes_left read old mid new a b = subst (λ (left : List HeadEvent). WritesAll old left read new) (sym left_is) (writes_next now (drop (i + 1) given) read old mid new a b)
+
+  pub room_left : (w : ScoreWriterState) (events : List HeadEvent) → HasRoom w (drop i given ++ events) → HasRoom w (now ∷ (drop (i + 1) given ++ events))
+  room_left w events room = subst (λ (left : List HeadEvent). HasRoom w (left ++ events)) left_is room
+
+  pub past_left : (p q : RunPart) → (q ≡ part.Body → IsBodyBehind p now) → IsBodyPast q (drop (i + 1) given) → IsBodyPast p (drop i given)
+  past_left p q at h = subst (λ (left : List HeadEvent). IsBodyPast p left) (sym left_is) (past_next p q now (drop (i + 1) given) at h)

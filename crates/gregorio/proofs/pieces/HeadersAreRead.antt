@@ -1,0 +1,124 @@
+-- What the stage of headers gives of an item has room, and is passed on.
+use Rattle.std.proofs.Common.{◌≡◌, ℕ, ◌+◌, ◌*◌, ◌≤◌, List, [], ◌∷◌, ◌++◌, length, codes, Result, Ok, refl, ap, sym, ◌∙◌, subst, zero-add, length-append, arith, encode_utf8_all}
+use Rattle.std.specs.Char.{len_utf8}
+use lib.Utf8.{encode}
+use Rattle.std.proofs.lemmas.Str.{length-encode}
+use Rattle.std.proofs.lemmas.List.Sums.{sum_by-append}
+use Rattle.std.proofs.Math.Nat.{mul-le-mul_right}
+use Rattle.gabc_places.specs.BoundedList.{BoundedList}
+use Rattle.gabc_places.specs.StageLaw.{Pushes, Finishes}
+use Rattle.gabc_places.specs.declared.code.Fault.{Fault}
+use Rattle.gabc_places.specs.declared.limits.Limits.{Limits}
+use Rattle.gabc_places.specs.declared.place.Char.{Char}
+use Rattle.gabc_headers.specs.Canonical.{header_lines, canonical_heads}
+use Rattle.gabc_headers.specs.Lines.{bytes_len}
+use Rattle.gabc_headers.specs.Heads.{heads_of}
+use Rattle.gabc_headers.specs.declared.heads.Heads.{Heads}
+use Rattle.gabc_headers.specs.declared.head_event.HeadEvent.{HeadEvent}
+use Rattle.gabc_headers.specs.declared.head_event.HeadEvent.TheVariants as head_event
+use Rattle.gabc_headers.specs.HeadEvents.{HeaderStageState, events_left, events_of_end, events_of_input, stage_after}
+use Rattle.gregorio.specs.declared.run_part.RunPart.TheVariants as part
+use Rattle.gregorio.specs.machine.RunWriter.{line_room}
+use Rattle.gregorio.specs.machine.ScoreWriter.{ScoreWriterState, HasRoom, IsReserved, IsShortBook, IsSteady, events_room}
+use Rattle.gregorio.specs.machine.Engine.{GoTogether, IsBodyPast, IsEmpty, WritesAll, WritesItems}
+use Rattle.gregorio.proofs.pieces.ItemsAreRead.{AreHeadsShort, items_by_heads, short_stage_after, together_by_heads}
+use Rattle.gregorio.proofs.pieces.RoomIsLeft.{input_is_few, least_room, room_with_end}
+
+-- ---- the canonical headers in bytes
+
+encoded_len : (cs : List ℕ) → length (encode_utf8_all cs) ≡ bytes_len cs
+encoded_len [] = refl
+encoded_len (c ∷ cs) =
+    let one = length-encode c in
+    let rest = encoded_len cs in
+    let joined : length (encode_utf8_all (c ∷ cs)) ≡ length (encode c) + length (encode_utf8_all cs) = length-append (encode c) (encode_utf8_all cs) in
+    let counted : bytes_len (c ∷ cs) ≡ bytes_len (c ∷ []) + bytes_len cs = sum_by-append len_utf8 (c ∷ []) cs in
+    let first : bytes_len (c ∷ []) ≡ len_utf8 c = zero-add (len_utf8 c) in
+    omega (arith, one, rest, joined, counted, first)
+
+pub short_heads : ((limits : Limits) (t : List ℕ) (heads : Heads) → heads_of limits t ≡ Ok heads → (bytes_len (header_lines heads.book) ≤ limits.header) × (bytes_len (canonical_heads heads.book) + 1 ≤ limits.input)) → AreHeadsShort
+short_heads law limits t heads is =
+    let within = (law limits t heads is).0 in
+    let size = encoded_len (canonical_heads heads.book) in
+    let joined : bytes_len (canonical_heads heads.book) ≡ bytes_len (header_lines heads.book) + bytes_len (codes "%%") = sum_by-append len_utf8 (header_lines heads.book) (codes "%%") in
+    let mark : bytes_len (codes "%%") ≡ 2 = refl in
+    omega (arith, within, size, joined, mark)
+
+-- no headers at all are short
+pub no_heads_are_short : (limits : Limits) → IsShortBook limits []
+no_heads_are_short limits =
+    let n = encoded_len (canonical_heads []) in
+    let two : bytes_len (canonical_heads []) ≡ 2 = refl in
+    omega (arith, n, two)
+
+-- ---- what is given
+
+pub record GivesInput (h : HeaderStageState) (item : Result Char Fault) (given : List HeadEvent) : Type 0 where
+  pub is : given ≡ events_of_input h.limits h.progress item
+  pub few : length (events_of_input h.limits h.progress item) ≤ 2
+
+abbrev first_list : List (List HeadEvent) → List HeadEvent
+first_list [] = []
+first_list (events ∷ lists) = events
+
+pub given_of_input : (h : HeaderStageState) (after : List (Result Char Fault) → List (List HeadEvent)) (item : Result Char Fault) (r old new : BoundedList HeadEvent) (given : List HeadEvent)
+    → old ≡ record r { items = [] } → Pushes (events_left h.limits h.progress) after item 2 old new → given ≡ new.items → GivesInput h item given
+given_of_input h after item r old new given empty p now =
+    let same : events_of_input h.limits h.progress item ≡ p.events = ap first_list (p.law []) in
+    record {
+      is = now ∙ (ap (λ (x : BoundedList HeadEvent). x.items) p.out ∙ (ap (λ (x : BoundedList HeadEvent). x.items ++ p.events) empty ∙ sym same));
+      few = subst (λ (events : List HeadEvent). length events ≤ 2) (sym same) p.few;
+    }
+
+pub given_of_end : (h : HeaderStageState) (r old new : BoundedList HeadEvent) (given : List HeadEvent)
+    → old ≡ record r { items = [] } → Finishes (events_left h.limits h.progress) 2 old new → given ≡ new.items → given ≡ events_of_end h.limits h.progress
+given_of_end h r old new given empty p now =
+    now ∙ (ap (λ (x : BoundedList HeadEvent). x.items) p.out ∙ (ap (λ (x : BoundedList HeadEvent). x.items ++ p.events) empty ∙ sym (ap first_list p.law)))
+
+-- ---- room
+
+front_room : (w : ScoreWriterState) (events more : List HeadEvent) → HasRoom w (events ++ more) → HasRoom w events
+front_room w events more room =
+    let line = 16 * line_room w.writer.written.name in
+    let lines = room.lines in
+    let texts = room.texts in
+    let n : length (events ++ more) ≡ length events + length more = length-append events more in
+    let few : (length events + 1) * line ≤ (length (events ++ more) + 1) * line = mul-le-mul_right line (omega (arith, n)) in
+    let least = front events in
+    record {
+      lines = omega (arith, lines, few);
+      texts = omega (arith, texts, least);
+      scratch = room.scratch;
+    }
+  where
+    front : (xs : List HeadEvent) → events_room w.writer.written.format w.score.limits.syllable xs ≤ events_room w.writer.written.format w.score.limits.syllable (xs ++ more)
+    front [] = least_room w.writer.written.format w.score.limits.syllable more
+    front (x ∷ xs) = let h = front xs in omega (arith, h)
+
+module _ (h : HeaderStageState) (w : ScoreWriterState) (item : Result Char Fault) (given : List HeadEvent) (gives : GivesInput h item given) where
+  pub room_for_given : IsReserved w → IsEmpty w → HasRoom w (given ++ head_event.End ∷ [])
+  room_for_given reserved empty =
+      subst (λ (events : List HeadEvent). HasRoom w (events ++ head_event.End ∷ [])) (sym gives.is)
+      (room_with_end w (events_of_input h.limits h.progress item) reserved empty
+      (input_is_few w.writer.written.format w.score.limits.syllable h.limits h.progress item gives.few))
+
+  pub room_for_just_given : IsReserved w → IsEmpty w → HasRoom w given
+  room_for_just_given reserved empty = front_room w given (head_event.End ∷ []) (room_for_given reserved empty)
+
+  module _ (now : HeaderStageState) (is_now : now ≡ stage_after h item) (book : List (List ℕ × List ℕ)) (is_book : book ≡ now.book) where
+    book_after : book ≡ (stage_after h item).book
+    book_after = is_book ∙ ap (λ (s : HeaderStageState). s.book) is_now
+
+    pub short_book_given : AreHeadsShort → GoTogether h w → IsShortBook w.score.limits book
+    short_book_given heads_short together = subst (λ (b : List (List ℕ × List ℕ)). IsShortBook w.score.limits b) (sym book_after) (short_stage_after h w item heads_short together)
+
+    pub together_given : (new : ScoreWriterState) → AreHeadsShort → GoTogether h w → ((w.part ≡ part.Body) → ⊥) → (new.part ≡ part.Body → IsBodyPast w.part given) → IsSteady w new → GoTogether now new
+    together_given new heads_short together not_body past steady =
+        subst (λ (s : HeaderStageState). GoTogether s new) (sym is_now)
+        (together_by_heads h w new item heads_short together not_body (λ e. subst (λ (events : List HeadEvent). IsBodyPast w.part events) gives.is (past e)) steady)
+
+    pub writes_given : (new : ScoreWriterState) → WritesAll w given book new → WritesItems h w (item ∷ []) now new
+    writes_given new writes =
+        subst (λ (s : HeaderStageState). WritesItems h w (item ∷ []) s new) (sym is_now)
+        (items_by_heads h w new item (subst (λ (events : List HeadEvent). WritesAll w events (stage_after h item).book new) gives.is
+        (subst (λ (b : List (List ℕ × List ℕ)). WritesAll w given b new) book_after writes)))

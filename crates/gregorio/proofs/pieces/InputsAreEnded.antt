@@ -1,0 +1,123 @@
+-- The end of an input, or the failure of its source, brings what was still to come.
+use Rattle.std.proofs.Common.{◌≡◌, ℕ, List, [], ◌++◌, false, Result, Ok, Err, refl, ap, sym, ◌∙◌, subst}
+use Rattle.gabc_places.specs.BoundedList.{BoundedList, extended_by}
+use Rattle.gabc_places.specs.StageLaw.{Finishes, concat_of}
+use Rattle.gabc_places.specs.declared.code.Fault.{Fault}
+use Rattle.gabc_places.specs.declared.limits.Limits.{Limits}
+use Rattle.gabc_places.specs.declared.place.Char.{Char}
+use Rattle.gabc_places.specs.DecoderMachine.{DecoderState}
+use Rattle.gabc_places.specs.DecoderMachine as decoder
+use Rattle.gabc_headers.specs.declared.heads.Heads.{Heads}
+use Rattle.gabc_headers.specs.declared.heads.HeadFault.{HeadFault}
+use Rattle.gabc_headers.specs.Heads.{heads_of}
+use Rattle.gabc_headers.specs.declared.head_event.HeadEvent.{HeadEvent}
+use Rattle.gabc_headers.specs.HeadEvents.{HeaderStageState, HeadProgress, reading, behind, over, emitted_by, events_at_end, events_of_end, stage_at}
+use Rattle.gregorio.specs.declared.run_part.RunPart.{RunPart}
+use Rattle.gregorio.specs.declared.run_part.RunPart.TheVariants as part
+use Rattle.gregorio.specs.declared.source_bytes.SourceEnding.{SourceEnding}
+use Rattle.gregorio.specs.declared.source_bytes.SourceEnding.TheVariants.{Whole as Ended}
+use Rattle.gregorio.specs.Engine.{Streams, behind_bytes, book_behind, ended_with, given_left, is_running_in, streams_given}
+use Rattle.gregorio.specs.Outcome.{is_whole}
+use Rattle.gregorio.specs.machine.ScoreWriter.{ScoreWriterState, HasRoom, IsReserved, IsShortBook, WritesLast, streams_of}
+use Rattle.gregorio.specs.machine.Engine.{AreBooksAt, GoTogether, IsEmpty, IsSettled, WritesAll, WritesItems, streams_of_items}
+use Rattle.gregorio.proofs.pieces.BytesAreJoined.{behind_both, extended_by_both}
+use Rattle.gregorio.proofs.pieces.RoomIsLeft.{none_are_few, room_for_none, room_with_end}
+use Rattle.gregorio_jobs.specs.declared.job.Status.{Status}
+
+-- these streams are what was written between two states, and nothing follows
+pub record EndsWith (s : Streams) (old new : ScoreWriterState) (status : Status) : Type 0 where
+  pub output : List ℕ
+  pub lines : List ℕ
+  pub out : new.writer.out ≡ extended_by old.writer.out output
+  pub messages : new.writer.messages ≡ extended_by old.writer.messages lines
+  pub law : s ≡ behind_bytes output lines (ended_with status)
+
+ends_behind : (s t : Streams) (old mid new : ScoreWriterState) (status : Status) (output lines : List ℕ) → mid.writer.out ≡ extended_by old.writer.out output
+    → mid.writer.messages ≡ extended_by old.writer.messages lines → s ≡ behind_bytes output lines t → EndsWith t mid new status → EndsWith s old new status
+ends_behind s t old mid new status output lines out messages law e = record {
+  output = output ++ e.output;
+  lines = lines ++ e.lines;
+  out = extended_by_both old.writer.out mid.writer.out new.writer.out output e.output out e.out;
+  messages = extended_by_both old.writer.messages mid.writer.messages new.writer.messages lines e.lines messages e.messages;
+  law = law ∙ (ap (λ (x : Streams). behind_bytes output lines x) e.law ∙ sym (behind_both output lines e.output e.lines (ended_with status)));
+}
+
+pub ends_last : (w new : ScoreWriterState) (status : Status) (book : List (List ℕ × List ℕ)) → WritesLast w new status → EndsWith (streams_of w book []) w new status
+ends_last w new status book a = record { output = a.output; lines = a.lines; out = a.out; messages = a.messages; law = a.law book }
+
+waits_now : (old new : BoundedList ℕ) (text : List ℕ) → old.items ≡ [] → new ≡ extended_by old text → new.items ≡ text
+waits_now old new text empty e = ap (λ (r : BoundedList ℕ). r.items) e ∙ ap (λ (xs : List ℕ). xs ++ text) empty
+
+pub ends_now : (s : Streams) (w new : ScoreWriterState) (status : Status) → EndsWith s w new status → IsEmpty w → s ≡ behind_bytes new.writer.out.items new.writer.messages.items (ended_with status)
+ends_now s w new status e empty =
+    e.law
+    ∙ (ap (λ (o : List ℕ). behind_bytes o e.lines (ended_with status)) (sym (waits_now w.writer.out new.writer.out e.output empty.output e.out))
+    ∙ ap (λ (l : List ℕ). behind_bytes new.writer.out.items l (ended_with status)) (sym (waits_now w.writer.messages new.writer.messages e.lines empty.messages e.messages)))
+
+-- ---- behind the end
+
+pub over_is_last : (d : DecoderState) (h : HeaderStageState) (w : ScoreWriterState) (status : Status) → w.part ≡ part.Over status → (bytes : List ℕ) (ending : SourceEnding)
+    → streams_of_items h w ending (emitted_by (is_whole ending) bytes (decoder.events_left d bytes)) ≡ ended_with status
+over_is_last d h w status over_now bytes ending =
+    let items = emitted_by (is_whole ending) bytes (decoder.events_left d bytes) in
+    ap (λ (p : RunPart). streams_given p w.score w.writer.written (book_behind h items) (given_left h ending items)) over_now
+
+settled_part : (p : RunPart) (w : ScoreWriterState) → is_running_in p ≡ false → (book other : List (List ℕ × List ℕ)) (given more : List HeadEvent)
+    → streams_given p w.score w.writer.written book given ≡ streams_given p w.score w.writer.written other more
+settled_part part.Heads w h book other given more = absurd (cc h)
+settled_part part.Body w h book other given more = absurd (cc h)
+settled_part (part.Over status) w h book other given more = refl
+
+pub over_is_settled : (w : ScoreWriterState) → is_running_in w.part ≡ false → IsSettled w
+over_is_settled w h = settled_part w.part w h
+
+-- behind the end, the streams are those of nothing more
+pub ends_again : (h : HeaderStageState) (w new : ScoreWriterState) (status : Status) (ending : SourceEnding) (items : List (Result Char Fault)) → is_running_in w.part ≡ false → WritesLast w new status
+    → EndsWith (streams_of_items h w ending items) w new status
+ends_again h w new status ending items stopped a = record {
+  output = a.output;
+  lines = a.lines;
+  out = a.out;
+  messages = a.messages;
+  law = over_is_settled w stopped _ [] _ [] ∙ a.law [];
+}
+
+-- ---- the end of the input
+
+books_by : (r : Result Heads HeadFault) (book read : List (List ℕ × List ℕ)) → AreBooksAt (events_at_end r) book read
+books_by (Ok heads) book read = tt
+books_by (Err stopped) book read = (tt, tt)
+
+no_books_at_end : (limits : Limits) (progress : HeadProgress) (book read : List (List ℕ × List ℕ)) → AreBooksAt (events_of_end limits progress) book read
+no_books_at_end limits (reading t) book read = books_by (heads_of limits t) book read
+no_books_at_end limits (behind b) book read = (tt, tt)
+no_books_at_end limits over book read = tt
+
+pub ends_given : (h : HeaderStageState) (w mid new : ScoreWriterState) (status : Status) (given : List HeadEvent) (read : List (List ℕ × List ℕ)) → given ≡ events_of_end h.limits h.progress
+    → WritesAll w given read mid → WritesLast mid new status → EndsWith (streams_of_items h w Ended []) w new status
+ends_given h w mid new status given read is a last =
+    ends_behind (streams_of_items h w Ended []) (streams_of mid h.book []) w mid new status a.output a.lines a.out a.messages
+    (ap (λ (events : List HeadEvent). streams_of w h.book (events ++ [])) (sym is)
+    ∙ a.law h.book [] (subst (λ (events : List HeadEvent). AreBooksAt events h.book read) (sym is) (no_books_at_end h.limits h.progress h.book read)))
+    (ends_last mid new status h.book last)
+
+pub ends_items : (d : DecoderState) (h now : HeaderStageState) (w mid new : ScoreWriterState) (status : Status) (r before after : BoundedList (Result Char Fault)) (items : List (Result Char Fault))
+    → before ≡ record r { items = [] } → Finishes (decoder.events_left d) 1 before after → items ≡ after.items → WritesItems h w items now mid → EndsWith (streams_of_items now mid Ended []) mid new status
+    → EndsWith (streams_of_items h w Ended (concat_of (decoder.events_left d []))) w new status
+ends_items d h now w mid new status r before after items empty p is a e =
+    let same : items ≡ p.events = is ∙ (ap (λ (x : BoundedList (Result Char Fault)). x.items) p.out ∙ ap (λ (x : BoundedList (Result Char Fault)). x.items ++ p.events) empty) in
+    ends_behind (streams_of_items h w Ended (concat_of (decoder.events_left d []))) (streams_of_items now mid Ended []) w mid new status a.output a.lines a.out a.messages
+    (ap (λ (lists : List (List (Result Char Fault))). streams_of_items h w Ended (concat_of lists)) p.law
+    ∙ (ap (λ (xs : List (Result Char Fault)). streams_of_items h w Ended (xs ++ [])) (sym same)
+    ∙ a.law Ended []))
+    e
+
+-- ---- room and the book
+
+pub room_for_last : (w : ScoreWriterState) → IsReserved w → IsEmpty w → HasRoom w []
+room_for_last w reserved empty = room_for_none w _ (room_with_end w [] reserved empty (none_are_few w.writer.written.format w.score.limits.syllable))
+
+pub short_book_at_end : (h now : HeaderStageState) (w : ScoreWriterState) (book : List (List ℕ × List ℕ)) → GoTogether h w → now ≡ stage_at h over → book ≡ now.book → IsShortBook w.score.limits book
+short_book_at_end h now w book together is_now is_book =
+    subst (λ (b : List (List ℕ × List ℕ)). IsShortBook w.score.limits b) (sym (is_book ∙ ap (λ (s : HeaderStageState). s.book) is_now))
+    (subst (λ (limits : Limits). IsShortBook limits h.book) together.limits together.short)

@@ -1,0 +1,256 @@
+-- An item that is read, by way of the stage of headers or behind the line `%%` without it, brings what was to come for it.
+use Rattle.std.proofs.Common.{◌≡◌, ℕ, ◌⊎◌, inl, inr, List, [], ◌∷◌, ◌++◌, map, Bool, true, false, cond, Result, Ok, Err, refl, ap, sym, ◌∙◌, subst}
+use Rattle.gabc_places.specs.StageLaw.{concat_of}
+use Rattle.gabc_places.specs.declared.code.Fault.{Fault}
+use Rattle.gabc_places.specs.declared.code.Finding.{Finding}
+use Rattle.gabc_places.specs.declared.limits.Limits.{Limits}
+use Rattle.gabc_places.specs.declared.place.Char.{Char}
+use Rattle.gabc_headers.specs.declared.heads.Heads.{Heads}
+use Rattle.gabc_headers.specs.declared.heads.HeadFault.{HeadFault}
+use Rattle.gabc_headers.specs.declared.head_event.HeadEvent.{HeadEvent}
+use Rattle.gabc_headers.specs.declared.head_event.HeadEvent.TheVariants as head_event
+use Rattle.gabc_headers.specs.Heads.{heads_of}
+use Rattle.gabc_headers.specs.HeadEvents.{HeaderStageState, HeadProgress, reading, behind, over, IsBehind, book_at, events_by, events_of_input, heads_told, new_findings, progress_after, progress_by, stage_after, stage_past}
+use Rattle.gabc_score.specs.ScoreStage.{ScoreStageState, left_of}
+use Rattle.gabc_score.specs.ScoreEvents.{ScoreOutput}
+use Rattle.gregorio.specs.declared.run_part.RunPart.{RunPart}
+use Rattle.gregorio.specs.declared.run_part.RunPart.TheVariants as part
+use Rattle.gregorio.specs.declared.source_bytes.SourceEnding.{SourceEnding}
+use Rattle.gregorio.specs.declared.source_bytes.SourceEnding.TheVariants.{Whole as Ended, Broken}
+use Rattle.gregorio.specs.Engine.{Streams, behind_bytes, book_behind, given_left, streams_given, streams_in}
+use Rattle.gregorio.specs.machine.ScoreWriter.{ScoreWriterState, IsBookAt, IsShortBook, IsSteady, WritesAt, streams_of}
+use Rattle.gregorio.specs.machine.Engine.{AreBooksAt, GoTogether, HasMark, IsBodyPast, IsBookRead, IsSettled, WritesAll, WritesItems, event_of_item}
+use Rattle.gregorio.proofs.pieces.BytesAreJoined.{behind_same, extended_by_none}
+
+-- ---- the stage of headers
+
+given_next : (h : HeaderStageState) (ending : SourceEnding) (item : Result Char Fault) (items : List (Result Char Fault))
+    → given_left h ending (item ∷ items) ≡ events_of_input h.limits h.progress item ++ given_left (stage_after h item) ending items
+given_next h Ended item items = refl
+given_next h Broken item items = refl
+
+past_over : (limits : Limits) (book : List (List ℕ × List ℕ)) (items : List (Result Char Fault)) → (stage_past (record { limits = limits; progress = over; book = book }) items).book ≡ book
+past_over limits book [] = refl
+past_over limits book (item ∷ items) = past_over limits book items
+
+past_behind : (limits : Limits) (book : List (List ℕ × List ℕ)) (items : List (Result Char Fault)) → (stage_past (record { limits = limits; progress = behind book; book = book }) items).book ≡ book
+past_behind limits book [] = refl
+past_behind limits book (Ok c ∷ items) = past_behind limits book items
+past_behind limits book (Err fault ∷ items) = past_over limits book items
+
+found_books : (fs : List Finding) (rest : List HeadEvent) (book read : List (List ℕ × List ℕ)) → AreBooksAt rest book read → AreBooksAt (map (λ f. head_event.Found f) fs ++ rest) book read
+found_books [] rest book read h = h
+found_books (f ∷ fs) rest book read h = (tt, found_books fs rest book read h)
+
+just_found_books : (fs : List Finding) (book read : List (List ℕ × List ℕ)) → AreBooksAt (map (λ f. head_event.Found f) fs) book read
+just_found_books [] book read = tt
+just_found_books (f ∷ fs) book read = (tt, just_found_books fs book read)
+
+books_by : (limits : Limits) (t : List ℕ) (old : List (List ℕ × List ℕ)) (found : List Finding) (r : Result Heads HeadFault) (items : List (Result Char Fault))
+    → AreBooksAt (events_by found r) (stage_past (record { limits = limits; progress = progress_by t r; book = book_at (progress_by t r) old }) items).book (book_at (progress_by t r) old)
+books_by limits t old found (Ok heads) items = found_books found (heads_told heads.book ∷ []) _ heads.book (past_behind limits heads.book items, tt)
+books_by limits t old found (Err stopped) items = by stopped.at_end
+  where
+    by : (at_end : Bool) → AreBooksAt (cond at_end (map (λ f. head_event.Found f) found) (head_event.Stop stopped.fault ∷ []))
+        (stage_past (record { limits = limits; progress = cond at_end (reading t) over; book = book_at (cond at_end (reading t) over) old }) items).book (book_at (cond at_end (reading t) over) old)
+    by true = just_found_books found _ _
+    by false = (tt, tt)
+
+-- the book at the line `%%` is the one that all later items leave
+books_are_kept : (limits : Limits) (progress : HeadProgress) (old : List (List ℕ × List ℕ)) (item : Result Char Fault) (items : List (Result Char Fault))
+    → (let h : HeaderStageState = record { limits = limits; progress = progress; book = old } in
+    AreBooksAt (events_of_input limits progress item) (stage_past (stage_after h item) items).book (stage_after h item).book)
+books_are_kept limits (reading t) old (Ok c) items = books_by limits (t ++ c.c ∷ []) old (new_findings limits t (t ++ c.c ∷ [])) (heads_of limits (t ++ c.c ∷ [])) items
+books_are_kept limits (reading t) old (Err fault) items = (tt, tt)
+books_are_kept limits (behind book) old (Ok c) items = (tt, tt)
+books_are_kept limits (behind book) old (Err fault) items = (tt, tt)
+books_are_kept limits over old item items = tt
+
+pub items_by_heads : (h : HeaderStageState) (w new : ScoreWriterState) (item : Result Char Fault) → WritesAll w (events_of_input h.limits h.progress item) (stage_after h item).book new
+    → WritesItems h w (item ∷ []) (stage_after h item) new
+items_by_heads h w new item a = record {
+  output = a.output;
+  lines = a.lines;
+  out = a.out;
+  messages = a.messages;
+  law = λ ending more.
+      ap (λ (given : List HeadEvent). streams_of w (book_behind (stage_after h item) more) given) (given_next h ending item more)
+      ∙ a.law (book_behind (stage_after h item) more) (given_left (stage_after h item) ending more) (books_are_kept h.limits h.progress h.book item more);
+}
+
+-- ---- what holds of it then
+
+no_mark_found : (fs : List Finding) → HasMark (map (λ f. head_event.Found f) fs) → ⊥
+no_mark_found [] h = h
+no_mark_found (f ∷ fs) h = no_mark_found fs h
+
+mark_by : (t : List ℕ) (found : List Finding) (r : Result Heads HeadFault) → HasMark (events_by found r) → IsBehind (progress_by t r)
+mark_by t found (Ok heads) h = tt
+mark_by t found (Err stopped) h = by stopped.at_end h
+  where
+    by : (at_end : Bool) → HasMark (cond at_end (map (λ f. head_event.Found f) found) (head_event.Stop stopped.fault ∷ [])) → IsBehind (cond at_end (reading t) over)
+    by true mark = absurd (no_mark_found found mark)
+    by false mark = absurd mark
+
+mark_is_behind : (limits : Limits) (progress : HeadProgress) (item : Result Char Fault) → HasMark (events_of_input limits progress item) → IsBehind (progress_after limits progress item)
+mark_is_behind limits (reading t) (Ok c) h = mark_by (t ++ c.c ∷ []) (new_findings limits t (t ++ c.c ∷ [])) (heads_of limits (t ++ c.c ∷ [])) h
+mark_is_behind limits (reading t) (Err fault) h = absurd h
+mark_is_behind limits (behind book) (Ok c) h = tt
+mark_is_behind limits (behind book) (Err fault) h = absurd h
+mark_is_behind limits over item h = absurd h
+
+mark_past : (p : RunPart) (events : List HeadEvent) → ((p ≡ part.Body) → ⊥) → IsBodyPast p events → HasMark events
+mark_past part.Body events not_body h = absurd (not_body refl)
+mark_past part.Heads events not_body h = h
+mark_past (part.Over status) events not_body h = h
+
+book_is_read : (progress : HeadProgress) (old : List (List ℕ × List ℕ)) → IsBookRead progress (book_at progress old)
+book_is_read (reading t) old = tt
+book_is_read (behind book) old = refl
+book_is_read over old = tt
+
+short_by : (limits : Limits) (t : List ℕ) (old : List (List ℕ × List ℕ)) (r : Result Heads HeadFault) → ((heads : Heads) → r ≡ Ok heads → IsShortBook limits heads.book) → IsShortBook limits old
+    → IsShortBook limits (book_at (progress_by t r) old)
+short_by limits t old (Ok heads) short h = short heads refl
+short_by limits t old (Err stopped) short h = by stopped.at_end
+  where
+    by : (at_end : Bool) → IsShortBook limits (book_at (cond at_end (reading t) over) old)
+    by true = h
+    by false = h
+
+-- canonical headers are within the limit
+abbrev pub AreHeadsShort : Type 0
+AreHeadsShort = (limits : Limits) (t : List ℕ) (heads : Heads) → heads_of limits t ≡ Ok heads → IsShortBook limits heads.book
+
+short_after : AreHeadsShort → (limits : Limits) (progress : HeadProgress) (old : List (List ℕ × List ℕ)) (item : Result Char Fault) → IsBookRead progress old → IsShortBook limits old
+    → IsShortBook limits (book_at (progress_after limits progress item) old)
+short_after heads_short limits (reading t) old (Ok c) read h = short_by limits (t ++ c.c ∷ []) old (heads_of limits (t ++ c.c ∷ [])) (heads_short limits (t ++ c.c ∷ [])) h
+short_after heads_short limits (reading t) old (Err fault) read h = h
+short_after heads_short limits (behind book) old (Ok c) read h = subst (λ (b : List (List ℕ × List ℕ)). IsShortBook limits b) (sym read) h
+short_after heads_short limits (behind book) old (Err fault) read h = h
+short_after heads_short limits over old item read h = h
+
+pub together_by_heads : (h : HeaderStageState) (w new : ScoreWriterState) (item : Result Char Fault) → AreHeadsShort → GoTogether h w → ((w.part ≡ part.Body) → ⊥)
+    → (new.part ≡ part.Body → IsBodyPast w.part (events_of_input h.limits h.progress item)) → IsSteady w new → GoTogether (stage_after h item) new
+together_by_heads h w new item heads_short together not_body past steady = record {
+  limits = together.limits ∙ sym steady.limits;
+  body = λ e. inl (mark_is_behind h.limits h.progress item (mark_past w.part (events_of_input h.limits h.progress item) not_body (past e)));
+  book = book_is_read (progress_after h.limits h.progress item) h.book;
+  short = short_after heads_short h.limits h.progress h.book item together.book together.short;
+}
+
+pub short_stage_after : (h : HeaderStageState) (w : ScoreWriterState) (item : Result Char Fault) → AreHeadsShort → GoTogether h w → IsShortBook w.score.limits (stage_after h item).book
+short_stage_after h w item heads_short together =
+    subst (λ (limits : Limits). IsShortBook limits (stage_after h item).book) together.limits (short_after heads_short h.limits h.progress h.book item together.book together.short)
+
+-- ---- the body
+
+-- behind a stop a stage of scores gives nothing
+abbrev pub IsStopLast : Type 0
+IsStopLast = (s : ScoreStageState) (fault : Fault) (given : List HeadEvent) → concat_of (left_of s (head_event.Stop fault ∷ given)) ≡ concat_of (left_of s (head_event.Stop fault ∷ []))
+
+stop_in_body : IsStopLast → (w : ScoreWriterState) → w.part ≡ part.Body → (fault : Fault) (book other : List (List ℕ × List ℕ)) (given more : List HeadEvent)
+    → streams_of w book (head_event.Stop fault ∷ given) ≡ streams_of w other (head_event.Stop fault ∷ more)
+stop_in_body last w body fault book other given more =
+    ap (λ (p : RunPart). streams_given p w.score w.writer.written book (head_event.Stop fault ∷ given)) body
+    ∙ (ap (λ (outs : List ScoreOutput). streams_in w.writer.written [] true outs) (last w.score fault given ∙ sym (last w.score fault more))
+    ∙ ap (λ (p : RunPart). streams_given p w.score w.writer.written other (head_event.Stop fault ∷ more)) (sym body))
+
+-- an item of the body has no book
+no_book : (item : Result Char Fault) (book read : List (List ℕ × List ℕ)) → IsBookAt (event_of_item item) book read
+no_book (Ok c) book read = tt
+no_book (Err fault) book read = tt
+
+-- where it is no matter what comes behind an event, it is none later
+settled_behind : (w new : ScoreWriterState) (item : Result Char Fault) → WritesAt w (event_of_item item) [] new
+    → ((book other : List (List ℕ × List ℕ)) (given more : List HeadEvent) → streams_of w book (event_of_item item ∷ given) ≡ streams_of w other (event_of_item item ∷ more)) → IsSettled new
+settled_behind w new item a same = λ book other given more.
+    behind_same a.output a.lines (streams_of new book given) (streams_of new other more)
+    (sym (a.law book given (no_book item book [])) ∙ (same book other given more ∙ a.law other more (no_book item other [])))
+
+pub record ReadsItem (h : HeaderStageState) (w : ScoreWriterState) (item : Result Char Fault) (new : ScoreWriterState) : Type 0 where
+  pub writes : WritesItems h w (item ∷ []) h new
+  pub together : GoTogether h new
+
+module _ (w new : ScoreWriterState) (item : Result Char Fault) (a : WritesAt w (event_of_item item) [] new) (steady : IsSteady w new) where
+  settled_item : (h : HeaderStageState) → GoTogether h w → IsSettled w → ReadsItem h w item new
+  settled_item h together settled =
+      let after : IsSettled new = settled_behind w new item a (λ book other given more. settled book other (event_of_item item ∷ given) (event_of_item item ∷ more)) in
+      record {
+        writes = record {
+          output = a.output;
+          lines = a.lines;
+          out = a.out;
+          messages = a.messages;
+          law = λ ending more.
+              settled (book_behind h (item ∷ more)) [] (given_left h ending (item ∷ more)) (event_of_item item ∷ [])
+              ∙ (a.law [] [] (no_book item [] [])
+              ∙ ap (λ (s : Streams). behind_bytes a.output a.lines s) (after [] (book_behind h more) [] (given_left h ending more)));
+        };
+        together = record { limits = together.limits ∙ sym steady.limits; body = λ e. inr after; book = together.book; short = together.short };
+      }
+
+character_read : (limits : Limits) (book : List (List ℕ × List ℕ)) (w new : ScoreWriterState) (c : Char) → WritesAt w (head_event.Body c) [] new
+    → (let h : HeaderStageState = record { limits = limits; progress = behind book; book = book } in WritesItems h w (Ok c ∷ []) h new)
+character_read limits book w new c a =
+    let h : HeaderStageState = record { limits = limits; progress = behind book; book = book } in
+    record {
+      output = a.output;
+      lines = a.lines;
+      out = a.out;
+      messages = a.messages;
+      law = λ ending more.
+          ap (λ (given : List HeadEvent). streams_of w (book_behind h more) given) (given_next h ending (Ok c) more)
+          ∙ a.law (book_behind h more) (given_left h ending more) tt;
+    }
+
+stop_read : IsStopLast → (h : HeaderStageState) (book : List (List ℕ × List ℕ)) (w new : ScoreWriterState) (fault : Fault) → h.progress ≡ behind book → w.part ≡ part.Body → WritesAt w (head_event.Stop fault) [] new
+    → IsSettled new → WritesItems h w (Err fault ∷ []) h new
+stop_read last h book w new fault progress body a settled = record {
+  output = a.output;
+  lines = a.lines;
+  out = a.out;
+  messages = a.messages;
+  law = λ ending more.
+      let rest = given_left (stage_after h (Err fault)) ending more in
+      ap (λ (given : List HeadEvent). streams_of w (book_behind h (Err fault ∷ more)) given)
+      (given_next h ending (Err fault) more ∙ ap (λ (p : HeadProgress). events_of_input h.limits p (Err fault) ++ rest) progress)
+      ∙ (a.law (book_behind h (Err fault ∷ more)) rest tt
+      ∙ ap (λ (s : Streams). behind_bytes a.output a.lines s) (settled (book_behind h (Err fault ∷ more)) (book_behind h more) rest (given_left h ending more)));
+}
+
+module _ (last : IsStopLast) (limits : Limits) (w new : ScoreWriterState) (body : w.part ≡ part.Body) (steady : IsSteady w new) where
+  behind_item : (progress : HeadProgress) (book : List (List ℕ × List ℕ)) (item : Result Char Fault) → WritesAt w (event_of_item item) [] new → IsBehind progress
+      → (let h : HeaderStageState = record { limits = limits; progress = progress; book = book } in GoTogether h w → ReadsItem h w item new)
+  behind_item (reading t) book item a is together = absurd is
+  behind_item over book item a is together = absurd is
+  behind_item (behind other) book (Ok c) a is together = record {
+    writes = subst (λ (b : List (List ℕ × List ℕ)). let h : HeaderStageState = record { limits = limits; progress = behind b; book = book } in WritesItems h w (Ok c ∷ []) h new)
+        (sym together.book) (character_read limits book w new c a);
+    together = record { limits = together.limits ∙ sym steady.limits; body = λ e. inl tt; book = together.book; short = together.short };
+  }
+  behind_item (behind other) book (Err fault) a is together =
+      let settled : IsSettled new = settled_behind w new (Err fault) a (stop_in_body last w body fault) in
+      record {
+        writes = stop_read last (record { limits = limits; progress = behind other; book = book }) other w new fault refl body a settled;
+        together = record { limits = together.limits ∙ sym steady.limits; body = λ e. inr settled; book = together.book; short = together.short };
+      }
+
+pub reads_item : IsStopLast → (h : HeaderStageState) (w new : ScoreWriterState) (item : Result Char Fault) → w.part ≡ part.Body → GoTogether h w → WritesAt w (event_of_item item) [] new → IsSteady w new
+    → ReadsItem h w item new
+reads_item last h w new item body together a steady = by (together.body body)
+  where
+    by : IsBehind h.progress ⊎ IsSettled w → ReadsItem h w item new
+    by (inl is) = behind_item last h.limits w new body steady h.progress h.book item a is together
+    by (inr settled) = settled_item w new item a steady h together settled
+
+-- ---- no item
+
+pub no_items : (h : HeaderStageState) (w : ScoreWriterState) → WritesItems h w [] h w
+no_items h w = record {
+  output = [];
+  lines = [];
+  out = extended_by_none w.writer.out;
+  messages = extended_by_none w.writer.messages;
+  law = λ ending more. refl;
+}

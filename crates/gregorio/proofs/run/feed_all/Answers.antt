@@ -1,0 +1,31 @@
+use Rattle.std.proofs.Common.{◌≡◌, ◌+◌, ◌≤◌, ℕ, List, take, length, length-take, arith, rules}
+use Rattle.gregorio.specs.machine.Compile.{IsFedInPart, used}
+use Rattle.gregorio.proofs.PiecesAreSent.{from_nothing, from_more, in_part}
+use Rattle.gregorio.proofs.run.feed_all.Goals as goal
+
+pub loop-taken-init : goal.loop-taken-init
+loop-taken-init g c = record {
+  within = omega arith;
+  limit = omega arith;
+  waits = c.requires.waits;
+  fed = from_nothing g.O.Sink.written g.O.Sink.failures g.M.Sink.written g.M.Sink.failures g.S.Source.remaining g.S.Source.failures _ _ _ _;
+}
+
+pub returns-in_err-feed_piece-in-Ok-clause-cut : goal.returns-in_err-feed_piece-in-Ok-clause-cut
+returns-in_err-feed_piece-in-Ok-clause-cut g c =
+    let piece : List ℕ = take c.in-Ok.n c.read.new.buf in
+    let size : c.loop-taken.taken + length piece ≤ c.args.limit + 1 = search (rules, length-take c.in-Ok.n c.read.new.buf) in
+    let cut : IsFedInPart c.args.limit (used g.S.Source.remaining g.S.Source.failures c.args.source.now c.read.new.self) (used g.O.Sink.written g.O.Sink.failures c.args.out.now c.feed_piece.new.out) (used g.M.Sink.written g.M.Sink.failures c.args.messages.now c.feed_piece.new.messages) c.args.engine.now =
+    in_part g.O.Sink.written g.O.Sink.failures g.M.Sink.written g.M.Sink.failures g.S.Source.remaining g.S.Source.failures _ _ c.loop-taken.source _ _ c.loop-taken.out _ _ c.loop-taken.messages _ _ c.loop-taken.engine piece c.loop-taken.taken c.loop-taken.invariant.fed (c.in-Ok.ensures.bytes.0) size c.in_err-feed_piece-in-Ok.ensures.cut in
+    search (rules, cut)
+
+pub loop-taken-preserved : goal.loop-taken-preserved
+loop-taken-preserved g c =
+    let piece : List ℕ = take c.in-Ok.n c.read.new.buf in
+    let size : length piece ≡ c.in-Ok.n = search (rules, length-take c.in-Ok.n c.read.new.buf) in
+    record {
+      within = search rules;
+      limit = omega arith;
+      waits = c.in_ok-feed_piece-in-Ok.ensures.waits;
+      fed = from_more g.O.Sink.written g.O.Sink.failures g.M.Sink.written g.M.Sink.failures g.S.Source.remaining g.S.Source.failures _ c.loop-taken.source _ _ c.loop-taken.out _ _ c.loop-taken.messages _ _ c.loop-taken.engine _ piece c.loop-taken.taken c.in-Ok.n c.loop-taken.invariant.fed (c.in-Ok.ensures.bytes.0) c.in-Ok.ensures.steady size c.in_ok-feed_piece-in-Ok.ensures.fed;
+    }

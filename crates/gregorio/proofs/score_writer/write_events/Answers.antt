@@ -1,0 +1,49 @@
+use Rattle.std.proofs.Common.{◌≡◌, ℕ, ◌+◌, ◌<◌, List, ◌∷◌, length, [], slice_index_or, drop, sym, ap, ◌∙◌, subst}
+use Rattle.std.proofs.lemmas.List.{at_drop_more}
+use Rattle.gabc_score.specs.declared.score_event.ScoreEvent.{ScoreEvent}
+use Rattle.gabc_score.specs.ScoreStage.{ScoreStageState}
+use Rattle.gabc_score.specs.ScoreEvents.{ScoreOutput}
+use Rattle.gabc_score.specs.declared.score_event.ScoreEvent.TheVariants.{Found}
+use Rattle.gabc_places.specs.declared.code.Code.TheVariants.{E1}
+use Rattle.gabc_places.specs.declared.limits.Limits.{Limits}
+use Rattle.gregorio.specs.machine.RunWriter.{RunWriterState, HasRoomFor, IsInRoom, IsSteadyWriter}
+use Rattle.gregorio.specs.machine.ScoreWriter.{ScoreWriterState, output_told, told_by, with_all_told, writer_at}
+use Rattle.gregorio.proofs.WritingStaysInRoom.{first_in_room, steady_both}
+use Rattle.gregorio.proofs.score_writer.write_events.Goals as goal
+
+next_told : (score : ScoreStageState) (events : List ScoreEvent) (i : ℕ) (d : ScoreEvent) → i < length events → told_by score (drop i events) ≡ output_told score (slice_index_or events i d) ∷ told_by score (drop (i + 1) events)
+next_told score events i d h = at_drop_more (told_by score) events i d h
+
+-- any event stands behind the last
+abbrev no_event : ScoreEvent
+no_event = Found record { place = record { line = 0; column = 0 }; code = E1 }
+
+next_has_room : (limits : Limits) (old new : RunWriterState) (o : ScoreOutput) (rest : List ScoreOutput) → IsSteadyWriter old new
+    → IsInRoom limits old.messages.limit old.out.limit new (o ∷ rest) → HasRoomFor limits new (o ∷ [])
+next_has_room limits old new o rest steady room =
+    let one = first_in_room limits old.messages.limit old.out.limit new o rest room in
+    let texts = subst (λ (n : ℕ). IsInRoom limits old.messages.limit n new (o ∷ [])) (sym steady.out) one in
+    subst (λ (n : ℕ). IsInRoom limits n new.out.limit new (o ∷ [])) (sym steady.messages) texts
+
+pub write_event-requires : goal.write_event-requires
+write_event-requires c =
+    let score = c.args.score.now in
+    let l = c.loop-event in
+    let w = c.args.writer.now in
+    let rest = told_by score (drop (l.event-index + 1) c.args.events.now) in
+    let room = l.invariant.1 w.messages.limit w.out.limit c.requires in
+    let next = next_told score c.args.events.now l.event-index no_event c.loop-event-test.true in
+    next_has_room score.limits w l.writer (output_told score (slice_index_or c.args.events.now l.event-index no_event)) rest l.invariant.2
+    (subst (IsInRoom score.limits w.messages.limit w.out.limit l.writer) next room)
+
+pub loop-event-preserved : goal.loop-event-preserved
+loop-event-preserved c =
+    let score = c.args.score.now in
+    let l = c.loop-event in
+    let rest = told_by score (drop (l.event-index + 1) c.args.events.now) in
+    let next = next_told score c.args.events.now l.event-index no_event c.loop-event-test.true in (
+      ap (λ (s : ScoreWriterState). with_all_told s rest) c.write_event.ensures.writes
+          ∙ (ap (with_all_told (writer_at score l.part l.writer)) (sym next) ∙ l.invariant.0),
+      λ lines texts h. c.write_event.ensures.room lines texts rest (subst (IsInRoom score.limits lines texts l.writer) next (l.invariant.1 lines texts h)),
+      steady_both c.args.writer.now l.writer c.write_event.new.writer l.invariant.2 c.write_event.ensures.steady,
+    )

@@ -1,0 +1,4 @@
+pub mod Compile
+pub mod Engine
+pub mod RunWriter
+pub mod ScoreWriter

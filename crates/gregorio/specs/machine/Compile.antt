@@ -1,0 +1,59 @@
+-- What the parts of a run do to its source and its sinks.
+use Rattle.std.specs.Prelude.{◌≡◌, ℕ, ◌+◌, ◌<◌, ◌≤◌, List, ◌++◌, length, take, Option, ◌⊎◌}
+use Rattle.std.specs.Io.KnownBytes.{Appends, Consumes}
+use Rattle.gregorio.specs.declared.source_bytes.SourceEnding.{SourceEnding}
+use Rattle.gregorio.specs.declared.source_bytes.SourceEnding.TheVariants.{Broken}
+use Rattle.gregorio.specs.Engine.{EngineState, Streams, behind_bytes, streams_left}
+use Rattle.gregorio.specs.Run.{Use}
+use Rattle.gregorio.specs.SourceBytes.{ReadsSource}
+
+-- an end that had `old` and has `new`
+abbrev pub used : {A : Type 0} → (A → Option (List ℕ)) → (A → ℕ) → A → A → Use
+used bytes failures old new = record { old = bytes old; new = bytes new; failed_old = failures old; failed_new = failures new }
+
+-- Both sinks took all of these bytes, and did not fail.
+pub record AreSent (out messages : Use) (output lines : List ℕ) : Type 0 where
+  pub written : Appends out.old out.new output
+  pub messages_written : Appends messages.old messages.new lines
+  pub steady : out.failed_new ≡ out.failed_old
+  pub messages_steady : messages.failed_new ≡ messages.failed_old
+
+-- A sink failed: each took a prefix of these bytes.
+pub record AreCut (out messages : Use) (output lines : List ℕ) : Type 0 where
+  pub output_count : ℕ
+  pub lines_count : ℕ
+  pub written : Appends out.old out.new (take output_count output)
+  pub messages_written : Appends messages.old messages.new (take lines_count lines)
+  pub failed : (out.failed_old < out.failed_new) ⊎ (messages.failed_old < messages.failed_new)
+
+-- A sink failed: each took a prefix of these streams.
+abbrev pub StreamsAreCut : Use → Use → Streams → Type 0
+StreamsAreCut out messages streams = AreCut out messages streams.output streams.messages
+
+-- An engine took these bytes, and what it wrote at them was sent.
+pub record IsFed (out messages : Use) (old new : EngineState) (bytes : List ℕ) : Type 0 where
+  pub output : List ℕ
+  pub lines : List ℕ
+  pub sent : AreSent out messages output lines
+  pub law : (rest : List ℕ) (ending : SourceEnding) → streams_left old ending (bytes ++ rest) ≡ behind_bytes output lines (streams_left new ending rest)
+
+-- Of a source so many bytes were taken without a failure, and an engine took them.
+pub record IsFedFrom (source out messages : Use) (old new : EngineState) (count : ℕ) : Type 0 where
+  pub bytes : List ℕ
+  pub counted : length bytes ≡ count
+  pub consumed : Consumes source.old source.new bytes
+  pub steady : source.failed_new ≡ source.failed_old
+  pub fed : IsFed out messages old new bytes
+
+-- A source was read as far as may be and stopped so, and an engine took its bytes.
+pub record IsFedAll (limit : ℕ) (source out messages : Use) (old new : EngineState) (ending : SourceEnding) : Type 0 where
+  pub bytes : List ℕ
+  pub reads : ReadsSource source.old source.new source.failed_old source.failed_new limit bytes ending
+  pub fed : IsFed out messages old new bytes
+
+-- A sink failed when these bytes of a source were taken.
+pub record IsFedInPart (limit : ℕ) (source out messages : Use) (old : EngineState) : Type 0 where
+  pub bytes : List ℕ
+  pub consumed : Consumes source.old source.new bytes
+  pub within : length bytes ≤ limit + 1
+  pub cut : StreamsAreCut out messages (streams_left old Broken bytes)

@@ -1,0 +1,94 @@
+-- What an engine does with items, which are characters or the fault that stops the text, and what holds of it between two calls.
+use Rattle.std.specs.Prelude.{◌≡◌, ◌≤◌, ◌⊎◌, ℕ, List, [], ◌∷◌, ◌++◌, Result, Ok, Err}
+use Rattle.gabc_places.specs.BoundedList.{BoundedList, extended_by}
+use Rattle.gabc_places.specs.declared.code.Fault.{Fault}
+use Rattle.gabc_places.specs.declared.place.Char.{Char}
+use Rattle.gabc_headers.specs.declared.head_event.HeadEvent.{HeadEvent}
+use Rattle.gabc_headers.specs.declared.head_event.HeadEvent.TheVariants as head_event
+use Rattle.gabc_headers.specs.HeadEvents.{HeaderStageState, HeadProgress, reading, behind, over, IsBehind}
+use Rattle.gregorio.specs.declared.run_part.RunPart.{RunPart}
+use Rattle.gregorio.specs.declared.run_part.RunPart.TheVariants as part
+use Rattle.gregorio.specs.declared.source_bytes.SourceEnding.{SourceEnding}
+use Rattle.gregorio.specs.Engine.{Streams, behind_bytes, book_behind, given_left}
+use Rattle.gregorio.specs.machine.ScoreWriter.{ScoreWriterState, streams_of, IsBookAt, IsShortBook, IsReserved}
+
+-- ---- events of the headers, one after the other
+
+-- where the headers are whole among these, the book is the one that was read
+abbrev pub AreBooksAt : List HeadEvent → List (List ℕ × List ℕ) → List (List ℕ × List ℕ) → Type 0
+AreBooksAt [] book read = Unit {0}
+AreBooksAt (x ∷ events) book read = IsBookAt x book read × AreBooksAt events book read
+
+-- At these events it wrote what was to come for them, and goes on with what follows. `read` is the book that was read.
+pub record WritesAll (old : ScoreWriterState) (events : List HeadEvent) (read : List (List ℕ × List ℕ)) (new : ScoreWriterState) : Type 0 where
+  pub output : List ℕ
+  pub lines : List ℕ
+  pub out : new.writer.out ≡ extended_by old.writer.out output
+  pub messages : new.writer.messages ≡ extended_by old.writer.messages lines
+  pub law : (book : List (List ℕ × List ℕ)) (given : List HeadEvent) → AreBooksAt events book read → streams_of old book (events ++ given) ≡ behind_bytes output lines (streams_of new book given)
+
+-- the line `%%` is among these
+abbrev pub HasMark : List HeadEvent → Type 0
+HasMark [] = ⊥
+HasMark (head_event.Heads lines macros canonical ∷ events) = Unit {0}
+HasMark (head_event.Found f ∷ events) = HasMark events
+HasMark (head_event.Stop fault ∷ events) = HasMark events
+HasMark (head_event.Body x ∷ events) = HasMark events
+HasMark (head_event.End ∷ events) = HasMark events
+
+-- a run that was in this part can be in the body behind these
+abbrev pub IsBodyPast : RunPart → List HeadEvent → Type 0
+IsBodyPast part.Body events = Unit {0}
+IsBodyPast part.Heads events = HasMark events
+IsBodyPast (part.Over status) events = HasMark events
+
+-- ---- items
+
+-- what will still be written of these items
+abbrev pub streams_of_items : HeaderStageState → ScoreWriterState → SourceEnding → List (Result Char Fault) → Streams
+streams_of_items h w ending items = streams_of w (book_behind h items) (given_left h ending items)
+
+-- what the body gets for an item
+abbrev pub event_of_item : Result Char Fault → HeadEvent
+event_of_item (Ok x) = head_event.Body x
+event_of_item (Err fault) = head_event.Stop fault
+
+-- At these items it wrote what was to come for them, and goes on with what follows.
+pub record WritesItems (h : HeaderStageState) (old : ScoreWriterState) (items : List (Result Char Fault)) (now : HeaderStageState) (new : ScoreWriterState) : Type 0 where
+  pub output : List ℕ
+  pub lines : List ℕ
+  pub out : new.writer.out ≡ extended_by old.writer.out output
+  pub messages : new.writer.messages ≡ extended_by old.writer.messages lines
+  pub law : (ending : SourceEnding) (more : List (Result Char Fault)) → streams_of_items h old ending (items ++ more) ≡ behind_bytes output lines (streams_of_items now new ending more)
+
+-- ---- between two calls
+
+-- nothing waits
+pub record IsEmpty (w : ScoreWriterState) : Type 0 where
+  pub output : w.writer.out.items ≡ []
+  pub messages : w.writer.messages.items ≡ []
+
+-- whatever comes, it will write the same
+abbrev pub IsSettled : ScoreWriterState → Type 0
+IsSettled w = (book other : List (List ℕ × List ℕ)) (given more : List HeadEvent) → streams_of w book given ≡ streams_of w other more
+
+-- the book that the stage of headers stands behind is the one that it has read
+abbrev pub IsBookRead : HeadProgress → List (List ℕ × List ℕ) → Type 0
+IsBookRead (behind book) read = book ≡ read
+IsBookRead (reading t) read = Unit {0}
+IsBookRead over read = Unit {0}
+
+-- The stage of headers and the writer have the same limits. Where the writer is in the body, the stage of headers is behind the line `%%`
+-- too, or it is no matter what comes.
+pub record GoTogether (h : HeaderStageState) (w : ScoreWriterState) : Type 0 where
+  pub limits : h.limits ≡ w.score.limits
+  pub body : w.part ≡ part.Body → IsBehind h.progress ⊎ IsSettled w
+  pub book : IsBookRead h.progress h.book
+  pub short : IsShortBook h.limits h.book
+
+-- The rooms are those of the limits.
+pub record IsEngine (items : BoundedList (Result Char Fault)) (heads : HeaderStageState) (given : BoundedList HeadEvent) (w : ScoreWriterState) : Type 0 where
+  pub item : 1 ≤ items.limit
+  pub few : 2 ≤ given.limit
+  pub together : GoTogether heads w
+  pub reserved : IsReserved w

@@ -1,0 +1,104 @@
+-- What a writer of runs does with what it is given.
+use Rattle.std.specs.Prelude.{◌≡◌, ℕ, ◌+◌, ◌*◌, ◌≤◌, ◌||◌, List, [], ◌∷◌, Bool, length}
+use Rattle.std.specs.List.{All}
+use Rattle.gabc_places.specs.BoundedList.{BoundedList, extended_by}
+use Rattle.gabc_places.specs.declared.code.Fault.{Fault}
+use Rattle.gabc_places.specs.declared.code.Finding.{Finding}
+use Rattle.gabc_score.specs.ScoreEvents.{ScoreOutput, Found, Stop, Syllable, End, syllables_in}
+use Rattle.gabc_score.specs.Syllable.{PlacedSyllable}
+use Rattle.gabc_places.specs.declared.limits.Limits.{Limits}
+use Rattle.gabc_score.specs.ScoreStage.{IsWithin}
+use Rattle.gabc_write.specs.Message.{line_of}
+use Rattle.gregorio.specs.Outcome.{shown_line, is_error_finding}
+use Rattle.gregorio.specs.Engine.{Written, heads_text, syllable_text, last_text, next_number}
+use Rattle.gregorio_jobs.specs.declared.job.Format.{Format}
+use Rattle.gregorio_jobs.specs.declared.job.Format.TheVariants.{Gabc, Dump}
+
+-- what it shows: what it writes, how many bytes the kept text of a syllable may have, and its two rooms
+pub record RunWriterState : Type 0 where
+  pub written : Written
+  pub scratch : ℕ
+  pub out : BoundedList ℕ
+  pub messages : BoundedList ℕ
+
+abbrev pub with_output : RunWriterState → List ℕ → RunWriterState
+with_output w text = record w { out = extended_by w.out text }
+
+abbrev pub with_message : RunWriterState → List ℕ → RunWriterState
+with_message w text = record w { messages = extended_by w.messages text }
+
+abbrev pub with_heads : RunWriterState → List (List ℕ × List ℕ) → RunWriterState
+with_heads w book = with_output w (heads_text w.written.format book)
+
+abbrev pub with_found : RunWriterState → Finding → RunWriterState
+with_found w f = record (with_message w (shown_line w.written.name w.written.all_warnings f)) { written = record w.written { errors = w.written.errors || is_error_finding f } }
+
+abbrev pub with_fault : RunWriterState → Fault → RunWriterState
+with_fault w fault = with_message w (line_of w.written.name fault.place fault.code)
+
+abbrev pub with_syllable : RunWriterState → PlacedSyllable → RunWriterState
+with_syllable w s =
+    let number = next_number w.written.count in
+    record (with_output w (syllable_text w.written.format number s)) { written = record w.written { count = number } }
+
+abbrev pub with_last : RunWriterState → Bool → RunWriterState
+with_last w whole = with_output w (last_text w.written.format whole w.written.count)
+
+-- ---- how much room is reserved, in bytes
+
+abbrev pub line_room : List ℕ → ℕ
+line_room name = length name + 128
+
+-- the most bytes of a syllable, whose canonical text has this many
+abbrev pub syllable_len : Format → ℕ → ℕ
+syllable_len Gabc canonical = canonical
+syllable_len Dump canonical = 64 * canonical + 256
+
+abbrev pub syllable_room : Format → ℕ → ℕ
+syllable_room format limit = syllable_len format (limit + 1)
+
+-- the most bytes of the headers, whose canonical lines have this many
+abbrev pub heads_len : Format → ℕ → ℕ
+heads_len Gabc canonical = canonical
+heads_len Dump canonical = 3 * canonical + 7
+
+abbrev pub heads_room : Format → ℕ → ℕ
+heads_room format limit = heads_len format (limit + 2)
+
+-- for the last line of a dump
+abbrev pub last_room : ℕ
+last_room = 25
+
+-- how many bytes of messages these may bring
+abbrev pub lines_room : List ℕ → List ScoreOutput → ℕ
+lines_room name [] = 0
+lines_room name (o ∷ outs) = line_room name + lines_room name outs
+
+-- how many bytes of the output
+abbrev pub text_room : Format → ℕ → ScoreOutput → ℕ
+text_room format limit (Found f) = 0
+text_room format limit (Stop fault) = last_room
+text_room format limit (Syllable s) = syllable_room format limit
+text_room format limit End = last_room
+
+abbrev pub texts_room : Format → ℕ → List ScoreOutput → ℕ
+texts_room format limit [] = 0
+texts_room format limit (o ∷ outs) = text_room format limit o + texts_room format limit outs
+
+-- With what these bring, the messages and the output have at most so many bytes. The syllables are within the limits.
+pub record IsInRoom (limits : Limits) (most_lines most_texts : ℕ) (w : RunWriterState) (outs : List ScoreOutput) : Type 0 where
+  pub lines : length w.messages.items + lines_room w.written.name outs ≤ most_lines
+  pub texts : length w.out.items + texts_room w.written.format limits.syllable outs ≤ most_texts
+  pub scratch : limits.syllable ≤ w.scratch
+  pub within : All (IsWithin limits) (syllables_in outs)
+
+abbrev pub HasRoomFor : Limits → RunWriterState → List ScoreOutput → Type 0
+HasRoomFor limits w outs = IsInRoom limits w.messages.limit w.out.limit w outs
+
+-- what no call changes
+pub record IsSteadyWriter (old new : RunWriterState) : Type 0 where
+  pub format : new.written.format ≡ old.written.format
+  pub name : new.written.name ≡ old.written.name
+  pub out : new.out.limit ≡ old.out.limit
+  pub messages : new.messages.limit ≡ old.messages.limit
+  pub scratch : new.scratch ≡ old.scratch

@@ -1,0 +1,136 @@
+-- What a writer of scores does with what a stage of headers gives.
+use Rattle.std.specs.Prelude.{false, true, None, ◌≡◌, ℕ, ◌+◌, ◌*◌, ◌≤◌, List, [], ◌∷◌, length, map, encode_utf8_all}
+use Rattle.gabc_places.specs.BoundedList.{extended_by}
+use Rattle.gabc_places.specs.declared.limits.Limits.{Limits}
+use Rattle.gabc_headers.specs.Canonical.{canonical_heads}
+use Rattle.gabc_headers.specs.declared.head_event.HeadEvent.{HeadEvent}
+use Rattle.gabc_headers.specs.declared.head_event.HeadEvent.TheVariants as head_event
+use Rattle.gabc_score.specs.declared.score_event.ScoreEvent.{ScoreEvent}
+use Rattle.gabc_score.specs.declared.score_event.ScoreEvent.TheVariants as event
+use Rattle.gabc_score.specs.ScoreEvents.{ScoreOutput, Found, Stop, Syllable, End}
+use Rattle.gabc_score.specs.ScoreStage.{ScoreStageState, lent_in}
+use Rattle.gregorio.specs.declared.run_part.RunPart.{RunPart}
+use Rattle.gregorio.specs.declared.run_part.RunPart.TheVariants as part
+use Rattle.gregorio.specs.Outcome.{input_name, status_by}
+use Rattle.gregorio_jobs.specs.declared.job.Status.TheVariants.{Fatal as FatalFault}
+use Rattle.gregorio_jobs.specs.declared.job.Job.{Job}
+use Rattle.gregorio.specs.Engine.{Streams, Written, behind_bytes, ended_with, streams_given}
+use Rattle.gregorio.specs.machine.RunWriter.{RunWriterState, with_found, with_fault, with_syllable, with_last, line_room, syllable_room, heads_room, last_room}
+use Rattle.gregorio_jobs.specs.declared.job.Format.{Format}
+use Rattle.gregorio_jobs.specs.declared.job.Status.{Status}
+
+pub record ScoreWriterState : Type 0 where
+  pub score : ScoreStageState
+  pub part : RunPart
+  pub writer : RunWriterState
+
+-- what an event says, where this stage lends its syllable
+abbrev pub output_told : ScoreStageState → ScoreEvent → ScoreOutput
+output_told s (event.Found f) = Found f
+output_told s (event.Stop fault) = Stop fault
+output_told s (event.Syllable lent) = Syllable (lent_in lent s)
+output_told s event.End = End
+
+-- What it writes of an output: a stop or the end ends the run.
+abbrev pub with_told : ScoreWriterState → ScoreOutput → ScoreWriterState
+with_told s (Found f) = record s { writer = with_found s.writer f }
+with_told s (Stop fault) = record s { part = part.Over FatalFault; writer = with_last (with_fault s.writer fault) false }
+with_told s (Syllable x) = record s { writer = with_syllable s.writer x }
+with_told s End = record s { part = part.Over (status_by None false s.writer.written.errors); writer = with_last s.writer true }
+
+abbrev pub with_all_told : ScoreWriterState → List ScoreOutput → ScoreWriterState
+with_all_told s [] = s
+with_all_told s (o ∷ outs) = with_all_told (with_told s o) outs
+
+abbrev pub writer_at : ScoreStageState → RunPart → RunWriterState → ScoreWriterState
+writer_at score at writer = record { score = score; part = at; writer = writer }
+
+abbrev pub told_by : ScoreStageState → List ScoreEvent → List ScoreOutput
+told_by s events = map (output_told s) events
+
+-- what it will still write, where these come and the headers are this book
+abbrev pub streams_of : ScoreWriterState → List (List ℕ × List ℕ) → List HeadEvent → Streams
+streams_of s book given = streams_given s.part s.score s.writer.written book given
+
+-- ---- a call
+
+-- where the headers are whole, the book is the one that was read
+abbrev pub IsBookAt : HeadEvent → List (List ℕ × List ℕ) → List (List ℕ × List ℕ) → Type 0
+IsBookAt (head_event.Heads lines macros canonical) book read = book ≡ read
+IsBookAt _ book read = Unit {0}
+
+-- At an event it wrote what was to come for it, and goes on with what follows. `read` is the book that was read.
+pub record WritesAt (old : ScoreWriterState) (x : HeadEvent) (read : List (List ℕ × List ℕ)) (new : ScoreWriterState) : Type 0 where
+  pub output : List ℕ
+  pub lines : List ℕ
+  pub out : new.writer.out ≡ extended_by old.writer.out output
+  pub messages : new.writer.messages ≡ extended_by old.writer.messages lines
+  pub law : (book : List (List ℕ × List ℕ)) (given : List HeadEvent) → IsBookAt x book read → streams_of old book (x ∷ given) ≡ behind_bytes output lines (streams_of new book given)
+
+-- At the end of what comes it wrote what was still to come.
+pub record WritesLast (old new : ScoreWriterState) (status : Status) : Type 0 where
+  pub output : List ℕ
+  pub lines : List ℕ
+  pub out : new.writer.out ≡ extended_by old.writer.out output
+  pub messages : new.writer.messages ≡ extended_by old.writer.messages lines
+  pub law : (book : List (List ℕ × List ℕ)) → streams_of old book [] ≡ behind_bytes output lines (ended_with status)
+
+-- behind the line `%%`
+abbrev pub IsBodyBehind : RunPart → HeadEvent → Type 0
+IsBodyBehind part.Body x = Unit {0}
+IsBodyBehind part.Heads (head_event.Heads lines macros canonical) = Unit {0}
+IsBodyBehind part.Heads _ = ⊥
+IsBodyBehind (part.Over status) x = ⊥
+
+-- what no call changes: the limits, the format and the name, and how much the rooms take
+pub record IsSteady (old new : ScoreWriterState) : Type 0 where
+  pub limits : new.score.limits ≡ old.score.limits
+  pub format : new.writer.written.format ≡ old.writer.written.format
+  pub name : new.writer.written.name ≡ old.writer.written.name
+  pub out : new.writer.out.limit ≡ old.writer.out.limit
+  pub messages : new.writer.messages.limit ≡ old.writer.messages.limit
+  pub scratch : new.writer.scratch ≡ old.writer.scratch
+
+-- ---- room
+
+-- canonical headers within the limit
+abbrev pub IsShortBook : Limits → List (List ℕ × List ℕ) → Type 0
+IsShortBook limits book = length (encode_utf8_all (canonical_heads book)) ≤ limits.header + 2
+
+-- the most bytes of the output that an event of the body brings
+abbrev pub event_room : Format → ℕ → HeadEvent → ℕ
+event_room format limit (head_event.Body x) = syllable_room format limit + last_room
+event_room format limit (head_event.Stop fault) = syllable_room format limit + last_room
+event_room format limit head_event.End = 2 * syllable_room format limit + last_room
+event_room format limit (head_event.Found f) = last_room
+event_room format limit (head_event.Heads lines macros canonical) = last_room
+
+abbrev pub events_room : Format → ℕ → List HeadEvent → ℕ
+events_room format limit [] = syllable_room format limit + last_room
+events_room format limit (x ∷ events) = event_room format limit x + events_room format limit events
+
+-- before the body, room is kept for the headers
+abbrev pub heads_left : RunPart → Format → ℕ → ℕ
+heads_left part.Heads format limit = heads_room format limit
+heads_left part.Body format limit = 0
+heads_left (part.Over status) format limit = 0
+
+-- There is room for what these bring, and for what the end of what comes brings then.
+pub record HasRoom (s : ScoreWriterState) (events : List HeadEvent) : Type 0 where
+  pub lines : length s.writer.messages.items + (length events + 1) * (16 * line_room s.writer.written.name) ≤ s.writer.messages.limit
+  pub texts : length s.writer.out.items + (heads_left s.part s.writer.written.format s.score.limits.header + events_room s.writer.written.format s.score.limits.syllable events) ≤ s.writer.out.limit
+  pub scratch : s.score.limits.syllable ≤ s.writer.scratch
+
+-- the rooms that a writer has
+pub record IsReserved (s : ScoreWriterState) : Type 0 where
+  pub out : heads_room s.writer.written.format s.score.limits.header + 4 * syllable_room s.writer.written.format s.score.limits.syllable + 128 ≤ s.writer.out.limit
+  pub messages : 128 * line_room s.writer.written.name ≤ s.writer.messages.limit
+  pub scratch : s.score.limits.syllable ≤ s.writer.scratch
+
+-- nothing waits
+abbrev pub emptied : ScoreWriterState → ScoreWriterState
+emptied s = record s { writer = record s.writer { out = record s.writer.out { items = [] }; messages = record s.writer.messages { items = [] } } }
+
+-- nothing was written
+abbrev pub fresh_writer : Job → Written
+fresh_writer job = record { format = job.format; name = input_name job.input; all_warnings = job.all_warnings; count = 0; errors = false }

@@ -1,0 +1,302 @@
+//! A run that takes its input in pieces.
+
+ghost use Rattle.std.specs.Prelude.{◌≡◌, ◌<◌, ◌≤◌, List, [], ◌∷◌, ◌++◌, length, take, true, false, ℕ, IfOk};
+ghost use Rattle.gabc_headers.specs.declared.head_event.HeadEvent.{HeadEvent as Given};
+ghost use Rattle.gabc_headers.specs.declared.head_event.HeadEvent.TheVariants.{End};
+ghost use Rattle.gregorio.specs.declared.source_bytes.SourceEnding.{SourceEnding as Ending};
+ghost use Rattle.gregorio.specs.declared.source_bytes.SourceEnding.TheVariants.{Whole, Broken};
+ghost use Rattle.gregorio_jobs.specs.declared.job.Status.TheVariants.{ReadFault};
+ghost use Rattle.gregorio.specs.Outcome.{outcome_of};
+ghost use Rattle.gregorio.specs.Engine.{NothingWaits, is_running, streams_left, streams_of_outcome, with_waiting, ended_with};
+ghost use Rattle.gregorio.specs.machine.Engine.{GoTogether, IsBodyPast, IsEmpty, WritesAll, WritesItems, event_of_item};
+ghost use Rattle.gregorio.specs.machine.ScoreWriter.{HasRoom, IsReserved, IsShortBook, IsSteady};
+
+use crate::run_part::RunPart;
+use crate::score_writer::ScoreWriter;
+use gabc_headers::{HeadEvent, HeaderBook, HeaderStage};
+use gabc_places::{Char, Decoder, Fault, Limits, Room, Stage};
+use gregorio_jobs::{Job, Status};
+use std::alloc::{AllocError, Global};
+use std::marker::Model;
+
+/// Compiles a score that comes in pieces. What is known of it is written before the next byte is read, and waits until it is taken. It asks
+/// for no memory once made.
+///
+/// ```
+/// let mut engine = Engine::new(alloc, &job, Limits::DEFAULT)?;
+/// let count = engine.feed(piece);     // how many bytes of the piece it took
+/// send(engine.out());                 // the bytes that wait
+/// report(engine.messages());
+/// engine.taken();                     // they were taken: go on with `&piece[count..]`
+/// let status = engine.end();          // the input has ended; what waits now is the last
+/// ```
+#[derive(Drop)]
+pub struct Engine {
+    decoder: Decoder,
+    items: Room<Result<Char, Fault>>,
+    heads: HeaderStage,
+    given: Room<HeadEvent>,
+    writer: ScoreWriter,
+}
+
+impl Model for Engine {
+    ghost use Rattle.gregorio.specs.Engine.{EngineState};
+    ghost use Rattle.gregorio.specs.machine.Engine.{IsEngine};
+
+    ghost Value = { EngineState };
+
+    ghost view = { λ e. record {
+      decoder = e.decoder;
+      heads = e.heads;
+      score = e.writer.score;
+      part = e.writer.part;
+      written = e.writer.writer.written;
+      output = e.writer.writer.out.items;
+      messages = e.writer.writer.messages.items;
+    } };
+
+    ghost invariant = { λ e. IsEngine e.items e.heads e.given e.writer };
+}
+
+/// Passes `given` on to `writer`. `book` has the headers that are read, if they are whole.
+fn pass_on(given: &[HeadEvent], book: &HeaderBook, writer: &mut ScoreWriter)
+    requires room { HasRoom writer.old given.now }
+    requires book { IsShortBook writer.old.score.limits book.now }
+    ensures writes { WritesAll writer.old given.now book.now writer.new }
+    ensures room { (events : List Given) → HasRoom writer.old (given.now ++ events) →
+        HasRoom writer.new events }
+    ensures steady { IsSteady writer.old writer.new }
+    ensures part { writer.new.part ≡ RunPart.Body → IsBodyPast writer.old.part given.now }
+{
+    for event in given {
+        writer.push(*event, book);
+    }
+}
+
+/// Returns what the body gets for a character or the fault that stops the text.
+fn body_event(item: Result<Char, Fault>) -> HeadEvent
+    ensures { result ≡ event_of_item item }
+{
+    match item {
+        Ok(x) => HeadEvent::Body(x),
+        Err(fault) => HeadEvent::Stop(fault),
+    }
+}
+
+/// Reads a character, or the fault that stops the text. Behind the line `%%` the stage of headers is left out.
+fn read(
+    item: Result<Char, Fault>,
+    heads: &mut HeaderStage,
+    given: &mut Room<HeadEvent>,
+    writer: &mut ScoreWriter,
+)
+    requires together { GoTogether heads.old writer.old }
+    requires few { 2 ≤ given.old.limit }
+    requires reserved { IsReserved writer.old }
+    requires empty { IsEmpty writer.old }
+    ensures together { GoTogether heads.new writer.new }
+    ensures few { given.new.limit ≡ given.old.limit }
+    ensures writes { WritesItems heads.old writer.old (item ∷ []) heads.new writer.new }
+    ensures room { HasRoom writer.new (End ∷ []) }
+    ensures steady { IsSteady writer.old writer.new }
+{
+    match writer.part() {
+        RunPart::Body => {
+            gabc_score::stage_laws::nothing_follows_a_stop();
+            writer.push_in_body(body_event(item))
+        }
+        _ => read_in_heads(item, heads, given, writer),
+    }
+}
+
+/// Reads a character, or the fault that stops the text, by way of the stage of headers.
+fn read_in_heads(
+    item: Result<Char, Fault>,
+    heads: &mut HeaderStage,
+    given: &mut Room<HeadEvent>,
+    writer: &mut ScoreWriter,
+)
+    requires heads { ¬ (writer.old.part ≡ RunPart.Body) }
+    requires together { GoTogether heads.old writer.old }
+    requires few { 2 ≤ given.old.limit }
+    requires reserved { IsReserved writer.old }
+    requires empty { IsEmpty writer.old }
+    ensures together { GoTogether heads.new writer.new }
+    ensures few { given.new.limit ≡ given.old.limit }
+    ensures writes { WritesItems heads.old writer.old (item ∷ []) heads.new writer.new }
+    ensures room { HasRoom writer.new (End ∷ []) }
+    ensures steady { IsSteady writer.old writer.new }
+{
+    gabc_headers::laws::canonical_lines_are_within_the_limits();
+    given.clear();
+    heads.push(item, given);
+    pass_on(given.slice(), heads.book(), writer);
+}
+
+/// Reads what the decoder has given.
+fn read_decoded(
+    items: &[Result<Char, Fault>],
+    heads: &mut HeaderStage,
+    given: &mut Room<HeadEvent>,
+    writer: &mut ScoreWriter,
+)
+    requires few_items { length items.now ≤ 1 }
+    requires together { GoTogether heads.old writer.old }
+    requires few { 2 ≤ given.old.limit }
+    requires reserved { IsReserved writer.old }
+    requires empty { IsEmpty writer.old }
+    ensures together { GoTogether heads.new writer.new }
+    ensures few { given.new.limit ≡ given.old.limit }
+    ensures writes { WritesItems heads.old writer.old items.now heads.new writer.new }
+    ensures room { HasRoom writer.new (End ∷ []) }
+    ensures steady { IsSteady writer.old writer.new }
+{
+    if let Some(item) = items.first() {
+        read(*item, heads, given, writer);
+    }
+}
+
+impl Engine {
+    /// Returns an engine for `job` before the first byte of its input, and reserves the memory that it ever takes. The ends that `job` names
+    /// are not opened: its format, the name of its input and whether it wants warnings are all that counts.
+    pub fn new(alloc: Global, job: &Job, limits: Limits) -> Result<Engine, AllocError>
+        ensures all { IfOk result (λ engine. (bytes : List ℕ) (ending : Ending) →
+            streams_left engine ending bytes ≡ streams_of_outcome job.now (outcome_of limits ending bytes)) }
+        ensures waits { IfOk result (λ engine. NothingWaits engine) }
+        ensures running { IfOk result (λ engine. is_running engine ≡ true) }
+    {
+        gabc_places::laws::texts_are_scalars_within_the_limit();
+        gabc_headers::laws::the_book_is_read();
+        gabc_score::laws::a_stage_of_headers_gives_the_events();
+        gabc_score::laws::a_score_says_what_it_emits();
+        gabc_score::laws::syllables_are_fewer_than_bytes();
+        gabc_score::stage_laws::texts_are_read_in_full();
+        Ok(Engine {
+            decoder: Decoder::new(limits),
+            items: Room::with_limit(alloc, 1)?,
+            heads: HeaderStage::with_limits(alloc, limits)?,
+            given: Room::with_limit(alloc, 2)?,
+            writer: ScoreWriter::with_limits(alloc, job, limits)?,
+        })
+    }
+
+    /// Takes a byte.
+    fn take(&mut self, byte: u8)
+        requires waits { NothingWaits self.old }
+        ensures law { (bytes : List ℕ) (ending : Ending) → streams_left self.old ending (byte ∷ bytes)
+            ≡ with_waiting self.new (streams_left self.new ending bytes) }
+    {
+        self.items.clear();
+        self.decoder.push(byte, &mut self.items);
+        read_decoded(
+            self.items.slice(),
+            &mut self.heads,
+            &mut self.given,
+            &mut self.writer,
+        );
+    }
+
+    /// Takes bytes of `piece` until it is used up or output or messages wait, and returns how many. Nothing may wait before. Behind a fatal
+    /// fault or the end it takes the whole piece and changes nothing.
+    pub fn feed(&mut self, piece: &[u8]) -> usize
+        requires waits { NothingWaits self.old }
+        ensures taken { result ≤ length piece.now }
+        ensures some { 0 < length piece.now → 0 < result }
+        ensures law { (bytes : List ℕ) (ending : Ending) →
+            streams_left self.old ending (take result piece.now ++ bytes)
+            ≡ with_waiting self.new (streams_left self.new ending bytes) }
+        ensures all { NothingWaits self.new → result ≡ length piece.now }
+        ensures over { is_running self.old ≡ false → (result ≡ length piece.now) × (self.new ≡ self.old) }
+        ensures running { is_running self.new ≡ true →
+            (streams_left self.new Broken []).status ≡ ReadFault }
+    {
+        gabc_score::stage_laws::inputs_that_cease_give_no_stop();
+        let mut count = 0;
+        if !self.running() {
+            return piece.len();
+        }
+        while count < piece.len() && self.nothing_waits() {
+            self.take(piece[count]);
+            count += 1;
+        }
+        count
+    }
+
+    /// Returns whether nothing waits.
+    fn nothing_waits(&self) -> bool
+        ensures waits { result ≡ true → NothingWaits self.now }
+        ensures some { NothingWaits self.now → result ≡ true }
+    {
+        self.out().is_empty() && self.messages().is_empty()
+    }
+
+    /// Returns the bytes of the output that wait.
+    pub fn out(&self) -> &[u8]
+        ensures { result.now ≡ self.now.output }
+    {
+        self.writer.out()
+    }
+
+    /// Returns the bytes of the messages that wait: whole lines.
+    pub fn messages(&self) -> &[u8]
+        ensures { result.now ≡ self.now.messages }
+    {
+        self.writer.messages()
+    }
+
+    /// Forgets what waits, which was taken.
+    pub fn taken(&mut self)
+        ensures { self.new ≡ record self.old { output = []; messages = [] } }
+    {
+        self.writer.clear();
+    }
+
+    /// Ends the input, and returns how the run ended. What waits then is the last. Nothing may wait before. Called again, or behind a fatal
+    /// fault, it changes nothing and returns the same status.
+    pub fn end(&mut self) -> Status
+        requires waits { NothingWaits self.old }
+        ensures law { streams_left self.old Whole [] ≡ with_waiting self.new (ended_with result) }
+        ensures last { (bytes : List ℕ) (ending : Ending) →
+            streams_left self.new ending bytes ≡ ended_with result }
+        ensures over { is_running self.new ≡ false }
+        ensures again { is_running self.old ≡ false → self.new ≡ self.old }
+    {
+        if self.running() {
+            self.items.clear();
+            self.decoder.finish(&mut self.items);
+            read_decoded(
+                self.items.slice(),
+                &mut self.heads,
+                &mut self.given,
+                &mut self.writer,
+            );
+            self.given.clear();
+            self.heads.finish(&mut self.given);
+            pass_on(self.given.slice(), self.heads.book(), &mut self.writer);
+        }
+        self.writer.finish()
+    }
+
+    /// Ends the run of an input whose source has failed, and returns how it ended. What waits then is the last. Nothing may wait before.
+    /// Called again, or behind a fatal fault, it changes nothing and returns the same status.
+    pub fn broken(&mut self) -> Status
+        requires waits { NothingWaits self.old }
+        ensures law { streams_left self.old Broken [] ≡ with_waiting self.new (ended_with result) }
+        ensures last { (bytes : List ℕ) (ending : Ending) →
+            streams_left self.new ending bytes ≡ ended_with result }
+        ensures over { is_running self.new ≡ false }
+        ensures again { is_running self.old ≡ false → self.new ≡ self.old }
+    {
+        self.writer.finish()
+    }
+
+    /// Returns whether no fatal fault, `end` or `broken` has come.
+    pub fn running(&self) -> bool
+        ensures { result ≡ is_running self.now }
+    {
+        match self.writer.part() {
+            RunPart::Over(_) => false,
+            _ => true,
+        }
+    }
+}

@@ -1,0 +1,242 @@
+//! What a run writes, in rooms that are reserved.
+
+ghost use Rattle.std.specs.Prelude.{◌≡◌, ◌+◌, ◌*◌, ◌^◌, ◌<◌, ◌≤◌, [], IfOk, None, false, length, string_bytes, encode_utf8_all};
+ghost use Rattle.gabc_headers.specs.Canonical.{canonical_heads};
+ghost use Rattle.gabc_score.specs.Canonical.{canonical_in_place};
+ghost use Rattle.gabc_write.specs.Message.{line_of};
+ghost use Rattle.gabc_places.specs.BoundedList.{Fits};
+ghost use Rattle.gabc_score.specs.Syllable.{placed_of};
+ghost use Rattle.gregorio.specs.Engine.{heads_text, last_text, next_number, syllable_text};
+ghost use Rattle.gregorio.specs.Outcome.{shown_line, status_by};
+ghost use Rattle.gregorio.specs.machine.ScoreWriter.{fresh_writer};
+ghost use Rattle.gregorio.specs.machine.RunWriter.{syllable_len, syllable_room as room_of_syllable, heads_len, heads_room as room_of_heads, line_room, last_room, with_heads, with_found, with_fault, with_syllable, with_last};
+
+use crate::findings::{input_name, is_error, put_finding};
+use gabc_headers::HeaderBook;
+use gabc_places::{Fault, Finding, Limits, Room};
+use gabc_score::Syllable;
+use gabc_write::{
+    Scratch, canon_header, canon_syllable, dump_end, dump_header, dump_syllable, message_line,
+};
+use gregorio_jobs::{Format, Job, Status};
+use std::alloc::{AllocError, Global};
+use std::marker::Model;
+
+/// Writes the headers, syllables and messages of a run.
+#[derive(Drop)]
+pub(crate) struct RunWriter {
+    format: Format,
+    name: String,
+    all_warnings: bool,
+    scratch: Scratch,
+    /// How many syllables were written. It saturates.
+    count: u64,
+    /// Whether an error was found.
+    errors: bool,
+    out: Room<u8>,
+    messages: Room<u8>,
+}
+
+/// The most lines that one byte or the end adds.
+const LINES: usize = 128;
+
+/// Returns how many bytes a syllable may have in this `format`, whose canonical text has at most `limit` bytes.
+fn syllable_room(format: Format, limit: usize) -> usize
+    requires { limit < 2 ^ 32 }
+    ensures { result ≡ room_of_syllable format limit }
+{
+    match format {
+        Format::Gabc => limit + 1,
+        Format::Dump => 64 * (limit + 1) + 256,
+    }
+}
+
+/// Returns how many bytes the headers may have in this `format`, whose canonical lines have at most `limit` bytes.
+fn heads_room(format: Format, limit: usize) -> usize
+    requires { limit < 2 ^ 32 }
+    ensures { result ≡ room_of_heads format limit }
+{
+    match format {
+        Format::Gabc => limit + 2,
+        Format::Dump => 3 * (limit + 2) + 7,
+    }
+}
+
+/// Returns an empty room for the lines of messages that call the input by a name of `len` bytes.
+fn message_room(alloc: Global, len: usize) -> Result<Room<u8>, AllocError>
+    ensures { IfOk result (λ room. (room.items ≡ []) × (128 * (len + 128) ≤ room.limit)) }
+{
+    let Some(line) = len.checked_add(128) else {
+        return Err(AllocError);
+    };
+    let Some(bytes) = line.checked_mul(LINES) else {
+        return Err(AllocError);
+    };
+    Room::with_limit(alloc, bytes)
+}
+
+impl Model for RunWriter {
+    ghost use Rattle.gregorio.specs.machine.RunWriter.{RunWriterState};
+    ghost use Rattle.std.specs.Prelude.{string_bytes};
+
+    ghost Value = { RunWriterState };
+
+    ghost view = { λ w. record {
+      written = record {
+        format = w.format;
+        name = string_bytes w.name;
+        all_warnings = w.all_warnings;
+        count = w.count;
+        errors = w.errors;
+      };
+      scratch = w.scratch;
+      out = w.out;
+      messages = w.messages;
+    } };
+}
+
+impl RunWriter {
+    /// Returns a writer that has written nothing, and reserves the memory that it ever takes.
+    pub(crate) fn with_limits(
+        alloc: Global,
+        job: &Job,
+        limits: Limits,
+    ) -> Result<RunWriter, AllocError>
+        ensures fresh { IfOk result (λ writer. writer.written ≡ fresh_writer job.now) }
+        ensures empty { IfOk result (λ writer. (writer.out.items ≡ []) × (writer.messages.items ≡ [])) }
+        ensures out { IfOk result (λ writer. room_of_heads writer.written.format limits.header
+            + 4 * room_of_syllable writer.written.format limits.syllable + 128 ≤ writer.out.limit) }
+        ensures messages { IfOk result (λ writer.
+            128 * line_room writer.written.name ≤ writer.messages.limit) }
+        ensures scratch { IfOk result (λ writer. writer.scratch ≡ limits.syllable) }
+    {
+        let syllable = limits.syllable as usize;
+        let heads = heads_room(job.format, limits.header as usize);
+        let out = heads + 4 * syllable_room(job.format, syllable) + 128;
+        let name = input_name(&job.input);
+        Ok(RunWriter {
+            format: job.format,
+            name: String::from_str(alloc, name)?,
+            all_warnings: job.all_warnings,
+            scratch: Scratch::with_limit(alloc, syllable)?,
+            count: 0,
+            errors: false,
+            out: Room::with_limit(alloc, out)?,
+            messages: message_room(alloc, name.len())?,
+        })
+    }
+
+    /// Writes what stands before the syllables.
+    pub(crate) fn heads(&mut self, book: &HeaderBook)
+        requires { Fits self.old.out (heads_len self.old.written.format (length (encode_utf8_all (canonical_heads book.now)))) }
+        ensures writes { self.new ≡ with_heads self.old book.now }
+        ensures short { length (heads_text self.old.written.format book.now)
+            ≤ heads_len self.old.written.format (length (encode_utf8_all (canonical_heads book.now))) }
+    {
+        match self.format {
+            Format::Gabc => canon_header(book, &mut self.out),
+            Format::Dump => dump_header(book, &mut self.out),
+        }
+    }
+
+    /// Writes the message of a finding, if it is shown.
+    pub(crate) fn found(&mut self, finding: Finding)
+        requires { Fits self.old.messages (line_room self.old.written.name) }
+        ensures writes { self.new ≡ with_found self.old finding }
+        ensures short { length (shown_line self.old.written.name self.old.written.all_warnings finding)
+            ≤ line_room self.old.written.name }
+    {
+        put_finding(
+            self.name.as_str(),
+            self.all_warnings,
+            finding,
+            &mut self.messages,
+        );
+        self.errors = self.errors || is_error(finding);
+    }
+
+    /// Writes the message of a fault.
+    pub(crate) fn fault(&mut self, fault: Fault)
+        requires { Fits self.old.messages (line_room self.old.written.name) }
+        ensures writes { self.new ≡ with_fault self.old fault }
+        ensures short { length (line_of self.old.written.name fault.place fault.code)
+            ≤ line_room self.old.written.name }
+    {
+        message_line(
+            self.name.as_str(),
+            fault.place,
+            fault.code,
+            &mut self.messages,
+        );
+    }
+
+    /// Writes the next syllable.
+    pub(crate) fn syllable(&mut self, syllable: &Syllable)
+        requires scratch { length (string_bytes syllable.now.kept) ≤ self.old.scratch }
+        requires fits { Fits self.old.out (syllable_len self.old.written.format
+            (length (canonical_in_place (placed_of syllable.now)))) }
+        ensures writes { self.new ≡ with_syllable self.old (placed_of syllable.now) }
+        ensures short { length (syllable_text self.old.written.format
+            (next_number self.old.written.count) (placed_of syllable.now))
+            ≤ syllable_len self.old.written.format
+            (length (canonical_in_place (placed_of syllable.now))) }
+    {
+        self.count = self.count.saturating_add(1);
+        match self.format {
+            Format::Gabc => canon_syllable(syllable, &mut self.out),
+            Format::Dump => {
+                dump_syllable(self.count, syllable, &mut self.scratch, &mut self.out)
+            }
+        }
+    }
+
+    /// Writes what stands behind the syllables, which are the `whole` score or not.
+    pub(crate) fn last(&mut self, whole: bool)
+        requires { Fits self.old.out last_room }
+        ensures writes { self.new ≡ with_last self.old whole }
+        ensures short { length (last_text self.old.written.format whole self.old.written.count)
+            ≤ last_room }
+    {
+        match (self.format, whole) {
+            (Format::Gabc, _) => self.out.append(b"\n"),
+            (Format::Dump, true) => dump_end(self.count, &mut self.out),
+            (Format::Dump, false) => {}
+        }
+    }
+
+    /// Returns how a run ends that has read its input to the end.
+    pub(crate) fn status(&self) -> Status
+        ensures { result ≡ status_by None false self.now.written.errors }
+    {
+        if self.errors {
+            Status::Errors
+        } else {
+            Status::Whole
+        }
+    }
+
+    /// Returns the bytes of the output that wait.
+    pub(crate) fn out(&self) -> &[u8]
+        ensures { result.now ≡ self.now.out.items }
+    {
+        self.out.slice()
+    }
+
+    /// Returns the bytes of the messages that wait.
+    pub(crate) fn messages(&self) -> &[u8]
+        ensures { result.now ≡ self.now.messages.items }
+    {
+        self.messages.slice()
+    }
+
+    /// Forgets the bytes that wait.
+    pub(crate) fn clear(&mut self)
+        ensures { self.new ≡ record self.old {
+          out = record self.old.out { items = [] };
+          messages = record self.old.messages { items = [] };
+        } }
+    {
+        self.out.clear();
+        self.messages.clear();
+    }
+}

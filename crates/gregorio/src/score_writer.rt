@@ -1,0 +1,242 @@
+//! What a run does with what a stage of headers gives.
+
+ghost use Rattle.std.specs.Prelude.{◌≡◌, ℕ, List, [], ◌∷◌, false, IfOk};
+ghost use Rattle.gabc_headers.specs.declared.head_event.HeadEvent.{HeadEvent as Given};
+ghost use Rattle.gabc_score.specs.BodyStage.{texts_by_stage};
+ghost use Rattle.gabc_score.specs.ScoreEvents.{ScoreOutput, score_outputs};
+ghost use Rattle.gabc_score.specs.ScoreStage.{AreCountsBelow, left_of};
+ghost use Rattle.gregorio.specs.Engine.{is_running_in};
+ghost use Rattle.gregorio.specs.machine.RunWriter.{HasRoomFor, IsInRoom, IsSteadyWriter};
+ghost use Rattle.gregorio.specs.machine.ScoreWriter.{output_told, told_by, with_told, with_all_told, writer_at, IsBodyBehind, IsShortBook, emptied, fresh_writer, IsReserved, IsSteady, HasRoom, WritesAt, WritesLast};
+
+use crate::run_part::RunPart;
+use crate::run_writer::RunWriter;
+use gabc_headers::{HeadEvent, HeaderBook};
+use gabc_places::{Limits, Room, Stage};
+use gabc_score::{ScoreEvent, ScoreStage};
+use gregorio_jobs::{Job, Status};
+use std::alloc::{AllocError, Global};
+use std::marker::Model;
+
+/// Reads the score behind a stage of headers, and writes what it gives.
+#[derive(Drop)]
+pub(crate) struct ScoreWriter {
+    score: ScoreStage,
+    events: Room<ScoreEvent>,
+    part: RunPart,
+    writer: RunWriter,
+}
+
+impl Model for ScoreWriter {
+    ghost use Rattle.std.specs.Prelude.{◌≤◌};
+    ghost use Rattle.gregorio.specs.machine.ScoreWriter.{ScoreWriterState};
+
+    ghost Value = { ScoreWriterState };
+
+    ghost view = { λ w. record { score = w.score; part = w.part; writer = w.writer } };
+
+    ghost invariant = { λ w. 16 ≤ w.events.limit };
+}
+
+/// Writes what `event` of `score` brings. A stop or the end ends the run.
+fn write_event(writer: &mut RunWriter, part: &mut RunPart, score: &ScoreStage, event: ScoreEvent)
+    requires { HasRoomFor score.now.limits writer.old (output_told score.now event ∷ []) }
+    ensures writes { writer_at score.now part.new writer.new
+        ≡ with_told (writer_at score.now part.old writer.old) (output_told score.now event) }
+    ensures room { (lines texts : ℕ) (outs : List ScoreOutput) →
+        IsInRoom score.now.limits lines texts writer.old (output_told score.now event ∷ outs) →
+        IsInRoom score.now.limits lines texts writer.new outs }
+    ensures steady { IsSteadyWriter writer.old writer.new }
+{
+    match event {
+        ScoreEvent::Found(finding) => writer.found(finding),
+        ScoreEvent::Stop(fault) => {
+            writer.fault(fault);
+            writer.last(false);
+            *part = RunPart::Over(Status::Fatal);
+        }
+        ScoreEvent::Syllable(lent) => writer.syllable(score.syllable(lent)),
+        ScoreEvent::End => {
+            *part = RunPart::Over(writer.status());
+            writer.last(true);
+        }
+    }
+}
+
+/// Writes what `events` of `score` bring.
+fn write_events(
+    writer: &mut RunWriter,
+    part: &mut RunPart,
+    score: &ScoreStage,
+    events: &[ScoreEvent],
+)
+    requires { HasRoomFor score.now.limits writer.old (told_by score.now events.now) }
+    ensures writes { writer_at score.now part.new writer.new
+        ≡ with_all_told (writer_at score.now part.old writer.old) (told_by score.now events.now) }
+    ensures room { (lines texts : ℕ) →
+        IsInRoom score.now.limits lines texts writer.old (told_by score.now events.now) →
+        IsInRoom score.now.limits lines texts writer.new [] }
+    ensures steady { IsSteadyWriter writer.old writer.new }
+{
+    for event in events {
+        write_event(writer, part, score, *event);
+    }
+}
+
+impl ScoreWriter {
+    /// Returns a writer before the headers, and reserves the memory that it ever takes.
+    pub(crate) fn with_limits(
+        alloc: Global,
+        job: &Job,
+        limits: Limits,
+    ) -> Result<ScoreWriter, AllocError>
+        ensures fresh { IfOk result (λ writer. writer.writer.written ≡ fresh_writer job.now) }
+        ensures part { IfOk result (λ writer. writer.part ≡ RunPart.Heads) }
+        ensures limits { IfOk result (λ writer. writer.score.limits ≡ limits) }
+        ensures reserved { IfOk result IsReserved }
+        ensures empty { IfOk result (λ writer. writer ≡ emptied writer) }
+        ensures score { IfOk result (λ writer. (xs : List Given) → AreCountsBelow xs →
+            left_of writer.score xs ≡ score_outputs texts_by_stage limits xs) }
+    {
+        Ok(ScoreWriter {
+            score: ScoreStage::with_limits(alloc, limits)?,
+            events: Room::with_limit(alloc, 16)?,
+            part: RunPart::Heads,
+            writer: RunWriter::with_limits(alloc, job, limits)?,
+        })
+    }
+
+    /// Takes `event`, and writes what follows from it. `book` has the headers that are read, if they are whole.
+    pub(crate) fn push(&mut self, event: HeadEvent, book: &HeaderBook)
+        requires room { HasRoom self.old (event ∷ []) }
+        requires book { IsShortBook self.old.score.limits book.now }
+        ensures writes { WritesAt self.old event book.now self.new }
+        ensures room { (events : List Given) → HasRoom self.old (event ∷ events) →
+            HasRoom self.new events }
+        ensures steady { IsSteady self.old self.new }
+        ensures part { self.new.part ≡ RunPart.Body → IsBodyBehind self.old.part event }
+    {
+        match self.part {
+            RunPart::Heads => self.push_in_heads(event, book),
+            RunPart::Body => self.push_in_body(event),
+            RunPart::Over(_) => {}
+        }
+    }
+
+    /// Takes an event before the body.
+    fn push_in_heads(&mut self, event: HeadEvent, book: &HeaderBook)
+        requires room { HasRoom self.old (event ∷ []) }
+        requires book { IsShortBook self.old.score.limits book.now }
+        requires heads { self.old.part ≡ RunPart.Heads }
+        ensures writes { WritesAt self.old event book.now self.new }
+        ensures room { (events : List Given) → HasRoom self.old (event ∷ events) →
+            HasRoom self.new events }
+        ensures steady { IsSteady self.old self.new }
+        ensures part { self.new.part ≡ RunPart.Body → IsBodyBehind self.old.part event }
+    {
+        match event {
+            HeadEvent::Found(finding) => self.writer.found(finding),
+            HeadEvent::Stop(fault) => {
+                self.writer.fault(fault);
+                self.part = RunPart::Over(Status::Fatal);
+            }
+            HeadEvent::Heads { .. } => {
+                self.writer.heads(book);
+                self.part = RunPart::Body;
+                self.push_in_body(event);
+            }
+            HeadEvent::Body(_) | HeadEvent::End => {}
+        }
+    }
+
+    /// Takes an event of the body.
+    pub(crate) fn push_in_body(&mut self, event: HeadEvent)
+        requires room { HasRoom self.old (event ∷ []) }
+        requires body { self.old.part ≡ RunPart.Body }
+        ensures writes { WritesAt self.old event [] self.new }
+        ensures any_book { (read : List (List ℕ × List ℕ)) → WritesAt self.old event read self.new }
+        ensures room { (events : List Given) → HasRoom self.old (event ∷ events) →
+            HasRoom self.new events }
+        ensures steady { IsSteady self.old self.new }
+        ensures part { self.new.part ≡ RunPart.Body → IsBodyBehind self.old.part event }
+    {
+        self.events.clear();
+        self.score.push(event, &mut self.events);
+        write_events(
+            &mut self.writer,
+            &mut self.part,
+            &self.score,
+            self.events.slice(),
+        );
+    }
+
+    /// Ends what comes, and returns how the run ended. Where neither a stop nor the end has come, the source has failed.
+    pub(crate) fn finish(&mut self) -> Status
+        requires room { HasRoom self.old [] }
+        ensures writes { WritesLast self.old self.new result }
+        ensures steady { IsSteady self.old self.new }
+        ensures part { self.new.part ≡ RunPart.Over result }
+        ensures again { is_running_in self.old.part ≡ false → self.new ≡ self.old }
+    {
+        match self.part {
+            RunPart::Heads => {
+                self.part = RunPart::Over(Status::ReadFault);
+                Status::ReadFault
+            }
+            RunPart::Body => self.finish_body(),
+            RunPart::Over(status) => status,
+        }
+    }
+
+    /// Ends what comes behind the line `%%`.
+    fn finish_body(&mut self) -> Status
+        requires room { HasRoom self.old [] }
+        requires body { self.old.part ≡ RunPart.Body }
+        ensures writes { WritesLast self.old self.new result }
+        ensures steady { IsSteady self.old self.new }
+        ensures part { self.new.part ≡ RunPart.Over result }
+    {
+        self.events.clear();
+        self.score.finish(&mut self.events);
+        write_events(
+            &mut self.writer,
+            &mut self.part,
+            &self.score,
+            self.events.slice(),
+        );
+        if let RunPart::Over(status) = self.part {
+            return status;
+        }
+        self.writer.last(false);
+        self.part = RunPart::Over(Status::ReadFault);
+        Status::ReadFault
+    }
+
+    /// Returns where the run stands.
+    pub(crate) fn part(&self) -> RunPart
+        ensures { result ≡ self.now.part }
+    {
+        self.part
+    }
+
+    /// Returns the bytes of the output that wait.
+    pub(crate) fn out(&self) -> &[u8]
+        ensures { result.now ≡ self.now.writer.out.items }
+    {
+        self.writer.out()
+    }
+
+    /// Returns the bytes of the messages that wait.
+    pub(crate) fn messages(&self) -> &[u8]
+        ensures { result.now ≡ self.now.writer.messages.items }
+    {
+        self.writer.messages()
+    }
+
+    /// Forgets the bytes that wait.
+    pub(crate) fn clear(&mut self)
+        ensures { self.new ≡ emptied self.old }
+    {
+        self.writer.clear();
+    }
+}
