@@ -15,7 +15,7 @@ use Rattle.gabc_notes.specs.ItemMachine.{events_left}
 use Rattle.gabc_notes.specs.Events.{finding_event, end_by_mark, is_missing}
 use Rattle.gabc_notes.specs.StageEvents.{events_in, event_list}
 use Rattle.gabc_notes.specs.declared.stage.Before.{Before}
-use Rattle.gabc_notes.specs.declared.stage.CharEvents.{CharEvents}
+use Rattle.gabc_notes.specs.StageEvents.{CharEvents}
 use Rattle.gabc_notes.specs.declared.stage.NoteEvent.{NoteEvent}
 use Rattle.gabc_notes.specs.declared.stage.NoteEvent.TheVariants.{Ended}
 use Rattle.gabc_notes.specs.declared.stage.NoteStage.{NoteStage}

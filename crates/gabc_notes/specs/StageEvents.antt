@@ -13,7 +13,6 @@ use Rattle.gabc_notes.specs.Events.{in_raw, digit_if, is_missing, finding_event,
 use Rattle.gabc_notes.specs.declared.item.ItemKind.{ItemKind}
 use Rattle.gabc_notes.specs.declared.item.ItemKind.TheVariants.{Attribute}
 use Rattle.gabc_notes.specs.declared.stage.Before.{Before}
-use Rattle.gabc_notes.specs.declared.stage.CharEvents.{CharEvents}
 use Rattle.gabc_notes.specs.declared.stage.NoteEnd.TheVariants.{Cut}
 use Rattle.gabc_notes.specs.declared.stage.NoteEvent.{NoteEvent}
 use Rattle.gabc_notes.specs.declared.stage.NoteEvent.TheVariants.{Kept, Ended}
@@ -86,6 +85,12 @@ before_in Keep b e x = record {
   whole = if e.whole_after then count_plus b.kept x.c else b.whole;
 }
 before_in _ b e x = b
+
+-- what a character emits: at most three events
+pub record CharEvents : Type 0 where
+  pub first : Option NoteEvent
+  pub second : Option NoteEvent
+  pub third : Option NoteEvent
 
 -- What a character emits. At the end of the snippet an unfinished end is E6, and an open `@[` is W10.
 abbrev pub events_in : CharRole → ℕ → Before → CharFacts → Char → CharEvents

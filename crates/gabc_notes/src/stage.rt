@@ -1,13 +1,13 @@
 //! A machine that reads a snippet a character at a time.
 
-ghost use Rattle.std.specs.Prelude.{◌≡◌, List, []};
+ghost use Rattle.std.specs.Prelude.{◌≡◌, ℕ, List};
 ghost use Rattle.gabc_places.specs.declared.place.Char.{Char};
 ghost use Rattle.gabc_places.specs.BoundedList.{Fits, extended_by};
 ghost use Rattle.gabc_notes.specs.machine.ItemMachine.{raw_state, attribute_state, digit_of_prefix, facts_by_states, prefix_with, prefix_after, stage_after};
 ghost use Rattle.gabc_notes.specs.ItemMachine.{events_left};
 ghost use Rattle.gabc_notes.specs.Ends.{is_ended};
 ghost use Rattle.gabc_notes.specs.StageEvents.{role_in, warning_in, before_in, events_in, event_list};
-ghost use Rattle.gabc_notes.specs.Events.{is_defined, end_by_mark, note_events};
+ghost use Rattle.gabc_notes.specs.Events.{is_defined, end_by_mark, finding_event, note_events};
 
 use crate::class::class_of;
 use crate::state::{FullItem, ItemState, is_whole, next_state};
@@ -92,14 +92,6 @@ pub(crate) enum MacroPrefix {
     /// Behind a character more.
     Last(char),
     Other,
-}
-
-/// The events of one call.
-#[derive(Clone, Copy)]
-pub(crate) struct CharEvents {
-    pub(crate) first: Option<NoteEvent>,
-    pub(crate) second: Option<NoteEvent>,
-    pub(crate) third: Option<NoteEvent>,
 }
 
 /// Returns whether the kept text lies inside raw.
@@ -199,38 +191,34 @@ fn warning(macros: u16, before: Before, facts: CharFacts, x: Char) -> Option<Not
     }
 }
 
-/// Returns what stands before the next character.
-fn before_after(role: CharRole, before: Before, facts: CharFacts, x: Char) -> Before
-    ensures { result ≡ before_in role before facts x }
-{
-    match role {
-        CharRole::Comment => Before {
-            comment: true,
-            ..before
-        },
-        CharRole::LeaveOut => Before {
-            comment: false,
-            ..before
-        },
-        CharRole::Keep => {
-            let kept = before.kept.saturating_add(x.c.len_utf8());
-            Before {
-                place: if facts.raw { before.place } else { x.place },
-                fused: if facts.raw || facts.raw_after {
-                    before.fused
-                } else {
-                    x.c == '[' || (before.fused && x.c != ']')
-                },
-                comment: false,
-                kept,
-                whole: if facts.whole_after {
-                    kept
-                } else {
-                    before.whole
-                },
+impl Before {
+    /// Goes past a character that is kept.
+    fn keep(&mut self, facts: CharFacts, x: Char)
+        ensures { self.new ≡ before_in CharRole.Keep self.old facts x }
+    {
+        self.kept = self.kept.saturating_add(x.c.len_utf8());
+        if facts.whole_after {
+            self.whole = self.kept;
+        }
+        if !facts.raw {
+            self.place = x.place;
+            if !facts.raw_after {
+                self.fused = x.c == '[' || (self.fused && x.c != ']');
             }
         }
-        _ => before,
+        self.comment = false;
+    }
+
+    /// Goes past a character with this role.
+    fn pass(&mut self, role: CharRole, facts: CharFacts, x: Char)
+        ensures { self.new ≡ before_in role self.old facts x }
+    {
+        match role {
+            CharRole::Keep => self.keep(facts, x),
+            CharRole::Comment => self.comment = true,
+            CharRole::LeaveOut => self.comment = false,
+            CharRole::Silent | CharRole::Ends => {}
+        }
     }
 }
 
@@ -245,56 +233,57 @@ fn end_of(c: char) -> NoteEnd
     }
 }
 
-/// Returns what is emitted at a character.
-fn events_by(role: CharRole, macros: u16, before: Before, facts: CharFacts, x: Char) -> CharEvents
-    ensures { result ≡ events_in role macros before facts x }
+/// Returns the finding of this code at a character.
+fn found(x: Char, code: Code) -> NoteEvent
+    ensures { result ≡ finding_event x.place code }
 {
-    let found = |code| {
-        Some(NoteEvent::Found(Finding {
-            place: x.place,
-            code,
-        }))
-    };
-    match role {
-        CharRole::Keep => CharEvents {
-            first: Some(NoteEvent::Kept(x)),
-            second: warning(macros, before, facts, x),
-            third: None,
-        },
-        CharRole::LeaveOut => CharEvents {
-            first: found(Code::E1),
-            second: None,
-            third: None,
-        },
-        CharRole::Ends => CharEvents {
-            first: if facts.whole { None } else { found(Code::E6) },
-            second: if before.fused { found(Code::W10) } else { None },
-            third: Some(NoteEvent::Ended {
-                how: end_of(x.c),
-                kept: before.whole,
-            }),
-        },
-        _ => CharEvents {
-            first: None,
-            second: None,
-            third: None,
-        },
-    }
+    NoteEvent::Found(Finding {
+        place: x.place,
+        code,
+    })
 }
 
-/// Adds what is emitted.
-fn send(events: CharEvents, out: &mut Room<NoteEvent>)
+/// Emits the end of the snippet: an unfinished end and an open `@[` are found there.
+fn emit_end(before: Before, facts: CharFacts, x: Char, out: &mut Room<NoteEvent>)
     requires { Fits out.old 3 }
-    ensures { out.new ≡ extended_by out.old (event_list events) }
+    ensures { (macros : ℕ) → out.new
+        ≡ extended_by out.old (event_list (events_in CharRole.Ends macros before facts x)) }
 {
-    if let Some(output) = events.first {
-        out.push(output);
+    if !facts.whole {
+        out.push(found(x, Code::E6));
     }
-    if let Some(output) = events.second {
-        out.push(output);
+    if before.fused {
+        out.push(found(x, Code::W10));
     }
-    if let Some(output) = events.third {
-        out.push(output);
+    out.push(NoteEvent::Ended {
+        how: end_of(x.c),
+        kept: before.whole,
+    });
+}
+
+/// Emits what a character brings that has this role.
+fn emit(
+    role: CharRole,
+    macros: u16,
+    before: Before,
+    facts: CharFacts,
+    x: Char,
+    out: &mut Room<NoteEvent>,
+)
+    requires { Fits out.old 3 }
+    ensures { out.new
+        ≡ extended_by out.old (event_list (events_in role macros before facts x)) }
+{
+    match role {
+        CharRole::Keep => {
+            out.push(NoteEvent::Kept(x));
+            if let Some(event) = warning(macros, before, facts, x) {
+                out.push(event);
+            }
+        }
+        CharRole::LeaveOut => out.push(found(x, Code::E1)),
+        CharRole::Ends => emit_end(before, facts, x, out),
+        CharRole::Silent | CharRole::Comment => {}
     }
 }
 
@@ -363,7 +352,7 @@ impl NoteStage {
             self.ended = true;
             return;
         }
-        self.before = before_after(role, self.before, facts, x);
+        self.before.pass(role, facts, x);
         if let (CharRole::Keep, Some(next)) = (role, next) {
             self.name = prefix_after(facts, self.name, x.c);
             self.state = next;
@@ -393,7 +382,7 @@ impl Stage for NoteStage {
         let next = next_state(self.state, class_of(x.c));
         let facts = look(self.state, next, self.name);
         let role = role_of(self.split, self.before.comment, facts, x.c);
-        send(events_by(role, self.macros, self.before, facts, x), out);
+        emit(role, self.macros, self.before, facts, x, out);
         self.advance(role, facts, next, x);
     }
 

@@ -2,7 +2,7 @@
 
 ghost use Rattle.std.specs.Prelude.{◌≡◌, ◌≢◌, ◌+◌, ◌≤◌, [], ◌∷◌, map, length};
 ghost use Rattle.gabc_places.specs.BoundedList.{Fits, extended_by};
-ghost use Rattle.gabc_score.specs.Events.{note_event as told_of_notes};
+ghost use Rattle.gabc_score.specs.Events.{innermost as with_innermost, note_event as told_of_notes};
 ghost use Rattle.gabc_score.specs.declared.events.BodyEvent.TheVariants.{Text as of_text};
 ghost use Rattle.gabc_score.specs.machine.BodyBuilder.{with_all, with_found};
 ghost use Rattle.gabc_score.specs.Syllable.{closes};
@@ -17,16 +17,23 @@ use gabc_notes::{NoteEnd, NoteEvent};
 use gabc_places::{Finding, Place, Room};
 use gabc_text::TextEvent;
 
+/// Returns how a snippet ended whose `(` stands at `opened`: where it is cut, with the place of its innermost open bracket.
+fn innermost(opened: Place, how: NoteEnd) -> NoteEnd
+    ensures { result ≡ with_innermost opened how }
+{
+    match how {
+        NoteEnd::Cut(place) if place.line == 0 => NoteEnd::Cut(opened),
+        how => how,
+    }
+}
+
 /// What a snippet of that line emitted, with the place of its innermost open bracket.
 pub(crate) fn note_event(line: u8, opened: Place, out: NoteEvent) -> BodyEvent
     ensures { result ≡ told_of_notes line opened out }
 {
     let out = match out {
-        NoteEvent::Ended {
-            how: NoteEnd::Cut(place),
-            kept,
-        } if place.line == 0 => NoteEvent::Ended {
-            how: NoteEnd::Cut(opened),
+        NoteEvent::Ended { how, kept } => NoteEvent::Ended {
+            how: innermost(opened, how),
             kept,
         },
         out => out,
@@ -54,35 +61,50 @@ pub(crate) fn emit_notes(line: u8, opened: Place, events: &[NoteEvent], out: &mu
     }
 }
 
-/// Adds the finding that is emitted, if one is.
-fn add_found(event: BodyEvent, found: &mut Room<Finding>)
-    requires { Fits found.old 1 }
-    ensures found { found.new ≡ with_found found.old (event ∷ []) }
+/// Adds an event of a text to what was gathered, and what is found with it to `found`.
+fn hold_in_text(event: TextEvent, pair: &mut SlotPair, found: &mut Room<Finding>)
+    requires reads { pair.old.used ≡ SlotUse.Reads }
+    requires fits { FitsEvent pair.old.gathered.limit pair.old.gathered.builder (of_text event) }
+    requires found { Fits found.old 1 }
+    ensures gathered { pair.new.gathered ≡ with_event pair.old.gathered (of_text event) }
+    ensures held { pair.new.held ≡ pair.old.held }
+    ensures used { pair.new.used ≡ used_by (closes (of_text event)) }
+    ensures found { found.new ≡ with_found found.old (of_text event ∷ []) }
     ensures few { length found.new.items ≤ length found.old.items + 1 }
 {
     match event {
-        BodyEvent::Text(TextEvent::Found(finding)) => found.push(finding),
-        BodyEvent::Notes {
-            line: _,
-            out: NoteEvent::Found(finding),
-        } => found.push(finding),
-        _ => {}
+        TextEvent::Found(finding) => found.push(finding),
+        TextEvent::Kept(_) | TextEvent::Part(_) | TextEvent::Ended(_) => pair.add_text(event),
     }
 }
 
-/// Adds an event to what was gathered, and what is found with it to `found`.
-fn hold_event(event: BodyEvent, pair: &mut SlotPair, found: &mut Room<Finding>)
+/// Adds an event of a snippet of that line to what was gathered, and what is found with it to `found`.
+fn hold_in_notes(
+    line: u8,
+    opened: Place,
+    event: NoteEvent,
+    pair: &mut SlotPair,
+    found: &mut Room<Finding>,
+)
     requires reads { pair.old.used ≡ SlotUse.Reads }
-    requires fits { FitsEvent pair.old.gathered.limit pair.old.gathered.builder event }
+    requires fits { FitsEvent pair.old.gathered.limit pair.old.gathered.builder
+        (told_of_notes line opened event) }
     requires found { Fits found.old 1 }
-    ensures gathered { pair.new.gathered ≡ with_event pair.old.gathered event }
+    ensures gathered { pair.new.gathered
+        ≡ with_event pair.old.gathered (told_of_notes line opened event) }
     ensures held { pair.new.held ≡ pair.old.held }
-    ensures used { pair.new.used ≡ used_by (closes event) }
-    ensures found { found.new ≡ with_found found.old (event ∷ []) }
+    ensures used { pair.new.used ≡ used_by (closes (told_of_notes line opened event)) }
+    ensures found { found.new ≡ with_found found.old (told_of_notes line opened event ∷ []) }
     ensures few { length found.new.items ≤ length found.old.items + 1 }
 {
-    pair.add(event);
-    add_found(event, found);
+    match event {
+        NoteEvent::Found(finding) => found.push(finding),
+        NoteEvent::Kept(_) => pair.add_note(line, event),
+        NoteEvent::Ended { how, kept } => {
+            let how = innermost(opened, how);
+            pair.add_note(line, NoteEvent::Ended { how, kept })
+        }
+    }
 }
 
 /// Adds the events of a text to what was gathered, and what is found among them to `found`.
@@ -98,7 +120,7 @@ pub(crate) fn hold_text(events: &[TextEvent], pair: &mut SlotPair, found: &mut R
     ensures found { found.new ≡ with_found found.old (map (λ o. of_text o) events.now) }
 {
     for event in events {
-        hold_event(BodyEvent::Text(*event), pair, found);
+        hold_in_text(*event, pair, found);
     }
 }
 
@@ -122,6 +144,6 @@ pub(crate) fn hold_notes(
         ≡ with_found found.old (map (told_of_notes line opened) events.now) }
 {
     for event in events {
-        hold_event(note_event(line, opened, *event), pair, found);
+        hold_in_notes(line, opened, *event, pair, found);
     }
 }

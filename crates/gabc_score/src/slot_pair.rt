@@ -1,7 +1,6 @@
 //! Two slots: one for the syllable that is read, and one for the last whole one.
 
 use crate::canonical::canonical_len;
-use crate::events::BodyEvent;
 use crate::slot::Slot;
 use crate::syllable::Syllable;
 use crate::syllables::position_by;
@@ -74,12 +73,12 @@ impl Model for SlotPair {
 impl SlotPair {
     ghost use Rattle.std.specs.Prelude.{◌≡◌, ◌≢◌, ◌||◌, ◌-◌, ◌<◌, ◌≤◌, ◌^◌, not, nat_lt, [], take, length, false, IfOk, if◌then◌else◌};
     ghost use Rattle.gabc_score.specs.Body.{has_text, is_none};
-    ghost use Rattle.gabc_score.specs.Syllable.{placed_of, closes};
+    ghost use Rattle.gabc_score.specs.Syllable.{placed_of};
     ghost use Rattle.gabc_score.specs.machine.BodyBuilder.{code_in, end_fault};
-    ghost use Rattle.gabc_score.specs.machine.Gatherer.{nothing_gathered, with_mark, with_mark_of, with_view_part, with_text_end, with_text, with_syllable, with_note_end, with_note, with_event, with_last};
+    ghost use Rattle.gabc_score.specs.machine.Gatherer.{nothing_gathered, with_mark, with_mark_of, with_view_part, with_text_end, with_text, with_syllable, with_note_end, with_note, with_last};
     ghost use Rattle.gabc_score.specs.machine.ScoreStage.{placed_behind, with_held};
-    ghost use Rattle.gabc_score.specs.machine.Slot.{FitsEvent, FitsText, FitsNote, FitsKept, FitsPiece, FitsSnippet};
-    ghost use Rattle.gabc_score.specs.machine.SlotPair.{is_made, used_by, used_past, given_of};
+    ghost use Rattle.gabc_score.specs.machine.Slot.{FitsText, FitsNote, FitsKept, FitsPiece, FitsSnippet};
+    ghost use Rattle.gabc_score.specs.machine.SlotPair.{is_made, used_past, given_of};
 
     /// Returns two slots in which nothing was read, and reserves room for syllables of `limit` bytes.
     pub(crate) fn with_limit(alloc: Global, limit: usize) -> Result<SlotPair, AllocError>
@@ -124,22 +123,8 @@ impl SlotPair {
         self.used = SlotUse::Reads;
     }
 
-    /// Adds what is emitted next.
-    pub(crate) fn add(&mut self, event: BodyEvent)
-        requires reads { self.old.used ≡ SlotUse.Reads }
-        requires fits { FitsEvent self.old.gathered.limit self.old.gathered.builder event }
-        ensures gathered { self.new.gathered ≡ with_event self.old.gathered event }
-        ensures held { self.new.held ≡ self.old.held }
-        ensures used { self.new.used ≡ used_by (closes event) }
-    {
-        match event {
-            BodyEvent::Text(event) => self.add_text(event),
-            BodyEvent::Notes { line, out } => self.add_note(line, out),
-        }
-    }
-
     /// Adds what a text emits next.
-    fn add_text(&mut self, event: TextEvent)
+    pub(crate) fn add_text(&mut self, event: TextEvent)
         requires reads { self.old.used ≡ SlotUse.Reads }
         requires fits { FitsText self.old.gathered.limit self.old.gathered.builder event }
         ensures gathered { self.new.gathered ≡ with_text self.old.gathered event }
@@ -173,11 +158,13 @@ impl SlotPair {
         requires { self.old.used ≡ SlotUse.Reads }
         ensures { self.new ≡ record self.old { gathered = with_mark self.old.gathered piece } }
     {
-        let spelled = self.reader.slice(piece.span);
-        let eu = is_open_after(b"<eu>", b"</eu>", self.eu, piece.kind, spelled);
-        let nlba = is_open_after(b"<nlba>", b"</nlba>", self.nlba, piece.kind, spelled);
-        self.eu = eu;
-        self.nlba = nlba;
+        if let PieceKind::Mark = piece.kind {
+            let spelled = self.reader.slice(piece.span);
+            let eu = is_open_after(b"<eu>", b"</eu>", self.eu, piece.kind, spelled);
+            let nlba = is_open_after(b"<nlba>", b"</nlba>", self.nlba, piece.kind, spelled);
+            self.eu = eu;
+            self.nlba = nlba;
+        }
     }
 
     fn end_text(&mut self, end: TextEnd)
@@ -195,7 +182,7 @@ impl SlotPair {
     }
 
     /// Adds what a snippet of that line emits next.
-    fn add_note(&mut self, line: u8, event: NoteEvent)
+    pub(crate) fn add_note(&mut self, line: u8, event: NoteEvent)
         requires reads { self.old.used ≡ SlotUse.Reads }
         requires fits { FitsNote self.old.gathered.limit self.old.gathered.builder event }
         ensures gathered { self.new.gathered ≡ with_note self.old.gathered line event }

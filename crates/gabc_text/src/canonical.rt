@@ -145,8 +145,20 @@ fn needs_dollar(text: &[u8]) -> bool
     }
 }
 
-/// Puts the tags and braces between two neighbours with these styles.
+/// Puts the tags and braces between two neighbours with these styles. Where they are the same there are no tags.
 fn put_boundary<S: Put>(old: Styles, new: Styles, braces: &str, out: &mut S)
+    ensures { out.new
+        ≡ S.taken out.old (boundary (listed_styles old) (listed_styles new) braces.now) }
+{
+    if old == new {
+        out.put(braces.as_bytes());
+    } else {
+        put_change(old, new, braces, out);
+    }
+}
+
+/// Puts the tags and braces between two neighbours with these styles.
+fn put_change<S: Put>(old: Styles, new: Styles, braces: &str, out: &mut S)
     ensures { out.new
         ≡ S.taken out.old (boundary (listed_styles old) (listed_styles new) braces.now) }
 {

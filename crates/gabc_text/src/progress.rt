@@ -99,40 +99,6 @@ pub(crate) fn waiting_piece(
     }
 }
 
-/// Where the machine stands after a token, which ends before this place.
-pub(crate) fn progress_after(
-    facts: TextFacts,
-    progress: Progress,
-    kind: TokenKind,
-    effect: TagEffect,
-    place: Place,
-) -> Progress
-    ensures { result ≡ progress_after facts progress kind effect place }
-{
-    let pieces = match piece_at(facts, kind, effect) {
-        Some(_) => plus(progress.pieces, 1),
-        None => progress.pieces,
-    };
-    let begin = match kind {
-        TokenKind::Begin if !facts.begun => Some(progress.pieces),
-        _ => progress.begin,
-    };
-    let end = match kind {
-        TokenKind::End if facts.begun && !facts.ended => Some(progress.pieces),
-        _ => progress.end,
-    };
-    Progress {
-        place,
-        start: progress.kept,
-        next: progress.next,
-        kept: progress.kept,
-        pieces,
-        blank: waiting_piece(facts, progress, kind, effect),
-        begin,
-        end,
-    }
-}
-
 /// The centre of a text that ends here. No position is past the last piece that is emitted.
 pub(crate) fn centre(progress: Progress) -> Option<Span>
     ensures { result ≡ centre_by (count_by progress.pieces progress.blank)
@@ -157,17 +123,38 @@ pub(crate) fn centre(progress: Progress) -> Option<Span>
     }
 }
 
-/// Where the machine stands after a character, of which this was kept.
-pub(crate) fn progress_past(progress: Progress, c: char, kept: Option<char>) -> Progress
-    ensures { result ≡ progress_past progress c kept }
-{
-    let bytes = match kept {
-        Some(kept) => plus(progress.kept, kept.len_utf8()),
-        None => progress.kept,
-    };
-    Progress {
-        next: after_place(progress.next, c),
-        kept: bytes,
-        ..progress
+impl Progress {
+    /// Goes past a token, which ends before this place.
+    pub(crate) fn pass_token(
+        &mut self,
+        facts: TextFacts,
+        kind: TokenKind,
+        effect: TagEffect,
+        place: Place,
+    )
+        ensures { self.new ≡ progress_after facts self.old kind effect place }
+    {
+        let blank = waiting_piece(facts, *self, kind, effect);
+        match kind {
+            TokenKind::Begin if !facts.begun => self.begin = Some(self.pieces),
+            TokenKind::End if facts.begun && !facts.ended => self.end = Some(self.pieces),
+            _ => {}
+        }
+        if piece_at(facts, kind, effect).is_some() {
+            self.pieces = plus(self.pieces, 1);
+        }
+        self.blank = blank;
+        self.place = place;
+        self.start = self.kept;
+    }
+
+    /// Goes past a character, of which this was kept.
+    pub(crate) fn pass(&mut self, c: char, kept: Option<char>)
+        ensures { self.new ≡ progress_past self.old c kept }
+    {
+        if let Some(kept) = kept {
+            self.kept = plus(self.kept, kept.len_utf8());
+        }
+        self.next = after_place(self.next, c);
     }
 }

@@ -14,9 +14,9 @@ ghost use Rattle.gabc_text.specs.machine.RawPart.{stage_past, is_in_raw};
 ghost use Rattle.gabc_text.specs.Events.{CountsFit, codes_of, events_by_point};
 ghost use Rattle.gabc_text.specs.End.{is_end};
 
-use crate::progress::{Progress, centre, piece_there, plus, progress_after, progress_past};
+use crate::progress::{Progress, centre, piece_there, plus};
 use crate::styles::Styles;
-use crate::text_facts::{TextFacts, code_at, early_at, facts_after, keep, kind_of, no_facts};
+use crate::text_facts::{TextFacts, code_at, early_at, keep, kind_of, no_facts};
 use crate::token::{TagEffect, TokenKind};
 use crate::token_state::{
     Step, TokenState, is_plain, is_unmatched, kind_at_end, next_step, settled_kind,
@@ -239,8 +239,8 @@ impl TextStage {
         let code = code_at(self.facts, kind, effect);
         emit_code(out, self.progress.place, code);
         self.mode = TokenState::Plain;
-        self.progress = progress_after(self.facts, self.progress, kind, effect, place);
-        self.facts = facts_after(self.facts, kind, effect);
+        self.progress.pass_token(self.facts, kind, effect, place);
+        self.facts.pass(kind, effect);
     }
 
     /// The token, if any, that ends before the character.
@@ -273,7 +273,7 @@ impl TextStage {
         let early = early_at(self.facts, self.mode, c);
         emit_code(out, self.progress.place, early);
         emit_char(out, self.progress.next, kept);
-        self.progress = progress_past(self.progress, c, kept);
+        self.progress.pass(c, kept);
         match next_step(self.mode, c) {
             Step::Stays(mode) => self.mode = mode,
             Step::Ends { kind, effect } => {
@@ -332,7 +332,7 @@ impl TextStage {
         ensures { self.new ≡ stage_past self.old (chars text.now) }
     {
         for c in text.chars() {
-            self.progress = progress_past(self.progress, c, Some(c));
+            self.progress.pass(c, Some(c));
         }
     }
 

@@ -135,70 +135,60 @@ pub(crate) fn code_at(facts: TextFacts, kind: TokenKind, effect: TagEffect) -> O
     }
 }
 
-/// What has been seen after a piece that is no blank and no span mark.
-fn after_piece(facts: TextFacts) -> TextFacts
-    ensures { result ≡ after_piece facts }
-{
-    TextFacts {
-        word: true,
-        blank: false,
-        space: false,
-        ..facts
+impl TextFacts {
+    /// Sees a piece that is no blank and no span mark.
+    fn pass_piece(&mut self)
+        ensures { self.new ≡ after_piece self.old }
+    {
+        self.word = true;
+        self.blank = false;
+        self.space = false;
     }
-}
 
-/// What has been seen after a tag that does this.
-fn after_tag(facts: TextFacts, effect: TagEffect) -> TextFacts
-    ensures { result ≡ after_tag facts effect }
-{
-    match effect {
-        TagEffect::Mark => TextFacts {
-            blank: false,
-            space: false,
-            ..facts
-        },
-        TagEffect::Other => after_piece(facts),
-        _ => TextFacts {
-            styles: styles_after(facts.styles, effect),
-            space: false,
-            ..facts
-        },
+    /// Sees a tag that does this.
+    fn pass_tag(&mut self, effect: TagEffect)
+        ensures { self.new ≡ after_tag self.old effect }
+    {
+        match effect {
+            TagEffect::Mark => {
+                self.blank = false;
+                self.space = false;
+            }
+            TagEffect::Other => self.pass_piece(),
+            _ => {
+                self.styles = styles_after(self.styles, effect);
+                self.space = false;
+            }
+        }
     }
-}
 
-/// What has been seen after a token more.
-pub(crate) fn facts_after(facts: TextFacts, kind: TokenKind, effect: TagEffect) -> TextFacts
-    ensures { result ≡ facts_after facts kind effect }
-{
-    match kind {
-        TokenKind::Blank => TextFacts {
-            starts: !facts.word || facts.starts,
-            blank: true,
-            space: true,
-            ..facts
-        },
-        TokenKind::Letter | TokenKind::Raw => after_piece(facts),
-        TokenKind::Begin => TextFacts {
-            begun: true,
-            space: is_left_out(facts, kind) && facts.space,
-            ..facts
-        },
-        TokenKind::End => TextFacts {
-            ended: facts.begun || facts.ended,
-            space: is_left_out(facts, kind) && facts.space,
-            ..facts
-        },
-        TokenKind::Comment | TokenKind::Stray => facts,
-        TokenKind::Translation | TokenKind::OpenTranslation => TextFacts {
-            translated: true,
-            space: false,
-            ..facts
-        },
-        TokenKind::OpenTag => TextFacts {
-            space: false,
-            ..facts
-        },
-        TokenKind::Tag => after_tag(facts, effect),
+    /// Sees a token more.
+    pub(crate) fn pass(&mut self, kind: TokenKind, effect: TagEffect)
+        ensures { self.new ≡ facts_after self.old kind effect }
+    {
+        match kind {
+            TokenKind::Blank => {
+                self.starts = !self.word || self.starts;
+                self.blank = true;
+                self.space = true;
+            }
+            TokenKind::Letter | TokenKind::Raw => self.pass_piece(),
+            TokenKind::Begin => {
+                self.space = is_left_out(*self, kind) && self.space;
+                self.begun = true;
+            }
+            TokenKind::End => {
+                self.space = is_left_out(*self, kind) && self.space;
+                self.ended = self.begun || self.ended;
+            }
+            TokenKind::Comment | TokenKind::Stray => {}
+            TokenKind::Translation | TokenKind::OpenTranslation => {
+                self.translated = true;
+                self.space = false;
+            }
+            TokenKind::OpenTag => self.space = false,
+            TokenKind::Tag => self.pass_tag(effect),
+        }
     }
 }
 

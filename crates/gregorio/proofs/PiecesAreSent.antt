@@ -1,10 +1,10 @@
 -- What an engine writes of pieces of an input, and sinks take.
-use Rattle.std.proofs.Common.{◌≡◌, ℕ, ◌+◌, ◌-◌, ◌<◌, ◌≤◌, List, [], ◌++◌, length, take, drop, take-add, take_all, take-append-drop, length-append, length-drop, append_assoc, append-nil, Option, ◌⊎◌, inl, inr, refl, sym, ap, ◌∙◌, subst, arith}
+use Rattle.std.proofs.Common.{◌≡◌, ℕ, ◌+◌, ◌-◌, ◌<◌, ◌≤◌, List, [], ◌++◌, length, take, drop, take_all, take-append-drop, length-append, length-drop, append_assoc, Option, ◌⊎◌, inl, inr, refl, sym, ap, ◌∙◌, subst, arith}
 use Rattle.std.proofs.Math.Seq.{take-append_seam, take-append-add}
 use Rattle.std.proofs.KnownBytes.{Appends-nil, Appends-trans, Consumes-nil, Consumes-trans, Consumes-kept}
-use Rattle.std.specs.Io.KnownBytes.{Appends, Consumes, IsAtEnd, Keeps}
+use Rattle.std.specs.Io.KnownBytes.{Appends, Consumes, Keeps}
 use Rattle.gregorio.specs.declared.source_bytes.SourceEnding.{SourceEnding}
-use Rattle.gregorio.specs.declared.source_bytes.SourceEnding.TheVariants.{Whole, Broken}
+use Rattle.gregorio.specs.declared.source_bytes.SourceEnding.TheVariants.{Broken}
 use Rattle.gregorio.specs.Engine.{EngineState, NothingWaits, Streams, behind_bytes, streams_left, with_waiting}
 use Rattle.gregorio.specs.machine.Compile.{used, AreSent, AreCut, StreamsAreCut, IsFed, IsFedFrom, IsFedAll, IsFedInPart}
 
@@ -99,33 +99,6 @@ module _ {A B : Type 0} (wrote : A → Option (List ℕ)) (failed : A → ℕ) (
       let s = streams_left f ending rest in
       subst (StreamsAreCut (used wrote failed o q) (used told untold m r)) (sym (a.law rest ending)) (cut_after o p q m n r a.output a.lines s.output s.messages a.sent c)
 
-  -- ---- a call of `feed`, and what waits then
-
-  pub fed_once : (o p : A) (m n : B) (e f g : EngineState) (bytes : List ℕ) → IsTaken e f bytes → AreSent (used wrote failed o p) (used told untold m n) f.output f.messages → g ≡ record f { output = []; messages = [] }
-      → IsFed (used wrote failed o p) (used told untold m n) e g bytes
-  fed_once o p m n e f g bytes law s h = subst (λ (x : EngineState). IsFed (used wrote failed o p) (used told untold m n) e x bytes) (sym h) (record { output = f.output; lines = f.messages; sent = s; law = law })
-
-  cut_once : (o p : A) (m n : B) (e f : EngineState) (bytes rest : List ℕ) (ending : SourceEnding) → IsTaken e f bytes → AreCut (used wrote failed o p) (used told untold m n) f.output f.messages
-      → StreamsAreCut (used wrote failed o p) (used told untold m n) (streams_left e ending (bytes ++ rest))
-  cut_once o p m n e f bytes rest ending law c =
-      let s = streams_left f ending rest in
-      subst (StreamsAreCut (used wrote failed o p) (used told untold m n)) (sym (law rest ending)) (cut_longer o p m n f.output f.messages s.output s.messages c)
-
-  -- ---- a piece
-
-  pub piece_fed : (o p q : A) (m n r : B) (e f g : EngineState) (piece : List ℕ) (count k : ℕ) → IsFed (used wrote failed o p) (used told untold m n) e f (take count piece)
-      → IsFed (used wrote failed p q) (used told untold n r) f g (take k (drop count piece)) → IsFed (used wrote failed o q) (used told untold m r) e g (take (count + k) piece)
-  piece_fed o p q m n r e f g piece count k a b =
-      subst (IsFed (used wrote failed o q) (used told untold m r) e g) (sym (take-add count k piece)) (fed_on o p q m n r e f g (take count piece) (take k (drop count piece)) a b)
-
-  pub piece_cut : (o p q : A) (m n r : B) (e f g : EngineState) (piece : List ℕ) (count k : ℕ) (ending : SourceEnding) → IsFed (used wrote failed o p) (used told untold m n) e f (take count piece)
-      → IsTaken f g (take k (drop count piece)) → AreCut (used wrote failed p q) (used told untold n r) g.output g.messages → StreamsAreCut (used wrote failed o q) (used told untold m r) (streams_left e ending piece)
-  piece_cut o p q m n r e f g piece count k ending a law c =
-      let rest : List ℕ = drop count piece in
-      let whole : take count piece ++ (take k rest ++ drop k rest) ≡ piece = ap (λ (l : List ℕ). take count piece ++ l) (take-append-drop k rest) ∙ take-append-drop count piece in
-      subst (λ (l : List ℕ). StreamsAreCut (used wrote failed o q) (used told untold m r) (streams_left e ending l)) whole
-      (cut_by o p q m n r e f (take count piece) (take k rest ++ drop k rest) ending a (cut_once p q n r f g (take k rest) (drop k rest) ending law c))
-
   -- ---- an input
 
   module _ {C : Type 0} (left : C → Option (List ℕ)) (broke : C → ℕ) where
@@ -151,34 +124,6 @@ module _ {A B : Type 0} (wrote : A → Option (List ℕ)) (failed : A → ℕ) (
       consumed = Consumes-trans (left s) (left t) (left u) a.bytes xs a.consumed c;
       within = omega (arith, a.counted, within, length-append a.bytes xs);
       cut = cut_by o p q m n r e f a.bytes xs Broken a.fed (cut Broken);
-    }
-
-    pub all_at_end : (limit : ℕ) (s t u : C) (o p : A) (m n : B) (e f : EngineState) (count : ℕ) → IsFedFrom (used left broke s t) (used wrote failed o p) (used told untold m n) e f count
-        → Consumes (left t) (left u) [] → IsAtEnd (left u) → broke u ≡ broke t → count ≤ limit + 1 → IsFedAll limit (used left broke s u) (used wrote failed o p) (used told untold m n) e f Whole
-    all_at_end limit s t u o p m n e f count a c end st within = record {
-      bytes = a.bytes;
-      reads = record {
-        consumed = subst (Consumes (left s) (left u)) (append-nil a.bytes) (Consumes-trans (left s) (left t) (left u) a.bytes [] a.consumed c);
-        within = omega (arith, a.counted, within);
-        whole = λ _ _. end;
-        broken = λ no. cc;
-        steady = λ _. st ∙ a.steady;
-      };
-      fed = a.fed;
-    }
-
-    pub all_in_full : (limit : ℕ) (s t : C) (o p : A) (m n : B) (e f : EngineState) → IsFedFrom (used left broke s t) (used wrote failed o p) (used told untold m n) e f (limit + 1)
-        → IsFedAll limit (used left broke s t) (used wrote failed o p) (used told untold m n) e f Whole
-    all_in_full limit s t o p m n e f a = record {
-      bytes = a.bytes;
-      reads = record {
-        consumed = a.consumed;
-        within = omega (arith, a.counted);
-        whole = λ _ few. absurd (omega (arith, a.counted, few));
-        broken = λ no. cc;
-        steady = λ _. a.steady;
-      };
-      fed = a.fed;
     }
 
     pub all_broken : (limit : ℕ) (s t u : C) (o p : A) (m n : B) (e f : EngineState) (count : ℕ) → IsFedFrom (used left broke s t) (used wrote failed o p) (used told untold m n) e f count

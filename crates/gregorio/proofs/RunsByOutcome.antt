@@ -52,6 +52,10 @@ never_sunk None true errors s = cc
 never_sunk None false true s = cc
 never_sunk None false false s = cc
 
+-- the status of a sink's failure is not that of a source's
+pub sunk_is_not_broken : WriteFault ≡ ReadFault → ⊥
+sunk_is_not_broken e = cc
+
 -- what an engine says of every input
 abbrev SaysOutcomes : Job → Limits → EngineState → Type 0
 SaysOutcomes job limits e = (bytes : List ℕ) (ending : SourceEnding) → streams_left e ending bytes ≡ streams_of_outcome job (outcome_of limits ending bytes)

@@ -1,3 +1,4 @@
+pub mod Buffers
 pub mod Compile
 pub mod Engine
 pub mod RunWriter

@@ -287,6 +287,7 @@ impl Engine {
         ensures over { is_running self.new ≡ false }
         ensures again { is_running self.old ≡ false → self.new ≡ self.old }
     {
+        // The stages read no end.
         self.writer.finish()
     }
 

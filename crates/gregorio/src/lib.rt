@@ -13,6 +13,7 @@
 //! ```
 #![tactic(auto)]
 
+mod buffers;
 mod canonical;
 mod dump;
 mod engine;

@@ -1,20 +1,26 @@
 //! A run from its source to its sinks.
 
-ghost use Rattle.std.specs.Prelude.{◌≡◌, ◌≢◌, ◌<◌, ◌⊎◌, [], IfOk, OnOk, OnErr};
+ghost use Rattle.std.specs.Prelude.{◌≡◌, ◌≢◌, ◌<◌, ◌⊎◌, ◌++◌, ℕ, List, [], IfOk, OnOk, OnErr};
 ghost use Rattle.gregorio_jobs.specs.declared.job.Status.TheVariants.{ReadFault, WriteFault};
 ghost use Rattle.gregorio.specs.declared.source_bytes.SourceEnding.{SourceEnding as Ending};
-ghost use Rattle.gregorio.specs.Engine.{NothingWaits, ended_with, streams_left, with_waiting};
-ghost use Rattle.gregorio.specs.Run.{Compiles, Use};
+ghost use Rattle.gregorio.specs.Engine.{NothingWaits, ended_with, streams_left, streams_of_outcome, with_waiting};
+ghost use Rattle.gregorio.specs.Outcome.{outcome_of};
+ghost use Rattle.gregorio.specs.Run.{Compiles};
+ghost use Rattle.gregorio.specs.machine.Buffers.{AreBuffered, nothing_buffered};
 ghost use Rattle.gregorio.specs.machine.Compile.{AreCut, AreSent, IsFed, IsFedAll, IsFedInPart, StreamsAreCut, used};
 
+use crate::buffers::{Buffers, send_both};
 use crate::engine::Engine;
 use crate::source_bytes::SourceEnding;
-use gabc_places::{Limits, Sink, Source, Unsent, send_all};
+use gabc_places::{Limits, Sink, Source, Unsent};
 use gregorio_jobs::{Job, Status};
-use std::alloc::Global;
+use std::alloc::{AllocError, Global};
 
 /// How many bytes one read asks for at most.
 const PIECE: usize = 8192;
+
+/// How many bytes of the output, and of the messages, are gathered at most before they are sent.
+const BUFFERED: usize = 65_536;
 
 /// Sends what waits: the output, and then the messages.
 fn send_waiting<O: Sink, M: Sink>(
@@ -30,21 +36,45 @@ fn send_waiting<O: Sink, M: Sink>(
         (used M.written M.failures messages.old messages.new)
         engine.old.output engine.old.messages) }
 {
-    send_all(out, engine.out())?;
-    send_all(messages, engine.messages())?;
+    send_both(engine.out(), engine.messages(), out, messages)?;
     engine.taken();
     Ok(())
 }
 
-/// Feeds all of `piece` to `engine`, and sends what it writes.
+/// Gathers what waits. Where there is no room for it, what was gathered is sent, and then what waits.
+fn buffer_waiting<O: Sink, M: Sink>(
+    engine: &mut Engine,
+    buffers: &mut Buffers,
+    out: &mut O,
+    messages: &mut M,
+) -> Result<(), Unsent>
+    ensures buffers { OnOk result (AreBuffered (used O.written O.failures out.old out.new)
+        (used M.written M.failures messages.old messages.new)
+        buffers.old engine.old buffers.new engine.new) }
+    ensures cut { OnErr result (AreCut (used O.written O.failures out.old out.new)
+        (used M.written M.failures messages.old messages.new)
+        (buffers.old.output ++ engine.old.output) (buffers.old.messages ++ engine.old.messages)) }
+{
+    if buffers.take(engine) {
+        return Ok(());
+    }
+    buffers.send(out, messages)?;
+    send_waiting(engine, out, messages)?;
+    Ok(())
+}
+
+/// Feeds all of `piece` to `engine`, and sends what it writes. The buffers are empty before and afterwards.
 fn feed_piece<O: Sink, M: Sink>(
     engine: &mut Engine,
     piece: &[u8],
+    buffers: &mut Buffers,
     out: &mut O,
     messages: &mut M,
 ) -> Result<(), Unsent>
     requires waits { NothingWaits engine.old }
+    requires buffers { buffers.old ≡ nothing_buffered }
     ensures waits { OnOk result (NothingWaits engine.new) }
+    ensures buffers { OnOk result (buffers.new ≡ nothing_buffered) }
     ensures fed { OnOk result (IsFed (used O.written O.failures out.old out.new)
         (used M.written M.failures messages.old messages.new)
         engine.old engine.new piece.now) }
@@ -56,8 +86,9 @@ fn feed_piece<O: Sink, M: Sink>(
     let mut count = 0;
     while count < piece.len() {
         count += engine.feed(&piece[count..]);
-        send_waiting(engine, out, messages)?;
+        buffer_waiting(engine, buffers, out, messages)?;
     }
+    buffers.send(out, messages)?;
     Ok(())
 }
 
@@ -65,11 +96,13 @@ fn feed_piece<O: Sink, M: Sink>(
 fn feed_all<S: Source, O: Sink, M: Sink>(
     engine: &mut Engine,
     limit: u32,
+    buffers: &mut Buffers,
     source: &mut S,
     out: &mut O,
     messages: &mut M,
 ) -> Result<SourceEnding, Unsent>
     requires waits { NothingWaits engine.old }
+    requires buffers { buffers.old ≡ nothing_buffered }
     ensures waits { OnOk result (NothingWaits engine.new) }
     ensures fed { IfOk result (λ ending.
         IsFedAll limit (used S.remaining S.failures source.old source.new)
@@ -91,7 +124,7 @@ fn feed_all<S: Source, O: Sink, M: Sink>(
         match source.read(piece) {
             Ok(0) => break,
             Ok(n) => {
-                feed_piece(engine, &piece[..n], out, messages)?;
+                feed_piece(engine, &piece[..n], buffers, out, messages)?;
                 taken += n;
             }
             Err(_) => return Ok(SourceEnding::Broken),
@@ -112,9 +145,21 @@ fn end_by(engine: &mut Engine, ending: SourceEnding) -> Status
     }
 }
 
+/// Returns an engine for `job` and empty buffers, and reserves the memory that a run ever takes.
+fn start(alloc: Global, job: &Job, limits: Limits) -> Result<(Engine, Buffers), AllocError>
+    ensures all { IfOk result (λ both. (bytes : List ℕ) (ending : Ending) →
+        streams_left both.0 ending bytes ≡ streams_of_outcome job.now (outcome_of limits ending bytes)) }
+    ensures waits { IfOk result (λ both. NothingWaits both.0) }
+    ensures buffers { IfOk result (λ both. both.1 ≡ nothing_buffered) }
+{
+    let engine = Engine::new(alloc, job, limits)?;
+    let buffers = Buffers::with_limit(alloc, BUFFERED)?;
+    Ok((engine, buffers))
+}
+
 /// Reads a score from `source`, at most `limits.input` bytes and one more, writes it in the format of `job` to `out`, and its
 /// messages to `messages`. Returns how it went. At `WriteFault` each sink holds a prefix of its text; at `NoMemory` nothing was read
-/// or written. What is known of the score is written before the next bytes are read.
+/// or written.
 pub fn compile<S: Source, O: Sink, M: Sink>(
     alloc: Global,
     job: &Job,
@@ -149,10 +194,17 @@ pub fn compile<S: Source, O: Sink, M: Sink>(
     ensures steady { result ≢ WriteFault → (O.failures out.new ≡ O.failures out.old) ×
         (M.failures messages.new ≡ M.failures messages.old) }
 {
-    let Ok(mut engine) = Engine::new(alloc, job, limits) else {
+    let Ok((mut engine, mut buffers)) = start(alloc, job, limits) else {
         return Status::NoMemory;
     };
-    let Ok(ending) = feed_all(&mut engine, limits.input, source, out, messages) else {
+    let Ok(ending) = feed_all(
+        &mut engine,
+        limits.input,
+        &mut buffers,
+        source,
+        out,
+        messages,
+    ) else {
         return Status::WriteFault;
     };
     let status = end_by(&mut engine, ending);

@@ -1,13 +1,14 @@
 //! Runs the chant reader on rows of inputs and on scores, each with the output and the messages that it must give; the rows
-//! also have the status. What is wanted was computed or written apart from this project, but for the dumps of the scores: the program
-//! wrote these, and they were read by hand. Makes the calls of the crates below by rows of a call, its input and its answer, which were
-//! worked by hand. Prints the rows and scores that differ, and how many agree.
+//! also have the status. Makes each run from a source, and again in pieces of several lengths. What is wanted was computed or written apart
+//! from this project, but for the dumps of the scores: the program wrote these, and they were read by hand. Makes the calls of the crates
+//! below by rows of a call, its input and its answer, which were worked by hand. Prints the rows and scores that differ, and how many agree.
 #![tactic(auto)]
 
 mod call;
 mod nabc;
 mod neumes;
 mod notes;
+mod pieces;
 mod row;
 mod run;
 mod scores;
@@ -18,8 +19,9 @@ mod writes;
 use call::is_answered;
 use gabc_places::Limits;
 use gregorio::Format;
+use pieces::{Wanted, agrees_in_pieces};
 use row::{Row, row_of};
-use run::run;
+use run::{Request, run};
 use std::alloc::Global;
 use std::{fs, io};
 
@@ -45,40 +47,61 @@ const CALLS: [&str; 6] = [
     "writes.tsv",
 ];
 
+/// The run that a row asks for, if there are such limits.
+fn request_of(row: &Row) -> Option<Request<'_>> {
+    Some(Request {
+        format: row.format,
+        bytes: row.bytes.as_slice(),
+        broken: row.broken,
+        limits: Limits::new(row.header, row.syllable, row.input)?,
+        all_warnings: row.all_warnings,
+    })
+}
+
 /// Whether a run on the row's input gives what the row says.
 fn agrees(alloc: Global, row: &Row) -> bool {
-    let Some(limits) = Limits::new(row.header, row.syllable, row.input) else {
+    let Some(asked) = request_of(row) else {
         return false;
     };
-    let ran = run(
-        alloc,
-        row.format,
-        row.bytes.as_slice(),
-        row.broken,
-        limits,
-        row.all_warnings,
-    );
+    let ran = run(alloc, asked);
     ran.output.inner().as_slice() == row.output.as_slice()
         && ran.messages.inner().as_slice() == row.messages.as_slice()
         && ran.status == row.status
 }
 
+/// Whether runs that take the row's input in pieces give what the row says.
+fn row_agrees_in_pieces(alloc: Global, row: &Row) -> bool {
+    let Some(asked) = request_of(row) else {
+        return false;
+    };
+    let wanted = Wanted {
+        output: row.output.as_slice(),
+        messages: row.messages.as_slice(),
+    };
+    agrees_in_pieces(alloc, asked, wanted, row.status)
+}
+
 /// Whether a run on this canonical form writes it again, with no error, under these limits, and so does a run on what that wrote.
 fn gives_itself(alloc: Global, canonical: &[u8], limits: Limits) -> bool {
-    let second = run(alloc, Format::Gabc, canonical, false, limits, false);
+    let second = run(alloc, Request::on(Format::Gabc, canonical, limits));
     let again = second.output.inner().as_slice();
-    let third = run(alloc, Format::Gabc, again, false, limits, false);
+    let third = run(alloc, Request::on(Format::Gabc, again, limits));
     again == canonical
         && third.output.inner().as_slice() == canonical
         && second.status == 0
         && third.status == 0
 }
 
-/// Whether the dump of this canonical form is that of the row. Where the row's run was stopped, its dump lacks the last line.
-fn gives_its_dump(alloc: Global, row: &Row, canonical: &[u8], limits: Limits) -> bool {
-    let bytes = row.bytes.as_slice();
-    let stopped = run(alloc, Format::Dump, bytes, row.broken, limits, false);
-    let again = run(alloc, Format::Dump, canonical, false, limits, false);
+/// Whether the dump of this canonical form is that of the run's input. Where that run was stopped, its dump lacks the last line.
+fn gives_its_dump(alloc: Global, asked: Request, canonical: &[u8]) -> bool {
+    let stopped = run(
+        alloc,
+        Request {
+            format: Format::Dump,
+            ..asked
+        },
+    );
+    let again = run(alloc, Request::on(Format::Dump, canonical, asked.limits));
     match again
         .output
         .inner()
@@ -92,14 +115,19 @@ fn gives_its_dump(alloc: Global, row: &Row, canonical: &[u8], limits: Limits) ->
 
 /// Whether the canonical form of the row, where its headers are whole, is read again as itself, twice, and has its dump.
 fn is_kept(alloc: Global, row: &Row) -> bool {
-    let Some(limits) = Limits::new(row.header, row.syllable, row.input) else {
+    let Some(asked) = request_of(row) else {
         return false;
     };
-    let bytes = row.bytes.as_slice();
-    let first = run(alloc, Format::Gabc, bytes, row.broken, limits, false);
+    let first = run(
+        alloc,
+        Request {
+            format: Format::Gabc,
+            ..asked
+        },
+    );
     let canonical = first.output.inner().as_slice();
     canonical.is_empty()
-        || gives_itself(alloc, canonical, limits) && gives_its_dump(alloc, row, canonical, limits)
+        || gives_itself(alloc, canonical, asked.limits) && gives_its_dump(alloc, asked, canonical)
 }
 
 /// Whether the run on this line of a file gives what its row says. Tells where it does not.
@@ -107,6 +135,9 @@ fn row_agrees(rt: &HostRuntime, path: &str, number: usize, line: &str) -> io::Re
     match row_of(rt.alloc(), line)? {
         Some(row) if !agrees(rt.alloc(), &row) => {
             println!(rt; "{path}: the run on line {number} differs")?;
+        }
+        Some(row) if !row_agrees_in_pieces(rt.alloc(), &row) => {
+            println!(rt; "{path}: the run on line {number} differs in pieces")?;
         }
         Some(row) if !is_kept(rt.alloc(), &row) => {
             println!(rt; "{path}: the output of line {number} is not read again as itself")?;
@@ -140,10 +171,16 @@ fn read_file(rt: &HostRuntime, name: &str, ending: &str) -> io::Result<String> {
     fs::read_to_string(rt, path.as_str())
 }
 
-/// Whether a score gives this output in this format, and these messages.
+/// Whether a score gives this output in this format, and these messages, whole and in pieces.
 fn gives(alloc: Global, format: Format, score: &[u8], output: &[u8], messages: &[u8]) -> bool {
-    let ran = run(alloc, format, score, false, Limits::DEFAULT, true);
-    ran.output.inner().as_slice() == output && ran.messages.inner().as_slice() == messages
+    let asked = Request {
+        all_warnings: true,
+        ..Request::on(format, score, Limits::DEFAULT)
+    };
+    let ran = run(alloc, asked);
+    ran.output.inner().as_slice() == output
+        && ran.messages.inner().as_slice() == messages
+        && agrees_in_pieces(alloc, asked, Wanted { output, messages }, ran.status)
 }
 
 /// Whether a score gives its canonical form, its dump and its messages, and the canonical form itself.

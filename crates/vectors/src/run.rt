@@ -4,6 +4,29 @@ use gabc_places::{Limits, ToWriter, TrialSource};
 use gregorio::{Format, Input, Job, Output, compile};
 use std::alloc::Global;
 
+/// What a run is asked for: its source has these bytes, and fails behind them if it is `broken`.
+#[derive(Clone, Copy)]
+pub(crate) struct Request<'a> {
+    pub format: Format,
+    pub bytes: &'a [u8],
+    pub broken: bool,
+    pub limits: Limits,
+    pub all_warnings: bool,
+}
+
+impl<'a> Request<'a> {
+    /// A run on bytes from a source that does not fail, which wants no warnings.
+    pub(crate) fn on(format: Format, bytes: &'a [u8], limits: Limits) -> Request<'a> {
+        Request {
+            format,
+            bytes,
+            broken: false,
+            limits,
+            all_warnings: false,
+        }
+    }
+}
+
 /// What a run wrote, and its exit status.
 #[derive(Drop)]
 pub(crate) struct RunResult {
@@ -12,27 +35,35 @@ pub(crate) struct RunResult {
     pub status: u8,
 }
 
-/// Runs the reader on these bytes, from a source that fails behind them if it is `broken`.
-pub(crate) fn run(
-    alloc: Global,
-    format: Format,
-    bytes: &[u8],
-    broken: bool,
-    limits: Limits,
-    all_warnings: bool,
-) -> RunResult {
-    let job = Job {
+/// Returns a job in this format.
+pub(crate) fn job(format: Format, all_warnings: bool) -> Job {
+    Job {
         format,
         input: Input::Stdin,
         output: Output::Stdout,
         messages: None,
         all_warnings,
+    }
+}
+
+/// Makes a run of the reader.
+pub(crate) fn run(alloc: Global, asked: Request) -> RunResult {
+    let fails_after = if asked.broken {
+        Some(asked.bytes.len())
+    } else {
+        None
     };
-    let fails_after = if broken { Some(bytes.len()) } else { None };
-    let mut source = TrialSource::new(bytes, 4096, fails_after);
+    let mut source = TrialSource::new(asked.bytes, 4096, fails_after);
     let mut output = ToWriter::new(Vec::new(alloc));
     let mut messages = ToWriter::new(Vec::new(alloc));
-    let status = compile(alloc, &job, limits, &mut source, &mut output, &mut messages);
+    let status = compile(
+        alloc,
+        &job(asked.format, asked.all_warnings),
+        asked.limits,
+        &mut source,
+        &mut output,
+        &mut messages,
+    );
     RunResult {
         output,
         messages,

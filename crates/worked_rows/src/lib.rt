@@ -1,7 +1,10 @@
 //! Tests of what rows of data cannot tell: the examples that the documents of the crates show; what words want; a source that fails in mid-stream,
-//! and sinks that take little and then fail. Rows of calls and of runs are the data of the program `vectors`.
+//! and sinks that take little and then fail; with which byte an engine writes what. Rows of calls and of runs are the data of the program
+//! `vectors`.
 #![tactic(auto)]
 
+#[cfg(test)]
+mod engine;
 #[cfg(test)]
 mod examples;
 #[cfg(test)]

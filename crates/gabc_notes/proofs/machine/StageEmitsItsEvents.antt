@@ -25,7 +25,7 @@ use Rattle.gabc_notes.proofs.machine.MachineReadsTable.{machine, snippets_read}
 use Rattle.gabc_notes.proofs.machine.EventsDependOnState.{at_end, raw_at, facts_at, facts_by, Alike, events_alike}
 use Rattle.gabc_places.specs.BoundedList.{BoundedList, extended_by}
 use Rattle.gabc_places.specs.StageLaw.{Pushes, silence}
-use Rattle.gabc_notes.specs.declared.stage.CharEvents.{CharEvents}
+use Rattle.gabc_notes.specs.StageEvents.{CharEvents}
 
 -- whether a state lies inside raw
 pub raw_is : (s : ItemState) → raw_at (reading gabc machine s) ≡ raw_state s

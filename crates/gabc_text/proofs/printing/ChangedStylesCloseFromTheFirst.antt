@@ -1,6 +1,7 @@
 -- The styles that do not stay open between two neighbours are those from the first one on in which they differ.
-use Rattle.std.proofs.Common.{◌≡◌, ℕ, ◌==◌, ◌&&◌, not, [], ◌∷◌, Bool, true, false, cond, refl, sym, ap, ◌∙◌, ne_eqb, List, ◌++◌, reverse}
+use Rattle.std.proofs.Common.{◌≡◌, ℕ, ◌==◌, ◌&&◌, not, [], ◌∷◌, Bool, true, false, cond, refl, sym, ap, ◌∙◌, ne_eqb, append-nil, List, ◌++◌, reverse}
 use Rattle.std.proofs.lemmas.Bool.{eqb-false}
+use Rattle.std.proofs.Math.Bool.{beq, and-true}
 use Rattle.std.specs.List.{filter, flat_map}
 use Rattle.gabc_text.specs.declared.styles.Style.{Style}
 use Rattle.gabc_text.specs.declared.styles.Style.TheVariants.{B, C, E, I, Sc, Tt, Ul}
@@ -103,3 +104,34 @@ common_is old new =
 pub boundary_is : (old new : Styles) (m : List ℕ) → boundary (listed_styles old) (listed_styles new) m
     ≡ flat_map style_closing (reverse (listed_styles (common_styles old (changed_styles old new)))) ++ (m ++ flat_map style_opening (listed_styles (common_styles new (changed_styles old new))))
 boundary_is old new m = ap (λ (x : List Style × List Style). flat_map style_closing (reverse x.0) ++ (m ++ flat_map style_opening x.1)) (common_is old new)
+
+-- nothing is left of a list after what it has in common with itself
+none_after : (ss : List Style) → after_common ss ss ≡ ([], [])
+none_after [] = refl
+none_after (s ∷ ss) = rw (same_self s) (none_after ss)
+
+-- between neighbours with the same styles there are no tags
+pub boundary_of_same : (ss : List Style) (middle : List ℕ) → boundary ss ss middle ≡ middle
+boundary_of_same ss middle = rw (none_after ss) (append-nil middle)
+
+and_same : (a b c : Bool) → (beq a b && c) ≡ true → (a ≡ b) × (c ≡ true)
+and_same true true c e = (refl, e)
+and_same false false c e = (refl, e)
+and_same true false c e = absurd (cc)
+and_same false true c e = absurd (cc)
+
+-- sets of styles that compare as equal are the same
+pub same_styles : (s t : Styles) → (beq s.b t.b && (beq s.c t.c && (beq s.e t.e && (beq s.i t.i && (beq s.sc t.sc && (beq s.tt t.tt && beq s.ul t.ul)))))) ≡ true → s ≡ t
+same_styles s t h =
+    let b = and_same s.b t.b _ h in
+    let c = and_same s.c t.c _ b.1 in
+    let e = and_same s.e t.e _ c.1 in
+    let i = and_same s.i t.i _ e.1 in
+    let sc = and_same s.sc t.sc _ i.1 in
+    let tt = and_same s.tt t.tt _ sc.1 in
+    let ul = and_same s.ul t.ul true (and-true (beq s.ul t.ul) ∙ tt.1) in
+    all s.b s.c s.e s.i s.sc s.tt s.ul t b.0 c.0 e.0 i.0 sc.0 tt.0 ul.0
+  where
+    all : (b c e i sc tt ul : Bool) (t : Styles) → b ≡ t.b → c ≡ t.c → e ≡ t.e → i ≡ t.i → sc ≡ t.sc → tt ≡ t.tt → ul ≡ t.ul
+        → record { b = b; c = c; e = e; i = i; sc = sc; tt = tt; ul = ul } ≡ t
+    all b c e i sc tt ul t f g h j k l m = rw (f, g, h, j, k, l, m) refl

@@ -1,11 +1,7 @@
-use Rattle.std.proofs.Common.{[], ◌∷◌, ◌∙◌, ap, arith}
+use Rattle.std.proofs.Common.{◌∙◌, ap, arith}
 use Rattle.gabc_places.specs.declared.code.Finding.{Finding}
 use Rattle.gabc_places.specs.BoundedList.{BoundedList}
 use Rattle.gabc_score.specs.Events.{note_event as told_of_notes}
-use Rattle.gabc_score.specs.Syllable.{closes}
-use Rattle.gabc_score.specs.machine.Gatherer.{with_event}
-use Rattle.gabc_score.specs.machine.BodyBuilder.{with_found}
-use Rattle.gabc_score.specs.machine.SlotPair.{used_by}
 use Rattle.gabc_score.proofs.building.EachEventFits.{is_next}
 use Rattle.gabc_score.proofs.building.EventsOfOnePoint.{with_all_more, with_found_more}
 use Rattle.gabc_score.proofs.part_events.hold_notes.Goals as goal
@@ -13,20 +9,18 @@ use Rattle.gabc_score.proofs.part_events.hold_notes.Goals as goal
 pub loop-event-preserved : goal.loop-event-preserved
 loop-event-preserved c =
     let i = c.loop-event.invariant in
-    let h = c.hold_event.ensures in
+    let h = c.hold_in_notes.ensures in
     let ts = c.args.events.now in
     let k = c.loop-event.event-index in
     let t = c.loop-event-test.true in
-    let told = c.note_event.ensures in
-    let gathered = h.gathered ∙ ap (with_event c.loop-event.pair.gathered) told in
-    let next = is_next (told_of_notes c.args.line c.args.opened) ts k _ c.loop-event.pair.gathered c.hold_event.new.pair.gathered c.hold_event.new.pair.used t gathered (h.used ∙ ap (λ e. used_by (closes e)) told) i.fits i.once in
+    let next = is_next (told_of_notes c.args.line c.args.opened) ts k _ c.loop-event.pair.gathered c.hold_in_notes.new.pair.gathered c.hold_in_notes.new.pair.used t h.gathered h.used i.fits i.once in
     record {
-      gathered = with_all_more (told_of_notes c.args.line c.args.opened) c.args.pair.now.gathered c.loop-event.pair.gathered c.hold_event.new.pair.gathered ts k _ t i.gathered gathered;
+      gathered = with_all_more (told_of_notes c.args.line c.args.opened) c.args.pair.now.gathered c.loop-event.pair.gathered c.hold_in_notes.new.pair.gathered ts k _ t i.gathered h.gathered;
       held = h.held ∙ i.held;
       fits = next.fits;
       once = next.once;
       reads = next.reads;
       used = next.used_is;
-      found = with_found_more (told_of_notes c.args.line c.args.opened) c.args.found.now c.loop-event.found c.hold_event.new.found ts k _ t i.found (h.found ∙ ap (λ e. with_found c.loop-event.found (e ∷ [])) told);
+      found = with_found_more (told_of_notes c.args.line c.args.opened) c.args.found.now c.loop-event.found c.hold_in_notes.new.found ts k _ t i.found h.found;
       room = omega (arith, i.room, h.few, t, ap (λ (r : BoundedList Finding). r.limit) h.found);
     }

@@ -9,18 +9,18 @@ use Rattle.gabc_score.proofs.part_events.hold_text.Goals as goal
 pub loop-event-preserved : goal.loop-event-preserved
 loop-event-preserved c =
     let i = c.loop-event.invariant in
-    let h = c.hold_event.ensures in
+    let h = c.hold_in_text.ensures in
     let ts = c.args.events.now in
     let k = c.loop-event.event-index in
     let t = c.loop-event-test.true in
-    let next = is_next (λ o. of_text o) ts k _ c.loop-event.pair.gathered c.hold_event.new.pair.gathered c.hold_event.new.pair.used t h.gathered h.used i.fits i.once in
+    let next = is_next (λ o. of_text o) ts k _ c.loop-event.pair.gathered c.hold_in_text.new.pair.gathered c.hold_in_text.new.pair.used t h.gathered h.used i.fits i.once in
     record {
-      gathered = with_all_more (λ o. of_text o) c.args.pair.now.gathered c.loop-event.pair.gathered c.hold_event.new.pair.gathered ts k _ t i.gathered h.gathered;
+      gathered = with_all_more (λ o. of_text o) c.args.pair.now.gathered c.loop-event.pair.gathered c.hold_in_text.new.pair.gathered ts k _ t i.gathered h.gathered;
       held = h.held ∙ i.held;
       fits = next.fits;
       once = next.once;
       reads = next.reads;
       used = next.used_is;
-      found = with_found_more (λ o. of_text o) c.args.found.now c.loop-event.found c.hold_event.new.found ts k _ t i.found h.found;
+      found = with_found_more (λ o. of_text o) c.args.found.now c.loop-event.found c.hold_in_text.new.found ts k _ t i.found h.found;
       room = omega (arith, i.room, h.few, t, ap (λ (r : BoundedList Finding). r.limit) h.found);
     }

@@ -1,6 +1,6 @@
 use Rattle.std.proofs.Common.{◌≡◌, ◌+◌, ◌≤◌, ℕ, List, take, length, length-take, arith, rules}
 use Rattle.gregorio.specs.machine.Compile.{IsFedInPart, used}
-use Rattle.gregorio.proofs.PiecesAreSent.{from_nothing, from_more, in_part}
+use Rattle.gregorio.proofs.PiecesAreSent.{all_broken, from_nothing, from_more, in_part}
 use Rattle.gregorio.proofs.run.feed_all.Goals as goal
 
 pub loop-taken-init : goal.loop-taken-init
@@ -8,6 +8,7 @@ loop-taken-init g c = record {
   within = omega arith;
   limit = omega arith;
   waits = c.requires.waits;
+  buffers = c.requires.buffers;
   fed = from_nothing g.O.Sink.written g.O.Sink.failures g.M.Sink.written g.M.Sink.failures g.S.Source.remaining g.S.Source.failures _ _ _ _;
 }
 
@@ -19,6 +20,11 @@ returns-in_err-feed_piece-in-Ok-clause-cut g c =
     in_part g.O.Sink.written g.O.Sink.failures g.M.Sink.written g.M.Sink.failures g.S.Source.remaining g.S.Source.failures _ _ c.loop-taken.source _ _ c.loop-taken.out _ _ c.loop-taken.messages _ _ c.loop-taken.engine piece c.loop-taken.taken c.loop-taken.invariant.fed (c.in-Ok.ensures.bytes.0) size c.in_err-feed_piece-in-Ok.ensures.cut in
     search (rules, cut)
 
+pub returns-in-Err-clause-fed : goal.returns-in-Err-clause-fed
+returns-in-Err-clause-fed g c =
+    let i = c.loop-taken.invariant in
+    all_broken g.O.Sink.written g.O.Sink.failures g.M.Sink.written g.M.Sink.failures g.S.Source.remaining g.S.Source.failures _ _ c.loop-taken.source _ _ _ _ _ _ c.loop-taken.engine c.loop-taken.taken i.fed c.in-Err.ensures.bytes c.in-Err.ensures.fails (omega arith)
+
 pub loop-taken-preserved : goal.loop-taken-preserved
 loop-taken-preserved g c =
     let piece : List ℕ = take c.in-Ok.n c.read.new.buf in
@@ -27,5 +33,6 @@ loop-taken-preserved g c =
       within = search rules;
       limit = omega arith;
       waits = c.in_ok-feed_piece-in-Ok.ensures.waits;
+      buffers = c.in_ok-feed_piece-in-Ok.ensures.buffers;
       fed = from_more g.O.Sink.written g.O.Sink.failures g.M.Sink.written g.M.Sink.failures g.S.Source.remaining g.S.Source.failures _ c.loop-taken.source _ _ c.loop-taken.out _ _ c.loop-taken.messages _ _ c.loop-taken.engine _ piece c.loop-taken.taken c.in-Ok.n c.loop-taken.invariant.fed (c.in-Ok.ensures.bytes.0) c.in-Ok.ensures.steady size c.in_ok-feed_piece-in-Ok.ensures.fed;
     }

@@ -24,7 +24,7 @@ loop-c-preserved c =
       utf8 = IsUtf8-past_char (chars_rest c.loop-c.c-iterator) (chars_rest c.next.new.self) c.in-Some.c i.utf8 step;
       raw = i.raw;
       no_ending = none.1;
-      passed = pass_goes c.loop-c.self _ c.progress_past-self.result c.in-Some.c (chars (chars_rest c.next.new.self)) i.raw none c.progress_past-self.ensures (rw past at i.passed);
+      passed = pass_goes c.loop-c.self _ c.pass.new.self c.in-Some.c (chars (chars_rest c.next.new.self)) i.raw none c.pass.ensures (rw past at i.passed);
     }
 
 pub returns : goal.returns

@@ -1,0 +1,187 @@
+//! An engine that takes its input byte by byte: with which byte it writes what, and what it does behind its end.
+
+ghost use Rattle.std.specs.Prelude.{◌≡◌, false};
+ghost use Rattle.gregorio.specs.Engine.{NothingWaits};
+
+use gabc_places::Limits;
+use gregorio::{Engine, Format, Input, Job, Output, SourceEnding, Status};
+use std::alloc::{AllocError, Global};
+
+/// How many bytes were taken, and the bytes of output and messages that wait then.
+type Step = (usize, &'static str, &'static str);
+
+/// What an engine gives of an input: what waits with some of its bytes, what with its end, and how it ends.
+#[derive(Clone, Copy)]
+struct Trial {
+    format: Format,
+    input: &'static [u8],
+    steps: &'static [Step],
+    ending: SourceEnding,
+    last: Step,
+    status: Status,
+}
+
+/// A syllable is written once the next one is whole: its position is known then.
+const KYRIE: Trial = Trial {
+    format: Format::Gabc,
+    input: b"name: Kyrie;\n%%\n(c4) Ky(f)ri(gfg)e(e.) (::)",
+    steps: &[
+        (15, "name: Kyrie;\n%%", ""),
+        (26, "\n(c4)", ""),
+        (33, "\nKy(f)", ""),
+        (38, "ri(gfg)", ""),
+        (43, "e(e.)", ""),
+    ],
+    ending: SourceEnding::Whole,
+    last: (43, "\n(::)\n", ""),
+    status: Status::Whole,
+};
+
+/// An error is told with its character, within notes that are never closed.
+const OPEN_NOTES: Trial = Trial {
+    format: Format::Gabc,
+    input: b"%%\n(/.",
+    steps: &[
+        (2, "%%", ""),
+        (
+            6,
+            "",
+            "<stdin>:2:3: error: E1: character left out of the notes\n",
+        ),
+    ],
+    ending: SourceEnding::Whole,
+    last: (
+        6,
+        "\n",
+        "<stdin>:2:1: fatal: F6: input ends inside notes, a tag, a raw part or a translation\n",
+    ),
+    status: Status::Fatal,
+};
+
+/// The syllable that is held is written with a byte that begins no character. The bytes behind it are taken and not read.
+const NO_CHARACTER: Trial = Trial {
+    format: Format::Gabc,
+    input: b"%%\nKy(f)\xFFri(g)e(.)",
+    steps: &[
+        (2, "%%", ""),
+        (9, "\nKy(f)\n", "<stdin>:2:6: fatal: F1: not UTF-8\n"),
+    ],
+    ending: SourceEnding::Whole,
+    last: (18, "", ""),
+    status: Status::Fatal,
+};
+
+/// The syllable that is held is written where the source fails, and no end of the dump.
+const FAILED_DUMP: Trial = Trial {
+    format: Format::Dump,
+    input: b"%%\nKy(f)ri(",
+    steps: &[(2, "dump 1\n", "")],
+    ending: SourceEnding::Broken,
+    last: (
+        11,
+        "syllable 1 one\ntext:Ky\nnotes:f\nelement\nglyph punctum 1\nnote f punctum f\n",
+        "",
+    ),
+    status: Status::ReadFault,
+};
+
+/// Whether something waits.
+fn waits(engine: &Engine) -> bool
+    ensures { result ≡ false → NothingWaits engine.now }
+{
+    !engine.out().is_empty() || !engine.messages().is_empty()
+}
+
+/// Feeds the bytes from this index on, one at a time, until something waits. Returns how many were taken.
+fn feed_from(engine: &mut Engine, input: &[u8], from: usize) -> usize {
+    for index in from..input.len() {
+        if waits(engine) {
+            return index;
+        }
+        engine.feed(&input[index..index + 1]);
+    }
+    input.len()
+}
+
+/// Whether this waits, which is taken then.
+fn takes(engine: &mut Engine, count: usize, step: Step) -> bool
+    ensures { NothingWaits engine.new }
+{
+    let (wanted_count, output, messages) = step;
+    let same = count == wanted_count
+        && engine.out() == output.as_bytes()
+        && engine.messages() == messages.as_bytes();
+    engine.taken();
+    same
+}
+
+/// Whether an engine gives these steps of an input byte by byte, and nothing beside them.
+fn gives_steps(engine: &mut Engine, input: &[u8], steps: &[Step]) -> bool {
+    let mut count = 0;
+    for step in steps {
+        count = feed_from(engine, input, count);
+        if !takes(engine, count, *step) {
+            return false;
+        }
+    }
+    feed_from(engine, input, count) == input.len() && !waits(engine)
+}
+
+/// Ends a run.
+fn end(engine: &mut Engine, ending: SourceEnding) -> Status
+    requires { NothingWaits engine.old }
+{
+    match ending {
+        SourceEnding::Whole => engine.end(),
+        SourceEnding::Broken => engine.broken(),
+    }
+}
+
+/// Whether an engine is over with this status: it takes all, and nothing waits.
+fn is_over(engine: &mut Engine, status: Status) -> bool
+    requires { NothingWaits engine.old }
+{
+    !engine.running()
+        && engine.feed(b"%%\na(f)b(Q)") == 11
+        && !waits(engine)
+        && engine.end() == status
+        && !waits(engine)
+        && engine.broken() == status
+        && !waits(engine)
+}
+
+/// Whether an engine gives what a trial says.
+fn gives(engine: &mut Engine, trial: Trial) -> bool {
+    gives_steps(engine, trial.input, trial.steps)
+        && !waits(engine)
+        && end(engine, trial.ending) == trial.status
+        && takes(engine, trial.input.len(), trial.last)
+        && is_over(engine, trial.status)
+}
+
+/// Returns an engine for a job in this format.
+fn engine_of(alloc: Global, format: Format) -> Result<Engine, AllocError> {
+    let job = Job {
+        format,
+        input: Input::Stdin,
+        output: Output::Stdout,
+        messages: None,
+        all_warnings: false,
+    };
+    Engine::new(alloc, &job, Limits::DEFAULT)
+}
+
+/// Whether a new engine gives what a trial says.
+fn is_kept(alloc: Global, trial: Trial) -> bool {
+    match engine_of(alloc, trial.format) {
+        Ok(mut engine) => gives(&mut engine, trial),
+        Err(_) => false,
+    }
+}
+
+#[test]
+fn writes_what_is_known(rt: HostRuntime) {
+    for trial in [KYRIE, OPEN_NOTES, NO_CHARACTER, FAILED_DUMP] {
+        assert!(rt; is_kept(rt.alloc(), trial), "{:?}", trial.input);
+    }
+}
