@@ -1,10 +1,10 @@
 //! A stage from bytes to characters.
 
-ghost use Rattle.std.specs.Prelude.{◌≡◌, ℕ, ◌+◌, ◌-◌, ◌<◌, ◌≤◌, ◌^◌, List, [], ◌∷◌, ◌++◌, length, take, Result};
-ghost use Rattle.gabc_places.specs.BoundedList.{Fits, extended_by};
-ghost use Rattle.gabc_places.specs.StageLaw.{concat_of};
+ghost use Rattle.std.specs.Prelude.{◌≡◌, ℕ, ◌+◌, ◌-◌, ◌<◌, ◌≤◌, ◌^◌, List, [], ◌∷◌, ◌++◌, length, take, true, Result, IfSome, option_to_list};
+ghost use Rattle.gabc_places.specs.StageLaw.{concat_of, EmitsNothing};
 ghost use Rattle.gabc_places.specs.Decoder.{known_of, known_at_end};
-ghost use Rattle.gabc_places.specs.DecoderMachine.{fresh_decoder, stop_with, take_character as taken_character, take_byte, take_end, events_left, is_fault_item};
+ghost use Rattle.gabc_places.specs.DecoderMachine.{fresh_decoder, stop_with, take_character as taken_character, events_left, is_fault_item};
+ghost use Rattle.gabc_places.specs.machine.Decoder.{take_part as taken_part};
 ghost use Rattle.gabc_places.specs.Text.{utf8_prefix_of, tail_of, is_left_out as left_out_after, read_as as read};
 
 use crate::code::{Code, Fault};
@@ -88,69 +88,89 @@ impl Decoder {
         }
     }
 
-    /// Emits a fault here, and stops.
-    fn stop(&mut self, code: Code, out: &mut Room<Result<Char, Fault>>)
-        requires { Fits out.old 1 }
-        ensures state { self.new ≡ (stop_with code self.old).state }
-        ensures out { out.new ≡ extended_by out.old (stop_with code self.old).events }
+    /// Takes `byte`, and returns the character that is whole with it, or the fault that is known by it. Behind a fault and behind the end it
+    /// returns nothing more.
+    pub fn take(&mut self, byte: u8) -> Option<Result<Char, Fault>>
+        ensures item { (bytes : List ℕ) → events_left self.old (byte ∷ bytes)
+            ≡ option_to_list result ∷ events_left self.new bytes }
+        ensures end { IfSome result (λ item. is_fault_item item ≡ true →
+            EmitsNothing (events_left self.new)) }
     {
-        self.running = false;
-        out.push(Err(Fault {
-            place: self.place,
-            code,
-        }));
+        if !self.running {
+            return None;
+        }
+        if self.taken == self.limit {
+            return self.stop(Code::F7);
+        }
+        self.taken += 1;
+        if byte < 128 && self.pending.is_empty() {
+            return self.take_character(char::from(byte));
+        }
+        self.take_part(byte)
     }
 
-    /// Takes a character that is whole.
-    fn take_character(&mut self, c: char, out: &mut Room<Result<Char, Fault>>)
-        requires fits { Fits out.old 1 }
+    /// Ends the input, and returns the fault of a character that is not whole. From then on it returns nothing.
+    pub fn end(&mut self) -> Option<Result<Char, Fault>>
+        ensures item { events_left self.old [] ≡ option_to_list result ∷ [] }
+        ensures over { EmitsNothing (events_left self.new) }
+    {
+        if self.running && !self.pending.is_empty() {
+            return self.stop(Code::F1);
+        }
+        self.running = false;
+        None
+    }
+
+    /// Stops, and returns a fault here.
+    fn stop(&mut self, code: Code) -> Option<Result<Char, Fault>>
+        ensures state { self.new ≡ (stop_with code self.old).state }
+        ensures events { option_to_list result ≡ (stop_with code self.old).events }
+    {
+        self.running = false;
+        Some(Err(Fault {
+            place: self.place,
+            code,
+        }))
+    }
+
+    /// Takes a character that is whole, and returns it unless it is left out.
+    fn take_character(&mut self, c: char) -> Option<Result<Char, Fault>>
         requires line { self.old.place.line ≤ self.old.taken }
         requires column { self.old.place.column ≤ self.old.taken }
         ensures state { self.new ≡ (taken_character c self.old).state }
-        ensures out { out.new ≡ extended_by out.old (taken_character c self.old).events }
+        ensures events { option_to_list result ≡ (taken_character c self.old).events }
     {
         let left_out = is_left_out(self.previous, c);
         self.previous = c;
         if left_out {
-            return;
+            return None;
         }
         let c = read_as(c);
-        out.push(Ok(Char {
-            c,
-            place: self.place,
-        }));
-        self.place = self.place.after(c);
+        let place = self.place;
+        self.place = place.after(c);
+        Some(Ok(Char { c, place }))
     }
 
-    /// Takes a byte.
-    fn take(&mut self, byte: u8, out: &mut Room<Result<Char, Fault>>)
-        requires { Fits out.old 1 }
-        ensures state { self.new ≡ (take_byte byte self.old).state }
-        ensures out { out.new ≡ extended_by out.old (take_byte byte self.old).events }
+    /// Takes `byte`, which is counted already, as a part of a longer character.
+    fn take_part(&mut self, byte: u8) -> Option<Result<Char, Fault>>
+        requires line { self.old.place.line ≤ self.old.taken }
+        requires column { self.old.place.column ≤ self.old.taken }
+        ensures state { self.new ≡ (taken_part byte self.old).state }
+        ensures events { option_to_list result ≡ (taken_part byte self.old).events }
     {
-        if !self.running {
-            return;
-        }
-        if self.taken == self.limit {
-            return self.stop(Code::F7, out);
-        }
-        self.taken += 1;
-        if byte < 128 && self.pending.is_empty() {
-            return self.take_character(char::from(byte), out);
-        }
         self.pending.push(byte);
         let (text, tail) = prefix_and_tail(self.pending.as_slice());
         match (text.chars().next(), tail) {
             (Some(c), _) => {
                 self.pending.clear();
-                self.take_character(c, out)
+                self.take_character(c)
             }
             (None, Tail::Wrong) => {
                 self.pending.clear();
-                self.stop(Code::F1, out)
+                self.stop(Code::F1)
             }
-            (None, Tail::Part) => {}
-            (None, Tail::Nothing) => {}
+            (None, Tail::Part) => None,
+            (None, Tail::Nothing) => None,
         }
     }
 }
@@ -171,13 +191,14 @@ impl Stage for Decoder {
     }
 
     fn push(&mut self, input: u8, out: &mut Room<Result<Char, Fault>>) {
-        self.take(input, out);
+        if let Some(item) = self.take(input) {
+            out.push(item);
+        }
     }
 
     fn finish(&mut self, out: &mut Room<Result<Char, Fault>>) {
-        if self.running && !self.pending.is_empty() {
-            return self.stop(Code::F1, out);
+        if let Some(item) = self.end() {
+            out.push(item);
         }
-        self.running = false;
     }
 }

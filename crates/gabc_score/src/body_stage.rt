@@ -392,6 +392,7 @@ impl BodyStage {
     }
 
     /// Adds the events of the last point to what was gathered, and what is found among them to `found`.
+    #[inline(always)]
     pub(crate) fn hold(&self, pair: &mut SlotPair, found: &mut Room<Finding>)
         requires reads { pair.old.used ≡ SlotUse.Reads }
         requires fits { FitEach pair.old.gathered self.now.events }

@@ -62,6 +62,7 @@ pub(crate) fn emit_notes(line: u8, opened: Place, events: &[NoteEvent], out: &mu
 }
 
 /// Adds an event of a text to what was gathered, and what is found with it to `found`.
+#[inline(always)]
 fn hold_in_text(event: TextEvent, pair: &mut SlotPair, found: &mut Room<Finding>)
     requires reads { pair.old.used ≡ SlotUse.Reads }
     requires fits { FitsEvent pair.old.gathered.limit pair.old.gathered.builder (of_text event) }
@@ -79,6 +80,7 @@ fn hold_in_text(event: TextEvent, pair: &mut SlotPair, found: &mut Room<Finding>
 }
 
 /// Adds an event of a snippet of that line to what was gathered, and what is found with it to `found`.
+#[inline(always)]
 fn hold_in_notes(
     line: u8,
     opened: Place,
@@ -108,6 +110,7 @@ fn hold_in_notes(
 }
 
 /// Adds the events of a text to what was gathered, and what is found among them to `found`.
+#[inline(always)]
 pub(crate) fn hold_text(events: &[TextEvent], pair: &mut SlotPair, found: &mut Room<Finding>)
     requires reads { pair.old.used ≡ SlotUse.Reads }
     requires fits { FitEach pair.old.gathered (map (λ o. of_text o) events.now) }
@@ -125,6 +128,7 @@ pub(crate) fn hold_text(events: &[TextEvent], pair: &mut SlotPair, found: &mut R
 }
 
 /// Adds the events of a snippet of that line to what was gathered, and what is found among them to `found`.
+#[inline(always)]
 pub(crate) fn hold_notes(
     line: u8,
     opened: Place,

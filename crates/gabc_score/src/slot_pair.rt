@@ -124,6 +124,7 @@ impl SlotPair {
     }
 
     /// Adds what a text emits next.
+    #[inline(always)]
     pub(crate) fn add_text(&mut self, event: TextEvent)
         requires reads { self.old.used ≡ SlotUse.Reads }
         requires fits { FitsText self.old.gathered.limit self.old.gathered.builder event }
@@ -182,6 +183,7 @@ impl SlotPair {
     }
 
     /// Adds what a snippet of that line emits next.
+    #[inline(always)]
     pub(crate) fn add_note(&mut self, line: u8, event: NoteEvent)
         requires reads { self.old.used ≡ SlotUse.Reads }
         requires fits { FitsNote self.old.gathered.limit self.old.gathered.builder event }

@@ -12,6 +12,7 @@ pub mod PrintedTextHasNoErrors
 pub mod PrintedTextIsKept
 pub mod PrintedTextIsReadAgain
 pub mod PrintedViewIsReadAgain
+pub mod RunsOfKeptBytes
 pub mod TagsOfStyleSets
 pub mod TokensAreReadAgain
 pub mod TokensOfKeptText

@@ -1,7 +1,8 @@
 //! The canonical text of a view.
 
-ghost use Rattle.std.specs.Prelude.{◌≡◌, ◌-◌, ◌^◌, length, min, cond, [], reverse};
+ghost use Rattle.std.specs.Prelude.{◌≡◌, ◌-◌, ◌^◌, ◌≤◌, ◌↔◌, IsTrue, length, min, cond, [], reverse};
 ghost use Rattle.std.specs.List.{flat_map};
+ghost use Rattle.gabc_text.specs.machine.Runs.{text_at, text_behind};
 ghost use Rattle.gabc_text.specs.machine.ChangedStyles.{common_styles, differs, changed_styles};
 ghost use Rattle.gabc_text.specs.TextView.{content_of};
 ghost use Rattle.gabc_text.specs.Canonical.{after_common, style_opening, style_closing, listed_styles, braces, boundary, span_bytes, needs_dollar, piece_text, canonical_text};
@@ -135,13 +136,32 @@ fn slice_of(kept: &str, span: Span) -> &[u8]
     }
 }
 
-/// One of the characters that a `$` makes letters.
+/// One of the characters that a `$` makes letters. Most characters are small letters, so these are tried first.
 fn needs_dollar(text: &[u8]) -> bool
     ensures { result ≡ needs_dollar text.now }
 {
     match text {
+        [b'a'..=b'z'] => false,
         [byte] => is_special(char::from(*byte)),
         _ => false,
+    }
+}
+
+/// Puts `bytes`, if there are any.
+fn put_some<S: Put>(bytes: &[u8], out: &mut S)
+    ensures { out.new ≡ S.taken out.old bytes.now }
+{
+    if !bytes.is_empty() {
+        out.put(bytes);
+    }
+}
+
+/// Puts the bytes of the kept text for which `span` stands, if there are any.
+fn put_span<S: Put>(span: Span, kept: &str, out: &mut S)
+    ensures { out.new ≡ S.taken out.old (span_bytes kept.now span) }
+{
+    if span.from < span.to && span.to <= kept.len() {
+        out.put(&kept.as_bytes()[span.from..span.to]);
     }
 }
 
@@ -151,36 +171,152 @@ fn put_boundary<S: Put>(old: Styles, new: Styles, braces: &str, out: &mut S)
         ≡ S.taken out.old (boundary (listed_styles old) (listed_styles new) braces.now) }
 {
     if old == new {
-        out.put(braces.as_bytes());
+        put_some(braces.as_bytes(), out);
     } else {
         put_change(old, new, braces, out);
     }
 }
 
-/// Puts the tags and braces between two neighbours with these styles.
+/// Puts the tags and braces between two neighbours with these styles. Few neighbours differ, so it stays out of line.
+#[inline(never)]
 fn put_change<S: Put>(old: Styles, new: Styles, braces: &str, out: &mut S)
     ensures { out.new
         ≡ S.taken out.old (boundary (listed_styles old) (listed_styles new) braces.now) }
 {
     let changed = changed_styles(old, new);
     put_closing(common_styles(old, changed), out);
-    out.put(braces.as_bytes());
+    put_some(braces.as_bytes(), out);
     put_opening(common_styles(new, changed), out);
 }
 
-/// Puts `piece`, with a `$` where it needs one.
-fn put_piece<S: Put>(piece: Piece, kept: &str, out: &mut S)
-    ensures { out.new ≡ S.taken out.old (piece_text kept.now piece) }
+/// Whether `span` lies in the bytes of the kept text.
+fn lies_in(span: Span, kept: &str) -> bool
+    ensures { IsTrue result ↔ (span.from ≤ span.to) × (span.to ≤ length kept.now) }
 {
-    let text = slice_of(kept, piece.span);
-    match piece.kind {
-        PieceKind::Blank => out.put(b" "),
-        PieceKind::Char => {
-            put_if(needs_dollar(text), "$", out);
-            out.put(text);
-        }
-        _ => out.put(text),
+    span.from <= span.to && span.to <= kept.len()
+}
+
+/// Whether the text of `piece` is the bytes of the kept text for which its span stands, which lies in them.
+fn is_as_kept(piece: Piece, kept: &str) -> bool
+    ensures text { IsTrue result → piece_text kept.now piece ≡ span_bytes kept.now piece.span }
+    ensures ordered { IsTrue result → piece.span.from ≤ piece.span.to }
+    ensures within { IsTrue result → piece.span.to ≤ length kept.now }
+{
+    if !lies_in(piece.span, kept) {
+        return false;
     }
+    match piece.kind {
+        PieceKind::Char => !needs_dollar(slice_of(kept, piece.span)),
+        PieceKind::Blank => matches!(slice_of(kept, piece.span), [b' ']),
+        _ => true,
+    }
+}
+
+/// Whether `piece` goes on where `run` ends, behind a piece with the styles `old`, with nothing but its kept bytes.
+fn joins(run: Span, old: Styles, piece: Piece, braces: &str, kept: &str) -> bool
+    ensures text { IsTrue result → piece_text kept.now piece ≡ span_bytes kept.now piece.span }
+    ensures ordered { IsTrue result → piece.span.from ≤ piece.span.to }
+    ensures within { IsTrue result → piece.span.to ≤ length kept.now }
+    ensures meets { IsTrue result → run.to ≡ piece.span.from }
+    ensures styles { IsTrue result → old ≡ piece.styles }
+    ensures no_braces { IsTrue result → braces.now ≡ [] }
+{
+    if old != piece.styles {
+        return false;
+    }
+    run.to == piece.span.from && braces.is_empty() && is_as_kept(piece, kept)
+}
+
+/// Puts what comes before the kept bytes in the text of `piece`, and tells where these lie.
+fn put_head<S: Put>(piece: Piece, kept: &str, out: &mut S) -> Span
+    ensures text { S.taken out.new (span_bytes kept.now result)
+        ≡ S.taken out.old (piece_text kept.now piece) }
+    ensures ordered { result.from ≤ result.to }
+{
+    if is_as_kept(piece, kept) {
+        return piece.span;
+    }
+    let span = if lies_in(piece.span, kept) {
+        piece.span
+    } else {
+        Span { from: 0, to: 0 }
+    };
+    match piece.kind {
+        PieceKind::Blank => {
+            out.put(b" ");
+            Span {
+                from: span.to,
+                to: span.to,
+            }
+        }
+        PieceKind::Char => {
+            put_if(needs_dollar(slice_of(kept, span)), "$", out);
+            span
+        }
+        _ => span,
+    }
+}
+
+/// Pieces whose text is one part of the kept bytes: that part, and the index of the piece behind them.
+#[derive(Clone, Copy)]
+struct Run {
+    span: Span,
+    next: usize,
+}
+
+/// The run of no pieces, where the first piece begins.
+fn first_run(pieces: &[Piece]) -> Run
+    ensures empty { result.span.from ≡ result.span.to }
+    ensures first { result.next ≡ 0 }
+{
+    let from = match pieces {
+        [first, ..] => first.span.from,
+        [] => 0,
+    };
+    Run {
+        span: Span { from, to: from },
+        next: 0,
+    }
+}
+
+/// The run with all pieces that join it, where `old` are its styles. The loop goes over most pieces and puts no bytes, so its
+/// variables stay in registers.
+#[inline(never)]
+fn whole_run(view: &TextView, kept: &str, old: Styles, run: Run) -> Run
+    requires ordered { run.span.from ≤ run.span.to }
+    requires within { run.next ≤ length view.now.pieces.items }
+    ensures text { text_behind view.now kept.now old result
+        ≡ text_behind view.now kept.now old run }
+    ensures behind { run.next ≤ result.next }
+    ensures within { result.next ≤ length view.now.pieces.items }
+{
+    let pieces = view.pieces.as_slice();
+    let mut span = run.span;
+    for index in run.next..pieces.len() {
+        let piece = pieces[index];
+        if !joins(span, old, piece, braces(view.centre, index), kept) {
+            return Run { span, next: index };
+        }
+        span.to = piece.span.to;
+    }
+    Run {
+        span,
+        next: pieces.len(),
+    }
+}
+
+/// Puts the run with all pieces that join it, where `old` are its styles, and tells the index of the piece behind them.
+fn put_run<S: Put>(view: &TextView, kept: &str, old: Styles, run: Run, out: &mut S) -> usize
+    requires ordered { run.span.from ≤ run.span.to }
+    requires within { run.next ≤ length view.now.pieces.items }
+    ensures text { S.taken out.new (text_at view.now kept.now old result)
+        ≡ S.taken out.old (text_behind view.now kept.now old run) }
+    ensures behind { run.next ≤ result }
+    ensures within { result ≤ length view.now.pieces.items }
+{
+    let whole = whole_run(view, kept, old, run);
+    put_span(whole.span, kept, out);
+    whole.next
 }
 
 /// Puts the canonical text of `view` without its translation, whose spans count the bytes of `kept`: its pieces with the tags
@@ -191,13 +327,19 @@ pub fn write_text<S: Put>(view: &TextView, kept: &str, out: &mut S)
 {
     let pieces = view.pieces.as_slice();
     let mut old = Styles::NONE;
-    for index in 0..pieces.len() {
-        let piece = pieces[index];
-        put_boundary(old, piece.styles, braces(view.centre, index), out);
-        put_piece(piece, kept, out);
+    let mut next = put_run(view, kept, old, first_run(pieces), out);
+    while next < pieces.len() {
+        let piece = pieces[next];
+        put_boundary(old, piece.styles, braces(view.centre, next), out);
+        let span = put_head(piece, kept, out);
         old = piece.styles;
+        let run = Run {
+            span,
+            next: next + 1,
+        };
+        next = put_run(view, kept, old, run, out);
     }
-    put_boundary(old, Styles::NONE, braces(view.centre, pieces.len()), out);
+    put_boundary(old, Styles::NONE, braces(view.centre, next), out);
 }
 
 /// Returns how many bytes `write_text` puts; it saturates at the last value of a `usize`.

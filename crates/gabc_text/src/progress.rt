@@ -38,6 +38,7 @@ pub(crate) fn plus(n: usize, more: usize) -> usize
 }
 
 /// The place behind a character that stands here.
+#[inline(always)]
 fn after_place(place: Place, c: char) -> Place
     ensures { result ≡ place_after_char place c }
 {
@@ -55,6 +56,7 @@ fn after_place(place: Place, c: char) -> Place
 }
 
 /// The piece of this kind that a token is: of a character without its `$`. Before its last character, `last` bytes were kept.
+#[inline(always)]
 pub(crate) fn piece_there(
     facts: TextFacts,
     progress: Progress,
@@ -78,6 +80,7 @@ pub(crate) fn piece_there(
 }
 
 /// The blank that waits after a token.
+#[inline(always)]
 pub(crate) fn waiting_piece(
     facts: TextFacts,
     progress: Progress,
@@ -125,6 +128,7 @@ pub(crate) fn centre(progress: Progress) -> Option<Span>
 
 impl Progress {
     /// Goes past a token, which ends before this place.
+    #[inline(always)]
     pub(crate) fn pass_token(
         &mut self,
         facts: TextFacts,
@@ -149,6 +153,7 @@ impl Progress {
     }
 
     /// Goes past a character, of which this was kept.
+    #[inline(always)]
     pub(crate) fn pass(&mut self, c: char, kept: Option<char>)
         ensures { self.new ≡ progress_past self.old c kept }
     {

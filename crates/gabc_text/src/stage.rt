@@ -10,6 +10,7 @@ ghost use Rattle.gabc_text.specs.View.{all_styles, piece_kind};
 ghost use Rattle.gabc_text.specs.Events.{option_list_of};
 ghost use Rattle.std.specs.List.{list_any};
 ghost use Rattle.gabc_text.specs.EventsLeft.{events_left, parts_by, findings_there};
+ghost use Rattle.gabc_text.specs.machine.TokenState.{IsLetterBetween};
 ghost use Rattle.gabc_text.specs.machine.RawPart.{stage_past, is_in_raw};
 ghost use Rattle.gabc_text.specs.Events.{CountsFit, codes_of, events_by_point};
 ghost use Rattle.gabc_text.specs.End.{is_end};
@@ -19,7 +20,7 @@ use crate::styles::Styles;
 use crate::text_facts::{TextFacts, code_at, early_at, keep, kind_of, no_facts};
 use crate::token::{TagEffect, TokenKind};
 use crate::token_state::{
-    Step, TokenState, is_plain, is_unmatched, kind_at_end, next_step, settled_kind,
+    Step, TokenState, is_plain, is_plain_letter, is_unmatched, kind_at_end, next_step, settled_kind,
 };
 use crate::view::Piece;
 use gabc_places::{Char, Code, Finding, Place, Room, Span, Stage};
@@ -69,6 +70,7 @@ pub struct TextStage {
 }
 
 /// Adds the character that is kept, if one is.
+#[inline(always)]
 fn emit_char(out: &mut Room<TextEvent>, place: Place, kept: Option<char>)
     requires { Fits out.old 1 }
     ensures events { out.new ≡ extended_by out.old (option_list_of (char_event place kept)) }
@@ -92,6 +94,7 @@ fn emit_part(out: &mut Room<TextEvent>, part: Option<TextPart>)
 }
 
 /// Adds a piece, if there is one.
+#[inline(always)]
 fn emit_piece(out: &mut Room<TextEvent>, piece: Option<Piece>)
     requires { Fits out.old 1 }
     ensures events { out.new ≡ extended_by out.old (map (λ p. TextEvent.Part p)
@@ -104,6 +107,7 @@ fn emit_piece(out: &mut Room<TextEvent>, piece: Option<Piece>)
 }
 
 /// Adds a finding of this code, if there is one.
+#[inline(always)]
 fn emit_code(out: &mut Room<TextEvent>, place: Place, code: Option<Code>)
     requires { Fits out.old 1 }
     ensures events { out.new ≡ extended_by out.old (findings_there place (option_list_of code)) }
@@ -200,6 +204,7 @@ impl TextStage {
 
     /// Adds the parts that a token is: a piece comes with the blank that waits for it. Before its last character, `last` bytes were
     /// kept.
+    #[inline(always)]
     fn emit_parts(&self, kind: TokenKind, effect: TagEffect, last: usize, out: &mut Room<TextEvent>)
         requires { Fits out.old 2 }
         ensures events { let progress = self.now.progress in out.new
@@ -220,6 +225,7 @@ impl TextStage {
     }
 
     /// A token, which ends before this place. Before its last character, `last` bytes were kept.
+    #[inline(always)]
     fn token(
         &mut self,
         kind: TokenKind,
@@ -282,6 +288,27 @@ impl TextStage {
         }
     }
 
+    /// The character, which is a letter between tokens. This does what `read` does, without its tests.
+    fn letter(&mut self, c: char, out: &mut Room<TextEvent>)
+        requires fits { Fits out.old 5 }
+        requires between { self.old.mode ≡ TokenState.Plain }
+        requires letter { IsLetterBetween c }
+        ensures stage { self.new ≡ read_stage self.old c }
+        ensures out { out.new ≡ extended_by out.old (events_of_reading self.old c) }
+        ensures few { length out.new.items ≤ length out.old.items + 5 }
+    {
+        let last = self.progress.kept;
+        emit_char(out, self.progress.next, Some(c));
+        self.progress.pass(c, Some(c));
+        self.token(
+            TokenKind::Letter,
+            TagEffect::Other,
+            self.progress.next,
+            last,
+            out,
+        );
+    }
+
     /// The text ends.
     fn end(&mut self, how: TextEnd, out: &mut Room<TextEvent>)
         requires { Fits out.old 4 }
@@ -307,12 +334,18 @@ impl TextStage {
         ensures out { out.new ≡ extended_by out.old (events_of_push self.old c) }
         ensures few { length out.new.items ≤ length out.old.items + 8 }
     {
-        if !self.done {
-            self.settle(c, out);
-            if c == '(' && is_plain(self.mode) {
-                self.end(TextEnd::Notes, out);
-            } else {
-                self.read(c, out);
+        if self.done {
+            return;
+        }
+        match self.mode {
+            TokenState::Plain if is_plain_letter(c) => self.letter(c, out),
+            _ => {
+                self.settle(c, out);
+                if c == '(' && is_plain(self.mode) {
+                    self.end(TextEnd::Notes, out);
+                } else {
+                    self.read(c, out);
+                }
             }
         }
     }

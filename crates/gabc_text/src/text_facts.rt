@@ -35,6 +35,7 @@ pub struct TextFacts {
     pub starts: bool,
 }
 
+#[inline(always)]
 pub(crate) fn kind_of(kind: TokenKind, effect: TagEffect) -> Option<PieceKind>
     ensures { result ≡ piece_kind kind effect }
 {
@@ -74,6 +75,7 @@ pub(crate) fn is_left_out(facts: TextFacts, kind: TokenKind) -> bool
 }
 
 /// The piece that a token is, if any.
+#[inline(always)]
 pub(crate) fn piece_at(facts: TextFacts, kind: TokenKind, effect: TagEffect) -> Option<PieceKind>
     ensures { result ≡ piece_by facts kind effect }
 {
@@ -100,6 +102,7 @@ pub(crate) fn early_at(facts: TextFacts, mode: TokenState, c: char) -> Option<Co
 }
 
 /// The finding where a token ends, if any.
+#[inline(always)]
 pub(crate) fn code_at(facts: TextFacts, kind: TokenKind, effect: TagEffect) -> Option<Code>
     ensures { option_list_of result ≡ codes_by facts kind effect }
 {
@@ -137,6 +140,7 @@ pub(crate) fn code_at(facts: TextFacts, kind: TokenKind, effect: TagEffect) -> O
 
 impl TextFacts {
     /// Sees a piece that is no blank and no span mark.
+    #[inline(always)]
     fn pass_piece(&mut self)
         ensures { self.new ≡ after_piece self.old }
     {
@@ -163,6 +167,7 @@ impl TextFacts {
     }
 
     /// Sees a token more.
+    #[inline(always)]
     pub(crate) fn pass(&mut self, kind: TokenKind, effect: TagEffect)
         ensures { self.new ≡ facts_after self.old kind effect }
     {

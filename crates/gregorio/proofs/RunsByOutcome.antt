@@ -1,6 +1,7 @@
 -- How a run ends.
 use Rattle.std.proofs.Common.{◌≡◌, ℕ, ◌<◌, List, [], ◌++◌, append-nil, Bool, true, false, Option, Some, None, refl, sym, ap, ◌∙◌, subst}
 use Rattle.std.specs.Io.KnownBytes.{Appends}
+use Rattle.std.proofs.KnownBytes.{Keeps-refl}
 use Rattle.std.specs.List.{list_any}
 use Rattle.gabc_places.specs.declared.limits.Limits.{Limits}
 use Rattle.gabc_places.specs.declared.code.Fault.{Fault}
@@ -13,12 +14,12 @@ use Rattle.gregorio.specs.declared.source_bytes.SourceEnding.{SourceEnding}
 use Rattle.gregorio.specs.declared.source_bytes.SourceEnding.TheVariants.{Whole as Ended, Broken}
 use Rattle.gregorio_jobs.specs.declared.job.Job.{Job}
 use Rattle.gregorio_jobs.specs.declared.job.Status.{Status}
-use Rattle.gregorio_jobs.specs.declared.job.Status.TheVariants.{ReadFault, WriteFault}
+use Rattle.gregorio_jobs.specs.declared.job.Status.TheVariants.{NoMemory, ReadFault, WriteFault}
 use Rattle.gregorio.specs.declared.outcome.Outcome.{Outcome}
 use Rattle.gregorio.specs.Engine.{EngineState, Streams, behind_bytes, ended_with, streams_left, streams_of_outcome, with_waiting}
 use Rattle.gregorio.specs.Run.{Use, Done, SinkCut, Compiles}
 use Rattle.gregorio.specs.Outcome.{is_whole, ending_by, is_cut_short, outcome_of, status_by, status_of, is_error_finding}
-use Rattle.gregorio.specs.machine.Compile.{used, AreSent, AreCut, StreamsAreCut, IsFedAll, IsFedInPart}
+use Rattle.gregorio.specs.machine.Compile.{used, AreSent, AreCut, StreamsAreCut, IsFedAll, IsFedInPart, IsRun, SaysOutcomes}
 use Rattle.gregorio.proofs.PiecesAreSent.{behind_twice, sent_on, cut_by, cut_longer}
 
 done_by : (job : Job) (limits : Limits) (source out messages : Use) (o : Option Fault) (b e : Bool) → Done job limits source out messages (status_by o b e) → Compiles job limits source out messages (status_by o b e)
@@ -53,12 +54,8 @@ never_sunk None false true s = cc
 never_sunk None false false s = cc
 
 -- the status of a sink's failure is not that of a source's
-pub sunk_is_not_broken : WriteFault ≡ ReadFault → ⊥
+sunk_is_not_broken : WriteFault ≡ ReadFault → ⊥
 sunk_is_not_broken e = cc
-
--- what an engine says of every input
-abbrev SaysOutcomes : Job → Limits → EngineState → Type 0
-SaysOutcomes job limits e = (bytes : List ℕ) (ending : SourceEnding) → streams_left e ending bytes ≡ streams_of_outcome job (outcome_of limits ending bytes)
 
 module _ {A B C : Type 0} (wrote : A → Option (List ℕ)) (failed : A → ℕ) (told : B → Option (List ℕ)) (untold : B → ℕ) (left : C → Option (List ℕ)) (broke : C → ℕ) (job : Job) (limits : Limits) where
   -- what an engine wrote of an input is its outcome's
@@ -70,7 +67,7 @@ module _ {A B C : Type 0} (wrote : A → Option (List ℕ)) (failed : A → ℕ)
       ∙ (ap (behind_bytes a.fed.output a.fed.lines) last ∙ behind_twice a.fed.output a.fed.lines g.output g.messages (ended_with status))))
 
   -- a run that wrote all
-  pub runs_whole : (s t : C) (o p q : A) (m n r : B) (e f g : EngineState) (ending : SourceEnding) (status : Status) → SaysOutcomes job limits e
+  runs_whole : (s t : C) (o p q : A) (m n r : B) (e f g : EngineState) (ending : SourceEnding) (status : Status) → SaysOutcomes job limits e
       → IsFedAll limits.input (used left broke s t) (used wrote failed o p) (used told untold m n) e f ending → streams_left f ending [] ≡ with_waiting g (ended_with status)
       → AreSent (used wrote failed p q) (used told untold n r) g.output g.messages
       → Compiles job limits (used left broke s t) (used wrote failed o q) (used told untold m r) status
@@ -88,14 +85,14 @@ module _ {A B C : Type 0} (wrote : A → Option (List ℕ)) (failed : A → ℕ)
       (done_by job limits (used left broke s t) (used wrote failed o q) (used told untold m r) made.score.fault made.broken (list_any is_error_finding made.score.findings) d)
 
   -- a run whose source failed
-  pub runs_broken : (s t : C) (o p : A) (m n : B) (e f g : EngineState) (ending : SourceEnding) (status : Status) → SaysOutcomes job limits e
+  runs_broken : (s t : C) (o p : A) (m n : B) (e f g : EngineState) (ending : SourceEnding) (status : Status) → SaysOutcomes job limits e
       → IsFedAll limits.input (used left broke s t) (used wrote failed o p) (used told untold m n) e f ending → streams_left f ending [] ≡ with_waiting g (ended_with status)
       → status ≡ ReadFault → broke s < broke t
   runs_broken s t o p m n e f g ending status all a last is =
       a.reads.broken (read_fault_broken limits ending a.bytes (ap (λ (y : Streams). y.status) (streams_are s t o p m n e f g ending status all a last) ∙ is))
 
   -- a run that wrote all is not one that a sink's failure cut
-  pub runs_sunk : (s t : C) (o p : A) (m n : B) (e f g : EngineState) (ending : SourceEnding) (status : Status) → SaysOutcomes job limits e
+  runs_sunk : (s t : C) (o p : A) (m n : B) (e f g : EngineState) (ending : SourceEnding) (status : Status) → SaysOutcomes job limits e
       → IsFedAll limits.input (used left broke s t) (used wrote failed o p) (used told untold m n) e f ending → streams_left f ending [] ≡ with_waiting g (ended_with status)
       → status ≡ WriteFault → ⊥
   runs_sunk s t o p m n e f g ending status all a last is =
@@ -103,7 +100,7 @@ module _ {A B C : Type 0} (wrote : A → Option (List ℕ)) (failed : A → ℕ)
       never_sunk made.score.fault made.broken (list_any is_error_finding made.score.findings) (ap (λ (y : Streams). y.status) (streams_are s t o p m n e f g ending status all a last) ∙ is)
 
   -- a run that a sink's failure cut while its source was read
-  pub runs_short : (s t : C) (o p : A) (m n : B) (e : EngineState) → SaysOutcomes job limits e → IsFedInPart limits.input (used left broke s t) (used wrote failed o p) (used told untold m n) e
+  runs_short : (s t : C) (o p : A) (m n : B) (e : EngineState) → SaysOutcomes job limits e → IsFedInPart limits.input (used left broke s t) (used wrote failed o p) (used told untold m n) e
       → SinkCut job limits (used left broke s t) (used wrote failed o p) (used told untold m n)
   runs_short s t o p m n e all a =
       let c = subst (StreamsAreCut (used wrote failed o p) (used told untold m n)) (all a.bytes Broken) a.cut in
@@ -117,7 +114,7 @@ module _ {A B C : Type 0} (wrote : A → Option (List ℕ)) (failed : A → ℕ)
       }
 
   -- a run that a sink's failure cut at its end
-  pub runs_cut : (s t : C) (o p q : A) (m n r : B) (e f g : EngineState) (ending : SourceEnding) (status : Status) → SaysOutcomes job limits e
+  runs_cut : (s t : C) (o p q : A) (m n r : B) (e f g : EngineState) (ending : SourceEnding) (status : Status) → SaysOutcomes job limits e
       → IsFedAll limits.input (used left broke s t) (used wrote failed o p) (used told untold m n) e f ending → streams_left f ending [] ≡ with_waiting g (ended_with status)
       → AreCut (used wrote failed p q) (used told untold n r) g.output g.messages
       → SinkCut job limits (used left broke s t) (used wrote failed o q) (used told untold m r)
@@ -134,3 +131,47 @@ module _ {A B C : Type 0} (wrote : A → Option (List ℕ)) (failed : A → ℕ)
         messages_written = c.messages_written;
         failed = c.failed;
       }
+
+  -- ---- and which ends failed
+
+  pub is_run_whole : (s t : C) (o p q : A) (m n r : B) (e f g : EngineState) (ending : SourceEnding) (status : Status) → SaysOutcomes job limits e
+      → IsFedAll limits.input (used left broke s t) (used wrote failed o p) (used told untold m n) e f ending → streams_left f ending [] ≡ with_waiting g (ended_with status)
+      → AreSent (used wrote failed p q) (used told untold n r) g.output g.messages
+      → IsRun job limits (used left broke s t) (used wrote failed o q) (used told untold m r) status
+  is_run_whole s t o p q m n r e f g ending status all a last sent = record {
+    compiles = runs_whole s t o p q m n r e f g ending status all a last sent;
+    read_fault = runs_broken s t o p m n e f g ending status all a last;
+    write_fault = λ is. absurd (runs_sunk s t o p m n e f g ending status all a last is);
+    steady = λ is. (sent.steady ∙ a.fed.sent.steady, sent.messages_steady ∙ a.fed.sent.messages_steady);
+  }
+
+  is_run_cut : (source out messages : Use) → SinkCut job limits source out messages → IsRun job limits source out messages WriteFault
+  is_run_cut source out messages c = record {
+    compiles = c;
+    read_fault = λ is. absurd (sunk_is_not_broken is);
+    write_fault = λ is. c.failed;
+    steady = λ is. absurd (is refl);
+  }
+
+  pub is_run_cut_early : (s t : C) (o p : A) (m n : B) (e : EngineState) → SaysOutcomes job limits e → IsFedInPart limits.input (used left broke s t) (used wrote failed o p) (used told untold m n) e
+      → IsRun job limits (used left broke s t) (used wrote failed o p) (used told untold m n) WriteFault
+  is_run_cut_early s t o p m n e all a = is_run_cut (used left broke s t) (used wrote failed o p) (used told untold m n) (runs_short s t o p m n e all a)
+
+  pub is_run_cut_late : (s t : C) (o p q : A) (m n r : B) (e f g : EngineState) (ending : SourceEnding) (status : Status) → SaysOutcomes job limits e
+      → IsFedAll limits.input (used left broke s t) (used wrote failed o p) (used told untold m n) e f ending → streams_left f ending [] ≡ with_waiting g (ended_with status)
+      → AreCut (used wrote failed p q) (used told untold n r) g.output g.messages
+      → IsRun job limits (used left broke s t) (used wrote failed o q) (used told untold m r) WriteFault
+  is_run_cut_late s t o p q m n r e f g ending status all a last cut =
+      is_run_cut (used left broke s t) (used wrote failed o q) (used told untold m r) (runs_cut s t o p q m n r e f g ending status all a last cut)
+
+  -- a run for which there was no memory
+  pub is_no_run : (s : C) (o : A) (m : B) → IsRun job limits (used left broke s s) (used wrote failed o o) (used told untold m m) NoMemory
+  is_no_run s o m = record {
+    compiles = (
+      record { keeps = Keeps-refl (left s); steady = refl },
+      (record { keeps = Keeps-refl (wrote o); steady = refl }, record { keeps = Keeps-refl (told m); steady = refl }),
+    );
+    read_fault = λ is. cc;
+    write_fault = λ is. cc;
+    steady = λ is. (refl, refl);
+  }

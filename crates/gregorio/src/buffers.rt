@@ -1,6 +1,6 @@
 //! Bytes that wait to be sent.
 
-ghost use Rattle.std.specs.Prelude.{◌≡◌, true, false, IfOk, OnOk, OnErr};
+ghost use Rattle.std.specs.Prelude.{◌≡◌, ◌<◌, true, false, IfOk, OnOk, OnErr};
 ghost use Rattle.gregorio.specs.machine.Buffers.{IsTakenOver, nothing_buffered};
 ghost use Rattle.gregorio.specs.machine.Compile.{AreCut, AreSent, used};
 
@@ -71,7 +71,7 @@ impl Buffers {
     }
 }
 
-/// Sends `output` to `out`, and then `lines` to `messages`.
+/// Sends `output` to `out`, and then `lines` to `messages`. Where the output's sink fails, no message is sent.
 pub(crate) fn send_both<O: Sink, M: Sink>(
     output: &[u8],
     lines: &[u8],
@@ -84,6 +84,8 @@ pub(crate) fn send_both<O: Sink, M: Sink>(
     ensures cut { OnErr result (AreCut (used O.written O.failures out.old out.new)
         (used M.written M.failures messages.old messages.new)
         output.now lines.now) }
+    ensures order { OnErr result (O.failures out.old < O.failures out.new →
+        messages.new ≡ messages.old) }
 {
     send_all(out, output)?;
     send_all(messages, lines)?;

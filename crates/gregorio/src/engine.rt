@@ -1,6 +1,6 @@
 //! A run that takes its input in pieces.
 
-ghost use Rattle.std.specs.Prelude.{◌≡◌, ◌<◌, ◌≤◌, List, [], ◌∷◌, ◌++◌, length, take, true, false, ℕ, IfOk};
+ghost use Rattle.std.specs.Prelude.{◌≡◌, ◌<◌, ◌≤◌, List, [], ◌∷◌, ◌++◌, length, take, true, false, ℕ, IfOk, option_to_list};
 ghost use Rattle.gabc_headers.specs.declared.head_event.HeadEvent.{HeadEvent as Given};
 ghost use Rattle.gabc_headers.specs.declared.head_event.HeadEvent.TheVariants.{End};
 ghost use Rattle.gregorio.specs.declared.source_bytes.SourceEnding.{SourceEnding as Ending};
@@ -33,7 +33,6 @@ use std::marker::Model;
 #[derive(Drop)]
 pub struct Engine {
     decoder: Decoder,
-    items: Room<Result<Char, Fault>>,
     heads: HeaderStage,
     given: Room<HeadEvent>,
     writer: ScoreWriter,
@@ -55,7 +54,7 @@ impl Model for Engine {
       messages = e.writer.writer.messages.items;
     } };
 
-    ghost invariant = { λ e. IsEngine e.items e.heads e.given e.writer };
+    ghost invariant = { λ e. IsEngine e.heads e.given e.writer };
 }
 
 /// Passes `given` on to `writer`. `book` has the headers that are read, if they are whole.
@@ -84,6 +83,7 @@ fn body_event(item: Result<Char, Fault>) -> HeadEvent
 }
 
 /// Reads a character, or the fault that stops the text. Behind the line `%%` the stage of headers is left out.
+#[inline(always)]
 fn read(
     item: Result<Char, Fault>,
     heads: &mut HeaderStage,
@@ -110,6 +110,7 @@ fn read(
 }
 
 /// Reads a character, or the fault that stops the text, by way of the stage of headers.
+#[inline(never)]
 fn read_in_heads(
     item: Result<Char, Fault>,
     heads: &mut HeaderStage,
@@ -134,25 +135,25 @@ fn read_in_heads(
 }
 
 /// Reads what the decoder has given.
+#[inline(always)]
 fn read_decoded(
-    items: &[Result<Char, Fault>],
+    item: Option<Result<Char, Fault>>,
     heads: &mut HeaderStage,
     given: &mut Room<HeadEvent>,
     writer: &mut ScoreWriter,
 )
-    requires few_items { length items.now ≤ 1 }
     requires together { GoTogether heads.old writer.old }
     requires few { 2 ≤ given.old.limit }
     requires reserved { IsReserved writer.old }
     requires empty { IsEmpty writer.old }
     ensures together { GoTogether heads.new writer.new }
     ensures few { given.new.limit ≡ given.old.limit }
-    ensures writes { WritesItems heads.old writer.old items.now heads.new writer.new }
+    ensures writes { WritesItems heads.old writer.old (option_to_list item) heads.new writer.new }
     ensures room { HasRoom writer.new (End ∷ []) }
     ensures steady { IsSteady writer.old writer.new }
 {
-    if let Some(item) = items.first() {
-        read(*item, heads, given, writer);
+    if let Some(item) = item {
+        read(item, heads, given, writer);
     }
 }
 
@@ -173,7 +174,6 @@ impl Engine {
         gabc_score::stage_laws::texts_are_read_in_full();
         Ok(Engine {
             decoder: Decoder::new(limits),
-            items: Room::with_limit(alloc, 1)?,
             heads: HeaderStage::with_limits(alloc, limits)?,
             given: Room::with_limit(alloc, 2)?,
             writer: ScoreWriter::with_limits(alloc, job, limits)?,
@@ -186,14 +186,8 @@ impl Engine {
         ensures law { (bytes : List ℕ) (ending : Ending) → streams_left self.old ending (byte ∷ bytes)
             ≡ with_waiting self.new (streams_left self.new ending bytes) }
     {
-        self.items.clear();
-        self.decoder.push(byte, &mut self.items);
-        read_decoded(
-            self.items.slice(),
-            &mut self.heads,
-            &mut self.given,
-            &mut self.writer,
-        );
+        let item = self.decoder.take(byte);
+        read_decoded(item, &mut self.heads, &mut self.given, &mut self.writer);
     }
 
     /// Takes bytes of `piece` until it is used up or output or messages wait, and returns how many. Nothing may wait before. Behind a fatal
@@ -262,14 +256,8 @@ impl Engine {
         ensures again { is_running self.old ≡ false → self.new ≡ self.old }
     {
         if self.running() {
-            self.items.clear();
-            self.decoder.finish(&mut self.items);
-            read_decoded(
-                self.items.slice(),
-                &mut self.heads,
-                &mut self.given,
-                &mut self.writer,
-            );
+            let item = self.decoder.end();
+            read_decoded(item, &mut self.heads, &mut self.given, &mut self.writer);
             self.given.clear();
             self.heads.finish(&mut self.given);
             pass_on(self.given.slice(), self.heads.book(), &mut self.writer);

@@ -3,18 +3,17 @@
 ghost use Rattle.std.specs.Prelude.{◌≡◌, ◌≢◌, ◌<◌, ◌⊎◌, ◌++◌, ℕ, List, [], IfOk, OnOk, OnErr};
 ghost use Rattle.gregorio_jobs.specs.declared.job.Status.TheVariants.{ReadFault, WriteFault};
 ghost use Rattle.gregorio.specs.declared.source_bytes.SourceEnding.{SourceEnding as Ending};
-ghost use Rattle.gregorio.specs.Engine.{NothingWaits, ended_with, streams_left, streams_of_outcome, with_waiting};
-ghost use Rattle.gregorio.specs.Outcome.{outcome_of};
+ghost use Rattle.gregorio.specs.Engine.{NothingWaits, ended_with, streams_left, with_waiting};
 ghost use Rattle.gregorio.specs.Run.{Compiles};
 ghost use Rattle.gregorio.specs.machine.Buffers.{AreBuffered, nothing_buffered};
-ghost use Rattle.gregorio.specs.machine.Compile.{AreCut, AreSent, IsFed, IsFedAll, IsFedInPart, StreamsAreCut, used};
+ghost use Rattle.gregorio.specs.machine.Compile.{AreCut, AreSent, IsFed, IsFedAll, IsFedInPart, IsRun, SaysOutcomes, StreamsAreCut, used};
 
 use crate::buffers::{Buffers, send_both};
 use crate::engine::Engine;
 use crate::source_bytes::SourceEnding;
 use gabc_places::{Limits, Sink, Source, Unsent};
 use gregorio_jobs::{Job, Status};
-use std::alloc::{AllocError, Global};
+use std::alloc::Global;
 
 /// How many bytes one read asks for at most.
 const PIECE: usize = 8192;
@@ -145,16 +144,55 @@ fn end_by(engine: &mut Engine, ending: SourceEnding) -> Status
     }
 }
 
-/// Returns an engine for `job` and empty buffers, and reserves the memory that a run ever takes.
-fn start(alloc: Global, job: &Job, limits: Limits) -> Result<(Engine, Buffers), AllocError>
-    ensures all { IfOk result (λ both. (bytes : List ℕ) (ending : Ending) →
-        streams_left both.0 ending bytes ≡ streams_of_outcome job.now (outcome_of limits ending bytes)) }
-    ensures waits { IfOk result (λ both. NothingWaits both.0) }
-    ensures buffers { IfOk result (λ both. both.1 ≡ nothing_buffered) }
+/// Runs `engine` on `source`, and sends what it writes. Returns how the run ended. The buffers are empty before.
+fn run<S: Source, O: Sink, M: Sink>(
+    engine: &mut Engine,
+    limits: Limits,
+    buffers: &mut Buffers,
+    source: &mut S,
+    out: &mut O,
+    messages: &mut M,
+) -> Status
+    requires waits { NothingWaits engine.old }
+    requires buffers { buffers.old ≡ nothing_buffered }
+    ensures runs { (job : Job) → SaysOutcomes job limits engine.old →
+        IsRun job limits (used S.remaining S.failures source.old source.new)
+        (used O.written O.failures out.old out.new)
+        (used M.written M.failures messages.old messages.new) result }
 {
-    let engine = Engine::new(alloc, job, limits)?;
-    let buffers = Buffers::with_limit(alloc, BUFFERED)?;
-    Ok((engine, buffers))
+    let Ok(ending) = feed_all(engine, limits.input, buffers, source, out, messages) else {
+        return Status::WriteFault;
+    };
+    let status = end_by(engine, ending);
+    match send_waiting(engine, out, messages) {
+        Ok(()) => status,
+        Err(_) => Status::WriteFault,
+    }
+}
+
+/// Reserves the buffers, and runs `engine` on `source`. Returns how the run ended.
+fn run_buffered<S: Source, O: Sink, M: Sink>(
+    alloc: Global,
+    engine: &mut Engine,
+    limits: Limits,
+    source: &mut S,
+    out: &mut O,
+    messages: &mut M,
+) -> Status
+    requires waits { NothingWaits engine.old }
+    ensures runs { (job : Job) → SaysOutcomes job limits engine.old →
+        IsRun job limits (used S.remaining S.failures source.old source.new)
+        (used O.written O.failures out.old out.new)
+        (used M.written M.failures messages.old messages.new) result }
+{
+    match Buffers::with_limit(alloc, BUFFERED) {
+        Ok(mut buffers) => {
+            let status = run(engine, limits, &mut buffers, source, out, messages);
+            drop(buffers);
+            status
+        }
+        Err(_) => Status::NoMemory,
+    }
 }
 
 /// Reads a score from `source`, at most `limits.input` bytes and one more, writes it in the format of `job` to `out`, and its
@@ -194,22 +232,13 @@ pub fn compile<S: Source, O: Sink, M: Sink>(
     ensures steady { result ≢ WriteFault → (O.failures out.new ≡ O.failures out.old) ×
         (M.failures messages.new ≡ M.failures messages.old) }
 {
-    let Ok((mut engine, mut buffers)) = start(alloc, job, limits) else {
-        return Status::NoMemory;
-    };
-    let Ok(ending) = feed_all(
-        &mut engine,
-        limits.input,
-        &mut buffers,
-        source,
-        out,
-        messages,
-    ) else {
-        return Status::WriteFault;
-    };
-    let status = end_by(&mut engine, ending);
-    match send_waiting(&mut engine, out, messages) {
-        Ok(()) => status,
-        Err(_) => Status::WriteFault,
+    match Engine::new(alloc, job, limits) {
+        Ok(mut engine) => {
+            let status = run_buffered(alloc, &mut engine, limits, source, out, messages);
+            // A proof follows a call faster than all that lies inside an engine.
+            drop(engine);
+            status
+        }
+        Err(_) => Status::NoMemory,
     }
 }

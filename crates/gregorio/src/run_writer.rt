@@ -118,11 +118,11 @@ impl RunWriter {
             format: job.format,
             name: String::from_str(alloc, name)?,
             all_warnings: job.all_warnings,
-            scratch: Scratch::with_limit(alloc, syllable)?,
             count: 0,
             errors: false,
             out: Room::with_limit(alloc, out)?,
             messages: message_room(alloc, name.len())?,
+            scratch: Scratch::with_limit(alloc, syllable)?,
         })
     }
 

@@ -39,6 +39,7 @@ impl Model for ScoreWriter {
 }
 
 /// Writes what `event` of `score` brings. A stop or the end ends the run.
+#[inline(never)]
 fn write_event(writer: &mut RunWriter, part: &mut RunPart, score: &ScoreStage, event: ScoreEvent)
     requires { HasRoomFor score.now.limits writer.old (output_told score.now event ∷ []) }
     ensures writes { writer_at score.now part.new writer.new
@@ -64,6 +65,7 @@ fn write_event(writer: &mut RunWriter, part: &mut RunPart, score: &ScoreStage, e
 }
 
 /// Writes what `events` of `score` bring.
+#[inline(always)]
 fn write_events(
     writer: &mut RunWriter,
     part: &mut RunPart,
@@ -99,10 +101,10 @@ impl ScoreWriter {
             left_of writer.score xs ≡ score_outputs texts_by_stage limits xs) }
     {
         Ok(ScoreWriter {
-            score: ScoreStage::with_limits(alloc, limits)?,
             events: Room::with_limit(alloc, 16)?,
             part: RunPart::Heads,
             writer: RunWriter::with_limits(alloc, job, limits)?,
+            score: ScoreStage::with_limits(alloc, limits)?,
         })
     }
 

@@ -174,7 +174,11 @@ fn engine_of(alloc: Global, format: Format) -> Result<Engine, AllocError> {
 /// Whether a new engine gives what a trial says.
 fn is_kept(alloc: Global, trial: Trial) -> bool {
     match engine_of(alloc, trial.format) {
-        Ok(mut engine) => gives(&mut engine, trial),
+        Ok(mut engine) => {
+            let well = gives(&mut engine, trial);
+            drop(engine);
+            well
+        }
         Err(_) => false,
     }
 }

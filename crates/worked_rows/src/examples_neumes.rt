@@ -1,5 +1,8 @@
 //! The example of `gabc_neumes`, words of kinds, and single items.
 
+ghost use Rattle.std.specs.Prelude.{◌≡◌};
+ghost use Rattle.gabc_notes.specs.Items.{AreWithin};
+
 use gabc_neumes::{
     Base, Glyph, GlyphKind, Tail, cut, elements, is_in_element, is_in_segment, notes_into,
     word_of_base, word_of_shape, word_of_tail,
@@ -7,37 +10,54 @@ use gabc_neumes::{
 use gabc_notes::{Item, ItemKind, Shape, height_of, is_snippet, items_whole};
 use gabc_places::{Room, Span};
 use gabc_write::Scratch;
-use std::alloc::Global;
-use std::test::Fail;
+use std::alloc::{AllocError, Global};
 
-/// The elements of a kept text, and the glyphs of the notes among its items from `from` up to `to`.
-fn elements_and_glyphs(
+/// Whether the elements of the items of a kept text are these.
+fn has_elements(
     alloc: Global,
     kept: &str,
-    from: usize,
-    to: usize,
-) -> Result<(Room<Span>, Room<Glyph>), Fail> {
-    if !is_snippet(kept) {
-        return Err("no snippet".into());
-    }
-    let items = items_whole(alloc, kept)?;
-    let items = items.as_slice();
+    items: &[Item],
+    wanted: &[Span],
+) -> Result<bool, AllocError>
+    requires { AreWithin kept.now items.now }
+{
     let mut spans = Room::with_limit(alloc, items.len())?;
     elements(kept, items, &mut spans);
-    let part = items.get(from..to).ok_or("no such items")?;
-    let mut notes = Room::with_limit(alloc, part.len())?;
-    notes_into(kept, part, &mut notes);
+    Ok(spans.slice() == wanted)
+}
+
+/// Whether the glyphs of the notes among the items of a kept text are these.
+fn has_glyphs(
+    alloc: Global,
+    kept: &str,
+    items: &[Item],
+    wanted: &[Glyph],
+) -> Result<bool, AllocError>
+    requires { AreWithin kept.now items.now }
+{
+    let mut notes = Room::with_limit(alloc, items.len())?;
+    notes_into(kept, items, &mut notes);
     let mut glyphs = Room::with_limit(alloc, notes.slice().len())?;
     cut(notes.slice(), &mut glyphs);
-    Ok((spans, glyphs))
+    Ok(glyphs.slice() == wanted)
+}
+
+/// Whether a kept text has these elements, and its items from the third up to the sixth have these glyphs, counted from 0.
+fn is_cut(alloc: Global, kept: &str, spans: &[Span], glyphs: &[Glyph]) -> Result<bool, AllocError> {
+    let items = items_whole(alloc, kept)?;
+    match items.as_slice().get(3..6) {
+        Some(part) => Ok(
+            has_elements(alloc, kept, items.as_slice(), spans)?
+                && has_glyphs(alloc, kept, part, glyphs)?,
+        ),
+        None => Ok(false),
+    }
 }
 
 #[test]
-fn example_of_neumes(rt: HostRuntime) -> Result<(), Fail> {
-    let (spans, glyphs) = elements_and_glyphs(rt.alloc(), "hG/fgf!g", 3, 6)?;
-    let first = Span { from: 0, to: 2 };
-    let second = Span { from: 3, to: 8 };
-    assert_eq!(rt; spans.slice(), [first, second].as_slice());
+fn example_of_neumes(rt: HostRuntime) -> Result<(), AllocError> {
+    let kept = "hG/fgf!g";
+    let spans = [Span { from: 0, to: 2 }, Span { from: 3, to: 8 }];
     let torculus = GlyphKind {
         base: Base::Torculus,
         tail: Tail::Plain,
@@ -47,29 +67,34 @@ fn example_of_neumes(rt: HostRuntime) -> Result<(), Fail> {
         first: 0,
         count: 3,
     };
-    assert_eq!(rt; glyphs.slice(), [glyph].as_slice());
+    assert!(rt; is_snippet(kept) && is_cut(rt.alloc(), kept, &spans, &[glyph])?);
     Ok(())
 }
 
+/// Whether a kind of glyphs is shown so.
+fn is_shown(alloc: Global, kind: GlyphKind, wanted: &str) -> Result<bool, AllocError> {
+    Ok(format!(in alloc; "{kind}")?.as_str() == wanted)
+}
+
 #[test]
-fn kinds_have_words(rt: HostRuntime) -> Result<(), Fail> {
+fn kinds_have_words(rt: HostRuntime) -> Result<(), AllocError> {
     let kind = GlyphKind {
         base: Base::Climacus,
         tail: Tail::Resupinus,
     };
-    let word = format!(in rt.alloc(); "{kind}")?;
-    assert_eq!(rt; word.as_str(), "climacus-resupinus");
-    assert_eq!(rt;
-        word_of_shape(Shape::QuilismaQuadratum),
-        "quilisma-quadratum"
+    assert!(rt; is_shown(rt.alloc(), kind, "climacus-resupinus")?);
+    assert!(rt;
+        word_of_shape(Shape::QuilismaQuadratum) == "quilisma-quadratum"
+            && word_of_base(Base::Climacus) == "climacus"
+            && word_of_tail(Base::Climacus, Tail::Resupinus) == "-resupinus"
     );
-    assert_eq!(rt; word_of_base(Base::Climacus), "climacus");
-    assert_eq!(rt; word_of_tail(Base::Climacus, Tail::Resupinus), "-resupinus");
     Ok(())
 }
 
-/// An item of that kind.
-fn item(kind: ItemKind, from: usize, to: usize) -> Item {
+/// Returns an item of that kind.
+fn item(kind: ItemKind, from: usize, to: usize) -> Item
+    ensures { (result.span.from ≡ from) × (result.span.to ≡ to) }
+{
     Item {
         kind,
         span: Span { from, to },
@@ -77,35 +102,30 @@ fn item(kind: ItemKind, from: usize, to: usize) -> Item {
 }
 
 #[test]
-fn items_tell_where_they_stand(rt: HostRuntime) -> Result<(), Fail> {
+fn items_tell_where_they_stand(rt: HostRuntime) {
     let kept = "g/0hx/";
-    let inner = Item {
-        kind: ItemKind::Spacing,
-        span: Span { from: 1, to: 3 },
-    };
-    let divider = Item {
-        kind: ItemKind::Spacing,
-        span: Span { from: 5, to: 6 },
-    };
-    assert_eq!(rt; is_in_element(kept, inner), true);
-    assert_eq!(rt; is_in_element(kept, divider), false);
-    assert_eq!(rt; is_in_segment(item(ItemKind::Note, 0, 1)), true);
-    assert_eq!(rt; is_in_segment(item(ItemKind::Alteration, 3, 5)), false);
-    assert_eq!(rt; height_of(b'p'), 14);
-    assert_eq!(rt; height_of(b'C'), 2);
-    Ok(())
+    let inner = item(ItemKind::Spacing, 1, 3);
+    let divider = item(ItemKind::Spacing, 5, 6);
+    assert!(rt; is_in_element(kept, inner) && !is_in_element(kept, divider));
+    assert!(rt;
+        is_in_segment(item(ItemKind::Note, 0, 1))
+            && !is_in_segment(item(ItemKind::Alteration, 3, 5))
+    );
+    assert!(rt; height_of(b'p') == 14 && height_of(b'C') == 2);
 }
 
 #[test]
-fn items_go_as_far_as_one_begins(rt: HostRuntime) -> Result<(), Fail> {
+fn items_go_as_far_as_one_begins(rt: HostRuntime) -> Result<(), AllocError> {
     let items = items_whole(rt.alloc(), "g(h")?;
-    assert_eq!(rt; items.as_slice(), [item(ItemKind::Note, 0, 1)].as_slice());
+    assert!(rt; items.as_slice() == [item(ItemKind::Note, 0, 1)].as_slice());
     Ok(())
 }
 
 #[test]
-fn a_scratch_tells_its_limit(rt: HostRuntime) -> Result<(), Fail> {
+fn a_scratch_tells_its_limit(rt: HostRuntime) -> Result<(), AllocError> {
     let scratch = Scratch::with_limit(rt.alloc(), 64)?;
-    assert_eq!(rt; scratch.limit(), 64);
+    let limit = scratch.limit();
+    drop(scratch);
+    assert_eq!(rt; limit, 64);
     Ok(())
 }

@@ -1,15 +1,48 @@
 //! The examples of `gabc_notes` and `gabc_nabc`.
 
+ghost use Rattle.std.specs.Prelude.{◌≡◌};
+
 use gabc_nabc::{Descriptor, codes_into, descriptors_whole, is_nabc, nabc_whole};
 use gabc_notes::{
-    Item, ItemKind, Shape, SnippetEnding, is_snippet, items_whole, kept_chars, note_of,
-    snippet_whole,
+    Item, ItemKind, Shape, SnippetEnding, SnippetRead, is_snippet, items_whole, kept_chars,
+    note_of, snippet_whole,
 };
-use gabc_places::{Place, Room, Span};
-use std::test::Fail;
+use gabc_places::{Char, Place, Room, Span};
+use std::alloc::{AllocError, Global};
+
+/// Whether this is kept of a snippet, which is one and was closed at this byte.
+fn is_closed(read: &SnippetRead, kept: &str, at: usize) -> bool {
+    read.kept.as_str() == kept && read.how == SnippetEnding::Close(at)
+}
+
+/// Whether the last of these characters stands in this column.
+fn ends_in(kept: &[Char], column: u64) -> bool {
+    match kept.last() {
+        Some(last) => last.place.column == column,
+        None => false,
+    }
+}
+
+/// Whether the example of notes is read so: of `g1hv)` the `1` is left out, with E1 at column 2.
+fn reads_notes(alloc: Global) -> Result<bool, AllocError> {
+    let read = snippet_whole(alloc, "g1hv)", Place::START, false, 0)?;
+    Ok(is_closed(&read, "ghv", 4) && is_snippet(&read.kept))
+}
+
+/// Whether the items of a kept text are these.
+fn has_items(alloc: Global, kept: &str, wanted: &[Item]) -> Result<bool, AllocError> {
+    let items = items_whole(alloc, kept)?;
+    Ok(items.as_slice() == wanted)
+}
+
+/// Whether the last character that is kept of the example of notes, `v`, stands in column 4.
+fn keeps_notes(alloc: Global) -> Result<bool, AllocError> {
+    let chars = kept_chars(alloc, "g1hv)", Place::START, false, 0)?;
+    Ok(ends_in(chars.as_slice(), 4))
+}
 
 #[test]
-fn example_of_notes(rt: HostRuntime) -> Result<(), Fail> {
+fn example_of_notes(rt: HostRuntime) -> Result<(), AllocError> {
     let alloc = rt.alloc();
     let first = Item {
         kind: ItemKind::Note,
@@ -19,25 +52,44 @@ fn example_of_notes(rt: HostRuntime) -> Result<(), Fail> {
         kind: ItemKind::Note,
         span: Span { from: 1, to: 3 },
     };
-    let body = "g1hv)";
-    let read = snippet_whole(alloc, body, Place::START, false, 0)?;
-    assert_eq!(rt; read.kept.as_str(), "ghv"); // the `1` is left out, with E1 at column 2
-    assert_eq!(rt; read.how, SnippetEnding::Close(4));
-    if is_snippet(&read.kept) {
-        let items = items_whole(alloc, &read.kept)?;
-        assert_eq!(rt; items.as_slice(), [first, second].as_slice()); // `g` and `hv`, from byte 1 to byte 3
-    }
-    assert_eq!(rt;
-        note_of("ghv", second).map(|note| note.shape),
-        Some(Shape::Virga)
-    );
-    let chars = kept_chars(alloc, body, Place::START, false, 0)?;
-    assert_eq!(rt; chars.as_slice().last().map(|x| x.place.column), Some(4)); // of `v`
+    assert!(rt; reads_notes(alloc)? && keeps_notes(alloc)?);
+    assert!(rt; has_items(alloc, "ghv", &[first, second])?); // `g` and `hv`, from byte 1 to byte 3
+    assert!(rt; matches!(note_of("ghv", second), Some(note) if note.shape == Shape::Virga));
     Ok(())
 }
 
+/// Whether the example of NABC is read so: of `vi pe7)` the `7` is left out, with E3 at column 6.
+fn reads_nabc(alloc: Global) -> Result<bool, AllocError> {
+    let read = nabc_whole(alloc, "vi pe7)", Place::START)?;
+    Ok(is_closed(&read, "vipe", 6) && is_nabc(&read.kept))
+}
+
+/// Whether the parts of a kept text are these.
+fn has_parts(alloc: Global, kept: &str, wanted: &[Descriptor]) -> Result<bool, AllocError> {
+    let parts = descriptors_whole(alloc, kept)?;
+    Ok(parts.as_slice() == wanted)
+}
+
+/// Whether the last character that is kept of the example of NABC, `e`, stands in column 5.
+fn keeps_nabc(alloc: Global) -> Result<bool, AllocError> {
+    let chars = gabc_nabc::kept_chars(alloc, "vi pe7)", Place::START)?;
+    Ok(ends_in(chars.as_slice(), 5))
+}
+
+/// Whether the first code of `pe` in the example of NABC has a name, which is `pes`.
+fn names_pes(alloc: Global, pes: Descriptor) -> Result<bool, AllocError>
+    requires { (pes.span.from ≡ 2) × (pes.span.to ≡ 4) }
+{
+    let mut room = Room::with_limit(alloc, 2)?;
+    codes_into("vipe", pes, &mut room);
+    match room.slice().first() {
+        Some(code) => Ok(matches!(code.name(), Some(name) if name == "pes")),
+        None => Ok(false),
+    }
+}
+
 #[test]
-fn example_of_nabc(rt: HostRuntime) -> Result<(), Fail> {
+fn example_of_nabc(rt: HostRuntime) -> Result<(), AllocError> {
     let alloc = rt.alloc();
     let virga = Descriptor {
         space: false,
@@ -47,22 +99,9 @@ fn example_of_nabc(rt: HostRuntime) -> Result<(), Fail> {
         space: false,
         span: Span { from: 2, to: 4 },
     };
-    let mut room = Room::with_limit(alloc, 2)?;
-    let body = "vi pe7)";
-    let read = nabc_whole(alloc, body, Place::START)?;
-    assert_eq!(rt; read.kept.as_str(), "vipe"); // the `7` is left out, with E3 at column 6
-    assert_eq!(rt; read.how, SnippetEnding::Close(6));
-    if is_nabc(&read.kept) {
-        let parts = descriptors_whole(alloc, &read.kept)?;
-        assert_eq!(rt; parts.as_slice(), [virga, pes].as_slice()); // `vi` and `pe`, from byte 2 to byte 4
-    }
-    codes_into("vipe", pes, &mut room);
-    assert_eq!(rt;
-        room.slice().first().and_then(|code| code.name()),
-        Some("pes")
-    );
-    let chars = gabc_nabc::kept_chars(alloc, body, Place::START)?;
-    assert_eq!(rt; chars.as_slice().last().map(|x| x.place.column), Some(5)); // of `e`
+    assert!(rt; reads_nabc(alloc)? && keeps_nabc(alloc)?);
+    assert!(rt; has_parts(alloc, "vipe", &[virga, pes])?); // `vi` and `pe`, from byte 2 to byte 4
+    assert!(rt; names_pes(alloc, pes)?);
     Ok(())
 }
 
@@ -79,7 +118,7 @@ fn laws_of_what_is_read_again_are_called() {
 }
 
 #[test]
-fn laws_of_stages_and_tables_are_called(rt: HostRuntime) -> Result<(), Fail> {
+fn laws_of_stages_and_tables_are_called(rt: HostRuntime) -> Result<(), AllocError> {
     gabc_notes::laws::no_item_is_empty();
     gabc_notes::laws::an_item_has_one_kind();
     gabc_nabc::laws::no_part_is_empty();

@@ -2,75 +2,85 @@
 
 use gregorio::{Format, Input, Job, Output, Plan, Refusal, Words, plan};
 use std::alloc::{AllocError, Global};
-use std::test::Fail;
 
-/// A list of words.
-fn words_of(alloc: Global, texts: &[&str]) -> Result<Words, AllocError> {
+/// Returns what these words want.
+fn plan_of(alloc: Global, texts: &[&str]) -> Result<Result<Plan, Refusal>, AllocError> {
     let mut words = Words::new(alloc);
     for text in texts {
         words.push(text)?;
     }
-    Ok(words)
+    Ok(plan(alloc, &words))
 }
 
-/// Returns whether these words are refused for this reason, with this line and the status 3.
-fn is_refused(
-    alloc: Global,
-    texts: &[&str],
-    refusal: Refusal,
-    line: &str,
-) -> Result<bool, AllocError> {
-    let words = words_of(alloc, texts)?;
-    let told = format!(in alloc; "{refusal}")?;
-    let why = plan(alloc, &words).err();
-    Ok(why == Some(refusal) && told.as_str() == line && refusal.code() == 3)
+/// Returns whether this line tells of a refusal.
+fn is_told(alloc: Global, refusal: Refusal, line: &str) -> Result<bool, AllocError> {
+    Ok(format!(in alloc; "{refusal}")?.as_str() == line)
 }
+
+/// Returns whether these words are refused for this reason.
+fn is_refused(alloc: Global, texts: &[&str], refusal: Refusal) -> Result<bool, AllocError> {
+    Ok(plan_of(alloc, texts)?.err() == Some(refusal))
+}
+
+/// Words that are refused, why, and the line that tells it.
+const REFUSED: [(&[&str], Refusal, &str); 10] = [
+    (&["-Q"], Refusal::O1, "O1: arguments not understood"),
+    (&["-S", "x.gabc"], Refusal::O2, "O2: -F is needed"),
+    (
+        &["-F", "gtex", "-s"],
+        Refusal::O3,
+        "O3: -F takes gabc or dump",
+    ),
+    (
+        &["-F", "gabc", "-s", "x.gabc"],
+        Refusal::O4,
+        "O4: -s and a file",
+    ),
+    (&["-F", "gabc"], Refusal::O5, "O5: no input"),
+    (
+        &["-F", "gabc", "-s", "-o", "y", "-S"],
+        Refusal::O6,
+        "O6: -o and -S",
+    ),
+    (
+        &["-F", "gabc", "x.gabc"],
+        Refusal::O7,
+        "O7: a file needs -o or -S",
+    ),
+    (&["-F"], Refusal::O1, "O1: arguments not understood"),
+    (
+        &["-W", "-W", "-h"],
+        Refusal::O1,
+        "O1: arguments not understood",
+    ),
+    (&[], Refusal::O2, "O2: -F is needed"),
+];
 
 #[test]
-fn refuses_words(rt: HostRuntime) -> Result<(), Fail> {
-    let rows: [(&[&str], Refusal, &str); 10] = [
-        (&["-Q"], Refusal::O1, "O1: arguments not understood"),
-        (&["-S", "x.gabc"], Refusal::O2, "O2: -F is needed"),
-        (
-            &["-F", "gtex", "-s"],
-            Refusal::O3,
-            "O3: -F takes gabc or dump",
-        ),
-        (
-            &["-F", "gabc", "-s", "x.gabc"],
-            Refusal::O4,
-            "O4: -s and a file",
-        ),
-        (&["-F", "gabc"], Refusal::O5, "O5: no input"),
-        (
-            &["-F", "gabc", "-s", "-o", "y", "-S"],
-            Refusal::O6,
-            "O6: -o and -S",
-        ),
-        (
-            &["-F", "gabc", "x.gabc"],
-            Refusal::O7,
-            "O7: a file needs -o or -S",
-        ),
-        (&["-F"], Refusal::O1, "O1: arguments not understood"),
-        (
-            &["-W", "-W", "-h"],
-            Refusal::O1,
-            "O1: arguments not understood",
-        ),
-        (&[], Refusal::O2, "O2: -F is needed"),
-    ];
-    for (texts, refusal, line) in rows.iter() {
-        assert!(rt; is_refused(rt.alloc(), texts, *refusal, line)?);
+fn refuses_words(rt: HostRuntime) -> Result<(), AllocError> {
+    for (texts, refusal, line) in &REFUSED {
+        let well = is_refused(rt.alloc(), texts, *refusal)?
+            && is_told(rt.alloc(), *refusal, line)?
+            && refusal.code() == 3;
+        assert!(rt; well, "{line}");
     }
-    assert!(rt; format!(in rt.alloc(); "{}", Refusal::O0)?.as_str() == "O0: no memory");
     Ok(())
 }
 
 #[test]
-fn helps_before_it_refuses(rt: HostRuntime) -> Result<(), Fail> {
-    let words = words_of(rt.alloc(), &["-h", "-F", "gtex"])?;
-    assert!(rt; matches!(plan(rt.alloc(), &words), Ok(Plan::Help)));
+fn tells_of_no_memory(rt: HostRuntime) -> Result<(), AllocError> {
+    assert!(rt; is_told(rt.alloc(), Refusal::O0, "O0: no memory")?);
+    Ok(())
+}
+
+/// Returns whether these words want help.
+fn wants_help(alloc: Global, texts: &[&str]) -> Result<bool, AllocError> {
+    Ok(matches!(plan_of(alloc, texts)?, Ok(Plan::Help)))
+}
+
+#[test]
+fn helps_before_it_refuses(rt: HostRuntime) -> Result<(), AllocError> {
+    assert!(rt; wants_help(rt.alloc(), &["-h", "-F", "gtex"])?);
     Ok(())
 }
 
@@ -84,12 +94,10 @@ fn is_of_streams(job: &Job) -> bool {
 }
 
 #[test]
-fn plans_a_job_of_streams(rt: HostRuntime) -> Result<(), Fail> {
-    let words = words_of(rt.alloc(), &["-F", "dump", "-s"])?;
-    let well = match plan(rt.alloc(), &words) {
-        Ok(Plan::Run(job)) => is_of_streams(&job),
-        _ => false,
-    };
+fn plans_a_job_of_streams(rt: HostRuntime) -> Result<(), AllocError> {
+    let planned = plan_of(rt.alloc(), &["-F", "dump", "-s"])?;
+    let well = matches!(&planned, Ok(Plan::Run(job)) if is_of_streams(job));
+    drop(planned);
     assert!(rt; well);
     Ok(())
 }
@@ -104,13 +112,11 @@ fn is_of_files(job: &Job) -> bool {
 }
 
 #[test]
-fn plans_a_job_of_files(rt: HostRuntime) -> Result<(), Fail> {
+fn plans_a_job_of_files(rt: HostRuntime) -> Result<(), AllocError> {
     let texts = ["-WFgabc", "-o", "y.gabc", "-l", "list", "--", "-x"];
-    let words = words_of(rt.alloc(), &texts)?;
-    let well = match plan(rt.alloc(), &words) {
-        Ok(Plan::Run(job)) => is_of_files(&job),
-        _ => false,
-    };
+    let planned = plan_of(rt.alloc(), &texts)?;
+    let well = matches!(&planned, Ok(Plan::Run(job)) if is_of_files(job));
+    drop(planned);
     assert!(rt; well);
     Ok(())
 }

@@ -3,133 +3,193 @@
 use gabc_places::{Limits, TrialSink, TrialSource};
 use gregorio::{Format, Input, Job, Name, Output, Status, compile};
 use std::alloc::{AllocError, Global};
-use std::test::Fail;
 
-/// What a run wrote and answered.
-#[derive(Drop)]
-struct RunResult {
-    out: TrialSink,
-    messages: TrialSink,
+/// Where the source fails, and how many bytes the sinks of the output and of the messages hold.
+#[derive(Clone, Copy)]
+struct Ends {
+    fails_after: Option<usize>,
+    out: usize,
+    messages: usize,
+}
+
+/// What a run is to write and to answer.
+#[derive(Clone, Copy)]
+struct Wanted<'a> {
+    out: &'a [u8],
+    messages: &'a str,
     status: Status,
 }
 
-/// A job that reads standard input and writes standard output.
-fn job(all_warnings: bool) -> Job {
+/// Returns a job that reads this and writes standard output.
+fn job_of(input: Input, all_warnings: bool) -> Job {
     Job {
         format: Format::Gabc,
-        input: Input::Stdin,
+        input,
         output: Output::Stdout,
         messages: None,
         all_warnings,
     }
 }
 
-/// Runs a job on bytes, of which one read gives three, and on sinks that take one byte a write and hold so many bytes.
-fn run(
+/// Whether a job writes and answers this, on bytes of which one read gives three, and on sinks that take one byte a write.
+fn is_run(
     alloc: Global,
     job: &Job,
-    limits: Limits,
     bytes: &[u8],
-    fails_after: Option<usize>,
-    holds: (usize, usize),
-) -> Result<RunResult, AllocError> {
-    let mut source = TrialSource::new(bytes, 3, fails_after);
-    let mut out = TrialSink::new(alloc, 1, holds.0)?;
-    let mut messages = TrialSink::new(alloc, 1, holds.1)?;
-    let status = compile(alloc, job, limits, &mut source, &mut out, &mut messages);
-    Ok(RunResult {
-        out,
-        messages,
-        status,
-    })
-}
-
-/// Whether a run wrote and answered this.
-fn is_ran(ran: &RunResult, out: &[u8], messages: &[u8], status: Status) -> bool {
-    ran.out.held() == out && ran.messages.held() == messages && ran.status == status
-}
-
-#[test]
-fn takes_one_byte_a_write(rt: HostRuntime) -> Result<(), Fail> {
-    let input = b"name: Kyrie;\n%%\n(c4) Ky(f)ri(gfg)e(e.) (::)";
-    let output = b"name: Kyrie;\n%%\n(c4)\nKy(f)ri(gfg)e(e.)\n(::)\n";
-    let ran = run(
-        rt.alloc(),
-        &job(true),
+    ends: Ends,
+    wanted: Wanted<'_>,
+) -> Result<bool, AllocError> {
+    let mut source = TrialSource::new(bytes, 3, ends.fails_after);
+    let mut out = TrialSink::new(alloc, 1, ends.out)?;
+    let mut messages = TrialSink::new(alloc, 1, ends.messages)?;
+    let status = compile(
+        alloc,
+        job,
         Limits::DEFAULT,
-        input,
-        None,
-        (64, 64),
-    )?;
-    assert!(rt; is_ran(&ran, output, b"", Status::Whole));
-    Ok(())
+        &mut source,
+        &mut out,
+        &mut messages,
+    );
+    Ok(
+        out.held() == wanted.out
+            && messages.held() == wanted.messages.as_bytes()
+            && status == wanted.status,
+    )
+}
+
+/// Whether a job on standard input writes and answers this, as `is_run` tells it.
+fn runs(
+    alloc: Global,
+    all_warnings: bool,
+    bytes: &[u8],
+    ends: Ends,
+    wanted: Wanted<'_>,
+) -> Result<bool, AllocError> {
+    is_run(
+        alloc,
+        &job_of(Input::Stdin, all_warnings),
+        bytes,
+        ends,
+        wanted,
+    )
 }
 
 #[test]
-fn keeps_warnings_back(rt: HostRuntime) -> Result<(), Fail> {
-    let input = b"%%\n(/./)<x>a(f)";
-    let output = b"%%\n(//)<x>a(f)\n";
-    let message = "x.gabc:2:3: error: E1: character left out of the notes\n";
-    let named = Job {
-        input: Input::File(Name::new(rt.alloc(), "x.gabc")?),
-        ..job(false)
+fn takes_one_byte_a_write(rt: HostRuntime) -> Result<(), AllocError> {
+    let input = b"name: Kyrie;\n%%\n(c4) Ky(f)ri(gfg)e(e.) (::)";
+    let ends = Ends {
+        fails_after: None,
+        out: 64,
+        messages: 64,
     };
-    let ran = run(rt.alloc(), &named, Limits::DEFAULT, input, None, (64, 96))?;
-    assert!(rt; is_ran(&ran, output, message.as_bytes(), Status::Errors));
+    let wanted = Wanted {
+        out: b"name: Kyrie;\n%%\n(c4)\nKy(f)ri(gfg)e(e.)\n(::)\n",
+        messages: "",
+        status: Status::Whole,
+    };
+    assert!(rt; runs(rt.alloc(), true, input, ends, wanted)?);
+    Ok(())
+}
+
+/// Whether a job on the file `x.gabc` without warnings writes and answers this, as `is_run` tells it.
+fn runs_on_file(
+    alloc: Global,
+    bytes: &[u8],
+    ends: Ends,
+    wanted: Wanted<'_>,
+) -> Result<bool, AllocError> {
+    let job = job_of(Input::File(Name::new(alloc, "x.gabc")?), false);
+    is_run(alloc, &job, bytes, ends, wanted)
+}
+
+#[test]
+fn keeps_warnings_back(rt: HostRuntime) -> Result<(), AllocError> {
+    let ends = Ends {
+        fails_after: None,
+        out: 64,
+        messages: 96,
+    };
+    let wanted = Wanted {
+        out: b"%%\n(//)<x>a(f)\n",
+        messages: "x.gabc:2:3: error: E1: character left out of the notes\n",
+        status: Status::Errors,
+    };
+    assert!(rt; runs_on_file(rt.alloc(), b"%%\n(/./)<x>a(f)", ends, wanted)?);
     Ok(())
 }
 
 #[test]
-fn stops_where_reads_fail(rt: HostRuntime) -> Result<(), Fail> {
+fn stops_where_reads_fail(rt: HostRuntime) -> Result<(), AllocError> {
     let input = b"%%\nKy(f)ri(";
-    let job = job(false);
     for after in 0..=input.len() {
-        let ran = run(
-            rt.alloc(),
-            &job,
-            Limits::DEFAULT,
-            input,
-            Some(after),
-            (64, 96),
-        )?;
-        let output = match after {
+        let ends = Ends {
+            fails_after: Some(after),
+            out: 64,
+            messages: 96,
+        };
+        let out = match after {
             0 | 1 => "",
             2..=7 => "%%\n",
             _ => "%%\nKy(f)\n",
         };
-        if !is_ran(&ran, output.as_bytes(), b"", Status::ReadFault) {
-            return Err(after.into());
-        }
+        let wanted = Wanted {
+            out: out.as_bytes(),
+            messages: "",
+            status: Status::ReadFault,
+        };
+        assert!(rt; runs(rt.alloc(), false, input, ends, wanted)?, "{after}");
     }
     Ok(())
 }
 
+/// Whether a run on two syllables with all warnings ends where a write fails: with these bytes of the output held, and these
+/// bytes of the only message.
+fn stops_at(alloc: Global, ends: Ends, out: &[u8], messages: &str) -> Result<bool, AllocError> {
+    let wanted = Wanted {
+        out,
+        messages,
+        status: Status::WriteFault,
+    };
+    runs(alloc, true, b"%%\nKy(f)ri(g)", ends, wanted)
+}
+
+/// The only message of a run on two syllables without headers.
+const NO_NAME: &str = "<stdin>:1:1: warning: W1: no name header\n";
+
 #[test]
-fn stops_where_writes_fail(rt: HostRuntime) -> Result<(), Fail> {
-    let input = b"%%\nKy(f)ri(g)";
+fn stops_where_writes_of_output_fail(rt: HostRuntime) -> Result<(), AllocError> {
     let output = b"%%\nKy(f)ri(g)\n";
-    let message = "<stdin>:1:1: warning: W1: no name header\n";
-    let job = job(true);
     for holds in 0..output.len() {
-        let ran = run(rt.alloc(), &job, Limits::DEFAULT, input, None, (holds, 64))?;
+        let ends = Ends {
+            fails_after: None,
+            out: holds,
+            messages: 64,
+        };
         // the message is sent behind the two bytes of the headers
-        let lines = if holds < 2 { "" } else { message };
-        if !is_ran(&ran, &output[..holds], lines.as_bytes(), Status::WriteFault) {
-            return Err(holds.into());
-        }
-    }
-    for holds in [0, 1, message.len() - 1] {
-        let ran = run(rt.alloc(), &job, Limits::DEFAULT, input, None, (64, holds))?;
-        let lines = &message.as_bytes()[..holds];
-        if !is_ran(&ran, b"%%", lines, Status::WriteFault) {
-            return Err(holds.into());
-        }
+        let messages = if holds < 2 { "" } else { NO_NAME };
+        assert!(rt;
+            stops_at(rt.alloc(), ends, &output[..holds], messages)?,
+            "{holds}"
+        );
     }
     Ok(())
 }
 
 #[test]
-fn codes_and_names(rt: HostRuntime) -> Result<(), Fail> {
+fn stops_where_writes_of_messages_fail(rt: HostRuntime) -> Result<(), AllocError> {
+    for messages in ["", "<", "<stdin>:1:1: warning: W1: no name header"] {
+        let ends = Ends {
+            fails_after: None,
+            out: 64,
+            messages: messages.len(),
+        };
+        assert!(rt; stops_at(rt.alloc(), ends, b"%%", messages)?, "{messages}");
+    }
+    Ok(())
+}
+
+#[test]
+fn codes_of_statuses(rt: HostRuntime) {
     let codes = [
         (Status::Whole, 0),
         (Status::Errors, 1),
@@ -141,7 +201,12 @@ fn codes_and_names(rt: HostRuntime) -> Result<(), Fail> {
     for (status, code) in codes {
         assert_eq!(rt; status.code(), code);
     }
-    assert_eq!(rt; Name::new(rt.alloc(), "x.gabc")?.as_str(), "x.gabc");
+}
+
+#[test]
+fn names_keep_their_text(rt: HostRuntime) -> Result<(), AllocError> {
+    let name = Name::new(rt.alloc(), "x.gabc")?;
+    assert!(rt; name.as_str() == "x.gabc");
     Ok(())
 }
 

@@ -1,18 +1,16 @@
 -- A decoder that has stopped emits nothing, and a fault stops it.
-use Rattle.std.proofs.Common.{◌≡◌, ℕ, not, ◌+◌, Bool, true, false, cond, List, [], ◌∷◌, ◌++◌, Result, Err, refl, ap, ◌∙◌, ◌⊎◌, inl, inr}
-use Rattle.std.specs.Bool.{◌==◌}
+use Rattle.std.proofs.Common.{◌≡◌, ℕ, Bool, true, false, List, [], ◌∷◌, ◌++◌, Option, Some, None, IfSome, option_to_list, Result, Err, refl, ap, sym, ◌∙◌, ◌⊎◌, inl, inr}
 use Rattle.std.specs.List.{list_any}
 use Rattle.gabc_places.specs.declared.place.Char.{Char}
 use Rattle.gabc_places.specs.declared.code.Code.{Code}
-use Rattle.gabc_places.specs.declared.code.Code.TheVariants.{F1, F7}
+use Rattle.gabc_places.specs.declared.code.Code.TheVariants.{F1}
 use Rattle.gabc_places.specs.declared.code.Fault.{Fault}
 use Rattle.gabc_places.specs.declared.decoded.Tail.{Tail}
 use Rattle.gabc_places.specs.declared.decoded.Tail.TheVariants.{Nothing, Part, Wrong}
-use Rattle.gabc_places.specs.BoundedList.{BoundedList, extended_by}
-use Rattle.gabc_places.specs.StageLaw.{concat_of, silence, EmitsNothing, StopsAtEnd}
+use Rattle.gabc_places.specs.StageLaw.{concat_of, silence, EmitsNothing}
 use Rattle.gabc_places.specs.Text.{is_left_out, utf8_prefix_of, tail_of}
 use Rattle.gabc_places.specs.DecoderMachine.{DecoderState, DecoderStep, stop_with, take_character, take_pending, take_byte, take_end, is_fault_item, events_left}
-use Rattle.gabc_places.proofs.NothingBehindAnEnd.{stops-endless, stops-last}
+use Rattle.gabc_places.specs.machine.Decoder.{take_part}
 use Rattle.gabc_places.proofs.PushesAreOne.{joined_silence}
 
 byte_ignored : (x : ℕ) (s : DecoderState) → s.running ≡ false → take_byte x s ≡ record { events = []; state = s }
@@ -59,27 +57,23 @@ pending_stops bytes [] Wrong s = stop_stops F1 s
 pending_stops bytes [] Part s = quiet_stops (record s { pending = bytes })
 pending_stops bytes [] Nothing s = quiet_stops (record s { pending = bytes })
 
-byte_stops : (x : ℕ) (s : DecoderState) → Stops (take_byte x s)
-byte_stops x s = by s.running (s.taken == s.limit)
-  where
-    later : DecoderStep
-    later = take_pending (s.pending ++ x ∷ []) (utf8_prefix_of (s.pending ++ x ∷ [])) (tail_of (s.pending ++ x ∷ [])) (record s { taken = s.taken + 1; pending = [] })
+-- ---- what a call returns
 
-    by : (b t : Bool) → Stops (cond (not b) (record { events = []; state = s }) (cond t (stop_with F7 s) later))
-    by false t = quiet_stops s
-    by true true = stop_stops F7 s
-    by true false = pending_stops (s.pending ++ x ∷ []) (utf8_prefix_of (s.pending ++ x ∷ [])) (tail_of (s.pending ++ x ∷ [])) (record s { taken = s.taken + 1; pending = [] })
+stops_with : (t : DecoderStep) (item : Option (Result Char Fault)) (new : DecoderState) → Stops t → new ≡ t.state → option_to_list item ≡ t.events
+    → IfSome item (λ i. is_fault_item i ≡ true → EmitsNothing (events_left new))
+stops_with t None new stops e h = tt
+stops_with t (Some i) new (inl endless) e h = λ fault. absurd (cc (ap (list_any is_fault_item) h ∙ endless.none))
+stops_with t (Some i) new (inr last) e h = λ fault. gives_nothing new (ap (λ (s : DecoderState). s.running) e ∙ last.stopped)
 
-stops_by : (t : DecoderStep) (new : DecoderState) (out after : BoundedList (Result Char Fault)) → Stops t
-    → new ≡ t.state → after ≡ extended_by out t.events → StopsAtEnd is_fault_item (events_left new) out after
-stops_by t new out after (inl i) e h = stops-endless is_fault_item (events_left new) out after t.events h i.none
-stops_by t new out after (inr i) e h =
-    stops-last is_fault_item (events_left new) out after [] i.fault (h ∙ ap (extended_by out) i.events_are) refl (gives_nothing new (ap (λ (s : DecoderState). s.running) e ∙ i.stopped))
+pub fault_stops : (code : Code) (s new : DecoderState) (item : Option (Result Char Fault)) → new ≡ (stop_with code s).state → option_to_list item ≡ (stop_with code s).events
+    → IfSome item (λ i. is_fault_item i ≡ true → EmitsNothing (events_left new))
+fault_stops code s new item e h = stops_with (stop_with code s) item new (stop_stops code s) e h
 
-pub push_stops : (x : ℕ) (s new : DecoderState) (out after : BoundedList (Result Char Fault))
-    → new ≡ (take_byte x s).state → after ≡ extended_by out (take_byte x s).events → StopsAtEnd is_fault_item (events_left new) out after
-push_stops x s new out after e h = stops_by (take_byte x s) new out after (byte_stops x s) e h
+pub part_stops : (x : ℕ) (s new : DecoderState) (item : Option (Result Char Fault)) → new ≡ (take_part x s).state → option_to_list item ≡ (take_part x s).events
+    → IfSome item (λ i. is_fault_item i ≡ true → EmitsNothing (events_left new))
+part_stops x s new item e h = stops_with (take_part x s) item new (pending_stops (s.pending ++ x ∷ []) (utf8_prefix_of (s.pending ++ x ∷ [])) (tail_of (s.pending ++ x ∷ [])) (record s { pending = [] })) e h
 
-pub fault_stops : (s new : DecoderState) (out after : BoundedList (Result Char Fault))
-    → new ≡ (stop_with F1 s).state → after ≡ extended_by out (stop_with F1 s).events → StopsAtEnd is_fault_item (events_left new) out after
-fault_stops s new out after e h = stops_by (stop_with F1 s) new out after (stop_stops F1 s) e h
+pub item_of_byte : (x : ℕ) (s new : DecoderState) (item : Option (Result Char Fault)) → new ≡ (take_byte x s).state → option_to_list item ≡ (take_byte x s).events
+    → (xs : List ℕ) → events_left s (x ∷ xs) ≡ option_to_list item ∷ events_left new xs
+item_of_byte x s new item e h xs =
+    ap (λ (events : List (Result Char Fault)). events ∷ events_left (take_byte x s).state xs) (sym h) ∙ ap (λ (t : DecoderState). option_to_list item ∷ events_left t xs) (sym e)

@@ -1,5 +1,5 @@
 -- Behind the last piece.
-use Rattle.std.proofs.Common.{◌≡◌, ℕ, zero, suc, ◌≤◌, List, [], ◌∷◌, length, drop, refl, ap, ◌∙◌, arith, Option}
+use Rattle.std.proofs.Common.{◌≡◌, ℕ, zero, suc, ◌≤◌, List, [], ◌∷◌, length, drop, refl, ap, arith, Option}
 use Rattle.gabc_places.specs.declared.place.Span.{Span}
 use Rattle.gabc_text.specs.declared.styles.Style.{Style}
 use Rattle.gabc_text.specs.declared.view.Piece.{Piece}
@@ -12,8 +12,6 @@ all_dropped zero (p ∷ ps) h = absurd (omega arith)
 all_dropped (suc n) (p ∷ ps) h = all_dropped n ps (omega arith)
 
 -- behind the last piece a boundary is left
-pub last_text : (centre : Option Span) (kept : List ℕ) (i : ℕ) (old : List Style) (ps : List Piece) → length ps ≤ i → i ≤ length ps
-    → text_from centre kept i old (drop i ps) ≡ boundary old [] (braces centre (length ps))
-last_text centre kept i old ps h g =
-    let e : i ≡ length ps = omega arith in
-    ap (text_from centre kept i old) (all_dropped i ps h) ∙ ap (λ (n : ℕ). boundary old [] (braces centre n)) e
+pub last_text : (centre : Option Span) (kept : List ℕ) (i : ℕ) (old : List Style) (ps : List Piece) → length ps ≤ i
+    → text_from centre kept i old (drop i ps) ≡ boundary old [] (braces centre i)
+last_text centre kept i old ps h = ap (text_from centre kept i old) (all_dropped i ps h)

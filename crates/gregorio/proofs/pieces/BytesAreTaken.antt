@@ -1,9 +1,8 @@
 -- A byte that an engine takes brings what was to come for it, and so do the bytes of a piece.
-use Rattle.std.proofs.Common.{◌≡◌, ℕ, ◌+◌, ◌*◌, ◌≤◌, ◌<◌, ◌||◌, ◌⊎◌, inl, inr, List, [], ◌∷◌, ◌++◌, length, take, slice_index_or, Bool, true, false, if◌then◌else◌, Option, Some, None, Result, refl, ap, sym, ◌∙◌, subst, append_assoc, arith, add-one}
-use Rattle.std.specs.List.{slice_get}
+use Rattle.std.proofs.Common.{◌≡◌, ℕ, ◌+◌, ◌*◌, ◌<◌, ◌||◌, ◌⊎◌, inl, inr, List, [], ◌∷◌, ◌++◌, length, take, slice_index_or, Bool, true, false, if◌then◌else◌, Option, None, Result, refl, ap, sym, ◌∙◌, append_assoc, arith, add-one}
 use Rattle.std.proofs.Math.Seq.{take-suc}
 use Rattle.gabc_places.specs.BoundedList.{BoundedList, extended_by}
-use Rattle.gabc_places.specs.StageLaw.{Pushes, concat_of}
+use Rattle.gabc_places.specs.StageLaw.{concat_of}
 use Rattle.gabc_places.specs.declared.code.Fault.{Fault}
 use Rattle.gabc_places.specs.declared.limits.Limits.{Limits}
 use Rattle.gabc_places.specs.declared.place.Char.{Char}
@@ -50,47 +49,27 @@ still_reserved old new steady reserved =
 
 -- ---- a byte
 
-pub items_pushed : (before after : List ℕ → List (List (Result Char Fault))) (byte : ℕ) (r old new : BoundedList (Result Char Fault)) (items : List (Result Char Fault)) → old ≡ record r { items = [] }
-    → (p : Pushes before after byte 1 old new) → items ≡ new.items → items ≡ p.events
-items_pushed before after byte r old new items empty p now =
-    now ∙ (ap (λ (x : BoundedList (Result Char Fault)). x.items) p.out ∙ ap (λ (x : BoundedList (Result Char Fault)). x.items ++ p.events) empty)
-
-pub few_pushed : (before after : List ℕ → List (List (Result Char Fault))) (byte : ℕ) (r old new : BoundedList (Result Char Fault)) (items : List (Result Char Fault)) → old ≡ record r { items = [] }
-    → Pushes before after byte 1 old new → items ≡ new.items → length items ≤ 1
-few_pushed before after byte r old new items empty p now =
-    subst (λ (xs : List (Result Char Fault)). length xs ≤ 1) (sym (items_pushed before after byte r old new items empty p now)) p.few
-
-items_next : (d e : DecoderState) (byte : ℕ) (bytes : List ℕ) (old new : BoundedList (Result Char Fault)) (ending : SourceEnding) (p : Pushes (decoder.events_left d) (decoder.events_left e) byte 1 old new)
-    → emitted_by (is_whole ending) (byte ∷ bytes) (decoder.events_left d (byte ∷ bytes)) ≡ p.events ++ emitted_by (is_whole ending) bytes (decoder.events_left e bytes)
-items_next d e byte bytes old new Ended p = ap (λ (lists : List (List (Result Char Fault))). concat_of lists) (p.law bytes)
-items_next d e byte bytes old new Broken p = ap (λ (lists : List (List (Result Char Fault))). concat_of (take (length (byte ∷ bytes)) lists)) (p.law bytes)
+items_next : (d e : DecoderState) (byte : ℕ) (bytes : List ℕ) (items : List (Result Char Fault)) (ending : SourceEnding) → decoder.events_left d (byte ∷ bytes) ≡ items ∷ decoder.events_left e bytes
+    → emitted_by (is_whole ending) (byte ∷ bytes) (decoder.events_left d (byte ∷ bytes)) ≡ items ++ emitted_by (is_whole ending) bytes (decoder.events_left e bytes)
+items_next d e byte bytes items Ended law = ap (λ (lists : List (List (Result Char Fault))). concat_of lists) law
+items_next d e byte bytes items Broken law = ap (λ (lists : List (List (Result Char Fault))). concat_of (take (length (byte ∷ bytes)) lists)) law
 
 -- what waits where nothing waited is what was written
 waits_now : (old new : BoundedList ℕ) (text : List ℕ) → old.items ≡ [] → new ≡ extended_by old text → new.items ≡ text
 waits_now old new text empty e = ap (λ (r : BoundedList ℕ). r.items) e ∙ ap (λ (xs : List ℕ). xs ++ text) empty
 
-pub byte_taken : (d e : DecoderState) (h now : HeaderStageState) (w new : ScoreWriterState) (byte : ℕ) (r before after : BoundedList (Result Char Fault)) (items : List (Result Char Fault))
-    → before ≡ record r { items = [] } → Pushes (decoder.events_left d) (decoder.events_left e) byte 1 before after → items ≡ after.items
+pub byte_taken : (d e : DecoderState) (h now : HeaderStageState) (w new : ScoreWriterState) (byte : ℕ) (items : List (Result Char Fault))
+    → ((bytes : List ℕ) → decoder.events_left d (byte ∷ bytes) ≡ items ∷ decoder.events_left e bytes)
     → WritesItems h w items now new → IsEmpty w → (bytes : List ℕ) (ending : SourceEnding)
     → streams_of_items h w ending (emitted_by (is_whole ending) (byte ∷ bytes) (decoder.events_left d (byte ∷ bytes)))
     ≡ behind_bytes new.writer.out.items new.writer.messages.items (streams_of_items now new ending (emitted_by (is_whole ending) bytes (decoder.events_left e bytes)))
-byte_taken d e h now w new byte r before after items empty_room p is a empty bytes ending =
+byte_taken d e h now w new byte items law a empty bytes ending =
     let rest = emitted_by (is_whole ending) bytes (decoder.events_left e bytes) in
     let later = streams_of_items now new ending rest in
-    let same = items_pushed (decoder.events_left d) (decoder.events_left e) byte r before after items empty_room p is in
-    ap (λ (xs : List (Result Char Fault)). streams_of_items h w ending xs) (items_next d e byte bytes before after ending p ∙ ap (λ (xs : List (Result Char Fault)). xs ++ rest) (sym same))
+    ap (λ (xs : List (Result Char Fault)). streams_of_items h w ending xs) (items_next d e byte bytes items ending (law bytes))
     ∙ (a.law ending rest
     ∙ (ap (λ (o : List ℕ). behind_bytes o a.lines later) (sym (waits_now w.writer.out new.writer.out a.output empty.output a.out))
     ∙ ap (λ (l : List ℕ). behind_bytes new.writer.out.items l later) (sym (waits_now w.writer.messages new.writer.messages a.lines empty.messages a.messages))))
-
-pub no_first : (items : List (Result Char Fault)) → slice_get items 0 ≡ None → items ≡ []
-no_first [] h = refl
-no_first (item ∷ items) h = absurd (cc h)
-
-pub just_first : (items : List (Result Char Fault)) (item : Result Char Fault) → slice_get items 0 ≡ Some item → length items ≤ 1 → items ≡ item ∷ []
-just_first [] item h few = absurd (cc h)
-just_first (x ∷ []) item h few = cc h
-just_first (x ∷ y ∷ items) item h few = absurd (omega (arith, few))
 
 -- ---- a piece
 

@@ -1,7 +1,7 @@
 -- The end of an input, or the failure of its source, brings what was still to come.
-use Rattle.std.proofs.Common.{◌≡◌, ℕ, List, [], ◌++◌, false, Result, Ok, Err, refl, ap, sym, ◌∙◌, subst}
+use Rattle.std.proofs.Common.{◌≡◌, ℕ, List, [], ◌∷◌, ◌++◌, false, Result, Ok, Err, refl, ap, sym, ◌∙◌, subst}
 use Rattle.gabc_places.specs.BoundedList.{BoundedList, extended_by}
-use Rattle.gabc_places.specs.StageLaw.{Finishes, concat_of}
+use Rattle.gabc_places.specs.StageLaw.{concat_of}
 use Rattle.gabc_places.specs.declared.code.Fault.{Fault}
 use Rattle.gabc_places.specs.declared.limits.Limits.{Limits}
 use Rattle.gabc_places.specs.declared.place.Char.{Char}
@@ -101,15 +101,12 @@ ends_given h w mid new status given read is a last =
     ∙ a.law h.book [] (subst (λ (events : List HeadEvent). AreBooksAt events h.book read) (sym is) (no_books_at_end h.limits h.progress h.book read)))
     (ends_last mid new status h.book last)
 
-pub ends_items : (d : DecoderState) (h now : HeaderStageState) (w mid new : ScoreWriterState) (status : Status) (r before after : BoundedList (Result Char Fault)) (items : List (Result Char Fault))
-    → before ≡ record r { items = [] } → Finishes (decoder.events_left d) 1 before after → items ≡ after.items → WritesItems h w items now mid → EndsWith (streams_of_items now mid Ended []) mid new status
+pub ends_items : (d : DecoderState) (h now : HeaderStageState) (w mid new : ScoreWriterState) (status : Status) (items : List (Result Char Fault))
+    → decoder.events_left d [] ≡ items ∷ [] → WritesItems h w items now mid → EndsWith (streams_of_items now mid Ended []) mid new status
     → EndsWith (streams_of_items h w Ended (concat_of (decoder.events_left d []))) w new status
-ends_items d h now w mid new status r before after items empty p is a e =
-    let same : items ≡ p.events = is ∙ (ap (λ (x : BoundedList (Result Char Fault)). x.items) p.out ∙ ap (λ (x : BoundedList (Result Char Fault)). x.items ++ p.events) empty) in
+ends_items d h now w mid new status items law a e =
     ends_behind (streams_of_items h w Ended (concat_of (decoder.events_left d []))) (streams_of_items now mid Ended []) w mid new status a.output a.lines a.out a.messages
-    (ap (λ (lists : List (List (Result Char Fault))). streams_of_items h w Ended (concat_of lists)) p.law
-    ∙ (ap (λ (xs : List (Result Char Fault)). streams_of_items h w Ended (xs ++ [])) (sym same)
-    ∙ a.law Ended []))
+    (ap (λ (lists : List (List (Result Char Fault))). streams_of_items h w Ended (concat_of lists)) law ∙ a.law Ended [])
     e
 
 -- ---- room and the book

@@ -1,11 +1,16 @@
 -- What the parts of a run do to its source and its sinks.
-use Rattle.std.specs.Prelude.{◌≡◌, ℕ, ◌+◌, ◌<◌, ◌≤◌, List, ◌++◌, length, take, Option, ◌⊎◌}
+use Rattle.std.specs.Prelude.{◌≡◌, ◌≢◌, ℕ, ◌+◌, ◌<◌, ◌≤◌, List, ◌++◌, length, take, Option, ◌⊎◌}
 use Rattle.std.specs.Io.KnownBytes.{Appends, Consumes}
+use Rattle.gabc_places.specs.declared.limits.Limits.{Limits}
 use Rattle.gregorio.specs.declared.source_bytes.SourceEnding.{SourceEnding}
 use Rattle.gregorio.specs.declared.source_bytes.SourceEnding.TheVariants.{Broken}
-use Rattle.gregorio.specs.Engine.{EngineState, Streams, behind_bytes, streams_left}
-use Rattle.gregorio.specs.Run.{Use}
+use Rattle.gregorio.specs.Engine.{EngineState, Streams, behind_bytes, streams_left, streams_of_outcome}
+use Rattle.gregorio.specs.Outcome.{outcome_of}
+use Rattle.gregorio.specs.Run.{Compiles, Use}
 use Rattle.gregorio.specs.SourceBytes.{ReadsSource}
+use Rattle.gregorio_jobs.specs.declared.job.Job.{Job}
+use Rattle.gregorio_jobs.specs.declared.job.Status.{Status}
+use Rattle.gregorio_jobs.specs.declared.job.Status.TheVariants.{ReadFault, WriteFault}
 
 -- an end that had `old` and has `new`
 abbrev pub used : {A : Type 0} → (A → Option (List ℕ)) → (A → ℕ) → A → A → Use
@@ -57,3 +62,14 @@ pub record IsFedInPart (limit : ℕ) (source out messages : Use) (old : EngineSt
   pub consumed : Consumes source.old source.new bytes
   pub within : length bytes ≤ limit + 1
   pub cut : StreamsAreCut out messages (streams_left old Broken bytes)
+
+-- What an engine says of every input is its outcome for this job.
+abbrev pub SaysOutcomes : Job → Limits → EngineState → Type 0
+SaysOutcomes job limits e = (bytes : List ℕ) (ending : SourceEnding) → streams_left e ending bytes ≡ streams_of_outcome job (outcome_of limits ending bytes)
+
+-- A whole run, and which ends failed.
+pub record IsRun (job : Job) (limits : Limits) (source out messages : Use) (status : Status) : Type 0 where
+  pub compiles : Compiles job limits source out messages status
+  pub read_fault : status ≡ ReadFault → source.failed_old < source.failed_new
+  pub write_fault : status ≡ WriteFault → (out.failed_old < out.failed_new) ⊎ (messages.failed_old < messages.failed_new)
+  pub steady : status ≢ WriteFault → (out.failed_new ≡ out.failed_old) × (messages.failed_new ≡ messages.failed_old)

@@ -86,9 +86,8 @@ pub record GoTogether (h : HeaderStageState) (w : ScoreWriterState) : Type 0 whe
   pub book : IsBookRead h.progress h.book
   pub short : IsShortBook h.limits h.book
 
--- The rooms are those of the limits.
-pub record IsEngine (items : BoundedList (Result Char Fault)) (heads : HeaderStageState) (given : BoundedList HeadEvent) (w : ScoreWriterState) : Type 0 where
-  pub item : 1 ≤ items.limit
+-- There is room for the events of one call, and the rooms of the writer are those of the limits.
+pub record IsEngine (heads : HeaderStageState) (given : BoundedList HeadEvent) (w : ScoreWriterState) : Type 0 where
   pub few : 2 ≤ given.limit
   pub together : GoTogether heads w
   pub reserved : IsReserved w

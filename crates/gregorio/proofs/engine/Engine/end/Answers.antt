@@ -1,4 +1,4 @@
-use Rattle.std.proofs.Common.{List, [], ap, sym, subst, ◌∙◌, append-nil}
+use Rattle.std.proofs.Common.{List, [], option_to_list, ap, sym, subst, ◌∙◌, append-nil}
 use Rattle.gabc_headers.specs.declared.head_event.HeadEvent.{HeadEvent as Given}
 use Rattle.gregorio.specs.declared.engine.Engine.TheInside.{Inside}
 use Rattle.gregorio.specs.declared.source_bytes.SourceEnding.TheVariants.{Whole}
@@ -21,10 +21,10 @@ finish-requires-2 c =
     } in
     let room : HasRoom c.if-running.self-inside.writer [] = elim c.if-running.branch [
       | then-running w ↦ subst (λ (i : Inside). HasRoom i.writer []) (sym w.self-inside-is)
-          (w.pass_on.ensures.room [] (subst (λ (events : List Given). HasRoom w.read_decoded.new.writer events) (sym (append-nil w.slice-then-running.result.now))
+          (w.pass_on.ensures.room [] (subst (λ (events : List Given). HasRoom w.read_decoded.new.writer events) (sym (append-nil w.slice.result.now))
           (subst (λ (events : List Given). HasRoom w.read_decoded.new.writer events)
-          (sym (given_of_end w.read_decoded.new.heads w.read_decoded.new.given w.clear-then-running.new.self w.finish-then-running.new.out w.slice-then-running.result.now
-          w.clear-then-running.ensures w.finish-then-running.ensures.ends w.slice-then-running.ensures))
+          (sym (given_of_end w.read_decoded.new.heads w.read_decoded.new.given w.clear.new.self w.finish.new.out w.slice.result.now
+          w.clear.ensures w.finish.ensures.ends w.slice.ensures))
           (room_for_end w.read_decoded.new.writer w.read_decoded.new.heads.limits w.read_decoded.new.heads.progress w.read_decoded.ensures.room))))
       | else-running w ↦ subst (λ (i : Inside). HasRoom i.writer []) (sym w.self-inside-is) (room_for_last c.self.inside.writer c.self.invariant.reserved empty)
     ] in
@@ -41,11 +41,11 @@ returns-clause-law c =
       | then-running w ↦
           let last : WritesLast w.pass_on.new.writer c.finish-2.new.self c.finish-2.result =
           subst (λ (i : Inside). WritesLast i.writer c.finish-2.new.self c.finish-2.result) w.self-inside-is c.finish-2.ensures.writes in
-          let given = given_of_end w.read_decoded.new.heads w.read_decoded.new.given w.clear-then-running.new.self w.finish-then-running.new.out w.slice-then-running.result.now
-          w.clear-then-running.ensures w.finish-then-running.ensures.ends w.slice-then-running.ensures in
+          let given = given_of_end w.read_decoded.new.heads w.read_decoded.new.given w.clear.new.self w.finish.new.out w.slice.result.now
+          w.clear.ensures w.finish.ensures.ends w.slice.ensures in
           ends_items c.self.inside.decoder c.self.inside.heads w.read_decoded.new.heads c.self.inside.writer w.read_decoded.new.writer c.finish-2.new.self c.finish-2.result
-          c.self.inside.items w.clear.new.self w.finish.new.out w.slice.result.now w.clear.ensures w.finish.ensures.ends w.slice.ensures w.read_decoded.ensures.writes
-          (ends_given w.read_decoded.new.heads w.read_decoded.new.writer w.pass_on.new.writer c.finish-2.new.self c.finish-2.result w.slice-then-running.result.now w.book.result.now given w.pass_on.ensures.writes last)
+          (option_to_list w.end-item.result) w.end-item.ensures.item w.read_decoded.ensures.writes
+          (ends_given w.read_decoded.new.heads w.read_decoded.new.writer w.pass_on.new.writer c.finish-2.new.self c.finish-2.result w.slice.result.now w.book.result.now given w.pass_on.ensures.writes last)
       | else-running w ↦
           ends_again c.self.inside.heads c.self.inside.writer c.finish-2.new.self c.finish-2.result Whole (concat_of (decoder.events_left c.self.inside.decoder []))
           (ap is_running c.self.view_is ∙ (sym c.running.ensures ∙ w.if-running.false))

@@ -41,8 +41,7 @@ returns-clause-all c bytes ending =
 pub invariant_of-result : goal.invariant_of-result
 invariant_of-result c =
     let fresh : c.in_ok-with_limits.field-0 ≡ fresh_stage c.args.limits = c.in_ok-with_limits.ensures in
-    let one : c.in_ok-with_limit.field-0.limit ≡ 1 = ap (λ (r : BoundedList _). r.limit) c.in_ok-with_limit.ensures in
-    let two : c.in_ok-with_limit-2.field-0.limit ≡ 2 = ap (λ (r : BoundedList _). r.limit) c.in_ok-with_limit-2.ensures in
+    let two : c.in_ok-with_limit.field-0.limit ≡ 2 = ap (λ (r : BoundedList _). r.limit) c.in_ok-with_limit.ensures in
     let together : GoTogether c.in_ok-with_limits.field-0 c.in_ok-with_limits-2.field-0 = record {
       limits = ap (λ (h : HeaderStageState). h.limits) fresh ∙ sym c.in_ok-with_limits-2.ensures.limits;
       body = λ body. absurd (cc (sym c.in_ok-with_limits-2.ensures.part ∙ body));
@@ -50,7 +49,6 @@ invariant_of-result c =
       short = subst (λ (h : HeaderStageState). IsShortBook h.limits h.book) (sym fresh) (no_heads_are_short c.args.limits);
     } in
     record {
-      item = omega (arith, one);
       few = omega (arith, two);
       together = together;
       reserved = c.in_ok-with_limits-2.ensures.reserved;

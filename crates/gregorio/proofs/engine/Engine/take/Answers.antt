@@ -1,11 +1,8 @@
-use Rattle.std.proofs.Common.{ap, sym, ◌∙◌, ◌∷◌}
+use Rattle.std.proofs.Common.{option_to_list, ap, sym, ◌∙◌, ◌∷◌}
 use Rattle.gregorio.specs.Engine.{EngineState, streams_left}
 use Rattle.gregorio.specs.machine.Engine.{IsEmpty}
-use Rattle.gregorio.proofs.pieces.BytesAreTaken.{byte_taken, few_pushed}
+use Rattle.gregorio.proofs.pieces.BytesAreTaken.{byte_taken}
 use Rattle.gregorio.proofs.engine.Engine.take.Goals as goal
-
-pub read_decoded-requires-clause-few_items : goal.read_decoded-requires-clause-few_items
-read_decoded-requires-clause-few_items c = few_pushed _ _ c.args.byte c.self.inside.items c.clear.new.self c.push.new.out c.slice.result.now c.clear.ensures c.push.ensures.events c.slice.ensures
 
 pub read_decoded-requires-clause-empty : goal.read_decoded-requires-clause-empty
 read_decoded-requires-clause-empty c = record {
@@ -22,6 +19,6 @@ returns c =
     record {
       law = λ bytes ending.
           ap (λ (s : EngineState). streams_left s ending (c.args.byte ∷ bytes)) (sym c.self.view_is)
-          ∙ byte_taken c.self.inside.decoder c.push.new.self c.self.inside.heads c.read_decoded.new.heads c.self.inside.writer c.read_decoded.new.writer c.args.byte
-          c.self.inside.items c.clear.new.self c.push.new.out c.slice.result.now c.clear.ensures c.push.ensures.events c.slice.ensures c.read_decoded.ensures.writes empty bytes ending;
+          ∙ byte_taken c.self.inside.decoder c.take-item.new.self c.self.inside.heads c.read_decoded.new.heads c.self.inside.writer c.read_decoded.new.writer c.args.byte
+          (option_to_list c.take-item.result) c.take-item.ensures.item c.read_decoded.ensures.writes empty bytes ending;
     }

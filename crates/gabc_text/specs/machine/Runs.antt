@@ -1,0 +1,14 @@
+-- What the code has still to put while it goes over the pieces of a view.
+use Rattle.std.specs.Prelude.{ℕ, List, ◌++◌, drop}
+use Rattle.gabc_text.specs.declared.canonical.Run.{Run}
+use Rattle.gabc_text.specs.declared.styles.Styles.{Styles}
+use Rattle.gabc_text.specs.declared.view.TextView.{TextView}
+use Rattle.gabc_text.specs.Canonical.{listed_styles, span_bytes, text_from}
+
+-- the text of the pieces from an index on, behind a piece with these styles
+abbrev pub text_at : TextView → List ℕ → Styles → ℕ → List ℕ
+text_at v kept old i = text_from v.centre kept i (listed_styles old) (drop i v.pieces.items)
+
+-- the text of a run and of the pieces behind it, whose styles are these
+abbrev pub text_behind : TextView → List ℕ → Styles → Run → List ℕ
+text_behind v kept old r = span_bytes kept r.span ++ text_at v kept old r.next
