@@ -74,7 +74,8 @@ impl Collected {
     fn take(&mut self, text: &str, event: HeaderEvent) -> Result<(), AllocError>
         requires good { IsGoodEvent text.now event }
         requires room { Fits self.old.headers 1 }
-        ensures taken { OnOk result (shown self.new ≡ collected_with text.now event (shown self.old)) }
+        ensures taken { OnOk result
+            (shown self.new ≡ collected_with text.now event (shown self.old)) }
         ensures limit { self.new.headers.limit ≡ self.old.headers.limit }
     {
         if let Some(finding) = take_event(&mut self.headers, text, event) {

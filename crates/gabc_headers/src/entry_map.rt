@@ -40,7 +40,8 @@ impl Model for EntryMap {
 
     ghost view = { λ g. record { items = named_entries g.headers.items; limit = g.limit } };
 
-    ghost invariant = { λ g. IsEntryRoom g.limit (vec_capacity g.headers) (vec_capacity g.tree.nodes)
+    ghost invariant = { λ g. IsEntryRoom g.limit (vec_capacity g.headers)
+        (vec_capacity g.tree.nodes)
         g.tree.nodes.items g.headers.items };
 }
 
@@ -142,8 +143,10 @@ impl EntryMap {
         bytes: usize,
     ) -> Result<HeaderBook, AllocError>
         requires within { AreWithin text.now self.now.items }
-        requires bytes { bytes_len (header_lines (spelled_entries text.now self.now.items)) ≤ bytes }
-        requires small { bytes_len (canonical_heads (spelled_entries text.now self.now.items)) < 2 ^ 32 }
+        requires bytes { bytes_len (header_lines
+            (spelled_entries text.now self.now.items)) ≤ bytes }
+        requires small { bytes_len (canonical_heads
+            (spelled_entries text.now self.now.items)) < 2 ^ 32 }
         ensures { IfOk result (λ book. book ≡ spelled_entries text.now self.now.items) }
     {
         let mut room = BookRoom::with_limits(alloc, bytes, self.len())?;

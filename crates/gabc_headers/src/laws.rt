@@ -68,8 +68,10 @@ pub fn findings_lie_before_the_body()
 pub fn the_headers_end_at_their_mark()
     ensures length { (limits : Limits) (t more : List ℕ) (heads : Heads)
         → heads_of limits t ≡ Ok heads → head_len (take (head_len t + 2) t ++ more) ≡ head_len t }
-    ensures book { (limits : Limits) (t more : List ℕ) (heads : Heads) → heads_of limits t ≡ Ok heads
-        → (other : Heads) × (heads_of limits (take (head_len t + 2) t ++ more) ≡ Ok other) × (other.book ≡ heads.book) }
+    ensures book { (limits : Limits) (t more : List ℕ) (heads : Heads)
+        → heads_of limits t ≡ Ok heads
+        → (other : Heads) × (heads_of limits (take (head_len t + 2) t ++ more) ≡ Ok other)
+        × (other.book ≡ heads.book) }
 {}
 
 /// The canonical lines of a book, with whatever follows their `%%`, are read as that book under the same limits or larger ones: no

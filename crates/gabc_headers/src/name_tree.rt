@@ -90,7 +90,8 @@ impl NameNode {
 impl NameTree {
     /// A tree of no names, with room for so many.
     pub(crate) fn with_limit(alloc: Global, limit: usize) -> Result<NameTree, AllocError>
-        ensures { IfOk result (λ tree. (tree.nodes.items ≡ []) × (limit ≤ vec_capacity tree.nodes)) }
+        ensures { IfOk result (λ tree. (tree.nodes.items ≡ [])
+            × (limit ≤ vec_capacity tree.nodes)) }
     {
         Ok(NameTree {
             nodes: Vec::with_capacity(alloc, limit)?,

@@ -57,7 +57,8 @@ fn at_score(
 ) -> Result<Result<Heads, HeadFault>, AllocError>
     requires { AreWithin text.now collected.headers.items }
     ensures { IfOk result (λ read. read
-        ≡ heads_at_score limits place body open_line (spelled_entries text.now collected.headers.items) collected.findings) }
+        ≡ heads_at_score limits place body open_line
+        (spelled_entries text.now collected.headers.items) collected.findings) }
 {
     let size = match score_len(limits, text, &collected.headers, place, open_line) {
         Ok(size) => size,

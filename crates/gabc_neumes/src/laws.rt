@@ -14,7 +14,8 @@ ghost use Rattle.gabc_neumes.specs.declared.glyph.GlyphKind.{GlyphKind};
 
 /// A list of notes is of one kind at most, and no notes are of none.
 pub fn a_glyph_has_one_kind()
-    ensures one { (k j : GlyphKind) (notes : List Note) → HasKind k notes → HasKind j notes → k ≡ j }
+    ensures one { (k j : GlyphKind) (notes : List Note) → HasKind k notes → HasKind j notes
+        → k ≡ j }
     ensures some { (k : GlyphKind) → ¬ HasKind k [] }
 {}
 

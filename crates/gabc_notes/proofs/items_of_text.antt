@@ -3,3 +3,4 @@ pub mod ItemAtCharacter
 pub mod ItemByStates
 pub mod ItemsByBytes
 pub mod LastItemByState
+pub mod OnePitch

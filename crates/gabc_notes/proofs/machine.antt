@@ -4,6 +4,7 @@ pub mod FreshStageEmitsEventsByPoint
 pub mod LoopOverBody
 pub mod MachineReadsTable
 pub mod OneCharacterMore
+pub mod ShortWays
 pub mod SnippetsByState
 pub mod StageEmitsItsEvents
 pub mod TextIsReadByCharacter

@@ -63,7 +63,8 @@ where
     S: Stage<Input = Char, Output = NoteEvent>,
     requires line { at.line + length body.now < 2 ^ 64 }
     requires column { at.column + length body.now < 2 ^ 64 }
-    ensures { let events = concat_of (S.rest stage.old (placed_characters_from at (chars body.now))) in
+    ensures { let events = concat_of
+        (S.rest stage.old (placed_characters_from at (chars body.now))) in
         IfOk result (λ cs. cs ≡ take (length (chars kept.now)) (kept_chars_of events)) }
 {
     let count = characters(kept);

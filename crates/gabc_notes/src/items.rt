@@ -1,6 +1,6 @@
 //! The items of a kept text.
 
-ghost use Rattle.std.specs.Prelude.{◌≡◌, ◌≤◌, ◌<◌, length, IfOk, IfSome, IfNone, None};
+ghost use Rattle.std.specs.Prelude.{◌≡◌, ◌≤◌, ◌<◌, length, IfOk, IfSome, IfNone, IsTrue, IsUtf8, None};
 ghost use Rattle.std.specs.Str.{chars};
 ghost use Rattle.gabc_patterns.specs.Function.{longest_item};
 ghost use Rattle.gabc_places.specs.BoundedList.{Fits, extended_by};
@@ -14,8 +14,38 @@ use crate::state::{ItemState, ends, goes_on};
 use gabc_places::{Room, Span};
 use std::alloc::{AllocError, Global};
 
-/// Returns the longest item that begins `text`: its kind, and how many bytes it has.
+/// Returns whether `byte` is one of the small pitches from `first` to `n`.
+fn is_pitch_from(first: u8, byte: u8) -> bool
+    ensures { IsTrue result → (first ≤ byte) × (byte ≤ 110) }
+{
+    first <= byte && byte <= b'n'
+}
+
+/// Returns whether `text` begins with a small pitch that is sure to be an item by itself: nothing stands behind it, or one of the small
+/// pitches from `c` to `n`.
+fn begins_with_one_pitch(text: &[u8]) -> bool
+    ensures { IsTrue result → IsUtf8 text.now → IsFirstItem text.now ItemKind.Note 1 }
+{
+    match text {
+        [pitch] => is_pitch_from(b'a', *pitch),
+        [pitch, next, ..] => is_pitch_from(b'a', *pitch) && is_pitch_from(b'c', *next),
+        [] => false,
+    }
+}
+
+/// Returns the longest item that begins `text`: its kind, and how many bytes it has. Many items are one pitch, so these are found first.
 fn first_item(text: &str) -> Option<(ItemKind, usize)>
+    ensures found { IfSome result (λ i. IsFirstItem text.now i.0 i.1) }
+    ensures none { IfNone result (longest_item gabc (chars text.now) ≡ None) }
+{
+    if begins_with_one_pitch(text.as_bytes()) {
+        return Some((ItemKind::Note, 1));
+    }
+    item_read(text)
+}
+
+/// Returns the longest item that begins `text`, as `first_item` does, by reading it.
+fn item_read(text: &str) -> Option<(ItemKind, usize)>
     ensures found { IfSome result (λ i. IsFirstItem text.now i.0 i.1) }
     ensures none { IfNone result (longest_item gabc (chars text.now) ≡ None) }
 {

@@ -1,16 +1,18 @@
 //! A machine that reads a snippet a character at a time.
 
-ghost use Rattle.std.specs.Prelude.{◌≡◌, ℕ, List};
+ghost use Rattle.std.specs.Prelude.{◌≡◌, ℕ, List, false};
 ghost use Rattle.gabc_places.specs.declared.place.Char.{Char};
 ghost use Rattle.gabc_places.specs.BoundedList.{Fits, extended_by};
-ghost use Rattle.gabc_notes.specs.machine.ItemMachine.{raw_state, attribute_state, digit_of_prefix, facts_by_states, prefix_with, prefix_after, stage_after};
+ghost use Rattle.gabc_places.specs.StageLaw.{Pushes, StopsAtEnd};
+ghost use Rattle.gabc_notes.specs.declared.stage.CharFacts.{CharFacts};
+ghost use Rattle.gabc_notes.specs.machine.ItemMachine.{IsShortStep, raw_state, attribute_state, digit_of_prefix, facts_by_states, prefix_with, prefix_after, stage_after};
 ghost use Rattle.gabc_notes.specs.ItemMachine.{events_left};
 ghost use Rattle.gabc_notes.specs.Ends.{is_ended};
 ghost use Rattle.gabc_notes.specs.StageEvents.{role_in, warning_in, before_in, events_in, event_list};
 ghost use Rattle.gabc_notes.specs.Events.{is_defined, end_by_mark, finding_event, note_events};
 
 use crate::class::class_of;
-use crate::state::{FullItem, ItemState, is_whole, next_state};
+use crate::state::{FullItem, ItemState, is_whole, next_state, short_step};
 use gabc_places::{Char, Code, Finding, Place, Room, Stage};
 
 /// How a snippet ends. A place is that of the bracket that is open; line 0 and column 0 where none is.
@@ -243,13 +245,13 @@ fn found(x: Char, code: Code) -> NoteEvent
     })
 }
 
-/// Emits the end of the snippet: an unfinished end and an open `@[` are found there.
-fn emit_end(before: Before, facts: CharFacts, x: Char, out: &mut Room<NoteEvent>)
+/// Emits the end of the snippet: an unfinished end and an open `@[` are found there. `whole` tells that the kept text is a snippet.
+fn emit_end(before: Before, whole: bool, x: Char, out: &mut Room<NoteEvent>)
     requires { Fits out.old 3 }
-    ensures { (macros : ℕ) → out.new
+    ensures { (macros : ℕ) (facts : CharFacts) → facts.whole ≡ whole → out.new
         ≡ extended_by out.old (event_list (events_in CharRole.Ends macros before facts x)) }
 {
-    if !facts.whole {
+    if !whole {
         out.push(found(x, Code::E6));
     }
     if before.fused {
@@ -282,7 +284,7 @@ fn emit(
             }
         }
         CharRole::LeaveOut => out.push(found(x, Code::E1)),
-        CharRole::Ends => emit_end(before, facts, x, out),
+        CharRole::Ends => emit_end(before, facts.whole, x, out),
         CharRole::Silent | CharRole::Comment => {}
     }
 }
@@ -358,6 +360,52 @@ impl NoteStage {
             self.state = next;
         }
     }
+
+    /// Reads a character.
+    fn read(&mut self, x: Char, out: &mut Room<NoteEvent>)
+        requires fits { Fits out.old 3 }
+        requires runs { self.old.ended ≡ false }
+        ensures events { Pushes (events_left self.old) (events_left self.new) x 3 out.old out.new }
+        ensures end { StopsAtEnd is_ended (events_left self.new) out.old out.new }
+    {
+        let next = next_state(self.state, class_of(x.c));
+        let facts = look(self.state, next, self.name);
+        let role = role_of(self.split, self.before.comment, facts, x.c);
+        emit(role, self.macros, self.before, facts, x, out);
+        self.advance(role, facts, next, x);
+    }
+
+    /// Reads a character on the short way to `next`. This does what `read` does, without its tests.
+    fn read_short(&mut self, next: ItemState, x: Char, out: &mut Room<NoteEvent>)
+        requires fits { Fits out.old 3 }
+        requires runs { self.old.ended ≡ false }
+        requires comment { self.old.before.comment ≡ false }
+        requires step { IsShortStep self.old.state x.c next }
+        ensures events { Pushes (events_left self.old) (events_left self.new) x 3 out.old out.new }
+        ensures end { StopsAtEnd is_ended (events_left self.new) out.old out.new }
+    {
+        out.push(NoteEvent::Kept(x));
+        let kept = self.before.kept.saturating_add(1);
+        self.before.kept = kept;
+        self.before.whole = kept;
+        self.before.place = x.place;
+        self.name = MacroPrefix::Closed;
+        self.state = next;
+    }
+
+    /// Reads the `)` that ends the snippet. This does what `read` does, without its tests.
+    fn read_close(&mut self, x: Char, out: &mut Room<NoteEvent>)
+        requires fits { Fits out.old 3 }
+        requires runs { self.old.ended ≡ false }
+        requires comment { self.old.before.comment ≡ false }
+        requires outside { raw_state self.old.state ≡ false }
+        requires close { x.c ≡ 41 }
+        ensures events { Pushes (events_left self.old) (events_left self.new) x 3 out.old out.new }
+        ensures end { StopsAtEnd is_ended (events_left self.new) out.old out.new }
+    {
+        emit_end(self.before, is_whole(self.state), x, out);
+        self.ended = true;
+    }
 }
 
 impl Stage for NoteStage {
@@ -379,11 +427,15 @@ impl Stage for NoteStage {
         if self.ended {
             return;
         }
-        let next = next_state(self.state, class_of(x.c));
-        let facts = look(self.state, next, self.name);
-        let role = role_of(self.split, self.before.comment, facts, x.c);
-        emit(role, self.macros, self.before, facts, x, out);
-        self.advance(role, facts, next, x);
+        if self.before.comment {
+            self.read(x, out);
+        } else if let Some(next) = short_step(self.state, x.c) {
+            self.read_short(next, x, out);
+        } else if x.c == ')' && !is_raw(self.state) {
+            self.read_close(x, out);
+        } else {
+            self.read(x, out);
+        }
     }
 
     fn finish(&mut self, out: &mut Room<NoteEvent>) {

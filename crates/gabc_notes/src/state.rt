@@ -1,7 +1,7 @@
 //! A machine that reads items a character at a time.
 
-ghost use Rattle.std.specs.Prelude.{◌≡◌};
-ghost use Rattle.gabc_notes.specs.machine.ItemMachine.{begun_item, in_pitch, in_bar, in_break, going_on, falling_back, next_or_begun, next_state, kind_at_end, kind_of_full, whole_at};
+ghost use Rattle.std.specs.Prelude.{◌≡◌, IfSome};
+ghost use Rattle.gabc_notes.specs.machine.ItemMachine.{IsShortStep, begins_item, goes_on_note, begun_item, in_pitch, in_bar, in_break, going_on, falling_back, next_or_begun, next_state, kind_at_end, kind_of_full, whole_at};
 
 use crate::class::CharClass;
 use crate::item::ItemKind;
@@ -207,6 +207,39 @@ pub(crate) fn next_state(state: ItemState, class: CharClass) -> Option<ItemState
             Some(back) => goes_on_again(back, class),
             None => None,
         },
+    }
+}
+
+/// Returns whether a pitch but `b` begins an item in this state.
+fn begins_item(state: ItemState) -> bool
+    ensures { result ≡ begins_item state }
+{
+    match state {
+        ItemState::Dash | ItemState::Join | ItemState::Raw | ItemState::SlashRaw => false,
+        _ => true,
+    }
+}
+
+/// Returns whether a suffix or sign goes on with a note in this state.
+fn goes_on_note(state: ItemState) -> bool
+    ensures { result ≡ goes_on_note state }
+{
+    match state {
+        ItemState::DashPitch | ItemState::Body | ItemState::Pitch | ItemState::ClefPitch => true,
+        _ => false,
+    }
+}
+
+/// Returns where the reading stands behind a character, on a short way for those that most notes have: a pitch but `b` that begins
+/// one, or a frequent suffix or sign that goes on with one.
+pub(crate) fn short_step(state: ItemState, c: char) -> Option<ItemState>
+    ensures { IfSome result (λ next. IsShortStep state c next) }
+{
+    match c {
+        'c' | 'f' if begins_item(state) => Some(ItemState::ClefPitch),
+        'a' | 'd'..='n' | 'p' if begins_item(state) => Some(ItemState::Pitch),
+        '.' | '_' | '\'' | 'v' | 's' | 'w' | 'o' if goes_on_note(state) => Some(ItemState::Body),
+        _ => None,
     }
 }
 

@@ -67,7 +67,8 @@ impl Code {
     pub fn severity(self) -> Severity
         ensures { result ≡ severity_of self }
     {
-        CODES[self as usize].0
+        let (severity, _, _) = &CODES[self as usize];
+        *severity
     }
 
     /// Returns its name in messages, such as `E4`.

@@ -88,7 +88,7 @@ impl Decoder {
         }
     }
 
-    /// Takes `byte`, and returns the character that is whole with it, or the fault that is known by it. Behind a fault and behind the end it
+    /// Takes `byte`, and returns the character that is whole with it, or the fault known by it. Behind a fault and behind the end it
     /// returns nothing more.
     pub fn take(&mut self, byte: u8) -> Option<Result<Char, Fault>>
         ensures item { (bytes : List ℕ) → events_left self.old (byte ∷ bytes)

@@ -34,10 +34,23 @@ impl Put for Room<u8> {
 
     ghost taken_both = { filled_both };
 
+    #[inline(always)]
     fn put(&mut self, bytes: &[u8]) {
-        let len = bytes.len().min(self.left());
-        self.append(&bytes[..len]);
+        if bytes.len() <= self.left() {
+            self.append(bytes);
+        } else {
+            fill(self, bytes);
+        }
     }
+}
+
+/// Adds as many of `bytes` at the end of `room` as there is room for. Where all have room it is not called, so it stays out of line.
+#[inline(never)]
+fn fill(room: &mut Room<u8>, bytes: &[u8])
+    ensures { room.new ≡ filled_with room.old bytes.now }
+{
+    let len = bytes.len().min(room.left());
+    room.append(&bytes[..len]);
 }
 
 /// A count of bytes. It saturates at the last value of a `usize`.

@@ -22,7 +22,8 @@ pub(crate) struct BodyResult {
 impl BodyResult {
     /// Adds what is given.
     fn add(&mut self, alloc: Global, pair: &SlotPair, event: ScoreEvent) -> Result<(), AllocError>
-        ensures { OnOk result (self.new ≡ result_past pair.now.first pair.now.second self.old event) }
+        ensures { OnOk result
+            (self.new ≡ result_past pair.now.first pair.now.second self.old event) }
     {
         match event {
             ScoreEvent::Found(finding) => self.findings.push(finding)?,

@@ -3,7 +3,7 @@
 ghost use Rattle.std.specs.Prelude.{◌≡◌, ◌≢◌, ◌+◌, ◌∷◌, ℕ, List, [], map, length, ◌≤◌, OnOk, IfOk, option_map, true, false, if◌then◌else◌};
 ghost use Rattle.gabc_places.specs.declared.place.Char.{Char};
 ghost use Rattle.gabc_notes.specs.declared.stage.NoteEvent.{NoteEvent};
-ghost use Rattle.gabc_score.specs.machine.PartPushes.{NoteClosesLast, ClosesLast};
+ghost use Rattle.gabc_score.specs.machine.PartPushes.{EndsLast, ClosesLast};
 ghost use Rattle.gabc_places.specs.declared.place.Place.{Place};
 ghost use Rattle.gabc_places.specs.BoundedList.{Fits, extended_by};
 ghost use Rattle.gabc_score.specs.machine.PartPushes.{Emits, EmitsLast};
@@ -125,23 +125,37 @@ fn is_close(out: NoteEvent) -> bool
     }
 }
 
-/// Whether a text ended at its `(` among these.
+/// Whether a text ended at its `(` with these: its end is the last event.
 fn ends_text(events: &[TextEvent]) -> bool
+    requires { EndsLast text_end events.now }
     ensures { result ≡ list_any text_end events.now }
 {
-    events.iter().any(|out| is_text_end(*out))
+    match events.last() {
+        Some(out) => is_text_end(*out),
+        None => false,
+    }
 }
 
+/// Whether a snippet ended at a `|` with these: its end is the last event.
 fn ends_at_next(events: &[NoteEvent]) -> bool
+    requires { EndsLast note_next events.now }
     ensures { result ≡ list_any note_next events.now }
 {
-    events.iter().any(|out| is_next(*out))
+    match events.last() {
+        Some(out) => is_next(*out),
+        None => false,
+    }
 }
 
+/// Whether a snippet ended at its `)` with these: its end is the last event.
 fn ends_at_close(events: &[NoteEvent]) -> bool
+    requires { EndsLast note_close events.now }
     ensures { result ≡ list_any note_close events.now }
 {
-    events.iter().any(|out| is_close(*out))
+    match events.last() {
+        Some(out) => is_close(*out),
+        None => false,
+    }
 }
 
 /// Pushes a character to a text, whose events are then in its room, and answers whether the text ended at its `(`.
@@ -166,8 +180,9 @@ fn push_notes<S: Stage<Input = Char, Output = NoteEvent>>(
 ) -> (bool, bool)
     requires most { S.most_of stage.old ≡ 3 }
     requires ends { (x : NoteEvent) → note_close x ≡ true → S.is_end x ≡ true }
+    requires ends_at_next { (x : NoteEvent) → note_next x ≡ true → S.is_end x ≡ true }
     requires events { 3 ≤ events.old.limit }
-    ensures once { NoteClosesLast events.new.items }
+    ensures once { EndsLast note_close events.new.items }
     ensures most { S.most_of stage.new ≡ 3 }
     ensures events { events.new.limit ≡ events.old.limit }
     ensures pushes { PushesPart (S.rest stage.old) (S.rest stage.new) x
@@ -272,7 +287,8 @@ impl BodyStage {
     /// The snippet behind one of that line that ended at a `|`.
     fn next_snippet(&self, line: u8, opened: Place) -> BodyPart
         ensures part { (xs : List Char) → part_with result xs
-            ≡ snippet_from self.now.nabc_lines self.now.macros (line_after self.now.nabc_lines line) opened xs }
+            ≡ snippet_from self.now.nabc_lines self.now.macros
+            (line_after self.now.nabc_lines line) opened xs }
         ensures counts { (o : OpenSyllable) → CountsInNotes o → CountsHold result o }
     {
         self.snippet(next_line(self.nabc_lines, line), opened)

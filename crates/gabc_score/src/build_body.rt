@@ -34,7 +34,8 @@ pub(crate) fn build_body(
     requires column { start.at.column + length body.now < 2 ^ 64 }
     ensures { let xs = placed_characters_from start.at (chars body.now) in
         IfOk result (λ read. read
-        ≡ body_of limits start.head start.findings (place_past start.at (chars body.now)) ending xs (running_events_left stage xs)) }
+        ≡ body_of limits start.head start.findings (place_past start.at (chars body.now)) ending xs
+        (running_events_left stage xs)) }
 {
     let BodyContext { at, head, findings } = start;
     let mut machine = ScoreMachine::in_body(alloc, limits, stage, at, head)?;
@@ -59,7 +60,8 @@ pub(crate) fn build_body(
 fn end_machine(machine: &mut ScoreMachine, ending: InputEnding, out: &mut Room<ScoreEvent>)
     requires rests { IsScore machine.old }
     requires fits { Fits out.old 16 }
-    ensures { EndsAs (shown machine.old) ending out.old out.new machine.new.pair.first machine.new.pair.second }
+    ensures { EndsAs (shown machine.old) ending out.old out.new
+        machine.new.pair.first machine.new.pair.second }
 {
     match ending {
         InputEnding::Whole => machine.push(HeadEvent::End, out),

@@ -22,7 +22,8 @@ fn put_start<S: Put>(starts: bool, out: &mut S)
 /// Puts the translation of `syllable` in its brackets, if there is one.
 fn put_translation<S: Put>(syllable: &Syllable, out: &mut S)
     ensures { out.new
-        ≡ S.taken out.old (translation_text (string_bytes syllable.now.kept) syllable.now.text.translation) }
+        ≡ S.taken out.old
+        (translation_text (string_bytes syllable.now.kept) syllable.now.text.translation) }
 {
     if let Some(span) = syllable.text.translation {
         out.put(b"[");
@@ -57,7 +58,8 @@ fn put_snippets<S: Put>(syllable: &Syllable, snippets: &[Snippet], out: &mut S)
 /// Puts the notes of `syllable` in their brackets.
 fn put_notes<S: Put>(syllable: &Syllable, out: &mut S)
     ensures { out.new
-        ≡ S.taken out.old (codes "(" ++ (with_bars (string_bytes syllable.now.kept) syllable.now.snippets.items ++ codes ")")) }
+        ≡ S.taken out.old (codes "("
+        ++ (with_bars (string_bytes syllable.now.kept) syllable.now.snippets.items ++ codes ")")) }
 {
     out.put(b"(");
     put_snippets(syllable, syllable.snippets.as_slice(), out);
@@ -88,7 +90,8 @@ pub(crate) fn canonical_len(syllable: &Syllable, starts: bool) -> usize
 /// the notes. A room without that many bytes left gets as many of them as fit.
 pub fn canon_syllable<S: Put>(syllable: &Syllable, out: &mut S)
     ensures { out.new
-        ≡ S.taken out.old (canonical (starts_word syllable.now.position) (unplaced_of syllable.now)) }
+        ≡ S.taken out.old (canonical (starts_word syllable.now.position)
+        (unplaced_of syllable.now)) }
 {
     put_syllable(syllable, syllable.starts_word(), out);
 }

@@ -72,7 +72,8 @@ impl ScoreMachine {
     ) -> Result<ScoreMachine, AllocError>
         requires { body.part ≡ BodyPart.Comment }
         ensures left { IfOk result (λ m. (xs : List Given) → left_of (shown m) xs
-            ≡ body_left limits (begun_score limits at head) (running_events_left body (characters_in xs)) xs) }
+            ≡ body_left limits (begun_score limits at head)
+            (running_events_left body (characters_in xs)) xs) }
         ensures rests { IfOk result (λ m. IsScore m) }
         ensures head { head < 2 ^ 64 }
     {
@@ -96,7 +97,8 @@ impl ScoreMachine {
         requires fits { Fits out.old 16 }
         ensures part { self.new.part ≡ ScorePart.Over }
         ensures limits { self.new.limits ≡ self.old.limits }
-        ensures told { Tells (outputs_of [] (placed_behind self.old.given self.old.pair.held) ++ Stop fault ∷ [])
+        ensures told { Tells
+            (outputs_of [] (placed_behind self.old.given self.old.pair.held) ++ Stop fault ∷ [])
             out.old out.new self.new.pair.first self.new.pair.second }
         ensures few { length (placed_behind self.old.given self.old.pair.held) ≤ 1 }
     {
@@ -109,7 +111,8 @@ impl ScoreMachine {
         requires part { self.old.part ≡ ScorePart.Body }
         requires rests { IsInBody self.old }
         requires fits { Fits out.old 16 }
-        ensures gives { GivesAt (shown self.old) (HeadEvent.Body x) (shown self.new) out.old out.new }
+        ensures gives { GivesAt (shown self.old) (HeadEvent.Body x)
+            (shown self.new) out.old out.new }
         ensures rests { IsScore self.new }
     {
         self.pair.free();

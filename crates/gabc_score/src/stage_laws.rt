@@ -30,7 +30,8 @@ pub fn a_fresh_stage_emits(
     requires counts { AreCountsBelow inputs.items }
     requires fits { Fits out.old (16 * (length inputs.items + 1)) }
     ensures { OnOk result (out.new ≡ extended_by out.old (concat_of
-        (map (λ (outs : List ScoreOutput). events_of outs) (score_outputs texts_by_stage limits inputs.items)))) }
+        (map (λ (outs : List ScoreOutput). events_of outs)
+        (score_outputs texts_by_stage limits inputs.items)))) }
 {
     let mut stage = ScoreStage::with_limits(alloc, limits)?;
     drive(&mut stage, inputs, out);

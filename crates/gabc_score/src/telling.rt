@@ -26,7 +26,8 @@ fn tell_found(found: &[Finding], out: &mut Room<ScoreEvent>)
 fn tell_code(is_found: bool, place: Place, code: Code, out: &mut Room<ScoreEvent>)
     requires { Fits out.old 1 }
     ensures { out.new ≡ extended_by out.old
-        (map (λ f. ScoreEvent.Found f) (cond is_found (record { place = place; code = code } ∷ []) [])) }
+        (map (λ f. ScoreEvent.Found f)
+        (cond is_found (record { place = place; code = code } ∷ []) [])) }
 {
     if is_found {
         out.push(ScoreEvent::Found(Finding { place, code }));

@@ -1,6 +1,6 @@
 //! The canonical text of a view.
 
-ghost use Rattle.std.specs.Prelude.{◌≡◌, ◌-◌, ◌^◌, ◌≤◌, ◌↔◌, IsTrue, length, min, cond, [], reverse};
+ghost use Rattle.std.specs.Prelude.{◌≡◌, ◌-◌, ◌^◌, ◌≤◌, ◌↔◌, IsTrue, length, min, cond, [], reverse, List, ℕ};
 ghost use Rattle.std.specs.List.{flat_map};
 ghost use Rattle.gabc_text.specs.machine.Runs.{text_at, text_behind};
 ghost use Rattle.gabc_text.specs.machine.ChangedStyles.{common_styles, differs, changed_styles};
@@ -196,7 +196,7 @@ fn lies_in(span: Span, kept: &str) -> bool
     span.from <= span.to && span.to <= kept.len()
 }
 
-/// Whether the text of `piece` is the bytes of the kept text for which its span stands, which lies in them.
+/// Whether the span of `piece` lies in the kept text, and its bytes there are the text of `piece`.
 fn is_as_kept(piece: Piece, kept: &str) -> bool
     ensures text { IsTrue result → piece_text kept.now piece ≡ span_bytes kept.now piece.span }
     ensures ordered { IsTrue result → piece.span.from ≤ piece.span.to }
@@ -319,10 +319,27 @@ fn put_run<S: Put>(view: &TextView, kept: &str, old: Styles, run: Run, out: &mut
     whole.next
 }
 
+/// Returns whether `view` has neither pieces nor a centre, so that its text is empty.
+fn says_nothing(view: &TextView) -> bool
+    ensures { IsTrue result → (kept : List ℕ) → canonical_text (content_of view.now) kept ≡ [] }
+{
+    view.pieces.is_empty() && view.centre.is_none()
+}
+
 /// Puts the canonical text of `view` without its translation, whose spans count the bytes of `kept`: its pieces with the tags
 /// of their styles, one inside another (GregorioRef, "Syllable Text Syntax"). A span that does not lie in the kept text stands
 /// for nothing. A room without `text_len` bytes left gets as many of them as fit. It asks for no memory.
 pub fn write_text<S: Put>(view: &TextView, kept: &str, out: &mut S)
+    ensures { out.new ≡ S.taken out.old (canonical_text (content_of view.now) kept.now) }
+{
+    if !says_nothing(view) {
+        write_pieces(view, kept, out);
+    }
+}
+
+/// Puts what `write_text` puts, also where this is nothing. It stays out of line, for `write_text` to be short.
+#[inline(never)]
+fn write_pieces<S: Put>(view: &TextView, kept: &str, out: &mut S)
     ensures { out.new ≡ S.taken out.old (canonical_text (content_of view.now) kept.now) }
 {
     let pieces = view.pieces.as_slice();

@@ -1,2 +1,3 @@
 pub mod NamesBehindFirst
 pub mod NoteLines
+pub mod TextLine

@@ -1,6 +1,7 @@
 //! The line of one item of a snippet in the dump.
 
 ghost use Rattle.std.specs.Prelude.{◌≡◌, ◌≤◌, ◌<◌, ◌++◌, codes, drop, length, false};
+ghost use Rattle.gabc_neumes.specs.Words.{shape_word};
 ghost use Rattle.gabc_notes.specs.Notes.{from_pitch, height_at, shape_at};
 ghost use Rattle.gabc_write.specs.DumpOfNotes.{last_text, pitch_letter, line_of_note, sign_word, line_of_alteration, bar_word, line_of_bar, is_blank_run, line_of_spacing, line_of_custos, raw_of, is_note, line_by, line_of_item};
 
@@ -13,8 +14,26 @@ use gabc_places::Put;
 pub(crate) fn put_last<S: Put>(text: &[u8], out: &mut S)
     ensures { out.new ≡ S.taken out.old (last_text text.now) }
 {
-    put_escaped(text, out);
-    out.put(b"\n");
+    match text {
+        [byte @ b'a'..=b'z'] => out.put(&[*byte, b'\n']),
+        _ => {
+            put_escaped(text, out);
+            out.put(b"\n");
+        }
+    }
+}
+
+/// Puts a blank, and behind it `text` as the last thing of the line. Many texts are one pitch, so these are put at once.
+fn put_blank_and_last<S: Put>(text: &[u8], out: &mut S)
+    ensures { out.new ≡ S.taken out.old (codes " " ++ last_text text.now) }
+{
+    match text {
+        [byte @ b'a'..=b'z'] => out.put(&[b' ', *byte, b'\n']),
+        _ => {
+            out.put(b" ");
+            put_last(text, out);
+        }
+    }
 }
 
 /// Puts `word`, and behind it `text` as the last thing of the line.
@@ -22,8 +41,17 @@ fn put_word_and_last<S: Put>(word: &str, text: &[u8], out: &mut S)
     ensures { out.new ≡ S.taken out.old (word.now ++ (codes " " ++ last_text text.now)) }
 {
     out.put(word.as_bytes());
-    out.put(b" ");
-    put_last(text, out);
+    put_blank_and_last(text, out);
+}
+
+/// Puts the word of `shape`. Most notes have one shape, so its word is put as a constant.
+pub(crate) fn put_shape<S: Put>(shape: Shape, out: &mut S)
+    ensures { out.new ≡ S.taken out.old (shape_word shape) }
+{
+    match shape {
+        Shape::Punctum => out.put(word_of_shape(Shape::Punctum).as_bytes()),
+        _ => out.put(word_of_shape(shape).as_bytes()),
+    }
 }
 
 /// Returns the small letter of `height`.
@@ -59,9 +87,9 @@ fn put_note<S: Put>(shape: Shape, text: &[u8], out: &mut S)
     requires { shape ≡ shape_at (from_pitch text.now) }
     ensures { out.new ≡ S.taken out.old (line_of_note text.now) }
 {
-    out.put(b"note ");
-    out.put(&[letter_of_note(text), b' ']);
-    put_word_and_last(word_of_shape(shape), text, out);
+    out.put(&[b'n', b'o', b't', b'e', b' ', letter_of_note(text), b' ']);
+    put_shape(shape, out);
+    put_blank_and_last(text, out);
 }
 
 /// Returns the word of the sign that stands behind the pitch of `text`, an alteration.

@@ -1,17 +1,19 @@
 //! The lines of a GABC snippet in the dump.
 
-ghost use Rattle.std.specs.Prelude.{◌≡◌, ◌≤◌, ◌<◌, ◌+◌, ◌^◌, [], length};
+ghost use Rattle.std.specs.Prelude.{◌≡◌, ◌≤◌, ◌<◌, ◌+◌, ◌^◌, ◌++◌, [], codes, length};
+ghost use Rattle.std.specs.Fmt.{decimal};
 ghost use Rattle.std.specs.List.{prefix_len};
 ghost use Rattle.gabc_notes.specs.Items.{AreWithin};
 ghost use Rattle.gabc_neumes.specs.Cut.{glyphs_of};
 ghost use Rattle.gabc_neumes.specs.Elements.{is_in_segment};
+ghost use Rattle.gabc_neumes.specs.Words.{base_word, tail_word};
 ghost use Rattle.gabc_write.specs.DumpOfNotes.{line_of_glyph, notes_behind, lines_behind, lines_of_notes};
 ghost use Rattle.gabc_write.specs.machine.NoteLines.{glyphs_from, begins_at, line_of_next, lines_at, place_after, place_behind};
 
-use crate::dump_item::{put_item, put_last};
+use crate::dump_item::{put_item, put_last, put_shape};
 use crate::scratch::Scratch;
 use gabc_neumes::{
-    Glyph, cut, is_in_element, is_in_segment, notes_into, word_of_base, word_of_tail,
+    Base, Glyph, Tail, cut, is_in_element, is_in_segment, notes_into, word_of_base, word_of_tail,
 };
 use gabc_notes::{Item, ItemKind, Note, items_into};
 use gabc_places::{Put, Room};
@@ -81,7 +83,8 @@ fn read_segment(kept: &str, items: &[Item], notes: &mut Room<Note>, glyphs: &mut
     requires within { AreWithin kept.now items.now }
     requires notes { length items.now ≤ notes.old.limit }
     requires glyphs { length items.now ≤ glyphs.old.limit }
-    ensures glyphs { glyphs.new ≡ record glyphs.old { items = glyphs_of (notes_behind kept.now items.now) } }
+    ensures glyphs { glyphs.new
+        ≡ record glyphs.old { items = glyphs_of (notes_behind kept.now items.now) } }
     ensures notes { notes.new.limit ≡ notes.old.limit }
 {
     let segment = &items[..count_in_segment(items)];
@@ -91,17 +94,49 @@ fn read_segment(kept: &str, items: &[Item], notes: &mut Room<Note>, glyphs: &mut
     cut(notes.slice(), glyphs);
 }
 
+/// Puts a blank, the number `count` and an LF. Few glyphs have ten notes or more.
+fn put_count<S: Put>(count: usize, out: &mut S)
+    ensures { out.new ≡ S.taken out.old (codes " " ++ (decimal count ++ codes "\n")) }
+{
+    match count {
+        0..=9 => out.put(&[b' ', b'0' + count as u8, b'\n']),
+        _ => {
+            out.put(b" ");
+            out.put(Buffer::new().format(count).as_bytes());
+            out.put(b"\n");
+        }
+    }
+}
+
+/// Puts the word of `base`.
+fn put_base<S: Put>(base: Base, out: &mut S)
+    ensures { out.new ≡ S.taken out.old (base_word base) }
+{
+    match base {
+        Base::One(shape) => put_shape(shape, out),
+        _ => out.put(word_of_base(base).as_bytes()),
+    }
+}
+
+/// Puts the word of `tail` behind `base`. Most glyphs have none.
+fn put_tail<S: Put>(base: Base, tail: Tail, out: &mut S)
+    ensures { out.new ≡ S.taken out.old (tail_word base tail) }
+{
+    match tail {
+        Tail::Plain => {}
+        _ => out.put(word_of_tail(base, tail).as_bytes()),
+    }
+}
+
 /// Puts the line of `glyph`: `glyph KIND COUNT`.
 fn put_glyph<S: Put>(glyph: Glyph, out: &mut S)
     ensures { out.new ≡ S.taken out.old (line_of_glyph glyph) }
 {
     let kind = glyph.kind;
     out.put(b"glyph ");
-    out.put(word_of_base(kind.base).as_bytes());
-    out.put(word_of_tail(kind.base, kind.tail).as_bytes());
-    out.put(b" ");
-    out.put(Buffer::new().format(glyph.count).as_bytes());
-    out.put(b"\n");
+    put_base(kind.base, out);
+    put_tail(kind.base, kind.tail, out);
+    put_count(glyph.count, out);
 }
 
 /// Puts the line of the first of `glyphs` if it begins with the note of the index `note`, and returns whether it does.

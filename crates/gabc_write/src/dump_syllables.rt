@@ -1,6 +1,6 @@
 //! The lines of a syllable in a dump.
 
-ghost use Rattle.std.specs.Prelude.{◌≡◌, ◌≤◌, ◌<◌, ◌+◌, ◌-◌, ◌*◌, ◌^◌, [], All, if◌then◌else◌, min, length, string_bytes};
+ghost use Rattle.std.specs.Prelude.{◌≡◌, ◌≤◌, ◌<◌, ◌+◌, ◌-◌, ◌*◌, ◌^◌, [], All, if◌then◌else◌, codes, ◌++◌, min, length, string_bytes};
 ghost use Rattle.std.specs.List.{flat_map};
 ghost use Rattle.gabc_text.specs.Canonical.{canonical_text};
 ghost use Rattle.gabc_text.specs.TextView.{content_of};
@@ -11,23 +11,23 @@ ghost use Rattle.gabc_write.specs.DumpOfSyllables.{position_word, first_line, li
 use crate::dump_item::put_last;
 use crate::dump_nabc::put_nabc;
 use crate::dump_notes::put_notes;
-use crate::escape::Escaped;
+use crate::escape::TextLine;
 use crate::laws::a_dump_is_short;
 use crate::scratch::Scratch;
 use gabc_places::{ByteCounter, Put};
 use gabc_score::{Position, Snippet, Syllable};
-use gabc_text::{TextView, text_len, write_text};
+use gabc_text::{TextView, write_text};
 use itoa::Buffer;
 
-/// Returns the word for where a syllable stands in its word.
-fn word_of(position: Position) -> &'static str
-    ensures { result.now ≡ position_word position }
+/// Puts a blank and the word for where a syllable stands in its word.
+fn put_position<S: Put>(position: Position, out: &mut S)
+    ensures { out.new ≡ S.taken out.old (codes " " ++ position_word position) }
 {
     match position {
-        Position::One => "one",
-        Position::Beginning => "beginning",
-        Position::Middle => "middle",
-        Position::End => "end",
+        Position::One => out.put(b" one"),
+        Position::Beginning => out.put(b" beginning"),
+        Position::Middle => out.put(b" middle"),
+        Position::End => out.put(b" end"),
     }
 }
 
@@ -46,8 +46,7 @@ fn put_first_line<S: Put>(number: u64, syllable: &Syllable, out: &mut S)
 {
     out.put(b"syllable ");
     out.put(Buffer::new().format(number).as_bytes());
-    out.put(b" ");
-    out.put(word_of(syllable.position).as_bytes());
+    put_position(syllable.position, out);
     put_if(syllable.eu, " eu", out);
     put_if(syllable.nlba, " nlba", out);
     out.put(b"\n");
@@ -55,19 +54,19 @@ fn put_first_line<S: Put>(number: u64, syllable: &Syllable, out: &mut S)
 
 /// Puts the line of the text of `view`, whose spans count the bytes of `kept`, if there is a text: `text:T`.
 fn put_text<S: Put>(view: &TextView, kept: &str, out: &mut S)
-    ensures { out.new ≡ S.taken out.old (line_of_text (canonical_text (content_of view.now) kept.now)) }
+    ensures { out.new ≡ S.taken out.old (line_of_text
+        (canonical_text (content_of view.now) kept.now)) }
 {
-    if text_len(view, kept) > 0 {
-        out.put(b"text:");
-        write_text(view, kept, &mut Escaped::new(out));
-        out.put(b"\n");
-    }
+    let mut line = TextLine::new(out);
+    write_text(view, kept, &mut line);
+    line.end();
 }
 
 /// Puts the line of the translation of `syllable`, if there is one: `translation:T`.
 fn put_translation<S: Put>(syllable: &Syllable, out: &mut S)
     ensures { out.new
-        ≡ S.taken out.old (line_of_translation (string_bytes syllable.now.kept) syllable.now.text.translation) }
+        ≡ S.taken out.old (line_of_translation
+        (string_bytes syllable.now.kept) syllable.now.text.translation) }
 {
     if let Some(span) = syllable.text.translation {
         out.put(b"translation:");
@@ -100,7 +99,8 @@ fn put_snippets<S: Put>(
 )
     requires { length (string_bytes syllable.now.kept) ≤ scratch.old }
     ensures put { out.new
-        ≡ S.taken out.old (flat_map (lines_of_snippet (string_bytes syllable.now.kept)) snippets.now) }
+        ≡ S.taken out.old (flat_map (lines_of_snippet
+        (string_bytes syllable.now.kept)) snippets.now) }
     ensures scratch { scratch.new ≡ scratch.old }
     ensures lines { All (λ snippet. snippet.line < 256) snippets.now }
 {

@@ -1,7 +1,8 @@
 //! Texts of the input in the lines of a dump.
 
-ghost use Rattle.std.specs.Prelude.{◌≡◌};
+ghost use Rattle.std.specs.Prelude.{◌≡◌, IsTrue, false};
 ghost use Rattle.gabc_write.specs.DumpLines.{escaped, escaped_byte};
+ghost use Rattle.gabc_write.specs.machine.TextLine.{line_part, begun_behind, line_end};
 
 use gabc_places::Put;
 
@@ -16,8 +17,9 @@ fn put_escaped_byte<S: Put>(byte: u8, out: &mut S)
     }
 }
 
-/// Puts `text`, with each backslash as `\\` and each LF as `\n`.
-pub(crate) fn put_escaped<S: Put>(text: &[u8], out: &mut S)
+/// Puts `text` byte by byte, with each backslash as `\\` and each LF as `\n`. Few texts have any, so it stays out of line.
+#[inline(never)]
+fn put_escaped_bytes<S: Put>(text: &[u8], out: &mut S)
     ensures { out.new ≡ S.taken out.old (escaped text.now) }
 {
     for byte in text {
@@ -25,33 +27,81 @@ pub(crate) fn put_escaped<S: Put>(text: &[u8], out: &mut S)
     }
 }
 
-/// Passes on what it takes, with each backslash as `\\` and each LF as `\n`.
-#[derive(Drop)]
-pub(crate) struct Escaped<'a, S: Put> {
-    out: &'a mut S,
+/// Returns whether `text` has neither a backslash nor an LF, so that it stands in a dump as it is.
+fn is_plain(text: &[u8]) -> bool
+    ensures { IsTrue result → escaped text.now ≡ text.now }
+{
+    for byte in text {
+        if matches!(*byte, b'\\' | b'\n') {
+            return false;
+        }
+    }
+    true
 }
 
-impl<'a, S: Put> Escaped<'a, S> {
-    /// Returns what passes on to `out`.
-    pub(crate) fn new(out: &'a mut S) -> Escaped<'a, S>
-        ensures same { result.out.ghost_name ≡ out.entry.ghost_name }
-        ensures now { result.out.now ≡ out.old }
-    {
-        Escaped { out }
+/// Puts `text`, with each backslash as `\\` and each LF as `\n`.
+pub(crate) fn put_escaped<S: Put>(text: &[u8], out: &mut S)
+    ensures { out.new ≡ S.taken out.old (escaped text.now) }
+{
+    if is_plain(text) {
+        out.put(text);
+    } else {
+        put_escaped_bytes(text, out);
     }
 }
 
-impl<S: Put> Put for Escaped<'_, S> {
-    ghost use Rattle.std.proofs.Common.{rules};
-    ghost use Rattle.std.proofs.lemmas.Grind.{flat_map-append};
+/// Passes on the text of a syllable, with each backslash as `\\` and each LF as `\n`, and `text:` before its first byte.
+#[derive(Drop)]
+pub(crate) struct TextLine<'a, S: Put> {
+    out: &'a mut S,
+    begun: bool,
+}
 
-    ghost taken = { λ e bytes. record e { out = record e.out { now = S.taken e.out.now (escaped bytes) } } };
+impl<'a, S: Put> TextLine<'a, S> {
+    /// Returns what passes on to `out`, with nothing passed on.
+    pub(crate) fn new(out: &'a mut S) -> TextLine<'a, S>
+        ensures same { result.out.ghost_name ≡ out.entry.ghost_name }
+        ensures now { result.out.now ≡ out.old }
+        ensures fresh { result.begun ≡ false }
+    {
+        TextLine { out, begun: false }
+    }
+
+    /// Puts the LF behind the text, if there is one.
+    pub(crate) fn end(&mut self)
+        ensures { self.new ≡ record self.old {
+          out = record self.old.out {
+            now = S.taken self.old.out.now (line_end self.old.begun);
+          };
+        } }
+    {
+        if self.begun {
+            self.out.put(b"\n");
+        }
+    }
+}
+
+impl<S: Put> Put for TextLine<'_, S> {
+    ghost use Rattle.std.proofs.Common.{rules};
+    ghost use Rattle.gabc_write.specs.machine.TextLine.{parts_are_one, begun_is_one};
+
+    ghost taken = { λ l bytes. record l {
+      out = record l.out { now = S.taken l.out.now (line_part l.begun bytes) };
+      begun = begun_behind l.begun bytes;
+    } };
 
     ghost taken_nothing = { Prim.search rules };
 
-    ghost taken_both = { Prim.search (rules, flat_map-append) };
+    ghost taken_both = { Prim.search (rules, parts_are_one, begun_is_one) };
 
     fn put(&mut self, bytes: &[u8]) {
+        if bytes.is_empty() {
+            return;
+        }
+        if !self.begun {
+            self.out.put(b"text:");
+            self.begun = true;
+        }
         put_escaped(bytes, self.out);
     }
 }

@@ -31,7 +31,8 @@ ghost use Rattle.gabc_write.specs.DumpOfSyllables.{lines_of_syllable, lines_of_s
 /// start of a word, and without an error. The canonical text of each syllable of a unit is such a printed syllable.
 pub fn syllable_again()
     ensures read { (lines macros : ℕ) (at : Place) (t : List ℕ) (snippets : List (List ℕ))
-        (rest : List ℕ) → AreSnippets lines snippets → IsOneUnit lines macros at (view_facts t) snippets rest }
+        (rest : List ℕ) → AreSnippets lines snippets
+        → IsOneUnit lines macros at (view_facts t) snippets rest }
     ensures printed { (lines : ℕ) (u : ScoreUnit) (m : UnplacedSyllable) → HoldsUnit lines u m →
         (lines ≡ 0 → length u.snippets ≤ 1) → IsPrinted lines u m }
 {

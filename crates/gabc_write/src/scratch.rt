@@ -28,7 +28,8 @@ impl Model for Scratch {
 
     ghost view = { λ s. s.limit };
 
-    ghost invariant = { λ s. (s.items.limit ≡ s.limit) × (s.notes.limit ≡ s.limit) × (s.glyphs.limit ≡ s.limit)
+    ghost invariant = { λ s. (s.items.limit ≡ s.limit) × (s.notes.limit ≡ s.limit)
+        × (s.glyphs.limit ≡ s.limit)
         × (s.descriptors.limit ≡ s.limit) × (s.codes.limit ≡ s.limit) };
 }
 

@@ -45,7 +45,9 @@ impl Buffers {
             return false;
         }
         self.out.append(engine.out());
-        self.messages.append(engine.messages());
+        if !engine.messages().is_empty() {
+            self.messages.append(engine.messages());
+        }
         engine.taken();
         true
     }

@@ -172,18 +172,28 @@ impl Engine {
         gabc_score::laws::a_score_says_what_it_emits();
         gabc_score::laws::syllables_are_fewer_than_bytes();
         gabc_score::stage_laws::texts_are_read_in_full();
-        Ok(Engine {
-            decoder: Decoder::new(limits),
-            heads: HeaderStage::with_limits(alloc, limits)?,
-            given: Room::with_limit(alloc, 2)?,
-            writer: ScoreWriter::with_limits(alloc, job, limits)?,
-        })
+        let given = Room::with_limit(alloc, 2)?;
+        let heads = HeaderStage::with_limits(alloc, limits)?;
+        match ScoreWriter::with_limits(alloc, job, limits) {
+            Ok(writer) => Ok(Engine {
+                decoder: Decoder::new(limits),
+                heads,
+                given,
+                writer,
+            }),
+            Err(error) => {
+                // A proof follows a call faster than all that lies inside a stage.
+                drop(heads);
+                Err(error)
+            }
+        }
     }
 
     /// Takes a byte.
     fn take(&mut self, byte: u8)
         requires waits { NothingWaits self.old }
-        ensures law { (bytes : List ℕ) (ending : Ending) → streams_left self.old ending (byte ∷ bytes)
+        ensures law { (bytes : List ℕ) (ending : Ending)
+            → streams_left self.old ending (byte ∷ bytes)
             ≡ with_waiting self.new (streams_left self.new ending bytes) }
     {
         let item = self.decoder.take(byte);
@@ -200,7 +210,8 @@ impl Engine {
             streams_left self.old ending (take result piece.now ++ bytes)
             ≡ with_waiting self.new (streams_left self.new ending bytes) }
         ensures all { NothingWaits self.new → result ≡ length piece.now }
-        ensures over { is_running self.old ≡ false → (result ≡ length piece.now) × (self.new ≡ self.old) }
+        ensures over { is_running self.old ≡ false
+            → (result ≡ length piece.now) × (self.new ≡ self.old) }
         ensures running { is_running self.new ≡ true →
             (streams_left self.new Broken []).status ≡ ReadFault }
     {

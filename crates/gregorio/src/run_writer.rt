@@ -103,7 +103,8 @@ impl RunWriter {
         limits: Limits,
     ) -> Result<RunWriter, AllocError>
         ensures fresh { IfOk result (λ writer. writer.written ≡ fresh_writer job.now) }
-        ensures empty { IfOk result (λ writer. (writer.out.items ≡ []) × (writer.messages.items ≡ [])) }
+        ensures empty { IfOk result (λ writer. (writer.out.items ≡ [])
+            × (writer.messages.items ≡ [])) }
         ensures out { IfOk result (λ writer. room_of_heads writer.written.format limits.header
             + 4 * room_of_syllable writer.written.format limits.syllable + 128 ≤ writer.out.limit) }
         ensures messages { IfOk result (λ writer.
@@ -128,7 +129,8 @@ impl RunWriter {
 
     /// Writes what stands before the syllables.
     pub(crate) fn heads(&mut self, book: &HeaderBook)
-        requires { Fits self.old.out (heads_len self.old.written.format (length (encode_utf8_all (canonical_heads book.now)))) }
+        requires { Fits self.old.out (heads_len self.old.written.format
+            (length (encode_utf8_all (canonical_heads book.now)))) }
         ensures writes { self.new ≡ with_heads self.old book.now }
         ensures short { length (heads_text self.old.written.format book.now)
             ≤ heads_len self.old.written.format (length (encode_utf8_all (canonical_heads book.now))) }
@@ -143,7 +145,8 @@ impl RunWriter {
     pub(crate) fn found(&mut self, finding: Finding)
         requires { Fits self.old.messages (line_room self.old.written.name) }
         ensures writes { self.new ≡ with_found self.old finding }
-        ensures short { length (shown_line self.old.written.name self.old.written.all_warnings finding)
+        ensures short { length
+            (shown_line self.old.written.name self.old.written.all_warnings finding)
             ≤ line_room self.old.written.name }
     {
         put_finding(

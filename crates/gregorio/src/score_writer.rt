@@ -100,12 +100,21 @@ impl ScoreWriter {
         ensures score { IfOk result (λ writer. (xs : List Given) → AreCountsBelow xs →
             left_of writer.score xs ≡ score_outputs texts_by_stage limits xs) }
     {
-        Ok(ScoreWriter {
-            events: Room::with_limit(alloc, 16)?,
-            part: RunPart::Heads,
-            writer: RunWriter::with_limits(alloc, job, limits)?,
-            score: ScoreStage::with_limits(alloc, limits)?,
-        })
+        let events = Room::with_limit(alloc, 16)?;
+        let writer = RunWriter::with_limits(alloc, job, limits)?;
+        match ScoreStage::with_limits(alloc, limits) {
+            Ok(score) => Ok(ScoreWriter {
+                score,
+                events,
+                part: RunPart::Heads,
+                writer,
+            }),
+            Err(error) => {
+                // A proof follows a call faster than all that lies inside a writer.
+                drop(writer);
+                Err(error)
+            }
+        }
     }
 
     /// Takes `event`, and writes what follows from it. `book` has the headers that are read, if they are whole.

@@ -49,7 +49,8 @@ pub(crate) fn write_outcome(
     request: Request,
     outcome: &Outcome,
 ) -> Result<Compiled, AllocError>
-    ensures output { IfOk result (λ made. made.output.items ≡ output_of request.format outcome.now) }
+    ensures output { IfOk result (λ made. made.output.items
+        ≡ output_of request.format outcome.now) }
     ensures messages { IfOk result (λ made. made.messages.items
         ≡ lines_of stdin_name request.all_warnings outcome.now.score) }
     ensures status { IfOk result (λ made. made.status ≡ status_number outcome.now) }
@@ -70,7 +71,8 @@ pub(crate) fn messages_of(
     all_warnings: bool,
     outcome: &Outcome,
 ) -> Result<Messages, AllocError>
-    ensures list { IfOk result (λ made. made.list.items ≡ messages_by all_warnings outcome.now.score) }
+    ensures list { IfOk result (λ made. made.list.items
+        ≡ messages_by all_warnings outcome.now.score) }
     ensures status { IfOk result (λ made. made.status ≡ status_number outcome.now) }
 {
     let list = messages_of_score(alloc, all_warnings, &outcome.score)?;

@@ -1,5 +1,7 @@
 //! Rows of what the writers add.
 
+ghost use Rattle.std.specs.Prelude.{◌≤◌, length, string_bytes};
+
 use crate::show::{show, show_bytes};
 use gabc_headers::{HeaderBook, headers_whole};
 use gabc_places::{Code, Limits, Place, Room, Text};
@@ -53,6 +55,13 @@ fn answer_header(
     }
 }
 
+/// Prints a length and the text that has it.
+fn show_counted(len: usize, text: &[u8], out: &mut String) -> Result<(), AllocError> {
+    show(&len, out)?;
+    out.push(' ')?;
+    show_bytes(text, out)
+}
+
 /// Prints the bytes of the canonical text of a syllable, and this text.
 fn show_syllable(alloc: Global, syllable: &Syllable, out: &mut String) -> Result<(), AllocError> {
     let len = canon_len(syllable);
@@ -62,9 +71,7 @@ fn show_syllable(alloc: Global, syllable: &Syllable, out: &mut String) -> Result
     let mut room = Room::with_limit(alloc, len)?;
     canon_syllable(syllable, &mut room);
     out.push('\t')?;
-    show(&len, out)?;
-    out.push(' ')?;
-    show_bytes(room.slice(), out)
+    show_counted(len, room.slice(), out)
 }
 
 /// Prints the number of syllables, and their canonical texts.
@@ -93,6 +100,26 @@ fn answer_syllables(
 }
 
 /// Prints the bytes of the lines of a syllable with this number in a dump, and these lines.
+fn show_lines(
+    alloc: Global,
+    number: u64,
+    syllable: &Syllable,
+    scratch: &mut Scratch,
+    out: &mut String,
+) -> Result<(), AllocError>
+    requires { length (string_bytes syllable.now.kept) ≤ scratch.old }
+{
+    let len = dump_len(number, syllable, scratch);
+    if len == usize::MAX {
+        return Err(AllocError);
+    }
+    let mut room = Room::with_limit(alloc, len)?;
+    dump_syllable(number, syllable, scratch, &mut room);
+    out.push('\t')?;
+    show_counted(len, room.slice(), out)
+}
+
+/// Reserves what a dump of a syllable needs, and prints its lines.
 fn show_dump(
     alloc: Global,
     number: u64,
@@ -100,19 +127,23 @@ fn show_dump(
     out: &mut String,
 ) -> Result<(), AllocError> {
     let mut scratch = Scratch::with_limit(alloc, syllable.kept.len())?;
-    let len = dump_len(number, syllable, &mut scratch);
-    if len == usize::MAX {
-        return Err(AllocError);
-    }
-    let mut room = Room::with_limit(alloc, len)?;
-    dump_syllable(number, syllable, &mut scratch, &mut room);
-    out.push('\t')?;
-    show(&len, out)?;
-    out.push(' ')?;
-    show_bytes(room.slice(), out)
+    let shown = show_lines(alloc, number, syllable, &mut scratch, out);
+    // A proof follows a call faster than all that lies inside.
+    drop(scratch);
+    shown
 }
 
-/// Prints the number of syllables of a score, and the lines of each in a dump. The first one has the number 4294967295.
+/// Prints the number of syllables, and the lines of each in a dump. The first one has the number 4294967295.
+fn show_dumps(alloc: Global, syllables: &[Syllable], out: &mut String) -> Result<(), AllocError> {
+    show(&syllables.len(), out)?;
+    for (index, syllable) in syllables.iter().enumerate() {
+        let number = (index as u64).saturating_add(4294967295);
+        show_dump(alloc, number, syllable, out)?;
+    }
+    Ok(())
+}
+
+/// Prints the number of syllables of a score, and the lines of each in a dump.
 fn answer_dump(
     alloc: Global,
     limits: Limits,
@@ -121,16 +152,9 @@ fn answer_dump(
 ) -> Result<(), AllocError> {
     let text = Text::from_str(alloc, input)?;
     let score = score_whole(alloc, &text, InputEnding::Whole, limits)?;
-    show(&score.syllables.len(), out)?;
-    for (index, syllable) in score.syllables.as_slice().iter().enumerate() {
-        show_dump(
-            alloc,
-            (index as u64).saturating_add(4294967295),
-            syllable,
-            out,
-        )?;
-    }
-    Ok(())
+    let shown = show_dumps(alloc, score.syllables.as_slice(), out);
+    drop(score);
+    shown
 }
 
 /// Prints the answer of a call with these limits, and returns whether there is such a call.

@@ -1,5 +1,5 @@
 -- Whether a value wants lines of its own, from left to right.
-use Rattle.std.proofs.Common.{◌≡◌, ℕ, List, [], ◌∷◌, ◌++◌, Bool, true, false, cond, ◌||◌, ◌&&◌, ◌==◌, refl, sym, ap, ◌∙◌, append_assoc, append-nil}
+use Rattle.std.proofs.Common.{rules, ◌≢◌, ◌≡◌, ◌⊎◌, inl, inr, ℕ, List, [], ◌∷◌, ◌++◌, Bool, true, false, cond, ◌||◌, ◌&&◌, ◌==◌, refl, sym, ap, ◌∙◌, append_assoc, append-nil}
 use Rattle.gabc_headers.specs.Lines.{lines, on_first, is_bare, is_mark, has_mark}
 use Rattle.gabc_headers.specs.Canonical.{wants_lines}
 
@@ -124,6 +124,16 @@ after_semicolon ys rest c w m e h =
     ap (λ (x : List ℕ). wants_lines (lines x)) (append_assoc ys (c ∷ []) rest)
     ∙ (h (c ∷ rest) ∙ (ap (λ (x : ℕ). w || wants_from m (x ∷ rest)) e ∙ ap (λ (x : Bool). w || x) (step_semicolon m rest)))
 
+pub after_blank : (ys rest : List ℕ) (c : ℕ) (w m : Bool) → (c ≡ 9) ⊎ (c ≡ 32) → ((r : List ℕ) → wants_lines (lines (ys ++ r)) ≡ (w || wants_from m r))
+    → wants_lines (lines ((ys ++ c ∷ []) ++ rest)) ≡ (w || wants_from m rest)
+after_blank ys rest c w m e h =
+    ap (λ (x : List ℕ). wants_lines (lines x)) (append_assoc ys (c ∷ []) rest)
+    ∙ (h (c ∷ rest) ∙ ap (λ (x : Bool). w || x) (by e))
+  where
+    by : (c ≡ 9) ⊎ (c ≡ 32) → wants_from m (c ∷ rest) ≡ wants_from m rest
+    by (inl tab) = ap (λ (x : ℕ). wants_from m (x ∷ rest)) tab ∙ step_tab m rest
+    by (inr space) = ap (λ (x : ℕ). wants_from m (x ∷ rest)) space ∙ step_space m rest
+
 pub after_percent : (ys rest : List ℕ) (c : ℕ) (w m : Bool) → c ≡ 37 → ((r : List ℕ) → wants_lines (lines (ys ++ r)) ≡ (w || wants_from m r))
     → wants_lines (lines ((ys ++ c ∷ []) ++ rest)) ≡ ((w || m) || wants_from m rest)
 after_percent ys rest c w m e h =
@@ -135,6 +145,13 @@ pub after_lf : (ys rest : List ℕ) (c : ℕ) (w m : Bool) → c ≡ 10 → ((r 
 after_lf ys rest c w m e h =
     ap (λ (x : List ℕ). wants_lines (lines x)) (append_assoc ys (c ∷ []) rest)
     ∙ (h (c ∷ rest) ∙ (ap (λ (x : ℕ). w || wants_from m (x ∷ rest)) e ∙ step_lf w m rest))
+
+pub after_other : (ys rest : List ℕ) (c : ℕ) (w m : Bool) → c ≢ 10 → c ≢ 59 → c ≢ 37 → c ≢ 32 → c ≢ 9
+    → ((r : List ℕ) → wants_lines (lines (ys ++ r)) ≡ (w || wants_from m r))
+    → wants_lines (lines ((ys ++ c ∷ []) ++ rest)) ≡ (w || wants_from false rest)
+after_other ys rest c w m i j k n o h =
+    ap (λ (x : List ℕ). wants_lines (lines x)) (append_assoc ys (c ∷ []) rest)
+    ∙ (h (c ∷ rest) ∙ ap (λ (x : Bool). w || x) (step_other m c rest (search rules) (search rules) (search rules) (search rules) (search rules)))
 
 -- at the end
 pub at_end : (v ys : List ℕ) (w m : Bool) → v ≡ ys → ((r : List ℕ) → wants_lines (lines (ys ++ r)) ≡ (w || wants_from m r)) → wants_lines (lines v) ≡ (w || m)

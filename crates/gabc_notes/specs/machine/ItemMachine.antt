@@ -1,6 +1,8 @@
 -- The machine that reads items a character at a time. It is no promise: that it reads the table is proved.
-use Rattle.std.specs.Prelude.{ℕ, Bool, true, false, codes, Option, Some, None, ◌==◌, if◌then◌else◌}
+use Rattle.std.specs.Prelude.{◌≡◌, ℕ, Bool, true, false, codes, Option, Some, None, ◌==◌, if◌then◌else◌}
+use Rattle.std.specs.Char.{len_utf8}
 use Rattle.gabc_patterns.specs.Pattern.{is_in}
+use Rattle.gabc_notes.specs.machine.Class.{class_of_character}
 use Rattle.gabc_notes.specs.Notes.{is_digit}
 use Rattle.gabc_places.specs.declared.place.Char.{Char}
 use Rattle.gabc_notes.specs.StageEvents.{before_in}
@@ -142,6 +144,22 @@ next_or_begun_at None k = None
 abbrev pub next_state : ItemState → CharClass → Option ItemState
 next_state s k = or_else (going_on s k) (next_or_begun_at (falling_back s) k)
 
+-- a pitch but `b` begins an item
+abbrev pub begins_item : ItemState → Bool
+begins_item Dash = false
+begins_item Join = false
+begins_item Raw = false
+begins_item SlashRaw = false
+begins_item _ = true
+
+-- a suffix or sign goes on with a note
+abbrev pub goes_on_note : ItemState → Bool
+goes_on_note DashPitch = true
+goes_on_note Body = true
+goes_on_note Pitch = true
+goes_on_note ClefPitch = true
+goes_on_note _ = false
+
 abbrev pub kind_of_full : FullItem → ItemKind
 kind_of_full Alteration = AlterationK
 kind_of_full FullClef = ClefK
@@ -187,6 +205,19 @@ raw_state _ = false
 abbrev pub attribute_state : ItemState → Bool
 attribute_state (Done Attribute) = true
 attribute_state _ = false
+
+-- The character, of one byte and no mark, brings the reading from a state outside raw to another, at which what was read is a snippet.
+pub record IsShortStep (s : ItemState) (c : ℕ) (next : ItemState) : Type 0 where
+  pub step : next_state s (class_of_character c) ≡ Some next
+  pub outside : raw_state s ≡ false
+  pub outside_after : raw_state next ≡ false
+  pub whole_after : whole_at next ≡ true
+  pub is_byte : len_utf8 c ≡ 1
+  pub closes_no_notes : (c == 41) ≡ false
+  pub ends_no_snippet : (c == 124) ≡ false
+  pub begins_no_comment : (c == 37) ≡ false
+  pub opens_nothing : (c == 91) ≡ false
+  pub closes_nothing : (c == 93) ≡ false
 
 abbrev pub digit_of_prefix : MacroPrefix → Option ℕ
 digit_of_prefix (Last c) = digit_if (is_digit c) c

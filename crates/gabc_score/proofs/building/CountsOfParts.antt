@@ -22,7 +22,7 @@ use Rattle.gabc_score.specs.Syllable.{prefix_of, is_seam}
 use Rattle.gabc_score.specs.machine.BodyBuilder.{with_all}
 use Rattle.gabc_score.specs.machine.Gatherer.{Gathered, with_text, with_event, with_snippet}
 use Rattle.gabc_score.specs.machine.PartCounts.{CountsInNotes, CountsHold, PartGoesOn}
-use Rattle.gabc_score.specs.machine.PartPushes.{NoteClosesLast}
+use Rattle.gabc_score.specs.machine.PartPushes.{EndsLast}
 use Rattle.gabc_score.specs.machine.Slot.{FitsEvent, FitsText, FitEach}
 use Rattle.gabc_score.specs.machine.SyllableBuilder.{OpenSyllable, nothing_open, snippet_from}
 
@@ -208,7 +208,7 @@ module _ (line : ℕ) (opened : Place) where
   notes_count g (e ∷ es) h = notes_count (with_event g (of_note line opened e)) es (note_adds line opened g e h).counts
 
   -- a `)` leaves nothing open
-  nothing_left : (g : Gathered) (es : List NoteEvent) → NoteClosesLast es → list_any is_close es ≡ true → (with_all g (of_notes es)).builder ≡ nothing_open
+  nothing_left : (g : Gathered) (es : List NoteEvent) → EndsLast is_close es → list_any is_close es ≡ true → (with_all g (of_notes es)).builder ≡ nothing_open
   nothing_left g [] h e = absurd (cc)
   nothing_left g (x ∷ es) h e = by x refl (λ n. nothing_left (with_event g (of_note line opened x)) es h.1 (ap (λ b. b || list_any is_close es) (sym n) ∙ e))
     where
@@ -229,5 +229,5 @@ module _ (line : ℕ) (opened : Place) where
     pub notes_go : (after : BodyPart) → ((o : OpenSyllable) → CountsInNotes o → CountsHold after o) → PartGoesOn before after (of_notes es)
     notes_go after into = record { counts = λ g h. into (with_all g (of_notes es)).builder (notes_count g es (in_notes g.builder h)); fit = all_fit }
 
-    pub notes_close : (after : BodyPart) → CountsHold after nothing_open → NoteClosesLast es → list_any is_close es ≡ true → PartGoesOn before after (of_notes es)
+    pub notes_close : (after : BodyPart) → CountsHold after nothing_open → EndsLast is_close es → list_any is_close es ≡ true → PartGoesOn before after (of_notes es)
     notes_close after h o e = record { counts = λ g k. subst (CountsHold after) (sym (nothing_left g es o e)) h; fit = all_fit }

@@ -1,24 +1,59 @@
 -- At a point at most one syllable ends, and nothing follows its `)`.
-use Rattle.std.proofs.Common.{◌≡◌, ℕ, true, List, [], ◌∷◌, ◌++◌, map, refl, sym, ap, ◌∙◌}
+use Rattle.std.proofs.Common.{◌≡◌, ℕ, ◌-◌, ◌||◌, Bool, true, false, List, [], ◌∷◌, ◌++◌, map, length, refl, sym, ap, ◌∙◌, Some}
+use native.Mathlib.Numerals.{unary_clauses}
+use Rattle.std.specs.List.{list_any, slice_get}
+use Rattle.gabc_places.specs.BoundedList.{BoundedList, extended_by}
 use Rattle.gabc_places.specs.declared.place.Place.{Place}
 use Rattle.gabc_text.specs.declared.stage.TextEvent.{TextEvent}
+use Rattle.gabc_text.specs.declared.stage.TextEvent.TheVariants as text
 use Rattle.gabc_notes.specs.declared.stage.NoteEnd.TheVariants as note_end
 use Rattle.gabc_notes.specs.declared.stage.NoteEvent.{NoteEvent}
 use Rattle.gabc_notes.specs.declared.stage.NoteEvent.TheVariants as note
 use Rattle.gabc_score.specs.declared.events.BodyEvent.TheVariants.{Text}
 use Rattle.gabc_notes.specs.Ends.{is_ended}
-use Rattle.gabc_score.specs.Events.{is_close, note_event}
+use Rattle.gabc_text.specs.End.{is_end}
+use Rattle.gabc_score.specs.Events.{is_text_end, is_close, note_event}
 use Rattle.gabc_score.specs.Syllable.{closes}
-use Rattle.gabc_score.specs.machine.PartPushes.{NoteClosesLast, ClosesLast}
+use Rattle.gabc_score.specs.machine.PartPushes.{EndsLast, ClosesLast}
 
-pub closes_last : (es : List NoteEvent) → ((before behind : List NoteEvent) (x : NoteEvent) → es ≡ before ++ x ∷ behind → is_close x ≡ true → behind ≡ []) → NoteClosesLast es
-closes_last [] h = tt
-closes_last (e ∷ es) h = (h [] es e refl, closes_last es (λ before behind x k. h (e ∷ before) behind x (ap (λ ys. e ∷ ys) k)))
+pub ends_last : {O : Type 0} (ends : O → Bool) (es : List O) → ((before behind : List O) (x : O) → es ≡ before ++ x ∷ behind → ends x ≡ true → behind ≡ []) → EndsLast ends es
+ends_last ends [] h = tt
+ends_last ends (e ∷ es) h = (h [] es e refl, ends_last ends es (λ before behind x k. h (e ∷ before) behind x (ap (λ ys. e ∷ ys) k)))
+
+-- so it is where a push to an empty room stops at an end
+pub pushed_last : {O R : Type 0} (ends stops : O → Bool) → ((x : O) → ends x ≡ true → stops x ≡ true) → (old new : BoundedList O) → old.items ≡ [] → new.limit ≡ old.limit
+    → ((before behind : List O) (x : O) → new ≡ extended_by old (before ++ x ∷ behind) → stops x ≡ true → (behind ≡ []) × R) → EndsLast ends new.items
+pushed_last ends stops imp old new none limit stop =
+    ends_last ends new.items (λ before behind x e h. (stop before behind x
+    (ap (λ es. record new { items = es }) e ∙ (ap (λ n. record { items = before ++ x ∷ behind; limit = n }) limit ∙ ap (λ es. record { items = es ++ (before ++ x ∷ behind); limit = old.limit }) (sym none))) (imp x h)).0)
+
+or_false : (b : Bool) → (b || false) ≡ b
+or_false true = refl
+or_false false = refl
+
+only_is : {O : Type 0} (e x : O) → Some e ≡ Some x → e ≡ x
+only_is e x k = cc
+
+-- so the last event tells whether one ends a part so
+pub last_tells : {O : Type 0} (ends : O → Bool) (es : List O) (x : O) → EndsLast ends es → slice_get es (length es - 1) ≡ Some x → list_any ends es ≡ ends x
+last_tells ends [] x h k = absurd (cc)
+last_tells ends (e ∷ []) x h k = or_false (ends e) ∙ ap ends (only_is e x k)
+last_tells ends (e ∷ f ∷ es) x h k = go (ends e) refl (last_tells ends (f ∷ es) x h.1 (simp unary_clauses (simp unary_clauses at k)))
+  where
+    go : (b : Bool) → ends e ≡ b → list_any ends (f ∷ es) ≡ ends x → list_any ends (e ∷ f ∷ es) ≡ ends x
+    go true g t = absurd (let none = h.0 g in cc (none))
+    go false g t = rw g t
 
 pub close_ends : (x : NoteEvent) → is_close x ≡ true → is_ended x ≡ true
 close_ends (note.Kept c) h = absurd (cc)
 close_ends (note.Found f) h = absurd (cc)
 close_ends (note.Ended how n) h = refl
+
+pub text_end_ends : (x : TextEvent) → is_text_end x ≡ true → is_end x ≡ true
+text_end_ends (text.Kept c) h = absurd (cc)
+text_end_ends (text.Part p) h = absurd (cc)
+text_end_ends (text.Found f) h = absurd (cc)
+text_end_ends (text.Ended how) h = refl
 
 close_is : (line : ℕ) (opened : Place) (x : NoteEvent) → closes (note_event line opened x) ≡ is_close x
 close_is line opened (note.Kept c) = refl
@@ -27,7 +62,7 @@ close_is line opened (note.Ended note_end.Next n) = refl
 close_is line opened (note.Ended note_end.Close n) = refl
 close_is line opened (note.Ended (note_end.Cut p) n) = refl
 
-pub notes_close_last : (line : ℕ) (opened : Place) (es : List NoteEvent) → NoteClosesLast es → ClosesLast (map (note_event line opened) es)
+pub notes_close_last : (line : ℕ) (opened : Place) (es : List NoteEvent) → EndsLast is_close es → ClosesLast (map (note_event line opened) es)
 notes_close_last line opened [] h = tt
 notes_close_last line opened (e ∷ es) h = (λ c. ap (map (note_event line opened)) (h.0 (sym (close_is line opened e) ∙ c)), notes_close_last line opened es h.1)
 

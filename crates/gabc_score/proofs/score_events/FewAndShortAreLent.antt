@@ -29,6 +29,7 @@ use Rattle.gabc_score.specs.machine.ScoreStage.{placed_behind}
 use Rattle.gabc_score.specs.machine.SyllableBuilder.{made_from}
 use Rattle.gabc_score.specs.machine.ScoreMachine.{IsShort}
 use Rattle.gabc_score.proofs.score_events.EventsStayWithinBounds.{limit_stays}
+use Rattle.gabc_score.proofs.score_events.OutputsAreTold.{found_syllables}
 
 -- ---- short syllables stay so
 
@@ -145,10 +146,6 @@ placed_within limits first (m ∷ ms) h =
 pub placed_count : (first : Bool) (ms : List UnplacedSyllable) → length (placed_syllables_by first ms) ≡ length ms
 placed_count first [] = refl
 placed_count first (m ∷ ms) = let e = placed_count false ms in omega (arith, e)
-
-found_syllables : (fs : List Finding) (outs : List ScoreOutput) → syllables_in (map (λ f. Found f) fs ++ outs) ≡ syllables_in outs
-found_syllables [] outs = refl
-found_syllables (f ∷ fs) outs = found_syllables fs outs
 
 given_syllables : (ss : List PlacedSyllable) (tail : List ScoreOutput) → syllables_in tail ≡ [] → syllables_in (map (λ s. Syllable s) ss ++ tail) ≡ ss
 given_syllables [] tail h = h

@@ -19,7 +19,7 @@ found_lent : (l : LentSyllable) (fs : List Finding) (outs : List ScoreOutput) �
 found_lent l [] outs = refl
 found_lent l (f ∷ fs) outs = ap (λ es. event.Found f ∷ es) (found_lent l fs outs)
 
-found_syllables : (fs : List Finding) (outs : List ScoreOutput) → syllables_in (map (λ f. Found f) fs ++ outs) ≡ syllables_in outs
+pub found_syllables : (fs : List Finding) (outs : List ScoreOutput) → syllables_in (map (λ f. Found f) fs ++ outs) ≡ syllables_in outs
 found_syllables [] outs = refl
 found_syllables (f ∷ fs) outs = found_syllables fs outs
 

@@ -1,9 +1,7 @@
 -- What a push to a part does, whose events are then in its room.
-use Rattle.std.specs.Prelude.{◌≡◌, ℕ, List, [], ◌∷◌, length, ◌≤◌, true}
+use Rattle.std.specs.Prelude.{◌≡◌, ℕ, List, [], ◌∷◌, length, ◌≤◌, Bool, true}
 use Rattle.gabc_places.specs.declared.place.Char.{Char}
-use Rattle.gabc_notes.specs.declared.stage.NoteEvent.{NoteEvent}
 use Rattle.gabc_score.specs.declared.events.BodyEvent.{BodyEvent}
-use Rattle.gabc_score.specs.Events.{is_close}
 use Rattle.gabc_score.specs.Syllable.{closes}
 
 -- These are the events of x, and what is emitted from then on follows them.
@@ -22,10 +20,10 @@ pub record PushesPart {O A : Type 0} (before after : List Char → List (List O)
   pub law : (xs : List Char) → before (x ∷ xs) ≡ events ∷ after xs
   pub answers : result ≡ answer events
 
--- a snippet's end at a `)` is the last of these
-abbrev pub NoteClosesLast : List NoteEvent → Type 0
-NoteClosesLast [] = Unit {0}
-NoteClosesLast (e ∷ es) = (is_close e ≡ true → es ≡ []) × NoteClosesLast es
+-- an event that ends a part so is the last of these
+abbrev pub EndsLast : {O : Type 0} → (O → Bool) → List O → Type 0
+EndsLast ends [] = Unit {0}
+EndsLast ends (e ∷ es) = (ends e ≡ true → es ≡ []) × EndsLast ends es
 
 -- the `)` that ends a syllable is the last of these
 abbrev pub ClosesLast : List BodyEvent → Type 0

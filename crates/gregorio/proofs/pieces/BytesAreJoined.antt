@@ -29,3 +29,7 @@ extended_by_none r = ap (λ (xs : List _). record r { items = xs }) (sym (append
 pub extended_by_both : {T : Type 0} (r s t : BoundedList T) (xs ys : List T) → s ≡ extended_by r xs → t ≡ extended_by s ys → t ≡ extended_by r (xs ++ ys)
 extended_by_both r s t xs ys first second =
     second ∙ (ap (λ (x : BoundedList _). extended_by x ys) first ∙ ap (λ (items : List _). record r { items = items }) (append_assoc r.items xs ys))
+
+-- what waits where nothing waited is what was written
+pub waits_now : (old new : BoundedList ℕ) (text : List ℕ) → old.items ≡ [] → new ≡ extended_by old text → new.items ≡ text
+waits_now old new text empty e = ap (λ (r : BoundedList ℕ). r.items) e ∙ ap (λ (xs : List ℕ). xs ++ text) empty

@@ -1,7 +1,6 @@
 -- A byte that an engine takes brings what was to come for it, and so do the bytes of a piece.
 use Rattle.std.proofs.Common.{◌≡◌, ℕ, ◌+◌, ◌*◌, ◌<◌, ◌||◌, ◌⊎◌, inl, inr, List, [], ◌∷◌, ◌++◌, length, take, slice_index_or, Bool, true, false, if◌then◌else◌, Option, None, Result, refl, ap, sym, ◌∙◌, append_assoc, arith, add-one}
 use Rattle.std.proofs.Math.Seq.{take-suc}
-use Rattle.gabc_places.specs.BoundedList.{BoundedList, extended_by}
 use Rattle.gabc_places.specs.StageLaw.{concat_of}
 use Rattle.gabc_places.specs.declared.code.Fault.{Fault}
 use Rattle.gabc_places.specs.declared.limits.Limits.{Limits}
@@ -21,6 +20,7 @@ use Rattle.gregorio.specs.Outcome.{is_whole, status_by}
 use Rattle.gregorio.specs.machine.RunWriter.{heads_room, syllable_room, line_room}
 use Rattle.gregorio.specs.machine.ScoreWriter.{ScoreWriterState, IsReserved, IsSteady}
 use Rattle.gregorio.specs.machine.Engine.{IsEmpty, WritesItems, streams_of_items}
+use Rattle.gregorio.proofs.pieces.BytesAreJoined.{waits_now}
 use Rattle.gregorio_jobs.specs.declared.job.Format.{Format}
 use Rattle.gregorio_jobs.specs.declared.job.Status.TheVariants.{ReadFault}
 
@@ -53,10 +53,6 @@ items_next : (d e : DecoderState) (byte : ℕ) (bytes : List ℕ) (items : List 
     → emitted_by (is_whole ending) (byte ∷ bytes) (decoder.events_left d (byte ∷ bytes)) ≡ items ++ emitted_by (is_whole ending) bytes (decoder.events_left e bytes)
 items_next d e byte bytes items Ended law = ap (λ (lists : List (List (Result Char Fault))). concat_of lists) law
 items_next d e byte bytes items Broken law = ap (λ (lists : List (List (Result Char Fault))). concat_of (take (length (byte ∷ bytes)) lists)) law
-
--- what waits where nothing waited is what was written
-waits_now : (old new : BoundedList ℕ) (text : List ℕ) → old.items ≡ [] → new ≡ extended_by old text → new.items ≡ text
-waits_now old new text empty e = ap (λ (r : BoundedList ℕ). r.items) e ∙ ap (λ (xs : List ℕ). xs ++ text) empty
 
 pub byte_taken : (d e : DecoderState) (h now : HeaderStageState) (w new : ScoreWriterState) (byte : ℕ) (items : List (Result Char Fault))
     → ((bytes : List ℕ) → decoder.events_left d (byte ∷ bytes) ≡ items ∷ decoder.events_left e bytes)

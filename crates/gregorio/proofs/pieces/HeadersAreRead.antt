@@ -1,8 +1,6 @@
 -- What the stage of headers gives of an item has room, and is passed on.
-use Rattle.std.proofs.Common.{◌≡◌, ℕ, ◌+◌, ◌*◌, ◌≤◌, List, [], ◌∷◌, ◌++◌, length, codes, Result, Ok, refl, ap, sym, ◌∙◌, subst, zero-add, length-append, arith, encode_utf8_all}
+use Rattle.std.proofs.Common.{◌≡◌, ℕ, ◌+◌, ◌*◌, ◌≤◌, List, [], ◌∷◌, ◌++◌, length, codes, Result, Ok, refl, ap, sym, ◌∙◌, subst, length-append, arith}
 use Rattle.std.specs.Char.{len_utf8}
-use lib.Utf8.{encode}
-use Rattle.std.proofs.lemmas.Str.{length-encode}
 use Rattle.std.proofs.lemmas.List.Sums.{sum_by-append}
 use Rattle.std.proofs.Math.Nat.{mul-le-mul_right}
 use Rattle.gabc_places.specs.BoundedList.{BoundedList}
@@ -17,6 +15,7 @@ use Rattle.gabc_headers.specs.declared.heads.Heads.{Heads}
 use Rattle.gabc_headers.specs.declared.head_event.HeadEvent.{HeadEvent}
 use Rattle.gabc_headers.specs.declared.head_event.HeadEvent.TheVariants as head_event
 use Rattle.gabc_headers.specs.HeadEvents.{HeaderStageState, events_left, events_of_end, events_of_input, stage_after}
+use Rattle.gabc_headers.proofs.entries.TextsAsBytes.{length-encodes}
 use Rattle.gregorio.specs.declared.run_part.RunPart.TheVariants as part
 use Rattle.gregorio.specs.machine.RunWriter.{line_room}
 use Rattle.gregorio.specs.machine.ScoreWriter.{ScoreWriterState, HasRoom, IsReserved, IsShortBook, IsSteady, events_room}
@@ -26,20 +25,10 @@ use Rattle.gregorio.proofs.pieces.RoomIsLeft.{input_is_few, least_room, room_wit
 
 -- ---- the canonical headers in bytes
 
-encoded_len : (cs : List ℕ) → length (encode_utf8_all cs) ≡ bytes_len cs
-encoded_len [] = refl
-encoded_len (c ∷ cs) =
-    let one = length-encode c in
-    let rest = encoded_len cs in
-    let joined : length (encode_utf8_all (c ∷ cs)) ≡ length (encode c) + length (encode_utf8_all cs) = length-append (encode c) (encode_utf8_all cs) in
-    let counted : bytes_len (c ∷ cs) ≡ bytes_len (c ∷ []) + bytes_len cs = sum_by-append len_utf8 (c ∷ []) cs in
-    let first : bytes_len (c ∷ []) ≡ len_utf8 c = zero-add (len_utf8 c) in
-    omega (arith, one, rest, joined, counted, first)
-
 pub short_heads : ((limits : Limits) (t : List ℕ) (heads : Heads) → heads_of limits t ≡ Ok heads → (bytes_len (header_lines heads.book) ≤ limits.header) × (bytes_len (canonical_heads heads.book) + 1 ≤ limits.input)) → AreHeadsShort
 short_heads law limits t heads is =
     let within = (law limits t heads is).0 in
-    let size = encoded_len (canonical_heads heads.book) in
+    let size = length-encodes (canonical_heads heads.book) in
     let joined : bytes_len (canonical_heads heads.book) ≡ bytes_len (header_lines heads.book) + bytes_len (codes "%%") = sum_by-append len_utf8 (header_lines heads.book) (codes "%%") in
     let mark : bytes_len (codes "%%") ≡ 2 = refl in
     omega (arith, within, size, joined, mark)
@@ -47,7 +36,7 @@ short_heads law limits t heads is =
 -- no headers at all are short
 pub no_heads_are_short : (limits : Limits) → IsShortBook limits []
 no_heads_are_short limits =
-    let n = encoded_len (canonical_heads []) in
+    let n = length-encodes (canonical_heads []) in
     let two : bytes_len (canonical_heads []) ≡ 2 = refl in
     omega (arith, n, two)
 

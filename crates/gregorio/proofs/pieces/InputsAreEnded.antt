@@ -1,6 +1,6 @@
 -- The end of an input, or the failure of its source, brings what was still to come.
 use Rattle.std.proofs.Common.{◌≡◌, ℕ, List, [], ◌∷◌, ◌++◌, false, Result, Ok, Err, refl, ap, sym, ◌∙◌, subst}
-use Rattle.gabc_places.specs.BoundedList.{BoundedList, extended_by}
+use Rattle.gabc_places.specs.BoundedList.{extended_by}
 use Rattle.gabc_places.specs.StageLaw.{concat_of}
 use Rattle.gabc_places.specs.declared.code.Fault.{Fault}
 use Rattle.gabc_places.specs.declared.limits.Limits.{Limits}
@@ -20,7 +20,7 @@ use Rattle.gregorio.specs.Engine.{Streams, behind_bytes, book_behind, ended_with
 use Rattle.gregorio.specs.Outcome.{is_whole}
 use Rattle.gregorio.specs.machine.ScoreWriter.{ScoreWriterState, HasRoom, IsReserved, IsShortBook, WritesLast, streams_of}
 use Rattle.gregorio.specs.machine.Engine.{AreBooksAt, GoTogether, IsEmpty, IsSettled, WritesAll, WritesItems, streams_of_items}
-use Rattle.gregorio.proofs.pieces.BytesAreJoined.{behind_both, extended_by_both}
+use Rattle.gregorio.proofs.pieces.BytesAreJoined.{behind_both, extended_by_both, waits_now}
 use Rattle.gregorio.proofs.pieces.RoomIsLeft.{none_are_few, room_for_none, room_with_end}
 use Rattle.gregorio_jobs.specs.declared.job.Status.{Status}
 
@@ -44,9 +44,6 @@ ends_behind s t old mid new status output lines out messages law e = record {
 
 pub ends_last : (w new : ScoreWriterState) (status : Status) (book : List (List ℕ × List ℕ)) → WritesLast w new status → EndsWith (streams_of w book []) w new status
 ends_last w new status book a = record { output = a.output; lines = a.lines; out = a.out; messages = a.messages; law = a.law book }
-
-waits_now : (old new : BoundedList ℕ) (text : List ℕ) → old.items ≡ [] → new ≡ extended_by old text → new.items ≡ text
-waits_now old new text empty e = ap (λ (r : BoundedList ℕ). r.items) e ∙ ap (λ (xs : List ℕ). xs ++ text) empty
 
 pub ends_now : (s : Streams) (w new : ScoreWriterState) (status : Status) → EndsWith s w new status → IsEmpty w → s ≡ behind_bytes new.writer.out.items new.writer.messages.items (ended_with status)
 ends_now s w new status e empty =

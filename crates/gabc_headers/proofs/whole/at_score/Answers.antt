@@ -19,3 +19,9 @@ returns c =
     ] in
     rw (c.in_ok-book.ensures, all)
     (sym (by_len c.args.limits c.args.place c.args.body c.args.open_line book c.args.collected.findings ∙ ap (λ (x : Result ℕ Fault). heads_by_len c.args.place c.args.body book c.args.collected.findings x) (sym c.in-Ok.ensures)))
+
+pub returns-in-Err : goal.returns-in-Err
+returns-in-Err c =
+    let book = spelled_entries c.args.text.now c.args.collected.headers.items in
+    rw c.head_fault.ensures
+    (sym (by_len c.args.limits c.args.place c.args.body c.args.open_line book c.args.collected.findings ∙ ap (λ (x : Result ℕ Fault). heads_by_len c.args.place c.args.body book c.args.collected.findings x) (sym c.in-Err.ensures)))

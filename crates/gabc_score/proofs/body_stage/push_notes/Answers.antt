@@ -1,14 +1,19 @@
-use Rattle.std.proofs.Common.{◌∷◌, ◌++◌, List, ap, ◌∙◌}
-use Rattle.gabc_places.specs.BoundedList.{BoundedList}
-use Rattle.gabc_notes.specs.declared.stage.NoteEvent.{NoteEvent}
-use Rattle.gabc_score.proofs.building.SyllableEndsLast.{closes_last}
+use Rattle.std.proofs.Common.{ap}
+use Rattle.gabc_score.specs.Events.{is_next, is_close}
+use Rattle.gabc_score.proofs.building.SyllableEndsLast.{pushed_last}
 use Rattle.gabc_score.proofs.body_stage.push_notes.Goals as goal
+
+pub ends_at_next-requires : goal.ends_at_next-requires
+ends_at_next-requires g c =
+    rw (c.slice.ensures) (pushed_last is_next _ c.requires.ends_at_next c.clear.new.self c.push.new.out (ap (λ r. r.items) c.clear.ensures)
+    (ap (λ r. r.limit) c.push.ensures.events.out) c.push.ensures.end)
+
+pub ends_at_close-requires : goal.ends_at_close-requires
+ends_at_close-requires g c =
+    rw (c.slice-2.ensures) (pushed_last is_close _ c.requires.ends c.clear.new.self c.push.new.out (ap (λ r. r.items) c.clear.ensures)
+    (ap (λ r. r.limit) c.push.ensures.events.out) c.push.ensures.end)
 
 pub returns-clause-once : goal.returns-clause-once
 returns-clause-once g c =
-    closes_last c.push.new.out.items
-    (λ before behind x e h. (c.push.ensures.end before behind x
-    (rw (c.clear.ensures)
-    (ap (λ (es : List NoteEvent). record { items = es; limit = c.push.new.out.limit }) e
-    ∙ ap (λ n. record { items = before ++ x ∷ behind; limit = n }) (rw (c.clear.ensures) at (ap (λ (r : BoundedList NoteEvent). r.limit) c.push.ensures.events.out))))
-    (c.requires.ends x h)).0)
+    pushed_last is_close _ c.requires.ends c.clear.new.self c.push.new.out (ap (λ r. r.items) c.clear.ensures)
+    (ap (λ r. r.limit) c.push.ensures.events.out) c.push.ensures.end

@@ -13,8 +13,8 @@ use Rattle.gregorio.proofs.FreshEngineSaysOutcome.{LawsBelow, streams_are}
 use Rattle.gregorio.proofs.pieces.HeadersAreRead.{no_heads_are_short}
 use Rattle.gregorio.proofs.engine.Engine.new.Goals as goal
 
-pub returns-clause-all : goal.returns-clause-all
-returns-clause-all c bytes ending =
+pub returns-in-Ok-clause-all : goal.returns-in-Ok-clause-all
+returns-in-Ok-clause-all c bytes ending =
     let below : LawsBelow = record {
       scalars = c.texts_are_scalars_within_the_limit.ensures.scalars;
       short = c.texts_are_scalars_within_the_limit.ensures.short;
@@ -30,26 +30,26 @@ returns-clause-all c bytes ending =
       end = c.a_score_says_what_it_emits.ensures.end;
       few = c.syllables_are_fewer_than_bytes.ensures;
     } in
-    let w = c.in_ok-with_limits-2.field-0 in
-    let heads = c.in_ok-with_limits.field-0 in
+    let w = c.in-Ok.writer in
+    let heads = c.in_ok-heads.heads in
     let items = emitted_by (is_whole ending) bytes (decoder.events_left c.new.result bytes) in
-    ap (λ (part : RunPart). streams_given part w.score w.writer.written (stage_past heads items).book (given_left heads ending items)) c.in_ok-with_limits-2.ensures.part
-    ∙ (ap (λ (written : Written). streams_given part.Heads w.score written (stage_past heads items).book (given_left heads ending items)) c.in_ok-with_limits-2.ensures.fresh
-    ∙ (ap (λ (h : HeaderStageState). streams_given part.Heads w.score (fresh_writer c.args.job.now) (stage_past h items).book (given_left h ending items)) c.in_ok-with_limits.ensures
-    ∙ streams_are below c.args.job.now c.args.limits c.new.result w.score c.new.ensures.known c.new.ensures.at_end c.in_ok-with_limits-2.ensures.score bytes ending))
+    ap (λ (part : RunPart). streams_given part w.score w.writer.written (stage_past heads items).book (given_left heads ending items)) c.in-Ok.ensures.part
+    ∙ (ap (λ (written : Written). streams_given part.Heads w.score written (stage_past heads items).book (given_left heads ending items)) c.in-Ok.ensures.fresh
+    ∙ (ap (λ (h : HeaderStageState). streams_given part.Heads w.score (fresh_writer c.args.job.now) (stage_past h items).book (given_left h ending items)) c.in_ok-heads.ensures
+    ∙ streams_are below c.args.job.now c.args.limits c.new.result w.score c.new.ensures.known c.new.ensures.at_end c.in-Ok.ensures.score bytes ending))
 
 pub invariant_of-result : goal.invariant_of-result
 invariant_of-result c =
-    let fresh : c.in_ok-with_limits.field-0 ≡ fresh_stage c.args.limits = c.in_ok-with_limits.ensures in
-    let two : c.in_ok-with_limit.field-0.limit ≡ 2 = ap (λ (r : BoundedList _). r.limit) c.in_ok-with_limit.ensures in
-    let together : GoTogether c.in_ok-with_limits.field-0 c.in_ok-with_limits-2.field-0 = record {
-      limits = ap (λ (h : HeaderStageState). h.limits) fresh ∙ sym c.in_ok-with_limits-2.ensures.limits;
-      body = λ body. absurd (cc (sym c.in_ok-with_limits-2.ensures.part ∙ body));
+    let fresh : c.in_ok-heads.heads ≡ fresh_stage c.args.limits = c.in_ok-heads.ensures in
+    let two : c.in_ok-given.given.limit ≡ 2 = ap (λ (r : BoundedList _). r.limit) c.in_ok-given.ensures in
+    let together : GoTogether c.in_ok-heads.heads c.in-Ok.writer = record {
+      limits = ap (λ (h : HeaderStageState). h.limits) fresh ∙ sym c.in-Ok.ensures.limits;
+      body = λ body. absurd (cc (sym c.in-Ok.ensures.part ∙ body));
       book = subst (λ (h : HeaderStageState). IsBookRead h.progress h.book) (sym fresh) tt;
       short = subst (λ (h : HeaderStageState). IsShortBook h.limits h.book) (sym fresh) (no_heads_are_short c.args.limits);
     } in
     record {
       few = omega (arith, two);
       together = together;
-      reserved = c.in_ok-with_limits-2.ensures.reserved;
+      reserved = c.in-Ok.ensures.reserved;
     }

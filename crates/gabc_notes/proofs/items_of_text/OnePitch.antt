@@ -1,0 +1,78 @@
+-- A pitch that is an item by itself.
+use Rattle.std.proofs.Common.{◌≡◌, ℕ, ◌≤◌, ◌<◌, ◌||◌, ◌==◌, List, [], ◌∷◌, ◌++◌, Some, ap, None, Bool, true, false, refl, sym, arith, IsUtf8, ne_eqb, eqb-true, length, slice_index}
+use Rattle.std.proofs.lemmas.Str.{encode_ascii, len_utf8_ascii}
+use Rattle.std.proofs.lemmas.Bool.{le-leb}
+use lib.Utf8.{encode}
+use Rattle.gabc_notes.specs.machine.Class.{class_of_character, is_between}
+use Rattle.gabc_notes.specs.machine.ItemMachine.{begun_item, going_on, kind_at_end}
+use Rattle.gabc_notes.specs.machine.Items.{IsFirstItem}
+use Rattle.gabc_notes.specs.declared.class.CharClass.{CharClass}
+use Rattle.gabc_notes.specs.declared.class.CharClass.TheVariants as class
+use Rattle.gabc_notes.specs.declared.item.ItemKind.TheVariants as kind
+use Rattle.gabc_notes.specs.declared.state.ItemState.{ItemState}
+use Rattle.gabc_notes.specs.declared.state.ItemState.TheVariants as state
+use Rattle.gabc_notes.proofs.items_of_text.FirstItemByBytes.{begun_at, ends_at, stops_at, end_at}
+
+-- what holds of the three classes of small pitches holds of their letters
+small : (P : CharClass → Type 0) (c : ℕ) → 97 ≤ c → c ≤ 110 → (c ≡ 98 → P class.FlatB) → P class.ClefLetter → P class.Pitch → P (class_of_character c)
+small P c low high f k p = by_flat (c == 98) refl
+  where
+    hyphen : (c == 45) ≡ false
+    hyphen = ne_eqb c 45 (λ e. omega (arith, e, low))
+
+    between : is_between 97 110 c ≡ true
+    between = rw (le-leb 97 c low, le-leb c 110 high) refl
+
+    by_clef : (c == 98) ≡ false → (b : Bool) → (c == 99 || c == 102) ≡ b → P (class_of_character c)
+    by_clef e true g = rw (hyphen, e, g) k
+    by_clef e false g = rw (hyphen, e, g, between) p
+
+    by_flat : (a : Bool) → (c == 98) ≡ a → P (class_of_character c)
+    by_flat true e = rw (hyphen, e) (f (eqb-true c 98 e))
+    by_flat false e = by_clef e (c == 99 || c == 102) refl
+
+-- a note begins that may end, and that no pitch from `c` on goes on
+pub record Begins (k : CharClass) : Type 0 where
+  pub state : ItemState
+  pub begun : begun_item k ≡ Some state
+  pub ends : kind_at_end state ≡ Some kind.Note
+  pub stops : (d : ℕ) → 99 ≤ d → d ≤ 110 → going_on state (class_of_character d) ≡ None
+
+stops_pitch : (d : ℕ) → 99 ≤ d → d ≤ 110 → going_on state.Pitch (class_of_character d) ≡ None
+stops_pitch d low high = small (λ k. going_on state.Pitch k ≡ None) d (omega arith) high (λ e. refl) refl refl
+
+stops_clef : (d : ℕ) → 99 ≤ d → d ≤ 110 → going_on state.ClefPitch (class_of_character d) ≡ None
+stops_clef d low high = small (λ k. going_on state.ClefPitch k ≡ None) d (omega arith) high (λ e. let bad : ⊥ = omega (arith, e, low) in absurd bad) refl refl
+
+begins : (c : ℕ) → 97 ≤ c → c ≤ 110 → Begins (class_of_character c)
+begins c low high = small Begins c low high
+    (λ e. record { state = state.Pitch; begun = refl; ends = refl; stops = stops_pitch })
+    (record { state = state.ClefPitch; begun = refl; ends = refl; stops = stops_clef })
+    (record { state = state.Pitch; begun = refl; ends = refl; stops = stops_pitch })
+
+pub alone : (c : ℕ) → 97 ≤ c → c ≤ 110 → IsUtf8 (c ∷ []) → IsFirstItem (c ∷ []) kind.Note 1
+alone c low high u =
+    let b = begins c low high in
+    let text : List ℕ = c ∷ [] in
+    let one = ends_at text [] text [] state.Start b.state 0 1 c kind.Note None (begun_at text text refl u) (ap (λ (x : List ℕ). x ++ []) (sym (encode_ascii c (omega arith)))) b.begun b.ends (let n = len_utf8_ascii c (omega arith) in omega (arith, n)) in
+    (end_at text (c ∷ []) [] b.state 1 (Some (kind.Note, 1)) u one refl).found
+
+pub before_pitch : (c d : ℕ) (rest : List ℕ) → 97 ≤ c → c ≤ 110 → 99 ≤ d → d ≤ 110 → IsUtf8 (c ∷ d ∷ rest) → IsFirstItem (c ∷ d ∷ rest) kind.Note 1
+before_pitch c d rest low high from to u =
+    let b = begins c low high in
+    let text : List ℕ = c ∷ d ∷ rest in
+    let here : text ≡ encode c ++ (d ∷ rest) = ap (λ (x : List ℕ). x ++ (d ∷ rest)) (sym (encode_ascii c (omega arith))) in
+    let next : d ∷ rest ≡ encode d ++ rest = ap (λ (x : List ℕ). x ++ rest) (sym (encode_ascii d (omega arith))) in
+    let one = ends_at text [] text (d ∷ rest) state.Start b.state 0 1 c kind.Note None (begun_at text text refl u) here b.begun b.ends (let n = len_utf8_ascii c (omega arith) in omega (arith, n)) in
+    (stops_at text (c ∷ []) (d ∷ rest) rest b.state 1 d (Some (kind.Note, 1)) u one next (b.stops d from to)).found
+
+pub alone_in : (t : List ℕ) → 1 ≤ length t → length t < 2 → (97 ≤ slice_index t 0) × (slice_index t 0 ≤ 110) → IsUtf8 t → IsFirstItem t kind.Note 1
+alone_in [] some few h u = let bad : ⊥ = omega (arith, some) in absurd bad
+alone_in (c ∷ []) some few h u = alone c h.0 h.1 u
+alone_in (c ∷ d ∷ t) some few h u = let bad : ⊥ = omega (arith, few) in absurd bad
+
+pub before_pitch_in : (t : List ℕ) → 2 ≤ length t → (97 ≤ slice_index t 0) × (slice_index t 0 ≤ 110) → (99 ≤ slice_index t 1) × (slice_index t 1 ≤ 110) → IsUtf8 t
+    → IsFirstItem t kind.Note 1
+before_pitch_in [] some h k u = let bad : ⊥ = omega (arith, some) in absurd bad
+before_pitch_in (c ∷ []) some h k u = let bad : ⊥ = omega (arith, some) in absurd bad
+before_pitch_in (c ∷ d ∷ t) some h k u = before_pitch c d t h.0 h.1 k.0 k.1 u

@@ -1,0 +1,9 @@
+use Rattle.std.proofs.Common.{rules, ◌≡◌, ◌∷◌, ◌++◌, [], List, ℕ, ap, sym, ◌∙◌, arith, ◌<◌}
+use Rattle.std.specs.Fmt.{decimal}
+use Rattle.std.proofs.lemmas.Fmt.{decimal_digit}
+use Rattle.gabc_write.proofs.dump_notes.put_count.Goals as goal
+
+pub returns-in-0-to-9 : goal.returns-in-0-to-9
+returns-in-0-to-9 g c =
+    let small : c.args.count < 10 = omega (arith, c.in-0-to-9) in
+    rw (decimal_digit c.args.count small) (search rules)
