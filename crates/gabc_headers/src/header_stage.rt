@@ -25,7 +25,7 @@ use std::marker::Model;
 /// Where a stage stands: in the headers, behind their `%%`, or behind its last event.
 #[derive(Clone, Copy)]
 pub(crate) enum HeadPart {
-    Reading,
+    InHeaders,
     Behind,
     Over,
 }
@@ -103,7 +103,7 @@ impl HeaderStage {
         let headers = bytes / 3 + 1;
         Ok(HeaderStage {
             limits,
-            part: HeadPart::Reading,
+            part: HeadPart::InHeaders,
             machine: HeaderMachine::new(limits.header),
             text: String::with_capacity(alloc, bytes + 1)?,
             headers: EntryMap::with_limit(alloc, headers)?,
@@ -184,7 +184,7 @@ impl HeaderStage {
         ensures few { length (events_of_input self.old.limits self.old.progress input) ≤ 2 }
     {
         match self.part {
-            HeadPart::Reading => match input {
+            HeadPart::InHeaders => match input {
                 Ok(x) => self.read(x.c, out),
                 Err(fault) => self.stop(fault, out),
             },
@@ -205,7 +205,7 @@ impl HeaderStage {
         ensures few { length (events_of_end self.old.limits self.old.progress) ≤ 2 }
     {
         match self.part {
-            HeadPart::Reading => {
+            HeadPart::InHeaders => {
                 let HeaderEnding::Text { place, open_line } = self.machine.end() else {
                     unreachable!()
                 };
@@ -222,7 +222,7 @@ impl HeaderStage {
         ensures { chars result.now ≡ text_held self.now.progress }
     {
         match self.part {
-            HeadPart::Reading => self.text.as_str(),
+            HeadPart::InHeaders => self.text.as_str(),
             HeadPart::Behind => "",
             HeadPart::Over => "",
         }

@@ -5,3 +5,5 @@ pub mod MachineReadsTable
 pub mod SnippetsByState
 pub mod TextIsReadByCharacter
 pub mod TextWithACharacterMore
+pub mod ViableCharacterIsNoMark
+pub mod WholeSnippetEndsAlone

@@ -7,7 +7,7 @@ use Rattle.gabc_patterns.specs.Pattern.{is_in}
 use Rattle.gabc_notes.specs.declared.stage.NoteEnd.TheVariants.{Cut}
 use Rattle.gabc_notes.specs.declared.stage.NoteEvent.{NoteEvent}
 use Rattle.gabc_notes.specs.declared.stage.NoteEvent.TheVariants.{Kept, Ended}
-use Rattle.gabc_nabc.specs.Class.{class_of_character}
+use Rattle.gabc_nabc.specs.CharClass.{class_of_character}
 use Rattle.gabc_nabc.specs.Events.{is_missing, finding_event, end_by_mark}
 use Rattle.gabc_nabc.specs.declared.stage.NabcEvents.{NabcEvents}
 use Rattle.gabc_nabc.specs.declared.stage.NabcStage.{NabcStage}
@@ -192,6 +192,15 @@ count_plus n c = min (n + len_utf8 c) (2 ^ 64 - 1)
 
 abbrev pub comment_in : Bool → ℕ → Bool
 comment_in b c = (c == 37) || (b && not (c == 10))
+
+-- the stage behind a character that is kept outside a comment, where `whole` tells that the kept text with it is a snippet
+abbrev pub stage_kept : NabcStage → DescriptorState → Bool → ℕ → NabcStage
+stage_kept st z whole c = record st {
+  state = z;
+  letter = c;
+  kept = count_plus st.kept c;
+  whole = if whole then count_plus st.kept c else st.whole;
+}
 
 -- the stage behind a character
 abbrev pub stage_moved_on : NabcStage → NabcRole → NabcFacts → Option DescriptorState → ℕ → NabcStage

@@ -1,5 +1,5 @@
 pub mod machine
-pub mod Class
+pub mod CharClass
 pub mod Codes
 pub mod DescriptorMachine
 pub mod Events
@@ -8,3 +8,4 @@ pub mod Parts
 pub mod ReadAgain
 pub mod SnippetRead
 pub mod Table
+pub mod TakenAtOnce

@@ -1,7 +1,7 @@
 -- The parts of a kept text by the bytes where they begin and end.
 use Rattle.std.specs.Prelude.{ℕ, ◌+◌, ◌≤◌, List, [], ◌∷◌, Bool, All, map, slice_range, length, encode_utf8_all}
 use Rattle.std.specs.Str.{chars}
-use Rattle.gabc_patterns.specs.Reading.{Reads, IsSnippet}
+use Rattle.gabc_patterns.specs.LongestItems.{IsReading, IsSnippet}
 use Rattle.gabc_patterns.specs.Function.{items}
 use Rattle.gabc_patterns.specs.Items.{FollowOn, ItemSpan}
 use Rattle.gabc_nabc.specs.Table.{nabc}
@@ -25,7 +25,7 @@ piece_of i = (i.space, i.span.from, i.span.to)
 
 -- The parts are the reading of the text, each the longest that begins at its place; each begins where the one before it ends.
 pub record AreDescriptorsOf (bytes : List ℕ) (parts : List Descriptor) : Type 0 where
-  pub reads : Reads nabc (map (read_as bytes) parts) (chars bytes)
+  pub reads : IsReading nabc (map (read_as bytes) parts) (chars bytes)
   pub joined : FollowOn 0 (map piece_of parts) (length bytes)
 
 -- parts of these kinds and characters, which stand one behind the other from that byte on

@@ -1,7 +1,7 @@
 -- The parts of an NABC snippet.
 use Rattle.std.specs.Prelude.{Bool, true, false, [], ◌∷◌, codes}
 use Rattle.gabc_patterns.specs.Pattern.{Pattern, one_of, ◌·◌, ◌or◌, many, optional, text}
-use Rattle.gabc_patterns.specs.Reading.{Table}
+use Rattle.gabc_patterns.specs.LongestItems.{Table}
 
 abbrev pub letter : Pattern
 letter = one_of (codes "abcdefghijklmnopqrstuvwxyz")

@@ -1,7 +1,7 @@
 //! Characters, by what they may do in NABC.
 
 ghost use Rattle.std.specs.Prelude.{◌≡◌};
-ghost use Rattle.gabc_nabc.specs.Class.{class_of_character};
+ghost use Rattle.gabc_nabc.specs.CharClass.{class_of_character};
 
 /// What a character may be in a descriptor or a space.
 #[derive(Clone, Copy)]

@@ -8,7 +8,7 @@ ghost use Rattle.gabc_places.specs.StageLaw.{concat_of};
 ghost use Rattle.gabc_places.specs.declared.place.Place.{Place};
 ghost use Rattle.gabc_places.specs.declared.place.Char.{Char};
 ghost use Rattle.gabc_patterns.specs.Pattern.{Spells};
-ghost use Rattle.gabc_patterns.specs.Reading.{Reads, IsItem, OneKind, IsSnippet, IsViable};
+ghost use Rattle.gabc_patterns.specs.LongestItems.{IsReading, IsItem, OneKind, IsSnippet, IsViable};
 ghost use Rattle.gabc_nabc.specs.Table.{nabc, code, descriptor};
 ghost use Rattle.std.specs.Str.{IsUtf8};
 ghost use Rattle.gabc_nabc.specs.Codes.{HasCodesOfGlyphs};
@@ -47,8 +47,8 @@ pub fn a_part_has_one_kind()
 
 /// A text has at most one list of descriptors and spaces.
 pub fn descriptors_are_one()
-    ensures { (is js : List (Bool × List ℕ)) (t : List ℕ) → Reads nabc is t →
-        Reads nabc js t → is ≡ js }
+    ensures { (is js : List (Bool × List ℕ)) (t : List ℕ) → IsReading nabc is t →
+        IsReading nabc js t → is ≡ js }
 {}
 
 /// The parts of an NABC snippet are its reading. Those of any text in UTF-8 lie in it.

@@ -1,11 +1,15 @@
 //! A machine that reads an NABC snippet a character at a time.
 
-ghost use Rattle.std.specs.Prelude.{◌≡◌, List};
+ghost use Rattle.std.specs.Prelude.{◌≡◌, ◌≢◌, List, [], ◌∷◌, true, false, None, IfSome, IsSome};
 ghost use Rattle.gabc_places.specs.declared.place.Char.{Char};
 ghost use Rattle.gabc_places.specs.BoundedList.{Fits, extended_by};
 ghost use Rattle.gabc_notes.specs.Ends.{is_ended};
+ghost use Rattle.gabc_notes.specs.declared.stage.NoteEvent.{NoteEvent};
+ghost use Rattle.gabc_notes.specs.declared.stage.NoteEvent.TheVariants.{Kept};
+ghost use Rattle.gabc_notes.specs.TakenAtOnce.{TakesNext};
+ghost use Rattle.gabc_nabc.specs.TakenAtOnce.{StandsBeforeNext};
 ghost use Rattle.gabc_nabc.specs.Events.{is_code, is_missing, end_by_mark, nabc_events};
-ghost use Rattle.gabc_nabc.specs.DescriptorMachine.{first_at, facts_by_states, role_in, events_in, event_list, stage_moved_on, stage_events_at, stage_after, events_of_cut, events_left};
+ghost use Rattle.gabc_nabc.specs.DescriptorMachine.{first_at, facts_by_states, role_in, events_in, event_list, stage_kept, stage_moved_on, stage_events_at, stage_after, events_of_cut, events_left};
 
 use crate::class::class_of;
 use crate::name::is_named;
@@ -197,6 +201,18 @@ impl NabcStage {
         }
     }
 
+    /// Adds a character to the kept text. With it that stands at `next`, and `whole` tells that it is an NABC snippet then.
+    fn keep(&mut self, next: DescriptorState, whole: bool, c: char)
+        ensures { self.new ≡ stage_kept self.old next whole c }
+    {
+        self.state = next;
+        self.letter = c;
+        self.kept = self.kept.saturating_add(c.len_utf8());
+        if whole {
+            self.whole = self.kept;
+        }
+    }
+
     /// Takes a character with this role.
     fn advance(&mut self, role: NabcRole, facts: NabcFacts, next: Option<DescriptorState>, c: char)
         ensures { self.new ≡ stage_moved_on self.old role facts next c }
@@ -207,13 +223,46 @@ impl NabcStage {
         }
         self.comment = c == '%' || (self.comment && c != '\n');
         if let (NabcRole::Keep, Some(next)) = (role, next) {
-            self.state = next;
-            self.letter = c;
-            self.kept = self.kept.saturating_add(c.len_utf8());
-            if facts.whole_after {
-                self.whole = self.kept;
-            }
+            self.keep(next, facts.whole_after, c);
         }
+    }
+
+    /// Takes the character `x` if what is emitted at it is that it is kept, and nothing else, and returns whether it did. It then
+    /// does what `push` does. Where it returns false it changed nothing, and `x` is still to be pushed. It takes no `)` and no `|`.
+    pub fn take_kept(&mut self, x: Char) -> bool
+        ensures taken { result ≡ true → (xs : List Char)
+            → events_left self.old (x ∷ xs) ≡ (Kept x ∷ []) ∷ events_left self.new xs }
+        ensures same { result ≡ false → self.new ≡ self.old }
+        ensures left { result ≡ false → (xs : List Char) (rest : List (List NoteEvent))
+            → events_left self.old (x ∷ xs) ≢ (Kept x ∷ []) ∷ rest }
+        ensures no_mark { result ≡ true → (x.c ≢ 41) × (x.c ≢ 124) }
+    {
+        if self.ended || self.comment {
+            return false;
+        }
+        match next_state(self.state, class_of(x.c)) {
+            Some(next) if !lacks_name(first_letter(self.state, self.letter), x.c) => {
+                self.keep(next, is_whole(next), x.c);
+                true
+            }
+            _ => false,
+        }
+    }
+
+    /// Takes the `|` that ends the snippet without a room for its events, where nothing else is emitted at it: no comment is open, and
+    /// the kept text is an NABC snippet. Returns how many bytes it has, as the end tells. Where it returns none, nothing changes, and
+    /// `push` takes the `|`.
+    pub fn take_next(&mut self) -> Option<usize>
+        ensures taken { IfSome result (λ kept.
+            TakesNext (events_left self.old) (events_left self.new) kept) }
+        ensures same { result ≡ None → self.new ≡ self.old }
+        ensures takes { StandsBeforeNext self.old → IsSome result }
+    {
+        if self.ended || self.comment || !is_whole(self.state) {
+            return None;
+        }
+        self.ended = true;
+        Some(self.whole)
     }
 
     /// Takes a character, and adds what is emitted at it.

@@ -1,7 +1,7 @@
 -- Which lists of notes are glyphs, and the cut of a segment into glyphs.
 use Rattle.std.specs.Prelude.{◌+◌, List, map, slice_range, length}
 use Rattle.gabc_notes.specs.declared.note.Note.{Note}
-use Rattle.gabc_patterns.specs.Reading.{IsItemOf, ReadsBy}
+use Rattle.gabc_patterns.specs.LongestItems.{IsItemOf, IsReadingBy}
 use Rattle.gabc_patterns.specs.Items.{ItemSpan, FollowOn}
 use Rattle.gabc_neumes.specs.Letters.{letters}
 use Rattle.gabc_neumes.specs.Table.{neumes}
@@ -22,5 +22,5 @@ read_as notes g = (g.kind, slice_range notes g.first (g.first + g.count))
 
 -- The glyphs join to the notes of the segment, each the longest that begins at its place.
 pub record AreGlyphsOf (notes : List Note) (glyphs : List Glyph) : Type 0 where
-  pub reads : ReadsBy HasKind (map (read_as notes) glyphs) notes
+  pub reads : IsReadingBy HasKind (map (read_as notes) glyphs) notes
   pub joined : FollowOn 0 (map piece_of glyphs) (length notes)

@@ -1,7 +1,7 @@
 -- The neumes: a table over the letters of notes.
 use Rattle.std.specs.Prelude.{[], ◌∷◌, ◌++◌, codes}
 use Rattle.gabc_patterns.specs.Pattern.{Pattern, one_of, ◌·◌, many, text}
-use Rattle.gabc_patterns.specs.Reading.{Table}
+use Rattle.gabc_patterns.specs.LongestItems.{Table}
 use Rattle.gabc_notes.specs.declared.note.Shape.{Shape}
 use Rattle.gabc_notes.specs.declared.note.Shape.TheVariants as shape
 use Rattle.gabc_neumes.specs.Letters.{shape_letter, joinable_letters}

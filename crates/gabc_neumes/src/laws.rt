@@ -1,7 +1,7 @@
 //! Laws of the definitions that contracts speak of. Each function is there for its clauses, and does nothing.
 
 ghost use Rattle.std.specs.Prelude.{◌≡◌, ◌≤◌, ◌<◌, ℕ, ◌⊎◌, List, [], ◌∷◌, ◌++◌, Bool, true, false};
-ghost use Rattle.gabc_patterns.specs.Reading.{HasSome};
+ghost use Rattle.gabc_patterns.specs.LongestItems.{HasSome};
 ghost use Rattle.gabc_places.specs.declared.place.Span.{Span};
 ghost use Rattle.gabc_notes.specs.declared.item.Item.{Item};
 ghost use Rattle.gabc_notes.specs.declared.note.Note.{Note};

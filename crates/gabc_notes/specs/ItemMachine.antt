@@ -5,8 +5,8 @@ use Rattle.gabc_places.specs.StageLaw.{silence}
 use Rattle.gabc_notes.specs.StageEvents.{events_behind}
 use Rattle.gabc_notes.specs.declared.stage.NoteEvent.{NoteEvent}
 use Rattle.gabc_notes.specs.declared.stage.NoteStage.{NoteStage}
-use Rattle.gabc_notes.specs.declared.stage.MacroPrefix.{MacroPrefix}
-use Rattle.gabc_notes.specs.declared.stage.MacroPrefix.TheVariants.{Closed, Opened, Letter, Named, Last, Other}
+use Rattle.gabc_notes.specs.declared.macro_prefix.MacroPrefix.{MacroPrefix}
+use Rattle.gabc_notes.specs.declared.macro_prefix.MacroPrefix.TheVariants.{Closed, Opened, Letter, Named, Last, Other}
 use Rattle.gabc_notes.specs.declared.state.FullItem.TheVariants.{Alteration, Clef as FullClef, Spacing, Custos, Break, Attribute, Fusion}
 use Rattle.gabc_notes.specs.declared.state.ItemState.{ItemState}
 use Rattle.gabc_notes.specs.declared.state.ItemState.TheVariants.{Start, Dash, DashPitch, Body, Pitch, ClefPitch, ClefFlat, Clef, Join, JoinPitch, JoinFlat, Altered, Sharp, Bar, Colon, BarAsked, BarSigned, Slash, Blanks, SmallZ, CapitalZ, Raw, SlashRaw, At, Done}

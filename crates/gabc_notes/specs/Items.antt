@@ -2,7 +2,7 @@
 use Rattle.std.specs.Prelude.{ℕ, ◌+◌, ◌≤◌, List, [], ◌∷◌, map, slice_range, length, encode_utf8_all}
 use Rattle.std.specs.Str.{chars}
 use Rattle.std.specs.List.{All}
-use Rattle.gabc_patterns.specs.Reading.{Reads, IsSnippet}
+use Rattle.gabc_patterns.specs.LongestItems.{IsReading, IsSnippet}
 use Rattle.gabc_patterns.specs.Function.{items}
 use Rattle.gabc_patterns.specs.Items.{FollowOn, ItemSpan}
 use Rattle.gabc_notes.specs.Table.{gabc}
@@ -31,7 +31,7 @@ piece_of i = (i.kind, i.span.from, i.span.to)
 
 -- The items are the reading of the text, each the longest that begins at its place; each begins where the one before it ends.
 pub record AreItemsOf (bytes : List ℕ) (items : List Item) : Type 0 where
-  pub reads : Reads gabc (map (read_as bytes) items) (chars bytes)
+  pub reads : IsReading gabc (map (read_as bytes) items) (chars bytes)
   pub joined : FollowOn 0 (map piece_of items) (length bytes)
 
 -- items of these kinds and characters, which stand one behind the other from that byte on

@@ -9,3 +9,4 @@ pub mod ReadAgain
 pub mod SnippetRead
 pub mod StageEvents
 pub mod Table
+pub mod TakenAtOnce

@@ -3,7 +3,7 @@ use Rattle.std.specs.Prelude.{◌≡◌, ℕ, List, [], ◌∷◌, ◌++◌, ◌
 use Rattle.std.specs.List.{list_any}
 use Rattle.gabc_places.specs.declared.place.Char.{Char}
 use Rattle.gabc_patterns.specs.Pattern.{is_in}
-use Rattle.gabc_patterns.specs.Reading.{Reads, IsSnippet}
+use Rattle.gabc_patterns.specs.LongestItems.{IsReading, IsSnippet}
 use Rattle.gabc_notes.specs.Table.{gabc}
 use Rattle.gabc_notes.specs.Events.{in_raw, kept, opener, ItemText}
 use Rattle.gabc_notes.specs.declared.item.ItemKind.TheVariants.{Fusion}
@@ -14,7 +14,7 @@ pub record IsOpen (t : List ℕ) : Type 0 where
   pub behind : List ℕ
   pub cut : t ≡ before ++ 91 ∷ behind
   pub snippet : IsSnippet gabc before
-  pub not_at : (items : List ItemText) → ¬ Reads gabc (items ++ (Fusion, codes "@") ∷ []) before
+  pub not_at : (items : List ItemText) → ¬ IsReading gabc (items ++ (Fusion, codes "@") ∷ []) before
   pub unclosed : is_in 93 behind ≡ false
 
 -- The characters, the nearest first, end with a `%` outside raw and what follows it, and there is no LF from there on.

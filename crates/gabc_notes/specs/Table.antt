@@ -3,7 +3,7 @@ use Rattle.std.specs.Prelude.{[], ◌∷◌, codes}
 use Rattle.gabc_notes.specs.declared.item.ItemKind.{ItemKind}
 use Rattle.gabc_notes.specs.declared.item.ItemKind.TheVariants.{Note, Alteration, Clef, Bar, Spacing, Custos, Break, Attribute, Fusion}
 use Rattle.gabc_patterns.specs.Pattern.{Pattern, one_of, any_but, ◌·◌, ◌or◌, many, optional, text}
-use Rattle.gabc_patterns.specs.Reading.{Table}
+use Rattle.gabc_patterns.specs.LongestItems.{Table}
 
 abbrev pub pitch : Pattern
 pitch = one_of (codes "abcdefghijklmnp")

@@ -1,5 +1,5 @@
 pub mod BuiltSnippet
-pub mod Class
+pub mod CharClass
 pub mod ItemMachine
 pub mod Items
 pub mod Notes

@@ -1,7 +1,7 @@
 //! Characters, by what they may do in notes.
 
 ghost use Rattle.std.specs.Prelude.{◌≡◌};
-ghost use Rattle.gabc_notes.specs.machine.Class.{class_of_character};
+ghost use Rattle.gabc_notes.specs.machine.CharClass.{class_of_character};
 
 /// What a character may be in an item.
 #[derive(Clone, Copy)]

@@ -9,7 +9,7 @@ ghost use Rattle.gabc_places.specs.declared.place.Place.{Place};
 ghost use Rattle.gabc_places.specs.Findings.{AreInOrder, LieBetween};
 ghost use Rattle.gabc_places.specs.BoundedList.{Fits, extended_by};
 ghost use Rattle.gabc_places.specs.StageLaw.{concat_of};
-ghost use Rattle.gabc_patterns.specs.Reading.{Reads, IsItem, OneKind, IsSnippet, IsViable};
+ghost use Rattle.gabc_patterns.specs.LongestItems.{IsReading, IsItem, OneKind, IsSnippet, IsViable};
 ghost use Rattle.gabc_notes.specs.Table.{gabc};
 ghost use Rattle.gabc_notes.specs.Items.{IsKept, AreItemsOf, items_of};
 ghost use Rattle.gabc_notes.specs.Events.{in_raw, Point, is_comment, is_over, kept, bytes_of, events_at, cut_events, note_events};
@@ -52,8 +52,8 @@ pub fn an_item_has_one_kind()
 
 /// A text has at most one list of items.
 pub fn items_are_one()
-    ensures { (is js : List (ItemKind × List ℕ)) (t : List ℕ) → Reads gabc is t → Reads gabc js t →
-        is ≡ js }
+    ensures { (is js : List (ItemKind × List ℕ)) (t : List ℕ) → IsReading gabc is t →
+        IsReading gabc js t → is ≡ js }
 {}
 
 /// The function `items_of` gives the items of each snippet.

@@ -10,7 +10,8 @@
 //!   snippet to its end, and `note_of` reads an item. Spans count bytes of the kept text.
 //! - `NoteStage` reads the characters of a snippet one at a time: it emits those that are kept, the findings, and the end. What it
 //!   emits is `note_events` of `specs/Events.antt`, a definition without states: what is emitted of a character depends on it and
-//!   on the characters before it.
+//!   on the characters before it. `NoteStage::take_kept` takes a character of which nothing but itself is emitted, and else leaves
+//!   the stage as it was.
 //! - `laws` has what follows of the definitions.
 //!
 //! Texts and places come from `gabc_places`: lines and columns from 1, a column a character. A snippet of a score begins behind
@@ -46,6 +47,7 @@ mod item;
 mod items;
 mod kept;
 pub mod laws;
+mod macro_prefix;
 mod note;
 mod snippet_read;
 mod stage;

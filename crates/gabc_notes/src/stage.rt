@@ -1,17 +1,19 @@
 //! A machine that reads a snippet a character at a time.
 
-ghost use Rattle.std.specs.Prelude.{◌≡◌, ℕ, List, false};
+ghost use Rattle.std.specs.Prelude.{◌≡◌, ℕ, List, [], ◌∷◌, true, false, None, IfSome, IsSome};
 ghost use Rattle.gabc_places.specs.declared.place.Char.{Char};
 ghost use Rattle.gabc_places.specs.BoundedList.{Fits, extended_by};
 ghost use Rattle.gabc_places.specs.StageLaw.{Pushes, StopsAtEnd};
 ghost use Rattle.gabc_notes.specs.declared.stage.CharFacts.{CharFacts};
-ghost use Rattle.gabc_notes.specs.machine.ItemMachine.{IsShortStep, raw_state, attribute_state, digit_of_prefix, facts_by_states, prefix_with, prefix_after, stage_after};
+ghost use Rattle.gabc_notes.specs.machine.ItemMachine.{IsShortStep, raw_state, attribute_state, facts_by_states, prefix_after, stage_after, stage_kept};
 ghost use Rattle.gabc_notes.specs.ItemMachine.{events_left};
 ghost use Rattle.gabc_notes.specs.Ends.{is_ended};
+ghost use Rattle.gabc_notes.specs.TakenAtOnce.{TakesNext, StandsBeforeNext};
 ghost use Rattle.gabc_notes.specs.StageEvents.{role_in, warning_in, before_in, events_in, event_list};
 ghost use Rattle.gabc_notes.specs.Events.{is_defined, end_by_mark, finding_event, note_events};
 
 use crate::class::class_of;
+use crate::macro_prefix::{MacroPrefix, digit_of_prefix, prefix_with};
 use crate::state::{FullItem, ItemState, is_whole, next_state, short_step};
 use gabc_places::{Char, Code, Finding, Place, Room, Stage};
 
@@ -81,21 +83,6 @@ pub(crate) enum CharRole {
     LeaveOut,
 }
 
-/// What an open bracket holds so far, as far as a macro's name is concerned.
-#[derive(Clone, Copy)]
-pub(crate) enum MacroPrefix {
-    /// No bracket is open.
-    Closed,
-    Opened,
-    /// Behind one of `n`, `g`, `e`.
-    Letter,
-    /// Behind `m`.
-    Named,
-    /// Behind a character more.
-    Last(char),
-    Other,
-}
-
 /// Returns whether the kept text lies inside raw.
 fn is_raw(state: ItemState) -> bool
     ensures { result ≡ raw_state state }
@@ -113,16 +100,6 @@ fn is_attribute(state: ItemState) -> bool
     match state {
         ItemState::Done(FullItem::Attribute) => true,
         _ => false,
-    }
-}
-
-/// Returns the digit of the macro that the open bracket names, if it names one.
-fn digit_of_prefix(name: MacroPrefix) -> Option<u8>
-    ensures { result ≡ digit_of_prefix name }
-{
-    match name {
-        MacroPrefix::Last(c) if '0' <= c && c <= '9' => Some(c as u8 - b'0'),
-        _ => None,
     }
 }
 
@@ -289,19 +266,6 @@ fn emit(
     }
 }
 
-/// Returns what the bracket holds with a character more.
-fn prefix_with(name: MacroPrefix, c: char) -> MacroPrefix
-    ensures { result ≡ prefix_with name c }
-{
-    match name {
-        MacroPrefix::Closed if c == '[' => MacroPrefix::Opened,
-        MacroPrefix::Opened if c == 'n' || c == 'g' || c == 'e' => MacroPrefix::Letter,
-        MacroPrefix::Letter if c == 'm' => MacroPrefix::Named,
-        MacroPrefix::Named => MacroPrefix::Last(c),
-        _ => MacroPrefix::Other,
-    }
-}
-
 /// Returns what the open bracket holds behind a character that is kept, if one is open there.
 fn prefix_after(facts: CharFacts, name: MacroPrefix, c: char) -> MacroPrefix
     ensures { result ≡ prefix_after facts name c }
@@ -375,6 +339,21 @@ impl NoteStage {
         self.advance(role, facts, next, x);
     }
 
+    /// Goes past a character on the short way to `next`. This does what `advance` does, without its tests.
+    #[inline(always)]
+    fn pass_short(&mut self, next: ItemState, x: Char)
+        requires comment { self.old.before.comment ≡ false }
+        requires step { IsShortStep self.old.state x.c next }
+        ensures { self.new ≡ stage_kept self.old next x }
+    {
+        let kept = self.before.kept.saturating_add(1);
+        self.before.kept = kept;
+        self.before.whole = kept;
+        self.before.place = x.place;
+        self.name = MacroPrefix::Closed;
+        self.state = next;
+    }
+
     /// Reads a character on the short way to `next`. This does what `read` does, without its tests.
     fn read_short(&mut self, next: ItemState, x: Char, out: &mut Room<NoteEvent>)
         requires fits { Fits out.old 3 }
@@ -385,12 +364,7 @@ impl NoteStage {
         ensures end { StopsAtEnd is_ended (events_left self.new) out.old out.new }
     {
         out.push(NoteEvent::Kept(x));
-        let kept = self.before.kept.saturating_add(1);
-        self.before.kept = kept;
-        self.before.whole = kept;
-        self.before.place = x.place;
-        self.name = MacroPrefix::Closed;
-        self.state = next;
+        self.pass_short(next, x);
     }
 
     /// Reads the `)` that ends the snippet. This does what `read` does, without its tests.
@@ -405,6 +379,64 @@ impl NoteStage {
     {
         emit_end(self.before, is_whole(self.state), x, out);
         self.ended = true;
+    }
+
+    /// Takes `x` if it is kept and nothing else is emitted at it, and returns whether it did. This does what `take_kept` does, off
+    /// the short way.
+    #[inline(never)]
+    fn take_if_kept(&mut self, x: Char) -> bool
+        requires runs { self.old.ended ≡ false }
+        ensures taken { result ≡ true → (xs : List Char) → events_left self.old (x ∷ xs)
+            ≡ (NoteEvent.Kept x ∷ []) ∷ events_left self.new xs }
+        ensures same { result ≡ false → self.new ≡ self.old }
+    {
+        let next = next_state(self.state, class_of(x.c));
+        let facts = look(self.state, next, self.name);
+        let role = role_of(self.split, self.before.comment, facts, x.c);
+        if let (CharRole::Keep, None) = (role, warning(self.macros, self.before, facts, x)) {
+            self.advance(role, facts, next, x);
+            true
+        } else {
+            false
+        }
+    }
+
+    /// Takes `x` if it is kept and nothing else is emitted at it, and returns whether it did. Else nothing changes, and `push` reads
+    /// `x`: so too each `)` and `|`, and what follows while a comment is open.
+    #[inline(always)]
+    pub fn take_kept(&mut self, x: Char) -> bool
+        ensures taken { result ≡ true → (xs : List Char) → events_left self.old (x ∷ xs)
+            ≡ (NoteEvent.Kept x ∷ []) ∷ events_left self.new xs }
+        ensures same { result ≡ false → self.new ≡ self.old }
+    {
+        if self.ended || self.before.comment {
+            return false;
+        }
+        match short_step(self.state, x.c) {
+            Some(next) => {
+                self.pass_short(next, x);
+                true
+            }
+            None if x.c == ')' || x.c == '|' => false,
+            None => self.take_if_kept(x),
+        }
+    }
+
+    /// Takes the `|` that ends the snippet without a room for its events, where nothing else is emitted at it: snippets are split, no
+    /// comment and no `@[` is open, and the kept text is a snippet. Returns how many bytes it has, as the end tells. Where it returns
+    /// none, nothing changes, and `push` takes the `|`.
+    pub fn take_next(&mut self) -> Option<usize>
+        ensures taken { IfSome result (λ kept.
+            TakesNext (events_left self.old) (events_left self.new) kept) }
+        ensures same { result ≡ None → self.new ≡ self.old }
+        ensures takes { StandsBeforeNext self.old → IsSome result }
+    {
+        let before = self.before;
+        if self.ended || !self.split || before.comment || before.fused || !is_whole(self.state) {
+            return None;
+        }
+        self.ended = true;
+        Some(before.whole)
     }
 }
 

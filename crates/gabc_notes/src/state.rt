@@ -232,6 +232,7 @@ fn goes_on_note(state: ItemState) -> bool
 
 /// Returns where the reading stands behind a character, on a short way for those that most notes have: a pitch but `b` that begins
 /// one, or a frequent suffix or sign that goes on with one.
+#[inline(always)]
 pub(crate) fn short_step(state: ItemState, c: char) -> Option<ItemState>
     ensures { IfSome result (λ next. IsShortStep state c next) }
 {

@@ -1,7 +1,7 @@
 -- An automaton keeps a text, a character at a time.
 use Rattle.std.proofs.Common.{◌≡◌, ℕ, List, [], ◌∷◌, ◌++◌, true, false, refl, sym, ap, ◌∙◌, subst, Some, None, append_assoc, append-nil, get_or, take, drop, length, zero-le, le_refl, arith, take_all, length-append, take-append-drop, inl, inr, ◌≤◌, ◌<◌, ◌+◌}
 use Rattle.std.proofs.lemmas.List.{drop_all, take-append-le, drop-append-le, take_more}
-use Rattle.gabc_patterns.specs.Reading.{Table, Longest, IsSnippet}
+use Rattle.gabc_patterns.specs.LongestItems.{Table, Longest, IsSnippet}
 use Rattle.gabc_patterns.specs.Kept.{Keeps, IsKeptText}
 use Rattle.gabc_patterns.proofs.LongestPrefixIsOne.{longest_all, longest_push}
 use Rattle.gabc_patterns.proofs.AutomatonsByTests.{Automaton, ReadsSnippets}

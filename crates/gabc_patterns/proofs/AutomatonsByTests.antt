@@ -1,6 +1,6 @@
 -- An automaton of a table, and the tests by which it is one.
 use Rattle.std.proofs.Common.{◌≡◌, ℕ, suc, zero, ◌<◌, List, [], ◌∷◌, Bool, true, false, ◌&&◌, refl, Option, Some, None, arith, eq-or-lt_of_le, le_of_suc-le-suc, inl, inr}
-use Rattle.gabc_patterns.specs.Reading.{Table}
+use Rattle.gabc_patterns.specs.LongestItems.{Table}
 use Rattle.gabc_patterns.specs.Derivative.{same_pattern, rows_after, rows_run, rows_end, Munch, start, nowhere, within, step, run, is_whole, is_alive, end_kind}
 use Rattle.gabc_patterns.proofs.BothOfTwoTests.{and_true}
 use Rattle.gabc_patterns.proofs.EqualPatterns.{same_equal}

@@ -2,7 +2,7 @@
 use Rattle.std.proofs.Common.{◌≡◌, ℕ, ◌≤◌, ◌==◌, nat_lt, List, [], ◌∷◌, Bool, true, false, ◌&&◌, refl, ltb-true, ne_eqb, arith}
 use Rattle.std.specs.List.{list_all}
 use Rattle.gabc_patterns.specs.Pattern.{Pattern, never, nothing, one_of, any_but, ◌·◌, ◌or◌, many, is_in}
-use Rattle.gabc_patterns.specs.Reading.{Table}
+use Rattle.gabc_patterns.specs.LongestItems.{Table}
 use Rattle.gabc_patterns.specs.Derivative.{derivative, rows_after, Munch, start, nowhere, within, step}
 use Rattle.gabc_patterns.proofs.BothOfTwoTests.{and_true}
 

@@ -1,15 +1,15 @@
 -- A small table by example: notes, clefs, two clefs joined by @, and @.
 use Rattle.std.proofs.Common.{◌≡◌, [], ◌∷◌, true, false, refl, codes}
 use Rattle.gabc_patterns.specs.Pattern.{Pattern, one_of, ◌·◌, ◌or◌, many, optional, text}
-use Rattle.gabc_patterns.specs.Reading.{Table, Reads}
+use Rattle.gabc_patterns.specs.LongestItems.{Table, IsReading}
 use Rattle.gabc_patterns.specs.Derivative.{is_snippet, is_viable}
 use Rattle.gabc_patterns.specs.Function.{items, keep, trim, kept_text}
 use Rattle.gabc_patterns.proofs.LongestMunchByCharacter.{snippet_from}
 use Rattle.gabc_patterns.proofs.ItemsFunctionReads.{items_are}
 
 -- the kinds of the example
-pub data Kind : Type 0 where
-  Note Clef At : Kind
+pub data ExampleKind : Type 0 where
+  Note Clef At : ExampleKind
 
 -- a pitch, with a hyphen before it, and dots after it
 abbrev pub note : Pattern
@@ -20,7 +20,7 @@ abbrev pub clef : Pattern
 clef = text (codes "c") · optional (text (codes "b")) · one_of (codes "12345")
 
 -- the example
-abbrev pub table : Table Kind
+abbrev pub table : Table ExampleKind
 table = (Note, note) ∷ (Clef, clef or clef · text (codes "@") · clef) ∷ (At, text (codes "@")) ∷ []
 
 -- the first two clefs are joined, since that is the longest item there
@@ -36,7 +36,7 @@ at_and_note : items table (codes "c4@cb.") ≡ (Clef, codes "c4") ∷ (At, codes
 at_and_note = refl
 
 -- the same, as the relation
-reads_three_clefs : Reads table ((Clef, codes "c4@c4") ∷ (At, codes "@") ∷ (Clef, codes "c4") ∷ []) (codes "c4@c4@c4")
+reads_three_clefs : IsReading table ((Clef, codes "c4@c4") ∷ (At, codes "@") ∷ (Clef, codes "c4") ∷ []) (codes "c4@c4@c4")
 reads_three_clefs =
     items_are table refl (codes "c4@c4@c4") (snippet_from table refl (codes "c4@c4@c4") refl)
 

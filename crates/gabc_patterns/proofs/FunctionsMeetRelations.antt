@@ -1,6 +1,6 @@
 -- The functions compute what the relations say.
 use Rattle.std.proofs.Common.{◌≡◌, ℕ, List, [], ◌∷◌, ◌++◌, Bool, true, false, cond, refl, sym, ◌∙◌, subst, append_assoc, append-nil, inl, inr, Decides}
-use Rattle.gabc_patterns.specs.Reading.{Table, Longest, IsSnippet, IsViable}
+use Rattle.gabc_patterns.specs.LongestItems.{Table, Longest, IsSnippet, IsViable}
 use Rattle.gabc_patterns.specs.Kept.{Keeps, Trims, IsKeptText}
 use Rattle.gabc_patterns.specs.Derivative.{rows_end, is_snippet, is_viable}
 use Rattle.gabc_patterns.specs.Function.{more_kept, keep_from, keep, trim_from, trim, kept_text}

@@ -1,6 +1,6 @@
 -- The longest item at a place of a text, by indexes into the text.
 use Rattle.std.proofs.Common.{◌≡◌, ℕ, List, false, refl, sym, ap, ◌∙◌, subst, Option, Some, None, take, drop, length, get_or, ◌≤◌, ◌<◌, ◌+◌, ◌-◌, arith, length-drop, drop-drop, get_or-drop}
-use Rattle.gabc_patterns.specs.Reading.{Table, Longest, IsItem, IsSnippet}
+use Rattle.gabc_patterns.specs.LongestItems.{Table, Longest, IsItem, IsSnippet}
 use Rattle.gabc_patterns.specs.Items.{IsItemAt, ItemSpan}
 use Rattle.gabc_patterns.specs.Derivative.{rows_end}
 use Rattle.gabc_patterns.proofs.AutomatonsByTests.{Automaton, ReadsItems}

@@ -1,7 +1,7 @@
 -- The items of a list one after the other.
 use Rattle.std.proofs.Common.{◌≡◌, ℕ, List, [], ◌∷◌, ◌++◌, refl, sym, ap, ◌∙◌, subst, append_assoc, append-nil, drop, length, map, slice_range, ◌≤◌, ◌<◌, ◌+◌, ◌-◌, arith, length-drop, take-append-drop, drop-drop}
 use Rattle.std.proofs.lemmas.List.{drop_all, map-append}
-use Rattle.gabc_patterns.specs.Reading.{ReadsBy}
+use Rattle.gabc_patterns.specs.LongestItems.{IsReadingBy}
 use Rattle.gabc_patterns.specs.Items.{IsTakenAt, ItemSpan, FollowOn}
 use Rattle.gabc_patterns.specs.machine.Items.{AreItemSpans, item_in}
 use Rattle.gabc_patterns.proofs.OneReading.{after_first}
@@ -9,13 +9,13 @@ use Rattle.gabc_patterns.proofs.OneReading.{after_first}
 -- The items before at are those; what comes from there on has a reading.
 pub record ItemsSoFar {K X : Type 0} (Has : K → List X → Type 0) (t : List X) (items : List (ItemSpan K)) (at : ℕ) : Type 0 where
   pub fits : at ≤ length t
-  pub rest : (later : List (K × List X)) × ReadsBy Has later (drop at t)
-  pub reads : (later : List (K × List X)) → ReadsBy Has later (drop at t) → ReadsBy Has (map (item_in t) items ++ later) t
+  pub rest : (later : List (K × List X)) × IsReadingBy Has later (drop at t)
+  pub reads : (later : List (K × List X)) → IsReadingBy Has later (drop at t) → IsReadingBy Has (map (item_in t) items ++ later) t
   pub joined : FollowOn 0 items at
 
 module _ {K X : Type 0} (Has : K → List X → Type 0) where
   -- before the first item
-  pub items_start : (t : List X) → (later : List (K × List X)) × ReadsBy Has later t → ItemsSoFar Has t [] 0
+  pub items_start : (t : List X) → (later : List (K × List X)) × IsReadingBy Has later t → ItemsSoFar Has t [] 0
   items_start t s = record { fits = omega arith; rest = s; reads = λ later h. h; joined = refl }
 
   follow_push : (from at : ℕ) (items : List (ItemSpan K)) (i : ItemSpan K) → FollowOn from items at → i.1 ≡ at → FollowOn from (items ++ i ∷ []) i.2
@@ -43,9 +43,9 @@ module _ {K X : Type 0} (Has : K → List X → Type 0) where
       let rest = s.rest in
       record {
         fits = h.within;
-        rest = after_first Has none c.0 c.1 (slice_range t at to) (drop to t) rest.0 (subst (ReadsBy Has rest.0) c.2 rest.1) (sym c.2 ∙ cut) h.longest;
+        rest = after_first Has none c.0 c.1 (slice_range t at to) (drop to t) rest.0 (subst (IsReadingBy Has rest.0) c.2 rest.1) (sym c.2 ∙ cut) h.longest;
         reads = λ later r.
-            subst (λ u. ReadsBy Has u t) (sym (append_assoc (map (item_in t) items) (item_in t (k, at, to) ∷ []) later) ∙ ap (λ (u : List (K × List X)). u ++ later) (sym (map-append (item_in t) items ((k, at, to) ∷ []))))
+            subst (λ u. IsReadingBy Has u t) (sym (append_assoc (map (item_in t) items) (item_in t (k, at, to) ∷ []) later) ∙ ap (λ (u : List (K × List X)). u ++ later) (sym (map-append (item_in t) items ((k, at, to) ∷ []))))
             (s.reads (item_in t (k, at, to) ∷ later) (drop to t, cut, h.item, h.longest, r));
         joined = follow_push 0 at items (k, at, to) s.joined refl;
       }
@@ -56,6 +56,6 @@ module _ {K X : Type 0} (Has : K → List X → Type 0) where
       let fits = s.fits in
       let same : at ≡ length t = omega arith in
       record {
-        reads = subst (λ u. ReadsBy Has u t) (append-nil (map (item_in t) items)) (s.reads [] (drop_all at t l));
+        reads = subst (λ u. IsReadingBy Has u t) (append-nil (map (item_in t) items)) (s.reads [] (drop_all at t l));
         joined = subst (λ u. FollowOn 0 items u) same s.joined;
       }

@@ -2,7 +2,7 @@
 use Rattle.std.proofs.Common.{◌≡◌, ℕ, List, [], ◌∷◌, ◌++◌, true, false, refl, sym, ap, ◌∙◌, subst, Option, Some, None, append_assoc, take, drop, length, get_or, ◌≤◌, ◌<◌, ◌+◌, arith, length-append, length-take, take-append-drop, take_at, take-take}
 use Rattle.std.proofs.lemmas.List.{take_more, take-append-le}
 use native.Mathlib.Decide.{dec_lt}
-use Rattle.gabc_patterns.specs.Reading.{Table, Longest, IsItemOf, IsItem, OneKind, IsSnippet}
+use Rattle.gabc_patterns.specs.LongestItems.{Table, Longest, IsItemOf, IsItem, OneKind, IsSnippet}
 use Rattle.gabc_patterns.specs.Derivative.{rows_after, rows_run, rows_end, end_kind}
 use Rattle.gabc_patterns.proofs.LongestMunchByCharacter.{first_item}
 use Rattle.gabc_patterns.proofs.RowsRun.{rows_run-append, ends_once, one_end, item_at_end, no_item_at_end, no_item_past}

@@ -1,7 +1,7 @@
 -- Items of a list whose elements are read by letters, as notes are by where they stand.
 use Rattle.std.proofs.Common.{◌≡◌, ℕ, List, [], ◌∷◌, ◌++◌, refl, sym, ap, ◌∙◌, subst, append_assoc, take, drop, length, ◌≤◌, ◌+◌, arith, length-append, length-take, length-drop, take-append-drop, take_at, drop-drop, ◌-◌, Some}
 use Rattle.std.proofs.Math.Seq.{take-add}
-use Rattle.gabc_patterns.specs.Reading.{Table, Longest, IsItemOf, IsItem, HasSome}
+use Rattle.gabc_patterns.specs.LongestItems.{Table, Longest, IsItemOf, IsItem, HasSome}
 use Rattle.gabc_patterns.specs.Items.{IsTakenAt}
 use Rattle.gabc_patterns.proofs.ItemSoFar.{IsBest, best_longest}
 

@@ -1,6 +1,6 @@
 -- The function that gives the items of a snippet reads it.
 use Rattle.std.proofs.Common.{◌≡◌, ℕ, zero, suc, List, [], ◌∷◌, ◌++◌, false, refl, sym, ap, ◌∙◌, subst, Option, Some, None, append_assoc, append-nil, take, drop, length, ◌≤◌, ◌<◌, ◌+◌, arith, length-append, length-drop, take-append-drop, take_at}
-use Rattle.gabc_patterns.specs.Reading.{Table, Longest, IsItemOf, IsItem, Reads, OneKind, IsSnippet}
+use Rattle.gabc_patterns.specs.LongestItems.{Table, Longest, IsItemOf, IsItem, IsReading, OneKind, IsSnippet}
 use Rattle.gabc_patterns.specs.Derivative.{rows_after, rows_run, rows_end, end_kind}
 use Rattle.gabc_patterns.specs.Function.{best_of, longest_from, longest_item, items_within, items}
 use Rattle.gabc_patterns.proofs.RowsRun.{rows_run-append, item_at_end, no_item_at_end}
@@ -35,7 +35,7 @@ module _ {K : Type 0} (table : Table K) where
   longest_item_best t = best_from t [] t None refl (λ m x y. absurd (omega arith))
 
   module _ (none_empty : rows_end table ≡ false) where
-    items_read : (n : ℕ) (t : List ℕ) → length t ≤ n → IsSnippet table t → Reads table (items_within table n t) t
+    items_read : (n : ℕ) (t : List ℕ) → length t ≤ n → IsSnippet table t → IsReading table (items_within table n t) t
     items_read zero [] l s = refl
     items_read zero (c ∷ t) l s = absurd (omega arith)
     items_read (suc n) t l s = go (longest_item table t) (longest_item_best t) (λ u. items_read n u)
@@ -47,10 +47,10 @@ module _ {K : Type 0} (table : Table K) where
         later : (x y : List ℕ) (u : List ℕ) → t ≡ u → 0 < length t → t ≡ x ++ y → Longest (IsItem table) x y → IsSnippet table y
         later x y [] e m f h = absurd (let g = ap length e in omega arith)
         later x y (c ∷ u) e m f h =
-            after_first (IsItemOf table) (no_empty table none_empty) c u x y s.0 (subst (Reads table s.0) e s.1) (sym e ∙ f) h
+            after_first (IsItemOf table) (no_empty table none_empty) c u x y s.0 (subst (IsReading table s.0) e s.1) (sym e ∙ f) h
 
-        go : (o : Option (K × ℕ)) → IsBest table t (length t) o → ((u : List ℕ) → length u ≤ n → IsSnippet table u → Reads table (items_within table n u) u)
-            → Reads table (elim o as (λ _. List (K × List ℕ)) [ None ↦ [] | Some i ↦ (i.0, take i.1 t) ∷ items_within table n (drop i.1 t) ]) t
+        go : (o : Option (K × ℕ)) → IsBest table t (length t) o → ((u : List ℕ) → length u ≤ n → IsSnippet table u → IsReading table (items_within table n u) u)
+            → IsReading table (elim o as (λ _. List (K × List ℕ)) [ None ↦ [] | Some i ↦ (i.0, take i.1 t) ∷ items_within table n (drop i.1 t) ]) t
         go None b F = first t refl b
         go (Some (k, e)) b F =
             let x = b.0 in
@@ -60,9 +60,9 @@ module _ {K : Type 0} (table : Table K) where
             (drop e t, cut, b.2, h, F (drop e t) (omega (arith, length-drop e t)) (later (take e t) (drop e t) t refl (omega arith) cut h))
 
     -- the items of a snippet are a reading of it
-    pub items_are : (t : List ℕ) → IsSnippet table t → Reads table (items table t) t
+    pub items_are : (t : List ℕ) → IsSnippet table t → IsReading table (items table t) t
     items_are t s = items_read (length t) t (omega arith) s
 
     -- and the only one, if an item has one kind
-    pub items_only : OneKind table → (t : List ℕ) (is : List (K × List ℕ)) → Reads table is t → is ≡ items table t
+    pub items_only : OneKind table → (t : List ℕ) (is : List (K × List ℕ)) → IsReading table is t → is ≡ items table t
     items_only one t is h = one_reading (IsItemOf table) (no_empty table none_empty) one is (items table t) t h (items_are t (is, h))

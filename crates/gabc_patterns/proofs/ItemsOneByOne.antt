@@ -3,7 +3,7 @@ use Rattle.std.proofs.Common.{◌≡◌, ℕ, zero, suc, List, [], ◌∷◌, �
 use Rattle.std.specs.List.{concat}
 use Rattle.std.proofs.Math.Seq.{take-append-add}
 use native.Mathlib.Decide.{dec_lt}
-use Rattle.gabc_patterns.specs.Reading.{Table, Longest, IsItemOf, IsItem, OneKind}
+use Rattle.gabc_patterns.specs.LongestItems.{Table, Longest, IsItemOf, IsItem, OneKind}
 use Rattle.gabc_patterns.specs.Derivative.{rows_end}
 use Rattle.gabc_patterns.specs.Function.{longest_item, items_within, items}
 use Rattle.gabc_patterns.proofs.ItemsFunctionReads.{longest_item_best}

@@ -1,6 +1,6 @@
 -- What is kept is one, and is kept again.
 use Rattle.std.proofs.Common.{◌≡◌, ℕ, List, [], ◌∷◌, ◌++◌, refl, sym, ◌∙◌, subst, append_assoc, append-nil, inl, inr}
-use Rattle.gabc_patterns.specs.Reading.{Table, IsSnippet, IsViable}
+use Rattle.gabc_patterns.specs.LongestItems.{Table, IsSnippet, IsViable}
 use Rattle.gabc_patterns.specs.Kept.{Keeps, Trims, IsKeptText}
 use Rattle.gabc_patterns.proofs.LongestPrefixIsOne.{one_longest, longest_all}
 

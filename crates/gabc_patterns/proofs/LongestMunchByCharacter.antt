@@ -1,7 +1,7 @@
 -- Reading by the longest item, a character at a time.
 use Rattle.std.proofs.Common.{◌≡◌, ℕ, ◌⊎◌, inl, inr, List, [], ◌∷◌, ◌++◌, Bool, true, false, cond, refl, sym, ap, ◌∙◌, subst, append-nil}
 use Rattle.gabc_patterns.specs.Pattern.{Pattern, Spells}
-use Rattle.gabc_patterns.specs.Reading.{Table, Longest, IsItemOf, IsItem, IsSnippet, IsViable}
+use Rattle.gabc_patterns.specs.LongestItems.{Table, Longest, IsItemOf, IsItem, IsSnippet, IsViable}
 use Rattle.gabc_patterns.specs.Derivative.{derivative, possible, rows_after, rows_end, Munch, start, nowhere, within, enter, step, run, is_whole, is_alive}
 use Rattle.gabc_patterns.proofs.BothOfTwoTests.{append_none}
 use Rattle.gabc_patterns.proofs.RowsAfterACharacter.{possible_from, rows_to, rows_from, rows_end_to, rows_end_from}

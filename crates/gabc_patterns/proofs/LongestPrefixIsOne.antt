@@ -1,6 +1,6 @@
 -- The longest prefix is one.
 use Rattle.std.proofs.Common.{◌≡◌, List, [], ◌∷◌, ◌++◌, refl, sym, ap, ◌∙◌, subst, append-nil, inl, inr, ◌⊎◌}
-use Rattle.gabc_patterns.specs.Reading.{Longest}
+use Rattle.gabc_patterns.specs.LongestItems.{Longest}
 use Rattle.gabc_patterns.proofs.BothOfTwoTests.{append_none}
 
 -- of two prefixes of one list, one is a prefix of the other

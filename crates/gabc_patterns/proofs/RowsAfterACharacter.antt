@@ -1,7 +1,7 @@
 -- The rows of a table after a character.
 use Rattle.std.proofs.Common.{◌≡◌, ℕ, ◌⊎◌, inl, inr, List, [], ◌∷◌, ◌++◌, Bool, true, false, not, cond, refl, eq-eqb, suc, arith}
 use Rattle.gabc_patterns.specs.Pattern.{Pattern, never, nothing, one_of, any_but, ◌·◌, ◌or◌, many, is_in, Spells}
-use Rattle.gabc_patterns.specs.Reading.{Table, IsItemOf, IsItem}
+use Rattle.gabc_patterns.specs.LongestItems.{Table, IsItemOf, IsItem}
 use Rattle.gabc_patterns.specs.Derivative.{derivative, may_end, is_empty, possible, rows_after, rows_end}
 use Rattle.gabc_patterns.proofs.BothOfTwoTests.{and_true, or_true, or_left, or_right}
 use Rattle.gabc_patterns.proofs.DerivativesSpellWhatFollows.{end_from, end_to, after_to, after_from}

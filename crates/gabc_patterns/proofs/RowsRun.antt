@@ -1,7 +1,7 @@
 -- The rows after a text, and the kind of an item that ends there.
 use Rattle.std.proofs.Common.{◌≡◌, ℕ, List, [], ◌∷◌, ◌++◌, Bool, true, false, cond, not, ◌||◌, refl, sym, ◌∙◌, subst, Some, None, append-nil, inl, inr}
 use Rattle.gabc_patterns.specs.Pattern.{Pattern}
-use Rattle.gabc_patterns.specs.Reading.{Table, IsItemOf, IsItem}
+use Rattle.gabc_patterns.specs.LongestItems.{Table, IsItemOf, IsItem}
 use Rattle.gabc_patterns.specs.Derivative.{may_end, rows_after, rows_run, rows_end, end_kind}
 use Rattle.gabc_patterns.proofs.DerivativesSpellWhatFollows.{end_from, end_to}
 use Rattle.gabc_patterns.proofs.RowsAfterACharacter.{rows_to, rows_from, rows_end_to}

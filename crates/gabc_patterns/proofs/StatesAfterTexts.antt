@@ -1,6 +1,6 @@
 -- The state of an automaton after a text.
 use Rattle.std.proofs.Common.{◌≡◌, ℕ, List, [], ◌∷◌, ◌++◌, true, false, refl, sym, ap, ◌∙◌, subst, Option, Some, None}
-use Rattle.gabc_patterns.specs.Reading.{Table, IsSnippet, IsViable}
+use Rattle.gabc_patterns.specs.LongestItems.{Table, IsSnippet, IsViable}
 use Rattle.gabc_patterns.specs.Derivative.{Munch, start, nowhere, step, run, is_whole, is_alive, is_snippet}
 use Rattle.gabc_patterns.proofs.LongestMunchByCharacter.{viable_to, viable_from, snippet_to, snippet_from}
 use Rattle.gabc_patterns.proofs.AutomatonsByTests.{Automaton, reading, reading_of, ReadsSnippets}

@@ -1,6 +1,6 @@
 -- What follows at a state is what follows after its example.
 use Rattle.std.proofs.Common.{◌≡◌, ℕ, List, [], ◌∷◌, ◌++◌, Bool, true, false, refl, sym, ap, ◌∙◌, Option, Some, None}
-use Rattle.gabc_patterns.specs.Reading.{Table}
+use Rattle.gabc_patterns.specs.LongestItems.{Table}
 use Rattle.gabc_patterns.specs.Derivative.{is_alive, is_viable}
 use Rattle.gabc_patterns.specs.Function.{more_kept}
 use Rattle.gabc_patterns.proofs.AutomatonsByTests.{Automaton, reading_of, ReadsSnippets}

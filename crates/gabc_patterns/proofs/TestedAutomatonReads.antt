@@ -1,7 +1,7 @@
 -- An automaton whose tests come out reads the table.
 use Rattle.std.proofs.Common.{◌≡◌, ℕ, ◌<◌, ◌≤◌, [], Bool, true, false, ◌&&◌, sym, ap, ◌∙◌, arith}
 use native.Mathlib.Decide.{dec_lt}
-use Rattle.gabc_patterns.specs.Reading.{Table}
+use Rattle.gabc_patterns.specs.LongestItems.{Table}
 use Rattle.gabc_patterns.specs.Derivative.{rows_after, rows_end, step, is_whole, is_alive, end_kind}
 use Rattle.gabc_patterns.proofs.BothOfTwoTests.{and_true}
 use Rattle.gabc_patterns.proofs.CharactersBeyondTheTable.{are_plain, stands_plain, rows_beyond, step_beyond}

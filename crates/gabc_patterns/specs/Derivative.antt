@@ -1,7 +1,7 @@
 -- Whether a text is a snippet, and whether it is viable, by computing a character at a time.
 use Rattle.std.specs.Prelude.{ℕ, List, [], ◌∷◌, Bool, true, false, cond, not, ◌&&◌, ◌||◌, ◌==◌, Option, Some, None}
 use Rattle.gabc_patterns.specs.Pattern.{Pattern, never, nothing, one_of, any_but, ◌·◌, ◌or◌, many, is_in}
-use Rattle.gabc_patterns.specs.Reading.{Table}
+use Rattle.gabc_patterns.specs.LongestItems.{Table}
 
 -- the same lists of characters
 abbrev pub same_texts : List ℕ → List ℕ → Bool

@@ -1,6 +1,6 @@
 -- The items of a text, and what is kept of it, as functions.
 use Rattle.std.specs.Prelude.{ℕ, zero, suc, ◌+◌, List, [], ◌∷◌, ◌++◌, length, take, drop, true, false, cond, Option, Some, None}
-use Rattle.gabc_patterns.specs.Reading.{Table}
+use Rattle.gabc_patterns.specs.LongestItems.{Table}
 use Rattle.gabc_patterns.specs.Derivative.{rows_after, end_kind, is_snippet, is_viable}
 
 -- the item that ends here, of n characters, or the best before

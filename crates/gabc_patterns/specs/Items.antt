@@ -1,6 +1,6 @@
 -- The items of a list by the places where they begin and end.
 use Rattle.std.specs.Prelude.{◌≡◌, ◌<◌, ◌≤◌, ℕ, List, [], ◌∷◌, slice_range, length, drop}
-use Rattle.gabc_patterns.specs.Reading.{Table, Longest, IsItemOf, HasSome}
+use Rattle.gabc_patterns.specs.LongestItems.{Table, Longest, IsItemOf, HasSome}
 
 -- the longest item of the list that begins at from: it is of that kind, and ends at to
 pub record IsTakenAt {K X : Type 0} (Has : K → List X → Type 0) (t : List X) (from : ℕ) (kind : K) (to : ℕ) : Type 0 where

@@ -1,6 +1,6 @@
 -- What is kept of a text.
 use Rattle.std.specs.Prelude.{◌≡◌, ℕ, ◌⊎◌, List, [], ◌∷◌, ◌++◌}
-use Rattle.gabc_patterns.specs.Reading.{Table, Longest, IsSnippet, IsViable}
+use Rattle.gabc_patterns.specs.LongestItems.{Table, Longest, IsSnippet, IsViable}
 
 -- all is kept, then the characters of the text that are kept: each one, exactly if what is kept before it, followed by it, is viable
 abbrev pub Keeps : {K : Type 0} → Table K → List ℕ → List ℕ → List ℕ → Type 0

@@ -4,4 +4,4 @@ pub mod Function
 pub mod Items
 pub mod Kept
 pub mod Pattern
-pub mod Reading
+pub mod LongestItems

@@ -4,7 +4,7 @@
 
 ghost use Rattle.std.specs.Prelude.{◌≡◌, ℕ, List, [], ◌∷◌, ◌++◌, map, Decides};
 ghost use Rattle.gabc_patterns.specs.Pattern.{Pattern, Spells};
-ghost use Rattle.gabc_patterns.specs.Reading.{Table, Longest, IsItem, Reads, OneKind, IsSnippet, IsViable};
+ghost use Rattle.gabc_patterns.specs.LongestItems.{Table, Longest, IsItem, IsReading, OneKind, IsSnippet, IsViable};
 ghost use Rattle.gabc_patterns.specs.Kept.{Keeps, Trims, IsKeptText};
 ghost use Rattle.gabc_patterns.specs.Derivative.{may_end, derivative, is_snippet, is_viable};
 ghost use Rattle.gabc_patterns.specs.Function.{items, keep, more_kept, trim, kept_text};
@@ -26,9 +26,10 @@ pub fn longest_is_one<K>()
 /// Two readings of a text cut it alike, and are one if no text is spelt by rows of two kinds.
 pub fn reading_is_one<K>()
     ensures texts { (rows : Table K) → ¬ IsItem rows [] → (is js : List (K × List ℕ)) (t : List ℕ) →
-        Reads rows is t → Reads rows js t → map (λ i. i.1) is ≡ map (λ i. i.1) js }
+        IsReading rows is t → IsReading rows js t → map (λ i. i.1) is ≡ map (λ i. i.1) js }
     ensures kinds { (rows : Table K) → ¬ IsItem rows [] → OneKind rows →
-        (is js : List (K × List ℕ)) (t : List ℕ) → Reads rows is t → Reads rows js t → is ≡ js }
+        (is js : List (K × List ℕ)) (t : List ℕ) → IsReading rows is t →
+        IsReading rows js t → is ≡ js }
 {}
 
 /// Reading by derivatives, with the fallback run in parallel, decides which texts are snippets and which are viable.
@@ -42,7 +43,7 @@ pub fn derivatives_decide<K>()
 /// The function `items` reads each snippet.
 pub fn items_read<K>()
     ensures { (rows : Table K) → ¬ IsItem rows [] → (t : List ℕ) → IsSnippet rows t →
-        Reads rows (items rows t) t }
+        IsReading rows (items rows t) t }
 {}
 
 /// The functions `keep`, `trim` and `kept_text` give what the relations say, and nothing else is so related.

@@ -16,6 +16,7 @@ pub mod Limits
 pub mod Message
 pub mod Place
 pub mod Put
+pub mod Skip
 pub mod StageLaw
 pub mod Text
 pub mod Trial

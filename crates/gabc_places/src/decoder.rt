@@ -1,10 +1,12 @@
 //! A stage from bytes to characters.
 
-ghost use Rattle.std.specs.Prelude.{◌≡◌, ℕ, ◌+◌, ◌-◌, ◌<◌, ◌≤◌, ◌^◌, List, [], ◌∷◌, ◌++◌, length, take, true, Result, IfSome, option_to_list};
+ghost use Rattle.std.specs.Prelude.{◌≡◌, ◌↔◌, ℕ, ◌+◌, ◌-◌, ◌<◌, ◌≤◌, ◌^◌, List, [], ◌∷◌, ◌++◌, length, take, true, Result, IfSome, IsTrue, option_to_list};
+ghost use Rattle.std.specs.List.{All};
 ghost use Rattle.gabc_places.specs.StageLaw.{concat_of, EmitsNothing};
 ghost use Rattle.gabc_places.specs.Decoder.{known_of, known_at_end};
 ghost use Rattle.gabc_places.specs.DecoderMachine.{fresh_decoder, stop_with, take_character as taken_character, events_left, is_fault_item};
 ghost use Rattle.gabc_places.specs.machine.Decoder.{take_part as taken_part};
+ghost use Rattle.gabc_places.specs.Skip.{IsPrintable, most_skipped as most_skipped_by, skipped_events};
 ghost use Rattle.gabc_places.specs.Text.{utf8_prefix_of, tail_of, is_left_out as left_out_after, read_as as read};
 
 use crate::code::{Code, Fault};
@@ -52,6 +54,13 @@ impl Model for Decoder {
       previous = d.previous;
       running = d.running;
     }) };
+}
+
+/// Returns whether `byte` is a printable character of ASCII: from 32, a blank, to 126, `~`.
+pub fn is_printable(byte: u8) -> bool
+    ensures { IsTrue result ↔ IsPrintable byte }
+{
+    32 <= byte && byte <= 126
 }
 
 /// Returns whether `c` is left out behind `previous`: an LF directly after a CR, and each U+FEFF.
@@ -119,6 +128,42 @@ impl Decoder {
         }
         self.running = false;
         None
+    }
+
+    /// Returns the place of the next character.
+    pub fn place(&self) -> Place
+        ensures { result ≡ self.now.place }
+    {
+        self.place
+    }
+
+    /// Returns how many printable bytes `skip` may take now: as many as are left to the limit, or 0 where the decoder has stopped or a
+    /// character is not whole. A column that is counted on for so many characters fits a `u64`.
+    pub fn most_skipped(&self) -> usize
+        ensures most { result ≡ most_skipped_by self.now }
+        ensures column { self.now.place.column + result < 2 ^ 64 }
+    {
+        let left = (self.limit - self.taken) as usize;
+        if self.running && self.pending.is_empty() {
+            left
+        } else {
+            0
+        }
+    }
+
+    /// Takes `bytes` at once, as `take` takes them one by one. What it emits for them is known without it: each byte is a character, at
+    /// the next column of this line.
+    pub fn skip(&mut self, bytes: &[u8])
+        requires few { length bytes.now ≤ most_skipped_by self.old }
+        requires printable { All IsPrintable bytes.now }
+        ensures joined { (more : List ℕ) → events_left self.old (bytes.now ++ more)
+            ≡ skipped_events self.old.place bytes.now ++ events_left self.new more }
+    {
+        if let Some(last) = bytes.last() {
+            self.taken += bytes.len() as u32;
+            self.place.column += bytes.len() as u64;
+            self.previous = char::from(*last);
+        }
     }
 
     /// Stops, and returns a fault here.

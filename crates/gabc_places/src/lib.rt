@@ -43,7 +43,7 @@ pub use codes::CODES;
 pub use collect::outputs_of;
 pub use decode::text_of;
 pub use decoded::Decoded;
-pub use decoder::Decoder;
+pub use decoder::{Decoder, is_printable};
 pub use findings::Findings;
 pub use ghost_count::GhostCount;
 pub use growing::Growing;

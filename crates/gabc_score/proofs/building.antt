@@ -6,6 +6,9 @@ pub mod EventsOfSnippets
 pub mod EventsOfSyllableParts
 pub mod GathererHoldsDefinition
 pub mod OneListEachCharacter
+pub mod QuietParts
+pub mod QuietTexts
+pub mod SnippetsAsKept
 pub mod SnippetsWithBars
 pub mod StopIsFirst
 pub mod SyllableEndsLast

@@ -10,6 +10,7 @@ pub mod HeldSyllables
 pub mod NoStopWhereInputsCease
 pub mod NothingBehindAStop
 pub mod NothingBehindTheEnd
+pub mod NothingIsGiven
 pub mod OutputsAreCollected
 pub mod OutputsAreTold
 pub mod ScoreOutputs

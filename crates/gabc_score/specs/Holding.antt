@@ -2,7 +2,7 @@
 use Rattle.std.specs.Prelude.{◌≡◌, ◌⊎◌, ℕ, zero, suc, ◌+◌, ◌%◌, List, [], ◌∷◌, ◌++◌, map, length, reverse, Option, Some, None, codes, encode_utf8_all}
 use Rattle.std.specs.List.{All, flat_map}
 use Rattle.gabc_places.specs.declared.place.Char.{Char}
-use Rattle.gabc_patterns.specs.Reading.{IsSnippet}
+use Rattle.gabc_patterns.specs.LongestItems.{IsSnippet}
 use Rattle.gabc_patterns.specs.Function.{trim}
 use Rattle.gabc_headers.specs.Book.{nabc_lines_of}
 use Rattle.gabc_text.specs.View.{kept}

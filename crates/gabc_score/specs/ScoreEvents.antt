@@ -151,33 +151,33 @@ outputs_of_text limits ending t = concat_of (score_outputs texts_by_definition l
 
 abbrev pub findings_in : List ScoreOutput → List Finding
 findings_in [] = []
-findings_in (Found f ∷ outs) = f ∷ findings_in outs
-findings_in (Stop fault ∷ outs) = findings_in outs
-findings_in (Syllable s ∷ outs) = findings_in outs
-findings_in (End ∷ outs) = findings_in outs
+findings_in (Found f ∷ outputs) = f ∷ findings_in outputs
+findings_in (Stop fault ∷ outputs) = findings_in outputs
+findings_in (Syllable s ∷ outputs) = findings_in outputs
+findings_in (End ∷ outputs) = findings_in outputs
 
 abbrev pub syllables_in : List ScoreOutput → List PlacedSyllable
 syllables_in [] = []
-syllables_in (Found f ∷ outs) = syllables_in outs
-syllables_in (Stop fault ∷ outs) = syllables_in outs
-syllables_in (Syllable s ∷ outs) = s ∷ syllables_in outs
-syllables_in (End ∷ outs) = syllables_in outs
+syllables_in (Found f ∷ outputs) = syllables_in outputs
+syllables_in (Stop fault ∷ outputs) = syllables_in outputs
+syllables_in (Syllable s ∷ outputs) = s ∷ syllables_in outputs
+syllables_in (End ∷ outputs) = syllables_in outputs
 
 -- the stop
 abbrev pub fault_in : List ScoreOutput → Option Fault
 fault_in [] = None
-fault_in (Found f ∷ outs) = fault_in outs
-fault_in (Stop fault ∷ outs) = Some fault
-fault_in (Syllable s ∷ outs) = fault_in outs
-fault_in (End ∷ outs) = fault_in outs
+fault_in (Found f ∷ outputs) = fault_in outputs
+fault_in (Stop fault ∷ outputs) = Some fault
+fault_in (Syllable s ∷ outputs) = fault_in outputs
+fault_in (End ∷ outputs) = fault_in outputs
 
 -- whether the end is among them
 abbrev pub has_end : List ScoreOutput → Bool
 has_end [] = false
-has_end (Found f ∷ outs) = has_end outs
-has_end (Stop fault ∷ outs) = has_end outs
-has_end (Syllable s ∷ outs) = has_end outs
-has_end (End ∷ outs) = true
+has_end (Found f ∷ outputs) = has_end outputs
+has_end (Stop fault ∷ outputs) = has_end outputs
+has_end (Syllable s ∷ outputs) = has_end outputs
+has_end (End ∷ outputs) = true
 
 -- the input has ended, and nothing stopped the reading
 abbrev pub is_whole : InputEnding → Option Fault → Bool

@@ -1,8 +1,10 @@
 -- What a stage over a score gives: each syllable in a slot that it lends.
-use Rattle.std.specs.Prelude.{◌≡◌, ℕ, ◌+◌, ◌<◌, ◌≤◌, ◌^◌, List, [], ◌∷◌, Bool, true, false, length, map, take}
+use Rattle.std.specs.Prelude.{◌≡◌, ℕ, ◌+◌, ◌<◌, ◌≤◌, ◌^◌, List, [], ◌∷◌, ◌++◌, Bool, true, false, length, map, take}
 use Rattle.gabc_places.specs.BoundedList.{BoundedList, extended_by}
 use Rattle.gabc_places.specs.declared.limits.Limits.{Limits}
 use Rattle.gabc_places.specs.declared.place.Char.{Char}
+use Rattle.gabc_places.specs.declared.place.Place.{Place}
+use Rattle.gabc_places.specs.Skip.{characters_at}
 use Rattle.gabc_headers.specs.declared.head_event.HeadEvent.{HeadEvent}
 use Rattle.gabc_headers.specs.declared.head_event.HeadEvent.TheVariants as head_event
 use Rattle.gabc_score.specs.declared.score_event.LentSyllable.{LentSyllable}
@@ -34,19 +36,19 @@ left_of s xs = outputs_left s.limits s.part s.held s.body xs
 -- outputs as events: the first syllable of a call is lent as this one
 abbrev pub events_lent : LentSyllable → List ScoreOutput → List ScoreEvent
 events_lent lent [] = []
-events_lent lent (Found f ∷ outs) = event.Found f ∷ events_lent lent outs
-events_lent lent (Stop fault ∷ outs) = event.Stop fault ∷ events_lent lent outs
-events_lent lent (Syllable s ∷ outs) = event.Syllable lent ∷ events_lent Second outs
-events_lent lent (End ∷ outs) = event.End ∷ events_lent lent outs
+events_lent lent (Found f ∷ outputs) = event.Found f ∷ events_lent lent outputs
+events_lent lent (Stop fault ∷ outputs) = event.Stop fault ∷ events_lent lent outputs
+events_lent lent (Syllable s ∷ outputs) = event.Syllable lent ∷ events_lent Second outputs
+events_lent lent (End ∷ outputs) = event.End ∷ events_lent lent outputs
 
 abbrev pub events_of : List ScoreOutput → List ScoreEvent
-events_of outs = events_lent First outs
+events_of outputs = events_lent First outputs
 
 -- a call gave these outputs as events, and lends their syllables
-pub record Tells (outs : List ScoreOutput) (old new : BoundedList ScoreEvent) (first second : PlacedSyllable) : Type 0 where
-  pub events : new ≡ extended_by old (events_of outs)
-  pub few : length (events_of outs) ≤ 16
-  pub lent : syllables_in outs ≡ take (length (syllables_in outs)) (first ∷ second ∷ [])
+pub record Tells (outputs : List ScoreOutput) (old new : BoundedList ScoreEvent) (first second : PlacedSyllable) : Type 0 where
+  pub events : new ≡ extended_by old (events_of outputs)
+  pub few : length (events_of outputs) ≤ 16
+  pub lent : syllables_in outputs ≡ take (length (syllables_in outputs)) (first ∷ second ∷ [])
 
 -- The kept text of a syllable is within the limits, and so is its canonical text, but for the LF before it.
 pub record IsWithin (limits : Limits) (s : PlacedSyllable) : Type 0 where
@@ -54,9 +56,9 @@ pub record IsWithin (limits : Limits) (s : PlacedSyllable) : Type 0 where
   pub canonical : length (canonical_in_place s) ≤ limits.syllable + 1
 
 -- so many syllables at most are lent, and they are within the limits
-pub record Lends (limits : Limits) (most : ℕ) (outs : List ScoreOutput) : Type 0 where
-  pub few : length (syllables_in outs) ≤ most
-  pub within : All (IsWithin limits) (syllables_in outs)
+pub record Lends (limits : Limits) (most : ℕ) (outputs : List ScoreOutput) : Type 0 where
+  pub few : length (syllables_in outputs) ≤ most
+  pub within : All (IsWithin limits) (syllables_in outputs)
 
 -- how many syllables an input may bring
 abbrev pub most_lent : HeadEvent → ℕ
@@ -68,19 +70,35 @@ most_lent (head_event.Heads lines macros canonical) = 0
 
 -- At an input it gave what was to come for it, and goes on with what follows under the same limits.
 pub record GivesAt (before : ScoreStageState) (x : HeadEvent) (after : ScoreStageState) (old new : BoundedList ScoreEvent) : Type 0 where
-  pub outs : List ScoreOutput
-  pub lends : Lends before.limits (most_lent x) outs
+  pub outputs : List ScoreOutput
+  pub lends : Lends before.limits (most_lent x) outputs
   pub limits : after.limits ≡ before.limits
-  pub law : (xs : List HeadEvent) → left_of before (x ∷ xs) ≡ outs ∷ left_of after xs
-  pub told : Tells outs old new after.first after.second
+  pub law : (xs : List HeadEvent) → left_of before (x ∷ xs) ≡ outputs ∷ left_of after xs
+  pub emitted : Tells outputs old new after.first after.second
 
 -- At the end of the inputs it gave what was still to come.
 pub record GivesLast (before after : ScoreStageState) (old new : BoundedList ScoreEvent) : Type 0 where
-  pub outs : List ScoreOutput
-  pub lends : Lends before.limits 1 outs
+  pub outputs : List ScoreOutput
+  pub lends : Lends before.limits 1 outputs
   pub limits : after.limits ≡ before.limits
-  pub law : left_of before [] ≡ outs ∷ []
-  pub told : Tells outs old new after.first after.second
+  pub law : left_of before [] ≡ outputs ∷ []
+  pub emitted : Tells outputs old new after.first after.second
+
+-- ---- characters at which nothing is given
+
+-- these printable characters as inputs of the body: the first stands at this place, and each next one in the next column
+abbrev pub body_inputs : Place → List ℕ → List HeadEvent
+body_inputs at bytes = map (λ (x : Char). head_event.Body x) (characters_at at bytes)
+
+-- nothing at each of them
+abbrev pub nothing_each : List ℕ → List (List ScoreOutput)
+nothing_each bytes = map (λ (byte : ℕ). []) bytes
+
+-- At these characters nothing was to come, nothing was given, and it goes on in its part with what follows under the same limits.
+pub record GivesNothing (before : ScoreStageState) (at : Place) (bytes : List ℕ) (after : ScoreStageState) : Type 0 where
+  pub limits : after.limits ≡ before.limits
+  pub part : after.part ≡ before.part
+  pub law : (xs : List HeadEvent) → left_of before (body_inputs at bytes ++ xs) ≡ nothing_each bytes ++ left_of after xs
 
 -- ---- counts that have not reached their last value
 
@@ -100,7 +118,7 @@ AreCountsBelow (head_event.Heads lines macros canonical ∷ xs) = (canonical + 1
 
 -- what it will still give
 abbrev pub events_left : ScoreStageState → List HeadEvent → List (List ScoreEvent)
-events_left s xs = map (λ outs. events_of outs) (left_of s xs)
+events_left s xs = map (λ outputs. events_of outputs) (left_of s xs)
 
 -- a stop or the end ends a stage
 abbrev pub is_last_event : ScoreEvent → Bool

@@ -50,9 +50,10 @@ impl BodyResult {
         pair: &SlotPair,
         out: &mut Room<ScoreEvent>,
     ) -> Result<(), AllocError>
-        ensures said { OnOk result ((outs : List ScoreOutput) → out.old.items ≡ events_of outs →
-            syllables_in outs ≡ take (length (syllables_in outs))
-            (pair.now.first ∷ pair.now.second ∷ []) → self.new ≡ result_with self.old outs) }
+        ensures result_is { OnOk result ((outputs : List ScoreOutput) →
+            out.old.items ≡ events_of outputs →
+            syllables_in outputs ≡ take (length (syllables_in outputs))
+            (pair.now.first ∷ pair.now.second ∷ []) → self.new ≡ result_with self.old outputs) }
         ensures room { OnOk result (out.new ≡ record out.old { items = [] }) }
     {
         for event in out.slice() {

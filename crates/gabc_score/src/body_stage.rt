@@ -1,36 +1,32 @@
 //! A machine over the texts and notes of a body, one part after the other.
 
-ghost use Rattle.std.specs.Prelude.{◌≡◌, ◌≢◌, ◌+◌, ◌∷◌, ℕ, List, [], map, length, ◌≤◌, OnOk, IfOk, option_map, true, false, if◌then◌else◌};
+ghost use Rattle.std.specs.Prelude.{◌≡◌, ◌≢◌, ◌+◌, ◌∷◌, ◌<◌, ℕ, List, [], length, ◌≤◌, IfOk, true, false};
 ghost use Rattle.gabc_places.specs.declared.place.Char.{Char};
 ghost use Rattle.gabc_notes.specs.declared.stage.NoteEvent.{NoteEvent};
-ghost use Rattle.gabc_score.specs.machine.PartPushes.{EndsLast, ClosesLast};
+ghost use Rattle.gabc_score.specs.machine.PartPushes.{ClosesLast};
 ghost use Rattle.gabc_places.specs.declared.place.Place.{Place};
 ghost use Rattle.gabc_places.specs.BoundedList.{Fits, extended_by};
 ghost use Rattle.gabc_score.specs.machine.PartPushes.{Emits, EmitsLast};
-ghost use Rattle.std.specs.List.{list_any};
-ghost use Rattle.gabc_score.specs.Events.{InComment, events_from, body_events, behind_mark, is_text_end as text_end, is_next as note_next, is_close as note_close, note_event as told_of_notes, next_line as line_after, snippet_from, text_from, part_at};
-ghost use Rattle.gabc_text.specs.EventsLeft.{events_left as text_rest};
-ghost use Rattle.gabc_text.specs.Events.{codes_of, CountsFit};
-ghost use Rattle.gabc_score.specs.machine.PartPushes.{PushesPart};
-ghost use Rattle.gabc_score.specs.Body.{findings_with};
-ghost use Rattle.gabc_text.specs.PiecesOwed.{PiecesArePaid};
+ghost use Rattle.gabc_score.specs.Events.{InComment, events_from, body_events, behind_mark, next_line as line_after, snippet_from, text_from, part_at};
+ghost use Rattle.gabc_text.specs.Events.{CountsFit};
 ghost use Rattle.gabc_score.specs.machine.Gatherer.{Gathered};
 ghost use Rattle.gabc_score.specs.machine.PartCounts.{CountsInNotes, CountsHold, PartGoesOn};
+ghost use Rattle.gabc_score.specs.machine.Quiet.{TakesQuietly};
 ghost use Rattle.gabc_score.specs.machine.SyllableBuilder.{OpenSyllable, nothing_open};
 ghost use Rattle.gabc_score.specs.machine.Slot.{FitEach};
 ghost use Rattle.gabc_score.specs.machine.BodyBuilder.{with_all, with_found};
 ghost use Rattle.gabc_places.specs.Place.{placed_characters_from};
 ghost use Rattle.gabc_score.specs.BodyStage.{part_with, events_left, running_events_left, texts_by_stage};
-ghost use Rattle.gabc_score.specs.declared.events.BodyEvent.TheVariants.{Text as of_text};
 
 use crate::BodyEvent;
 use crate::part_events::{emit_notes, emit_text, hold_notes, hold_text};
+use crate::part_pushes::{finish_part, push_notes, push_text};
 use crate::slot_pair::{SlotPair, SlotUse};
 use gabc_nabc::NabcStage;
 use gabc_notes::{NoteEnd, NoteEvent, NoteStage};
 use gabc_places::{Char, Finding, Place, Room, Stage};
 use gabc_text::laws::a_fresh_stage_emits_the_events_by_point;
-use gabc_text::{TextEnd, TextEvent, TextStage};
+use gabc_text::{TextEnd, TextEvent, TextPart, TextStage};
 use std::alloc::{AllocError, Global};
 use std::marker::Model;
 
@@ -89,108 +85,6 @@ impl Model for BodyStage {
     } };
 
     ghost invariant = { λ b. (8 ≤ b.texts.limit) × (3 ≤ b.notes.limit) };
-}
-
-/// Whether a text ended at its `(`.
-fn is_text_end(out: TextEvent) -> bool
-    ensures { result ≡ text_end out }
-{
-    match out {
-        TextEvent::Ended(TextEnd::Notes) => true,
-        _ => false,
-    }
-}
-
-fn is_next(out: NoteEvent) -> bool
-    ensures { result ≡ note_next out }
-{
-    match out {
-        NoteEvent::Ended {
-            how: NoteEnd::Next,
-            kept: _,
-        } => true,
-        _ => false,
-    }
-}
-
-fn is_close(out: NoteEvent) -> bool
-    ensures { result ≡ note_close out }
-{
-    match out {
-        NoteEvent::Ended {
-            how: NoteEnd::Close,
-            kept: _,
-        } => true,
-        _ => false,
-    }
-}
-
-/// Whether a text ended at its `(` with these: its end is the last event.
-fn ends_text(events: &[TextEvent]) -> bool
-    requires { EndsLast text_end events.now }
-    ensures { result ≡ list_any text_end events.now }
-{
-    match events.last() {
-        Some(out) => is_text_end(*out),
-        None => false,
-    }
-}
-
-/// Whether a snippet ended at a `|` with these: its end is the last event.
-fn ends_at_next(events: &[NoteEvent]) -> bool
-    requires { EndsLast note_next events.now }
-    ensures { result ≡ list_any note_next events.now }
-{
-    match events.last() {
-        Some(out) => is_next(*out),
-        None => false,
-    }
-}
-
-/// Whether a snippet ended at its `)` with these: its end is the last event.
-fn ends_at_close(events: &[NoteEvent]) -> bool
-    requires { EndsLast note_close events.now }
-    ensures { result ≡ list_any note_close events.now }
-{
-    match events.last() {
-        Some(out) => is_close(*out),
-        None => false,
-    }
-}
-
-/// Pushes a character to a text, whose events are then in its room, and answers whether the text ended at its `(`.
-fn push_text(stage: &mut TextStage, x: Char, events: &mut Room<TextEvent>) -> bool
-    requires events { 8 ≤ events.old.limit }
-    ensures events { events.new.limit ≡ events.old.limit }
-    ensures pushes { PushesPart (λ xs. text_rest stage.old (codes_of xs))
-        (λ xs. text_rest stage.new (codes_of xs)) x
-        (list_any text_end) 8 events.new.items result }
-    ensures pieces { PiecesArePaid stage.old events.new.items stage.new }
-{
-    events.clear();
-    stage.push(x, events);
-    ends_text(events.slice())
-}
-
-/// Pushes a character to a snippet, whose events are then in its room, and answers how the snippet ended, if it did.
-fn push_notes<S: Stage<Input = Char, Output = NoteEvent>>(
-    stage: &mut S,
-    x: Char,
-    events: &mut Room<NoteEvent>,
-) -> (bool, bool)
-    requires most { S.most_of stage.old ≡ 3 }
-    requires ends { (x : NoteEvent) → note_close x ≡ true → S.is_end x ≡ true }
-    requires ends_at_next { (x : NoteEvent) → note_next x ≡ true → S.is_end x ≡ true }
-    requires events { 3 ≤ events.old.limit }
-    ensures once { EndsLast note_close events.new.items }
-    ensures most { S.most_of stage.new ≡ 3 }
-    ensures events { events.new.limit ≡ events.old.limit }
-    ensures pushes { PushesPart (S.rest stage.old) (S.rest stage.new) x
-        (λ os. (list_any note_next os, list_any note_close os)) 3 events.new.items result }
-{
-    events.clear();
-    stage.push(x, events);
-    (ends_at_next(events.slice()), ends_at_close(events.slice()))
 }
 
 /// The line behind a line, of so many NABC lines: behind the last comes GABC again.
@@ -359,6 +253,136 @@ impl BodyStage {
         self.push_part(x);
     }
 
+    /// Takes the character `x`, which is ASCII, without rooms for its events, where they are no more than what is kept, a piece, the start of a
+    /// word, the `(` of the notes or the `|` behind a snippet, and adds them to what was gathered in `pair`. Returns whether it did. Where it
+    /// did not, nothing changes.
+    #[inline(always)]
+    pub(crate) fn take_quietly(&mut self, x: Char, pair: &mut SlotPair) -> bool
+        requires reads { pair.old.used ≡ SlotUse.Filling }
+        requires counts { CountsHold self.old.part pair.old.gathered.builder }
+        requires kept { length pair.old.gathered.builder.kept ≤ pair.old.gathered.limit }
+        requires ascii { x.c < 128 }
+        ensures taken { result ≡ true → TakesQuietly self.old x pair.old self.new pair.new }
+        ensures same { result ≡ false → (self.new ≡ self.old) × (pair.new ≡ pair.old) }
+    {
+        match &mut self.part {
+            BodyPart::Comment => false,
+            BodyPart::Text(stage) => match stage.take_letter(x) {
+                Some(piece) => {
+                    pair.add_text(TextEvent::Kept(x));
+                    pair.add_text(TextEvent::Part(TextPart::Piece(piece)));
+                    true
+                }
+                None => self.pass_quietly(x, pair),
+            },
+            BodyPart::Notes { opened: _, stage } => {
+                if !stage.take_kept(x) {
+                    return x.c == '|' && self.next_quietly(x, pair);
+                }
+                pair.add_note(0, NoteEvent::Kept(x));
+                true
+            }
+            BodyPart::Nabc {
+                line,
+                opened: _,
+                stage,
+            } => {
+                if !stage.take_kept(x) {
+                    return x.c == '|' && self.next_quietly(x, pair);
+                }
+                pair.add_note(*line, NoteEvent::Kept(x));
+                true
+            }
+        }
+    }
+
+    /// Takes `x`, which is no letter of a text, as `take_quietly` does: the `(` of the notes, the blank that begins a word, or a character that
+    /// is kept with no other event.
+    #[inline(never)]
+    fn pass_quietly(&mut self, x: Char, pair: &mut SlotPair) -> bool
+        requires reads { pair.old.used ≡ SlotUse.Filling }
+        requires counts { CountsHold self.old.part pair.old.gathered.builder }
+        requires kept { length pair.old.gathered.builder.kept ≤ pair.old.gathered.limit }
+        requires ascii { x.c < 128 }
+        ensures taken { result ≡ true → TakesQuietly self.old x pair.old self.new pair.new }
+        ensures same { result ≡ false → (self.new ≡ self.old) × (pair.new ≡ pair.old) }
+    {
+        if x.c == '(' {
+            return self.open_quietly(x, pair);
+        }
+        let BodyPart::Text(stage) = &mut self.part else {
+            return false;
+        };
+        if stage.take_blank(x) {
+            pair.add_text(TextEvent::Kept(x));
+            pair.add_text(TextEvent::Part(TextPart::WordStart));
+            return true;
+        }
+        if !stage.take_kept(x) {
+            return false;
+        }
+        pair.add_text(TextEvent::Kept(x));
+        true
+    }
+
+    /// Takes `x`, a `(`, as `take_quietly` does: a text that ends with nothing more to emit, and opens its notes.
+    fn open_quietly(&mut self, x: Char, pair: &mut SlotPair) -> bool
+        requires reads { pair.old.used ≡ SlotUse.Filling }
+        requires counts { CountsHold self.old.part pair.old.gathered.builder }
+        requires kept { length pair.old.gathered.builder.kept ≤ pair.old.gathered.limit }
+        requires mark { x.c ≡ 40 }
+        ensures taken { result ≡ true → TakesQuietly self.old x pair.old self.new pair.new }
+        ensures same { result ≡ false → (self.new ≡ self.old) × (pair.new ≡ pair.old) }
+    {
+        let BodyPart::Text(stage) = &mut self.part else {
+            return false;
+        };
+        if !stage.take_end() {
+            return false;
+        }
+        pair.add_text(TextEvent::Ended(TextEnd::Notes));
+        self.part = self.snippet(0, x.place);
+        true
+    }
+
+    /// Takes `x`, a `|`, as `take_quietly` does: a snippet that ends with nothing more to emit, before the next one.
+    #[inline(never)]
+    fn next_quietly(&mut self, x: Char, pair: &mut SlotPair) -> bool
+        requires reads { pair.old.used ≡ SlotUse.Filling }
+        requires counts { CountsHold self.old.part pair.old.gathered.builder }
+        requires kept { length pair.old.gathered.builder.kept ≤ pair.old.gathered.limit }
+        requires mark { x.c ≡ 124 }
+        ensures taken { result ≡ true → TakesQuietly self.old x pair.old self.new pair.new }
+        ensures same { result ≡ false → (self.new ≡ self.old) × (pair.new ≡ pair.old) }
+    {
+        let how = NoteEnd::Next;
+        match &mut self.part {
+            BodyPart::Comment | BodyPart::Text(_) => false,
+            BodyPart::Notes { opened, stage } => {
+                let opened = *opened;
+                let Some(kept) = stage.take_next() else {
+                    return false;
+                };
+                pair.add_note(0, NoteEvent::Ended { how, kept });
+                self.part = self.next_snippet(0, opened);
+                true
+            }
+            BodyPart::Nabc {
+                line,
+                opened,
+                stage,
+            } => {
+                let (line, opened) = (*line, *opened);
+                let Some(kept) = stage.take_next() else {
+                    return false;
+                };
+                pair.add_note(line, NoteEvent::Ended { how, kept });
+                self.part = self.next_snippet(line, opened);
+                true
+            }
+        }
+    }
+
     /// Ends the input. What that emits stands in the part's room.
     pub(crate) fn close(&mut self)
         ensures events { EmitsLast (running_events_left self.old) 8 self.new.events }
@@ -410,7 +434,7 @@ impl BodyStage {
     /// Adds the events of the last point to what was gathered, and what is found among them to `found`.
     #[inline(always)]
     pub(crate) fn hold(&self, pair: &mut SlotPair, found: &mut Room<Finding>)
-        requires reads { pair.old.used ≡ SlotUse.Reads }
+        requires reads { pair.old.used ≡ SlotUse.Filling }
         requires fits { FitEach pair.old.gathered self.now.events }
         requires once { ClosesLast self.now.events }
         requires found { Fits found.old (length self.now.events) }
@@ -460,14 +484,4 @@ impl Stage for BodyStage {
         self.close();
         self.emit(out);
     }
-}
-
-/// Ends a text or a snippet, whose last events are then in its room.
-fn finish_part<S: Stage<Input = Char>>(stage: &mut S, events: &mut Room<S::Output>)
-    requires { S.most_of stage.old ≤ events.old.limit }
-    ensures events { events.new.limit ≡ events.old.limit }
-    ensures finishes { EmitsLast (S.rest stage.old) (S.most_of stage.old) events.new.items }
-{
-    events.clear();
-    stage.finish(events);
 }

@@ -1,10 +1,11 @@
 //! The canonical text of a syllable.
 
-ghost use Rattle.std.specs.Prelude.{◌≡◌, ◌-◌, ◌^◌, ◌++◌, [], ◌∷◌, codes, cond, min, length, string_bytes};
+ghost use Rattle.std.specs.Prelude.{◌≡◌, ◌-◌, ◌^◌, ◌++◌, [], ◌∷◌, codes, cond, false, min, length, string_bytes};
 ghost use Rattle.gabc_score.specs.Syllable.{unplaced_of};
 ghost use Rattle.gabc_score.specs.Canonical.{canonical, starts_word, translation_text, with_bars};
 ghost use Rattle.gabc_score.specs.machine.SyllableText.{snippets_behind_bars};
 
+use crate::kept_text::kept_from;
 use crate::snippets::Snippet;
 use crate::syllable::Syllable;
 use gabc_places::{ByteCounter, Put};
@@ -66,11 +67,12 @@ fn put_notes<S: Put>(syllable: &Syllable, out: &mut S)
     out.put(b")");
 }
 
-/// Puts the canonical text of `syllable`, if it `starts` a word or not: an LF before a word, the text, the translation, and the notes.
-pub(crate) fn put_syllable<S: Put>(syllable: &Syllable, starts: bool, out: &mut S)
-    ensures { out.new ≡ S.taken out.old (canonical starts (unplaced_of syllable.now)) }
+/// Puts the canonical text of `syllable` but for the LF before a word, part by part: the text, the translation, and the notes. It stays out of
+/// line: to count bytes it does well, but few syllables are written so.
+#[inline(never)]
+fn put_parts<S: Put>(syllable: &Syllable, out: &mut S)
+    ensures { out.new ≡ S.taken out.old (canonical false (unplaced_of syllable.now)) }
 {
-    put_start(starts, out);
     write_text(&syllable.text, syllable.kept.as_str(), out);
     put_translation(syllable, out);
     put_notes(syllable, out);
@@ -82,18 +84,23 @@ pub(crate) fn canonical_len(syllable: &Syllable, starts: bool) -> usize
     ensures { result ≡ min (length (canonical starts (unplaced_of syllable.now))) (2 ^ 64 - 1) }
 {
     let mut counter = ByteCounter::new();
-    put_syllable(syllable, starts, &mut counter);
+    put_start(starts, &mut counter);
+    put_parts(syllable, &mut counter);
     counter.count()
 }
 
 /// Puts the canonical text of `syllable`, as many bytes as `canon_len` tells: an LF before a word, the text, the translation, and
-/// the notes. A room without that many bytes left gets as many of them as fit.
+/// the notes. A room without that many bytes left gets as many of them as fit. Most syllables are put as they are kept.
 pub fn canon_syllable<S: Put>(syllable: &Syllable, out: &mut S)
     ensures { out.new
         ≡ S.taken out.old (canonical (starts_word syllable.now.position)
         (unplaced_of syllable.now)) }
 {
-    put_syllable(syllable, syllable.starts_word(), out);
+    put_start(syllable.starts_word(), out);
+    match kept_from(syllable) {
+        Some(from) => out.put(&syllable.kept.as_bytes()[from..]),
+        None => put_parts(syllable, out),
+    }
 }
 
 /// Returns the number of bytes of the canonical text of `syllable`; it saturates at the last value of a `usize`.

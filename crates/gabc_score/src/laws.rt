@@ -296,8 +296,8 @@ pub fn a_stage_of_headers_gives_the_events()
 
 /// Behind a stop or the end a score emits nothing, whatever it is given.
 pub fn nothing_follows_the_end()
-    ensures { (texts : Texts) (limits : Limits) (given : List HeadEvent)
+    ensures { (texts : Texts) (limits : Limits) (inputs : List HeadEvent)
         (before behind : List ScoreOutput) (o : ScoreOutput)
-        → concat_of (score_outputs texts limits given) ≡ before ++ o ∷ behind
+        → concat_of (score_outputs texts limits inputs) ≡ before ++ o ∷ behind
         → is_last o ≡ true → behind ≡ [] }
 {}

@@ -2,7 +2,7 @@
 
 ghost use Rattle.std.specs.Prelude.{◌≡◌, ◌≢◌, ◌+◌, ◌≤◌, [], ◌∷◌, map, length};
 ghost use Rattle.gabc_places.specs.BoundedList.{Fits, extended_by};
-ghost use Rattle.gabc_score.specs.Events.{innermost as with_innermost, note_event as told_of_notes};
+ghost use Rattle.gabc_score.specs.Events.{innermost as with_innermost, note_event as event_of_notes};
 ghost use Rattle.gabc_score.specs.declared.events.BodyEvent.TheVariants.{Text as of_text};
 ghost use Rattle.gabc_score.specs.machine.BodyBuilder.{with_all, with_found};
 ghost use Rattle.gabc_score.specs.Syllable.{closes};
@@ -29,7 +29,7 @@ fn innermost(opened: Place, how: NoteEnd) -> NoteEnd
 
 /// What a snippet of that line emitted, with the place of its innermost open bracket.
 pub(crate) fn note_event(line: u8, opened: Place, out: NoteEvent) -> BodyEvent
-    ensures { result ≡ told_of_notes line opened out }
+    ensures { result ≡ event_of_notes line opened out }
 {
     let out = match out {
         NoteEvent::Ended { how, kept } => NoteEvent::Ended {
@@ -54,7 +54,7 @@ pub(crate) fn emit_text(events: &[TextEvent], out: &mut Room<BodyEvent>)
 /// Emits the events of a snippet of that line as those of a body.
 pub(crate) fn emit_notes(line: u8, opened: Place, events: &[NoteEvent], out: &mut Room<BodyEvent>)
     requires { Fits out.old (length events.now) }
-    ensures { out.new ≡ extended_by out.old (map (told_of_notes line opened) events.now) }
+    ensures { out.new ≡ extended_by out.old (map (event_of_notes line opened) events.now) }
 {
     for item in events {
         out.push(note_event(line, opened, *item));
@@ -64,7 +64,7 @@ pub(crate) fn emit_notes(line: u8, opened: Place, events: &[NoteEvent], out: &mu
 /// Adds an event of a text to what was gathered, and what is found with it to `found`.
 #[inline(always)]
 fn hold_in_text(event: TextEvent, pair: &mut SlotPair, found: &mut Room<Finding>)
-    requires reads { pair.old.used ≡ SlotUse.Reads }
+    requires reads { pair.old.used ≡ SlotUse.Filling }
     requires fits { FitsEvent pair.old.gathered.limit pair.old.gathered.builder (of_text event) }
     requires found { Fits found.old 1 }
     ensures gathered { pair.new.gathered ≡ with_event pair.old.gathered (of_text event) }
@@ -88,15 +88,15 @@ fn hold_in_notes(
     pair: &mut SlotPair,
     found: &mut Room<Finding>,
 )
-    requires reads { pair.old.used ≡ SlotUse.Reads }
+    requires reads { pair.old.used ≡ SlotUse.Filling }
     requires fits { FitsEvent pair.old.gathered.limit pair.old.gathered.builder
-        (told_of_notes line opened event) }
+        (event_of_notes line opened event) }
     requires found { Fits found.old 1 }
     ensures gathered { pair.new.gathered
-        ≡ with_event pair.old.gathered (told_of_notes line opened event) }
+        ≡ with_event pair.old.gathered (event_of_notes line opened event) }
     ensures held { pair.new.held ≡ pair.old.held }
-    ensures used { pair.new.used ≡ used_by (closes (told_of_notes line opened event)) }
-    ensures found { found.new ≡ with_found found.old (told_of_notes line opened event ∷ []) }
+    ensures used { pair.new.used ≡ used_by (closes (event_of_notes line opened event)) }
+    ensures found { found.new ≡ with_found found.old (event_of_notes line opened event ∷ []) }
     ensures few { length found.new.items ≤ length found.old.items + 1 }
 {
     match event {
@@ -112,7 +112,7 @@ fn hold_in_notes(
 /// Adds the events of a text to what was gathered, and what is found among them to `found`.
 #[inline(always)]
 pub(crate) fn hold_text(events: &[TextEvent], pair: &mut SlotPair, found: &mut Room<Finding>)
-    requires reads { pair.old.used ≡ SlotUse.Reads }
+    requires reads { pair.old.used ≡ SlotUse.Filling }
     requires fits { FitEach pair.old.gathered (map (λ o. of_text o) events.now) }
     requires once { ClosesLast (map (λ o. of_text o) events.now) }
     requires found { Fits found.old (length events.now) }
@@ -136,16 +136,16 @@ pub(crate) fn hold_notes(
     pair: &mut SlotPair,
     found: &mut Room<Finding>,
 )
-    requires reads { pair.old.used ≡ SlotUse.Reads }
-    requires fits { FitEach pair.old.gathered (map (told_of_notes line opened) events.now) }
-    requires once { ClosesLast (map (told_of_notes line opened) events.now) }
+    requires reads { pair.old.used ≡ SlotUse.Filling }
+    requires fits { FitEach pair.old.gathered (map (event_of_notes line opened) events.now) }
+    requires once { ClosesLast (map (event_of_notes line opened) events.now) }
     requires found { Fits found.old (length events.now) }
     ensures gathered { pair.new.gathered
-        ≡ with_all pair.old.gathered (map (told_of_notes line opened) events.now) }
+        ≡ with_all pair.old.gathered (map (event_of_notes line opened) events.now) }
     ensures held { pair.new.held ≡ pair.old.held }
     ensures used { pair.new.used ≢ SlotUse.Lent }
     ensures found { found.new
-        ≡ with_found found.old (map (told_of_notes line opened) events.now) }
+        ≡ with_found found.old (map (event_of_notes line opened) events.now) }
 {
     for event in events {
         hold_in_notes(line, opened, *event, pair, found);

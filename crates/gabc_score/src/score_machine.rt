@@ -1,15 +1,17 @@
 //! A machine from what a stage of headers gives to the score.
 
-ghost use Rattle.std.specs.Prelude.{◌≡◌, ◌≢◌, ◌<◌, ◌≤◌, ◌^◌, List, [], ◌∷◌, ◌++◌, false, length, IfOk};
-ghost use Rattle.gabc_headers.specs.declared.head_event.HeadEvent.{HeadEvent as Given};
+ghost use Rattle.std.specs.Prelude.{◌≡◌, ◌≢◌, ◌+◌, ◌<◌, ◌≤◌, ◌^◌, List, [], ◌∷◌, ◌++◌, true, false, length, take, None, IfOk};
+ghost use Rattle.std.specs.List.{All};
+ghost use Rattle.gabc_places.specs.Skip.{IsPrintable};
+ghost use Rattle.gabc_headers.specs.declared.head_event.HeadEvent.{HeadEvent as HeadItem};
 ghost use Rattle.gabc_score.specs.declared.body_stage.BodyPart.{BodyPart};
 ghost use Rattle.gabc_score.specs.BodyStage.{running_events_left};
 ghost use Rattle.gabc_places.specs.BoundedList.{Fits};
 ghost use Rattle.gabc_text.specs.TextStage.{place_after_char};
 ghost use Rattle.gabc_score.specs.ScoreEvents.{outputs_of, Stop, characters_in};
-ghost use Rattle.gabc_score.specs.ScoreStage.{Tells, GivesAt, GivesLast, left_of};
+ghost use Rattle.gabc_score.specs.ScoreStage.{Tells, GivesAt, GivesLast, GivesNothing, left_of};
 ghost use Rattle.gabc_score.specs.machine.ScoreStage.{placed_behind, begun_score, body_left};
-ghost use Rattle.gabc_score.specs.machine.ScoreMachine.{shown, IsInBody, IsBeforeBody, IsScore};
+ghost use Rattle.gabc_score.specs.machine.ScoreMachine.{shown, IsInBody, IsBeforeBody, IsScore, IsFreed, PassesQuietly};
 ghost use Rattle.gabc_score.specs.machine.SlotPair.{is_made};
 
 use crate::body_stage::{BodyPart, BodyStage};
@@ -17,7 +19,7 @@ use crate::score_event::ScoreEvent;
 use crate::slot_pair::{SlotPair, SlotUse};
 use crate::telling::{tell_broken, tell_end, tell_point, tell_stop};
 use gabc_headers::HeadEvent;
-use gabc_places::{Char, Fault, Finding, Limits, Place, Room};
+use gabc_places::{Char, Fault, Finding, Limits, Place, Room, is_printable};
 use std::alloc::{AllocError, Global};
 
 /// Where a machine stands: before the body, in it, or behind its last event.
@@ -39,8 +41,8 @@ pub(crate) struct ScoreMachine {
     pub(crate) found: Room<Finding>,
     /// The place behind the last character of the body.
     pub(crate) next: Place,
-    /// Whether a syllable was given.
-    pub(crate) given: bool,
+    /// Whether a syllable was lent.
+    pub(crate) has_lent: bool,
 }
 
 /// Returns the place behind a character. A count that has reached its last value stays there.
@@ -60,6 +62,15 @@ fn place_behind(x: Char) -> Place
     }
 }
 
+/// Returns how many of `count` columns, the first of which is `column`, fit a `u64` with the one behind them.
+fn columns_within(column: u64, count: usize) -> usize
+    ensures within { result ≤ count }
+    ensures fits { column + result < 2 ^ 64 }
+{
+    let most = (u64::MAX - column) as usize;
+    most.min(count)
+}
+
 impl ScoreMachine {
     /// Reserves the memory that the reading of a body ever takes, whose first character stands at `at`. Its canonical headers
     /// have `head` bytes, and `body` is a new stage.
@@ -71,7 +82,7 @@ impl ScoreMachine {
         head: usize,
     ) -> Result<ScoreMachine, AllocError>
         requires { body.part ≡ BodyPart.Comment }
-        ensures left { IfOk result (λ m. (xs : List Given) → left_of (shown m) xs
+        ensures left { IfOk result (λ m. (xs : List HeadItem) → left_of (shown m) xs
             ≡ body_left limits (begun_score limits at head)
             (running_events_left body (characters_in xs)) xs) }
         ensures rests { IfOk result (λ m. IsScore m) }
@@ -87,7 +98,7 @@ impl ScoreMachine {
             pair,
             found,
             next: at,
-            given: false,
+            has_lent: false,
         })
     }
 
@@ -97,12 +108,12 @@ impl ScoreMachine {
         requires fits { Fits out.old 16 }
         ensures part { self.new.part ≡ ScorePart.Over }
         ensures limits { self.new.limits ≡ self.old.limits }
-        ensures told { Tells
-            (outputs_of [] (placed_behind self.old.given self.old.pair.held) ++ Stop fault ∷ [])
+        ensures emitted { Tells
+            (outputs_of [] (placed_behind self.old.has_lent self.old.pair.held) ++ Stop fault ∷ [])
             out.old out.new self.new.pair.first self.new.pair.second }
-        ensures few { length (placed_behind self.old.given self.old.pair.held) ≤ 1 }
+        ensures few { length (placed_behind self.old.has_lent self.old.pair.held) ≤ 1 }
     {
-        tell_stop(&mut self.pair, self.given, fault, out);
+        tell_stop(&mut self.pair, self.has_lent, fault, out);
         self.part = ScorePart::Over;
     }
 
@@ -111,7 +122,7 @@ impl ScoreMachine {
         requires part { self.old.part ≡ ScorePart.Body }
         requires rests { IsInBody self.old }
         requires fits { Fits out.old 16 }
-        ensures gives { GivesAt (shown self.old) (HeadEvent.Body x)
+        ensures step { GivesAt (shown self.old) (HeadEvent.Body x)
             (shown self.new) out.old out.new }
         ensures rests { IsScore self.new }
     {
@@ -127,8 +138,8 @@ impl ScoreMachine {
                 out,
             ),
             None => {
-                let gave = tell_point(&mut self.pair, self.given, &mut self.found, out);
-                self.given = self.given || gave;
+                let gave = tell_point(&mut self.pair, self.has_lent, &mut self.found, out);
+                self.has_lent = self.has_lent || gave;
                 self.next = place_behind(x);
             }
         }
@@ -139,7 +150,7 @@ impl ScoreMachine {
         requires part { self.old.part ≡ ScorePart.Body }
         requires rests { IsInBody self.old }
         requires fits { Fits out.old 16 }
-        ensures gives { GivesAt (shown self.old) HeadEvent.End (shown self.new) out.old out.new }
+        ensures step { GivesAt (shown self.old) HeadEvent.End (shown self.new) out.old out.new }
         ensures part { self.new.part ≡ ScorePart.Over }
     {
         self.pair.free();
@@ -150,7 +161,14 @@ impl ScoreMachine {
             Some(fault) => self.stop(fault, out),
             None => {
                 let found = self.found.slice();
-                tell_end(&mut self.pair, self.given, has_last, self.next, found, out);
+                tell_end(
+                    &mut self.pair,
+                    self.has_lent,
+                    has_last,
+                    self.next,
+                    found,
+                    out,
+                );
                 self.part = ScorePart::Over;
             }
         }
@@ -161,7 +179,7 @@ impl ScoreMachine {
         requires part { self.old.part ≡ ScorePart.Body }
         requires rests { IsInBody self.old }
         requires fits { Fits out.old 16 }
-        ensures gives { GivesAt (shown self.old) input (shown self.new) out.old out.new }
+        ensures step { GivesAt (shown self.old) input (shown self.new) out.old out.new }
         ensures rests { IsScore self.new }
     {
         match input {
@@ -181,7 +199,7 @@ impl ScoreMachine {
         requires part { self.old.part ≡ ScorePart.Heads }
         requires rests { IsBeforeBody self.old }
         requires fits { Fits out.old 16 }
-        ensures gives { GivesAt (shown self.old) input (shown self.new) out.old out.new }
+        ensures step { GivesAt (shown self.old) input (shown self.new) out.old out.new }
         ensures rests { IsScore self.new }
     {
         match input {
@@ -212,7 +230,7 @@ impl ScoreMachine {
     pub(crate) fn push(&mut self, input: HeadEvent, out: &mut Room<ScoreEvent>)
         requires rests { IsScore self.old }
         requires fits { Fits out.old 16 }
-        ensures gives { GivesAt (shown self.old) input (shown self.new) out.old out.new }
+        ensures step { GivesAt (shown self.old) input (shown self.new) out.old out.new }
         ensures rests { IsScore self.new }
     {
         match self.part {
@@ -222,16 +240,78 @@ impl ScoreMachine {
         }
     }
 
+    /// Takes a character at which nothing is given, and returns whether it did. Where it did not, nothing has changed.
+    #[inline(always)]
+    fn take_quietly(&mut self, x: Char) -> bool
+        requires ascii { x.c < 128 }
+        requires freed { IsFreed self.old }
+        ensures taken { result ≡ true → PassesQuietly (shown self.old) x (shown self.new) }
+        ensures same { result ≡ false → shown self.new ≡ shown self.old }
+        ensures freed { IsFreed self.new }
+    {
+        if !self.pair.has_room() {
+            return false;
+        }
+        let taken = self.body.take_quietly(x, &mut self.pair);
+        if taken {
+            self.next = place_behind(x);
+        }
+        taken
+    }
+
+    /// Takes printable characters from the front of `bytes`, as `take_front` does, where nothing is lent and no limit is passed.
+    fn take_printable(&mut self, at: Place, bytes: &[u8]) -> usize
+        requires freed { IsFreed self.old }
+        ensures within { result ≤ length bytes.now }
+        ensures printable { All IsPrintable (take result bytes.now) }
+        ensures step { GivesNothing (shown self.old) at (take result bytes.now) (shown self.new) }
+        ensures freed { IsFreed self.new }
+    {
+        let most = columns_within(at.column, bytes.len());
+        let mut count = 0;
+        while count < most && is_printable(bytes[count]) {
+            let place = Place {
+                line: at.line,
+                column: at.column + count as u64,
+            };
+            let c = char::from(bytes[count]);
+            if !self.take_quietly(Char { c, place }) {
+                break;
+            }
+            count += 1;
+        }
+        count
+    }
+
+    /// Takes characters from the front of `bytes` at which nothing is given, and returns how many: printable characters of ASCII, the first of
+    /// which stands at `at`. Outside the body, and where a limit is passed, it takes none.
+    pub(crate) fn take_front(&mut self, at: Place, bytes: &[u8]) -> usize
+        requires rests { IsScore self.old }
+        ensures within { result ≤ length bytes.now }
+        ensures printable { All IsPrintable (take result bytes.now) }
+        ensures step { GivesNothing (shown self.old) at (take result bytes.now) (shown self.new) }
+        ensures rests { IsScore self.new }
+    {
+        let ScorePart::Body = self.part else {
+            return 0;
+        };
+        self.pair.free();
+        match self.pair.code(self.limits) {
+            Some(_) => 0,
+            None => self.take_printable(at, bytes),
+        }
+    }
+
     /// Breaks off in the body: the source has failed.
     fn break_off(&mut self, out: &mut Room<ScoreEvent>)
         requires part { self.old.part ≡ ScorePart.Body }
         requires rests { IsInBody self.old }
         requires fits { Fits out.old 16 }
-        ensures gives { GivesLast (shown self.old) (shown self.new) out.old out.new }
+        ensures step { GivesLast (shown self.old) (shown self.new) out.old out.new }
         ensures part { self.new.part ≡ ScorePart.Over }
     {
         self.pair.free();
-        tell_broken(&mut self.pair, self.given, out);
+        tell_broken(&mut self.pair, self.has_lent, out);
         self.part = ScorePart::Over;
     }
 
@@ -239,7 +319,7 @@ impl ScoreMachine {
     pub(crate) fn finish(&mut self, out: &mut Room<ScoreEvent>)
         requires rests { IsScore self.old }
         requires fits { Fits out.old 16 }
-        ensures gives { GivesLast (shown self.old) (shown self.new) out.old out.new }
+        ensures step { GivesLast (shown self.old) (shown self.new) out.old out.new }
         ensures part { self.new.part ≡ ScorePart.Over }
     {
         match self.part {

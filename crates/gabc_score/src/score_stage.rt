@@ -1,10 +1,12 @@
 //! A stage from what a stage of headers gives to the score.
 
-ghost use Rattle.std.specs.Prelude.{◌≡◌, List, IfOk};
+ghost use Rattle.std.specs.Prelude.{◌≡◌, ◌≤◌, List, length, take, IfOk};
 ghost use Rattle.gabc_headers.specs.declared.head_event.HeadEvent.{HeadEvent};
 ghost use Rattle.gabc_score.specs.BodyStage.{texts_by_stage};
 ghost use Rattle.gabc_score.specs.ScoreEvents.{score_outputs};
-ghost use Rattle.gabc_score.specs.ScoreStage.{AreCountsBelow, left_of, lent_in};
+ghost use Rattle.std.specs.List.{All};
+ghost use Rattle.gabc_places.specs.Skip.{IsPrintable};
+ghost use Rattle.gabc_score.specs.ScoreStage.{AreCountsBelow, GivesNothing, left_of, lent_in};
 ghost use Rattle.gabc_score.specs.Syllable.{placed_of};
 
 use crate::body_stage::BodyStage;
@@ -54,9 +56,20 @@ impl ScoreStage {
                 pair,
                 found,
                 next: Place::START,
-                given: false,
+                has_lent: false,
             },
         })
+    }
+
+    /// Takes characters from the front of `bytes` at which nothing is given, and returns how many. They are printable characters of ASCII, of
+    /// which the first stands at `at` and each next one in the next column. From then on it gives what it would give had each of them been
+    /// pushed. Of those that it could take it may leave some to `push`.
+    pub fn take_front(&mut self, at: Place, bytes: &[u8]) -> usize
+        ensures within { result ≤ length bytes.now }
+        ensures printable { All IsPrintable (take result bytes.now) }
+        ensures step { GivesNothing self.old at (take result bytes.now) self.new }
+    {
+        self.machine.take_front(at, bytes)
     }
 
     /// Returns the syllable that the last call gave as `lent`. What it returns where none was given is not said.
@@ -94,7 +107,7 @@ impl Stage for ScoreStage {
         ensures events { Pushes (events_left self.old) (events_left self.new)
             input 16 out.old out.new }
         ensures end { StopsAtEnd is_last_event (events_left self.new) out.old out.new }
-        ensures gives { GivesAt self.old input self.new out.old out.new }
+        ensures step { GivesAt self.old input self.new out.old out.new }
     {
         self.machine.push(input, out);
     }
@@ -104,7 +117,7 @@ impl Stage for ScoreStage {
         ensures ends { Finishes (events_left self.old) 16 out.old out.new }
         ensures end { StopsAtEnd is_last_event (events_left self.new) out.old out.new }
         ensures over { EmitsNothing (events_left self.new) }
-        ensures gives { GivesLast self.old self.new out.old out.new }
+        ensures step { GivesLast self.old self.new out.old out.new }
     {
         self.machine.finish(out);
     }

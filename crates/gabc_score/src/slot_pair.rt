@@ -15,7 +15,7 @@ use std::mem::swap;
 #[derive(Clone, Copy)]
 pub(crate) enum SlotUse {
     /// It holds what is read of a syllable.
-    Reads,
+    Filling,
     /// It holds the whole syllable that was made last.
     Made,
     /// It holds a syllable that was given, and is cleared before it reads on.
@@ -71,25 +71,25 @@ impl Model for SlotPair {
 }
 
 impl SlotPair {
-    ghost use Rattle.std.specs.Prelude.{◌≡◌, ◌≢◌, ◌||◌, ◌-◌, ◌<◌, ◌≤◌, ◌^◌, not, nat_lt, [], take, length, false, IfOk, if◌then◌else◌};
+    ghost use Rattle.std.specs.Prelude.{◌≡◌, ◌≢◌, ◌||◌, ◌-◌, ◌<◌, ◌≤◌, ◌^◌, not, nat_lt, [], take, length, false, IfOk, IsTrue, if◌then◌else◌};
     ghost use Rattle.gabc_score.specs.Body.{has_text, is_none};
     ghost use Rattle.gabc_score.specs.Syllable.{placed_of};
     ghost use Rattle.gabc_score.specs.machine.BodyBuilder.{code_in, end_fault};
     ghost use Rattle.gabc_score.specs.machine.Gatherer.{nothing_gathered, with_mark, with_mark_of, with_view_part, with_text_end, with_text, with_syllable, with_note_end, with_note, with_last};
     ghost use Rattle.gabc_score.specs.machine.ScoreStage.{placed_behind, with_held};
     ghost use Rattle.gabc_score.specs.machine.Slot.{FitsText, FitsNote, FitsKept, FitsPiece, FitsSnippet};
-    ghost use Rattle.gabc_score.specs.machine.SlotPair.{is_made, used_past, given_of};
+    ghost use Rattle.gabc_score.specs.machine.SlotPair.{is_made, used_past, lent_syllables};
 
     /// Returns two slots in which nothing was read, and reserves room for syllables of `limit` bytes.
     pub(crate) fn with_limit(alloc: Global, limit: usize) -> Result<SlotPair, AllocError>
         requires { limit < 2 ^ 32 }
         ensures gathered { IfOk result (λ pair. pair.gathered ≡ nothing_gathered limit 0) }
-        ensures used { IfOk result (λ pair. pair.used ≡ SlotUse.Reads) }
+        ensures used { IfOk result (λ pair. pair.used ≡ SlotUse.Filling) }
     {
         Ok(SlotPair {
             limit,
             reader: Slot::with_limit(alloc, limit)?,
-            used: SlotUse::Reads,
+            used: SlotUse::Filling,
             holder: Slot::with_limit(alloc, limit)?,
             held: false,
             eu: false,
@@ -114,23 +114,24 @@ impl SlotPair {
         requires { is_made self.old.used ≡ false }
         ensures gathered { self.new.gathered ≡ self.old.gathered }
         ensures held { self.new.held ≡ self.old.gathered.made }
-        ensures used { self.new.used ≡ SlotUse.Reads }
+        ensures used { self.new.used ≡ SlotUse.Filling }
+        ensures one { length self.new.gathered.made ≤ 1 }
     {
         match self.used {
             SlotUse::Lent => self.reader.clear(),
             _ => {}
         }
-        self.used = SlotUse::Reads;
+        self.used = SlotUse::Filling;
     }
 
     /// Adds what a text emits next.
     #[inline(always)]
     pub(crate) fn add_text(&mut self, event: TextEvent)
-        requires reads { self.old.used ≡ SlotUse.Reads }
+        requires reads { self.old.used ≡ SlotUse.Filling }
         requires fits { FitsText self.old.gathered.limit self.old.gathered.builder event }
         ensures gathered { self.new.gathered ≡ with_text self.old.gathered event }
         ensures held { self.new.held ≡ self.old.held }
-        ensures used { self.new.used ≡ SlotUse.Reads }
+        ensures used { self.new.used ≡ SlotUse.Filling }
     {
         match event {
             TextEvent::Kept(kept) => self.reader.keep(kept.c),
@@ -145,7 +146,7 @@ impl SlotPair {
 
     /// Opens or closes a span, where the part is a mark that does.
     fn add_mark_of(&mut self, part: TextPart)
-        requires { self.old.used ≡ SlotUse.Reads }
+        requires { self.old.used ≡ SlotUse.Filling }
         ensures { self.new ≡ record self.old {
           gathered = with_mark_of self.old.gathered part;
         } }
@@ -156,7 +157,7 @@ impl SlotPair {
     }
 
     fn add_mark(&mut self, piece: Piece)
-        requires { self.old.used ≡ SlotUse.Reads }
+        requires { self.old.used ≡ SlotUse.Filling }
         ensures { self.new ≡ record self.old { gathered = with_mark self.old.gathered piece } }
     {
         if let PieceKind::Mark = piece.kind {
@@ -169,11 +170,11 @@ impl SlotPair {
     }
 
     fn end_text(&mut self, end: TextEnd)
-        requires reads { self.old.used ≡ SlotUse.Reads }
+        requires reads { self.old.used ≡ SlotUse.Filling }
         requires fits { FitsKept self.old.gathered.limit self.old.gathered.builder 4 }
         ensures gathered { self.new.gathered ≡ with_text_end self.old.gathered end }
         ensures held { self.new.held ≡ self.old.held }
-        ensures used { self.new.used ≡ SlotUse.Reads }
+        ensures used { self.new.used ≡ SlotUse.Filling }
     {
         match end {
             TextEnd::Notes => self.reader.end_text(),
@@ -185,7 +186,7 @@ impl SlotPair {
     /// Adds what a snippet of that line emits next.
     #[inline(always)]
     pub(crate) fn add_note(&mut self, line: u8, event: NoteEvent)
-        requires reads { self.old.used ≡ SlotUse.Reads }
+        requires reads { self.old.used ≡ SlotUse.Filling }
         requires fits { FitsNote self.old.gathered.limit self.old.gathered.builder event }
         ensures gathered { self.new.gathered ≡ with_note self.old.gathered line event }
         ensures held { self.new.held ≡ self.old.held }
@@ -199,7 +200,7 @@ impl SlotPair {
     }
 
     fn end_snippet(&mut self, line: u8, how: NoteEnd, count: usize)
-        requires reads { self.old.used ≡ SlotUse.Reads }
+        requires reads { self.old.used ≡ SlotUse.Filling }
         requires kept { FitsKept self.old.gathered.limit self.old.gathered.builder 4 }
         requires snippet { FitsSnippet self.old.gathered.limit self.old.gathered.builder }
         ensures gathered { self.new.gathered ≡ with_note_end self.old.gathered line how count }
@@ -218,7 +219,7 @@ impl SlotPair {
 
     /// Makes the syllable that was read whole.
     fn close(&mut self)
-        requires { self.old.used ≡ SlotUse.Reads }
+        requires { self.old.used ≡ SlotUse.Filling }
         ensures gathered { self.new.gathered ≡ with_syllable self.old.gathered }
         ensures held { self.new.held ≡ self.old.held }
         ensures used { self.new.used ≡ SlotUse.Made }
@@ -242,7 +243,7 @@ impl SlotPair {
         ensures used { self.new.used ≢ SlotUse.Lent }
     {
         let has_last = match self.used {
-            SlotUse::Reads => has_text(&self.reader.syllable().text),
+            SlotUse::Filling => has_text(&self.reader.syllable().text),
             _ => false,
         };
         if has_last {
@@ -270,12 +271,20 @@ impl SlotPair {
         }
     }
 
+    /// Returns whether a byte more of the syllable that is read is within the limit.
+    #[inline(always)]
+    pub(crate) fn has_room(&self) -> bool
+        ensures { IsTrue result → length self.now.gathered.builder.kept < self.now.gathered.limit }
+    {
+        self.kept_len() < self.limit
+    }
+
     /// The bytes of the syllable that is read.
     fn kept_len(&self) -> usize
         ensures { result ≡ length self.now.gathered.builder.kept }
     {
         match self.used {
-            SlotUse::Reads => self.reader.syllable().kept.len(),
+            SlotUse::Filling => self.reader.syllable().kept.len(),
             _ => 0,
         }
     }
@@ -311,12 +320,12 @@ impl SlotPair {
         self.reader.syllable().text.word_start
     }
 
-    /// Gives the held syllable where the one that was read is whole, which is held from then on. `given` tells whether one was
-    /// given before. Tells how many it gave, one or none.
-    pub(crate) fn turn(&mut self, given: bool) -> usize
+    /// Gives the held syllable where the one that was read is whole, which is held from then on. `has_lent` tells whether one was
+    /// lent before. Tells how many it gave, one or none.
+    pub(crate) fn turn(&mut self, has_lent: bool) -> usize
         ensures gathered { self.new.gathered ≡ with_held self.old.gathered }
-        ensures given { given_of result self.new ≡ take (length self.old.gathered.made - 1)
-            (placed_behind given self.old.gathered.made) }
+        ensures lends { lent_syllables result self.new ≡ take (length self.old.gathered.made - 1)
+            (placed_behind has_lent self.old.gathered.made) }
         ensures most { result ≤ 1 }
         ensures some { nat_lt 0 result ≡ nat_lt 1 (length self.old.gathered.made) }
         ensures used { is_made self.new.used ≡ false }
@@ -327,46 +336,46 @@ impl SlotPair {
         let next_starts = self.starts();
         swap(&mut self.reader, &mut self.holder);
         if self.held {
-            let starts = !given || self.starts();
+            let starts = !has_lent || self.starts();
             self.reader.place(position_by(starts, next_starts));
             self.used = SlotUse::Lent;
             1
         } else {
             self.reader.clear();
-            self.used = SlotUse::Reads;
+            self.used = SlotUse::Filling;
             self.held = true;
             0
         }
     }
 
     /// Gives the held syllable as the last one. Tells how many it gave, one or none.
-    pub(crate) fn give_held(&mut self, given: bool) -> usize
+    pub(crate) fn give_held(&mut self, has_lent: bool) -> usize
         requires { self.old.used ≢ SlotUse.Lent }
-        ensures given { given_of result self.new ≡ placed_behind given self.old.held }
+        ensures lends { lent_syllables result self.new ≡ placed_behind has_lent self.old.held }
         ensures most { result ≤ 1 }
     {
-        let starts = !given || self.holder.syllable().text.word_start;
+        let starts = !has_lent || self.holder.syllable().text.word_start;
         self.holder.place(position_by(starts, true));
         if self.held { 1 } else { 0 }
     }
 
     /// Gives the held syllable, and behind it the one that was made last. Tells how many it gave.
-    pub(crate) fn give_all(&mut self, given: bool) -> usize
+    pub(crate) fn give_all(&mut self, has_lent: bool) -> usize
         requires { self.old.used ≢ SlotUse.Lent }
-        ensures given { given_of result self.new ≡ placed_behind given self.old.gathered.made }
+        ensures lends { lent_syllables result self.new ≡ placed_behind has_lent self.old.gathered.made }
         ensures most { result ≤ 2 }
     {
         let SlotUse::Made = self.used else {
-            return self.give_held(given);
+            return self.give_held(has_lent);
         };
         let starts = self.starts();
         if self.held {
-            let first_starts = !given || self.holder.syllable().text.word_start;
+            let first_starts = !has_lent || self.holder.syllable().text.word_start;
             self.holder.place(position_by(first_starts, starts));
             self.reader.place(position_by(starts, true));
             2
         } else {
-            self.reader.place(position_by(!given || starts, true));
+            self.reader.place(position_by(!has_lent || starts, true));
             swap(&mut self.reader, &mut self.holder);
             1
         }

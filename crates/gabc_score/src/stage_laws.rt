@@ -30,7 +30,7 @@ pub fn a_fresh_stage_emits(
     requires counts { AreCountsBelow inputs.items }
     requires fits { Fits out.old (16 * (length inputs.items + 1)) }
     ensures { OnOk result (out.new ≡ extended_by out.old (concat_of
-        (map (λ (outs : List ScoreOutput). events_of outs)
+        (map (λ (outputs : List ScoreOutput). events_of outputs)
         (score_outputs texts_by_stage limits inputs.items)))) }
 {
     let mut stage = ScoreStage::with_limits(alloc, limits)?;
@@ -54,8 +54,8 @@ pub fn inputs_that_cease_give_no_stop()
 
 /// Behind a stop a stage gives nothing, whatever it has read and whatever follows.
 pub fn nothing_follows_a_stop()
-    ensures { (s : ScoreStageState) (fault : Fault) (given : List HeadEvent) →
-        concat_of (left_of s (Stop fault ∷ given)) ≡ concat_of (left_of s (Stop fault ∷ [])) }
+    ensures { (s : ScoreStageState) (fault : Fault) (later : List HeadEvent) →
+        concat_of (left_of s (Stop fault ∷ later)) ≡ concat_of (left_of s (Stop fault ∷ [])) }
 {}
 
 /// Of whatever a stage of headers gives of a text with fewer than 2^63 bytes no count reaches its last value, and a score reads the

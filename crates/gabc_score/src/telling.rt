@@ -48,11 +48,11 @@ fn tell_lent(count: usize, out: &mut Room<ScoreEvent>)
     }
 }
 
-/// Gives what was found at a point, and the held syllable if another is whole, which is held then. `given` tells whether one was
-/// given before. Tells whether it gave one.
+/// Gives what was found at a point, and the held syllable if another is whole, which is held then. `has_lent` tells whether one was
+/// lent before. Tells whether it gave one.
 pub(crate) fn tell_point(
     pair: &mut SlotPair,
-    given: bool,
+    has_lent: bool,
     found: &mut Room<Finding>,
     out: &mut Room<ScoreEvent>,
 ) -> bool
@@ -61,42 +61,47 @@ pub(crate) fn tell_point(
     ensures gathered { pair.new.gathered ≡ with_held pair.old.gathered }
     ensures used { is_made pair.new.used ≡ false }
     ensures gave { result ≡ nat_lt 1 (length pair.old.gathered.made) }
-    ensures told { let made = pair.old.gathered.made in
-        Tells (outputs_of found.old.items (take (length made - 1) (placed_behind given made)))
+    ensures emitted { let made = pair.old.gathered.made in
+        Tells (outputs_of found.old.items (take (length made - 1) (placed_behind has_lent made)))
         out.old out.new pair.new.first pair.new.second }
     ensures few { length (take (length pair.old.gathered.made - 1)
-        (placed_behind given pair.old.gathered.made)) ≤ 1 }
+        (placed_behind has_lent pair.old.gathered.made)) ≤ 1 }
     ensures found { found.new ≡ record found.old { items = [] } }
 {
     tell_found(found.slice(), out);
     found.clear();
-    let count = pair.turn(given);
+    let count = pair.turn(has_lent);
     tell_lent(count, out);
     count > 0
 }
 
 /// Gives the held syllable as the last one, and the fault that stops the score.
-pub(crate) fn tell_stop(pair: &mut SlotPair, given: bool, fault: Fault, out: &mut Room<ScoreEvent>)
+pub(crate) fn tell_stop(
+    pair: &mut SlotPair,
+    has_lent: bool,
+    fault: Fault,
+    out: &mut Room<ScoreEvent>,
+)
     requires used { pair.old.used ≢ SlotUse.Lent }
     requires fits { Fits out.old 16 }
-    ensures told { Tells (outputs_of [] (placed_behind given pair.old.held) ++ Stop fault ∷ [])
+    ensures emitted { Tells (outputs_of [] (placed_behind has_lent pair.old.held) ++ Stop fault ∷ [])
         out.old out.new pair.new.first pair.new.second }
-    ensures few { length (placed_behind given pair.old.held) ≤ 1 }
+    ensures few { length (placed_behind has_lent pair.old.held) ≤ 1 }
 {
-    let count = pair.give_held(given);
+    let count = pair.give_held(has_lent);
     tell_lent(count, out);
     out.push(ScoreEvent::Stop(fault));
 }
 
 /// Gives the held syllable as the last one, where the source has failed.
-pub(crate) fn tell_broken(pair: &mut SlotPair, given: bool, out: &mut Room<ScoreEvent>)
+pub(crate) fn tell_broken(pair: &mut SlotPair, has_lent: bool, out: &mut Room<ScoreEvent>)
     requires used { pair.old.used ≢ SlotUse.Lent }
     requires fits { Fits out.old 16 }
-    ensures told { Tells (outputs_of [] (placed_behind given pair.old.held))
+    ensures emitted { Tells (outputs_of [] (placed_behind has_lent pair.old.held))
         out.old out.new pair.new.first pair.new.second }
-    ensures few { length (placed_behind given pair.old.held) ≤ 1 }
+    ensures few { length (placed_behind has_lent pair.old.held) ≤ 1 }
 {
-    let count = pair.give_held(given);
+    let count = pair.give_held(has_lent);
     tell_lent(count, out);
 }
 
@@ -104,7 +109,7 @@ pub(crate) fn tell_broken(pair: &mut SlotPair, given: bool, out: &mut Room<Score
 /// whether a last text is a syllable.
 pub(crate) fn tell_end(
     pair: &mut SlotPair,
-    given: bool,
+    has_lent: bool,
     has_last: bool,
     at: Place,
     found: &[Finding],
@@ -113,15 +118,15 @@ pub(crate) fn tell_end(
     requires used { pair.old.used ≢ SlotUse.Lent }
     requires few { length found.now ≤ 8 }
     requires fits { Fits out.old 16 }
-    ensures told { let g = pair.old.gathered in
-        Tells (outputs_of (found.now ++ end_findings at has_last (g.eu || g.nlba)) (placed_behind given g.made) ++ End ∷ [])
+    ensures emitted { let g = pair.old.gathered in
+        Tells (outputs_of (found.now ++ end_findings at has_last (g.eu || g.nlba)) (placed_behind has_lent g.made) ++ End ∷ [])
         out.old out.new pair.new.first pair.new.second }
-    ensures few { length (placed_behind given pair.old.gathered.made) ≤ 2 }
+    ensures few { length (placed_behind has_lent pair.old.gathered.made) ≤ 2 }
 {
     tell_found(found, out);
     tell_code(has_last, at, Code::W9, out);
     tell_code(pair.has_open(), at, Code::W11, out);
-    let count = pair.give_all(given);
+    let count = pair.give_all(has_lent);
     tell_lent(count, out);
     out.push(ScoreEvent::End);
 }

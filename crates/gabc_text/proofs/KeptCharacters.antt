@@ -34,7 +34,7 @@ codes_placed p [] = refl
 codes_placed p (c ∷ t) = ap (λ (v : List ℕ). c ∷ v) (codes_placed (next_place p c) t)
 
 pub events_of : (at : Place) (t : List ℕ) (s : TextStage) → ((u : List ℕ) → CountsFit at u → events_left s u ≡ events_by_point at u) → CountsFit at t → events_left s (codes_of (placed_characters_from at t)) ≡ events_by_point at t
-events_of at t s gives fits = ap (events_left s) (codes_placed at t) ∙ gives t fits
+events_of at t s fresh_emits fits = ap (events_left s) (codes_placed at t) ∙ fresh_emits t fits
 
 codes_kept : (events : List TextEvent) → codes_of (kept_chars_in events) ≡ kept_in events
 codes_kept [] = refl

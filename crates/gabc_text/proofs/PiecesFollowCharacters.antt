@@ -279,7 +279,7 @@ settle_pays : (t : TextStage) (o : Option TokenKind) → IsPaid t.mode o → Pay
 settle_pays t None h = record { paid = omega arith }
 settle_pays t (Some k) h = record { paid = let p = (token_pays t k tag.Other t.progress.next t.progress.start).paid in let q = h t.facts in omega (arith, p, q) }
 
-push_pays : (t : TextStage) (c : ℕ) → Pays (pieces_owed t) (events_of_push t c) (pieces_owed (push_stage t c))
+pub push_pays : (t : TextStage) (c : ℕ) → Pays (pieces_owed t) (events_of_push t c) (pieces_owed (push_stage t c))
 push_pays t c = by t.done
   where
     at_end : (s : TextStage) (b : Bool) → Pays (pieces_owed s) (cond b (events_of_end s.facts s.progress text_ending.Notes) (events_of_reading s c)) (pieces_owed (cond b (end_stage s) (read_stage s c)))

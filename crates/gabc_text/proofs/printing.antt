@@ -18,3 +18,4 @@ pub mod TokensAreReadAgain
 pub mod TokensOfKeptText
 pub mod ViewForwardIsViewBackward
 pub mod ViewFromFirstToken
+pub mod TextIsOneSpan

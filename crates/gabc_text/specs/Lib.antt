@@ -10,8 +10,10 @@ pub mod FactsPast
 pub mod PiecesOwed
 pub mod Printed
 pub mod PrintedView
+pub mod TakenAtOnce
 pub mod TextFacts
 pub mod TextRead
+pub mod TextSpan
 pub mod TextStage
 pub mod TextView
 pub mod Token

@@ -1,9 +1,10 @@
 //! The canonical text of a view.
 
-ghost use Rattle.std.specs.Prelude.{◌≡◌, ◌-◌, ◌^◌, ◌≤◌, ◌↔◌, IsTrue, length, min, cond, [], reverse, List, ℕ};
+ghost use Rattle.std.specs.Prelude.{◌≡◌, ◌-◌, ◌^◌, ◌≤◌, ◌↔◌, IsTrue, IsSome, None, Some, length, min, cond, [], drop, reverse, List, ℕ};
 ghost use Rattle.std.specs.List.{flat_map};
-ghost use Rattle.gabc_text.specs.machine.Runs.{text_at, text_behind};
+ghost use Rattle.gabc_text.specs.machine.Runs.{text_at, text_behind, text_behind_run};
 ghost use Rattle.gabc_text.specs.machine.ChangedStyles.{common_styles, differs, changed_styles};
+ghost use Rattle.gabc_text.specs.TextSpan.{GoOn, GoOnAt, GoesOnAt, IsAsKept, IsOnePart};
 ghost use Rattle.gabc_text.specs.TextView.{content_of};
 ghost use Rattle.gabc_text.specs.Canonical.{after_common, style_opening, style_closing, listed_styles, braces, boundary, span_bytes, needs_dollar, piece_text, canonical_text};
 
@@ -197,10 +198,12 @@ fn lies_in(span: Span, kept: &str) -> bool
 }
 
 /// Whether the span of `piece` lies in the kept text, and its bytes there are the text of `piece`.
+#[inline(always)]
 fn is_as_kept(piece: Piece, kept: &str) -> bool
     ensures text { IsTrue result → piece_text kept.now piece ≡ span_bytes kept.now piece.span }
     ensures ordered { IsTrue result → piece.span.from ≤ piece.span.to }
     ensures within { IsTrue result → piece.span.to ≤ length kept.now }
+    ensures all { IsAsKept kept.now piece → IsTrue result }
 {
     if !lies_in(piece.span, kept) {
         return false;
@@ -213,6 +216,7 @@ fn is_as_kept(piece: Piece, kept: &str) -> bool
 }
 
 /// Whether `piece` goes on where `run` ends, behind a piece with the styles `old`, with nothing but its kept bytes.
+#[inline(always)]
 fn joins(run: Span, old: Styles, piece: Piece, braces: &str, kept: &str) -> bool
     ensures text { IsTrue result → piece_text kept.now piece ≡ span_bytes kept.now piece.span }
     ensures ordered { IsTrue result → piece.span.from ≤ piece.span.to }
@@ -220,6 +224,7 @@ fn joins(run: Span, old: Styles, piece: Piece, braces: &str, kept: &str) -> bool
     ensures meets { IsTrue result → run.to ≡ piece.span.from }
     ensures styles { IsTrue result → old ≡ piece.styles }
     ensures no_braces { IsTrue result → braces.now ≡ [] }
+    ensures all { braces.now ≡ [] → GoesOnAt kept.now old run.to piece → IsTrue result }
 {
     if old != piece.styles {
         return false;
@@ -268,6 +273,8 @@ struct Run {
 fn first_run(pieces: &[Piece]) -> Run
     ensures empty { result.span.from ≡ result.span.to }
     ensures first { result.next ≡ 0 }
+    ensures start { (kept : List ℕ) → GoOn kept pieces.now →
+        GoOnAt kept Styles.NONE result.span.to pieces.now }
 {
     let from = match pieces {
         [first, ..] => first.span.from,
@@ -279,8 +286,34 @@ fn first_run(pieces: &[Piece]) -> Run
     }
 }
 
-/// The run with all pieces that join it, where `old` are its styles. The loop goes over most pieces and puts no bytes, so its
-/// variables stay in registers.
+/// The run with all of `pieces` that join it, where `old` are its styles. The loop goes over most pieces and puts no bytes, so its
+/// variables stay in registers. It is compiled in place, so that what is known of `centre` and `old` there is not asked in the loop.
+#[inline(always)]
+fn joined_run(pieces: &[Piece], centre: Option<Span>, kept: &str, old: Styles, run: Run) -> Run
+    requires ordered { run.span.from ≤ run.span.to }
+    requires within { run.next ≤ length pieces.now }
+    ensures text { text_behind_run centre pieces.now kept.now old result
+        ≡ text_behind_run centre pieces.now kept.now old run }
+    ensures behind { run.next ≤ result.next }
+    ensures within { result.next ≤ length pieces.now }
+    ensures all { centre ≡ None → GoOnAt kept.now old run.span.to (drop run.next pieces.now) →
+        result.next ≡ length pieces.now }
+{
+    let mut span = run.span;
+    for index in run.next..pieces.len() {
+        let piece = pieces[index];
+        if !joins(span, old, piece, braces(centre, index), kept) {
+            return Run { span, next: index };
+        }
+        span.to = piece.span.to;
+    }
+    Run {
+        span,
+        next: pieces.len(),
+    }
+}
+
+/// The run with all pieces of `view` that join it, where `old` are its styles.
 #[inline(never)]
 fn whole_run(view: &TextView, kept: &str, old: Styles, run: Run) -> Run
     requires ordered { run.span.from ≤ run.span.to }
@@ -290,19 +323,7 @@ fn whole_run(view: &TextView, kept: &str, old: Styles, run: Run) -> Run
     ensures behind { run.next ≤ result.next }
     ensures within { result.next ≤ length view.now.pieces.items }
 {
-    let pieces = view.pieces.as_slice();
-    let mut span = run.span;
-    for index in run.next..pieces.len() {
-        let piece = pieces[index];
-        if !joins(span, old, piece, braces(view.centre, index), kept) {
-            return Run { span, next: index };
-        }
-        span.to = piece.span.to;
-    }
-    Run {
-        span,
-        next: pieces.len(),
-    }
+    joined_run(view.pieces.as_slice(), view.centre, kept, old, run)
 }
 
 /// Puts the run with all pieces that join it, where `old` are its styles, and tells the index of the piece behind them.
@@ -319,25 +340,19 @@ fn put_run<S: Put>(view: &TextView, kept: &str, old: Styles, run: Run, out: &mut
     whole.next
 }
 
-/// Returns whether `view` has neither pieces nor a centre, so that its text is empty.
-fn says_nothing(view: &TextView) -> bool
-    ensures { IsTrue result → (kept : List ℕ) → canonical_text (content_of view.now) kept ≡ [] }
-{
-    view.pieces.is_empty() && view.centre.is_none()
-}
-
 /// Puts the canonical text of `view` without its translation, whose spans count the bytes of `kept`: its pieces with the tags
 /// of their styles, one inside another (GregorioRef, "Syllable Text Syntax"). A span that does not lie in the kept text stands
 /// for nothing. A room without `text_len` bytes left gets as many of them as fit. It asks for no memory.
 pub fn write_text<S: Put>(view: &TextView, kept: &str, out: &mut S)
     ensures { out.new ≡ S.taken out.old (canonical_text (content_of view.now) kept.now) }
 {
-    if !says_nothing(view) {
-        write_pieces(view, kept, out);
+    match text_span(view, kept) {
+        Some(span) => put_span(span, kept, out),
+        None => write_pieces(view, kept, out),
     }
 }
 
-/// Puts what `write_text` puts, also where this is nothing. It stays out of line, for `write_text` to be short.
+/// Puts what `write_text` puts, piece by piece. It stays out of line, for `write_text` to be short.
 #[inline(never)]
 fn write_pieces<S: Put>(view: &TextView, kept: &str, out: &mut S)
     ensures { out.new ≡ S.taken out.old (canonical_text (content_of view.now) kept.now) }
@@ -357,6 +372,26 @@ fn write_pieces<S: Put>(view: &TextView, kept: &str, out: &mut S)
         next = put_run(view, kept, old, run, out);
     }
     put_boundary(old, Styles::NONE, braces(view.centre, next), out);
+}
+
+/// Returns the part of `kept` that the canonical text of `view` is, if it is one: if its pieces follow one another there, and nothing is put
+/// before, between or behind them. An empty text may be any part without bytes.
+#[inline(always)]
+pub fn text_span(view: &TextView, kept: &str) -> Option<Span>
+    ensures text { (span : Span) → result ≡ Some span →
+        canonical_text (content_of view.now) kept.now ≡ span_bytes kept.now span }
+    ensures one { IsOnePart (content_of view.now) kept.now → IsSome result }
+{
+    let None = view.centre else {
+        return None;
+    };
+    let pieces = view.pieces.as_slice();
+    let whole = joined_run(pieces, None, kept, Styles::NONE, first_run(pieces));
+    if whole.next == pieces.len() {
+        Some(whole.span)
+    } else {
+        None
+    }
 }
 
 /// Returns how many bytes `write_text` puts; it saturates at the last value of a `usize`.

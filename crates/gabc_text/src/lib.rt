@@ -14,6 +14,7 @@
 #![tactic(auto)]
 
 mod canonical;
+mod emit;
 mod kept;
 pub mod laws;
 mod progress;
@@ -27,7 +28,7 @@ mod token_state;
 mod view;
 mod whole;
 
-pub use canonical::{text_len, write_text};
+pub use canonical::{text_len, text_span, write_text};
 pub use kept::kept_chars;
 pub use stage::{TextEnd, TextEvent, TextPart, TextStage};
 pub use styles::{Style, Styles};

@@ -1,12 +1,13 @@
 //! Where in a text the machine stands, and what it has counted.
 
-ghost use Rattle.std.specs.Prelude.{◌≡◌};
+ghost use Rattle.std.specs.Prelude.{◌≡◌, None, ℕ};
 ghost use Rattle.gabc_text.specs.TextStage.{count_plus, place_after_char};
 ghost use Rattle.gabc_text.specs.View.{centre_by};
-ghost use Rattle.gabc_text.specs.Events.{count_by};
-ghost use Rattle.gabc_text.specs.EventsLeft.{piece_by, piece_there, waiting_behind};
+ghost use Rattle.gabc_text.specs.Events.{count_by, option_list_of};
+ghost use Rattle.gabc_text.specs.EventsLeft.{parts_by, piece_by, piece_there, waiting_behind};
 ghost use Rattle.gabc_text.specs.machine.TextStage.{progress_after, progress_past};
 
+use crate::stage::TextPart;
 use crate::text_facts::{TextFacts, piece_at};
 use crate::token::{TagEffect, TokenKind};
 use crate::view::{Piece, PieceKind};
@@ -76,6 +77,37 @@ pub(crate) fn piece_there(
             from,
             to: progress.kept,
         },
+    }
+}
+
+/// The part that a token is which is no piece, if it is one. Before its last character, `last` bytes were kept.
+pub(crate) fn part_at(
+    facts: TextFacts,
+    progress: Progress,
+    kind: TokenKind,
+    last: usize,
+) -> Option<TextPart>
+    ensures { (to : ℕ) → option_list_of result ≡ parts_by facts progress kind last to None }
+{
+    match kind {
+        TokenKind::Blank => {
+            if facts.word || facts.starts {
+                None
+            } else {
+                Some(TextPart::WordStart)
+            }
+        }
+        TokenKind::Translation => {
+            if facts.translated {
+                None
+            } else {
+                Some(TextPart::Translation(Span {
+                    from: plus(progress.start, 1),
+                    to: last,
+                }))
+            }
+        }
+        _ => None,
     }
 }
 

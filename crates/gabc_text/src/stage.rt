@@ -1,29 +1,29 @@
 //! The machine that reads a text, one character at a time.
 
-ghost use Rattle.std.specs.Prelude.{◌≡◌, ◌==◌, ◌&&◌, not, cond, ℕ, ◌+◌, ◌≤◌, List, [], ◌∷◌, length, map, true, None};
+ghost use Rattle.std.specs.Prelude.{◌≡◌, ◌==◌, ◌&&◌, not, ℕ, ◌+◌, ◌≤◌, List, length, map, true, false, None, IsTrue, IsSome};
 ghost use Rattle.std.specs.Str.{chars, NonePass};
 ghost use Rattle.gabc_places.specs.BoundedList.{Fits, extended_by};
 ghost use Rattle.gabc_text.specs.TextStage.{fresh_stage};
-ghost use Rattle.gabc_text.specs.machine.TextStage.{token_stage, events_of_token, settle_stage, events_of_settling, read_stage, events_of_reading, events_of_end, end_stage, push_stage, events_of_push, finish_stage, events_of_finish, char_event, is_cut_end, end_by};
-ghost use Rattle.gabc_text.specs.TextFacts.{has_style};
-ghost use Rattle.gabc_text.specs.View.{all_styles, piece_kind};
-ghost use Rattle.gabc_text.specs.Events.{option_list_of};
-ghost use Rattle.std.specs.List.{list_any};
-ghost use Rattle.gabc_text.specs.EventsLeft.{events_left, parts_by, findings_there};
+ghost use Rattle.gabc_text.specs.machine.TextStage.{token_stage, events_of_token, settle_stage, events_of_settling, read_stage, events_of_reading, events_of_end, end_stage, push_stage, events_of_push, finish_stage, events_of_finish, is_cut_end, end_by, IsSilentToken, IsKeptAlone};
+ghost use Rattle.gabc_text.specs.View.{piece_kind};
+ghost use Rattle.gabc_text.specs.EventsLeft.{events_left, parts_by};
 ghost use Rattle.gabc_text.specs.machine.TokenState.{IsLetterBetween};
 ghost use Rattle.gabc_text.specs.machine.RawPart.{stage_past, is_in_raw};
 ghost use Rattle.gabc_text.specs.Events.{CountsFit, codes_of, events_by_point};
 ghost use Rattle.gabc_text.specs.End.{is_end};
+ghost use Rattle.gabc_text.specs.TakenAtOnce.{letter_piece, TakesLetter, TakesEnd, StandsBeforeLetter, StandsBeforeSilentEnd, is_silent_end, Takes, kept_events, word_events, StandsBeforeFirstBlank, StandsWithin, stays_within};
 
-use crate::progress::{Progress, centre, piece_there, plus};
-use crate::styles::Styles;
-use crate::text_facts::{TextFacts, code_at, early_at, keep, kind_of, no_facts};
+use crate::emit::{emit_char, emit_code, emit_part, emit_piece};
+use crate::progress::{Progress, centre, part_at, piece_there};
+use crate::text_facts::{
+    TextFacts, centre_code, code_at, early_at, keep, kind_of, no_facts, style_code,
+};
 use crate::token::{TagEffect, TokenKind};
 use crate::token_state::{
     Step, TokenState, is_plain, is_plain_letter, is_unmatched, kind_at_end, next_step, settled_kind,
 };
-use crate::view::Piece;
-use gabc_places::{Char, Code, Finding, Place, Room, Span, Stage};
+use crate::view::{Piece, PieceKind};
+use gabc_places::{Char, Finding, Place, Room, Span, Stage};
 
 /// A part of a text's view.
 #[derive(Clone, Copy, Debug, PartialEq, Eq)]
@@ -69,81 +69,6 @@ pub struct TextStage {
     done: bool,
 }
 
-/// Adds the character that is kept, if one is.
-#[inline(always)]
-fn emit_char(out: &mut Room<TextEvent>, place: Place, kept: Option<char>)
-    requires { Fits out.old 1 }
-    ensures events { out.new ≡ extended_by out.old (option_list_of (char_event place kept)) }
-    ensures few { length out.new.items ≤ length out.old.items + 1 }
-{
-    if let Some(c) = kept {
-        out.push(TextEvent::Kept(Char { c, place }));
-    }
-}
-
-/// Adds a part, if there is one.
-fn emit_part(out: &mut Room<TextEvent>, part: Option<TextPart>)
-    requires { Fits out.old 1 }
-    ensures events { out.new
-        ≡ extended_by out.old (map (λ p. TextEvent.Part p) (option_list_of part)) }
-    ensures few { length out.new.items ≤ length out.old.items + 1 }
-{
-    if let Some(part) = part {
-        out.push(TextEvent::Part(part));
-    }
-}
-
-/// Adds a piece, if there is one.
-#[inline(always)]
-fn emit_piece(out: &mut Room<TextEvent>, piece: Option<Piece>)
-    requires { Fits out.old 1 }
-    ensures events { out.new ≡ extended_by out.old (map (λ p. TextEvent.Part p)
-        (map (λ p. TextPart.Piece p) (option_list_of piece))) }
-    ensures few { length out.new.items ≤ length out.old.items + 1 }
-{
-    if let Some(piece) = piece {
-        out.push(TextEvent::Part(TextPart::Piece(piece)));
-    }
-}
-
-/// Adds a finding of this code, if there is one.
-#[inline(always)]
-fn emit_code(out: &mut Room<TextEvent>, place: Place, code: Option<Code>)
-    requires { Fits out.old 1 }
-    ensures events { out.new ≡ extended_by out.old (findings_there place (option_list_of code)) }
-    ensures few { length out.new.items ≤ length out.old.items + 1 }
-{
-    if let Some(code) = code {
-        out.push(TextEvent::Found(Finding { place, code }));
-    }
-}
-
-/// The part that a token is which is no piece, if it is one. Before its last character, `last` bytes were kept.
-fn part_at(facts: TextFacts, progress: Progress, kind: TokenKind, last: usize) -> Option<TextPart>
-    ensures { (to : ℕ) → option_list_of result ≡ parts_by facts progress kind last to None }
-{
-    match kind {
-        TokenKind::Blank => {
-            if facts.word || facts.starts {
-                None
-            } else {
-                Some(TextPart::WordStart)
-            }
-        }
-        TokenKind::Translation => {
-            if facts.translated {
-                None
-            } else {
-                Some(TextPart::Translation(Span {
-                    from: plus(progress.start, 1),
-                    to: last,
-                }))
-            }
-        }
-        _ => None,
-    }
-}
-
 /// Whether a text is cut that ends so.
 fn is_cut(how: TextEnd) -> bool
     ensures { result ≡ is_cut_end how }
@@ -151,29 +76,6 @@ fn is_cut(how: TextEnd) -> bool
     match how {
         TextEnd::Cut(_) => true,
         _ => false,
-    }
-}
-
-/// The finding of styles that are open where a text ends.
-fn style_code(styles: Styles) -> Option<Code>
-    ensures { option_list_of result
-        ≡ cond (list_any (has_style styles) all_styles) (Code.W3 ∷ []) [] }
-{
-    if styles.is_empty() {
-        None
-    } else {
-        Some(Code::W3)
-    }
-}
-
-/// The finding of a centre that is open where a text ends.
-fn centre_code(facts: TextFacts) -> Option<Code>
-    ensures { option_list_of result ≡ cond (facts.begun && not facts.ended) (Code.W4 ∷ []) [] }
-{
-    if facts.begun && !facts.ended {
-        Some(Code::W4)
-    } else {
-        None
     }
 }
 
@@ -200,6 +102,93 @@ impl TextStage {
             },
             done: false,
         }
+    }
+
+    /// Takes `x` without a room for its events, where it is a letter of ASCII between tokens and no blank waits: it is kept, and it is a
+    /// piece by itself. Returns that piece. Where it returns none, nothing changes, and `push` takes `x`.
+    #[inline(always)]
+    pub fn take_letter(&mut self, x: Char) -> Option<Piece>
+        ensures taken { TakesLetter self.old x result self.new }
+        ensures takes { StandsBeforeLetter self.old x.c → IsSome result }
+    {
+        match self.mode {
+            TokenState::Plain
+                if !self.done && self.progress.blank.is_none() && is_plain_letter(x.c) => {
+                Some(self.pass_letter(x.c))
+            }
+            _ => None,
+        }
+    }
+
+    /// Takes `x` without a room for its events, where it is the blank that begins a word: between tokens, with no piece and no blank before
+    /// it. It is kept, and the syllable begins a word. Returns whether it did. Where it did not, nothing changes, and `push` takes `x`.
+    #[inline(always)]
+    pub fn take_blank(&mut self, x: Char) -> bool
+        ensures taken { result ≡ true → Takes self.old x.c (word_events self.old x.c) self.new }
+        ensures same { result ≡ false → self.new ≡ self.old }
+        ensures takes { StandsBeforeFirstBlank self.old x.c → IsTrue result }
+    {
+        let facts = self.facts;
+        match self.mode {
+            TokenState::Plain
+                if x.c == ' ' && !self.done && !(facts.word || facts.starts || facts.space) => {
+                self.pass_blank();
+                true
+            }
+            _ => false,
+        }
+    }
+
+    /// Takes `x` without a room for its events, where it is kept and nothing else is emitted at it: as in a tag or a translation, and as a blank
+    /// behind a word. Returns whether it did. Where it did not, nothing changes, and `push` takes `x`.
+    #[inline(never)]
+    pub fn take_kept(&mut self, x: Char) -> bool
+        ensures taken { result ≡ true → Takes self.old x.c (kept_events self.old x.c) self.new }
+        ensures same { result ≡ false → self.new ≡ self.old }
+        ensures takes { StandsWithin self.old x.c → IsTrue result }
+    {
+        if self.done || !self.keeps_alone(x.c) {
+            return false;
+        }
+        match next_step(self.mode, x.c) {
+            Step::Stays(mode) => {
+                self.progress.pass(x.c, Some(x.c));
+                self.mode = mode;
+                true
+            }
+            Step::Ends { kind, effect } => {
+                let silent = self.is_silent(kind, effect);
+                if silent {
+                    self.progress.pass(x.c, Some(x.c));
+                    self.pass_token(kind, effect);
+                }
+                silent
+            }
+        }
+    }
+
+    /// Takes the `(` of the notes without a room for its events, where it ends the text with nothing before that to emit: between tokens,
+    /// with no style open and no centre. Returns whether it did. Where it did not, nothing changes, and `push` takes the `(`.
+    pub fn take_end(&mut self) -> bool
+        ensures taken { TakesEnd self.old result self.new }
+        ensures takes { StandsBeforeSilentEnd self.old → IsTrue result }
+    {
+        match self.mode {
+            TokenState::Plain if !self.done && self.ends_silently() => {
+                self.done = true;
+                true
+            }
+            _ => false,
+        }
+    }
+
+    /// Whether an end of the text emits nothing before it, where it stands.
+    fn ends_silently(&self) -> bool
+        ensures { result ≡ is_silent_end self.now }
+    {
+        style_code(self.facts.styles).is_none()
+            && centre_code(self.facts).is_none()
+            && self.progress.begin.is_none()
     }
 
     /// Adds the parts that a token is: a piece comes with the blank that waits for it. Before its last character, `last` bytes were
@@ -288,6 +277,76 @@ impl TextStage {
         }
     }
 
+    /// Goes past the character, which is a letter between tokens, and returns the piece that it is. This does with the stage what `read`
+    /// does, without its tests.
+    #[inline(always)]
+    fn pass_letter(&mut self, c: char) -> Piece
+        requires between { self.old.mode ≡ TokenState.Plain }
+        requires letter { IsLetterBetween c }
+        ensures stage { self.new ≡ read_stage self.old c }
+        ensures piece { result ≡ letter_piece self.old c }
+    {
+        let last = self.progress.kept;
+        self.progress.pass(c, Some(c));
+        let piece = piece_there(self.facts, self.progress, PieceKind::Char, last);
+        let place = self.progress.next;
+        self.progress
+            .pass_token(self.facts, TokenKind::Letter, TagEffect::Other, place);
+        self.facts.pass(TokenKind::Letter, TagEffect::Other);
+        piece
+    }
+
+    /// Goes past a blank between tokens that begins a word. This does with the stage what `read` does, without its tests.
+    #[inline(always)]
+    fn pass_blank(&mut self)
+        requires between { self.old.mode ≡ TokenState.Plain }
+        requires space { self.old.facts.space ≡ false }
+        ensures { self.new ≡ read_stage self.old 32 }
+    {
+        self.progress.pass(' ', Some(' '));
+        self.pass_token(TokenKind::Blank, TagEffect::Other);
+    }
+
+    /// Goes past a token, which ends before the next character.
+    #[inline(always)]
+    fn pass_token(&mut self, kind: TokenKind, effect: TagEffect)
+        ensures { self.new ≡ token_stage self.old kind effect self.old.progress.next }
+    {
+        let place = self.progress.next;
+        self.mode = TokenState::Plain;
+        self.progress.pass_token(self.facts, kind, effect, place);
+        self.facts.pass(kind, effect);
+    }
+
+    /// Whether a token that ends here emits nothing as a whole.
+    #[inline(always)]
+    fn is_silent(&self, kind: TokenKind, effect: TagEffect) -> bool
+        ensures silent { IsTrue result → IsSilentToken self.now.facts kind effect }
+    {
+        let part = part_at(self.facts, self.progress, kind, 0);
+        match (
+            kind_of(kind, effect),
+            part,
+            code_at(self.facts, kind, effect),
+        ) {
+            (None, None, None) => true,
+            _ => false,
+        }
+    }
+
+    /// Whether the character is kept as it is, where no token and no text ends before it, and nothing is found where its token begins.
+    #[inline(always)]
+    fn keeps_alone(&self, c: char) -> bool
+        ensures alone { IsTrue result → IsKeptAlone self.now c }
+        ensures within { stays_within self.now.mode c ≡ true → IsTrue result }
+    {
+        !(is_plain(self.mode) && is_plain_letter(c))
+            && settled_kind(self.mode, c).is_none()
+            && !(c == '(' && is_plain(self.mode))
+            && early_at(self.facts, self.mode, c).is_none()
+            && keep(self.facts, self.mode, c) == Some(c)
+    }
+
     /// The character, which is a letter between tokens. This does what `read` does, without its tests.
     fn letter(&mut self, c: char, out: &mut Room<TextEvent>)
         requires fits { Fits out.old 5 }
@@ -297,16 +356,10 @@ impl TextStage {
         ensures out { out.new ≡ extended_by out.old (events_of_reading self.old c) }
         ensures few { length out.new.items ≤ length out.old.items + 5 }
     {
-        let last = self.progress.kept;
         emit_char(out, self.progress.next, Some(c));
-        self.progress.pass(c, Some(c));
-        self.token(
-            TokenKind::Letter,
-            TagEffect::Other,
-            self.progress.next,
-            last,
-            out,
-        );
+        emit_piece(out, self.progress.blank);
+        let piece = self.pass_letter(c);
+        emit_piece(out, Some(piece));
     }
 
     /// The text ends.

@@ -1,13 +1,14 @@
 //! What the tokens so far have shown.
 
-ghost use Rattle.std.specs.Prelude.{◌≡◌};
+ghost use Rattle.std.specs.Prelude.{◌≡◌, ◌∷◌, ◌&&◌, [], cond, not};
+ghost use Rattle.std.specs.List.{list_any};
 ghost use Rattle.gabc_text.specs.machine.TextFacts.{styles_after, early_at, after_piece, after_tag, facts_after};
 ghost use Rattle.gabc_text.specs.Events.{option_list_of};
 ghost use Rattle.gabc_text.specs.FactsPast.{leaves_out};
 ghost use Rattle.gabc_text.specs.EventsLeft.{piece_by, codes_by};
-ghost use Rattle.gabc_text.specs.TextFacts.{no_facts};
+ghost use Rattle.gabc_text.specs.TextFacts.{has_style, no_facts};
 ghost use Rattle.gabc_text.specs.machine.TokenState.{keep, keep_first};
-ghost use Rattle.gabc_text.specs.View.{piece_kind};
+ghost use Rattle.gabc_text.specs.View.{all_styles, piece_kind};
 
 use crate::styles::Styles;
 use crate::token::{TagEffect, TokenKind, is_blank_kind, single};
@@ -135,6 +136,29 @@ pub(crate) fn code_at(facts: TextFacts, kind: TokenKind, effect: TagEffect) -> O
             _ => None,
         },
         _ => None,
+    }
+}
+
+/// The finding of styles that are open where a text ends.
+pub(crate) fn style_code(styles: Styles) -> Option<Code>
+    ensures { option_list_of result
+        ≡ cond (list_any (has_style styles) all_styles) (Code.W3 ∷ []) [] }
+{
+    if styles.is_empty() {
+        None
+    } else {
+        Some(Code::W3)
+    }
+}
+
+/// The finding of a centre that is open where a text ends.
+pub(crate) fn centre_code(facts: TextFacts) -> Option<Code>
+    ensures { option_list_of result ≡ cond (facts.begun && not facts.ended) (Code.W4 ∷ []) [] }
+{
+    if facts.begun && !facts.ended {
+        Some(Code::W4)
+    } else {
+        None
     }
 }
 

@@ -11,7 +11,7 @@ use Rattle.gabc_score.specs.declared.snippets.Snippet.{Snippet}
 use Rattle.gabc_write.specs.DumpOfNotes.{last_text, lines_of_notes}
 use Rattle.gabc_write.specs.DumpOfNabc.{lines_of_nabc}
 use Rattle.gabc_write.specs.DumpOfSyllables.{position_word, line_of_text, line_of_translation, lines_of_snippet, lines_of_syllable, lines_of_syllables}
-use Rattle.gabc_write.specs.Said.{SyllableSaid, said, AreSame}
+use Rattle.gabc_write.specs.SyllableMeaning.{SyllableMeaning, meaning_of, AreSame}
 
 -- the lines, by what is said
 lines_of_text : ℕ × List ℕ → List ℕ
@@ -21,7 +21,7 @@ translation_said : Option (List ℕ) → List ℕ
 translation_said None = []
 translation_said (Some t) = codes "translation:" ++ last_text t
 
-lines_said : ℕ → SyllableSaid → List ℕ
+lines_said : ℕ → SyllableMeaning → List ℕ
 lines_said number s =
     (codes "syllable " ++ (decimal number ++ (codes " " ++ (position_word s.position ++ ((if s.eu then codes " eu" else []) ++ ((if s.nlba then codes " nlba" else []) ++ codes "\n"))))))
     ++ (line_of_text s.text ++ (translation_said s.translation ++ flat_map lines_of_text s.snippets))
@@ -41,7 +41,7 @@ snippets_are kept (s ∷ ss) h =
     ap (λ (t : List ℕ). t ++ flat_map (lines_of_snippet kept) ss) first
     ∙ ap (λ (t : List ℕ). (if s.line == 0 then lines_of_notes (slice s.span kept) else lines_of_nabc s.line (slice s.span kept)) ++ t) (snippets_are kept ss (All-tail P s ss h))
 
-lines_are : (number : ℕ) (s : PlacedSyllable) → HasWholeSnippets s.made → lines_of_syllable number s ≡ lines_said number (said s)
+lines_are : (number : ℕ) (s : PlacedSyllable) → HasWholeSnippets s.made → lines_of_syllable number s ≡ lines_said number (meaning_of s)
 unfolding lines_said
 lines_are number s h = rw (translation_is s.made.kept s.made.text.translation, snippets_are s.made.kept s.made.snippets h) refl
 
@@ -53,8 +53,8 @@ same_lines number [] (t ∷ ts) a b e = cc
 same_lines number (s ∷ ss) [] a b e = cc
 same_lines number (s ∷ ss) (t ∷ ts) a b e =
     let P = λ (s : PlacedSyllable). HasWholeSnippets s.made in
-    let head : said s ≡ said t = ap (λ (u : List SyllableSaid). get_or u 0 (said s)) e in
-    let tail : AreSame ss ts = ap (λ (u : List SyllableSaid). drop 1 u) e in
+    let head : meaning_of s ≡ meaning_of t = ap (λ (u : List SyllableMeaning). get_or u 0 (meaning_of s)) e in
+    let tail : AreSame ss ts = ap (λ (u : List SyllableMeaning). drop 1 u) e in
     let first : lines_of_syllable number s ≡ lines_of_syllable number t =
     lines_are number s (All-head P s ss a) ∙ ap (lines_said number) head ∙ sym (lines_are number t (All-head P t ts b)) in
     ap (λ (u : List ℕ). u ++ lines_of_syllables (number + 1) ss) first

@@ -71,10 +71,10 @@ next_line index (g ∷ gs) h =
 pub record Behind (note : ℕ) (gs : List Glyph) : Type 0 where
   pub fits : more_if (begins_at note gs) 0 ≤ length gs
   pub ascends : Ascends (note + 1) (drop (more_if (begins_at note gs) 0) gs)
-  pub told : (index : ℕ) → note < index → line_of_glyph_at gs index ≡ line_of_glyph_at (drop (more_if (begins_at note gs) 0) gs) index
+  pub lines_same : (index : ℕ) → note < index → line_of_glyph_at gs index ≡ line_of_glyph_at (drop (more_if (begins_at note gs) 0) gs) index
 
 behind : (note : ℕ) (gs : List Glyph) → Ascends note gs → Behind note gs
-behind note [] h = record { fits = omega arith; ascends = tt; told = λ index l. refl }
+behind note [] h = record { fits = omega arith; ascends = tt; lines_same = λ index l. refl }
 behind note (g ∷ gs) h = go (g.first == note) refl
   where
     go : (b : Bool) → (g.first == note) ≡ b → Behind note (g ∷ gs)
@@ -84,12 +84,12 @@ behind note (g ∷ gs) h = go (g.first == note) refl
         record {
           fits = rw e (omega arith);
           ascends = rw e (subst (λ (n : ℕ). Ascends (n + 1) gs) same h.1);
-          told = λ index l. rw e (ap (λ (b : Bool). (if b then line_of_glyph g else []) ++ line_of_glyph_at gs index) (apart index l));
+          lines_same = λ index l. rw e (ap (λ (b : Bool). (if b then line_of_glyph g else []) ++ line_of_glyph_at gs index) (apart index l));
         }
     go false e =
         let a = h.0 in
         let apart : note + 1 ≤ g.first = (let other : ¬ (g.first ≡ note) = λ f. (let t : (g.first == note) ≡ true = rw f (same_there note) in absurd (cc)) in omega arith) in
-        record { fits = rw e (omega arith); ascends = rw e (apart, h.1); told = λ index l. rw e refl }
+        record { fits = rw e (omega arith); ascends = rw e (apart, h.1); lines_same = λ index l. rw e refl }
       where
         same_there : (n : ℕ) → (n == n) ≡ true
         same_there n = search arith
@@ -162,11 +162,11 @@ is_behind_segment [] = false
 is_behind_segment (i ∷ before) = is_in_segment i
 
 -- Inside a segment: the glyphs are those of its cut, and those left begin with the next note or later.
-pub record Open (kept : List ℕ) (before items : List Item) (note told : ℕ) (glyphs : List Glyph) : Type 0 where
-  pub fits : told ≤ length glyphs
+pub record Open (kept : List ℕ) (before items : List Item) (note glyphs_put : ℕ) (glyphs : List Glyph) : Type 0 where
+  pub fits : glyphs_put ≤ length glyphs
   pub read : glyphs ≡ glyphs_of (notes_before kept before ++ notes_behind kept items)
-  pub ascends : Ascends note (drop told glyphs)
-  pub lines : (index : ℕ) → note ≤ index → line_of_glyph_at glyphs index ≡ line_of_glyph_at (drop told glyphs) index
+  pub ascends : Ascends note (drop glyphs_put glyphs)
+  pub lines : (index : ℕ) → note ≤ index → line_of_glyph_at glyphs index ≡ line_of_glyph_at (drop glyphs_put glyphs) index
 
 -- Between what is before and the items.
 pub record Stands (kept : List ℕ) (before items : List Item) (place : ItemPlace) (glyphs : List Glyph) : Type 0 where
@@ -201,7 +201,7 @@ opened kept before items i place old e s = go place.in_segment refl
         let same : glyphs_from kept place.in_segment (i ∷ items) old ≡ all = rw (e, f) refl in
         let none = no_notes kept before (sym s.in_segment ∙ f) in
         let note : place.notes ≡ 0 = s.notes ∙ ap (length {A = Note}) none in
-        let told : place.glyphs ≡ 0 = s.none f in
+        let glyphs_put : place.glyphs ≡ 0 = s.none f in
         let fresh : Open kept before (i ∷ items) 0 0 all = record {
           fits = omega arith;
           read = ap (λ (x : List Note). glyphs_of (x ++ notes_behind kept (i ∷ items))) (sym none);
@@ -210,7 +210,7 @@ opened kept before items i place old e s = go place.in_segment refl
         } in
         subst (λ (gs : List Glyph). Open kept before (i ∷ items) place.notes place.glyphs gs) (sym same)
         (subst (λ (n : ℕ). Open kept before (i ∷ items) n place.glyphs all) (sym note)
-        (subst (λ (n : ℕ). Open kept before (i ∷ items) 0 n all) (sym told) fresh))
+        (subst (λ (n : ℕ). Open kept before (i ∷ items) 0 n all) (sym glyphs_put) fresh))
 
 more_is : (b : Bool) (n : ℕ) → more_if b n ≡ n + more_if b 0
 more_is true n = refl
@@ -231,14 +231,14 @@ element_same : (kept : List ℕ) (before : List Item) (i : Item) (b : Bool) (t :
 element_same kept before i b t e = ap (λ (x : Bool). (if is_in_element kept i && not x then codes "element\n" else []) ++ t) e
 
 -- inside a segment, an item that is a note
-step_note : (kept : List ℕ) (before items : List Item) (i : Item) (note told : ℕ) (glyphs : List Glyph) → is_in_segment i ≡ true → is_note i.kind ≡ true
-    → note ≡ length (notes_before kept before) → Open kept before (i ∷ items) note told glyphs
-    → (line_of_next note (drop told glyphs) ≡ glyph_line kept before i items) × Open kept (i ∷ before) items (note + 1) (more_if (begins_at note (drop told glyphs)) told) glyphs
-step_note kept before items i note told glyphs e f n o =
-    let left : List Glyph = drop told glyphs in
+step_note : (kept : List ℕ) (before items : List Item) (i : Item) (note glyphs_put : ℕ) (glyphs : List Glyph) → is_in_segment i ≡ true → is_note i.kind ≡ true
+    → note ≡ length (notes_before kept before) → Open kept before (i ∷ items) note glyphs_put glyphs
+    → (line_of_next note (drop glyphs_put glyphs) ≡ glyph_line kept before i items) × Open kept (i ∷ before) items (note + 1) (more_if (begins_at note (drop glyphs_put glyphs)) glyphs_put) glyphs
+step_note kept before items i note glyphs_put glyphs e f n o =
+    let left : List Glyph = drop glyphs_put glyphs in
     let b = behind note left o.ascends in
-    let more = more_is (begins_at note left) told in
-    let same : drop (more_if (begins_at note left) told) glyphs ≡ drop (more_if (begins_at note left) 0) left = ap (λ (k : ℕ). drop k glyphs) more ∙ sym (drop-drop (more_if (begins_at note left) 0) told glyphs) in
+    let more = more_is (begins_at note left) glyphs_put in
+    let same : drop (more_if (begins_at note left) glyphs_put) glyphs ≡ drop (more_if (begins_at note left) 0) left = ap (λ (k : ℕ). drop k glyphs) more ∙ sym (drop-drop (more_if (begins_at note left) 0) glyphs_put glyphs) in
     let fits = o.fits in
     let some = b.fits in
     let line : glyph_line kept before i items ≡ line_of_glyph_at glyphs note =
@@ -246,10 +246,10 @@ step_note kept before items i note told glyphs e f n o =
     ∙ (ap (λ (gs : List Glyph). line_of_glyph_at gs (length (notes_before kept before))) (sym o.read) ∙ ap (line_of_glyph_at glyphs) (sym n)) in (
       sym (line ∙ (o.lines note (omega arith) ∙ next_line note left o.ascends)),
       record {
-        fits = omega (arith, length-drop told glyphs);
+        fits = omega (arith, length-drop glyphs_put glyphs);
         read = o.read ∙ ap glyphs_of (same_notes kept before items i e);
         ascends = subst (Ascends (note + 1)) (sym same) b.ascends;
-        lines = λ index l. o.lines index (omega arith) ∙ (b.told index (omega arith) ∙ ap (λ (gs : List Glyph). line_of_glyph_at gs index) (sym same));
+        lines = λ index l. o.lines index (omega arith) ∙ (b.lines_same index (omega arith) ∙ ap (λ (gs : List Glyph). line_of_glyph_at gs index) (sym same));
       },
     )
 
@@ -299,15 +299,15 @@ step_inside kept before items i place old glyphs e s o = go (is_note i.kind) ref
     few true = let n = s.few in omega arith
     few false = let n = s.few in omega arith
 
-    step_with : (note told : ℕ) → note ≡ length (notes_before kept (i ∷ before)) → note ≤ length (i ∷ before) → told ≤ note → Open kept (i ∷ before) items note told glyphs
-        → Stands kept (i ∷ before) items (record { in_element = is_in_element kept i; in_segment = true; notes = note; glyphs = told }) glyphs
-    step_with note told n l m p = record { in_element = refl; in_segment = sym e; notes = n; few = l; few_told = m; none = λ x. absurd (cc); inside = λ x. p }
+    step_with : (note glyphs_put : ℕ) → note ≡ length (notes_before kept (i ∷ before)) → note ≤ length (i ∷ before) → glyphs_put ≤ note → Open kept (i ∷ before) items note glyphs_put glyphs
+        → Stands kept (i ∷ before) items (record { in_element = is_in_element kept i; in_segment = true; notes = note; glyphs = glyphs_put }) glyphs
+    step_with note glyphs_put n l m p = record { in_element = refl; in_segment = sym e; notes = n; few = l; few_told = m; none = λ x. absurd (cc); inside = λ x. p }
 
     go : (b : Bool) → is_note i.kind ≡ b → Step kept before items i place glyphs
     go true f =
         let t = step_note kept before items i place.notes place.glyphs glyphs e f s.notes o in
-        let told : ℕ = more_if (begins_at place.notes (drop place.glyphs glyphs)) place.glyphs in
-        let there : ItemPlace = record { in_element = is_in_element kept i; in_segment = true; notes = place.notes + 1; glyphs = told } in
+        let glyphs_put : ℕ = more_if (begins_at place.notes (drop place.glyphs glyphs)) place.glyphs in
+        let there : ItemPlace = record { in_element = is_in_element kept i; in_segment = true; notes = place.notes + 1; glyphs = glyphs_put } in
         let same : there ≡ place_behind kept place (drop place.glyphs glyphs) i = rw (e, f) refl in
         let tail : (if is_note i.kind then line_of_next place.notes (drop place.glyphs glyphs) else []) ++ line_of_item kept i ≡ glyph_line kept before i items ++ line_of_item kept i
         = ap (λ (x : Bool). (if x then line_of_next place.notes (drop place.glyphs glyphs) else []) ++ line_of_item kept i) f ∙ ap (λ (x : List ℕ). x ++ line_of_item kept i) t.0 in
@@ -315,7 +315,7 @@ step_inside kept before items i place old glyphs e s o = go (is_note i.kind) ref
           fits = o.fits;
           lines = ap (λ (x : List ℕ). (if is_in_element kept i && not place.in_element then codes "element\n" else []) ++ x) tail
               ∙ element_same kept before i place.in_element (glyph_line kept before i items ++ line_of_item kept i) s.in_element;
-          stands = subst (λ (p : ItemPlace). Stands kept (i ∷ before) items p glyphs) same (step_with (place.notes + 1) told (count true f) (few true) (let m = s.few_told in omega (arith, more_small (begins_at place.notes (drop place.glyphs glyphs)) place.glyphs)) t.1);
+          stands = subst (λ (p : ItemPlace). Stands kept (i ∷ before) items p glyphs) same (step_with (place.notes + 1) glyphs_put (count true f) (few true) (let m = s.few_told in omega (arith, more_small (begins_at place.notes (drop place.glyphs glyphs)) place.glyphs)) t.1);
         }
     go false f =
         let there : ItemPlace = record { in_element = is_in_element kept i; in_segment = true; notes = place.notes; glyphs = place.glyphs } in

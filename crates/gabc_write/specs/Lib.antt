@@ -8,6 +8,6 @@ pub mod DumpOfSyllables
 pub mod FileAgain
 pub mod Message
 pub mod PlainText
-pub mod Said
+pub mod SyllableMeaning
 pub mod ScoreAgain
 pub mod SyllableAgain

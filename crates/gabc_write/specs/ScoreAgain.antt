@@ -14,7 +14,7 @@ use Rattle.gabc_write.specs.BodyAgain.{SyllableFacts, AreSyllables, FirstBeginsW
 use Rattle.gabc_write.specs.CanonicalFile.{score_text}
 use Rattle.gabc_write.specs.FileAgain.{printed_file, IsFileAgain}
 use Rattle.gabc_write.specs.PlainText.{IsText}
-use Rattle.gabc_write.specs.Said.{AreSame}
+use Rattle.gabc_write.specs.SyllableMeaning.{AreSame}
 
 -- The canonical lines of this book and the canonical texts of these syllables are a file of what the units of the syllables say.
 -- Where the input was decoded from bytes, the file reads as a text that was.
@@ -48,5 +48,5 @@ pub record IsScoreAgain (limits : Limits) (input : List ℕ) (book : List (List 
   pub no_fault : (score_of limits Whole (printed_file book printed.facts)).fault ≡ None
   pub warnings : All IsWarning (score_of limits Whole (printed_file book printed.facts)).findings
   pub same : IsSameScore book printed.facts (score_of limits Whole (printed_file book printed.facts))
-  pub said : AreSame (score_of limits Whole (printed_file book printed.facts)).syllables syllables
+  pub same_meaning : AreSame (score_of limits Whole (printed_file book printed.facts)).syllables syllables
   pub same_file : score_text book (score_of limits Whole (printed_file book printed.facts)).syllables ≡ score_text book syllables

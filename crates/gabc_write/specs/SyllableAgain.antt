@@ -82,7 +82,7 @@ AreSnippetsAgain lines macros line _ behind _ = ⊥
 -- The unit, with these characters behind it, says this: its text says the same without an error, and its snippets are the same.
 -- All of its text is kept, the LF before a word as a blank, and its notes are these snippets.
 pub record SaysAgain (lines macros : ℕ) (unit : BodyUnit) (behind : List Char) (v : ViewFacts) (ss : List (List ℕ)) : Type 0 where
-  pub says : view_facts (score_unit unit behind).text ≡ v
+  pub view_stays : view_facts (score_unit unit behind).text ≡ v
   pub errors : (place : Place) → has_error (findings place (score_unit unit behind).text) ≡ false
   pub kept : kept (score_unit unit behind).text ≡ cond v.word_start (codes " ") [] ++ text_of_tokens (text_tokens v ++ translation_tokens v.translation)
   pub snippets : AreSnippetsAgain lines macros 0 (snippets_in unit) behind ss

@@ -41,11 +41,11 @@ impl ItemPlace {
         glyphs: 0,
     };
 
-    /// Returns the place behind `item`. It is part of an element if `in_element`, and a glyph's line was put before it if `told`.
-    fn behind(self, item: Item, in_element: bool, told: bool) -> ItemPlace
+    /// Returns the place behind `item`. It is part of an element if `in_element`, and a glyph's line was put before it if `with_glyph`.
+    fn behind(self, item: Item, in_element: bool, with_glyph: bool) -> ItemPlace
         requires notes { self.notes + 1 < 2 ^ 64 }
         requires glyphs { self.glyphs ≤ self.notes }
-        ensures { result ≡ place_after self item in_element told }
+        ensures { result ≡ place_after self item in_element with_glyph }
     {
         if !is_in_segment(item) {
             return ItemPlace {
@@ -57,7 +57,7 @@ impl ItemPlace {
             ItemKind::Note => 1,
             _ => 0,
         };
-        let glyph = if told { 1 } else { 0 };
+        let glyph = if with_glyph { 1 } else { 0 };
         ItemPlace {
             in_element,
             in_segment: true,
@@ -142,7 +142,7 @@ fn put_glyph<S: Put>(glyph: Glyph, out: &mut S)
 /// Puts the line of the first of `glyphs` if it begins with the note of the index `note`, and returns whether it does.
 fn put_next_glyph<S: Put>(note: usize, glyphs: &[Glyph], out: &mut S) -> bool
     ensures line { out.new ≡ S.taken out.old (line_of_next note glyphs.now) }
-    ensures told { result ≡ begins_at note glyphs.now }
+    ensures with_glyph { result ≡ begins_at note glyphs.now }
 {
     match glyphs {
         [glyph, ..] if glyph.first == note => {
@@ -196,12 +196,12 @@ fn put_at<S: Put>(
     if in_element && !place.in_element {
         out.put(b"element\n");
     }
-    let told = match item.kind {
+    let with_glyph = match item.kind {
         ItemKind::Note => put_next_glyph(place.notes, glyphs, out),
         _ => false,
     };
     put_item(kept, item, out);
-    place.behind(item, in_element, told)
+    place.behind(item, in_element, with_glyph)
 }
 
 /// Puts the lines of `items`, which are those of `kept`. Both rooms have to take as many as there are items.

@@ -23,7 +23,7 @@ ghost use Rattle.gabc_write.specs.BodyAgain.{SyllableFacts, AreSyllables, FirstB
 ghost use Rattle.gabc_write.specs.FileAgain.{IsFileAgain};
 ghost use Rattle.gabc_write.specs.ScoreAgain.{IsPrintedScore, IsScoreAgain};
 ghost use Rattle.gabc_write.specs.PlainText.{IsText};
-ghost use Rattle.gabc_write.specs.Said.{AreSame};
+ghost use Rattle.gabc_write.specs.SyllableMeaning.{AreSame};
 ghost use Rattle.gabc_score.specs.Holding.{HasWholeSnippets};
 ghost use Rattle.gabc_write.specs.DumpOfSyllables.{lines_of_syllable, lines_of_syllables};
 

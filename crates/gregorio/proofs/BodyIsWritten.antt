@@ -20,15 +20,15 @@ use Rattle.gregorio.proofs.WhatIsToldIsStillToBeWritten.{EndsAtLast, extended_bo
 -- ---- what is told
 
 -- what a call told is the outputs that it gave
-pub outs_are : (outs : List ScoreOutput) (old new : BoundedList ScoreEvent) (s : ScoreStageState) → old.items ≡ [] → Tells outs old new s.first s.second → told_by s new.items ≡ outs
-outs_are outs old new s empty told =
-    ap (λ (r : BoundedList ScoreEvent). told_by s r.items) told.events
-    ∙ (ap (λ (l : List ScoreEvent). told_by s (l ++ events_of outs)) empty ∙ told_is s outs told.lent)
+pub outs_are : (outputs : List ScoreOutput) (old new : BoundedList ScoreEvent) (s : ScoreStageState) → old.items ≡ [] → Tells outputs old new s.first s.second → told_by s new.items ≡ outputs
+outs_are outputs old new s empty emitted =
+    ap (λ (r : BoundedList ScoreEvent). told_by s r.items) emitted.events
+    ∙ (ap (λ (l : List ScoreEvent). told_by s (l ++ events_of outputs)) empty ∙ told_is s outputs emitted.lent)
 
 -- where the stage emits nothing from then on, `P` holds
-pub ends_where_told : {P : Type 0} (outs : List ScoreOutput) (old new : BoundedList ScoreEvent) (s : ScoreStageState) → old.items ≡ [] → Tells outs old new s.first s.second
-    → StopsAtEnd is_last_event (events_left s) old new → (EmitsNothing (events_left s) → P) → EndsAtLast P outs
-ends_where_told outs old new s empty told stops says = ends_at_last (events_left s) old new stops says First [] outs told.events
+pub ends_where_told : {P : Type 0} (outputs : List ScoreOutput) (old new : BoundedList ScoreEvent) (s : ScoreStageState) → old.items ≡ [] → Tells outputs old new s.first s.second
+    → StopsAtEnd is_last_event (events_left s) old new → (EmitsNothing (events_left s) → P) → EndsAtLast P outputs
+ends_where_told outputs old new s empty emitted stops score_is = ends_at_last (events_left s) old new stops score_is First [] outputs emitted.events
 
 -- ---- what stays
 
@@ -43,9 +43,9 @@ behind_heads_told s (Stop fault) h = tt
 behind_heads_told s (Syllable x) h = h
 behind_heads_told s End h = tt
 
-pub stays_behind_heads : (s : ScoreWriterState) (outs : List ScoreOutput) → IsBehindHeads s.part → IsBehindHeads (with_all_told s outs).part
+pub stays_behind_heads : (s : ScoreWriterState) (outputs : List ScoreOutput) → IsBehindHeads s.part → IsBehindHeads (with_all_told s outputs).part
 stays_behind_heads s [] h = h
-stays_behind_heads s (o ∷ outs) h = stays_behind_heads (with_told s o) outs (behind_heads_told s o h)
+stays_behind_heads s (o ∷ outputs) h = stays_behind_heads (with_told s o) outputs (behind_heads_told s o h)
 
 score_told : (s : ScoreWriterState) (o : ScoreOutput) → (with_told s o).score ≡ s.score
 score_told s (Found f) = refl
@@ -53,80 +53,80 @@ score_told s (Stop fault) = refl
 score_told s (Syllable x) = refl
 score_told s End = refl
 
-pub score_stays : (s : ScoreWriterState) (outs : List ScoreOutput) → (with_all_told s outs).score ≡ s.score
+pub score_stays : (s : ScoreWriterState) (outputs : List ScoreOutput) → (with_all_told s outputs).score ≡ s.score
 score_stays s [] = refl
-score_stays s (o ∷ outs) = score_stays (with_told s o) outs ∙ score_told s o
+score_stays s (o ∷ outputs) = score_stays (with_told s o) outputs ∙ score_told s o
 
 -- ---- an event
 
-given_at : (at : RunPart) (score : ScoreStageState) (w : Written) (book : List (List ℕ × List ℕ)) (given : List HeadEvent) → IsBehindHeads at
-    → streams_at at w (concat_of (left_of score given)) ≡ streams_given at score w book given
-given_at part.Heads score w book given h = absurd h
-given_at part.Body score w book given h = refl
-given_at (part.Over status) score w book given h = refl
+given_at : (at : RunPart) (score : ScoreStageState) (w : Written) (book : List (List ℕ × List ℕ)) (from_heads : List HeadEvent) → IsBehindHeads at
+    → streams_at at w (concat_of (left_of score from_heads)) ≡ streams_given at score w book from_heads
+given_at part.Heads score w book from_heads h = absurd h
+given_at part.Body score w book from_heads h = refl
+given_at (part.Over status) score w book from_heads h = refl
 
-module _ (old : ScoreWriterState) (x : HeadEvent) (read : List (List ℕ × List ℕ)) (mid : ScoreStageState) (body : old.part ≡ part.Body) (outs : List ScoreOutput)
-    (law : (xs : List HeadEvent) → left_of old.score (x ∷ xs) ≡ outs ∷ left_of mid xs)
-    (ends : (xs : List HeadEvent) → EndsAtLast (concat_of (left_of mid xs) ≡ []) outs) where
-  pub event_is_written : WritesAt old x read (with_all_told (writer_at mid old.part old.writer) outs)
+module _ (old : ScoreWriterState) (x : HeadEvent) (read : List (List ℕ × List ℕ)) (mid : ScoreStageState) (body : old.part ≡ part.Body) (outputs : List ScoreOutput)
+    (law : (xs : List HeadEvent) → left_of old.score (x ∷ xs) ≡ outputs ∷ left_of mid xs)
+    (ends : (xs : List HeadEvent) → EndsAtLast (concat_of (left_of mid xs) ≡ []) outputs) where
+  pub event_is_written : WritesAt old x read (with_all_told (writer_at mid old.part old.writer) outputs)
   event_is_written =
       let s = writer_at mid old.part old.writer in
-      let t = with_all_told s outs in
-      let behind : IsBehindHeads t.part = stays_behind_heads s outs (subst IsBehindHeads (sym body) tt) in
+      let t = with_all_told s outputs in
+      let behind : IsBehindHeads t.part = stays_behind_heads s outputs (subst IsBehindHeads (sym body) tt) in
       record {
-        output = texts_of_outputs s outs;
-        lines = lines_of_outputs s outs;
-        out = out_all_told s outs;
-        messages = messages_all_told s outs;
-        law = λ book given h.
-            ap (λ (at : RunPart). streams_given at old.score old.writer.written book (x ∷ given)) body
-            ∙ (ap (λ (lists : List (List ScoreOutput)). streams_in old.writer.written [] true (concat_of lists)) (law given)
-            ∙ (streams_behind s outs (concat_of (left_of mid given)) body (ends given)
-            ∙ ap (λ (y : Streams). behind_bytes (texts_of_outputs s outs) (lines_of_outputs s outs) y)
-            (given_at t.part mid t.writer.written book given behind
-            ∙ ap (λ (score : ScoreStageState). streams_given t.part score t.writer.written book given) (sym (score_stays s outs)))));
+        output = texts_of_outputs s outputs;
+        lines = lines_of_outputs s outputs;
+        out = out_all_told s outputs;
+        messages = messages_all_told s outputs;
+        law = λ book from_heads h.
+            ap (λ (at : RunPart). streams_given at old.score old.writer.written book (x ∷ from_heads)) body
+            ∙ (ap (λ (lists : List (List ScoreOutput)). streams_in old.writer.written [] true (concat_of lists)) (law from_heads)
+            ∙ (streams_behind s outputs (concat_of (left_of mid from_heads)) body (ends from_heads)
+            ∙ ap (λ (y : Streams). behind_bytes (texts_of_outputs s outputs) (lines_of_outputs s outputs) y)
+            (given_at t.part mid t.writer.written book from_heads behind
+            ∙ ap (λ (score : ScoreStageState). streams_given t.part score t.writer.written book from_heads) (sym (score_stays s outputs)))));
       }
 
 -- ---- the end of what comes
 
-module _ (old : ScoreWriterState) (mid : ScoreStageState) (body : old.part ≡ part.Body) (outs : List ScoreOutput)
-    (law : left_of old.score [] ≡ outs ∷ []) (ends : EndsAtLast (◌≡◌ {A = List ScoreOutput} [] []) outs) where
+module _ (old : ScoreWriterState) (mid : ScoreStageState) (body : old.part ≡ part.Body) (outputs : List ScoreOutput)
+    (law : left_of old.score [] ≡ outputs ∷ []) (ends : EndsAtLast (◌≡◌ {A = List ScoreOutput} [] []) outputs) where
   -- what was still to be written
   rest_is : (book : List (List ℕ × List ℕ)) → streams_of old book []
-      ≡ behind_bytes (texts_of_outputs (writer_at mid old.part old.writer) outs) (lines_of_outputs (writer_at mid old.part old.writer) outs)
-      (streams_at (with_all_told (writer_at mid old.part old.writer) outs).part (with_all_told (writer_at mid old.part old.writer) outs).writer.written [])
+      ≡ behind_bytes (texts_of_outputs (writer_at mid old.part old.writer) outputs) (lines_of_outputs (writer_at mid old.part old.writer) outputs)
+      (streams_at (with_all_told (writer_at mid old.part old.writer) outputs).part (with_all_told (writer_at mid old.part old.writer) outputs).writer.written [])
   rest_is book =
       ap (λ (at : RunPart). streams_given at old.score old.writer.written book []) body
       ∙ (ap (λ (lists : List (List ScoreOutput)). streams_in old.writer.written [] true (concat_of lists)) law
-      ∙ streams_behind (writer_at mid old.part old.writer) outs [] body ends)
+      ∙ streams_behind (writer_at mid old.part old.writer) outputs [] body ends)
 
   -- a stop or the end has come
-  pub end_is_written : (status : Status) → (with_all_told (writer_at mid old.part old.writer) outs).part ≡ part.Over status
-      → WritesLast old (with_all_told (writer_at mid old.part old.writer) outs) status
+  pub end_is_written : (status : Status) → (with_all_told (writer_at mid old.part old.writer) outputs).part ≡ part.Over status
+      → WritesLast old (with_all_told (writer_at mid old.part old.writer) outputs) status
   end_is_written status over =
       let s = writer_at mid old.part old.writer in
       record {
-        output = texts_of_outputs s outs;
-        lines = lines_of_outputs s outs;
-        out = out_all_told s outs;
-        messages = messages_all_told s outs;
-        law = λ book. rest_is book ∙ ap (λ (at : RunPart). behind_bytes (texts_of_outputs s outs) (lines_of_outputs s outs) (streams_at at (with_all_told s outs).writer.written [])) over;
+        output = texts_of_outputs s outputs;
+        lines = lines_of_outputs s outputs;
+        out = out_all_told s outputs;
+        messages = messages_all_told s outputs;
+        law = λ book. rest_is book ∙ ap (λ (at : RunPart). behind_bytes (texts_of_outputs s outputs) (lines_of_outputs s outputs) (streams_at at (with_all_told s outputs).writer.written [])) over;
       }
 
   -- neither has come
-  pub break_is_written : (with_all_told (writer_at mid old.part old.writer) outs).part ≡ part.Body
-      → WritesLast old (record (with_all_told (writer_at mid old.part old.writer) outs) { part = part.Over ReadFault; writer = with_last (with_all_told (writer_at mid old.part old.writer) outs).writer false }) ReadFault
+  pub break_is_written : (with_all_told (writer_at mid old.part old.writer) outputs).part ≡ part.Body
+      → WritesLast old (record (with_all_told (writer_at mid old.part old.writer) outputs) { part = part.Over ReadFault; writer = with_last (with_all_told (writer_at mid old.part old.writer) outputs).writer false }) ReadFault
   break_is_written running =
       let s = writer_at mid old.part old.writer in
-      let t = with_all_told s outs in
+      let t = with_all_told s outputs in
       let last = last_text t.writer.written.format false t.writer.written.count in
       record {
-        output = texts_of_outputs s outs ++ last;
-        lines = lines_of_outputs s outs;
-        out = ap (λ (r : BoundedList ℕ). extended_by r last) (out_all_told s outs) ∙ extended_both old.writer.out (texts_of_outputs s outs) last;
-        messages = messages_all_told s outs;
+        output = texts_of_outputs s outputs ++ last;
+        lines = lines_of_outputs s outputs;
+        out = ap (λ (r : BoundedList ℕ). extended_by r last) (out_all_told s outputs) ∙ extended_both old.writer.out (texts_of_outputs s outputs) last;
+        messages = messages_all_told s outputs;
         law = λ book.
             rest_is book
-            ∙ (ap (λ (at : RunPart). behind_bytes (texts_of_outputs s outs) (lines_of_outputs s outs) (streams_at at t.writer.written [])) running
-            ∙ ap (λ (l : List ℕ). record { output = l; messages = lines_of_outputs s outs ++ []; status = ReadFault }) (sym (append-nil (texts_of_outputs s outs ++ last))));
+            ∙ (ap (λ (at : RunPart). behind_bytes (texts_of_outputs s outputs) (lines_of_outputs s outputs) (streams_at at t.writer.written [])) running
+            ∙ ap (λ (l : List ℕ). record { output = l; messages = lines_of_outputs s outputs ++ []; status = ReadFault }) (sym (append-nil (texts_of_outputs s outputs ++ last))));
       }

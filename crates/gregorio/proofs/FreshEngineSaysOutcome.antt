@@ -67,7 +67,7 @@ pub record ReadsText (limits : Limits) (score : ScoreStageState) (e : InputEndin
   pub fresh : (xs : List HeadEvent) → AreCountsBelow xs → left_of score xs ≡ score_outputs texts_by_stage limits xs
   pub counts : AreCountsBelow (head_events limits e t)
   pub outputs : score_outputs texts_by_stage limits (head_events limits e t) ≡ score_outputs texts_by_definition limits (head_events limits e t)
-  pub says : SaysScore e (outputs_of_text limits e t) (score_of limits e t)
+  pub score_is : SaysScore e (outputs_of_text limits e t) (score_of limits e t)
   pub few : length (score_of limits e t).syllables < 2 ^ 64
 
 module _ (job : Job) (limits : Limits) (score : ScoreStageState) (ending : SourceEnding) (decoded : Decoded) (r : ReadsText limits score (ending_by ending decoded.fault) decoded.text)
@@ -75,23 +75,23 @@ module _ (job : Job) (limits : Limits) (score : ScoreStageState) (ending : Sourc
   abbrev e : InputEnding
   e = ending_by ending decoded.fault
 
-  abbrev given : List HeadEvent
-  given = head_events limits e decoded.text
+  abbrev from_heads : List HeadEvent
+  from_heads = head_events limits e decoded.text
 
   abbrev made : Score
   made = score_of limits e decoded.text
 
-  outs_are : outputs_from_heads score given ≡ outputs_of_text limits e decoded.text
+  outs_are : outputs_from_heads score from_heads ≡ outputs_of_text limits e decoded.text
   outs_are = outputs_same limits score r.fresh e decoded.text (heads_of limits decoded.text) r.counts ∙ ap (λ (lists : List (List ScoreOutput)). concat_of lists) r.outputs
 
-  says : SaysScore e (outputs_from_heads score given) made
-  says = subst (λ (outs : List ScoreOutput). SaysScore e outs made) (sym outs_are) r.says
+  score_is : SaysScore e (outputs_from_heads score from_heads) made
+  score_is = subst (λ (outputs : List ScoreOutput). SaysScore e outputs made) (sym outs_are) r.score_is
 
-  pub says_outcome : streams_given part.Heads score (fresh_writer job) read given ≡ streams_of_outcome job (record { score = made; broken = is_cut_short ending made.fault })
+  pub says_outcome : streams_given part.Heads score (fresh_writer job) read from_heads ≡ streams_of_outcome job (record { score = made; broken = is_cut_short ending made.fault })
   says_outcome =
       let b = book_by limits e decoded.text (heads_of limits decoded.text) read book in
-      streams_same (fresh_writer job) refl refl ending decoded.fault (outputs_from_heads score given) made says (stops_at limits e decoded.text (heads_of limits decoded.text)) r.few
-      made.book read (has_heads given) (has_book limits e decoded.text (heads_of limits decoded.text)) b.0 b.1
+      streams_same (fresh_writer job) refl refl ending decoded.fault (outputs_from_heads score from_heads) made score_is (stops_at limits e decoded.text (heads_of limits decoded.text)) r.few
+      made.book read (has_heads from_heads) (has_book limits e decoded.text (heads_of limits decoded.text)) b.0 b.1
 
 -- ---- by the laws of the crates below
 
@@ -126,7 +126,7 @@ module _ (below : LawsBelow) (job : Job) (limits : Limits) (d : DecoderState) (s
         fresh = fresh;
         counts = below.counts limits e t small;
         outputs = below.outputs limits e t small;
-        says = record {
+        score_is = record {
           findings = below.findings limits e t;
           syllables = below.syllables limits e t;
           fault = below.fault limits e t;
@@ -144,7 +144,7 @@ module _ (below : LawsBelow) (job : Job) (limits : Limits) (d : DecoderState) (s
       let t = decoded.text in
       let xs = given_behind [] t ++ fault_items decoded.fault in
       let scalars : All IsScalar t = below.scalars limits.input bytes in
-      let gives : GivesHeads limits t = record { whole = below.whole limits t scalars; broken = below.broken limits t scalars; stopped = λ fault ended. below.stopped limits t fault ended scalars } in
+      let step : GivesHeads limits t = record { whole = below.whole limits t scalars; broken = below.broken limits t scalars; stopped = λ fault ended. below.stopped limits t fault ended scalars } in
       ap (λ (items : List (Result Char Fault)). streams_given part.Heads score (fresh_writer job) (stage_past (fresh_stage limits) items).book (given_left (fresh_stage limits) ending items)) (items_are d limits known at_end ending bytes)
-      ∙ (ap (λ (given : List HeadEvent). streams_given part.Heads score (fresh_writer job) (stage_past (fresh_stage limits) xs).book given) (given_are limits ending t decoded.fault gives)
+      ∙ (ap (λ (from_heads : List HeadEvent). streams_given part.Heads score (fresh_writer job) (stage_past (fresh_stage limits) xs).book from_heads) (given_are limits ending t decoded.fault step)
       ∙ says_outcome job limits score ending decoded (reads (ending_by ending decoded.fault) bytes) (stage_past (fresh_stage limits) xs).book (λ heads h. below.book limits t heads decoded.fault scalars h))

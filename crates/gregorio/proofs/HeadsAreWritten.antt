@@ -29,11 +29,11 @@ module _ (old : ScoreWriterState) (read : List (List ℕ × List ℕ)) (heads : 
     lines = shown_line old.writer.written.name old.writer.written.all_warnings f;
     out = nothing_added old.writer.out;
     messages = refl;
-    law = λ book given h.
+    law = λ book from_heads h.
         let w = old.writer.written in
-        ap (λ (at : RunPart). streams_given at old.score w book (head_event.Found f ∷ given)) heads
-        ∙ (streams_behind_found w (head_text_in w.format book given) (has_heads given) f (outputs_from_heads old.score given)
-        ∙ ap (λ (at : RunPart). behind_bytes [] (shown_line w.name w.all_warnings f) (streams_given at old.score (with_found old.writer f).written book given)) (sym heads));
+        ap (λ (at : RunPart). streams_given at old.score w book (head_event.Found f ∷ from_heads)) heads
+        ∙ (streams_behind_found w (head_text_in w.format book from_heads) (has_heads from_heads) f (outputs_from_heads old.score from_heads)
+        ∙ ap (λ (at : RunPart). behind_bytes [] (shown_line w.name w.all_warnings f) (streams_given at old.score (with_found old.writer f).written book from_heads)) (sym heads));
   }
 
   pub stop_is_written : (fault : Fault) → WritesAt old (head_event.Stop fault) read (record old { part = part.Over Fatal; writer = with_fault old.writer fault })
@@ -42,8 +42,8 @@ module _ (old : ScoreWriterState) (read : List (List ℕ × List ℕ)) (heads : 
     lines = line_of old.writer.written.name fault.place fault.code;
     out = nothing_added old.writer.out;
     messages = refl;
-    law = λ book given h.
-        ap (λ (at : RunPart). streams_given at old.score old.writer.written book (head_event.Stop fault ∷ given)) heads
+    law = λ book from_heads h.
+        ap (λ (at : RunPart). streams_given at old.score old.writer.written book (head_event.Stop fault ∷ from_heads)) heads
         ∙ streams_at_stop old.writer.written false fault;
   }
 
@@ -53,9 +53,9 @@ module _ (old : ScoreWriterState) (read : List (List ℕ × List ℕ)) (heads : 
     lines = [];
     out = nothing_added old.writer.out;
     messages = nothing_added old.writer.messages;
-    law = λ book given h.
-        ap (λ (at : RunPart). streams_given at old.score old.writer.written book (head_event.Body x ∷ given)) heads
-        ∙ ap (λ (at : RunPart). streams_given at old.score old.writer.written book given) (sym heads);
+    law = λ book from_heads h.
+        ap (λ (at : RunPart). streams_given at old.score old.writer.written book (head_event.Body x ∷ from_heads)) heads
+        ∙ ap (λ (at : RunPart). streams_given at old.score old.writer.written book from_heads) (sym heads);
   }
 
   end_is_passed : WritesAt old head_event.End read old
@@ -64,9 +64,9 @@ module _ (old : ScoreWriterState) (read : List (List ℕ × List ℕ)) (heads : 
     lines = [];
     out = nothing_added old.writer.out;
     messages = nothing_added old.writer.messages;
-    law = λ book given h.
-        ap (λ (at : RunPart). streams_given at old.score old.writer.written book (head_event.End ∷ given)) heads
-        ∙ ap (λ (at : RunPart). streams_given at old.score old.writer.written book given) (sym heads);
+    law = λ book from_heads h.
+        ap (λ (at : RunPart). streams_given at old.score old.writer.written book (head_event.End ∷ from_heads)) heads
+        ∙ ap (λ (at : RunPart). streams_given at old.score old.writer.written book from_heads) (sym heads);
   }
 
   pub event_is_passed : (x : HeadEvent) → ((y : Char) × (x ≡ head_event.Body y)) ⊎ (x ≡ head_event.End) → WritesAt old x read old
@@ -83,12 +83,12 @@ module _ (old : ScoreWriterState) (read : List (List ℕ × List ℕ)) (heads : 
         lines = w.lines;
         out = w.out ∙ extended_both old.writer.out text w.output;
         messages = w.messages;
-        law = λ book given h.
-            ap (λ (at : RunPart). streams_given at old.score old.writer.written book (head_event.Heads lines macros canonical ∷ given)) heads
-            ∙ (ap (λ (b : List (List ℕ × List ℕ)). streams_in old.writer.written (heads_text old.writer.written.format b) true (concat_of (left_of old.score (head_event.Heads lines macros canonical ∷ given)))) h
-            ∙ (ap (λ (s : Streams). behind_bytes text [] s) (w.law book given h)
-            ∙ ap (λ (l : List ℕ). record { output = l; messages = w.lines ++ (streams_given new.part new.score new.writer.written book given).messages; status = (streams_given new.part new.score new.writer.written book given).status })
-            (sym (append_assoc text w.output (streams_given new.part new.score new.writer.written book given).output))));
+        law = λ book from_heads h.
+            ap (λ (at : RunPart). streams_given at old.score old.writer.written book (head_event.Heads lines macros canonical ∷ from_heads)) heads
+            ∙ (ap (λ (b : List (List ℕ × List ℕ)). streams_in old.writer.written (heads_text old.writer.written.format b) true (concat_of (left_of old.score (head_event.Heads lines macros canonical ∷ from_heads)))) h
+            ∙ (ap (λ (s : Streams). behind_bytes text [] s) (w.law book from_heads h)
+            ∙ ap (λ (l : List ℕ). record { output = l; messages = w.lines ++ (streams_given new.part new.score new.writer.written book from_heads).messages; status = (streams_given new.part new.score new.writer.written book from_heads).status })
+            (sym (append_assoc text w.output (streams_given new.part new.score new.writer.written book from_heads).output))));
       }
 
   pub break_of_heads : WritesLast old (record old { part = part.Over ReadFault }) ReadFault
@@ -109,9 +109,9 @@ module _ (old : ScoreWriterState) (status : Status) (over : old.part ≡ part.Ov
     lines = [];
     out = nothing_added old.writer.out;
     messages = nothing_added old.writer.messages;
-    law = λ book given h.
-        ap (λ (at : RunPart). streams_given at old.score old.writer.written book (x ∷ given)) over
-        ∙ ap (λ (at : RunPart). streams_given at old.score old.writer.written book given) (sym over);
+    law = λ book from_heads h.
+        ap (λ (at : RunPart). streams_given at old.score old.writer.written book (x ∷ from_heads)) over
+        ∙ ap (λ (at : RunPart). streams_given at old.score old.writer.written book from_heads) (sym over);
   }
 
   pub nothing_is_written_last : WritesLast old old status

@@ -21,7 +21,7 @@ use Rattle.gabc_write.specs.CanonicalFile.{score_text}
 use Rattle.gabc_write.specs.DumpLines.{dump_heads, end_line}
 use Rattle.gabc_write.specs.DumpOfSyllables.{lines_of_syllables, dump_text}
 use Rattle.gabc_write.specs.FileAgain.{printed_file}
-use Rattle.gabc_write.specs.Said.{SyllableSaid, said, AreSame}
+use Rattle.gabc_write.specs.SyllableMeaning.{SyllableMeaning, meaning_of, AreSame}
 use Rattle.gabc_write.specs.PlainText.{IsText}
 use Rattle.gabc_write.specs.ScoreAgain.{IsScoreAgain}
 use Rattle.gregorio_jobs.specs.declared.job.Format.TheVariants.{Gabc, Dump}
@@ -59,7 +59,7 @@ not_cut_short limits decoded = refl
 dump_is : (m : Outcome) (syllables : List PlacedSyllable) (book : List (List ℕ × List ℕ)) → m.score.fault ≡ None → m.broken ≡ false → m.score.book ≡ Some book
     → lines_of_syllables 1 m.score.syllables ≡ lines_of_syllables 1 syllables → AreSame m.score.syllables syllables → output_of Dump m ≡ dump_text true book syllables
 dump_is m syllables book f b h lines same =
-    let count : length m.score.syllables ≡ length syllables = sym (length-map m.score.syllables said) ∙ (ap (length {A = SyllableSaid}) same ∙ length-map syllables said) in
+    let count : length m.score.syllables ≡ length syllables = sym (length-map m.score.syllables meaning_of) ∙ (ap (length {A = SyllableMeaning}) same ∙ length-map syllables meaning_of) in
     let whole : is_read_whole m ≡ true = ap (λ o. not (is_some o || m.broken)) f ∙ ap (λ x. not (false || x)) b in
     ap (λ x. output_by Dump x m.score.book m.score.syllables) whole
     ∙ (ap (λ o. output_by Dump true o m.score.syllables) h
@@ -96,10 +96,10 @@ module _ (plain : (limit : ℕ) (bytes : List ℕ) → All (λ c. (c ≢ 13) × 
         errors = no_errors again.score.findings s.warnings;
         status = whole_status again s.no_fault (not_cut_short larger (record { text = file; fault = None })) (no_errors again.score.findings s.warnings);
         book = s.same.book_is ∙ sym h;
-        syllables = s.said;
+        syllables = s.same_meaning;
         output = ap (λ b. output_by Gabc (is_read_whole again) b again.score.syllables) s.same.book_is ∙ s.same_file ∙ sym output;
         dump = λ other e. dump_is again first.score.syllables other s.no_fault (not_cut_short larger (record { text = file; fault = None })) (s.same.book_is ∙ sym h ∙ e)
-            (one_dump 1 again.score.syllables first.score.syllables (between larger WholeInput file file_small) (between limits how text small) s.said) s.said;
+            (one_dump 1 again.score.syllables first.score.syllables (between larger WholeInput file file_small) (between limits how text small) s.same_meaning) s.same_meaning;
       })
 
   pub compiled_again : IsSome first.score.book → IsOutcomeAgain first (outcome_of larger Ended (output_of Gabc first))

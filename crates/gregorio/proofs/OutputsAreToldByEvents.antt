@@ -28,71 +28,71 @@ take_none (suc n) = refl
 -- ---- what is told
 
 module _ (s : ScoreStageState) where
-  told_none : (outs : List ScoreOutput) → syllables_in outs ≡ [] → told_by s (events_lent Second outs) ≡ outs
+  told_none : (outputs : List ScoreOutput) → syllables_in outputs ≡ [] → told_by s (events_lent Second outputs) ≡ outputs
   told_none [] h = refl
-  told_none (Found f ∷ outs) h = ap (λ (l : List ScoreOutput). Found f ∷ l) (told_none outs h)
-  told_none (Stop fault ∷ outs) h = ap (λ (l : List ScoreOutput). Stop fault ∷ l) (told_none outs h)
-  told_none (Syllable x ∷ outs) h = no_item x (syllables_in outs) h
-  told_none (End ∷ outs) h = ap (λ (l : List ScoreOutput). End ∷ l) (told_none outs h)
+  told_none (Found f ∷ outputs) h = ap (λ (l : List ScoreOutput). Found f ∷ l) (told_none outputs h)
+  told_none (Stop fault ∷ outputs) h = ap (λ (l : List ScoreOutput). Stop fault ∷ l) (told_none outputs h)
+  told_none (Syllable x ∷ outputs) h = no_item x (syllables_in outputs) h
+  told_none (End ∷ outputs) h = ap (λ (l : List ScoreOutput). End ∷ l) (told_none outputs h)
 
-  told_second : (outs : List ScoreOutput) → syllables_in outs ≡ take (length (syllables_in outs)) (s.second ∷ []) → told_by s (events_lent Second outs) ≡ outs
+  told_second : (outputs : List ScoreOutput) → syllables_in outputs ≡ take (length (syllables_in outputs)) (s.second ∷ []) → told_by s (events_lent Second outputs) ≡ outputs
   told_second [] h = refl
-  told_second (Found f ∷ outs) h = ap (λ (l : List ScoreOutput). Found f ∷ l) (told_second outs h)
-  told_second (Stop fault ∷ outs) h = ap (λ (l : List ScoreOutput). Stop fault ∷ l) (told_second outs h)
-  told_second (Syllable x ∷ outs) h =
-      ap (λ (y : PlacedSyllable). Syllable y ∷ told_by s (events_lent Second outs)) (sym (ap (head_or x) h))
-      ∙ ap (λ (l : List ScoreOutput). Syllable x ∷ l) (told_none outs (ap tail_of h ∙ take_none (length (syllables_in outs))))
-  told_second (End ∷ outs) h = ap (λ (l : List ScoreOutput). End ∷ l) (told_second outs h)
+  told_second (Found f ∷ outputs) h = ap (λ (l : List ScoreOutput). Found f ∷ l) (told_second outputs h)
+  told_second (Stop fault ∷ outputs) h = ap (λ (l : List ScoreOutput). Stop fault ∷ l) (told_second outputs h)
+  told_second (Syllable x ∷ outputs) h =
+      ap (λ (y : PlacedSyllable). Syllable y ∷ told_by s (events_lent Second outputs)) (sym (ap (head_or x) h))
+      ∙ ap (λ (l : List ScoreOutput). Syllable x ∷ l) (told_none outputs (ap tail_of h ∙ take_none (length (syllables_in outputs))))
+  told_second (End ∷ outputs) h = ap (λ (l : List ScoreOutput). End ∷ l) (told_second outputs h)
 
-  pub told_is : (outs : List ScoreOutput) → syllables_in outs ≡ take (length (syllables_in outs)) (s.first ∷ s.second ∷ []) → told_by s (events_of outs) ≡ outs
+  pub told_is : (outputs : List ScoreOutput) → syllables_in outputs ≡ take (length (syllables_in outputs)) (s.first ∷ s.second ∷ []) → told_by s (events_of outputs) ≡ outputs
   told_is [] h = refl
-  told_is (Found f ∷ outs) h = ap (λ (l : List ScoreOutput). Found f ∷ l) (told_is outs h)
-  told_is (Stop fault ∷ outs) h = ap (λ (l : List ScoreOutput). Stop fault ∷ l) (told_is outs h)
-  told_is (Syllable x ∷ outs) h =
-      ap (λ (y : PlacedSyllable). Syllable y ∷ told_by s (events_lent Second outs)) (sym (ap (head_or x) h))
-      ∙ ap (λ (l : List ScoreOutput). Syllable x ∷ l) (told_second outs (ap tail_of h))
-  told_is (End ∷ outs) h = ap (λ (l : List ScoreOutput). End ∷ l) (told_is outs h)
+  told_is (Found f ∷ outputs) h = ap (λ (l : List ScoreOutput). Found f ∷ l) (told_is outputs h)
+  told_is (Stop fault ∷ outputs) h = ap (λ (l : List ScoreOutput). Stop fault ∷ l) (told_is outputs h)
+  told_is (Syllable x ∷ outputs) h =
+      ap (λ (y : PlacedSyllable). Syllable y ∷ told_by s (events_lent Second outputs)) (sym (ap (head_or x) h))
+      ∙ ap (λ (l : List ScoreOutput). Syllable x ∷ l) (told_second outputs (ap tail_of h))
+  told_is (End ∷ outputs) h = ap (λ (l : List ScoreOutput). End ∷ l) (told_is outputs h)
 
 -- ---- how many
 
-pub as_many_told : (lent : LentSyllable) (outs : List ScoreOutput) → length (events_lent lent outs) ≡ length outs
+pub as_many_told : (lent : LentSyllable) (outputs : List ScoreOutput) → length (events_lent lent outputs) ≡ length outputs
 as_many_told lent [] = refl
-as_many_told lent (Found f ∷ outs) = ap suc (as_many_told lent outs)
-as_many_told lent (Stop fault ∷ outs) = ap suc (as_many_told lent outs)
-as_many_told lent (Syllable x ∷ outs) = ap suc (as_many_told Second outs)
-as_many_told lent (End ∷ outs) = ap suc (as_many_told lent outs)
+as_many_told lent (Found f ∷ outputs) = ap suc (as_many_told lent outputs)
+as_many_told lent (Stop fault ∷ outputs) = ap suc (as_many_told lent outputs)
+as_many_told lent (Syllable x ∷ outputs) = ap suc (as_many_told Second outputs)
+as_many_told lent (End ∷ outputs) = ap suc (as_many_told lent outputs)
 
-none_told : (lent : LentSyllable) (outs : List ScoreOutput) → events_lent lent outs ≡ [] → outs ≡ []
+none_told : (lent : LentSyllable) (outputs : List ScoreOutput) → events_lent lent outputs ≡ [] → outputs ≡ []
 none_told lent [] h = refl
-none_told lent (Found f ∷ outs) h = no_item _ _ h
-none_told lent (Stop fault ∷ outs) h = no_item _ _ h
-none_told lent (Syllable x ∷ outs) h = no_item _ _ h
-none_told lent (End ∷ outs) h = no_item _ _ h
+none_told lent (Found f ∷ outputs) h = no_item _ _ h
+none_told lent (Stop fault ∷ outputs) h = no_item _ _ h
+none_told lent (Syllable x ∷ outputs) h = no_item _ _ h
+none_told lent (End ∷ outputs) h = no_item _ _ h
 
 -- ---- where they stop
 
-module _ {P : Type 0} (after : List HeadEvent → List (List ScoreEvent)) (old new : BoundedList ScoreEvent) (stops : StopsAtEnd is_last_event after old new) (says : EmitsNothing after → P) where
+module _ {P : Type 0} (after : List HeadEvent → List (List ScoreEvent)) (old new : BoundedList ScoreEvent) (stops : StopsAtEnd is_last_event after old new) (score_is : EmitsNothing after → P) where
   one_on : (before : List ScoreEvent) (x : ScoreEvent) (behind : List ScoreEvent) → new ≡ extended_by old (before ++ x ∷ behind) → new ≡ extended_by old ((before ++ x ∷ []) ++ behind)
   one_on before x behind e = e ∙ ap (λ (l : List ScoreEvent). extended_by old l) (sym (append_assoc before (x ∷ []) behind))
 
-  pub ends_at_last : (lent : LentSyllable) (before : List ScoreEvent) (outs : List ScoreOutput) → new ≡ extended_by old (before ++ events_lent lent outs) → EndsAtLast P outs
+  pub ends_at_last : (lent : LentSyllable) (before : List ScoreEvent) (outputs : List ScoreOutput) → new ≡ extended_by old (before ++ events_lent lent outputs) → EndsAtLast P outputs
   ends_at_last lent before [] e = tt
-  ends_at_last lent before (Found f ∷ outs) e = ends_at_last lent (before ++ event.Found f ∷ []) outs (one_on before (event.Found f) (events_lent lent outs) e)
-  ends_at_last lent before (Stop fault ∷ outs) e =
-      let r = stops before (events_lent lent outs) (event.Stop fault) e refl in
-      (none_told lent outs r.0, says r.1)
-  ends_at_last lent before (Syllable x ∷ outs) e = ends_at_last Second (before ++ event.Syllable lent ∷ []) outs (one_on before (event.Syllable lent) (events_lent Second outs) e)
-  ends_at_last lent before (End ∷ outs) e =
-      let r = stops before (events_lent lent outs) event.End e refl in
-      (none_told lent outs r.0, says r.1)
+  ends_at_last lent before (Found f ∷ outputs) e = ends_at_last lent (before ++ event.Found f ∷ []) outputs (one_on before (event.Found f) (events_lent lent outputs) e)
+  ends_at_last lent before (Stop fault ∷ outputs) e =
+      let r = stops before (events_lent lent outputs) (event.Stop fault) e refl in
+      (none_told lent outputs r.0, score_is r.1)
+  ends_at_last lent before (Syllable x ∷ outputs) e = ends_at_last Second (before ++ event.Syllable lent ∷ []) outputs (one_on before (event.Syllable lent) (events_lent Second outputs) e)
+  ends_at_last lent before (End ∷ outputs) e =
+      let r = stops before (events_lent lent outputs) event.End e refl in
+      (none_told lent outputs r.0, score_is r.1)
 
-nothing_told : (lists : List (List ScoreOutput)) → concat_of (map (λ outs. events_of outs) lists) ≡ [] → concat_of lists ≡ []
+nothing_told : (lists : List (List ScoreOutput)) → concat_of (map (λ outputs. events_of outputs) lists) ≡ [] → concat_of lists ≡ []
 nothing_told [] h = refl
 nothing_told ([] ∷ lists) h = nothing_told lists h
-nothing_told ((Found f ∷ outs) ∷ lists) h = no_item _ _ h
-nothing_told ((Stop fault ∷ outs) ∷ lists) h = no_item _ _ h
-nothing_told ((Syllable x ∷ outs) ∷ lists) h = no_item _ _ h
-nothing_told ((End ∷ outs) ∷ lists) h = no_item _ _ h
+nothing_told ((Found f ∷ outputs) ∷ lists) h = no_item _ _ h
+nothing_told ((Stop fault ∷ outputs) ∷ lists) h = no_item _ _ h
+nothing_told ((Syllable x ∷ outputs) ∷ lists) h = no_item _ _ h
+nothing_told ((End ∷ outputs) ∷ lists) h = no_item _ _ h
 
 -- a stage that emits no event has no output left
 pub nothing_left : (s : ScoreStageState) (xs : List HeadEvent) → EmitsNothing (events_left s) → concat_of (left_of s xs) ≡ []

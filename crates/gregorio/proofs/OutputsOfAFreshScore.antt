@@ -20,13 +20,13 @@ found_events fs = map (λ f. head_event.Found f) fs
 
 -- ---- what is found comes first
 
-has_behind : (fs : List Finding) (given : List HeadEvent) → has_heads (found_events fs ++ given) ≡ has_heads given
-has_behind [] given = refl
-has_behind (f ∷ fs) given = has_behind fs given
+has_behind : (fs : List Finding) (from_heads : List HeadEvent) → has_heads (found_events fs ++ from_heads) ≡ has_heads from_heads
+has_behind [] from_heads = refl
+has_behind (f ∷ fs) from_heads = has_behind fs from_heads
 
-counts_behind : (fs : List Finding) (given : List HeadEvent) → AreCountsBelow (found_events fs ++ given) → AreCountsBelow given
-counts_behind [] given h = h
-counts_behind (f ∷ fs) given h = counts_behind fs given h
+counts_behind : (fs : List Finding) (from_heads : List HeadEvent) → AreCountsBelow (found_events fs ++ from_heads) → AreCountsBelow from_heads
+counts_behind [] from_heads h = h
+counts_behind (f ∷ fs) from_heads h = counts_behind fs from_heads h
 
 -- the headers are whole exactly where there is a book
 pub has_book : (limits : Limits) (ending : InputEnding) (t : List ℕ) (r : Result Heads HeadFault) → has_heads (head_events_by ending t r) ≡ is_some (score_by limits ending t r).book
@@ -41,11 +41,11 @@ has_book limits ending t (Err stop) = has_behind stop.findings _ ∙ none (head_
 
 module _ (limits : Limits) (score : ScoreStageState) (fresh : (xs : List HeadEvent) → AreCountsBelow xs → left_of score xs ≡ score_outputs texts_by_stage limits xs) where
   abbrev SaysSame : List HeadEvent → Type 0
-  SaysSame given = outputs_from_heads score given ≡ concat_of (score_outputs texts_by_stage limits given)
+  SaysSame from_heads = outputs_from_heads score from_heads ≡ concat_of (score_outputs texts_by_stage limits from_heads)
 
-  same_behind : (fs : List Finding) (given : List HeadEvent) → SaysSame given → SaysSame (found_events fs ++ given)
-  same_behind [] given h = h
-  same_behind (f ∷ fs) given h = ap (λ (outs : List ScoreOutput). Found f ∷ outs) (same_behind fs given h)
+  same_behind : (fs : List Finding) (from_heads : List HeadEvent) → SaysSame from_heads → SaysSame (found_events fs ++ from_heads)
+  same_behind [] from_heads h = h
+  same_behind (f ∷ fs) from_heads h = ap (λ (outputs : List ScoreOutput). Found f ∷ outputs) (same_behind fs from_heads h)
 
   same_stop : (o : Option Fault) → SaysSame (stop_events o)
   same_stop None = refl

@@ -12,7 +12,7 @@ use Rattle.gregorio_jobs.specs.declared.job.Format.{Format}
 use Rattle.gregorio_jobs.specs.declared.job.Status.{Status}
 use Rattle.gabc_score.specs.ScoreStage.{Lends, most_lent}
 use Rattle.gregorio.specs.machine.RunWriter.{RunWriterState, IsInRoom, HasRoomFor, line_room, lines_room, texts_room, syllable_room, last_room}
-use Rattle.gregorio.specs.machine.ScoreWriter.{ScoreWriterState, HasRoom, IsSteady, event_room, events_room, heads_left, with_told, with_all_told}
+use Rattle.gregorio.specs.machine.ScoreWriter.{ScoreWriterState, FitsEvents, IsSteady, event_room, events_room, heads_left, with_told, with_all_told}
 use Rattle.gregorio.proofs.BodyIsWritten.{IsBehindHeads}
 use Rattle.gregorio.proofs.WhatIsToldIsStillToBeWritten.{EndsAtLast}
 
@@ -34,75 +34,75 @@ one_more n r =
     let e : suc n + 1 ≡ suc (n + 1) = omega arith in
     ap (λ (k : ℕ). k * r) e ∙ times_more (n + 1) r
 
-lines_are : (name : List ℕ) (outs : List ScoreOutput) → lines_room name outs ≡ length outs * line_room name
+lines_are : (name : List ℕ) (outputs : List ScoreOutput) → lines_room name outputs ≡ length outputs * line_room name
 lines_are name [] = omega arith
-lines_are name (o ∷ outs) = omega (arith, lines_are name outs, times_more (length outs) (line_room name))
+lines_are name (o ∷ outputs) = omega (arith, lines_are name outputs, times_more (length outputs) (line_room name))
 
-pub lines_within : (name : List ℕ) (outs : List ScoreOutput) → length outs ≤ 16 → lines_room name outs ≤ 16 * line_room name
-lines_within name outs few = omega (arith, lines_are name outs, mul-le-mul_right (line_room name) few)
+pub lines_within : (name : List ℕ) (outputs : List ScoreOutput) → length outputs ≤ 16 → lines_room name outputs ≤ 16 * line_room name
+lines_within name outputs few = omega (arith, lines_are name outputs, mul-le-mul_right (line_room name) few)
 
 -- at the last one
-texts_at_end : (format : Format) (limit n : ℕ) (outs : List ScoreOutput) → outs ≡ [] → last_room + texts_room format limit outs ≤ n + last_room
-texts_at_end format limit n outs e =
-    let none : texts_room format limit outs ≡ 0 = ap (texts_room format limit) e in
+texts_at_end : (format : Format) (limit n : ℕ) (outputs : List ScoreOutput) → outputs ≡ [] → last_room + texts_room format limit outputs ≤ n + last_room
+texts_at_end format limit n outputs e =
+    let none : texts_room format limit outputs ≡ 0 = ap (texts_room format limit) e in
     omega (arith, none)
 
 -- as many syllables, and one end
-pub texts_are : (P : Type 0) (format : Format) (limit : ℕ) (outs : List ScoreOutput) → EndsAtLast P outs → texts_room format limit outs ≤ length (syllables_in outs) * syllable_room format limit + last_room
+pub texts_are : (P : Type 0) (format : Format) (limit : ℕ) (outputs : List ScoreOutput) → EndsAtLast P outputs → texts_room format limit outputs ≤ length (syllables_in outputs) * syllable_room format limit + last_room
 texts_are P format limit [] ends = omega arith
-texts_are P format limit (Found f ∷ outs) ends = omega (arith, texts_are P format limit outs ends)
-texts_are P format limit (Stop fault ∷ outs) ends = texts_at_end format limit (length (syllables_in outs) * syllable_room format limit) outs ends.0
-texts_are P format limit (Syllable s ∷ outs) ends = omega (arith, texts_are P format limit outs ends, times_more (length (syllables_in outs)) (syllable_room format limit))
-texts_are P format limit (End ∷ outs) ends = texts_at_end format limit (length (syllables_in outs) * syllable_room format limit) outs ends.0
+texts_are P format limit (Found f ∷ outputs) ends = omega (arith, texts_are P format limit outputs ends)
+texts_are P format limit (Stop fault ∷ outputs) ends = texts_at_end format limit (length (syllables_in outputs) * syllable_room format limit) outputs ends.0
+texts_are P format limit (Syllable s ∷ outputs) ends = omega (arith, texts_are P format limit outputs ends, times_more (length (syllables_in outputs)) (syllable_room format limit))
+texts_are P format limit (End ∷ outputs) ends = texts_at_end format limit (length (syllables_in outputs) * syllable_room format limit) outputs ends.0
 
 -- no end, where the run goes on
-pub texts_before_end : (P : Type 0) (s : ScoreWriterState) (format : Format) (limit : ℕ) (outs : List ScoreOutput) → EndsAtLast P outs → (with_all_told s outs).part ≡ part.Body
-    → texts_room format limit outs ≤ length (syllables_in outs) * syllable_room format limit
+pub texts_before_end : (P : Type 0) (s : ScoreWriterState) (format : Format) (limit : ℕ) (outputs : List ScoreOutput) → EndsAtLast P outputs → (with_all_told s outputs).part ≡ part.Body
+    → texts_room format limit outputs ≤ length (syllables_in outputs) * syllable_room format limit
 texts_before_end P s format limit [] ends body = omega arith
-texts_before_end P s format limit (Found f ∷ outs) ends body = omega (arith, texts_before_end P (with_told s (Found f)) format limit outs ends body)
-texts_before_end P s format limit (Stop fault ∷ outs) ends body =
+texts_before_end P s format limit (Found f ∷ outputs) ends body = omega (arith, texts_before_end P (with_told s (Found f)) format limit outputs ends body)
+texts_before_end P s format limit (Stop fault ∷ outputs) ends body =
     let t = with_told s (Stop fault) in
     over_is_not_body (sym (ap (λ (l : List ScoreOutput). (with_all_told t l).part) ends.0) ∙ body)
-texts_before_end P s format limit (Syllable x ∷ outs) ends body =
-    omega (arith, texts_before_end P (with_told s (Syllable x)) format limit outs ends body, times_more (length (syllables_in outs)) (syllable_room format limit))
-texts_before_end P s format limit (End ∷ outs) ends body =
+texts_before_end P s format limit (Syllable x ∷ outputs) ends body =
+    omega (arith, texts_before_end P (with_told s (Syllable x)) format limit outputs ends body, times_more (length (syllables_in outputs)) (syllable_room format limit))
+texts_before_end P s format limit (End ∷ outputs) ends body =
     let t = with_told s End in
     over_is_not_body (sym (ap (λ (l : List ScoreOutput). (with_all_told t l).part) ends.0) ∙ body)
 
-pub texts_within : (P : Type 0) (format : Format) (limit : ℕ) (x : HeadEvent) (outs : List ScoreOutput) → length (syllables_in outs) ≤ most_lent x → EndsAtLast P outs
-    → texts_room format limit outs ≤ event_room format limit x
-texts_within P format limit (head_event.Body x) outs few ends = omega (arith, texts_are P format limit outs ends, mul-le-mul_right (syllable_room format limit) few)
-texts_within P format limit (head_event.Stop fault) outs few ends = omega (arith, texts_are P format limit outs ends, mul-le-mul_right (syllable_room format limit) few)
-texts_within P format limit head_event.End outs few ends = omega (arith, texts_are P format limit outs ends, mul-le-mul_right (syllable_room format limit) few)
-texts_within P format limit (head_event.Found f) outs few ends = omega (arith, texts_are P format limit outs ends, mul-le-mul_right (syllable_room format limit) few)
-texts_within P format limit (head_event.Heads lines macros canonical) outs few ends = omega (arith, texts_are P format limit outs ends, mul-le-mul_right (syllable_room format limit) few)
+pub texts_within : (P : Type 0) (format : Format) (limit : ℕ) (x : HeadEvent) (outputs : List ScoreOutput) → length (syllables_in outputs) ≤ most_lent x → EndsAtLast P outputs
+    → texts_room format limit outputs ≤ event_room format limit x
+texts_within P format limit (head_event.Body x) outputs few ends = omega (arith, texts_are P format limit outputs ends, mul-le-mul_right (syllable_room format limit) few)
+texts_within P format limit (head_event.Stop fault) outputs few ends = omega (arith, texts_are P format limit outputs ends, mul-le-mul_right (syllable_room format limit) few)
+texts_within P format limit head_event.End outputs few ends = omega (arith, texts_are P format limit outputs ends, mul-le-mul_right (syllable_room format limit) few)
+texts_within P format limit (head_event.Found f) outputs few ends = omega (arith, texts_are P format limit outputs ends, mul-le-mul_right (syllable_room format limit) few)
+texts_within P format limit (head_event.Heads lines macros canonical) outputs few ends = omega (arith, texts_are P format limit outputs ends, mul-le-mul_right (syllable_room format limit) few)
 
 -- ---- an event
 
-pub event_in_room : (P : Type 0) (old : ScoreWriterState) (x : HeadEvent) (outs : List ScoreOutput) → old.score.limits.syllable ≤ old.writer.scratch
-    → Lends old.score.limits (most_lent x) outs → length outs ≤ 16 → EndsAtLast P outs
+pub event_in_room : (P : Type 0) (old : ScoreWriterState) (x : HeadEvent) (outputs : List ScoreOutput) → old.score.limits.syllable ≤ old.writer.scratch
+    → Lends old.score.limits (most_lent x) outputs → length outputs ≤ 16 → EndsAtLast P outputs
     → IsInRoom old.score.limits (length old.writer.messages.items + 16 * line_room old.writer.written.name)
-    (length old.writer.out.items + event_room old.writer.written.format old.score.limits.syllable x) old.writer outs
-event_in_room P old x outs scratch lends few ends = record {
-  lines = omega (arith, lines_within old.writer.written.name outs few);
-  texts = omega (arith, texts_within P old.writer.written.format old.score.limits.syllable x outs lends.few ends);
+    (length old.writer.out.items + event_room old.writer.written.format old.score.limits.syllable x) old.writer outputs
+event_in_room P old x outputs scratch lends few ends = record {
+  lines = omega (arith, lines_within old.writer.written.name outputs few);
+  texts = omega (arith, texts_within P old.writer.written.format old.score.limits.syllable x outputs lends.few ends);
   scratch = scratch;
   within = lends.within;
 }
 
 -- a larger room
-pub more_room : (limits : Limits) (a b c d : ℕ) (w : RunWriterState) (outs : List ScoreOutput) → a ≤ c → b ≤ d → IsInRoom limits a b w outs → IsInRoom limits c d w outs
-more_room limits a b c d w outs more_lines more_texts h = record {
+pub more_room : (limits : Limits) (a b c d : ℕ) (w : RunWriterState) (outputs : List ScoreOutput) → a ≤ c → b ≤ d → IsInRoom limits a b w outputs → IsInRoom limits c d w outputs
+more_room limits a b c d w outputs more_lines more_texts h = record {
   lines = omega (arith, h.lines, more_lines);
   texts = omega (arith, h.texts, more_texts);
   scratch = h.scratch;
   within = h.within;
 }
 
-pub event_has_room : (P : Type 0) (old : ScoreWriterState) (x : HeadEvent) (outs : List ScoreOutput) → HasRoom old (x ∷ [])
-    → Lends old.score.limits (most_lent x) outs → length outs ≤ 16 → EndsAtLast P outs → HasRoomFor old.score.limits old.writer outs
-event_has_room P old x outs h lends few ends =
-    more_room old.score.limits _ _ _ _ old.writer outs (omega (arith, h.lines)) (omega (arith, h.texts)) (event_in_room P old x outs h.scratch lends few ends)
+pub event_has_room : (P : Type 0) (old : ScoreWriterState) (x : HeadEvent) (outputs : List ScoreOutput) → FitsEvents old (x ∷ [])
+    → Lends old.score.limits (most_lent x) outputs → length outputs ≤ 16 → EndsAtLast P outputs → HasRoomFor old.score.limits old.writer outputs
+event_has_room P old x outputs h lends few ends =
+    more_room old.score.limits _ _ _ _ old.writer outputs (omega (arith, h.lines)) (omega (arith, h.texts)) (event_in_room P old x outputs h.scratch lends few ends)
 
 nothing_kept : (at : RunPart) (format : Format) (limit : ℕ) → IsBehindHeads at → heads_left at format limit ≡ 0
 nothing_kept part.Heads format limit h = absurd h
@@ -113,7 +113,7 @@ nothing_kept (part.Over status) format limit h = refl
 pub room_behind : (old new : ScoreWriterState) (x : HeadEvent) (events : List HeadEvent) → IsSteady old new → IsBehindHeads new.part
     → IsInRoom old.score.limits (length old.writer.messages.items + 16 * line_room old.writer.written.name)
     (length old.writer.out.items + event_room old.writer.written.format old.score.limits.syllable x) new.writer []
-    → HasRoom old (x ∷ events) → HasRoom new events
+    → FitsEvents old (x ∷ events) → FitsEvents new events
 room_behind old new x events steady behind room h =
     let lines_same : (length events + 1) * (16 * line_room new.writer.written.name) ≡ (length events + 1) * (16 * line_room old.writer.written.name) =
     ap (λ (name : List ℕ). (length events + 1) * (16 * line_room name)) steady.name in

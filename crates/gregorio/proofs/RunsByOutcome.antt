@@ -57,10 +57,10 @@ never_sunk None false false s = cc
 sunk_is_not_broken : WriteFault ≡ ReadFault → ⊥
 sunk_is_not_broken e = cc
 
-module _ {A B C : Type 0} (wrote : A → Option (List ℕ)) (failed : A → ℕ) (told : B → Option (List ℕ)) (untold : B → ℕ) (left : C → Option (List ℕ)) (broke : C → ℕ) (job : Job) (limits : Limits) where
+module _ {A B C : Type 0} (wrote : A → Option (List ℕ)) (failed : A → ℕ) (emitted : B → Option (List ℕ)) (untold : B → ℕ) (left : C → Option (List ℕ)) (broke : C → ℕ) (job : Job) (limits : Limits) where
   -- what an engine wrote of an input is its outcome's
   streams_are : (s t : C) (o p : A) (m n : B) (e f g : EngineState) (ending : SourceEnding) (status : Status) → SaysOutcomes job limits e
-      → (a : IsFedAll limits.input (used left broke s t) (used wrote failed o p) (used told untold m n) e f ending) → streams_left f ending [] ≡ with_waiting g (ended_with status)
+      → (a : IsFedAll limits.input (used left broke s t) (used wrote failed o p) (used emitted untold m n) e f ending) → streams_left f ending [] ≡ with_waiting g (ended_with status)
       → streams_of_outcome job (outcome_of limits ending a.bytes) ≡ behind_bytes (a.fed.output ++ g.output) (a.fed.lines ++ g.messages) (ended_with status)
   streams_are s t o p m n e f g ending status all a last =
       sym (all a.bytes ending) ∙ (ap (streams_left e ending) (sym (append-nil a.bytes)) ∙ (a.fed.law [] ending
@@ -68,42 +68,42 @@ module _ {A B C : Type 0} (wrote : A → Option (List ℕ)) (failed : A → ℕ)
 
   -- a run that wrote all
   runs_whole : (s t : C) (o p q : A) (m n r : B) (e f g : EngineState) (ending : SourceEnding) (status : Status) → SaysOutcomes job limits e
-      → IsFedAll limits.input (used left broke s t) (used wrote failed o p) (used told untold m n) e f ending → streams_left f ending [] ≡ with_waiting g (ended_with status)
-      → AreSent (used wrote failed p q) (used told untold n r) g.output g.messages
-      → Compiles job limits (used left broke s t) (used wrote failed o q) (used told untold m r) status
+      → IsFedAll limits.input (used left broke s t) (used wrote failed o p) (used emitted untold m n) e f ending → streams_left f ending [] ≡ with_waiting g (ended_with status)
+      → AreSent (used wrote failed p q) (used emitted untold n r) g.output g.messages
+      → Compiles job limits (used left broke s t) (used wrote failed o q) (used emitted untold m r) status
   runs_whole s t o p q m n r e f g ending status all a last sent =
       let made : Outcome = outcome_of limits ending a.bytes in
       let are = streams_are s t o p m n e f g ending status all a last in
-      let x = sent_on wrote failed told untold o p q m n r a.fed.output a.fed.lines g.output g.messages a.fed.sent sent in
-      let d : Done job limits (used left broke s t) (used wrote failed o q) (used told untold m r) (status_of made) = record {
+      let x = sent_on wrote failed emitted untold o p q m n r a.fed.output a.fed.lines g.output g.messages a.fed.sent sent in
+      let d : Done job limits (used left broke s t) (used wrote failed o q) (used emitted untold m r) (status_of made) = record {
         input = record { bytes = a.bytes; ending = ending; reads = a.reads };
         written = subst (Appends (wrote o) (wrote q)) (sym (ap (λ (y : Streams). y.output) are ∙ append-nil (a.fed.output ++ g.output))) x.written;
-        messages_written = subst (Appends (told m) (told r)) (sym (ap (λ (y : Streams). y.messages) are ∙ append-nil (a.fed.lines ++ g.messages))) x.messages_written;
+        messages_written = subst (Appends (emitted m) (emitted r)) (sym (ap (λ (y : Streams). y.messages) are ∙ append-nil (a.fed.lines ++ g.messages))) x.messages_written;
         ends = refl;
       } in
-      subst (λ (y : Status). Compiles job limits (used left broke s t) (used wrote failed o q) (used told untold m r) y) (ap (λ (y : Streams). y.status) are)
-      (done_by job limits (used left broke s t) (used wrote failed o q) (used told untold m r) made.score.fault made.broken (list_any is_error_finding made.score.findings) d)
+      subst (λ (y : Status). Compiles job limits (used left broke s t) (used wrote failed o q) (used emitted untold m r) y) (ap (λ (y : Streams). y.status) are)
+      (done_by job limits (used left broke s t) (used wrote failed o q) (used emitted untold m r) made.score.fault made.broken (list_any is_error_finding made.score.findings) d)
 
   -- a run whose source failed
   runs_broken : (s t : C) (o p : A) (m n : B) (e f g : EngineState) (ending : SourceEnding) (status : Status) → SaysOutcomes job limits e
-      → IsFedAll limits.input (used left broke s t) (used wrote failed o p) (used told untold m n) e f ending → streams_left f ending [] ≡ with_waiting g (ended_with status)
+      → IsFedAll limits.input (used left broke s t) (used wrote failed o p) (used emitted untold m n) e f ending → streams_left f ending [] ≡ with_waiting g (ended_with status)
       → status ≡ ReadFault → broke s < broke t
   runs_broken s t o p m n e f g ending status all a last is =
       a.reads.broken (read_fault_broken limits ending a.bytes (ap (λ (y : Streams). y.status) (streams_are s t o p m n e f g ending status all a last) ∙ is))
 
   -- a run that wrote all is not one that a sink's failure cut
   runs_sunk : (s t : C) (o p : A) (m n : B) (e f g : EngineState) (ending : SourceEnding) (status : Status) → SaysOutcomes job limits e
-      → IsFedAll limits.input (used left broke s t) (used wrote failed o p) (used told untold m n) e f ending → streams_left f ending [] ≡ with_waiting g (ended_with status)
+      → IsFedAll limits.input (used left broke s t) (used wrote failed o p) (used emitted untold m n) e f ending → streams_left f ending [] ≡ with_waiting g (ended_with status)
       → status ≡ WriteFault → ⊥
   runs_sunk s t o p m n e f g ending status all a last is =
       let made : Outcome = outcome_of limits ending a.bytes in
       never_sunk made.score.fault made.broken (list_any is_error_finding made.score.findings) (ap (λ (y : Streams). y.status) (streams_are s t o p m n e f g ending status all a last) ∙ is)
 
   -- a run that a sink's failure cut while its source was read
-  runs_short : (s t : C) (o p : A) (m n : B) (e : EngineState) → SaysOutcomes job limits e → IsFedInPart limits.input (used left broke s t) (used wrote failed o p) (used told untold m n) e
-      → SinkCut job limits (used left broke s t) (used wrote failed o p) (used told untold m n)
+  runs_short : (s t : C) (o p : A) (m n : B) (e : EngineState) → SaysOutcomes job limits e → IsFedInPart limits.input (used left broke s t) (used wrote failed o p) (used emitted untold m n) e
+      → SinkCut job limits (used left broke s t) (used wrote failed o p) (used emitted untold m n)
   runs_short s t o p m n e all a =
-      let c = subst (StreamsAreCut (used wrote failed o p) (used told untold m n)) (all a.bytes Broken) a.cut in
+      let c = subst (StreamsAreCut (used wrote failed o p) (used emitted untold m n)) (all a.bytes Broken) a.cut in
       record {
         input = record { bytes = a.bytes; ending = Broken; consumed = a.consumed; within = a.within; whole = λ no. cc };
         written_count = c.output_count;
@@ -115,14 +115,14 @@ module _ {A B C : Type 0} (wrote : A → Option (List ℕ)) (failed : A → ℕ)
 
   -- a run that a sink's failure cut at its end
   runs_cut : (s t : C) (o p q : A) (m n r : B) (e f g : EngineState) (ending : SourceEnding) (status : Status) → SaysOutcomes job limits e
-      → IsFedAll limits.input (used left broke s t) (used wrote failed o p) (used told untold m n) e f ending → streams_left f ending [] ≡ with_waiting g (ended_with status)
-      → AreCut (used wrote failed p q) (used told untold n r) g.output g.messages
-      → SinkCut job limits (used left broke s t) (used wrote failed o q) (used told untold m r)
+      → IsFedAll limits.input (used left broke s t) (used wrote failed o p) (used emitted untold m n) e f ending → streams_left f ending [] ≡ with_waiting g (ended_with status)
+      → AreCut (used wrote failed p q) (used emitted untold n r) g.output g.messages
+      → SinkCut job limits (used left broke s t) (used wrote failed o q) (used emitted untold m r)
   runs_cut s t o p q m n r e f g ending status all a last cut =
-      let longer : StreamsAreCut (used wrote failed p q) (used told untold n r) (streams_left f ending []) =
-      subst (StreamsAreCut (used wrote failed p q) (used told untold n r)) (sym last) (cut_longer wrote failed told untold p q n r g.output g.messages [] [] cut) in
-      let c = subst (StreamsAreCut (used wrote failed o q) (used told untold m r)) (ap (streams_left e ending) (append-nil a.bytes) ∙ all a.bytes ending)
-      (cut_by wrote failed told untold o p q m n r e f a.bytes [] ending a.fed longer) in
+      let longer : StreamsAreCut (used wrote failed p q) (used emitted untold n r) (streams_left f ending []) =
+      subst (StreamsAreCut (used wrote failed p q) (used emitted untold n r)) (sym last) (cut_longer wrote failed emitted untold p q n r g.output g.messages [] [] cut) in
+      let c = subst (StreamsAreCut (used wrote failed o q) (used emitted untold m r)) (ap (streams_left e ending) (append-nil a.bytes) ∙ all a.bytes ending)
+      (cut_by wrote failed emitted untold o p q m n r e f a.bytes [] ending a.fed longer) in
       record {
         input = record { bytes = a.bytes; ending = ending; consumed = a.reads.consumed; within = a.reads.within; whole = a.reads.whole };
         written_count = c.output_count;
@@ -135,9 +135,9 @@ module _ {A B C : Type 0} (wrote : A → Option (List ℕ)) (failed : A → ℕ)
   -- ---- and which ends failed
 
   pub is_run_whole : (s t : C) (o p q : A) (m n r : B) (e f g : EngineState) (ending : SourceEnding) (status : Status) → SaysOutcomes job limits e
-      → IsFedAll limits.input (used left broke s t) (used wrote failed o p) (used told untold m n) e f ending → streams_left f ending [] ≡ with_waiting g (ended_with status)
-      → AreSent (used wrote failed p q) (used told untold n r) g.output g.messages
-      → IsRun job limits (used left broke s t) (used wrote failed o q) (used told untold m r) status
+      → IsFedAll limits.input (used left broke s t) (used wrote failed o p) (used emitted untold m n) e f ending → streams_left f ending [] ≡ with_waiting g (ended_with status)
+      → AreSent (used wrote failed p q) (used emitted untold n r) g.output g.messages
+      → IsRun job limits (used left broke s t) (used wrote failed o q) (used emitted untold m r) status
   is_run_whole s t o p q m n r e f g ending status all a last sent = record {
     compiles = runs_whole s t o p q m n r e f g ending status all a last sent;
     read_fault = runs_broken s t o p m n e f g ending status all a last;
@@ -153,23 +153,23 @@ module _ {A B C : Type 0} (wrote : A → Option (List ℕ)) (failed : A → ℕ)
     steady = λ is. absurd (is refl);
   }
 
-  pub is_run_cut_early : (s t : C) (o p : A) (m n : B) (e : EngineState) → SaysOutcomes job limits e → IsFedInPart limits.input (used left broke s t) (used wrote failed o p) (used told untold m n) e
-      → IsRun job limits (used left broke s t) (used wrote failed o p) (used told untold m n) WriteFault
-  is_run_cut_early s t o p m n e all a = is_run_cut (used left broke s t) (used wrote failed o p) (used told untold m n) (runs_short s t o p m n e all a)
+  pub is_run_cut_early : (s t : C) (o p : A) (m n : B) (e : EngineState) → SaysOutcomes job limits e → IsFedInPart limits.input (used left broke s t) (used wrote failed o p) (used emitted untold m n) e
+      → IsRun job limits (used left broke s t) (used wrote failed o p) (used emitted untold m n) WriteFault
+  is_run_cut_early s t o p m n e all a = is_run_cut (used left broke s t) (used wrote failed o p) (used emitted untold m n) (runs_short s t o p m n e all a)
 
   pub is_run_cut_late : (s t : C) (o p q : A) (m n r : B) (e f g : EngineState) (ending : SourceEnding) (status : Status) → SaysOutcomes job limits e
-      → IsFedAll limits.input (used left broke s t) (used wrote failed o p) (used told untold m n) e f ending → streams_left f ending [] ≡ with_waiting g (ended_with status)
-      → AreCut (used wrote failed p q) (used told untold n r) g.output g.messages
-      → IsRun job limits (used left broke s t) (used wrote failed o q) (used told untold m r) WriteFault
+      → IsFedAll limits.input (used left broke s t) (used wrote failed o p) (used emitted untold m n) e f ending → streams_left f ending [] ≡ with_waiting g (ended_with status)
+      → AreCut (used wrote failed p q) (used emitted untold n r) g.output g.messages
+      → IsRun job limits (used left broke s t) (used wrote failed o q) (used emitted untold m r) WriteFault
   is_run_cut_late s t o p q m n r e f g ending status all a last cut =
-      is_run_cut (used left broke s t) (used wrote failed o q) (used told untold m r) (runs_cut s t o p q m n r e f g ending status all a last cut)
+      is_run_cut (used left broke s t) (used wrote failed o q) (used emitted untold m r) (runs_cut s t o p q m n r e f g ending status all a last cut)
 
   -- a run for which there was no memory
-  pub is_no_run : (s : C) (o : A) (m : B) → IsRun job limits (used left broke s s) (used wrote failed o o) (used told untold m m) NoMemory
+  pub is_no_run : (s : C) (o : A) (m : B) → IsRun job limits (used left broke s s) (used wrote failed o o) (used emitted untold m m) NoMemory
   is_no_run s o m = record {
     compiles = (
       record { keeps = Keeps-refl (left s); steady = refl },
-      (record { keeps = Keeps-refl (wrote o); steady = refl }, record { keeps = Keeps-refl (told m); steady = refl }),
+      (record { keeps = Keeps-refl (wrote o); steady = refl }, record { keeps = Keeps-refl (emitted m); steady = refl }),
     );
     read_fault = λ is. cc;
     write_fault = λ is. cc;

@@ -124,59 +124,59 @@ abbrev streams_of : List ℕ → List ℕ → Status → Streams
 streams_of output messages status = record { output = output; messages = messages; status = status }
 
 -- what outputs say of a score
-pub record SaysScore (ending : InputEnding) (outs : List ScoreOutput) (score : Score) : Type 0 where
-  pub findings : findings_in outs ≡ score.findings
-  pub syllables : syllables_in outs ≡ score.syllables
-  pub fault : fault_in outs ≡ score.fault
-  pub end : has_end outs ≡ is_whole_score ending score.fault
+pub record SaysScore (ending : InputEnding) (outputs : List ScoreOutput) (score : Score) : Type 0 where
+  pub findings : findings_in outputs ≡ score.findings
+  pub syllables : syllables_in outputs ≡ score.syllables
+  pub fault : fault_in outputs ≡ score.fault
+  pub end : has_end outputs ≡ is_whole_score ending score.fault
 
-module _ (w : Written) (format : w.count ≡ 0) (no_error : w.errors ≡ false) (ending : SourceEnding) (stop : Option Fault) (outs : List ScoreOutput) (score : Score)
-    (says : SaysScore (ending_by ending stop) outs score) (stops : StopsAt (ending_by ending stop) score.fault) (few : length score.syllables < 2 ^ 64) where
-  messages_are : flat_map (shown_line w.name w.all_warnings) (findings_in outs) ++ fault_line w.name (fault_in outs) ≡ lines_of w.name w.all_warnings score
+module _ (w : Written) (format : w.count ≡ 0) (no_error : w.errors ≡ false) (ending : SourceEnding) (stop : Option Fault) (outputs : List ScoreOutput) (score : Score)
+    (score_is : SaysScore (ending_by ending stop) outputs score) (stops : StopsAt (ending_by ending stop) score.fault) (few : length score.syllables < 2 ^ 64) where
+  messages_are : flat_map (shown_line w.name w.all_warnings) (findings_in outputs) ++ fault_line w.name (fault_in outputs) ≡ lines_of w.name w.all_warnings score
   messages_are =
-      ap (λ (fs : List Finding). flat_map (shown_line w.name w.all_warnings) fs ++ fault_line w.name (fault_in outs)) says.findings
-      ∙ ap (λ (o : Option Fault). flat_map (shown_line w.name w.all_warnings) score.findings ++ fault_line w.name o) says.fault
+      ap (λ (fs : List Finding). flat_map (shown_line w.name w.all_warnings) fs ++ fault_line w.name (fault_in outputs)) score_is.findings
+      ∙ ap (λ (o : Option Fault). flat_map (shown_line w.name w.all_warnings) score.findings ++ fault_line w.name o) score_is.fault
 
-  status_same : status_in (w.errors || has_errors (findings_in outs)) outs ≡ status_with score (is_cut_short ending score.fault)
+  status_same : status_in (w.errors || has_errors (findings_in outputs)) outputs ≡ status_with score (is_cut_short ending score.fault)
   status_same =
-      ap (λ (b : Bool). status_in (b || has_errors (findings_in outs)) outs) no_error
-      ∙ (ap (λ (fs : List Finding). status_by (fault_in outs) (if has_end outs then false else true) (has_errors fs)) says.findings
-      ∙ (ap (λ (o : Option Fault). status_by o (if has_end outs then false else true) (has_errors score.findings)) says.fault
-      ∙ (ap (λ (b : Bool). status_by score.fault (if b then false else true) (has_errors score.findings)) says.end
+      ap (λ (b : Bool). status_in (b || has_errors (findings_in outputs)) outputs) no_error
+      ∙ (ap (λ (fs : List Finding). status_by (fault_in outputs) (if has_end outputs then false else true) (has_errors fs)) score_is.findings
+      ∙ (ap (λ (o : Option Fault). status_by o (if has_end outputs then false else true) (has_errors score.findings)) score_is.fault
+      ∙ (ap (λ (b : Bool). status_by score.fault (if b then false else true) (has_errors score.findings)) score_is.end
       ∙ status_is ending stop score.fault (has_errors score.findings) stops)))
 
-  whole_same : has_end outs ≡ not (is_some score.fault || is_cut_short ending score.fault)
-  whole_same = says.end ∙ whole_is ending stop score.fault stops
+  whole_same : has_end outputs ≡ not (is_some score.fault || is_cut_short ending score.fault)
+  whole_same = score_is.end ∙ whole_is ending stop score.fault stops
 
   -- with headers
-  output_with : (book : List (List ℕ × List ℕ)) → heads_text w.format book ++ (texts_behind w.format w.count (syllables_in outs) ++ last_text w.format (has_end outs) (count_behind w.count (syllables_in outs)))
+  output_with : (book : List (List ℕ × List ℕ)) → heads_text w.format book ++ (texts_behind w.format w.count (syllables_in outputs) ++ last_text w.format (has_end outputs) (count_behind w.count (syllables_in outputs)))
       ≡ text_in w.format (not (is_some score.fault || is_cut_short ending score.fault)) book score.syllables
   output_with book =
-      ap (λ (n : ℕ). heads_text w.format book ++ (texts_behind w.format n (syllables_in outs) ++ last_text w.format (has_end outs) (count_behind n (syllables_in outs)))) format
-      ∙ (ap (λ (ss : List PlacedSyllable). heads_text w.format book ++ (texts_behind w.format 0 ss ++ last_text w.format (has_end outs) (count_behind 0 ss))) says.syllables
+      ap (λ (n : ℕ). heads_text w.format book ++ (texts_behind w.format n (syllables_in outputs) ++ last_text w.format (has_end outputs) (count_behind n (syllables_in outputs)))) format
+      ∙ (ap (λ (ss : List PlacedSyllable). heads_text w.format book ++ (texts_behind w.format 0 ss ++ last_text w.format (has_end outputs) (count_behind 0 ss))) score_is.syllables
       ∙ (ap (λ (b : Bool). heads_text w.format book ++ (texts_behind w.format 0 score.syllables ++ last_text w.format b (count_behind 0 score.syllables))) whole_same
       ∙ text_is w.format (not (is_some score.fault || is_cut_short ending score.fault)) book score.syllables few))
 
-  output_without : score.syllables ≡ [] → texts_behind w.format w.count (syllables_in outs) ++ [] ≡ []
-  output_without none = ap (λ (ss : List PlacedSyllable). texts_behind w.format w.count ss ++ []) (says.syllables ∙ none)
+  output_without : score.syllables ≡ [] → texts_behind w.format w.count (syllables_in outputs) ++ [] ≡ []
+  output_without none = ap (λ (ss : List PlacedSyllable). texts_behind w.format w.count ss ++ []) (score_is.syllables ∙ none)
 
   same : (one other : List ℕ) → one ≡ other
-      → streams_of one (flat_map (shown_line w.name w.all_warnings) (findings_in outs) ++ fault_line w.name (fault_in outs)) (status_in (w.errors || has_errors (findings_in outs)) outs)
+      → streams_of one (flat_map (shown_line w.name w.all_warnings) (findings_in outputs) ++ fault_line w.name (fault_in outputs)) (status_in (w.errors || has_errors (findings_in outputs)) outputs)
       ≡ streams_of other (lines_of w.name w.all_warnings score) (status_with score (is_cut_short ending score.fault))
   same one other e =
-      ap (λ (t : List ℕ). streams_of t (flat_map (shown_line w.name w.all_warnings) (findings_in outs) ++ fault_line w.name (fault_in outs)) (status_in (w.errors || has_errors (findings_in outs)) outs)) e
-      ∙ (ap (λ (t : List ℕ). streams_of other t (status_in (w.errors || has_errors (findings_in outs)) outs)) messages_are
+      ap (λ (t : List ℕ). streams_of t (flat_map (shown_line w.name w.all_warnings) (findings_in outputs) ++ fault_line w.name (fault_in outputs)) (status_in (w.errors || has_errors (findings_in outputs)) outputs)) e
+      ∙ (ap (λ (t : List ℕ). streams_of other t (status_in (w.errors || has_errors (findings_in outputs)) outputs)) messages_are
       ∙ ap (λ (s : Status). streams_of other (lines_of w.name w.all_warnings score) s) status_same)
 
   -- the headers are a book, which `read` is, or there is none and no syllable
   pub streams_same : (o : Option (List (List ℕ × List ℕ))) (read : List (List ℕ × List ℕ)) (headed : Bool) → headed ≡ is_some o → IfSome o (λ book. read ≡ book) → (o ≡ None → score.syllables ≡ [])
-      → streams_in w (if headed then heads_text w.format read else []) headed outs
+      → streams_in w (if headed then heads_text w.format read else []) headed outputs
       ≡ record {
         output = output_by w.format (not (is_some score.fault || is_cut_short ending score.fault)) o score.syllables;
         messages = lines_of w.name w.all_warnings score;
         status = status_with score (is_cut_short ending score.fault);
       }
-  streams_same (Some book) read true h e none = same _ _ (ap (λ (b : List (List ℕ × List ℕ)). heads_text w.format b ++ (texts_behind w.format w.count (syllables_in outs) ++ last_text w.format (has_end outs) (count_behind w.count (syllables_in outs)))) e ∙ output_with book)
+  streams_same (Some book) read true h e none = same _ _ (ap (λ (b : List (List ℕ × List ℕ)). heads_text w.format b ++ (texts_behind w.format w.count (syllables_in outputs) ++ last_text w.format (has_end outputs) (count_behind w.count (syllables_in outputs)))) e ∙ output_with book)
   streams_same None read false h e none = same _ _ (output_without (none refl))
   streams_same (Some book) read false h e none = absurd (false≢true h)
   streams_same None read true h e none = absurd (true≢false h)

@@ -40,11 +40,11 @@ lines_of_output w End = []
 
 abbrev pub texts_of_outputs : ScoreWriterState → List ScoreOutput → List ℕ
 texts_of_outputs s [] = []
-texts_of_outputs s (o ∷ outs) = text_of_output s.writer.written o ++ texts_of_outputs (with_told s o) outs
+texts_of_outputs s (o ∷ outputs) = text_of_output s.writer.written o ++ texts_of_outputs (with_told s o) outputs
 
 abbrev pub lines_of_outputs : ScoreWriterState → List ScoreOutput → List ℕ
 lines_of_outputs s [] = []
-lines_of_outputs s (o ∷ outs) = lines_of_output s.writer.written o ++ lines_of_outputs (with_told s o) outs
+lines_of_outputs s (o ∷ outputs) = lines_of_output s.writer.written o ++ lines_of_outputs (with_told s o) outputs
 
 pub out_told : (s : ScoreWriterState) (o : ScoreOutput) → (with_told s o).writer.out ≡ extended_by s.writer.out (text_of_output s.writer.written o)
 out_told s (Found f) = ap (λ (l : List ℕ). record s.writer.out { items = l }) (sym (append-nil s.writer.out.items))
@@ -61,21 +61,21 @@ messages_told s End = ap (λ (l : List ℕ). record s.writer.messages { items = 
 pub extended_both : (r : BoundedList ℕ) (a b : List ℕ) → extended_by (extended_by r a) b ≡ extended_by r (a ++ b)
 extended_both r a b = ap (λ (l : List ℕ). record r { items = l }) (append_assoc r.items a b)
 
-pub out_all_told : (s : ScoreWriterState) (outs : List ScoreOutput) → (with_all_told s outs).writer.out ≡ extended_by s.writer.out (texts_of_outputs s outs)
+pub out_all_told : (s : ScoreWriterState) (outputs : List ScoreOutput) → (with_all_told s outputs).writer.out ≡ extended_by s.writer.out (texts_of_outputs s outputs)
 out_all_told s [] = ap (λ (l : List ℕ). record s.writer.out { items = l }) (sym (append-nil s.writer.out.items))
-out_all_told s (o ∷ outs) =
+out_all_told s (o ∷ outputs) =
     let t = with_told s o in
-    out_all_told t outs
-    ∙ (ap (λ (r : BoundedList ℕ). extended_by r (texts_of_outputs t outs)) (out_told s o)
-    ∙ extended_both s.writer.out (text_of_output s.writer.written o) (texts_of_outputs t outs))
+    out_all_told t outputs
+    ∙ (ap (λ (r : BoundedList ℕ). extended_by r (texts_of_outputs t outputs)) (out_told s o)
+    ∙ extended_both s.writer.out (text_of_output s.writer.written o) (texts_of_outputs t outputs))
 
-pub messages_all_told : (s : ScoreWriterState) (outs : List ScoreOutput) → (with_all_told s outs).writer.messages ≡ extended_by s.writer.messages (lines_of_outputs s outs)
+pub messages_all_told : (s : ScoreWriterState) (outputs : List ScoreOutput) → (with_all_told s outputs).writer.messages ≡ extended_by s.writer.messages (lines_of_outputs s outputs)
 messages_all_told s [] = ap (λ (l : List ℕ). record s.writer.messages { items = l }) (sym (append-nil s.writer.messages.items))
-messages_all_told s (o ∷ outs) =
+messages_all_told s (o ∷ outputs) =
     let t = with_told s o in
-    messages_all_told t outs
-    ∙ (ap (λ (r : BoundedList ℕ). extended_by r (lines_of_outputs t outs)) (messages_told s o)
-    ∙ extended_both s.writer.messages (lines_of_output s.writer.written o) (lines_of_outputs t outs))
+    messages_all_told t outputs
+    ∙ (ap (λ (r : BoundedList ℕ). extended_by r (lines_of_outputs t outputs)) (messages_told s o)
+    ∙ extended_both s.writer.messages (lines_of_output s.writer.written o) (lines_of_outputs t outputs))
 
 -- ---- what is still to be written
 
@@ -123,10 +123,10 @@ streams_at (part.Over status) w rest = ended_with status
 -- Behind a stop or the end nothing stands among these, and `P` holds.
 abbrev pub EndsAtLast : Type 0 → List ScoreOutput → Type 0
 EndsAtLast P [] = Unit {0}
-EndsAtLast P (Found f ∷ outs) = EndsAtLast P outs
-EndsAtLast P (Stop fault ∷ outs) = (outs ≡ []) × P
-EndsAtLast P (Syllable s ∷ outs) = EndsAtLast P outs
-EndsAtLast P (End ∷ outs) = (outs ≡ []) × P
+EndsAtLast P (Found f ∷ outputs) = EndsAtLast P outputs
+EndsAtLast P (Stop fault ∷ outputs) = (outputs ≡ []) × P
+EndsAtLast P (Syllable s ∷ outputs) = EndsAtLast P outputs
+EndsAtLast P (End ∷ outputs) = (outputs ≡ []) × P
 
 abbrev is_empty : {X : Type 0} → List X → Bool
 is_empty [] = true
@@ -139,21 +139,21 @@ no_item x xs e = absurd (false≢true (ap is_empty e))
 behind_both : (a b c d : List ℕ) (s : Streams) → behind_bytes a b (behind_bytes c d s) ≡ behind_bytes (a ++ c) (b ++ d) s
 behind_both a b c d s = same _ _ _ _ _ _ (sym (append_assoc a c s.output)) (sym (append_assoc b d s.messages)) refl
 
-pub streams_behind : (s : ScoreWriterState) (outs rest : List ScoreOutput) → s.part ≡ part.Body → EndsAtLast (rest ≡ []) outs
-    → streams_in s.writer.written [] true (outs ++ rest)
-    ≡ behind_bytes (texts_of_outputs s outs) (lines_of_outputs s outs) (streams_at (with_all_told s outs).part (with_all_told s outs).writer.written rest)
+pub streams_behind : (s : ScoreWriterState) (outputs rest : List ScoreOutput) → s.part ≡ part.Body → EndsAtLast (rest ≡ []) outputs
+    → streams_in s.writer.written [] true (outputs ++ rest)
+    ≡ behind_bytes (texts_of_outputs s outputs) (lines_of_outputs s outputs) (streams_at (with_all_told s outputs).part (with_all_told s outputs).writer.written rest)
 streams_behind s [] rest body ends = sym (ap (λ (at : RunPart). streams_at at s.writer.written rest) body)
-streams_behind s (Found f ∷ outs) rest body ends =
+streams_behind s (Found f ∷ outputs) rest body ends =
     let t = with_told s (Found f) in
-    streams_behind_found s.writer.written [] true f (outs ++ rest)
-    ∙ (ap (λ (x : Streams). behind_bytes [] (shown_line s.writer.written.name s.writer.written.all_warnings f) x) (streams_behind t outs rest body ends)
-    ∙ behind_both [] (shown_line s.writer.written.name s.writer.written.all_warnings f) (texts_of_outputs t outs) (lines_of_outputs t outs) _)
-streams_behind s (Syllable x ∷ outs) rest body ends =
+    streams_behind_found s.writer.written [] true f (outputs ++ rest)
+    ∙ (ap (λ (x : Streams). behind_bytes [] (shown_line s.writer.written.name s.writer.written.all_warnings f) x) (streams_behind t outputs rest body ends)
+    ∙ behind_both [] (shown_line s.writer.written.name s.writer.written.all_warnings f) (texts_of_outputs t outputs) (lines_of_outputs t outputs) _)
+streams_behind s (Syllable x ∷ outputs) rest body ends =
     let t = with_told s (Syllable x) in
     let text = syllable_text s.writer.written.format (next_number s.writer.written.count) x in
-    streams_behind_syllable s.writer.written x (outs ++ rest)
-    ∙ (ap (λ (y : Streams). behind_bytes text [] y) (streams_behind t outs rest body ends)
-    ∙ behind_both text [] (texts_of_outputs t outs) (lines_of_outputs t outs) _)
+    streams_behind_syllable s.writer.written x (outputs ++ rest)
+    ∙ (ap (λ (y : Streams). behind_bytes text [] y) (streams_behind t outputs rest body ends)
+    ∙ behind_both text [] (texts_of_outputs t outputs) (lines_of_outputs t outputs) _)
 streams_behind s (Stop fault ∷ []) rest body ends =
     ap (λ (later : List ScoreOutput). streams_in s.writer.written [] true (Stop fault ∷ later)) ends.1
     ∙ (streams_at_stop s.writer.written true fault
@@ -165,5 +165,5 @@ streams_behind s (End ∷ []) rest body ends =
     ap (λ (later : List ScoreOutput). streams_in s.writer.written [] true (End ∷ later)) ends.1
     ∙ (streams_at_end s.writer.written
     ∙ same _ _ _ _ _ _ (sym (ap (λ (l : List ℕ). l ++ []) (append-nil (last_text s.writer.written.format true s.writer.written.count)))) refl refl)
-streams_behind s (Stop fault ∷ (o ∷ outs)) rest body ends = no_item o outs ends.0
-streams_behind s (End ∷ (o ∷ outs)) rest body ends = no_item o outs ends.0
+streams_behind s (Stop fault ∷ (o ∷ outputs)) rest body ends = no_item o outputs ends.0
+streams_behind s (End ∷ (o ∷ outputs)) rest body ends = no_item o outputs ends.0

@@ -23,82 +23,82 @@ longer Gabc n limit h = h
 longer Dump n limit h = omega (arith, h)
 
 module _ (limits : Limits) (a b : ℕ) (w : RunWriterState) where
-  pub found_in_room : (f : Finding) (outs : List ScoreOutput) → length (shown_line w.written.name w.written.all_warnings f) ≤ line_room w.written.name
-      → IsInRoom limits a b w (Found f ∷ outs) → IsInRoom limits a b (with_found w f) outs
-  found_in_room f outs short h = record {
+  pub found_in_room : (f : Finding) (outputs : List ScoreOutput) → length (shown_line w.written.name w.written.all_warnings f) ≤ line_room w.written.name
+      → IsInRoom limits a b w (Found f ∷ outputs) → IsInRoom limits a b (with_found w f) outputs
+  found_in_room f outputs short h = record {
     lines = omega (arith, h.lines, short, length-append w.messages.items (shown_line w.written.name w.written.all_warnings f));
     texts = omega (arith, h.texts);
     scratch = h.scratch;
     within = h.within;
   }
 
-  pub stop_in_room : (fault : Fault) (outs : List ScoreOutput) → length (line_of w.written.name fault.place fault.code) ≤ line_room w.written.name
+  pub stop_in_room : (fault : Fault) (outputs : List ScoreOutput) → length (line_of w.written.name fault.place fault.code) ≤ line_room w.written.name
       → length (last_text w.written.format false w.written.count) ≤ last_room
-      → IsInRoom limits a b w (Stop fault ∷ outs) → IsInRoom limits a b (with_last (with_fault w fault) false) outs
-  stop_in_room fault outs short last h = record {
+      → IsInRoom limits a b w (Stop fault ∷ outputs) → IsInRoom limits a b (with_last (with_fault w fault) false) outputs
+  stop_in_room fault outputs short last h = record {
     lines = omega (arith, h.lines, short, length-append w.messages.items (line_of w.written.name fault.place fault.code));
     texts = omega (arith, h.texts, last, length-append w.out.items (last_text w.written.format false w.written.count));
     scratch = h.scratch;
     within = h.within;
   }
 
-  pub end_in_room : (outs : List ScoreOutput) → length (last_text w.written.format true w.written.count) ≤ last_room
-      → IsInRoom limits a b w (End ∷ outs) → IsInRoom limits a b (with_last w true) outs
-  end_in_room outs last h = record {
+  pub end_in_room : (outputs : List ScoreOutput) → length (last_text w.written.format true w.written.count) ≤ last_room
+      → IsInRoom limits a b w (End ∷ outputs) → IsInRoom limits a b (with_last w true) outputs
+  end_in_room outputs last h = record {
     lines = omega (arith, h.lines);
     texts = omega (arith, h.texts, last, length-append w.out.items (last_text w.written.format true w.written.count));
     scratch = h.scratch;
     within = h.within;
   }
 
-  pub syllable_in_room : (s : PlacedSyllable) (outs : List ScoreOutput)
+  pub syllable_in_room : (s : PlacedSyllable) (outputs : List ScoreOutput)
       → length (syllable_text w.written.format (next_number w.written.count) s) ≤ syllable_len w.written.format (length (canonical_in_place s))
-      → IsInRoom limits a b w (Syllable s ∷ outs) → IsInRoom limits a b (with_syllable w s) outs
-  syllable_in_room s outs short h =
-      let within = All-head (IsWithin limits) s (syllables_in outs) h.within in
+      → IsInRoom limits a b w (Syllable s ∷ outputs) → IsInRoom limits a b (with_syllable w s) outputs
+  syllable_in_room s outputs short h =
+      let within = All-head (IsWithin limits) s (syllables_in outputs) h.within in
       record {
         lines = omega (arith, h.lines);
         texts = omega (arith, h.texts, short, longer w.written.format (length (canonical_in_place s)) limits.syllable within.canonical, length-append w.out.items (syllable_text w.written.format (next_number w.written.count) s));
         scratch = h.scratch;
-        within = All-tail (IsWithin limits) s (syllables_in outs) h.within;
+        within = All-tail (IsWithin limits) s (syllables_in outputs) h.within;
       }
 
 -- ---- what a call needs
 
 module _ (limits : Limits) (w : RunWriterState) where
-  pub line_fits : (o : ScoreOutput) (outs : List ScoreOutput) → HasRoomFor limits w (o ∷ outs) → Fits w.messages (line_room w.written.name)
-  line_fits o outs h = omega (arith, h.lines)
+  pub line_fits : (o : ScoreOutput) (outputs : List ScoreOutput) → HasRoomFor limits w (o ∷ outputs) → Fits w.messages (line_room w.written.name)
+  line_fits o outputs h = omega (arith, h.lines)
 
-  pub syllable_fits : (s : PlacedSyllable) (outs : List ScoreOutput) → HasRoomFor limits w (Syllable s ∷ outs) → Fits w.out (syllable_len w.written.format (length (canonical_in_place s)))
-  syllable_fits s outs h =
-      let within = All-head (IsWithin limits) s (syllables_in outs) h.within in
+  pub syllable_fits : (s : PlacedSyllable) (outputs : List ScoreOutput) → HasRoomFor limits w (Syllable s ∷ outputs) → Fits w.out (syllable_len w.written.format (length (canonical_in_place s)))
+  syllable_fits s outputs h =
+      let within = All-head (IsWithin limits) s (syllables_in outputs) h.within in
       omega (arith, h.texts, longer w.written.format (length (canonical_in_place s)) limits.syllable within.canonical)
 
-  pub syllable_is_read : (s : PlacedSyllable) (outs : List ScoreOutput) → HasRoomFor limits w (Syllable s ∷ outs) → length s.made.kept ≤ w.scratch
-  syllable_is_read s outs h =
-      let within = All-head (IsWithin limits) s (syllables_in outs) h.within in
+  pub syllable_is_read : (s : PlacedSyllable) (outputs : List ScoreOutput) → HasRoomFor limits w (Syllable s ∷ outputs) → length s.made.kept ≤ w.scratch
+  syllable_is_read s outputs h =
+      let within = All-head (IsWithin limits) s (syllables_in outputs) h.within in
       omega (arith, h.scratch, within.kept)
 
-  pub stop_fits : (fault : Fault) (outs : List ScoreOutput) → HasRoomFor limits w (Stop fault ∷ outs) → Fits w.out last_room
-  stop_fits fault outs h = omega (arith, h.texts)
+  pub stop_fits : (fault : Fault) (outputs : List ScoreOutput) → HasRoomFor limits w (Stop fault ∷ outputs) → Fits w.out last_room
+  stop_fits fault outputs h = omega (arith, h.texts)
 
-  pub end_fits : (outs : List ScoreOutput) → HasRoomFor limits w (End ∷ outs) → Fits w.out last_room
-  end_fits outs h = omega (arith, h.texts)
+  pub end_fits : (outputs : List ScoreOutput) → HasRoomFor limits w (End ∷ outputs) → Fits w.out last_room
+  end_fits outputs h = omega (arith, h.texts)
 
 -- ---- of several outputs
 
-first_within : (limits : Limits) (o : ScoreOutput) (outs : List ScoreOutput) → All (IsWithin limits) (syllables_in (o ∷ outs)) → All (IsWithin limits) (syllables_in (o ∷ []))
-first_within limits (Found f) outs h = All-nil (IsWithin limits)
-first_within limits (Stop fault) outs h = All-nil (IsWithin limits)
-first_within limits (Syllable s) outs h = All-cons (IsWithin limits) s [] (All-head (IsWithin limits) s (syllables_in outs) h) (All-nil (IsWithin limits))
-first_within limits End outs h = All-nil (IsWithin limits)
+first_within : (limits : Limits) (o : ScoreOutput) (outputs : List ScoreOutput) → All (IsWithin limits) (syllables_in (o ∷ outputs)) → All (IsWithin limits) (syllables_in (o ∷ []))
+first_within limits (Found f) outputs h = All-nil (IsWithin limits)
+first_within limits (Stop fault) outputs h = All-nil (IsWithin limits)
+first_within limits (Syllable s) outputs h = All-cons (IsWithin limits) s [] (All-head (IsWithin limits) s (syllables_in outputs) h) (All-nil (IsWithin limits))
+first_within limits End outputs h = All-nil (IsWithin limits)
 
-pub first_in_room : (limits : Limits) (a b : ℕ) (w : RunWriterState) (o : ScoreOutput) (outs : List ScoreOutput) → IsInRoom limits a b w (o ∷ outs) → IsInRoom limits a b w (o ∷ [])
-first_in_room limits a b w o outs h = record {
+pub first_in_room : (limits : Limits) (a b : ℕ) (w : RunWriterState) (o : ScoreOutput) (outputs : List ScoreOutput) → IsInRoom limits a b w (o ∷ outputs) → IsInRoom limits a b w (o ∷ [])
+first_in_room limits a b w o outputs h = record {
   lines = omega (arith, h.lines);
   texts = omega (arith, h.texts);
   scratch = h.scratch;
-  within = first_within limits o outs h.within;
+  within = first_within limits o outputs h.within;
 }
 
 pub steady_both : (one two three : RunWriterState) → IsSteadyWriter one two → IsSteadyWriter two three → IsSteadyWriter one three

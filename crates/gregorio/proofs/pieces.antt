@@ -5,4 +5,5 @@ pub mod RoomIsLeft
 pub mod ItemsAreRead
 pub mod HeadersAreRead
 pub mod BytesAreTaken
+pub mod FrontIsTaken
 pub mod InputsAreEnded

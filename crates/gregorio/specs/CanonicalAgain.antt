@@ -2,7 +2,7 @@
 use Rattle.std.specs.Prelude.{◌≡◌, ℕ, List, true, false, Some, None}
 use Rattle.std.specs.List.{list_any}
 use Rattle.gabc_write.specs.DumpOfSyllables.{dump_text}
-use Rattle.gabc_write.specs.Said.{AreSame}
+use Rattle.gabc_write.specs.SyllableMeaning.{AreSame}
 use Rattle.gregorio_jobs.specs.declared.job.Format.TheVariants.{Gabc, Dump}
 use Rattle.gregorio_jobs.specs.declared.job.Status.TheVariants.{Whole}
 use Rattle.gregorio.specs.declared.outcome.Outcome.{Outcome}

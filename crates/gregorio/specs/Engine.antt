@@ -111,21 +111,21 @@ book_behind h items = (stage_past h items).book
 -- whether the headers are whole among these
 abbrev pub has_heads : List HeadEvent → Bool
 has_heads [] = false
-has_heads (head_event.Heads lines macros canonical ∷ given) = true
-has_heads (head_event.Stop fault ∷ given) = false
-has_heads (head_event.Found f ∷ given) = has_heads given
-has_heads (head_event.Body x ∷ given) = has_heads given
-has_heads (head_event.End ∷ given) = has_heads given
+has_heads (head_event.Heads lines macros canonical ∷ from_heads) = true
+has_heads (head_event.Stop fault ∷ from_heads) = false
+has_heads (head_event.Found f ∷ from_heads) = has_heads from_heads
+has_heads (head_event.Body x ∷ from_heads) = has_heads from_heads
+has_heads (head_event.End ∷ from_heads) = has_heads from_heads
 
 -- What the run will still say where these come before the body: what is found in the headers, and what stops them; from the line `%%` on
 -- it is what the stage of the score will still give.
 abbrev pub outputs_from_heads : ScoreStageState → List HeadEvent → List ScoreOutput
 outputs_from_heads score [] = []
-outputs_from_heads score (head_event.Heads lines macros canonical ∷ given) = concat_of (left_of score (head_event.Heads lines macros canonical ∷ given))
-outputs_from_heads score (head_event.Stop fault ∷ given) = Stop fault ∷ []
-outputs_from_heads score (head_event.Found f ∷ given) = Found f ∷ outputs_from_heads score given
-outputs_from_heads score (head_event.Body x ∷ given) = outputs_from_heads score given
-outputs_from_heads score (head_event.End ∷ given) = outputs_from_heads score given
+outputs_from_heads score (head_event.Heads lines macros canonical ∷ from_heads) = concat_of (left_of score (head_event.Heads lines macros canonical ∷ from_heads))
+outputs_from_heads score (head_event.Stop fault ∷ from_heads) = Stop fault ∷ []
+outputs_from_heads score (head_event.Found f ∷ from_heads) = Found f ∷ outputs_from_heads score from_heads
+outputs_from_heads score (head_event.Body x ∷ from_heads) = outputs_from_heads score from_heads
+outputs_from_heads score (head_event.End ∷ from_heads) = outputs_from_heads score from_heads
 
 -- ---- what is written of it
 
@@ -134,28 +134,28 @@ has_errors findings = list_any is_error_finding findings
 
 -- A run that neither a stop nor the end has ended is one whose source failed.
 abbrev pub status_in : Bool → List ScoreOutput → Status
-status_in errors outs = status_by (fault_in outs) (if has_end outs then false else true) errors
+status_in errors outputs = status_by (fault_in outputs) (if has_end outputs then false else true) errors
 
 -- what stands behind the syllables among these, if the headers are whole
 abbrev pub last_in : Bool → Format → ℕ → List ScoreOutput → List ℕ
-last_in headed format count outs = if headed then last_text format (has_end outs) (count_behind count (syllables_in outs)) else []
+last_in headed format count outputs = if headed then last_text format (has_end outputs) (count_behind count (syllables_in outputs)) else []
 
 -- The streams of these, behind this text of the headers.
 abbrev pub streams_in : Written → List ℕ → Bool → List ScoreOutput → Streams
-streams_in w head headed outs = record {
-  output = head ++ (texts_behind w.format w.count (syllables_in outs) ++ last_in headed w.format w.count outs);
-  messages = flat_map (shown_line w.name w.all_warnings) (findings_in outs) ++ fault_line w.name (fault_in outs);
-  status = status_in (w.errors || has_errors (findings_in outs)) outs;
+streams_in w head headed outputs = record {
+  output = head ++ (texts_behind w.format w.count (syllables_in outputs) ++ last_in headed w.format w.count outputs);
+  messages = flat_map (shown_line w.name w.all_warnings) (findings_in outputs) ++ fault_line w.name (fault_in outputs);
+  status = status_in (w.errors || has_errors (findings_in outputs)) outputs;
 }
 
 abbrev pub head_text_in : Format → List (List ℕ × List ℕ) → List HeadEvent → List ℕ
-head_text_in format book given = if has_heads given then heads_text format book else []
+head_text_in format book from_heads = if has_heads from_heads then heads_text format book else []
 
 -- In each part of a run, where these come and the headers are this book: behind a run nothing follows.
 abbrev pub streams_given : RunPart → ScoreStageState → Written → List (List ℕ × List ℕ) → List HeadEvent → Streams
-streams_given part.Heads score w book given = streams_in w (head_text_in w.format book given) (has_heads given) (outputs_from_heads score given)
-streams_given part.Body score w book given = streams_in w [] true (concat_of (left_of score given))
-streams_given (part.Over status) score w book given = ended_with status
+streams_given part.Heads score w book from_heads = streams_in w (head_text_in w.format book from_heads) (has_heads from_heads) (outputs_from_heads score from_heads)
+streams_given part.Body score w book from_heads = streams_in w [] true (concat_of (left_of score from_heads))
+streams_given (part.Over status) score w book from_heads = ended_with status
 
 -- What an engine will still write of these bytes, behind which the input ends so, beside what waits.
 abbrev pub streams_left : EngineState → SourceEnding → List ℕ → Streams

@@ -1,15 +1,15 @@
 //! A run that takes its input in pieces.
 
 ghost use Rattle.std.specs.Prelude.{◌≡◌, ◌<◌, ◌≤◌, List, [], ◌∷◌, ◌++◌, length, take, true, false, ℕ, IfOk, option_to_list};
-ghost use Rattle.gabc_headers.specs.declared.head_event.HeadEvent.{HeadEvent as Given};
+ghost use Rattle.gabc_headers.specs.declared.head_event.HeadEvent.{HeadEvent as HeadItem};
 ghost use Rattle.gabc_headers.specs.declared.head_event.HeadEvent.TheVariants.{End};
-ghost use Rattle.gregorio.specs.declared.source_bytes.SourceEnding.{SourceEnding as Ending};
+ghost use Rattle.gregorio.specs.declared.source_bytes.SourceEnding.{SourceEnding as EndOfSource};
 ghost use Rattle.gregorio.specs.declared.source_bytes.SourceEnding.TheVariants.{Whole, Broken};
 ghost use Rattle.gregorio_jobs.specs.declared.job.Status.TheVariants.{ReadFault};
 ghost use Rattle.gregorio.specs.Outcome.{outcome_of};
 ghost use Rattle.gregorio.specs.Engine.{NothingWaits, is_running, streams_left, streams_of_outcome, with_waiting, ended_with};
 ghost use Rattle.gregorio.specs.machine.Engine.{GoTogether, IsBodyPast, IsEmpty, WritesAll, WritesItems, event_of_item};
-ghost use Rattle.gregorio.specs.machine.ScoreWriter.{HasRoom, IsReserved, IsShortBook, IsSteady};
+ghost use Rattle.gregorio.specs.machine.ScoreWriter.{FitsEvents, IsReserved, IsShortBook, IsSteady};
 
 use crate::run_part::RunPart;
 use crate::score_writer::ScoreWriter;
@@ -34,7 +34,7 @@ use std::marker::Model;
 pub struct Engine {
     decoder: Decoder,
     heads: HeaderStage,
-    given: Room<HeadEvent>,
+    from_heads: Room<HeadEvent>,
     writer: ScoreWriter,
 }
 
@@ -54,20 +54,20 @@ impl Model for Engine {
       messages = e.writer.writer.messages.items;
     } };
 
-    ghost invariant = { λ e. IsEngine e.heads e.given e.writer };
+    ghost invariant = { λ e. IsEngine e.heads e.from_heads e.writer };
 }
 
-/// Passes `given` on to `writer`. `book` has the headers that are read, if they are whole.
-fn pass_on(given: &[HeadEvent], book: &HeaderBook, writer: &mut ScoreWriter)
-    requires room { HasRoom writer.old given.now }
+/// Passes `from_heads` on to `writer`. `book` has the headers that are read, if they are whole.
+fn pass_on(from_heads: &[HeadEvent], book: &HeaderBook, writer: &mut ScoreWriter)
+    requires room { FitsEvents writer.old from_heads.now }
     requires book { IsShortBook writer.old.score.limits book.now }
-    ensures writes { WritesAll writer.old given.now book.now writer.new }
-    ensures room { (events : List Given) → HasRoom writer.old (given.now ++ events) →
-        HasRoom writer.new events }
+    ensures writes { WritesAll writer.old from_heads.now book.now writer.new }
+    ensures room { (events : List HeadItem) → FitsEvents writer.old (from_heads.now ++ events) →
+        FitsEvents writer.new events }
     ensures steady { IsSteady writer.old writer.new }
-    ensures part { writer.new.part ≡ RunPart.Body → IsBodyPast writer.old.part given.now }
+    ensures part { writer.new.part ≡ RunPart.Body → IsBodyPast writer.old.part from_heads.now }
 {
-    for event in given {
+    for event in from_heads {
         writer.push(*event, book);
     }
 }
@@ -87,17 +87,17 @@ fn body_event(item: Result<Char, Fault>) -> HeadEvent
 fn read(
     item: Result<Char, Fault>,
     heads: &mut HeaderStage,
-    given: &mut Room<HeadEvent>,
+    from_heads: &mut Room<HeadEvent>,
     writer: &mut ScoreWriter,
 )
     requires together { GoTogether heads.old writer.old }
-    requires few { 2 ≤ given.old.limit }
+    requires few { 2 ≤ from_heads.old.limit }
     requires reserved { IsReserved writer.old }
     requires empty { IsEmpty writer.old }
     ensures together { GoTogether heads.new writer.new }
-    ensures few { given.new.limit ≡ given.old.limit }
+    ensures few { from_heads.new.limit ≡ from_heads.old.limit }
     ensures writes { WritesItems heads.old writer.old (item ∷ []) heads.new writer.new }
-    ensures room { HasRoom writer.new (End ∷ []) }
+    ensures room { FitsEvents writer.new (End ∷ []) }
     ensures steady { IsSteady writer.old writer.new }
 {
     match writer.part() {
@@ -105,7 +105,7 @@ fn read(
             gabc_score::stage_laws::nothing_follows_a_stop();
             writer.push_in_body(body_event(item))
         }
-        _ => read_in_heads(item, heads, given, writer),
+        _ => read_in_heads(item, heads, from_heads, writer),
     }
 }
 
@@ -114,24 +114,24 @@ fn read(
 fn read_in_heads(
     item: Result<Char, Fault>,
     heads: &mut HeaderStage,
-    given: &mut Room<HeadEvent>,
+    from_heads: &mut Room<HeadEvent>,
     writer: &mut ScoreWriter,
 )
     requires heads { ¬ (writer.old.part ≡ RunPart.Body) }
     requires together { GoTogether heads.old writer.old }
-    requires few { 2 ≤ given.old.limit }
+    requires few { 2 ≤ from_heads.old.limit }
     requires reserved { IsReserved writer.old }
     requires empty { IsEmpty writer.old }
     ensures together { GoTogether heads.new writer.new }
-    ensures few { given.new.limit ≡ given.old.limit }
+    ensures few { from_heads.new.limit ≡ from_heads.old.limit }
     ensures writes { WritesItems heads.old writer.old (item ∷ []) heads.new writer.new }
-    ensures room { HasRoom writer.new (End ∷ []) }
+    ensures room { FitsEvents writer.new (End ∷ []) }
     ensures steady { IsSteady writer.old writer.new }
 {
     gabc_headers::laws::canonical_lines_are_within_the_limits();
-    given.clear();
-    heads.push(item, given);
-    pass_on(given.slice(), heads.book(), writer);
+    from_heads.clear();
+    heads.push(item, from_heads);
+    pass_on(from_heads.slice(), heads.book(), writer);
 }
 
 /// Reads what the decoder has given.
@@ -139,21 +139,21 @@ fn read_in_heads(
 fn read_decoded(
     item: Option<Result<Char, Fault>>,
     heads: &mut HeaderStage,
-    given: &mut Room<HeadEvent>,
+    from_heads: &mut Room<HeadEvent>,
     writer: &mut ScoreWriter,
 )
     requires together { GoTogether heads.old writer.old }
-    requires few { 2 ≤ given.old.limit }
+    requires few { 2 ≤ from_heads.old.limit }
     requires reserved { IsReserved writer.old }
     requires empty { IsEmpty writer.old }
     ensures together { GoTogether heads.new writer.new }
-    ensures few { given.new.limit ≡ given.old.limit }
+    ensures few { from_heads.new.limit ≡ from_heads.old.limit }
     ensures writes { WritesItems heads.old writer.old (option_to_list item) heads.new writer.new }
-    ensures room { HasRoom writer.new (End ∷ []) }
+    ensures room { FitsEvents writer.new (End ∷ []) }
     ensures steady { IsSteady writer.old writer.new }
 {
     if let Some(item) = item {
-        read(item, heads, given, writer);
+        read(item, heads, from_heads, writer);
     }
 }
 
@@ -161,8 +161,9 @@ impl Engine {
     /// Returns an engine for `job` before the first byte of its input, and reserves the memory that it ever takes. The ends that `job` names
     /// are not opened: its format, the name of its input and whether it wants warnings are all that counts.
     pub fn new(alloc: Global, job: &Job, limits: Limits) -> Result<Engine, AllocError>
-        ensures all { IfOk result (λ engine. (bytes : List ℕ) (ending : Ending) →
-            streams_left engine ending bytes ≡ streams_of_outcome job.now (outcome_of limits ending bytes)) }
+        ensures all { IfOk result (λ engine. (bytes : List ℕ) (ending : EndOfSource) →
+            streams_left engine ending bytes
+            ≡ streams_of_outcome job.now (outcome_of limits ending bytes)) }
         ensures waits { IfOk result (λ engine. NothingWaits engine) }
         ensures running { IfOk result (λ engine. is_running engine ≡ true) }
     {
@@ -172,13 +173,13 @@ impl Engine {
         gabc_score::laws::a_score_says_what_it_emits();
         gabc_score::laws::syllables_are_fewer_than_bytes();
         gabc_score::stage_laws::texts_are_read_in_full();
-        let given = Room::with_limit(alloc, 2)?;
+        let from_heads = Room::with_limit(alloc, 2)?;
         let heads = HeaderStage::with_limits(alloc, limits)?;
         match ScoreWriter::with_limits(alloc, job, limits) {
             Ok(writer) => Ok(Engine {
                 decoder: Decoder::new(limits),
                 heads,
-                given,
+                from_heads,
                 writer,
             }),
             Err(error) => {
@@ -192,12 +193,55 @@ impl Engine {
     /// Takes a byte.
     fn take(&mut self, byte: u8)
         requires waits { NothingWaits self.old }
-        ensures law { (bytes : List ℕ) (ending : Ending)
+        ensures law { (bytes : List ℕ) (ending : EndOfSource)
             → streams_left self.old ending (byte ∷ bytes)
             ≡ with_waiting self.new (streams_left self.new ending bytes) }
     {
         let item = self.decoder.take(byte);
-        read_decoded(item, &mut self.heads, &mut self.given, &mut self.writer);
+        read_decoded(
+            item,
+            &mut self.heads,
+            &mut self.from_heads,
+            &mut self.writer,
+        );
+    }
+
+    /// Takes bytes from the front of `piece` at which nothing is written, and returns how many. It takes none before the line `%%`, none past
+    /// the limit of the input, and of those that it could take it may leave some to `take`.
+    #[inline(always)]
+    fn take_front(&mut self, piece: &[u8]) -> usize
+        ensures taken { result ≤ length piece.now }
+        ensures law { (bytes : List ℕ) (ending : EndOfSource)
+            → streams_left self.old ending (take result piece.now ++ bytes)
+            ≡ streams_left self.new ending bytes }
+        ensures part { self.new.part ≡ self.old.part }
+        ensures output { self.new.output ≡ self.old.output }
+        ensures messages { self.new.messages ≡ self.old.messages }
+    {
+        let most = self.decoder.most_skipped().min(piece.len());
+        let front = &piece[..most];
+        let count = self.writer.take_front(self.decoder.place(), front);
+        self.decoder.skip(&front[..count]);
+        count
+    }
+
+    /// Takes bytes from the front of `piece` at which nothing is written, and behind them one byte more, if there is one. Returns how many it
+    /// took.
+    #[inline(always)]
+    fn take_some(&mut self, piece: &[u8]) -> usize
+        requires waits { NothingWaits self.old }
+        ensures taken { result ≤ length piece.now }
+        ensures some { 0 < length piece.now → 0 < result }
+        ensures law { (bytes : List ℕ) (ending : EndOfSource)
+            → streams_left self.old ending (take result piece.now ++ bytes)
+            ≡ with_waiting self.new (streams_left self.new ending bytes) }
+    {
+        let count = self.take_front(piece);
+        if count == piece.len() {
+            return count;
+        }
+        self.take(piece[count]);
+        count + 1
     }
 
     /// Takes bytes of `piece` until it is used up or output or messages wait, and returns how many. Nothing may wait before. Behind a fatal
@@ -206,7 +250,7 @@ impl Engine {
         requires waits { NothingWaits self.old }
         ensures taken { result ≤ length piece.now }
         ensures some { 0 < length piece.now → 0 < result }
-        ensures law { (bytes : List ℕ) (ending : Ending) →
+        ensures law { (bytes : List ℕ) (ending : EndOfSource) →
             streams_left self.old ending (take result piece.now ++ bytes)
             ≡ with_waiting self.new (streams_left self.new ending bytes) }
         ensures all { NothingWaits self.new → result ≡ length piece.now }
@@ -221,8 +265,7 @@ impl Engine {
             return piece.len();
         }
         while count < piece.len() && self.nothing_waits() {
-            self.take(piece[count]);
-            count += 1;
+            count += self.take_some(&piece[count..]);
         }
         count
     }
@@ -261,17 +304,22 @@ impl Engine {
     pub fn end(&mut self) -> Status
         requires waits { NothingWaits self.old }
         ensures law { streams_left self.old Whole [] ≡ with_waiting self.new (ended_with result) }
-        ensures last { (bytes : List ℕ) (ending : Ending) →
+        ensures last { (bytes : List ℕ) (ending : EndOfSource) →
             streams_left self.new ending bytes ≡ ended_with result }
         ensures over { is_running self.new ≡ false }
         ensures again { is_running self.old ≡ false → self.new ≡ self.old }
     {
         if self.running() {
             let item = self.decoder.end();
-            read_decoded(item, &mut self.heads, &mut self.given, &mut self.writer);
-            self.given.clear();
-            self.heads.finish(&mut self.given);
-            pass_on(self.given.slice(), self.heads.book(), &mut self.writer);
+            read_decoded(
+                item,
+                &mut self.heads,
+                &mut self.from_heads,
+                &mut self.writer,
+            );
+            self.from_heads.clear();
+            self.heads.finish(&mut self.from_heads);
+            pass_on(self.from_heads.slice(), self.heads.book(), &mut self.writer);
         }
         self.writer.finish()
     }
@@ -281,7 +329,7 @@ impl Engine {
     pub fn broken(&mut self) -> Status
         requires waits { NothingWaits self.old }
         ensures law { streams_left self.old Broken [] ≡ with_waiting self.new (ended_with result) }
-        ensures last { (bytes : List ℕ) (ending : Ending) →
+        ensures last { (bytes : List ℕ) (ending : EndOfSource) →
             streams_left self.new ending bytes ≡ ended_with result }
         ensures over { is_running self.new ≡ false }
         ensures again { is_running self.old ≡ false → self.new ≡ self.old }

@@ -2,7 +2,7 @@
 
 ghost use Rattle.std.specs.Prelude.{◌≡◌, ◌≢◌, ◌<◌, ◌⊎◌, ◌++◌, ℕ, List, [], IfOk, OnOk, OnErr};
 ghost use Rattle.gregorio_jobs.specs.declared.job.Status.TheVariants.{ReadFault, WriteFault};
-ghost use Rattle.gregorio.specs.declared.source_bytes.SourceEnding.{SourceEnding as Ending};
+ghost use Rattle.gregorio.specs.declared.source_bytes.SourceEnding.{SourceEnding as EndOfSource};
 ghost use Rattle.gregorio.specs.Engine.{NothingWaits, ended_with, streams_left, with_waiting};
 ghost use Rattle.gregorio.specs.Run.{Compiles};
 ghost use Rattle.gregorio.specs.machine.Buffers.{AreBuffered, nothing_buffered};
@@ -77,7 +77,7 @@ fn feed_piece<O: Sink, M: Sink>(
     ensures fed { OnOk result (IsFed (used O.written O.failures out.old out.new)
         (used M.written M.failures messages.old messages.new)
         engine.old engine.new piece.now) }
-    ensures cut { OnErr result ((ending : Ending) →
+    ensures cut { OnErr result ((ending : EndOfSource) →
         StreamsAreCut (used O.written O.failures out.old out.new)
         (used M.written M.failures messages.old messages.new)
         (streams_left engine.old ending piece.now)) }

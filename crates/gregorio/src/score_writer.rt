@@ -1,18 +1,20 @@
 //! What a run does with what a stage of headers gives.
 
-ghost use Rattle.std.specs.Prelude.{◌≡◌, ℕ, List, [], ◌∷◌, false, IfOk};
-ghost use Rattle.gabc_headers.specs.declared.head_event.HeadEvent.{HeadEvent as Given};
+ghost use Rattle.std.specs.Prelude.{◌≡◌, ◌≤◌, ℕ, List, [], ◌∷◌, length, take, false, IfOk};
+ghost use Rattle.std.specs.List.{All};
+ghost use Rattle.gabc_places.specs.Skip.{IsPrintable};
+ghost use Rattle.gabc_headers.specs.declared.head_event.HeadEvent.{HeadEvent as HeadItem};
 ghost use Rattle.gabc_score.specs.BodyStage.{texts_by_stage};
 ghost use Rattle.gabc_score.specs.ScoreEvents.{ScoreOutput, score_outputs};
 ghost use Rattle.gabc_score.specs.ScoreStage.{AreCountsBelow, left_of};
 ghost use Rattle.gregorio.specs.Engine.{is_running_in};
 ghost use Rattle.gregorio.specs.machine.RunWriter.{HasRoomFor, IsInRoom, IsSteadyWriter};
-ghost use Rattle.gregorio.specs.machine.ScoreWriter.{output_told, told_by, with_told, with_all_told, writer_at, IsBodyBehind, IsShortBook, emptied, fresh_writer, IsReserved, IsSteady, HasRoom, WritesAt, WritesLast};
+ghost use Rattle.gregorio.specs.machine.ScoreWriter.{output_told, told_by, with_told, with_all_told, writer_at, IsBodyBehind, IsShortBook, emptied, fresh_writer, IsReserved, IsSteady, FitsEvents, WritesAt, WritesLast, WritesNothing};
 
 use crate::run_part::RunPart;
 use crate::run_writer::RunWriter;
 use gabc_headers::{HeadEvent, HeaderBook};
-use gabc_places::{Limits, Room, Stage};
+use gabc_places::{Limits, Place, Room, Stage};
 use gabc_score::{ScoreEvent, ScoreStage};
 use gregorio_jobs::{Job, Status};
 use std::alloc::{AllocError, Global};
@@ -44,9 +46,9 @@ fn write_event(writer: &mut RunWriter, part: &mut RunPart, score: &ScoreStage, e
     requires { HasRoomFor score.now.limits writer.old (output_told score.now event ∷ []) }
     ensures writes { writer_at score.now part.new writer.new
         ≡ with_told (writer_at score.now part.old writer.old) (output_told score.now event) }
-    ensures room { (lines texts : ℕ) (outs : List ScoreOutput) →
-        IsInRoom score.now.limits lines texts writer.old (output_told score.now event ∷ outs) →
-        IsInRoom score.now.limits lines texts writer.new outs }
+    ensures room { (lines texts : ℕ) (outputs : List ScoreOutput) →
+        IsInRoom score.now.limits lines texts writer.old (output_told score.now event ∷ outputs) →
+        IsInRoom score.now.limits lines texts writer.new outputs }
     ensures steady { IsSteadyWriter writer.old writer.new }
 {
     match event {
@@ -97,7 +99,7 @@ impl ScoreWriter {
         ensures limits { IfOk result (λ writer. writer.score.limits ≡ limits) }
         ensures reserved { IfOk result IsReserved }
         ensures empty { IfOk result (λ writer. writer ≡ emptied writer) }
-        ensures score { IfOk result (λ writer. (xs : List Given) → AreCountsBelow xs →
+        ensures score { IfOk result (λ writer. (xs : List HeadItem) → AreCountsBelow xs →
             left_of writer.score xs ≡ score_outputs texts_by_stage limits xs) }
     {
         let events = Room::with_limit(alloc, 16)?;
@@ -119,11 +121,11 @@ impl ScoreWriter {
 
     /// Takes `event`, and writes what follows from it. `book` has the headers that are read, if they are whole.
     pub(crate) fn push(&mut self, event: HeadEvent, book: &HeaderBook)
-        requires room { HasRoom self.old (event ∷ []) }
+        requires room { FitsEvents self.old (event ∷ []) }
         requires book { IsShortBook self.old.score.limits book.now }
         ensures writes { WritesAt self.old event book.now self.new }
-        ensures room { (events : List Given) → HasRoom self.old (event ∷ events) →
-            HasRoom self.new events }
+        ensures room { (events : List HeadItem) → FitsEvents self.old (event ∷ events) →
+            FitsEvents self.new events }
         ensures steady { IsSteady self.old self.new }
         ensures part { self.new.part ≡ RunPart.Body → IsBodyBehind self.old.part event }
     {
@@ -136,12 +138,12 @@ impl ScoreWriter {
 
     /// Takes an event before the body.
     fn push_in_heads(&mut self, event: HeadEvent, book: &HeaderBook)
-        requires room { HasRoom self.old (event ∷ []) }
+        requires room { FitsEvents self.old (event ∷ []) }
         requires book { IsShortBook self.old.score.limits book.now }
         requires heads { self.old.part ≡ RunPart.Heads }
         ensures writes { WritesAt self.old event book.now self.new }
-        ensures room { (events : List Given) → HasRoom self.old (event ∷ events) →
-            HasRoom self.new events }
+        ensures room { (events : List HeadItem) → FitsEvents self.old (event ∷ events) →
+            FitsEvents self.new events }
         ensures steady { IsSteady self.old self.new }
         ensures part { self.new.part ≡ RunPart.Body → IsBodyBehind self.old.part event }
     {
@@ -162,12 +164,12 @@ impl ScoreWriter {
 
     /// Takes an event of the body.
     pub(crate) fn push_in_body(&mut self, event: HeadEvent)
-        requires room { HasRoom self.old (event ∷ []) }
+        requires room { FitsEvents self.old (event ∷ []) }
         requires body { self.old.part ≡ RunPart.Body }
         ensures writes { WritesAt self.old event [] self.new }
         ensures any_book { (read : List (List ℕ × List ℕ)) → WritesAt self.old event read self.new }
-        ensures room { (events : List Given) → HasRoom self.old (event ∷ events) →
-            HasRoom self.new events }
+        ensures room { (events : List HeadItem) → FitsEvents self.old (event ∷ events) →
+            FitsEvents self.new events }
         ensures steady { IsSteady self.old self.new }
         ensures part { self.new.part ≡ RunPart.Body → IsBodyBehind self.old.part event }
     {
@@ -181,9 +183,24 @@ impl ScoreWriter {
         );
     }
 
+    /// Takes characters from the front of `bytes` at which nothing is written, and returns how many: none outside of the body. They are
+    /// printable characters of ASCII, of which the first stands at `at` and each next one in the next column. From then on it writes what it
+    /// would write had each of them been pushed.
+    #[inline(always)]
+    pub(crate) fn take_front(&mut self, at: Place, bytes: &[u8]) -> usize
+        ensures within { result ≤ length bytes.now }
+        ensures printable { All IsPrintable (take result bytes.now) }
+        ensures writes { WritesNothing self.old at (take result bytes.now) self.new }
+    {
+        match self.part {
+            RunPart::Body => self.score.take_front(at, bytes),
+            _ => 0,
+        }
+    }
+
     /// Ends what comes, and returns how the run ended. Where neither a stop nor the end has come, the source has failed.
     pub(crate) fn finish(&mut self) -> Status
-        requires room { HasRoom self.old [] }
+        requires room { FitsEvents self.old [] }
         ensures writes { WritesLast self.old self.new result }
         ensures steady { IsSteady self.old self.new }
         ensures part { self.new.part ≡ RunPart.Over result }
@@ -201,7 +218,7 @@ impl ScoreWriter {
 
     /// Ends what comes behind the line `%%`.
     fn finish_body(&mut self) -> Status
-        requires room { HasRoom self.old [] }
+        requires room { FitsEvents self.old [] }
         requires body { self.old.part ≡ RunPart.Body }
         ensures writes { WritesLast self.old self.new result }
         ensures steady { IsSteady self.old self.new }

@@ -10,16 +10,16 @@ const LAST_STREAM: i32 = 2;
 
 /// Where a score comes from.
 #[derive(Drop)]
-pub(crate) enum Reader {
+pub(crate) enum InputStream {
     Stdin(Stdin),
     File(File),
 }
 
-impl Read for Reader {
+impl Read for InputStream {
     fn read(&mut self, buf: &mut [u8]) -> io::Result<usize> {
         match self {
-            Reader::Stdin(stdin) => stdin.read(buf),
-            Reader::File(file) => file.read(buf),
+            InputStream::Stdin(stdin) => stdin.read(buf),
+            InputStream::File(file) => file.read(buf),
         }
     }
 }

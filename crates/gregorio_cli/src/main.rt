@@ -4,7 +4,7 @@
 
 mod ends;
 
-use ends::{Reader, Writer, closed_streams};
+use ends::{InputStream, Writer, closed_streams};
 use gabc_places::{FromReader, Limits, ToWriter};
 use gregorio::{Input, Job, Name, Output, Plan, Refusal, Status, Words, compile, plan};
 use std::process::ExitCode;
@@ -61,8 +61,8 @@ fn create<'j>(rt: &HostRuntime, name: &'j Name) -> Result<fs::File, Unopened<'j>
 fn run<'j>(rt: &HostRuntime, job: &'j Job) -> Result<Status, Unopened<'j>> {
     let _streams = closed_streams(rt);
     let input = match &job.input {
-        Input::Stdin => Reader::Stdin(rt.stdin()),
-        Input::File(name) => Reader::File(open(rt, name)?),
+        Input::Stdin => InputStream::Stdin(rt.stdin()),
+        Input::File(name) => InputStream::File(open(rt, name)?),
     };
     let output = match &job.output {
         Output::Stdout => Writer::Stdout(rt.stdout()),

@@ -1,5 +1,5 @@
 pub mod AnswersByStep
 pub mod ArgumentsByRows
 pub mod PlanByMatches
-pub mod Told
+pub mod AnswersOfResult
 mod WordsByRow

@@ -54,39 +54,39 @@ format_named name =
 
 -- the format, where one is given that is known
 abbrev pub format_of : Said → Option Format
-format_of said = option_and_then format_named said.format
+format_of matched = option_and_then format_named matched.format
 
 -- the refusals in their order, each with whether it applies
 abbrev pub refusals : Said → List (Bool × Refusal)
-refusals said =
-    (not (is_some said.format), O2)
-    ∷ (not (is_some (format_of said)), O3)
-    ∷ (said.stdin && is_some said.file, O4)
-    ∷ (not said.stdin && not (is_some said.file), O5)
-    ∷ (is_some said.output && said.stdout, O6)
-    ∷ (is_some said.file && (not (is_some said.output) && not said.stdout), O7)
+refusals matched =
+    (not (is_some matched.format), O2)
+    ∷ (not (is_some (format_of matched)), O3)
+    ∷ (matched.stdin && is_some matched.file, O4)
+    ∷ (not matched.stdin && not (is_some matched.file), O5)
+    ∷ (is_some matched.output && matched.stdout, O6)
+    ∷ (is_some matched.file && (not (is_some matched.output) && not matched.stdout), O7)
     ∷ []
 
 abbrev pub first_refusal : Said → Option Refusal
-first_refusal said = option_map (λ r. r.1) (find (λ r. r.0) (refusals said))
+first_refusal matched = option_map (λ r. r.1) (find (λ r. r.0) (refusals matched))
 
 -- the job; where no refusal applies, a format is given
 abbrev pub job_of : Said → Job
-job_of said = record {
-  format = unwrap_or (format_of said) Gabc;
-  input = option_map_or InputFile said.file Stdin;
-  output = option_map_or OutputFile said.output Stdout;
-  messages = said.messages;
-  all_warnings = said.all_warnings;
+job_of matched = record {
+  format = unwrap_or (format_of matched) Gabc;
+  input = option_map_or InputFile matched.file Stdin;
+  output = option_map_or OutputFile matched.output Stdout;
+  messages = matched.messages;
+  all_warnings = matched.all_warnings;
 }
 
 -- help if it is asked for; else the first refusal; else the job
 abbrev pub answer : Said → Result Plan Refusal
-answer said = if said.help then Ok Help else option_map_or Err (first_refusal said) (Ok (Run (job_of said)))
+answer matched = if matched.help then Ok Help else option_map_or Err (first_refusal matched) (Ok (Run (job_of matched)))
 
 abbrev pub answer_unless : Kinds → Said → Result Plan Refusal
-answer_unless [] said = answer said
-answer_unless (kind ∷ kinds) said = Err O1
+answer_unless [] matched = answer matched
+answer_unless (kind ∷ kinds) matched = Err O1
 
 -- `O1` where `clap` states that the command refuses the words; else the answer to what they say
 abbrev pub wants : List Text → Result Plan Refusal

@@ -172,7 +172,7 @@ fn read_file(rt: &HostRuntime, name: &str, ending: &str) -> io::Result<String> {
 }
 
 /// Whether a score gives this output in this format, and these messages, whole and in pieces.
-fn gives(alloc: Global, format: Format, score: &[u8], output: &[u8], messages: &[u8]) -> bool {
+fn has_output(alloc: Global, format: Format, score: &[u8], output: &[u8], messages: &[u8]) -> bool {
     let asked = Request {
         all_warnings: true,
         ..Request::on(format, score, Limits::DEFAULT)
@@ -191,8 +191,8 @@ fn is_told(rt: &HostRuntime, name: &str) -> io::Result<bool> {
     let messages = read_file(rt, name, "messages")?;
     let (score, form, alloc) = (score.as_bytes(), canonical.as_bytes(), rt.alloc());
     Ok(
-        gives(alloc, Format::Gabc, score, form, messages.as_bytes())
-            && gives(
+        has_output(alloc, Format::Gabc, score, form, messages.as_bytes())
+            && has_output(
                 alloc,
                 Format::Dump,
                 score,

@@ -79,7 +79,13 @@ fn end(engine: &mut Engine, broken: bool) -> Status
 }
 
 /// Whether an engine that takes the bytes of a run in pieces of this length gives what is wanted.
-fn gives(engine: &mut Engine, asked: Request, length: usize, mut wanted: Wanted, status: u8) -> bool
+fn has_output(
+    engine: &mut Engine,
+    asked: Request,
+    length: usize,
+    mut wanted: Wanted,
+    status: u8,
+) -> bool
     requires length { 0 < length }
     requires waits { NothingWaits engine.old }
 {
@@ -96,7 +102,7 @@ fn agrees_in(alloc: Global, asked: Request, length: usize, wanted: Wanted, statu
 {
     match Engine::new(alloc, &job(asked.format, asked.all_warnings), asked.limits) {
         Ok(mut engine) => {
-            let agrees = gives(&mut engine, asked, length, wanted, status);
+            let agrees = has_output(&mut engine, asked, length, wanted, status);
             // A proof follows a call faster than all that lies inside an engine.
             drop(engine);
             agrees

@@ -120,9 +120,9 @@ fn stops_at_the_first_failure(rt: HostRuntime) {
 
 #[test]
 fn emits_how_much_was_sent(rt: HostRuntime) -> Result<(), Fail> {
-    let told = format!(in rt.alloc(); "{SinkFault}, {}", Unsent { sent: 7 })?;
+    let printed = format!(in rt.alloc(); "{SinkFault}, {}", Unsent { sent: 7 })?;
     assert_eq!(rt;
-        told.as_str(),
+        printed.as_str(),
         "the sink failed, the sink failed after 7 bytes"
     );
     Ok(())

@@ -40,7 +40,7 @@ fn read_bytewise(
 }
 
 /// Returns whether the text and fault of an input are these, by one call and by a decoder.
-fn gives(
+fn has_output(
     rt: &HostRuntime,
     bytes: &[u8],
     ended: bool,
@@ -92,7 +92,7 @@ fn reads_texts(rt: HostRuntime) -> Result<(), Fail> {
         ),
     ];
     for (bytes, ended, text, fault) in table {
-        assert!(rt; gives(&rt, bytes, ended, text, fault)?, "of {bytes:?}");
+        assert!(rt; has_output(&rt, bytes, ended, text, fault)?, "of {bytes:?}");
     }
     Ok(())
 }

@@ -151,7 +151,7 @@ fn is_over(engine: &mut Engine, status: Status) -> bool
 }
 
 /// Whether an engine gives what a trial says.
-fn gives(engine: &mut Engine, trial: Trial) -> bool {
+fn has_output(engine: &mut Engine, trial: Trial) -> bool {
     gives_steps(engine, trial.input, trial.steps)
         && !waits(engine)
         && end(engine, trial.ending) == trial.status
@@ -175,7 +175,7 @@ fn engine_of(alloc: Global, format: Format) -> Result<Engine, AllocError> {
 fn is_kept(alloc: Global, trial: Trial) -> bool {
     match engine_of(alloc, trial.format) {
         Ok(mut engine) => {
-            let well = gives(&mut engine, trial);
+            let well = has_output(&mut engine, trial);
             drop(engine);
             well
         }

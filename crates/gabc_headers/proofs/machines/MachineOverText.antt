@@ -28,7 +28,7 @@ use Rattle.gabc_headers.proofs.stops.TextTooLong.{Begins, begins_push, place_pus
 use Rattle.gabc_headers.proofs.machines.EventsAreEarlyParts.{tell_step, early_step}
 
 -- The reader has read what is done, and stands before the rest. `rd` is its part reader, with spans in characters.
-pub record Reads (t : List ℕ) (limit : ℕ) (done rest : List ℕ) (r : HeaderMachine) (es : List HeaderEvent) : Type 0 where
+pub record MachineReads (t : List ℕ) (limit : ℕ) (done rest : List ℕ) (r : HeaderMachine) (es : List HeaderEvent) : Type 0 where
   pub scan : Scan t done rest r.at_line
   pub rd : PartMachine
   pub parts : r.parts ≡ moved (bytes_at (head_text true t)) rd
@@ -46,7 +46,7 @@ pub record Reads (t : List ℕ) (limit : ℕ) (done rest : List ℕ) (r : Header
   pub place : r.place ≡ place_after done
 
 -- before the first character
-pub begin_reads : (t : List ℕ) (limit : ℕ) → Reads t limit [] t (fresh_machine limit) []
+pub begin_reads : (t : List ℕ) (limit : ℕ) → MachineReads t limit [] t (fresh_machine limit) []
 begin_reads t limit = record {
   scan = begin_scan t;
   rd = at_line_start 1 0;
@@ -73,7 +73,7 @@ kind_line c h = let e : c ≡ 10 = grind (arith, nat_tests) in ap header_char_of
 pub length_one : (done : List ℕ) (c : ℕ) → length (done ++ c ∷ []) ≡ length done + 1
 length_one done c = let l = length-append done (c ∷ []) in omega arith
 
-module _ (t : List ℕ) (limit : ℕ) (done rest : List ℕ) (r : HeaderMachine) (es : List HeaderEvent) (c : ℕ) (h : Reads t limit done (c ∷ rest) r es) (e : (r.at_line && is_score_line (c ∷ rest)) ≡ false) where
+module _ (t : List ℕ) (limit : ℕ) (done rest : List ℕ) (r : HeaderMachine) (es : List HeaderEvent) (c : ℕ) (h : MachineReads t limit done (c ∷ rest) r es) (e : (r.at_line && is_score_line (c ∷ rest)) ≡ false) where
   -- the headers' own text goes on so
   pub head_drop : drop (length done) (head_text true t) ≡ c ∷ head_text (c == 10) rest
   head_drop = ap (drop (length done)) (h.scan.head ∙ ap (λ (x : List ℕ). done ++ x) (head_next r.at_line c rest e)) ∙ drop-append_seam done (c ∷ head_text (c == 10) rest)
@@ -117,7 +117,7 @@ module _ (t : List ℕ) (limit : ℕ) (done rest : List ℕ) (r : HeaderMachine)
       ∙ quiet_line h.rd (length done) (length done + 1) (is_good_span (span_of r.parts.trim))
 
   -- a character more
-  pub reads_more : bytes_len done + len_utf8 c ≤ limit → Reads t limit (done ++ c ∷ []) rest (machine_with r c (part_step r c).0) (with_event es (part_step r c).1)
+  pub reads_more : bytes_len done + len_utf8 c ≤ limit → MachineReads t limit (done ++ c ∷ []) rest (machine_with r c (part_step r c).0) (with_event es (part_step r c).1)
   reads_more l =
       let m = near_step h.rd (length done) h.near (header_char_of c) (is_good_span (span_of r.parts.trim)) in
       let n = length_one done c in

@@ -21,7 +21,7 @@ use Rattle.gabc_headers.proofs.machines.EventSpansLieInText.{quiet_event}
 use Rattle.gabc_headers.proofs.machines.PartMachineOfBytes.{moved_event}
 use Rattle.gabc_headers.proofs.machines.SpansOfBytes.{bytes_at}
 use Rattle.gabc_headers.proofs.groups.TextBeforeScore.{head_text}
-use Rattle.gabc_headers.proofs.machines.MachineOverText.{Reads, begin_reads, reads_more, step_is}
+use Rattle.gabc_headers.proofs.machines.MachineOverText.{MachineReads, begin_reads, reads_more, step_is}
 use Rattle.gabc_headers.proofs.stops.MachineEndsAtStop.{limit_here, limit_held, score_here, text_here, text_held}
 
 -- what the part reader has not read: a `%` that is held back, and what comes
@@ -32,7 +32,7 @@ pending false rest = rest
 -- the reader stands before the rest of the text
 pub record Following (t : List ℕ) (limit : ℕ) (rest : List ℕ) (r : HeaderMachine) (es : List HeaderEvent) : Type 0 where
   pub done : List ℕ
-  pub reads : Reads t limit done (pending r.held rest) r es
+  pub reads : MachineReads t limit done (pending r.held rest) r es
   pub held : r.held ≡ true → r.at_line ≡ true
 
 -- before the first character
@@ -45,7 +45,7 @@ AfterPush t limit rest es r (Read e) = Following t limit rest r (with_event es e
 AfterPush t limit rest es r (Ended end) = AreHeaderEvents limit t es end
 
 -- another `held` changes nothing of what the reader has read
-reheld : (t : List ℕ) (limit : ℕ) (done rest : List ℕ) (r : HeaderMachine) (es : List HeaderEvent) (b : Bool) → Reads t limit done rest r es → Reads t limit done rest (record r { held = b }) es
+reheld : (t : List ℕ) (limit : ℕ) (done rest : List ℕ) (r : HeaderMachine) (es : List HeaderEvent) (b : Bool) → MachineReads t limit done rest r es → MachineReads t limit done rest (record r { held = b }) es
 reheld t limit done rest r es b h = record {
   scan = h.scan;
   rd = h.rd;
@@ -72,7 +72,7 @@ no_score false p q h = refl
 
 module _ (t : List ℕ) (limit : ℕ) (rest : List ℕ) where
   -- a character that is read at once
-  takes : (done : List ℕ) (r : HeaderMachine) (es : List HeaderEvent) (c : ℕ) → r.held ≡ false → ((c == 37) && r.at_line) ≡ false → Reads t limit done (c ∷ rest) r es
+  takes : (done : List ℕ) (r : HeaderMachine) (es : List HeaderEvent) (c : ℕ) → r.held ≡ false → ((c == 37) && r.at_line) ≡ false → MachineReads t limit done (c ∷ rest) r es
       → AfterPush t limit rest es (take_one r c).0 (take_one r c).1
   takes done r es c k q h = by (nat_lt r.limit (r.bytes + len_utf8 c)) refl
     where
@@ -85,13 +85,13 @@ module _ (t : List ℕ) (limit : ℕ) (rest : List ℕ) where
       by true f = limit_here t limit done r es rest c h e (let x : r.limit < r.bytes + len_utf8 c = grind (arith, nat_tests) in let m = h.most in let n = h.bytes in omega arith) q
       by false f = record {
         done = done ++ c ∷ [];
-        reads = subst (λ (b : Bool). Reads t limit (done ++ c ∷ []) (pending b rest) (machine_with r c (part_step r c).0) (with_event es (part_step r c).1)) (sym k)
+        reads = subst (λ (b : Bool). MachineReads t limit (done ++ c ∷ []) (pending b rest) (machine_with r c (part_step r c).0) (with_event es (part_step r c).1)) (sym k)
             (reads_more t limit done rest r es c h e (let x : r.bytes + len_utf8 c ≤ r.limit = grind (arith, nat_tests) in let m = h.most in let n = h.bytes in omega arith));
         held = λ x. absurd (cc);
       }
 
   -- a push with a `%` held back
-  held_pushes : (done : List ℕ) (r : HeaderMachine) (es : List HeaderEvent) (c : ℕ) → r.at_line ≡ true → Reads t limit done (37 ∷ c ∷ rest) r es
+  held_pushes : (done : List ℕ) (r : HeaderMachine) (es : List HeaderEvent) (c : ℕ) → r.at_line ≡ true → MachineReads t limit done (37 ∷ c ∷ rest) r es
       → AfterPush t limit rest es (held_push r c).0 (held_push r c).1
   held_pushes done r es c a h = by (c == 37) refl
     where
@@ -103,21 +103,21 @@ module _ (t : List ℕ) (limit : ℕ) (rest : List ℕ) where
           (then_take (take_one (record r { held = false }) 37).0 (take_one (record r { held = false }) 37).1 c)).0
           (cond {A = HeaderMachine × HeaderStep} b (r, Ended (Score r.place (r.bytes + 2) (open_in r.parts.state r.parts.header)))
           (then_take (take_one (record r { held = false }) 37).0 (take_one (record r { held = false }) 37).1 c)).1
-      by true q = score_here t limit done r es rest (subst (λ (x : ℕ). Reads t limit done (37 ∷ x ∷ rest) r es) (equal q) h) a
+      by true q = score_here t limit done r es rest (subst (λ (x : ℕ). MachineReads t limit done (37 ∷ x ∷ rest) r es) (equal q) h) a
       by false q = release (nat_lt r.limit (r.bytes + len_utf8 37)) refl
         where
           e : (r.at_line && is_score_line (37 ∷ c ∷ rest)) ≡ false
           e = ap (λ (b : Bool). b && (c == 37)) a ∙ q
 
-          freed : Reads t limit done (37 ∷ c ∷ rest) (record r { held = false }) es
+          freed : MachineReads t limit done (37 ∷ c ∷ rest) (record r { held = false }) es
           freed = reheld t limit done (37 ∷ c ∷ rest) r es false h
 
           event : (part_step (record r { held = false }) 37).1 ≡ None
           event = ap (λ (x : PartMachine × Option HeaderEvent). x.1) (step_is t limit done (c ∷ rest) (record r { held = false }) es 37 freed e)
               ∙ ap (moved_event (bytes_at (head_text true t))) (quiet_event freed.rd (length done) (length done + 1) _ (freed.quiet a))
 
-          released : bytes_len done + len_utf8 37 ≤ limit → Reads t limit (done ++ 37 ∷ []) (c ∷ rest) (machine_with (record r { held = false }) 37 (part_step (record r { held = false }) 37).0) es
-          released l = subst (λ (x : Option HeaderEvent). Reads t limit (done ++ 37 ∷ []) (c ∷ rest) (machine_with (record r { held = false }) 37 (part_step (record r { held = false }) 37).0) (with_event es x)) event
+          released : bytes_len done + len_utf8 37 ≤ limit → MachineReads t limit (done ++ 37 ∷ []) (c ∷ rest) (machine_with (record r { held = false }) 37 (part_step (record r { held = false }) 37).0) es
+          released l = subst (λ (x : Option HeaderEvent). MachineReads t limit (done ++ 37 ∷ []) (c ∷ rest) (machine_with (record r { held = false }) 37 (part_step (record r { held = false }) 37).0) (with_event es x)) event
               (reads_more t limit done (c ∷ rest) (record r { held = false }) es 37 freed e l)
 
           release : (b : Bool) → nat_lt r.limit (r.bytes + len_utf8 37) ≡ b
@@ -147,16 +147,16 @@ module _ (t : List ℕ) (limit : ℕ) (rest : List ℕ) where
       turned false true q = refl
       turned false false q = refl
 
-      first : r.held ≡ false → Reads t limit h.done (c ∷ rest) r es → (b : Bool) → (r.at_line && (c == 37)) ≡ b
+      first : r.held ≡ false → MachineReads t limit h.done (c ∷ rest) r es → (b : Bool) → (r.at_line && (c == 37)) ≡ b
           → AfterPush t limit rest es (cond {A = HeaderMachine × HeaderStep} b (record r { held = true }, Read None) (take_one r c)).0 (cond {A = HeaderMachine × HeaderStep} b (record r { held = true }, Read None) (take_one r c)).1
       first k x true q = record {
         done = h.done;
-        reads = reheld t limit h.done (37 ∷ rest) r es true (subst (λ (y : ℕ). Reads t limit h.done (y ∷ rest) r es) (equal (both r.at_line (c == 37) q).1) x);
+        reads = reheld t limit h.done (37 ∷ rest) r es true (subst (λ (y : ℕ). MachineReads t limit h.done (y ∷ rest) r es) (equal (both r.at_line (c == 37) q).1) x);
         held = λ y. (both r.at_line (c == 37) q).0;
       }
       first k x false q = takes h.done r es c k (turned r.at_line (c == 37) q) x
 
-      by : (b : Bool) → r.held ≡ b → Reads t limit h.done (pending b (c ∷ rest)) r es
+      by : (b : Bool) → r.held ≡ b → MachineReads t limit h.done (pending b (c ∷ rest)) r es
           → AfterPush t limit rest es (cond b (held_push r c) (cond (r.at_line && (c == 37)) (record r { held = true }, Read None) (take_one r c))).0
           (cond b (held_push r c) (cond (r.at_line && (c == 37)) (record r { held = true }, Read None) (take_one r c))).1
       by true k x = held_pushes h.done r es c (h.held k) x
@@ -166,7 +166,7 @@ module _ (t : List ℕ) (limit : ℕ) (rest : List ℕ) where
 pub ends : (t : List ℕ) (limit : ℕ) (r : HeaderMachine) (es : List HeaderEvent) → Following t limit [] r es → AreHeaderEvents limit t es (end_here r)
 ends t limit r es h = by r.held refl h.reads
   where
-    by : (b : Bool) → r.held ≡ b → Reads t limit h.done (pending b []) r es → AreHeaderEvents limit t es (Text (cond b (next_place r.place 37) r.place) (open_in r.parts.state r.parts.header))
+    by : (b : Bool) → r.held ≡ b → MachineReads t limit h.done (pending b []) r es → AreHeaderEvents limit t es (Text (cond b (next_place r.place 37) r.place) (open_in r.parts.state r.parts.header))
     by true k x = text_held t limit h.done r es x (h.held k)
     by false k x = text_here t limit h.done r es x
 

@@ -152,12 +152,12 @@ module _ (limits : Limits) (held : List ℕ) (c : ℕ) (heads : Heads) (now : he
 -- ---- one character, and what follows
 
 -- what a text tells
-abbrev told_of : Limits → List ℕ → List HeadEvent
-told_of limits t = events_of_heads t (heads_of limits t)
+abbrev events_of_text : Limits → List ℕ → List HeadEvent
+events_of_text limits t = events_of_heads t (heads_of limits t)
 
 -- what is told from here on makes the whole
 abbrev Makes : Limits → List ℕ → List HeaderEvent → List ℕ → Type 0
-Makes limits held es xs = map (λ f. Found f) (collected_of held es).findings ++ concat_of (events_left limits (reading held) (given_behind held xs)) ≡ told_of limits (held ++ xs)
+Makes limits held es xs = map (λ f. Found f) (collected_of held es).findings ++ concat_of (events_left limits (reading held) (given_behind held xs)) ≡ events_of_text limits (held ++ xs)
 
 open_events : (found : List Finding) (f : HeadFault) → f.at_end ≡ true → events_by found (Err f) ≡ map (λ f. Found f) found
 open_events found f e = rw e refl
@@ -222,7 +222,7 @@ module _ (limits : Limits) (held xs : List ℕ) (c : ℕ) (r new : HeaderMachine
       let tells = read_tells e p in
       ap (λ (x : List HeadEvent). map (λ f. Found f) (collected_of held es).findings ++ x) (split ∙ (ap (λ (x : List HeadEvent). x ++ rest (progress_by longer (heads_of limits longer))) tells.0 ∙ ap (λ (x : HeadProgress). map (λ f. Found f) more ++ rest x) tells.1))
       ∙ (moved (collected_of held es).findings more (collected_of longer (with_event es e)).findings (rest (reading longer)) (sym all)
-      ∙ (next ∙ ap (told_of limits) whole_is))
+      ∙ (next ∙ ap (events_of_text limits) whole_is))
 
   -- ---- the headers end
 
@@ -279,13 +279,13 @@ module _ (limits : Limits) (held xs : List ℕ) (c : ℕ) (r new : HeaderMachine
   whole_makes : (heads : Heads) (more : List Finding) → heads_of limits longer ≡ Ok heads → heads_of limits (held ++ c ∷ xs) ≡ Ok heads → heads.findings ≡ (collected_of held es).findings ++ more → Makes limits held es (c ∷ xs)
   whole_makes heads more now all g =
       let tells = whole_tells heads more now g in
-      let given : rest (behind heads.book) ≡ map (λ c. Body c) (placed_characters_behind longer xs) ++ End ∷ [] = body_given limits heads.book (placed_characters_behind longer xs) in
+      let head_items : rest (behind heads.book) ≡ map (λ c. Body c) (placed_characters_behind longer xs) ++ End ∷ [] = body_given limits heads.book (placed_characters_behind longer xs) in
       let body : body_characters (held ++ c ∷ xs) ≡ placed_characters_behind longer xs = subst (λ (x : List ℕ). body_characters x ≡ placed_characters_behind longer xs) whole_is (body_is limits held c heads now o.fault o.heads xs) in
       ap (λ (x : List HeadEvent). map (λ f. Found f) (collected_of held es).findings ++ x)
       (split ∙ (ap (λ (x : List HeadEvent). x ++ rest (progress_by longer (heads_of limits longer))) tells.0
       ∙ (ap (λ (x : HeadProgress). (map (λ f. Found f) more ++ heads_told heads.book ∷ []) ++ rest x) tells.1
       ∙ (append_assoc (map (λ f. Found f) more) (heads_told heads.book ∷ []) (rest (behind heads.book))
-      ∙ ap (λ (x : List HeadEvent). map (λ f. Found f) more ++ heads_told heads.book ∷ x) given))))
+      ∙ ap (λ (x : List HeadEvent). map (λ f. Found f) more ++ heads_told heads.book ∷ x) head_items))))
       ∙ (moved (collected_of held es).findings more heads.findings (heads_told heads.book ∷ (map (λ c. Body c) (placed_characters_behind longer xs) ++ End ∷ [])) (sym g)
       ∙ (ap (λ (x : List Char). map (λ f. Found f) heads.findings ++ heads_told heads.book ∷ (map (λ c. Body c) x ++ End ∷ [])) (sym body)
       ∙ ap (λ (x : Result Heads HeadFault). events_of_heads (held ++ c ∷ xs) x) (sym all)))
@@ -312,7 +312,7 @@ makes_end limits held r es u h =
     ap (λ (x : List HeadEvent). map (λ f. Found f) (collected_of held es).findings ++ x)
     (concat-cons (events_at_end (heads_of limits held)) [] ∙ (append-nil (events_at_end (heads_of limits held)) ∙ ap (λ (x : Result Heads HeadFault). events_at_end x) o.heads))
     ∙ (ap (λ (x : List Finding). map (λ f. Found f) x ++ Stop o.fault.fault ∷ []) (sym o.findings)
-    ∙ (ap (λ (x : Result Heads HeadFault). events_of_heads held x) (sym o.heads) ∙ ap (told_of limits) (sym (append-nil held))))
+    ∙ (ap (λ (x : Result Heads HeadFault). events_of_heads held x) (sym o.heads) ∙ ap (events_of_text limits) (sym (append-nil held))))
 
 -- at a character, if what follows makes the whole
 makes_step : (limits : Limits) (held xs : List ℕ) (c : ℕ) (r : HeaderMachine) (es : List HeaderEvent) → scalars (held ++ c ∷ xs) ≡ true → HasRead limits.header held r es

@@ -118,20 +118,20 @@ silent_behind_fault limits over fault = refl
 
 -- ---- by the headers of the text
 
-broken_by : (limits : Limits) (t : List ℕ) (given : List HeadEvent) (r : Result Heads HeadFault) → heads_of limits t ≡ r → given ++ events_of_end limits (progress_by t r) ≡ events_of_heads t r
-    → given ≡ events_of_broken t r
-broken_by limits t given (Ok heads) e h =
+broken_by : (limits : Limits) (t : List ℕ) (head_items : List HeadEvent) (r : Result Heads HeadFault) → heads_of limits t ≡ r → head_items ++ events_of_end limits (progress_by t r) ≡ events_of_heads t r
+    → head_items ≡ events_of_broken t r
+broken_by limits t head_items (Ok heads) e h =
     let found = map (λ f. Found f) heads.findings in
-    append_cancel_right given (found ++ heads_told heads.book ∷ map (λ c. Body c) (body_characters t)) (End ∷ [])
+    append_cancel_right head_items (found ++ heads_told heads.book ∷ map (λ c. Body c) (body_characters t)) (End ∷ [])
     (h ∙ sym (append_assoc found (heads_told heads.book ∷ map (λ c. Body c) (body_characters t)) (End ∷ [])))
-broken_by limits t given (Err stop) e h = by stop.at_end h
+broken_by limits t head_items (Err stop) e h = by stop.at_end h
   where
-    by : (at_end : Bool) → given ++ events_of_end limits (if at_end then reading t else over) ≡ map (λ f. Found f) stop.findings ++ Stop stop.fault ∷ []
-        → given ≡ map (λ f. Found f) stop.findings ++ (if at_end then [] else Stop stop.fault ∷ [])
+    by : (at_end : Bool) → head_items ++ events_of_end limits (if at_end then reading t else over) ≡ map (λ f. Found f) stop.findings ++ Stop stop.fault ∷ []
+        → head_items ≡ map (λ f. Found f) stop.findings ++ (if at_end then [] else Stop stop.fault ∷ [])
     by true k =
-        append_cancel_right given (map (λ f. Found f) stop.findings) (Stop stop.fault ∷ []) (ap (λ (l : List HeadEvent). given ++ l) (sym (ap events_at_end e)) ∙ k)
+        append_cancel_right head_items (map (λ f. Found f) stop.findings) (Stop stop.fault ∷ []) (ap (λ (l : List HeadEvent). head_items ++ l) (sym (ap events_at_end e)) ∙ k)
         ∙ sym (append-nil (map (λ f. Found f) stop.findings))
-    by false k = sym (append-nil given) ∙ k
+    by false k = sym (append-nil head_items) ∙ k
 
 stopped_by : (limits : Limits) (t : List ℕ) (fault : Fault) (r : Result Heads HeadFault) → events_of_broken t r ++ events_of_input limits (progress_by t r) (Err fault) ≡ events_of_stopped fault t r
 stopped_by limits t fault (Ok heads) = append_assoc (map (λ f. Found f) heads.findings) (heads_told heads.book ∷ map (λ c. Body c) (body_characters t)) (Stop fault ∷ [])
@@ -143,28 +143,28 @@ stopped_by limits t fault (Err stop) = by stop.at_end
     by false = append-nil (map (λ f. Found f) stop.findings ++ Stop stop.fault ∷ [])
 
 module _ (limits : Limits) (t : List ℕ) (u : scalars t ≡ true) where
-  abbrev given : List (Result Char Fault)
-  given = given_behind [] t
+  abbrev head_items : List (Result Char Fault)
+  head_items = given_behind [] t
 
-  pub standing : progress_past limits (reading []) given ≡ progress_by t (heads_of limits t)
+  pub standing : progress_past limits (reading []) head_items ≡ progress_by t (heads_of limits t)
   standing = stands limits t [] (fresh_machine limits.header) [] u (begin_read limits.header)
 
-  pub broken_gives : emitted_by false given (events_left limits (reading []) given) ≡ events_of_broken t (heads_of limits t)
-  broken_gives = broken_by limits t (given_so_far limits (reading []) given) (heads_of limits t) refl
-      (ap (λ (p : HeadProgress). given_so_far limits (reading []) given ++ events_of_end limits p) (sym standing)
-      ∙ (sym (with_end limits (reading []) given) ∙ events_make_heads limits t u))
+  pub broken_gives : emitted_by false head_items (events_left limits (reading []) head_items) ≡ events_of_broken t (heads_of limits t)
+  broken_gives = broken_by limits t (given_so_far limits (reading []) head_items) (heads_of limits t) refl
+      (ap (λ (p : HeadProgress). given_so_far limits (reading []) head_items ++ events_of_end limits p) (sym standing)
+      ∙ (sym (with_end limits (reading []) head_items) ∙ events_make_heads limits t u))
 
-  stopped_so_far : (fault : Fault) → given_so_far limits (reading []) (given ++ Err fault ∷ []) ≡ events_of_stopped fault t (heads_of limits t)
+  stopped_so_far : (fault : Fault) → given_so_far limits (reading []) (head_items ++ Err fault ∷ []) ≡ events_of_stopped fault t (heads_of limits t)
   stopped_so_far fault =
-      with_input limits (reading []) given (Err fault)
-      ∙ (ap (λ (l : List HeadEvent). l ++ events_of_input limits (progress_past limits (reading []) given) (Err fault)) broken_gives
+      with_input limits (reading []) head_items (Err fault)
+      ∙ (ap (λ (l : List HeadEvent). l ++ events_of_input limits (progress_past limits (reading []) head_items) (Err fault)) broken_gives
       ∙ (ap (λ (p : HeadProgress). events_of_broken t (heads_of limits t) ++ events_of_input limits p (Err fault)) standing
       ∙ stopped_by limits t fault (heads_of limits t)))
 
-  pub stopped_gives : (ended : Bool) (fault : Fault) → emitted_by ended (given ++ Err fault ∷ []) (events_left limits (reading []) (given ++ Err fault ∷ [])) ≡ events_of_stopped fault t (heads_of limits t)
+  pub stopped_gives : (ended : Bool) (fault : Fault) → emitted_by ended (head_items ++ Err fault ∷ []) (events_left limits (reading []) (head_items ++ Err fault ∷ [])) ≡ events_of_stopped fault t (heads_of limits t)
   stopped_gives false fault = stopped_so_far fault
   stopped_gives true fault =
-      with_end limits (reading []) (given ++ Err fault ∷ [])
-      ∙ (ap (λ (p : HeadProgress). given_so_far limits (reading []) (given ++ Err fault ∷ []) ++ events_of_end limits p) (past_one_more limits (reading []) given (Err fault))
-      ∙ (ap (λ (l : List HeadEvent). given_so_far limits (reading []) (given ++ Err fault ∷ []) ++ l) (silent_behind_fault limits (progress_past limits (reading []) given) fault)
-      ∙ (append-nil (given_so_far limits (reading []) (given ++ Err fault ∷ [])) ∙ stopped_so_far fault)))
+      with_end limits (reading []) (head_items ++ Err fault ∷ [])
+      ∙ (ap (λ (p : HeadProgress). given_so_far limits (reading []) (head_items ++ Err fault ∷ []) ++ events_of_end limits p) (past_one_more limits (reading []) head_items (Err fault))
+      ∙ (ap (λ (l : List HeadEvent). given_so_far limits (reading []) (head_items ++ Err fault ∷ []) ++ l) (silent_behind_fault limits (progress_past limits (reading []) head_items) fault)
+      ∙ (append-nil (given_so_far limits (reading []) (head_items ++ Err fault ∷ [])) ∙ stopped_so_far fault)))

@@ -38,14 +38,14 @@ record PrintedBook (es : List (List ℕ × List ℕ)) (more : List ℕ) : Type 0
   text : lines (header_lines es ++ 37 ∷ 37 ∷ more) ≡ heads ++ lines (37 ∷ 37 ∷ more)
   no_score : AreNoScore heads
   cut : AreGroups heads groups
-  says : (k n : ℕ) → AreHeaders (parts_of_groups k n groups) es
+  headers_are : (k n : ℕ) → AreHeaders (parts_of_groups k n groups) es
 
 no_score_append : (ls ms : List (List ℕ)) → AreNoScore ls → AreNoScore ms → AreNoScore (ls ++ ms)
 no_score_append [] ms h g = g
 no_score_append (l ∷ ls) ms h g = (h.0, no_score_append ls ms h.1 g)
 
 printed_book : (es : List (List ℕ × List ℕ)) → AreEntries es → (more : List ℕ) → PrintedBook es more
-printed_book [] h more = record { groups = []; heads = []; text = refl; no_score = tt; cut = refl; says = λ k n. tt }
+printed_book [] h more = record { groups = []; heads = []; text = refl; no_score = tt; cut = refl; headers_are = λ k n. tt }
 printed_book (e ∷ es) h more =
     let p : PrintedEntry e = printed_entry e.0 e.1 h.0.name h.0.value in
     let r = printed_book es h.1 more in
@@ -57,8 +57,8 @@ printed_book (e ∷ es) h more =
           ∙ ap (λ (x : List (List ℕ)). own ++ x) r.text ∙ sym (append_assoc own r.heads (lines (37 ∷ 37 ∷ more)));
       no_score = no_score_append own r.heads p.no_score r.no_score;
       cut = ((p.begins, p.ends), (r.heads, refl, r.cut));
-      says = λ k n. subst (λ (o : Option (List ℕ)). AreHeaders ((bad_name_parts k o (n + length (before_colon p.first)) ++ ended_parts k o (value_text p.first p.below) (mark_point n p.first p.below))
-          ++ parts_of_groups (k + length own) (n + lines_len own) r.groups) (e ∷ es)) (sym p.name_is) ((refl, p.value_is), r.says (k + length own) (n + lines_len own));
+      headers_are = λ k n. subst (λ (o : Option (List ℕ)). AreHeaders ((bad_name_parts k o (n + length (before_colon p.first)) ++ ended_parts k o (value_text p.first p.below) (mark_point n p.first p.below))
+          ++ parts_of_groups (k + length own) (n + lines_len own) r.groups) (e ∷ es)) (sym p.name_is) ((refl, p.value_is), r.headers_are (k + length own) (n + lines_len own));
     }
 
 -- lines in front of the line `%%`
@@ -144,14 +144,14 @@ module _ (limits : Limits) (book : List (List ℕ × List ℕ)) (w : Within limi
   text_is : take (head_len again) again ≡ header_lines book
   text_is = ap (λ (n : ℕ). take n again) len_is ∙ ap (take (length (header_lines book))) again_is ∙ take-append_seam (header_lines book) (37 ∷ 37 ∷ more)
 
-  abbrev told : List HeaderPart
-  told = parts_of_groups 1 0 printed.groups
+  abbrev parts_at_end : List HeaderPart
+  parts_at_end = parts_of_groups 1 0 printed.groups
 
-  parts_are : head_parts again ≡ told
+  parts_are : head_parts again ≡ parts_at_end
   parts_are = ap (parts outside 1 0) head_is ∙ groups_tell printed.groups 1 0 printed.heads printed.cut
 
   book_is : book_of (head_parts again) ≡ book
-  book_is = ap book_of parts_are ∙ ap (standing_entries []) (headers_entries told book (printed.says 1 0) w.entries) ∙ stands_again [] book w.once
+  book_is = ap book_of parts_are ∙ ap (standing_entries []) (headers_entries parts_at_end book (printed.headers_are 1 0) w.entries) ∙ stands_again [] book w.once
 
   none_long : text_stops limits.header again ≡ []
   none_long =
@@ -159,7 +159,7 @@ module _ (limits : Limits) (book : List (List ℕ × List ℕ)) (w : Within limi
       stops_none limits.header again (subst (λ (x : List ℕ). bytes_len x ≤ limits.header) (sym (sym (take_head again) ∙ text_is)) small)
 
   none_open : open_line (head_parts again) ≡ None
-  none_open = ap open_line parts_are ∙ headers_closed told book (printed.says 1 0)
+  none_open = ap open_line parts_are ∙ headers_closed parts_at_end book (printed.headers_are 1 0)
 
   none_above : score_stops limits again ≡ []
   none_above =
@@ -185,7 +185,7 @@ module _ (limits : Limits) (book : List (List ℕ × List ℕ)) (w : Within limi
   found_is : head_findings again ≡ cond (not (has_header (codes "name") book)) (record { point = head_len again + 1; finding = nameless book } ∷ []) []
   found_is =
       ap (λ (x : List HeaderPart). findings_behind [] x ++ name_findings again) parts_are
-      ∙ ap (λ (x : List Known). x ++ name_findings again) (headers_found [] told book (printed.says 1 0) w.entries w.once)
+      ∙ ap (λ (x : List Known). x ++ name_findings again) (headers_found [] parts_at_end book (printed.headers_are 1 0) w.entries w.once)
       ∙ ap (λ (b : Bool). cond (b && not (has_header (codes "name") (book_of (head_parts again)))) (known_at (head_len again + 1) (place_after (take (head_len again) again)) W1 ∷ []) []) score_is
       ∙ ap (λ (b : List (List ℕ × List ℕ)). cond (not (has_header (codes "name") b)) (known_at (head_len again + 1) (place_after (take (head_len again) again)) W1 ∷ []) []) book_is
       ∙ ap (λ (x : List ℕ). cond (not (has_header (codes "name") book)) (known_at (head_len again + 1) (place_after x) W1 ∷ []) []) text_is

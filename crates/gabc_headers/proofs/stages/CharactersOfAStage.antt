@@ -13,7 +13,7 @@ use Rattle.gabc_headers.specs.declared.head_event.HeadEvent.{HeadEvent}
 use Rattle.gabc_headers.specs.declared.head_event.HeadEvent.TheVariants.{Found, End}
 use Rattle.gabc_headers.specs.declared.header_machine.HeaderMachine.{HeaderMachine}
 use Rattle.gabc_headers.specs.declared.header_stage.HeadPart.{HeadPart}
-use Rattle.gabc_headers.specs.declared.header_stage.HeadPart.TheVariants.{Reading, Behind, Over}
+use Rattle.gabc_headers.specs.declared.header_stage.HeadPart.TheVariants.{InHeaders, Behind, Over}
 use Rattle.gabc_headers.specs.Book.{has_header}
 use Rattle.gabc_headers.specs.BookText.{IsBook, AreEntries, shown_entries}
 use Rattle.gabc_headers.specs.Canonical.{header_lines}
@@ -32,7 +32,7 @@ view_of limits part text book = record { limits = limits; progress = progress_in
 
 -- a stage in the headers
 pub record StandsInHeaders (limits : Limits) (part : HeadPart) (text : List ℕ) (space : ℕ) (machine : HeaderMachine) (headers : BoundedList (List ℕ × Span)) (room : BookRoom) : Type 0 where
-  pub part_is : part ≡ Reading
+  pub part_is : part ≡ InHeaders
   pub reads : IsReading limits text space machine headers
   pub room_left : HasRoomFor limits.header (headers_within limits) room
 
@@ -41,44 +41,44 @@ pub stands : (limits : Limits) (part : HeadPart) (text : List ℕ) (space : ℕ)
 stands limits part text space machine headers room book view e r i = by part (subst (λ (v : HeaderStageState). IsInHeaders v.progress) (sym e) r) i
   where
     by : (part : HeadPart) → IsInHeaders (progress_in part text book) → IsStageIn part limits text space machine headers room → StandsInHeaders limits part text space machine headers room
-    by Reading r i = record { part_is = refl; reads = i.0; room_left = i.1 }
+    by InHeaders r i = record { part_is = refl; reads = i.0; room_left = i.1 }
     by Behind r i = absurd r
     by Over r i = absurd r
 
 -- the events of a character are those at the text
-pub events_in : (limits : Limits) (part : HeadPart) (text : List ℕ) (book : List (List ℕ × List ℕ)) (view : HeaderStageState) (c : ℕ) → part ≡ Reading → view_of limits part text book ≡ view
+pub events_in : (limits : Limits) (part : HeadPart) (text : List ℕ) (book : List (List ℕ × List ℕ)) (view : HeaderStageState) (c : ℕ) → part ≡ InHeaders → view_of limits part text book ≡ view
     → events_at view.limits (text_held view.progress) c ≡ events_at limits (chars text) c
 events_in limits part text book view c p e = sym (ap (λ (v : HeaderStageState). events_at v.limits (text_held v.progress) c) e) ∙ ap (λ (p : HeadPart). events_at limits (text_held (progress_in p text book)) c) p
 
 -- what is added for it
 pub out_is : (limits : Limits) (part : HeadPart) (text : List ℕ) (book : List (List ℕ × List ℕ)) (view : HeaderStageState) (c : ℕ) (events : List HeadEvent) (out new : BoundedList HeadEvent)
-    → part ≡ Reading → view_of limits part text book ≡ view → events_at limits (chars text) c ≡ events → new ≡ extended_by out events
+    → part ≡ InHeaders → view_of limits part text book ≡ view → events_at limits (chars text) c ≡ events → new ≡ extended_by out events
     → new ≡ extended_by out (events_at view.limits (text_held view.progress) c)
 out_is limits part text book view c events out new p e q n = n ∙ ap (extended_by out) (sym (events_in limits part text book view c p e ∙ q))
 
 pub few_is : (limits : Limits) (part : HeadPart) (text : List ℕ) (book : List (List ℕ × List ℕ)) (view : HeaderStageState) (c : ℕ) (events : List HeadEvent)
-    → part ≡ Reading → view_of limits part text book ≡ view → events_at limits (chars text) c ≡ events → length events ≤ 2
+    → part ≡ InHeaders → view_of limits part text book ≡ view → events_at limits (chars text) c ≡ events → length events ≤ 2
     → length (events_at view.limits (text_held view.progress) c) ≤ 2
 few_is limits part text book view c events p e q l = subst (λ (x : List HeadEvent). length x ≤ 2) (sym (events_in limits part text book view c p e ∙ q)) l
 
 -- the state behind a character with which the headers go on
-pub state_on : (limits : Limits) (part : HeadPart) (text more : List ℕ) (book : List (List ℕ × List ℕ)) (view : HeaderStageState) (c : ℕ) → part ≡ Reading → view_of limits part text book ≡ view
+pub state_on : (limits : Limits) (part : HeadPart) (text more : List ℕ) (book : List (List ℕ × List ℕ)) (view : HeaderStageState) (c : ℕ) → part ≡ InHeaders → view_of limits part text book ≡ view
     → progress_with limits (chars text) c ≡ reading (chars more) → view_of limits part more book ≡ stage_at view (progress_with view.limits (text_held view.progress) c)
 state_on limits part text more book view c p e q = rw (← e, p, q) refl
 
 -- with which they are stopped
-pub state_over : (limits : Limits) (part : HeadPart) (text : List ℕ) (book : List (List ℕ × List ℕ)) (view new : HeaderStageState) (c : ℕ) → part ≡ Reading → view_of limits part text book ≡ view
+pub state_over : (limits : Limits) (part : HeadPart) (text : List ℕ) (book : List (List ℕ × List ℕ)) (view new : HeaderStageState) (c : ℕ) → part ≡ InHeaders → view_of limits part text book ≡ view
     → progress_with limits (chars text) c ≡ over → new ≡ stage_at view over → new ≡ stage_at view (progress_with view.limits (text_held view.progress) c)
 state_over limits part text book view new c p e q n = n ∙ rw (← e, p, q) refl
 
 -- with which they are whole
-pub state_behind : (limits : Limits) (part : HeadPart) (text : List ℕ) (book new : List (List ℕ × List ℕ)) (view : HeaderStageState) (c : ℕ) → part ≡ Reading → view_of limits part text book ≡ view
+pub state_behind : (limits : Limits) (part : HeadPart) (text : List ℕ) (book new : List (List ℕ × List ℕ)) (view : HeaderStageState) (c : ℕ) → part ≡ InHeaders → view_of limits part text book ≡ view
     → progress_with limits (chars text) c ≡ behind new → view_of limits Behind text new ≡ stage_at view (progress_with view.limits (text_held view.progress) c)
 state_behind limits part text book new view c p e q = rw (← e, p, q) refl
 
 -- ---- the end
 
-pub end_reading : (limits : Limits) (part : HeadPart) (text : List ℕ) (book : List (List ℕ × List ℕ)) (view : HeaderStageState) (events : List HeadEvent) → part ≡ Reading → view_of limits part text book ≡ view
+pub end_reading : (limits : Limits) (part : HeadPart) (text : List ℕ) (book : List (List ℕ × List ℕ)) (view : HeaderStageState) (events : List HeadEvent) → part ≡ InHeaders → view_of limits part text book ≡ view
     → events_at_end (heads_of limits (chars text)) ≡ events → events_of_end view.limits view.progress ≡ events
 end_reading limits part text book view events p e q = sym (ap (λ (v : HeaderStageState). events_of_end v.limits v.progress) e) ∙ (ap (λ (p : HeadPart). events_of_end limits (progress_in p text book)) p ∙ q)
 

@@ -24,17 +24,17 @@ use Rattle.gabc_headers.proofs.machines.EventSpansLieInText.{Near, drop_next, ne
 use Rattle.gabc_headers.proofs.stops.TextTooLong.{take_head, stops_none, stops_here, stops_held, place_push}
 use Rattle.gabc_headers.proofs.machines.SpansOfBytes.{bytes-append}
 use Rattle.gabc_headers.proofs.machines.EventsAreEarlyParts.{earlies_weak, open_emitted, open_rest}
-use Rattle.gabc_headers.proofs.machines.MachineOverText.{Reads, head_drop, char_step, stands_next}
+use Rattle.gabc_headers.proofs.machines.MachineOverText.{MachineReads, head_drop, char_step, stands_next}
 
 module _ (t : List ℕ) (limit : ℕ) (done : List ℕ) (r : HeaderMachine) (es : List HeaderEvent) where
   -- the reader's open line is that of its part reader over characters
-  open_is : (rest : List ℕ) (h : Reads t limit done rest r es) → open_in r.parts.state r.parts.header ≡ open_in h.rd.state h.rd.header
+  open_is : (rest : List ℕ) (h : MachineReads t limit done rest r es) → open_in r.parts.state r.parts.header ≡ open_in h.rd.state h.rd.header
   open_is rest h = ap (λ (p : PartMachine). open_in p.state p.header) h.parts
 
   -- ---- the text is too long
 
   -- the text is too long at the next character
-  pub limit_here : (rest : List ℕ) (c : ℕ) (h : Reads t limit done (c ∷ rest) r es) → (r.at_line && is_score_line (c ∷ rest)) ≡ false → limit < bytes_len done + len_utf8 c
+  pub limit_here : (rest : List ℕ) (c : ℕ) (h : MachineReads t limit done (c ∷ rest) r es) → (r.at_line && is_score_line (c ∷ rest)) ≡ false → limit < bytes_len done + len_utf8 c
       → ((c == 37) && r.at_line) ≡ false → AreHeaderEvents limit t es (Limit r.place)
   limit_here rest c h e l q =
       let d = head_drop t limit done rest r es c h e in
@@ -63,7 +63,7 @@ module _ (t : List ℕ) (limit : ℕ) (done : List ℕ) (r : HeaderMachine) (es 
     pub same : open_in rd.state rd.header ≡ open_in new.state new.header
 
   -- the part reader behind such a `%`: nothing is emitted there, and no value opens or ends
-  past : (rest : List ℕ) (h : Reads t limit done (37 ∷ rest) r es) → r.at_line ≡ true → (r.at_line && is_score_line (37 ∷ rest)) ≡ false → Past rest h.emitted h.rd
+  past : (rest : List ℕ) (h : MachineReads t limit done (37 ∷ rest) r es) → r.at_line ≡ true → (r.at_line && is_score_line (37 ∷ rest)) ≡ false → Past rest h.emitted h.rd
   past rest h a e =
       let s = char_step t limit done rest r es 37 h e in
       let q = quiet_event h.rd (length done) (length done + 1) _ (h.quiet a) in
@@ -76,7 +76,7 @@ module _ (t : List ℕ) (limit : ℕ) (done : List ℕ) (r : HeaderMachine) (es 
       }
 
   -- the text is too long at a `%` that is held back, once the next character is there
-  pub limit_held : (rest : List ℕ) (c : ℕ) (h : Reads t limit done (37 ∷ c ∷ rest) r es) → r.at_line ≡ true → (r.at_line && is_score_line (37 ∷ c ∷ rest)) ≡ false
+  pub limit_held : (rest : List ℕ) (c : ℕ) (h : MachineReads t limit done (37 ∷ c ∷ rest) r es) → r.at_line ≡ true → (r.at_line && is_score_line (37 ∷ c ∷ rest)) ≡ false
       → limit < bytes_len done + len_utf8 37 → AreHeaderEvents limit t es (Limit r.place)
   limit_held rest c h a e l =
       let p = past (c ∷ rest) h a e in
@@ -101,7 +101,7 @@ module _ (t : List ℕ) (limit : ℕ) (done : List ℕ) (r : HeaderMachine) (es 
   -- ---- the line `%%`
 
   -- the next two characters begin the line `%%`
-  pub score_here : (rest : List ℕ) (h : Reads t limit done (37 ∷ 37 ∷ rest) r es) → r.at_line ≡ true → AreHeaderEvents limit t es (Score r.place (r.bytes + 2) (open_in r.parts.state r.parts.header))
+  pub score_here : (rest : List ℕ) (h : MachineReads t limit done (37 ∷ 37 ∷ rest) r es) → r.at_line ≡ true → AreHeaderEvents limit t es (Score r.place (r.bytes + 2) (open_in r.parts.state r.parts.header))
   score_here rest h a =
       let line : Option ℕ = open_in r.parts.state r.parts.header in
       let i = open_is (37 ∷ 37 ∷ rest) h in
@@ -131,7 +131,7 @@ module _ (t : List ℕ) (limit : ℕ) (done : List ℕ) (r : HeaderMachine) (es 
         );
       }
     where
-      body : (rest : List ℕ) (h : Reads t limit done (37 ∷ 37 ∷ rest) r es) → head_len t ≡ length done → r.bytes + 2 ≡ body_byte t
+      body : (rest : List ℕ) (h : MachineReads t limit done (37 ∷ 37 ∷ rest) r es) → head_len t ≡ length done → r.bytes + 2 ≡ body_byte t
       body rest h n =
           let x : take (head_len t + 2) t ≡ done ++ 37 ∷ 37 ∷ [] = ap (λ (k : ℕ). take (k + 2) t) n ∙ (ap (take (length done + 2)) h.scan.text ∙ take-append-add done (37 ∷ 37 ∷ rest) 2) in
           let y = bytes-append done (37 ∷ 37 ∷ []) in
@@ -142,7 +142,7 @@ module _ (t : List ℕ) (limit : ℕ) (done : List ℕ) (r : HeaderMachine) (es 
   -- ---- the end of the text
 
   -- the text ends, and nothing is held back
-  pub text_here : (h : Reads t limit done [] r es) → AreHeaderEvents limit t es (Text r.place (open_in r.parts.state r.parts.header))
+  pub text_here : (h : MachineReads t limit done [] r es) → AreHeaderEvents limit t es (Text r.place (open_in r.parts.state r.parts.header))
   text_here h =
       let line : Option ℕ = open_in r.parts.state r.parts.header in
       let event : Option HeaderEvent = last_in h.rd.state h.rd (length done) in
@@ -169,7 +169,7 @@ module _ (t : List ℕ) (limit : ℕ) (done : List ℕ) (r : HeaderMachine) (es 
       }
 
   -- the text ends behind a `%` that is held back
-  pub text_held : (h : Reads t limit done (37 ∷ []) r es) → r.at_line ≡ true → AreHeaderEvents limit t es (Text (next_place r.place 37) (open_in r.parts.state r.parts.header))
+  pub text_held : (h : MachineReads t limit done (37 ∷ []) r es) → r.at_line ≡ true → AreHeaderEvents limit t es (Text (next_place r.place 37) (open_in r.parts.state r.parts.header))
   text_held h a =
       let line : Option ℕ = open_in r.parts.state r.parts.header in
       let e : (r.at_line && is_score_line (37 ∷ [])) ≡ false = ap (λ (b : Bool). b && false) a in
@@ -197,7 +197,7 @@ module _ (t : List ℕ) (limit : ℕ) (done : List ℕ) (r : HeaderMachine) (es 
       }
     where
       -- the `%` counts only once the next character is there
-      fits : (h : Reads t limit done (37 ∷ []) r es) → r.at_line ≡ true → head_text true t ≡ done ++ 37 ∷ [] → (b : Bool) → nat_lt limit (bytes_len (done ++ 37 ∷ [])) ≡ b → text_stops limit t ≡ []
+      fits : (h : MachineReads t limit done (37 ∷ []) r es) → r.at_line ≡ true → head_text true t ≡ done ++ 37 ∷ [] → (b : Bool) → nat_lt limit (bytes_len (done ++ 37 ∷ [])) ≡ b → text_stops limit t ≡ []
       fits h a own true q =
           let l : limit < bytes_len (done ++ 37 ∷ []) = grind (arith, nat_tests) in
           let m = bytes-append done (37 ∷ []) in

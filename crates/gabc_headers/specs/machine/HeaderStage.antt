@@ -10,7 +10,7 @@ use Rattle.gabc_headers.specs.declared.events.HeaderEvent.{HeaderEvent}
 use Rattle.gabc_headers.specs.declared.header_machine.HeaderMachine.{HeaderMachine}
 use Rattle.gabc_headers.specs.declared.header_machine.HeaderStep.TheVariants.{Read}
 use Rattle.gabc_headers.specs.declared.header_stage.HeadPart.{HeadPart}
-use Rattle.gabc_headers.specs.declared.header_stage.HeadPart.TheVariants.{Reading, Behind, Over}
+use Rattle.gabc_headers.specs.declared.header_stage.HeadPart.TheVariants.{InHeaders, Behind, Over}
 use Rattle.gabc_headers.specs.HeadEvents.{HeadProgress, reading, behind, over}
 use Rattle.gabc_headers.specs.machine.Collected.{collected_with_all, none}
 use Rattle.gabc_headers.specs.machine.Events.{with_event}
@@ -43,7 +43,7 @@ pub record HasRoomFor (bytes headers : ℕ) (room : BookRoom) : Type 0 where
   pub entries_fit : headers ≤ vec_capacity room.entries
 
 abbrev pub IsStageIn : HeadPart → Limits → List ℕ → ℕ → HeaderMachine → BoundedList (List ℕ × Span) → BookRoom → Type 0
-IsStageIn Reading limits text space machine headers room = IsReading limits text space machine headers × HasRoomFor limits.header (headers_within limits) room
+IsStageIn InHeaders limits text space machine headers room = IsReading limits text space machine headers × HasRoomFor limits.header (headers_within limits) room
 IsStageIn Behind limits text space machine headers room = Unit {0}
 IsStageIn Over limits text space machine headers room = Unit {0}
 
@@ -54,6 +54,6 @@ IsInHeaders (behind book) = ⊥
 IsInHeaders over = ⊥
 
 abbrev pub progress_in : HeadPart → List ℕ → List (List ℕ × List ℕ) → HeadProgress
-progress_in Reading text book = reading (chars text)
+progress_in InHeaders text book = reading (chars text)
 progress_in Behind text book = behind book
 progress_in Over text book = over

@@ -3,7 +3,7 @@ use Rattle.std.proofs.Common.{◌≡◌, ℕ, ◌≤◌, List, [], ◌∷◌, �
 use Rattle.gabc_places.specs.declared.code.Code.TheVariants.{E3, E6, W7}
 use Rattle.gabc_places.specs.declared.place.Char.{Char}
 use Rattle.gabc_places.specs.StageLaw.{concat_of}
-use Rattle.gabc_patterns.specs.Reading.{OneKind, IsSnippet, IsViable, IsItemOf}
+use Rattle.gabc_patterns.specs.LongestItems.{OneKind, IsSnippet, IsViable, IsItemOf}
 use Rattle.gabc_patterns.specs.Derivative.{run, is_whole, is_snippet, is_viable}
 use Rattle.gabc_patterns.specs.Function.{trim}
 use Rattle.gabc_patterns.proofs.AutomatonsByTests.{reading, rows_of}

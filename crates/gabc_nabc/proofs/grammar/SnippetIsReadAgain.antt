@@ -1,5 +1,5 @@
 -- An NABC snippet in front of its mark is read again as that snippet.
-use Rattle.std.proofs.Common.{◌≡◌, ℕ, suc, ◌+◌, List, [], ◌∷◌, ◌++◌, Bool, true, false, cond, ◌||◌, ◌==◌, refl, sym, ap, ◌∙◌, subst, length, take, drop, None, append-nil, append_assoc, ne_eqb, arith}
+use Rattle.std.proofs.Common.{◌≡◌, ℕ, suc, ◌+◌, List, [], ◌∷◌, ◌++◌, Bool, true, false, cond, ◌||◌, ◌==◌, refl, sym, ap, ◌∙◌, subst, length, take, drop, append-nil, append_assoc, ne_eqb, arith}
 use Rattle.std.specs.List.{All}
 use Rattle.std.proofs.Math.Seq.{take-length, drop-append_seam}
 use Rattle.std.proofs.lemmas.List.Elements.{All-nil, All-cons, All-append}
@@ -9,7 +9,7 @@ use Rattle.gabc_places.specs.declared.place.Place.{Place}
 use Rattle.gabc_places.specs.Place.{next_place, placed_characters_from}
 use Rattle.gabc_places.specs.StageLaw.{concat_of}
 use Rattle.gabc_places.proofs.PlacesOfAText.{length_placed}
-use Rattle.gabc_patterns.specs.Reading.{IsSnippet, IsViable}
+use Rattle.gabc_patterns.specs.LongestItems.{IsSnippet, IsViable}
 use Rattle.gabc_patterns.specs.Derivative.{is_snippet, is_viable}
 use Rattle.gabc_patterns.specs.Function.{trim}
 use Rattle.gabc_patterns.proofs.KeptTextIsKeptAgain.{viable_prefix, snippet_viable}
@@ -23,45 +23,19 @@ use Rattle.gabc_notes.specs.declared.stage.NoteEnd.TheVariants.{Next, Close, Cut
 use Rattle.gabc_notes.specs.declared.stage.NoteEvent.{NoteEvent}
 use Rattle.gabc_notes.specs.declared.stage.NoteEvent.TheVariants.{Kept, Found, Ended}
 use Rattle.gabc_nabc.specs.Table.{nabc}
-use Rattle.gabc_nabc.specs.Class.{class_of_character}
+use Rattle.gabc_nabc.specs.CharClass.{class_of_character}
 use Rattle.gabc_nabc.specs.DescriptorMachine.{next_state}
 use Rattle.gabc_nabc.specs.Events.{in_comment, is_character, is_end, has_end, kept_of, first_of, is_missing, finding_event, end_by_mark, bytes_in, end_events, events_at, nabc_events_behind, nabc_events}
 use Rattle.gabc_nabc.specs.SnippetRead.{before_end_behind, before_end, from_end, kept_before}
 use Rattle.gabc_nabc.specs.ReadAgain.{IsNabcReadAgain}
 use Rattle.gabc_nabc.specs.declared.class.NabcClass.TheVariants.{Other}
-use Rattle.gabc_nabc.specs.declared.state.DescriptorState.{DescriptorState}
-use Rattle.gabc_nabc.specs.declared.state.DescriptorState.TheVariants.{Start, CodeL, CodeP, CodeS, Code, Glyph, Modified, GlyphH, Pitched, Joined, TailL, TailP, TailS, Points, PointsLetter, Letters, LettersMore, Counted, CountedH, Tail, Slash, Tick, Space}
 use Rattle.gabc_nabc.proofs.grammar.LawsOfEvents.{ends_append, no_end, one_end, silent}
 use Rattle.gabc_nabc.proofs.machine.EventsBuildSnippet.{findings_append}
 use Rattle.gabc_nabc.proofs.machine.MachineReadsTable.{machine, snippets_read}
 use Rattle.gabc_nabc.proofs.machine.TextWithACharacterMore.{comment_more, end_more, kept_more}
+use Rattle.gabc_nabc.proofs.machine.ViableCharacterIsNoMark.{none_on}
 
 -- ---- no part has a mark, a `%` or a blank
-
-none_on : (s : DescriptorState) → next_state s Other ≡ None
-none_on Start = refl
-none_on CodeL = refl
-none_on CodeP = refl
-none_on CodeS = refl
-none_on Code = refl
-none_on Glyph = refl
-none_on Modified = refl
-none_on GlyphH = refl
-none_on Pitched = refl
-none_on Joined = refl
-none_on TailL = refl
-none_on TailP = refl
-none_on TailS = refl
-none_on Points = refl
-none_on PointsLetter = refl
-none_on Letters = refl
-none_on LettersMore = refl
-none_on Counted = refl
-none_on CountedH = refl
-none_on Tail = refl
-none_on Slash = refl
-none_on Tick = refl
-none_on Space = refl
 
 -- a character that goes on a viable text is none of those
 differs : (k : List ℕ) (c : ℕ) → IsViable nabc (k ++ c ∷ []) → (d : ℕ) → class_of_character d ≡ Other → c ≡ d → ⊥

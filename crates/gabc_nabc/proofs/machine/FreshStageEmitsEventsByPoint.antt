@@ -12,7 +12,7 @@ use Rattle.gabc_patterns.proofs.AutomatonsByTests.{below, below_at, alike, alike
 use Rattle.gabc_patterns.proofs.StatesAfterTexts.{Stands, stands_first, stands_next, whole_is}
 use Rattle.gabc_patterns.proofs.StatesFollowExamples.{viable_next}
 use Rattle.gabc_nabc.specs.Table.{nabc}
-use Rattle.gabc_nabc.specs.Class.{class_of_character}
+use Rattle.gabc_nabc.specs.CharClass.{class_of_character}
 use Rattle.gabc_nabc.specs.Events.{in_comment, is_character, is_end, has_end, kept_of, begins_code, joins, takes_code, first_of, first_behind, before_last, bytes_in, is_missing, end_by_mark, end_events, finding_event, events_at, nabc_events_behind}
 use Rattle.gabc_nabc.specs.DescriptorMachine.{next_state, whole_at, awaits, first_at, comment_in, count_plus, stage_events_at, stage_after, events_left}
 use Rattle.gabc_notes.specs.declared.stage.NoteEvent.{NoteEvent}

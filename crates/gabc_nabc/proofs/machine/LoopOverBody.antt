@@ -94,8 +94,8 @@ other_lists [] = []
 other_lists (l ∷ ls) = ls
 
 -- what a character gives is what is emitted of it
-gives : (done : List ℕ) (st : NabcStage) (x : Char) → ((xs : List Char) → events_left st xs ≡ nabc_events_behind done xs) → stage_events_at st x ≡ events_at done x
-gives done st x h = ap first_list (h (x ∷ []))
+events_here : (done : List ℕ) (st : NabcStage) (x : Char) → ((xs : List Char) → events_left st xs ≡ nabc_events_behind done xs) → stage_events_at st x ≡ events_at done x
+events_here done st x h = ap first_list (h (x ∷ []))
 
 findings_on : (g now : BuiltNabc) (done cs : List ℕ) (x : Char) → now.findings ≡ g.findings ++ findings_of (events_at done x)
     → now.findings ++ findings_of (concat_of (nabc_events_behind (done ++ x.c ∷ []) (placed_characters_from (next_place x.place x.c) cs)))
@@ -117,7 +117,7 @@ goes_on at t done cs place then c st next g now index later r e f n p i = go (is
     x = record { c = c; place = place }
 
     events_now : now ≡ with_events g (events_at done x)
-    events_now = f ∙ ap (with_events g) (gives done st x r.follows)
+    events_now = f ∙ ap (with_events g) (events_here done st x r.follows)
 
     go : (b : Bool) → is_end done c ≡ b → Going at t (done ++ c ∷ []) cs then next now later
     go true h = absurd (let k = sym n ∙ ap (λ (y : BuiltNabc). y.end) (events_now ∙ gathers_end g done x r.unended h) in cc)
@@ -222,7 +222,7 @@ ends at t done cs place c st g now index len end r f n u small = go (is_end done
     x = record { c = c; place = place }
 
     events_now : now ≡ with_events g (events_at done x)
-    events_now = f ∙ ap (with_events g) (gives done st x r.follows)
+    events_now = f ∙ ap (with_events g) (events_here done st x r.follows)
 
     way_same : (b : Bool) → (c == 124) ≡ b → ending_of (cond b ending.Next ending.Close) index ≡ cond b (snippet_ending.Next (length (encodes done))) (snippet_ending.Close (length (encodes done)))
     way_same true h = ap snippet_ending.Next r.counted

@@ -1,11 +1,11 @@
 -- Which texts are snippets, by the state that the machine is in.
 use Rattle.std.proofs.Common.{refl, ◌≡◌, ℕ, List, [], ◌∷◌, ◌++◌, true, false, Bool, IsTrue, ◌↔◌, None, sym, append_assoc, subst, ◌∙◌}
 use Rattle.gabc_nabc.specs.Table.{nabc}
-use Rattle.gabc_nabc.specs.Class.{class_of_character}
+use Rattle.gabc_nabc.specs.CharClass.{class_of_character}
 use Rattle.gabc_nabc.specs.DescriptorMachine.{next_state, whole_at}
 use Rattle.gabc_nabc.specs.declared.state.DescriptorState.{DescriptorState}
 use Rattle.gabc_nabc.proofs.machine.MachineReadsTable.{machine, snippets_read}
-use Rattle.gabc_patterns.specs.Reading.{IsSnippet}
+use Rattle.gabc_patterns.specs.LongestItems.{IsSnippet}
 use Rattle.gabc_patterns.proofs.StatesAfterTexts.{Stands, left_out, whole_at as whole_by, not_whole_at}
 
 -- where there is no next state, the text is no snippet whatever follows

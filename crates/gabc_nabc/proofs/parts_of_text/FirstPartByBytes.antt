@@ -7,7 +7,7 @@ use Rattle.std.proofs.Math.Seq.{take-append_seam, get_or-append_seam}
 use Rattle.std.proofs.lemmas.Str.{IsUtf8-past_char, encodes-append, encodes-chars, length-encode}
 use lib.Utf8.{encode, encodes}
 use Rattle.gabc_nabc.specs.Table.{nabc}
-use Rattle.gabc_nabc.specs.Class.{class_of_character}
+use Rattle.gabc_nabc.specs.CharClass.{class_of_character}
 use Rattle.gabc_nabc.specs.DescriptorMachine.{going_on}
 use Rattle.gabc_nabc.specs.machine.DescriptorMachine.{is_space_at_end}
 use Rattle.gabc_nabc.specs.machine.Parts.{in_bytes, first_part_of}
@@ -27,7 +27,7 @@ spanned t None = None
 spanned t (Some b) = in_bytes t (Some (b.0, b.2))
 
 -- Of the text the characters done are read, and rest, as bytes, is not.
-pub record Reading (text done rest : List ℕ) (s : DescriptorState) (read : ℕ) (best : Option (Bool × ℕ)) : Type 0 where
+pub record ReadSoFar (text done rest : List ℕ) (s : DescriptorState) (read : ℕ) (best : Option (Bool × ℕ)) : Type 0 where
   pub utf8 : IsUtf8 rest
   pub whole : done ++ chars rest ≡ chars text
   pub count : read ≡ length (encodes done)
@@ -53,11 +53,11 @@ counted done c read now e f =
     omega (arith, g, h, length-append (encodes done) (encodes (c ∷ [])), length-encode c)
 
 -- before the first character
-pub begun_at : (text rest : List ℕ) → rest ≡ text → IsUtf8 text → Reading text [] rest Start 0 None
+pub begun_at : (text rest : List ℕ) → rest ≡ text → IsUtf8 text → ReadSoFar text [] rest Start 0 None
 begun_at text rest e u = rw e (record { utf8 = u; whole = refl; count = refl; longest = None; bytes = refl; here = here_start nabc machine items_read (chars text) 0 })
 
 -- the bytes fit
-pub fits_in : (text done bs rest : List ℕ) (s : DescriptorState) (read c : ℕ) (best : Option (Bool × ℕ)) → IsUtf8 text → Reading text done bs s read best → bs ≡ encode c ++ rest
+pub fits_in : (text done bs rest : List ℕ) (s : DescriptorState) (read c : ℕ) (best : Option (Bool × ℕ)) → IsUtf8 text → ReadSoFar text done bs s read best → bs ≡ encode c ++ rest
     → read + len_utf8 c ≤ length text
 fits_in text done bs rest s read c best u r e =
     let whole = one_next done bs rest (chars text) c r.utf8 e r.whole in
@@ -66,9 +66,9 @@ fits_in text done bs rest s read c best u r e =
     omega (arith, f, count, length-append (encodes done) (encodes (c ∷ chars rest)), length-append (encode c) (encodes (chars rest)), length-encode c)
 
 -- a character more, and the item may end after it
-pub ends_at : (text done bs rest : List ℕ) (s z : DescriptorState) (read now c : ℕ) (k : Bool) (best : Option (Bool × ℕ)) → Reading text done bs s read best
+pub ends_at : (text done bs rest : List ℕ) (s z : DescriptorState) (read now c : ℕ) (k : Bool) (best : Option (Bool × ℕ)) → ReadSoFar text done bs s read best
     → bs ≡ encode c ++ rest → going_on s (class_of_character c) ≡ Some z → is_space_at_end z ≡ Some k → now ≡ read + len_utf8 c
-    → Reading text (done ++ c ∷ []) rest z now (Some (k, now))
+    → ReadSoFar text (done ++ c ∷ []) rest z now (Some (k, now))
 ends_at text done bs rest s z read now c k best r e g f n =
     let whole = one_next done bs rest (chars text) c r.utf8 e r.whole in
     let all : List ℕ = chars text in
@@ -87,9 +87,9 @@ ends_at text done bs rest s z read now c k best r e g f n =
     }
 
 -- a character more, and the item may not end after it
-pub on_at : (text done bs rest : List ℕ) (s z : DescriptorState) (read now c : ℕ) (best : Option (Bool × ℕ)) → Reading text done bs s read best
+pub on_at : (text done bs rest : List ℕ) (s z : DescriptorState) (read now c : ℕ) (best : Option (Bool × ℕ)) → ReadSoFar text done bs s read best
     → bs ≡ encode c ++ rest → going_on s (class_of_character c) ≡ Some z → is_space_at_end z ≡ None → now ≡ read + len_utf8 c
-    → Reading text (done ++ c ∷ []) rest z now best
+    → ReadSoFar text (done ++ c ∷ []) rest z now best
 on_at text done bs rest s z read now c best r e g f n =
     let whole = one_next done bs rest (chars text) c r.utf8 e r.whole in
     let all : List ℕ = chars text in
@@ -105,8 +105,8 @@ on_at text done bs rest s z read now c best r e g f n =
       here = subst (λ (x : ℕ). ItemHere nabc machine all 0 x z r.longest) l (here_on nabc machine items_read all 0 (length done) c s z r.longest p q g f r.here);
     }
 
-told : (text : List ℕ) (longest : Option (ItemSpan Bool)) → BestHere nabc (chars text) 0 longest → spanned (chars text) longest ≡ first_part_of text
-told text longest h = go longest h.found h.same (sym (longest_is nabc kinds_are_one (chars text) h.found h.is_best))
+best_found : (text : List ℕ) (longest : Option (ItemSpan Bool)) → BestHere nabc (chars text) 0 longest → spanned (chars text) longest ≡ first_part_of text
+best_found text longest h = go longest h.found h.same (sym (longest_is nabc kinds_are_one (chars text) h.found h.is_best))
   where
     go : (o : Option (ItemSpan Bool)) (f : Option (Bool × ℕ)) → IsFound 0 o f → f ≡ longest_item nabc (chars text) → spanned (chars text) o ≡ first_part_of text
     go None None s e = ap (in_bytes (chars text)) e
@@ -119,18 +119,18 @@ told text longest h = go longest h.found h.same (sym (longest_is nabc kinds_are_
         ap (λ (x : Bool). in_bytes (chars text) (Some (x, n))) p ∙ (ap (λ (x : ℕ). in_bytes (chars text) (Some (j, x))) q ∙ ap (in_bytes (chars text)) e)
 
 -- a character at which the item does not go on
-pub stops_at : (text done bs rest : List ℕ) (s : DescriptorState) (read c : ℕ) (best : Option (Bool × ℕ)) → Reading text done bs s read best
+pub stops_at : (text done bs rest : List ℕ) (s : DescriptorState) (read c : ℕ) (best : Option (Bool × ℕ)) → ReadSoFar text done bs s read best
     → bs ≡ encode c ++ rest → going_on s (class_of_character c) ≡ None → best ≡ first_part_of text
 stops_at text done bs rest s read c best r e g =
     let whole = one_next done bs rest (chars text) c r.utf8 e r.whole in
     let all : List ℕ = chars text in
     let p : length done < length all = rw whole (seam done (chars rest) c).0 in
     let q : c ≡ get_or all (length done) c = rw whole (seam done (chars rest) c).1 in
-    r.bytes ∙ told text r.longest (here_stops nabc machine items_read all 0 (length done) c s r.longest p q g r.here)
+    r.bytes ∙ best_found text r.longest (here_stops nabc machine items_read all 0 (length done) c s r.longest p q g r.here)
 
 -- the end of the text
-pub end_at : (text done bs : List ℕ) (s : DescriptorState) (read : ℕ) (best : Option (Bool × ℕ)) → Reading text done bs s read best
+pub end_at : (text done bs : List ℕ) (s : DescriptorState) (read : ℕ) (best : Option (Bool × ℕ)) → ReadSoFar text done bs s read best
     → length bs ≡ 0 → best ≡ first_part_of text
 end_at text done bs s read best r e =
     let same = ap length (all_read done bs (chars text) e r.whole) in
-    r.bytes ∙ told text r.longest (here_end nabc machine (chars text) 0 (length done) s r.longest (omega (arith, same)) r.here)
+    r.bytes ∙ best_found text r.longest (here_end nabc machine (chars text) 0 (length done) s r.longest (omega (arith, same)) r.here)

@@ -7,7 +7,7 @@ use Rattle.std.proofs.lemmas.Str.{encodes-append, encodes-chars, scalars-chars, 
 use Rattle.std.proofs.lemmas.List.Elements.{All-cons}
 use Rattle.std.proofs.Math.Seq.{take-append_seam, drop-append_seam}
 use lib.Utf8.{encodes, scalars}
-use Rattle.gabc_patterns.specs.Reading.{Reads}
+use Rattle.gabc_patterns.specs.LongestItems.{IsReading}
 use Rattle.gabc_patterns.specs.Function.{items}
 use Rattle.gabc_patterns.specs.Items.{FollowOn}
 use Rattle.gabc_patterns.proofs.ItemsFunctionReads.{items_are}
@@ -22,7 +22,7 @@ record Placed (before t : List ℕ) (is : List (Bool × List ℕ)) : Type 0 wher
   read : map (read_as (before ++ encodes t)) (placed_parts (length before) is) ≡ is
   joined : FollowOn (length before) (map piece_of (placed_parts (length before) is)) (length (before ++ encodes t))
 
-placed : (before t : List ℕ) (is : List (Bool × List ℕ)) → scalars t ≡ true → Reads nabc is t → Placed before t is
+placed : (before t : List ℕ) (is : List (Bool × List ℕ)) → scalars t ≡ true → IsReading nabc is t → Placed before t is
 placed before t [] s e =
     let same : encodes t ≡ [] = ap encodes e in
     record { read = refl; joined = omega (arith, ap length same, length-append before (encodes t)) }
@@ -56,7 +56,7 @@ parts_read bytes u s =
     let same : encodes (chars bytes) ≡ bytes = encodes-chars bytes u in
     let p = placed [] (chars bytes) (items nabc (chars bytes)) (scalars-chars bytes u) (items_are nabc refl (chars bytes) s) in
     record {
-      reads = subst (λ (is : List (Bool × List ℕ)). Reads nabc is (chars bytes)) (sym p.read ∙ ap (λ (b : List ℕ). map (read_as b) (parts_of bytes)) same) (items_are nabc refl (chars bytes) s);
+      reads = subst (λ (is : List (Bool × List ℕ)). IsReading nabc is (chars bytes)) (sym p.read ∙ ap (λ (b : List ℕ). map (read_as b) (parts_of bytes)) same) (items_are nabc refl (chars bytes) s);
       joined = subst (λ (b : List ℕ). FollowOn 0 (map piece_of (parts_of bytes)) (length b)) same p.joined;
     }
 

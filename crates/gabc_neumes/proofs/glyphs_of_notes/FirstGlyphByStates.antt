@@ -82,11 +82,11 @@ first_best n ns =
 -- ---- the longest glyph that begins the notes
 
 -- Of the notes so many are read: the state is s, that is the height of the last, and best is the longest glyph so far.
-pub record Reading (ns : List Note) (i : ℕ) (s : GlyphState) (before : Option ℕ) (best : Option (GlyphKind × ℕ)) : Type 0 where
+pub record ReadSoFar (ns : List Note) (i : ℕ) (s : GlyphState) (before : Option ℕ) (best : Option (GlyphKind × ℕ)) : Type 0 where
   pub far : ItemSoFar neumes machine (letters ns) i s best
   pub last : before ≡ last_height (take i ns)
 
-pub reading_start : (ns : List Note) → Reading ns 0 Start None None
+pub reading_start : (ns : List Note) → ReadSoFar ns 0 Start None None
 reading_start ns = record { far = item_start neumes machine items_read (letters ns); last = refl }
 
 -- the letter of the note at a place
@@ -103,7 +103,7 @@ inside ns i l = let m = are_letters.as_many ns in omega arith
 
 -- a note more, and the glyph may end behind it
 pub reading_ends : (ns : List Note) (i : ℕ) (s z : GlyphState) (before : Option ℕ) (d : Note) (k : GlyphKind) (best : Option (GlyphKind × ℕ)) → i < length ns
-    → Reading ns i s before best → next_state s (class_at before (get_or ns i d)) ≡ Some z → kind_at_end z ≡ Some k → Reading ns (i + 1) z (Some (get_or ns i d).height) (Some (k, i + 1))
+    → ReadSoFar ns i s before best → next_state s (class_at before (get_or ns i d)) ≡ Some z → kind_at_end z ≡ Some k → ReadSoFar ns (i + 1) z (Some (get_or ns i d).height) (Some (k, i + 1))
 reading_ends ns i s z before d k best l h g f = record {
   far = item_ends neumes machine items_read (letters ns) i (here ns i d) s z k best (inside ns i l) (letter_at None ns i d _ l) (goes ns i s before d (Some z) h.last g) f h.far;
   last = last_next ns i d l;
@@ -111,34 +111,34 @@ reading_ends ns i s z before d k best l h g f = record {
 
 -- a note more, and the glyph may not end behind it
 pub reading_on : (ns : List Note) (i : ℕ) (s z : GlyphState) (before : Option ℕ) (d : Note) (best : Option (GlyphKind × ℕ)) → i < length ns
-    → Reading ns i s before best → next_state s (class_at before (get_or ns i d)) ≡ Some z → kind_at_end z ≡ None → Reading ns (i + 1) z (Some (get_or ns i d).height) best
+    → ReadSoFar ns i s before best → next_state s (class_at before (get_or ns i d)) ≡ Some z → kind_at_end z ≡ None → ReadSoFar ns (i + 1) z (Some (get_or ns i d).height) best
 reading_on ns i s z before d best l h g f = record {
   far = item_on neumes machine items_read (letters ns) i (here ns i d) s z best (inside ns i l) (letter_at None ns i d _ l) (goes ns i s before d (Some z) h.last g) f h.far;
   last = last_next ns i d l;
 }
 
 -- What the reading has told.
-pub record Told (ns : List Note) (best : Option (GlyphKind × ℕ)) : Type 0 where
+pub record BestFound (ns : List Note) (best : Option (GlyphKind × ℕ)) : Type 0 where
   pub found : IfSome best (λ g. IsFirstGlyph ns g.0 g.1)
   pub none : IfNone best (ns ≡ [])
 
-told : (ns : List Note) (best : Option (GlyphKind × ℕ)) → IsBest neumes (letters ns) (length (letters ns)) best → Told ns best
-told ns (Some g) h = let m = are_letters.as_many ns in let w = h.1 in
+best_found : (ns : List Note) (best : Option (GlyphKind × ℕ)) → IsBest neumes (letters ns) (length (letters ns)) best → BestFound ns best
+best_found ns (Some g) h = let m = are_letters.as_many ns in let w = h.1 in
     record { found = record { some = h.0; within = omega arith; item = h.2; none = h.3 }; none = tt }
-told [] None h = record { found = tt; none = refl }
-told (n ∷ ns) None h = let b = first_best n ns in absurd (h b.0.1 b.1.0 b.1.1 (b.0.0, b.1.2))
+best_found [] None h = record { found = tt; none = refl }
+best_found (n ∷ ns) None h = let b = first_best n ns in absurd (h b.0.1 b.1.0 b.1.1 (b.0.0, b.1.2))
 
 -- a note with which no glyph goes on
 pub reading_stops : (ns : List Note) (i : ℕ) (s : GlyphState) (before : Option ℕ) (d : Note) (best : Option (GlyphKind × ℕ)) → i < length ns
-    → Reading ns i s before best → next_state s (class_at before (get_or ns i d)) ≡ None → Told ns best
+    → ReadSoFar ns i s before best → next_state s (class_at before (get_or ns i d)) ≡ None → BestFound ns best
 reading_stops ns i s before d best l h g =
-    told ns best (item_stops neumes machine items_read (letters ns) i (here ns i d) s best (inside ns i l) (letter_at None ns i d _ l) (goes ns i s before d None h.last g) h.far)
+    best_found ns best (item_stops neumes machine items_read (letters ns) i (here ns i d) s best (inside ns i l) (letter_at None ns i d _ l) (goes ns i s before d None h.last g) h.far)
 
 -- behind the last note
-pub reading_end : (ns : List Note) (i : ℕ) (s : GlyphState) (before : Option ℕ) (best : Option (GlyphKind × ℕ)) → length ns ≤ i → Reading ns i s before best → Told ns best
+pub reading_end : (ns : List Note) (i : ℕ) (s : GlyphState) (before : Option ℕ) (best : Option (GlyphKind × ℕ)) → length ns ≤ i → ReadSoFar ns i s before best → BestFound ns best
 reading_end ns i s before best l h =
     let far = h.far in
     let fits = far.fits in
     let m = are_letters.as_many ns in
     let same : i ≡ length (letters ns) = omega arith in
-    told ns best (subst (λ n. IsBest neumes (letters ns) n best) same far.is_best)
+    best_found ns best (subst (λ n. IsBest neumes (letters ns) n best) same far.is_best)

@@ -3,7 +3,7 @@ use Rattle.std.proofs.Common.{◌≡◌, ℕ, zero, suc, List, [], ◌∷◌, �
 use Rattle.std.proofs.Math.Seq.{take-append-add}
 use native.Mathlib.Decide.{dec_lt}
 use Rattle.gabc_notes.specs.declared.note.Note.{Note}
-use Rattle.gabc_patterns.specs.Reading.{ReadsBy, HasSome, Longest}
+use Rattle.gabc_patterns.specs.LongestItems.{IsReadingBy, HasSome, Longest}
 use Rattle.gabc_patterns.proofs.ReadingExists.{reading_exists}
 use Rattle.gabc_patterns.proofs.RowsRun.{item_at_end, no_item_at_end}
 use Rattle.gabc_neumes.specs.Cut.{kind_by, longest_glyph, glyphs_within, glyphs_of}
@@ -60,7 +60,7 @@ longest_is (suc n) k u rest h l a b = elim (dec_lt (length u) (suc n)) [
         omega (arith, length-take (suc n - length u) rest, length-append u rest)
 
 -- the glyphs of notes that have a reading
-computed : (n from : ℕ) (is : List (GlyphKind × List Note)) (t : List Note) → length t ≤ n → ReadsBy HasKind is t → glyphs_within n from t ≡ placed from is
+computed : (n from : ℕ) (is : List (GlyphKind × List Note)) (t : List Note) → length t ≤ n → IsReadingBy HasKind is t → glyphs_within n from t ≡ placed from is
 computed zero from [] t l r = refl
 computed (suc n) from [] t l r = ap (λ (u : List Note). glyphs_within (suc n) from u) r
 computed zero from ((k, u) ∷ is) t l (rest, e, h, long, r) = absurd (let s = some_notes k u h in let m : length t ≡ length (u ++ rest) = ap length e in omega (arith, length-append u rest))
@@ -82,7 +82,7 @@ glyphs_are ns =
     let r = reading_exists HasKind begins ns in
     let p = placed_reads ns 0 r.0 ns (omega arith) refl r.1 in
     subst (AreGlyphsOf ns) (sym (computed (length ns) 0 r.0 ns (omega arith) r.1))
-    (record { reads = subst (λ (w : List (GlyphKind × List Note)). ReadsBy HasKind w ns) (sym p.0) r.1; joined = p.1 })
+    (record { reads = subst (λ (w : List (GlyphKind × List Note)). IsReadingBy HasKind w ns) (sym p.0) r.1; joined = p.1 })
 
 -- and nothing else is
 pub glyphs_only : (ns : List Note) (gs : List Glyph) → AreGlyphsOf ns gs → gs ≡ glyphs_of ns

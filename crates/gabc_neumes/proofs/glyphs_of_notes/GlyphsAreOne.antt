@@ -2,7 +2,7 @@
 use Rattle.std.proofs.Common.{◌≡◌, ℕ, List, [], ◌∷◌, refl, sym, ap, ◌∙◌, subst, length, get_or, drop, take, map, slice_range, ◌≤◌, ◌+◌, ◌-◌, arith, length-take, length-drop, length-append, ◌++◌, take_at, drop_at, drop-drop}
 use Rattle.gabc_notes.specs.declared.note.Note.{Note}
 use Rattle.gabc_patterns.specs.Items.{FollowOn}
-use Rattle.gabc_patterns.specs.Reading.{ReadsBy}
+use Rattle.gabc_patterns.specs.LongestItems.{IsReadingBy}
 use Rattle.gabc_patterns.proofs.OneReading.{one_reading}
 use Rattle.gabc_neumes.specs.Glyphs.{HasKind, AreGlyphsOf, piece_of, read_as}
 use Rattle.gabc_neumes.specs.Letters.{letters}
@@ -48,7 +48,7 @@ abbrev pub placed : ℕ → List (GlyphKind × List Note) → List Glyph
 placed from [] = []
 placed from (i ∷ is) = record { kind = i.0; first = from; count = length i.1 } ∷ placed (from + length i.1) is
 
-pub placed_reads : (ns : List Note) (from : ℕ) (is : List (GlyphKind × List Note)) (t : List Note) → from ≤ length ns → drop from ns ≡ t → ReadsBy HasKind is t
+pub placed_reads : (ns : List Note) (from : ℕ) (is : List (GlyphKind × List Note)) (t : List Note) → from ≤ length ns → drop from ns ≡ t → IsReadingBy HasKind is t
     → (map (read_as ns) (placed from is) ≡ is) × FollowOn from (map piece_of (placed from is)) (length ns)
 placed_reads ns from [] t l e r = (refl, (let n : length (drop from ns) ≡ 0 = ap length (e ∙ r) in omega (arith, length-drop from ns)))
 placed_reads ns from ((k, u) ∷ is) t l e (rest, f, has, long, reads) =

@@ -3,7 +3,7 @@ use Rattle.std.proofs.Common.{◌≡◌, ℕ, List, [], ◌∷◌, ◌++◌, ref
 use Rattle.std.proofs.lemmas.List.{map-append, take_all}
 use Rattle.gabc_places.specs.BoundedList.{BoundedList, Fits, extended_by}
 use Rattle.gabc_notes.specs.declared.note.Note.{Note}
-use Rattle.gabc_patterns.specs.Reading.{ReadsBy}
+use Rattle.gabc_patterns.specs.LongestItems.{IsReadingBy}
 use Rattle.gabc_patterns.specs.Items.{IsTakenAt, ItemSpan}
 use Rattle.gabc_patterns.proofs.ReadingExists.{reading_exists}
 use Rattle.gabc_patterns.proofs.ItemList.{ItemsSoFar, items_start, items_push, items_end}
@@ -66,7 +66,7 @@ pub cutting_end : (ns rest : List Note) (glyphs : List Glyph) (at : ℕ) → res
 cutting_end ns rest glyphs at e f c =
     let size : length (drop at ns) ≡ 0 = ap length (sym e ∙ f) in
     let all = items_end HasKind ns (map piece_of glyphs) at (omega (arith, length-drop at ns)) c.far in
-    record { reads = subst (λ (u : List (GlyphKind × List Note)). ReadsBy HasKind u ns) (same_items ns glyphs) all.reads; joined = all.joined }
+    record { reads = subst (λ (u : List (GlyphKind × List Note)). IsReadingBy HasKind u ns) (same_items ns glyphs) all.reads; joined = all.joined }
 
 -- where a glyph is left of the notes, there is room for it
 pub room_for : (ns rest : List Note) (glyphs : List Glyph) (at count : ℕ) (k : GlyphKind) (r : BoundedList Glyph) → rest ≡ drop at ns → IsFirstGlyph rest k count → Cutting ns glyphs at

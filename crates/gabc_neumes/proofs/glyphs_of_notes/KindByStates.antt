@@ -2,7 +2,7 @@
 use Rattle.std.proofs.Common.{◌≡◌, ℕ, List, [], ◌∷◌, ◌++◌, refl, sym, ap, ◌∙◌, subst, Option, Some, None, take, drop, length, get_or, ◌<◌, ◌≤◌, ◌+◌, MatchOption, take-append-drop, take_at}
 use Rattle.std.proofs.lemmas.List.{take_more, take_all}
 use Rattle.gabc_notes.specs.declared.note.Note.{Note}
-use Rattle.gabc_patterns.specs.Reading.{IsItemOf}
+use Rattle.gabc_patterns.specs.LongestItems.{IsItemOf}
 use Rattle.gabc_patterns.specs.Derivative.{rows_after, rows_run, end_kind}
 use Rattle.gabc_patterns.proofs.AutomatonsByTests.{rows_of, rows_at}
 use Rattle.gabc_patterns.proofs.RowsRun.{rows_run-append, item_at_end, no_item_at_end, no_item_past}

@@ -1,7 +1,7 @@
 -- Where a glyph begins with some notes, these are a glyph, or all but the last are.
 use Rattle.std.proofs.Common.{◌≡◌, ℕ, List, [], ◌∷◌, ◌++◌, refl, sym, ◌∙◌, ap, subst, Option, Some, None, append_assoc, append-nil, ◌⊎◌, inl, inr}
 use Rattle.gabc_notes.specs.declared.note.Note.{Note}
-use Rattle.gabc_patterns.specs.Reading.{HasSome}
+use Rattle.gabc_patterns.specs.LongestItems.{HasSome}
 use Rattle.gabc_neumes.specs.Glyphs.{HasKind}
 use Rattle.gabc_neumes.specs.machine.GlyphMachine.{class_at, next_state, kind_at_end}
 use Rattle.gabc_neumes.specs.declared.glyph.GlyphKind.{GlyphKind}

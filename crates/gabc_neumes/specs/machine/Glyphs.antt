@@ -1,7 +1,7 @@
 -- The longest glyph that begins some notes.
 use Rattle.std.specs.Prelude.{◌<◌, ◌≤◌, ℕ, List, length, take}
 use Rattle.gabc_notes.specs.declared.note.Note.{Note}
-use Rattle.gabc_patterns.specs.Reading.{IsItem, IsItemOf}
+use Rattle.gabc_patterns.specs.LongestItems.{IsItem, IsItemOf}
 use Rattle.gabc_neumes.specs.Letters.{letters}
 use Rattle.gabc_neumes.specs.Table.{neumes}
 use Rattle.gabc_neumes.specs.declared.glyph.GlyphKind.{GlyphKind}

@@ -2,13 +2,13 @@
 use Rattle.std.proofs.Common.{◌≡◌, ℕ, ◌≤◌, List, [], ◌∷◌, ◌++◌, Bool, true, false, cond, not, ◌&&◌, ◌||◌, ◌==◌, ◌⊎◌, inl, inr, refl, sym, ap, ◌∙◌, subst, Option, Some, None, arith, eqb-true, ne_eqb}
 use native.Mathlib.Decide.{dec_lt}
 use Rattle.gabc_patterns.specs.Pattern.{is_in}
-use Rattle.gabc_patterns.specs.Reading.{IsSnippet}
+use Rattle.gabc_patterns.specs.LongestItems.{IsSnippet}
 use Rattle.gabc_patterns.specs.Derivative.{Munch, start, nowhere, run, is_whole, is_snippet}
 use Rattle.gabc_patterns.proofs.AutomatonsByTests.{reading_of, below, below_at}
 use Rattle.gabc_patterns.proofs.BothOfTwoTests.{and_true, or_true}
 use Rattle.gabc_patterns.proofs.LongestMunchByCharacter.{snippet_to, snippet_from}
 use Rattle.gabc_notes.specs.Table.{gabc}
-use Rattle.gabc_notes.specs.machine.Class.{class_of_character}
+use Rattle.gabc_notes.specs.machine.CharClass.{class_of_character}
 use Rattle.gabc_notes.specs.Events.{in_raw}
 use Rattle.gabc_notes.specs.machine.ItemMachine.{next_state, whole_at, raw_state}
 use Rattle.gabc_notes.specs.declared.item.ItemKind.{ItemKind}

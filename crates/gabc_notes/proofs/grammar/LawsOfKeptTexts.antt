@@ -1,6 +1,6 @@
 -- Laws of the definitions.
 use Rattle.std.proofs.Common.{◌≡◌, ℕ, ◌≤◌, List, [], ◌++◌, length, Bool, true, false, not, ◌&&◌, refl, codes, arith, Decides}
-use Rattle.gabc_patterns.specs.Reading.{OneKind, IsSnippet, IsViable, IsItemOf}
+use Rattle.gabc_patterns.specs.LongestItems.{OneKind, IsSnippet, IsViable, IsItemOf}
 use Rattle.gabc_patterns.specs.Derivative.{run, is_whole, is_snippet}
 use Rattle.gabc_patterns.proofs.AutomatonsByTests.{reading, rows_of}
 use Rattle.gabc_patterns.proofs.RowsAfterACharacter.{rows_end_to}

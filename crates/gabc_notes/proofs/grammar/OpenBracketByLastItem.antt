@@ -1,6 +1,6 @@
 -- An open bracket, by the last item before it.
 use Rattle.std.proofs.Common.{◌≡◌, ℕ, List, [], ◌∷◌, ◌++◌, Bool, true, false, cond, inl, inr, refl, sym, ap, ◌∙◌, subst, codes, Option, Some, None, append-nil, append_assoc, Decides}
-use Rattle.gabc_patterns.specs.Reading.{IsItemOf, IsItem, Reads, IsSnippet, IsViable}
+use Rattle.gabc_patterns.specs.LongestItems.{IsItemOf, IsItem, IsReading, IsSnippet, IsViable}
 use Rattle.gabc_patterns.specs.Derivative.{is_alive, is_whole}
 use Rattle.gabc_patterns.proofs.AutomatonsByTests.{reading}
 use Rattle.gabc_patterns.proofs.BothOfTwoTests.{and_true}
@@ -46,7 +46,7 @@ next t c h v =
     }
 
 -- the text before the bracket ends with no `@`, if the bracket opens raw
-at_joins : (before : List ℕ) (items : List ItemText) → IsSnippet gabc before → Reads gabc (items ++ (Fusion, codes "@") ∷ []) before → IsSnippet gabc (before ++ 91 ∷ [])
+at_joins : (before : List ℕ) (items : List ItemText) → IsSnippet gabc before → IsReading gabc (items ++ (Fusion, codes "@") ∷ []) before → IsSnippet gabc (before ++ 91 ∷ [])
 at_joins before items h r =
     let e = ends_of items (Fusion, codes "@") before r in
     let prefix = prefix_snippet e.before e.prefix (codes "@") e.reads in
@@ -65,7 +65,7 @@ at_joins before items h r =
     go z (Some y) e s j = snippet_from gabc refl (before ++ 91 ∷ []) (ap is_whole (after_char gabc machine snippets_read z before 91 (Some y) s e) ∙ (snippets_read.whole y ∙ j))
 
 -- a snippet that a `[` makes a snippet again ends with `@`
-joins_at : (before : List ℕ) → IsSnippet gabc before → IsSnippet gabc (before ++ 91 ∷ []) → (items : List ItemText) × Reads gabc (items ++ (Fusion, codes "@") ∷ []) before
+joins_at : (before : List ℕ) → IsSnippet gabc before → IsSnippet gabc (before ++ 91 ∷ []) → (items : List ItemText) × IsReading gabc (items ++ (Fusion, codes "@") ∷ []) before
 joins_at before h i =
     let n = next before 91 h (viable (before ++ 91 ∷ []) i) in
     elim (opened_by n.from n.to n.steps.next) [
@@ -77,7 +77,7 @@ joins_at before h i =
           let on_prefix : ReadsOn gabc e.before e.prefix (codes "@") = shrink gabc e.before e.prefix (codes "@") (91 ∷ []) (subst (ReadsOn gabc e.before e.prefix) mark e.reads) in
           let has : IsItemOf gabc Fusion (codes "@") = item_at_end gabc (codes "@") Fusion refl in (
             e.before,
-            subst (Reads gabc (e.before ++ (Fusion, codes "@") ∷ [])) (sym cut)
+            subst (IsReading gabc (e.before ++ (Fusion, codes "@") ∷ [])) (sym cut)
                 (join_reading gabc e.before ((Fusion, codes "@") ∷ []) e.prefix (codes "@") on_prefix ([], refl, has, longest_all (IsItem gabc) (codes "@") (Fusion, has), refl)),
           ))
     ]

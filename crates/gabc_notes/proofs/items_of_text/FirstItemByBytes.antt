@@ -7,7 +7,7 @@ use Rattle.std.proofs.Math.Seq.{take-append_seam, drop-append_seam, get_or-appen
 use Rattle.std.proofs.lemmas.Str.{IsUtf8-past_char, encodes-append, encodes-chars, length-encode, scalars-chars, chars-encodes, length-le-encodes}
 use lib.Utf8.{encode, encodes, scalar, scalars}
 use Rattle.gabc_notes.specs.Table.{gabc}
-use Rattle.gabc_notes.specs.machine.Class.{class_of_character}
+use Rattle.gabc_notes.specs.machine.CharClass.{class_of_character}
 use Rattle.gabc_notes.specs.machine.ItemMachine.{going_on, kind_at_end}
 use Rattle.gabc_notes.specs.machine.Items.{IsFirstItem}
 use Rattle.gabc_notes.specs.declared.item.ItemKind.{ItemKind}
@@ -17,7 +17,7 @@ use Rattle.gabc_notes.proofs.machine.TextIsReadByCharacter.{one_read, one_next, 
 use Rattle.gabc_notes.specs.declared.state.ItemState.TheVariants.{Start}
 use Rattle.gabc_patterns.proofs.BothOfTwoTests.{and_true}
 use Rattle.gabc_patterns.specs.Items.{IsItemAt, ItemSpan}
-use Rattle.gabc_patterns.specs.Reading.{Longest, IsItem, IsItemOf}
+use Rattle.gabc_patterns.specs.LongestItems.{Longest, IsItem, IsItemOf}
 use Rattle.gabc_patterns.specs.Function.{longest_item}
 use Rattle.gabc_patterns.proofs.ItemHere.{ItemHere, BestHere, here_start, here_ends, here_on, here_stops, here_end, best_item}
 use Rattle.gabc_patterns.proofs.ItemsOneByOne.{none_found}
@@ -33,7 +33,7 @@ in_bytes t None = None
 in_bytes t (Some b) = Some (b.0, bytes_to t b.2)
 
 -- Of the text the characters done are read, and rest, as bytes, is not.
-pub record Reading (text done rest : List ℕ) (s : ItemState) (read : ℕ) (best : Option (ItemKind × ℕ)) : Type 0 where
+pub record ReadSoFar (text done rest : List ℕ) (s : ItemState) (read : ℕ) (best : Option (ItemKind × ℕ)) : Type 0 where
   pub utf8 : IsUtf8 rest
   pub whole : done ++ chars rest ≡ chars text
   pub count : read ≡ length (encodes done)
@@ -59,11 +59,11 @@ counted done c read now e f =
     omega (arith, g, h, length-append (encodes done) (encodes (c ∷ [])), length-encode c)
 
 -- before the first character
-pub begun_at : (text rest : List ℕ) → rest ≡ text → IsUtf8 text → Reading text [] rest Start 0 None
+pub begun_at : (text rest : List ℕ) → rest ≡ text → IsUtf8 text → ReadSoFar text [] rest Start 0 None
 begun_at text rest e u = rw e (record { utf8 = u; whole = refl; count = refl; longest = None; bytes = refl; here = here_start gabc machine items_read (chars text) 0 })
 
 -- the bytes fit
-pub fits_in : (text done bs rest : List ℕ) (s : ItemState) (read c : ℕ) (best : Option (ItemKind × ℕ)) → IsUtf8 text → Reading text done bs s read best → bs ≡ encode c ++ rest
+pub fits_in : (text done bs rest : List ℕ) (s : ItemState) (read c : ℕ) (best : Option (ItemKind × ℕ)) → IsUtf8 text → ReadSoFar text done bs s read best → bs ≡ encode c ++ rest
     → read + len_utf8 c ≤ length text
 fits_in text done bs rest s read c best u r e =
     let whole = one_next done bs rest (chars text) c r.utf8 e r.whole in
@@ -72,9 +72,9 @@ fits_in text done bs rest s read c best u r e =
     omega (arith, f, count, length-append (encodes done) (encodes (c ∷ chars rest)), length-append (encode c) (encodes (chars rest)), length-encode c)
 
 -- a character more, and the item may end after it
-pub ends_at : (text done bs rest : List ℕ) (s z : ItemState) (read now c : ℕ) (k : ItemKind) (best : Option (ItemKind × ℕ)) → Reading text done bs s read best
+pub ends_at : (text done bs rest : List ℕ) (s z : ItemState) (read now c : ℕ) (k : ItemKind) (best : Option (ItemKind × ℕ)) → ReadSoFar text done bs s read best
     → bs ≡ encode c ++ rest → going_on s (class_of_character c) ≡ Some z → kind_at_end z ≡ Some k → now ≡ read + len_utf8 c
-    → Reading text (done ++ c ∷ []) rest z now (Some (k, now))
+    → ReadSoFar text (done ++ c ∷ []) rest z now (Some (k, now))
 ends_at text done bs rest s z read now c k best r e g f n =
     let whole = one_next done bs rest (chars text) c r.utf8 e r.whole in
     let all : List ℕ = chars text in
@@ -93,9 +93,9 @@ ends_at text done bs rest s z read now c k best r e g f n =
     }
 
 -- a character more, and the item may not end after it
-pub on_at : (text done bs rest : List ℕ) (s z : ItemState) (read now c : ℕ) (best : Option (ItemKind × ℕ)) → Reading text done bs s read best
+pub on_at : (text done bs rest : List ℕ) (s z : ItemState) (read now c : ℕ) (best : Option (ItemKind × ℕ)) → ReadSoFar text done bs s read best
     → bs ≡ encode c ++ rest → going_on s (class_of_character c) ≡ Some z → kind_at_end z ≡ None → now ≡ read + len_utf8 c
-    → Reading text (done ++ c ∷ []) rest z now best
+    → ReadSoFar text (done ++ c ∷ []) rest z now best
 on_at text done bs rest s z read now c best r e g f n =
     let whole = one_next done bs rest (chars text) c r.utf8 e r.whole in
     let all : List ℕ = chars text in
@@ -119,7 +119,7 @@ scalars_split (c ∷ a) b e =
     (rw (f.0, g.0) refl, g.1)
 
 -- What a search for the longest item tells.
-pub record Told (text : List ℕ) (best : Option (ItemKind × ℕ)) : Type 0 where
+pub record BestFound (text : List ℕ) (best : Option (ItemKind × ℕ)) : Type 0 where
   pub found : IfSome best (λ i. IsFirstItem text i.0 i.1)
   pub none : IfNone best (longest_item gabc (chars text) ≡ None)
 
@@ -148,23 +148,23 @@ first_is text k n u i =
       longest = rw (x, y) (subst (λ (u : List ℕ). Longest (IsItem gabc) u b) slice i.longest);
     }
 
-told : (text : List ℕ) (longest : Option (ItemSpan ItemKind)) → IsUtf8 text → BestHere gabc (chars text) 0 longest → Told text (in_bytes (chars text) longest)
-told text None u h = record { found = tt; none = none_found gabc kinds_are_one (chars text) h }
-told text (Some (k, m, n)) u h = record { found = first_is text k n u (best_item gabc (chars text) 0 (k, m, n) (omega arith) h).1; none = tt }
+best_found : (text : List ℕ) (longest : Option (ItemSpan ItemKind)) → IsUtf8 text → BestHere gabc (chars text) 0 longest → BestFound text (in_bytes (chars text) longest)
+best_found text None u h = record { found = tt; none = none_found gabc kinds_are_one (chars text) h }
+best_found text (Some (k, m, n)) u h = record { found = first_is text k n u (best_item gabc (chars text) 0 (k, m, n) (omega arith) h).1; none = tt }
 
 -- a character at which the item does not go on
-pub stops_at : (text done bs rest : List ℕ) (s : ItemState) (read c : ℕ) (best : Option (ItemKind × ℕ)) → IsUtf8 text → Reading text done bs s read best
-    → bs ≡ encode c ++ rest → going_on s (class_of_character c) ≡ None → Told text best
+pub stops_at : (text done bs rest : List ℕ) (s : ItemState) (read c : ℕ) (best : Option (ItemKind × ℕ)) → IsUtf8 text → ReadSoFar text done bs s read best
+    → bs ≡ encode c ++ rest → going_on s (class_of_character c) ≡ None → BestFound text best
 stops_at text done bs rest s read c best u r e g =
     let whole = one_next done bs rest (chars text) c r.utf8 e r.whole in
     let all : List ℕ = chars text in
     let p : length done < length all = rw whole (seam done (chars rest) c).0 in
     let q : c ≡ get_or all (length done) c = rw whole (seam done (chars rest) c).1 in
-    subst (Told text) (sym r.bytes) (told text r.longest u (here_stops gabc machine items_read all 0 (length done) c s r.longest p q g r.here))
+    subst (BestFound text) (sym r.bytes) (best_found text r.longest u (here_stops gabc machine items_read all 0 (length done) c s r.longest p q g r.here))
 
 -- the end of the text
-pub end_at : (text done bs : List ℕ) (s : ItemState) (read : ℕ) (best : Option (ItemKind × ℕ)) → IsUtf8 text → Reading text done bs s read best
-    → length bs ≡ 0 → Told text best
+pub end_at : (text done bs : List ℕ) (s : ItemState) (read : ℕ) (best : Option (ItemKind × ℕ)) → IsUtf8 text → ReadSoFar text done bs s read best
+    → length bs ≡ 0 → BestFound text best
 end_at text done bs s read best u r e =
     let same = ap length (all_read done bs (chars text) e r.whole) in
-    subst (Told text) (sym r.bytes) (told text r.longest u (here_end gabc machine (chars text) 0 (length done) s r.longest (omega (arith, same)) r.here))
+    subst (BestFound text) (sym r.bytes) (best_found text r.longest u (here_end gabc machine (chars text) 0 (length done) s r.longest (omega (arith, same)) r.here))

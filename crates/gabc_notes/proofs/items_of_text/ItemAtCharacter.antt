@@ -2,7 +2,7 @@
 use Rattle.std.proofs.Common.{◌≡◌, ℕ, ◌⊎◌, inl, inr, List, [], ◌∷◌, ◌++◌, Bool, true, false, cond, ◌||◌, ◌==◌, IsTrue, refl, sym, ap, ◌∙◌, subst, codes, Some, None, append-nil, append_assoc, eqb-true, ne_eqb, arith}
 use Rattle.std.specs.List.{concat}
 use Rattle.gabc_patterns.specs.Pattern.{Spells, Each, is_in, any_but, one_of, text}
-use Rattle.gabc_patterns.specs.Reading.{IsItemOf, Reads, IsSnippet}
+use Rattle.gabc_patterns.specs.LongestItems.{IsItemOf, IsReading, IsSnippet}
 use Rattle.gabc_patterns.specs.Derivative.{Munch, start, nowhere, within, run, is_snippet}
 use Rattle.gabc_patterns.specs.Function.{items}
 use Rattle.gabc_patterns.proofs.ItemsFunctionReads.{items_only}
@@ -52,10 +52,10 @@ pushed {X} (c ∷ t) = elim (pushed t) [
 
 -- ---- the last item
 
-pub one_items : (is : List ItemText) (t : List ℕ) → Reads gabc is t → items gabc t ≡ is
+pub one_items : (is : List ItemText) (t : List ℕ) → IsReading gabc is t → items gabc t ≡ is
 one_items is t h = sym (items_only gabc refl kinds_are_one t is h)
 
-pub last_item_is : (is : List ItemText) (i : ItemText) (t : List ℕ) → Reads gabc (is ++ i ∷ []) t → last_item t ≡ Some i
+pub last_item_is : (is : List ItemText) (i : ItemText) (t : List ℕ) → IsReading gabc (is ++ i ∷ []) t → last_item t ≡ Some i
 last_item_is is i t h =
     ap (λ (b : Bool). cond b (last_of (items gabc t)) None) (snippet_to gabc refl t (is ++ i ∷ [], h))
     ∙ (ap last_of (one_items (is ++ i ∷ []) t h) ∙ last_pushed is i)
@@ -71,7 +71,7 @@ pub record Ends (i : ItemText) (t : List ℕ) : Type 0 where
   pub reads : ReadsOn gabc before prefix i.1
   pub has : IsItemOf gabc i.0 i.1
 
-pub ends_of : (is : List ItemText) (i : ItemText) (t : List ℕ) → Reads gabc (is ++ i ∷ []) t → Ends i t
+pub ends_of : (is : List ItemText) (i : ItemText) (t : List ℕ) → IsReading gabc (is ++ i ∷ []) t → Ends i t
 ends_of is i t h =
     let y = cut_reading gabc is (i ∷ []) t h in
     let all : y.1 ≡ i.1 = y.4.1 ∙ (ap (λ (u : List ℕ). i.1 ++ u) y.4.4 ∙ append-nil i.1) in
@@ -86,7 +86,7 @@ ends_of is i t h =
 -- what is read is a snippet
 pub prefix_snippet : (is : List ItemText) (a b : List ℕ) → ReadsOn gabc is a b → IsSnippet gabc a
 prefix_snippet is a b h =
-    (is, subst (λ (js : List ItemText). Reads gabc js a) (append-nil is) (subst (Reads gabc (is ++ [])) (append-nil a) (join_reading gabc is [] a [] (shrink gabc is a [] b h) refl)))
+    (is, subst (λ (js : List ItemText). IsReading gabc js a) (append-nil is) (subst (IsReading gabc (is ++ [])) (append-nil a) (join_reading gabc is [] a [] (shrink gabc is a [] b h) refl)))
 
 -- by where the reading stands
 pub ends_with : (t : List ℕ) (k : ItemKind) → kind_at (run gabc start t) ≡ Some k → (u : List ℕ) × Ends (k, u) t × (last_item t ≡ Some (k, u))

@@ -1,7 +1,7 @@
 -- The item that ends with a character, by the states of the machine before and behind it.
 use Rattle.std.proofs.Common.{◌≡◌, ℕ, ◌⊎◌, inl, inr, List, [], ◌∷◌, ◌++◌, Bool, true, false, cond, not, ◌&&◌, ◌||◌, ◌==◌, refl, sym, ap, ◌∙◌, subst, codes, Option, Some, None, append_assoc, eqb-true}
 use Rattle.gabc_patterns.specs.Pattern.{is_in}
-use Rattle.gabc_patterns.specs.Reading.{IsItemOf, Reads, IsSnippet}
+use Rattle.gabc_patterns.specs.LongestItems.{IsItemOf, IsReading, IsSnippet}
 use Rattle.gabc_patterns.specs.Derivative.{start, run, is_snippet, is_whole, same_texts}
 use Rattle.gabc_patterns.proofs.AutomatonsByTests.{reading}
 use Rattle.gabc_patterns.proofs.BothOfTwoTests.{and_true, or_true}
@@ -310,10 +310,10 @@ other_last k c e f = go (is_snippet gabc (k ++ c ∷ [])) refl
     t : List ℕ
     t = k ++ c ∷ []
 
-    item : (js : List ItemText) → Reads gabc js (k ++ c ∷ []) → IsNone (last_item (k ++ c ∷ []))
+    item : (js : List ItemText) → IsReading gabc js (k ++ c ∷ []) → IsNone (last_item (k ++ c ∷ []))
     item js r = elim (pushed js) [
-      | inl h ↦ absurd (let g : k ++ c ∷ [] ≡ [] = subst (λ (is : List ItemText). Reads gabc is (k ++ c ∷ [])) h r in full k c g)
-      | inr h ↦ (let r' : Reads gabc (h.0 ++ h.1 ∷ []) (k ++ c ∷ []) = subst (λ (is : List ItemText). Reads gabc is (k ++ c ∷ [])) h.2 r in
+      | inl h ↦ absurd (let g : k ++ c ∷ [] ≡ [] = subst (λ (is : List ItemText). IsReading gabc is (k ++ c ∷ [])) h r in full k c g)
+      | inr h ↦ (let r' : IsReading gabc (h.0 ++ h.1 ∷ []) (k ++ c ∷ []) = subst (λ (is : List ItemText). IsReading gabc is (k ++ c ∷ [])) h.2 r in
           let y = ends_of h.0 h.1 (k ++ c ∷ []) r' in
           elim (pushed h.1.1) [
             | inl n ↦ absurd (none_empty h.1.0 (subst (IsItemOf gabc h.1.0) n y.has))

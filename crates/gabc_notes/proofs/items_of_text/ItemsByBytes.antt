@@ -12,7 +12,7 @@ use Rattle.gabc_notes.specs.machine.Items.{IsFirstItem}
 use Rattle.gabc_notes.specs.Items.{IsKept, AreItemsOf, AreWithin, read_as, piece_of, placed_items, items_of}
 use Rattle.gabc_notes.specs.declared.item.Item.{Item}
 use Rattle.gabc_notes.specs.declared.item.ItemKind.{ItemKind}
-use Rattle.gabc_patterns.specs.Reading.{Reads}
+use Rattle.gabc_patterns.specs.LongestItems.{IsReading}
 use Rattle.gabc_patterns.specs.Items.{FollowOn}
 use Rattle.gabc_patterns.specs.Function.{items, longest_item}
 use Rattle.gabc_notes.proofs.grammar.LawsOfKeptTexts.{kinds_are_one}
@@ -103,7 +103,7 @@ room_for text listed at k len r s h room =
 
 -- ---- the items of a snippet read it
 
-placed_reads : (text : List ℕ) (at : ℕ) (is : List (ItemKind × List ℕ)) (t : List ℕ) → at ≤ length text → IsUtf8 (drop at text) → chars (drop at text) ≡ t → Reads gabc is t
+placed_reads : (text : List ℕ) (at : ℕ) (is : List (ItemKind × List ℕ)) (t : List ℕ) → at ≤ length text → IsUtf8 (drop at text) → chars (drop at text) ≡ t → IsReading gabc is t
     → (map (read_as text) (placed_items at is) ≡ is) × FollowOn at (map piece_of (placed_items at is)) (length text)
 placed_reads text at [] t l u e r =
     let none : length (drop at text) ≡ 0 = ap length (sym (encodes-chars (drop at text) u) ∙ ap encodes (e ∙ r)) in
@@ -128,6 +128,6 @@ placed_reads text at ((k, w) ∷ is) t l u e (rest, f, has, long, reads) =
 
 pub items_read_text : (text : List ℕ) → IsUtf8 text → IsKept text → AreItemsOf text (items_of text)
 items_read_text text u k =
-    let r : Reads gabc (items gabc (chars text)) (chars text) = items_are gabc refl (chars text) k in
+    let r : IsReading gabc (items gabc (chars text)) (chars text) = items_are gabc refl (chars text) k in
     let p = placed_reads text 0 (items gabc (chars text)) (chars text) (omega arith) u refl r in
-    record { reads = subst (λ (x : List (ItemKind × List ℕ)). Reads gabc x (chars text)) (sym p.0) r; joined = p.1 }
+    record { reads = subst (λ (x : List (ItemKind × List ℕ)). IsReading gabc x (chars text)) (sym p.0) r; joined = p.1 }

@@ -1,6 +1,6 @@
 -- The last item of a text, by where the reading stands behind it.
 use Rattle.std.proofs.Common.{◌≡◌, ℕ, ◌⊎◌, inl, inr, List, [], ◌∷◌, ◌++◌, Bool, true, false, cond, Some, refl, sym, ap, ◌∙◌, subst, append-nil, append_assoc}
-use Rattle.gabc_patterns.specs.Reading.{Table, Longest, IsItemOf, IsItem, Reads, IsSnippet}
+use Rattle.gabc_patterns.specs.LongestItems.{Table, Longest, IsItemOf, IsItem, IsReading, IsSnippet}
 use Rattle.gabc_patterns.specs.Derivative.{rows_after, rows_run, rows_end, Munch, start, nowhere, within, enter, step, run, end_kind}
 use Rattle.gabc_patterns.proofs.BothOfTwoTests.{append_none}
 use Rattle.gabc_patterns.proofs.LongestMunchByCharacter.{Ended}
@@ -13,7 +13,7 @@ module _ {K : Type 0} (table : Table K) where
   pub record LastOf (k : K) (rows : Table K) (t : List ℕ) : Type 0 where
     pub before : List (K × List ℕ)
     pub last : List ℕ
-    pub reads : Reads table (before ++ (k, last) ∷ []) t
+    pub reads : IsReading table (before ++ (k, last) ∷ []) t
     pub left : rows ≡ rows_run table last
 
   -- the text goes on where the reading stands, and these rows are left of its last item
@@ -125,7 +125,7 @@ module _ {K : Type 0} (table : Table K) where
       (rest, e, has, record { has = l.has; longest = λ more after f k. l.longest more (after ++ w) (sym (append_assoc rest v w) ∙ (ap (λ (u : List ℕ). u ++ w) f ∙ append_assoc more after w)) k }, shrink is rest v w r)
 
   -- a reading cut in two
-  pub cut_reading : (is js : List (K × List ℕ)) (t : List ℕ) → Reads table (is ++ js) t → (a b : List ℕ) × (t ≡ a ++ b) × ReadsOn is a b × Reads table js b
+  pub cut_reading : (is js : List (K × List ℕ)) (t : List ℕ) → IsReading table (is ++ js) t → (a b : List ℕ) × (t ≡ a ++ b) × ReadsOn is a b × IsReading table js b
   cut_reading [] js t h = ([], t, refl, refl, h)
   cut_reading (i ∷ is) js t (rest, e, has, l, r) =
       let y = cut_reading is js rest r in (
@@ -137,15 +137,15 @@ module _ {K : Type 0} (table : Table K) where
       )
 
   -- and put together
-  pub join_reading : (is js : List (K × List ℕ)) (a b : List ℕ) → ReadsOn is a b → Reads table js b → Reads table (is ++ js) (a ++ b)
-  join_reading [] js a b h r = subst (λ (u : List ℕ). Reads table js (u ++ b)) (sym h) r
+  pub join_reading : (is js : List (K × List ℕ)) (a b : List ℕ) → ReadsOn is a b → IsReading table js b → IsReading table (is ++ js) (a ++ b)
+  join_reading [] js a b h r = subst (λ (u : List ℕ). IsReading table js (u ++ b)) (sym h) r
   join_reading (i ∷ is) js a b (rest, e, has, l, r) s =
       (rest ++ b, ap (λ (u : List ℕ). u ++ b) e ∙ append_assoc i.1 rest b, has, l, join_reading is js rest b r s)
 
   -- the items of a prefix, where what follows it makes a snippet, are followed by a snippet
-  pub prefix_read : (is js : List (K × List ℕ)) (a b : List ℕ) → ReadsOn is a b → Reads table js (a ++ b) → IsSnippet table b
-  prefix_read [] js a b h r = (js, subst (λ (u : List ℕ). Reads table js (u ++ b)) h r)
+  pub prefix_read : (is js : List (K × List ℕ)) (a b : List ℕ) → ReadsOn is a b → IsReading table js (a ++ b) → IsSnippet table b
+  prefix_read [] js a b h r = (js, subst (λ (u : List ℕ). IsReading table js (u ++ b)) h r)
   prefix_read (i ∷ is) [] a b h s = ([], (append_none a b (sym s)).1)
   prefix_read (i ∷ is) (j ∷ js) a b (rest, e, has, l, r) (more, f, has', l', r') =
       let same : (i.1 ≡ j.1) × (rest ++ b ≡ more) = one_longest (IsItem table) i.1 j.1 (rest ++ b) more (sym (append_assoc i.1 rest b) ∙ (sym (ap (λ (u : List ℕ). u ++ b) e) ∙ f)) l l' in
-      prefix_read is js rest b r (subst (Reads table js) (sym same.1) r')
+      prefix_read is js rest b r (subst (IsReading table js) (sym same.1) r')

@@ -3,7 +3,7 @@ use Rattle.std.proofs.Common.{◌≡◌, ℕ, ◌≤◌, ◌<◌, ◌||◌, ◌=
 use Rattle.std.proofs.lemmas.Str.{encode_ascii, len_utf8_ascii}
 use Rattle.std.proofs.lemmas.Bool.{le-leb}
 use lib.Utf8.{encode}
-use Rattle.gabc_notes.specs.machine.Class.{class_of_character, is_between}
+use Rattle.gabc_notes.specs.machine.CharClass.{class_of_character, is_between}
 use Rattle.gabc_notes.specs.machine.ItemMachine.{begun_item, going_on, kind_at_end}
 use Rattle.gabc_notes.specs.machine.Items.{IsFirstItem}
 use Rattle.gabc_notes.specs.declared.class.CharClass.{CharClass}

@@ -4,7 +4,7 @@ use Rattle.gabc_places.specs.declared.code.Code.TheVariants.{E1, E6, W8, W10}
 use Rattle.gabc_places.specs.declared.place.Char.{Char}
 use Rattle.gabc_places.specs.StageLaw.{silence}
 use Rattle.gabc_places.specs.declared.place.Place.{Place}
-use Rattle.gabc_patterns.specs.Reading.{IsSnippet, IsViable}
+use Rattle.gabc_patterns.specs.LongestItems.{IsSnippet, IsViable}
 use Rattle.gabc_patterns.specs.Derivative.{Munch, is_alive, is_snippet, is_viable}
 use Rattle.gabc_patterns.specs.Function.{trim}
 use Rattle.gabc_patterns.proofs.BothOfTwoTests.{append_none}

@@ -1,21 +1,27 @@
 -- The short ways of the stage do what its general way does.
-use Rattle.std.proofs.Common.{◌≡◌, ℕ, ◌+◌, ◌-◌, ◌^◌, min, [], ◌∷◌, Bool, true, false, cond, ◌&&◌, refl, sym, ap, ◌∙◌, Option, Some, None}
+use Rattle.std.proofs.Common.{◌≡◌, ℕ, ◌+◌, ◌-◌, ◌^◌, min, List, [], ◌∷◌, ◌++◌, Bool, true, false, cond, ◌&&◌, refl, sym, ap, ◌∙◌, Option, Some, None, option_to_list}
 use Rattle.gabc_places.specs.declared.place.Char.{Char}
 use Rattle.gabc_places.specs.BoundedList.{BoundedList, extended_by}
 use Rattle.gabc_places.specs.StageLaw.{Pushes}
-use Rattle.gabc_notes.specs.machine.Class.{class_of_character}
-use Rattle.gabc_notes.specs.machine.ItemMachine.{IsShortStep, next_state, raw_state, facts_by_states, stage_after, whole_at}
+use Rattle.gabc_notes.specs.machine.CharClass.{class_of_character}
+use Rattle.gabc_notes.specs.machine.ItemMachine.{IsShortStep, next_state, raw_state, facts_by_states, stage_after, stage_kept, whole_at}
 use Rattle.gabc_notes.specs.ItemMachine.{events_left}
-use Rattle.gabc_notes.specs.StageEvents.{role_in, events_in, event_list}
+use Rattle.gabc_notes.specs.TakenAtOnce.{TakesNext}
+use Rattle.gabc_notes.specs.StageEvents.{role_in, warning_in, events_in, event_list}
+use Rattle.gabc_notes.specs.declared.stage.Before.{Before}
 use Rattle.gabc_notes.specs.declared.stage.CharFacts.{CharFacts}
-use Rattle.gabc_notes.specs.declared.stage.MacroPrefix.{MacroPrefix}
-use Rattle.gabc_notes.specs.declared.stage.MacroPrefix.TheVariants.{Closed}
+use Rattle.gabc_notes.specs.declared.macro_prefix.MacroPrefix.{MacroPrefix}
+use Rattle.gabc_notes.specs.declared.macro_prefix.MacroPrefix.TheVariants.{Closed}
 use Rattle.gabc_notes.specs.declared.stage.NoteEvent.{NoteEvent}
-use Rattle.gabc_notes.specs.declared.stage.NoteEvent.TheVariants.{Kept}
+use Rattle.gabc_notes.specs.declared.stage.NoteEnd.TheVariants.{Next}
+use Rattle.gabc_notes.specs.declared.stage.NoteEvent.TheVariants.{Kept, Ended}
 use Rattle.gabc_notes.specs.declared.stage.NoteStage.{NoteStage}
+use Rattle.gabc_notes.specs.declared.stage.CharRole.{CharRole}
 use Rattle.gabc_notes.specs.declared.stage.CharRole.TheVariants.{Ends, Keep}
 use Rattle.gabc_notes.specs.declared.state.ItemState.{ItemState}
-use Rattle.gabc_notes.proofs.machine.StageEmitsItsEvents.{push_emits}
+use Rattle.gabc_notes.specs.declared.state.ItemState.TheVariants.{Raw, SlashRaw}
+use Rattle.gabc_notes.proofs.machine.StageEmitsItsEvents.{push_law, push_emits}
+use Rattle.gabc_notes.proofs.Stopping.{ended-emits_nothing}
 
 -- ---- a character on the short way
 
@@ -27,25 +33,46 @@ still_fused : (b : Bool) → b && true ≡ b
 still_fused true = refl
 still_fused false = refl
 
+-- what is known of the character
+abbrev pub short_facts : NoteStage → ItemState → CharFacts
+short_facts st z = facts_by_states st.state (Some z) st.name
+
 -- the stage behind it
-abbrev pub note_after : NoteStage → ItemState → ℕ → Char → NoteStage
-note_after st z kept x = record st { state = z; name = Closed; before = record st.before { place = x.place; kept = kept; whole = kept } }
+abbrev pub note_made : NoteStage → ItemState → ℕ → Char → NoteStage
+note_made st z kept x = record st { state = z; name = Closed; before = record st.before { place = x.place; kept = kept; whole = kept } }
 
 module _ (st : NoteStage) (x : Char) (z : ItemState) (comment : st.before.comment ≡ false) (step : IsShortStep st.state x.c z) where
-  note_role : role_in st.split st.before.comment (facts_by_states st.state (Some z) st.name) x.c ≡ Keep
+  note_role : role_in st.split st.before.comment (short_facts st z) x.c ≡ Keep
   note_role = rw (comment, step.outside, step.closes_no_notes, step.ends_no_snippet, step.begins_no_comment) (split_off st.split)
 
-  note_events : event_list (events_in Keep st.macros st.before (facts_by_states st.state (Some z) st.name) x) ≡ Kept x ∷ []
+  note_events : event_list (events_in Keep st.macros st.before (short_facts st z) x) ≡ Kept x ∷ []
   note_events = rw (step.outside, step.opens_nothing, step.closes_nothing) refl
 
-  note_stage : (kept : ℕ) → kept ≡ min (st.before.kept + 1) (2 ^ 64 - 1) → note_after st z kept x ≡ stage_after st Keep (facts_by_states st.state (Some z) st.name) (Some z) x
+  pub note_stage : (kept : ℕ) → kept ≡ min (st.before.kept + 1) (2 ^ 64 - 1) → note_made st z kept x ≡ stage_kept st z x
   note_stage kept h = rw (h, comment, step.outside, step.outside_after, step.whole_after, step.is_byte, step.opens_nothing, step.closes_nothing, still_fused st.before.fused) refl
 
-  pub note_emits : (kept : ℕ) (old new : BoundedList NoteEvent) → st.ended ≡ false → kept ≡ min (st.before.kept + 1) (2 ^ 64 - 1) → new ≡ extended_by old (Kept x ∷ [])
-      → Pushes (events_left st) (events_left (note_after st z kept x)) x 3 old new
-  note_emits kept old new f h p =
-      push_emits st (note_after st z kept x) x (Some z) (facts_by_states st.state (Some z) st.name) Keep _ old new f
-      (sym step.step) refl (sym note_role) refl (note_stage kept h) (p ∙ ap (extended_by old) (sym note_events))
+  pub note_emits : (next : NoteStage) (old new : BoundedList NoteEvent) → st.ended ≡ false → next ≡ stage_kept st z x → new ≡ extended_by old (Kept x ∷ [])
+      → Pushes (events_left st) (events_left next) x 3 old new
+  note_emits next old new f n p =
+      push_emits st next x (Some z) (short_facts st z) Keep _ old new f
+      (sym step.step) refl (sym note_role) refl n (p ∙ ap (extended_by old) (sym note_events))
+
+  pub note_taken : (next : NoteStage) (xs : List Char) → st.ended ≡ false → next ≡ stage_kept st z x → events_left st (x ∷ xs) ≡ (Kept x ∷ []) ∷ events_left next xs
+  note_taken next xs f n =
+      push_law st x xs (Some z) (short_facts st z) Keep f (sym step.step) refl (sym note_role)
+      ∙ (ap (λ (es : List NoteEvent). es ∷ events_left (stage_kept st z x) xs) note_events ∙ ap (λ (s : NoteStage). (Kept x ∷ []) ∷ events_left s xs) (sym n))
+
+-- ---- a character that is kept with no warning
+
+pub kept_taken : (st next : NoteStage) (x : Char) (o : Option ItemState) (e : CharFacts) (r : CharRole) (w : Option NoteEvent) (xs : List Char) → st.ended ≡ false
+    → o ≡ next_state st.state (class_of_character x.c) → e ≡ facts_by_states st.state o st.name → r ≡ role_in st.split st.before.comment e x.c → r ≡ Keep
+    → w ≡ warning_in st.macros st.before e x → w ≡ None → next ≡ stage_after st r e o x
+    → events_left st (x ∷ xs) ≡ (Kept x ∷ []) ∷ events_left next xs
+kept_taken st next x o e r w xs f g h k kept m none n =
+    push_law st x xs o e r f g h k
+    ∙ (ap (λ (q : CharRole). event_list (events_in q st.macros st.before e x) ∷ events_left (stage_after st r e o x) xs) kept
+    ∙ (ap (λ (v : Option NoteEvent). (Kept x ∷ (option_to_list v ++ [])) ∷ events_left (stage_after st r e o x) xs) (sym m ∙ none)
+    ∙ ap (λ (s : NoteStage). (Kept x ∷ []) ∷ events_left s xs) (sym n)))
 
 -- ---- the end at a `)`
 
@@ -68,3 +95,32 @@ close_emits st x old new f comment outside close p =
     let role : role_in st.split st.before.comment (facts_of st x) x.c ≡ Ends =
     ap (λ b. role_in st.split b (facts_of st x) x.c) comment ∙ (ap (λ c. role_in st.split false (facts_of st x) c) close ∙ close_role st.split st.state o st.name outside) in
     push_emits st (record st { ended = true }) x o (facts_of st x) Ends _ old new f refl refl (sym role) refl refl p
+
+-- ---- the end at a `|`
+
+not_raw : (s : ItemState) → whole_at s ≡ true → raw_state s ≡ false
+not_raw Raw e = absurd (cc)
+not_raw SlashRaw e = absurd (cc)
+not_raw _ e = refl
+
+next_role : (s : ItemState) (o : Option ItemState) (n : MacroPrefix) → whole_at s ≡ true → role_in true false (facts_by_states s o n) 124 ≡ Ends
+next_role s None n whole = rw (not_raw s whole) refl
+next_role s (Some z) n whole = rw (not_raw s whole) refl
+
+next_events : (macros : ℕ) (b : Before) (e : CharFacts) (x : Char) → e.whole ≡ true → b.fused ≡ false → x.c ≡ 124
+    → event_list (events_in Ends macros b e x) ≡ Ended Next b.whole ∷ []
+next_events macros b e x whole none_open mark = rw (whole, none_open, mark) refl
+
+pub next_taken : (st next : NoteStage) → st.ended ≡ false → st.split ≡ true → st.before.comment ≡ false → st.before.fused ≡ false → whole_at st.state ≡ true
+    → next ≡ record st { ended = true } → TakesNext (events_left st) (events_left next) st.before.whole
+next_taken st next f splits comment none_open whole n = record {
+  law = λ x xs mark.
+      let o = next_state st.state (class_of_character x.c) in
+      let role : role_in st.split st.before.comment (facts_of st x) x.c ≡ Ends =
+      ap (λ b. role_in b st.before.comment (facts_of st x) x.c) splits
+      ∙ (ap (λ b. role_in true b (facts_of st x) x.c) comment ∙ (ap (λ c. role_in true false (facts_of st x) c) mark ∙ next_role st.state o st.name whole)) in
+      push_law st x xs o (facts_of st x) Ends f refl refl (sym role)
+      ∙ (ap (λ (es : List NoteEvent). es ∷ events_left (record st { ended = true }) xs) (next_events st.macros st.before (facts_of st x) x (whole_is st.state o st.name ∙ whole) none_open mark)
+      ∙ ap (λ (s : NoteStage). (Ended Next st.before.whole ∷ []) ∷ events_left s xs) (sym n));
+  over = ended-emits_nothing next (ap (λ (s : NoteStage). s.ended) n);
+}

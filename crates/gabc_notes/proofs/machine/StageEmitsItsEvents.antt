@@ -6,13 +6,13 @@ use Rattle.gabc_patterns.specs.Derivative.{Munch, start}
 use Rattle.gabc_patterns.proofs.StatesAfterTexts.{run-append}
 use Rattle.gabc_patterns.proofs.AutomatonsByTests.{reading, reading_of}
 use Rattle.gabc_notes.specs.Table.{gabc}
-use Rattle.gabc_notes.specs.machine.Class.{class_of_character}
+use Rattle.gabc_notes.specs.machine.CharClass.{class_of_character}
 use Rattle.gabc_notes.specs.StageEvents.{is_attribute_kind, kind_at, macro_digit, char_facts, role_in, before_in, events_in, event_list, raw_with, events_following, events_behind}
 use Rattle.gabc_notes.specs.machine.ItemMachine.{next_state, raw_state, attribute_state, digit_of_prefix, facts_by_states, prefix_with, prefix_after, stage_after}
 use Rattle.gabc_notes.specs.ItemMachine.{example, example_prefix, events_left}
 use Rattle.gabc_notes.specs.declared.item.ItemKind.{ItemKind}
-use Rattle.gabc_notes.specs.declared.stage.MacroPrefix.{MacroPrefix}
-use Rattle.gabc_notes.specs.declared.stage.MacroPrefix.TheVariants.{Closed, Opened, Letter, Named, Last, Other}
+use Rattle.gabc_notes.specs.declared.macro_prefix.MacroPrefix.{MacroPrefix}
+use Rattle.gabc_notes.specs.declared.macro_prefix.MacroPrefix.TheVariants.{Closed, Opened, Letter, Named, Last, Other}
 use Rattle.gabc_notes.specs.declared.stage.NoteEvent.{NoteEvent}
 use Rattle.gabc_notes.specs.declared.stage.NoteStage.{NoteStage}
 use Rattle.gabc_notes.specs.declared.stage.CharRole.{CharRole}

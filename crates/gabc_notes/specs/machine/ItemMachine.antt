@@ -2,7 +2,7 @@
 use Rattle.std.specs.Prelude.{◌≡◌, ℕ, Bool, true, false, codes, Option, Some, None, ◌==◌, if◌then◌else◌}
 use Rattle.std.specs.Char.{len_utf8}
 use Rattle.gabc_patterns.specs.Pattern.{is_in}
-use Rattle.gabc_notes.specs.machine.Class.{class_of_character}
+use Rattle.gabc_notes.specs.machine.CharClass.{class_of_character}
 use Rattle.gabc_notes.specs.Notes.{is_digit}
 use Rattle.gabc_places.specs.declared.place.Char.{Char}
 use Rattle.gabc_notes.specs.StageEvents.{before_in}
@@ -10,8 +10,8 @@ use Rattle.gabc_notes.specs.Events.{digit_if}
 use Rattle.gabc_notes.specs.declared.stage.NoteStage.{NoteStage}
 use Rattle.gabc_notes.specs.declared.stage.CharRole.{CharRole}
 use Rattle.gabc_notes.specs.declared.stage.CharRole.TheVariants.{Ends, Keep}
-use Rattle.gabc_notes.specs.declared.stage.MacroPrefix.{MacroPrefix}
-use Rattle.gabc_notes.specs.declared.stage.MacroPrefix.TheVariants.{Closed, Opened, Letter, Named, Last, Other}
+use Rattle.gabc_notes.specs.declared.macro_prefix.MacroPrefix.{MacroPrefix}
+use Rattle.gabc_notes.specs.declared.macro_prefix.MacroPrefix.TheVariants.{Closed, Opened, Letter, Named, Last, Other}
 use Rattle.gabc_notes.specs.declared.stage.CharFacts.{CharFacts}
 use Rattle.gabc_notes.specs.declared.class.CharClass.{CharClass}
 use Rattle.gabc_notes.specs.declared.class.CharClass.TheVariants.{Hyphen, FlatB, ClefLetter, Pitch as PitchC, Capital, ClefDigit, Zero, Digit, Sign, Suffix, Alter, Hash, Plus, Question, BarMark, Colon as ColonC, Slash as SlashC, Bang, Blank, SmallZ as SmallZC, CapitalZ as CapitalZC, Open, Close, At as AtC}
@@ -244,3 +244,7 @@ abbrev pub stage_after : NoteStage → CharRole → CharFacts → Option ItemSta
 stage_after st Ends e o x = record st { ended = true }
 stage_after st Keep e (Some z) x = record st { state = z; name = prefix_after e st.name x.c; before = before_in Keep st.before e x }
 stage_after st r e o x = record st { before = before_in r st.before e x }
+
+-- the stage behind a character that is kept and brings the reading to this state
+abbrev pub stage_kept : NoteStage → ItemState → Char → NoteStage
+stage_kept st z x = stage_after st Keep (facts_by_states st.state (Some z) st.name) (Some z) x

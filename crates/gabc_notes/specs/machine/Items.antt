@@ -1,7 +1,7 @@
 -- The items of a kept text by the bytes where they begin and end.
 use Rattle.std.specs.Prelude.{◌<◌, ◌≤◌, ℕ, List, length, take, drop}
 use Rattle.std.specs.Str.{chars, IsUtf8}
-use Rattle.gabc_patterns.specs.Reading.{Longest, IsItem, IsItemOf}
+use Rattle.gabc_patterns.specs.LongestItems.{Longest, IsItem, IsItemOf}
 use Rattle.gabc_notes.specs.Table.{gabc}
 use Rattle.gabc_notes.specs.declared.item.ItemKind.{ItemKind}
 

@@ -14,9 +14,9 @@ unfolding utf8_prefix_of
 prefix-whole bs u = ap chars (sym (take_all (utf8_valid_len bs) bs (omega (arith, utf8_valid_len-IsUtf8 bs u))))
 
 -- of other bytes the prefix is what is told to be valid
-pub prefix-told : (bs prefix : List ℕ) (n : ℕ) → n ≡ utf8_valid_len bs → prefix ≡ take n bs → chars prefix ≡ utf8_prefix_of bs
+pub prefix-read : (bs prefix : List ℕ) (n : ℕ) → n ≡ utf8_valid_len bs → prefix ≡ take n bs → chars prefix ≡ utf8_prefix_of bs
 unfolding utf8_prefix_of
-prefix-told bs prefix n e f = ap chars f ∙ ap (λ k. chars (take k bs)) e
+prefix-read bs prefix n e f = ap chars f ∙ ap (λ k. chars (take k bs)) e
 
 -- behind valid bytes nothing follows
 pub tail-whole : (bs : List ℕ) → IsUtf8 bs → tail_of bs ≡ Nothing
@@ -28,6 +28,6 @@ tail_at-some [] h = absurd (omega arith)
 tail_at-some (b ∷ bs) h = refl
 
 -- behind a prefix that is told to be valid stands what is told of the fault
-pub tail-told : (bs : List ℕ) (n : ℕ) (o : Option ℕ) → n < length bs → n ≡ utf8_valid_len bs → o ≡ utf8_error_len (drop n bs) → tail_of bs ≡ tail_by o
+pub tail-read : (bs : List ℕ) (n : ℕ) (o : Option ℕ) → n < length bs → n ≡ utf8_valid_len bs → o ≡ utf8_error_len (drop n bs) → tail_of bs ≡ tail_by o
 unfolding tail_of
-tail-told bs n o less e f = ap (λ k. tail_at (drop k bs)) (sym e) ∙ tail_at-some (drop n bs) (omega (arith, length-drop n bs)) ∙ ap tail_by (sym f)
+tail-read bs n o less e f = ap (λ k. tail_at (drop k bs)) (sym e) ∙ tail_at-some (drop n bs) (omega (arith, length-drop n bs)) ∙ ap tail_by (sym f)

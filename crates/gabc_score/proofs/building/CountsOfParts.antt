@@ -141,7 +141,7 @@ module _ (s t : TextStage) (es : List TextEvent) (few : length es ≤ 8) (paid :
 -- ---- snippets
 
 -- a prefix of a kept text that ends in a seam, or the text
-prefix_between : (from count : ℕ) (kept : List ℕ) → from ≤ length kept → (from ≤ length (prefix_of (from + count) kept)) × (length (prefix_of (from + count) kept) ≤ length kept)
+pub prefix_between : (from count : ℕ) (kept : List ℕ) → from ≤ length kept → (from ≤ length (prefix_of (from + count) kept)) × (length (prefix_of (from + count) kept) ≤ length kept)
 prefix_between from count kept h = by (is_seam (drop (from + count) kept))
   where
     by : (b : Bool) → (from ≤ length (cond b (take (from + count) kept) kept)) × (length (cond b (take (from + count) kept) kept) ≤ length kept)

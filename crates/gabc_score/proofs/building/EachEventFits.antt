@@ -3,7 +3,7 @@ use Rattle.std.proofs.Common.{◌≡◌, ◌≢◌, ℕ, ◌+◌, ◌-◌, ◌<�
 use Rattle.std.proofs.lemmas.List.{drop_more, length-map}
 use Rattle.gabc_score.specs.declared.events.BodyEvent.{BodyEvent}
 use Rattle.gabc_score.specs.declared.slot_pair.SlotUse.{SlotUse}
-use Rattle.gabc_score.specs.declared.slot_pair.SlotUse.TheVariants.{Reads, Made, Lent}
+use Rattle.gabc_score.specs.declared.slot_pair.SlotUse.TheVariants.{Filling, Made, Lent}
 use Rattle.gabc_score.specs.Syllable.{closes}
 use Rattle.gabc_score.specs.machine.Gatherer.{Gathered, with_event}
 use Rattle.gabc_score.specs.machine.PartPushes.{ClosesLast}
@@ -23,22 +23,22 @@ module _ {O : Type 0} (tell : O → BodyEvent) (ts : List O) (i : ℕ) (d : O) (
   once_next : ClosesLast (map tell (drop i ts)) → ClosesLast (map tell (drop (i + 1) ts))
   once_next o = (both_close o).1
 
-  reads_next : (used : SlotUse) → used ≡ used_by (closes (tell (get_or ts i d))) → ClosesLast (map tell (drop i ts)) → i + 1 < length ts → used ≡ Reads
+  reads_next : (used : SlotUse) → used ≡ used_by (closes (tell (get_or ts i d))) → ClosesLast (map tell (drop i ts)) → i + 1 < length ts → used ≡ Filling
   reads_next used e o more = e ∙ by (closes (tell (get_or ts i d))) (both_close o).0
     where
-      by : (b : Bool) → (b ≡ true → map tell (drop (i + 1) ts) ≡ []) → used_by b ≡ Reads
+      by : (b : Bool) → (b ≡ true → map tell (drop (i + 1) ts) ≡ []) → used_by b ≡ Filling
       by true last = absurd (let none : 0 ≡ length ts - (i + 1) = sym (ap length (last refl)) ∙ length-map (drop (i + 1) ts) tell ∙ length-drop (i + 1) ts in omega (arith, none, more))
       by false last = refl
 
 never_lent : (used : SlotUse) (b : Bool) → used ≡ used_by b → used ≢ Lent
 never_lent used true e = λ f. absurd (let p : Made ≡ Lent = sym e ∙ f in cc p)
-never_lent used false e = λ f. absurd (let p : Reads ≡ Lent = sym e ∙ f in cc p)
+never_lent used false e = λ f. absurd (let p : Filling ≡ Lent = sym e ∙ f in cc p)
 
 -- what holds of the events behind the one that was added
 pub record IsNext {O : Type 0} (tell : O → BodyEvent) (ts : List O) (i : ℕ) (g : Gathered) (used : SlotUse) : Type 0 where
   pub fits : FitEach g (map tell (drop (i + 1) ts))
   pub once : ClosesLast (map tell (drop (i + 1) ts))
-  pub reads : i + 1 < length ts → used ≡ Reads
+  pub reads : i + 1 < length ts → used ≡ Filling
   pub used_is : used ≢ Lent
 
 pub is_next : {O : Type 0} (tell : O → BodyEvent) (ts : List O) (i : ℕ) (d : O) (g new : Gathered) (used : SlotUse) → i < length ts

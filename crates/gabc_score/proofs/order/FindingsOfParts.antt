@@ -149,11 +149,11 @@ pub record TextsLie : Type 0 where
   pub below : (at : Place) (t : List ℕ) → AllBelow (found_in (concat_of (events_by_point at t)))
 
 -- of snippets that are read so
-pub record SnippetsLie (says : List Char → List (List NoteEvent)) : Type 0 where
-  pub within : (at : Place) (prefix rest : List ℕ) → LieBetween at (place_past at prefix) (notes_found (concat_of (take (length prefix + 1) (says (placed_characters_from at (prefix ++ rest))))))
-  pub order : (at : Place) (t : List ℕ) → AreInOrder (notes_found (concat_of (says (placed_characters_from at t))))
-  pub last : (xs : List Char) → notes_found (concat_of (says xs)) ≡ notes_found (concat_of (take (length xs) (says xs)))
-  pub each : (xs : List Char) → length (says xs) ≡ length xs + 1
+pub record SnippetsLie (emits_at : List Char → List (List NoteEvent)) : Type 0 where
+  pub within : (at : Place) (prefix rest : List ℕ) → LieBetween at (place_past at prefix) (notes_found (concat_of (take (length prefix + 1) (emits_at (placed_characters_from at (prefix ++ rest))))))
+  pub order : (at : Place) (t : List ℕ) → AreInOrder (notes_found (concat_of (emits_at (placed_characters_from at t))))
+  pub last : (xs : List Char) → notes_found (concat_of (emits_at xs)) ≡ notes_found (concat_of (take (length xs) (emits_at xs)))
+  pub each : (xs : List Char) → length (emits_at xs) ≡ length xs + 1
 
 -- what is found through the end of a part whose first character stands at p, and behind which stands the place q
 pub record Lie (p q : Place) (fs : List Finding) : Type 0 where
@@ -236,11 +236,11 @@ module _ (lines macros : ℕ) (gabc : SnippetsLie (λ xs. notes.note_events (nat
       → LieLast p (place_past p cs) (found (concat_of (events_through (snippet_from lines macros line opened (placed_characters_from p cs)) (placed_characters_from p cs))))
   snippet_lies_last line opened p cs =
       let s = snippets line in
-      let says = snippet_emits lines macros line (placed_characters_from p cs) in
+      let emits_at = snippet_emits lines macros line (placed_characters_from p cs) in
       subst (LieLast p (place_past p cs))
-      (sym (snippet_through line opened says (placed_characters_from p cs)
+      (sym (snippet_through line opened emits_at (placed_characters_from p cs)
       ∙ ap (λ n. notes_found (concat_of (take n (snippet_emits lines macros line (placed_characters_from p cs))))) (through_is (length (placed_characters_from p cs)) (length (placed_characters_from p cs)) refl ∙ sym (s.each (placed_characters_from p cs)))
-      ∙ ap (λ ls. notes_found (concat_of ls)) (take-length says)
+      ∙ ap (λ ls. notes_found (concat_of ls)) (take-length emits_at)
       ∙ s.last (placed_characters_from p cs)
       ∙ ap (λ n. notes_found (concat_of (take n (snippet_emits lines macros line (placed_characters_from p cs))))) (length_placed p cs)))
       (by cs)
@@ -248,7 +248,7 @@ module _ (lines macros : ℕ) (gabc : SnippetsLie (λ xs. notes.note_events (nat
       ends_with : (ds prefix : List ℕ) (c : ℕ) → ds ≡ prefix ++ c ∷ [] → LieLast p (place_past p ds) (notes_found (concat_of (take (length ds) (snippet_emits lines macros line (placed_characters_from p ds)))))
       ends_with ds prefix c e =
           let s = snippets line in
-          let says = snippet_emits lines macros line (placed_characters_from p (prefix ++ c ∷ [])) in
+          let emits_at = snippet_emits lines macros line (placed_characters_from p (prefix ++ c ∷ [])) in
           let n : length (prefix ++ c ∷ []) ≡ length prefix + 1 = length-append prefix (c ∷ []) in
           let k : LieBetween p (place_past p prefix) (notes_found (concat_of (take (length prefix + 1) (snippet_emits lines macros line (placed_characters_from p (prefix ++ c ∷ [])))))) = s.within p prefix (c ∷ []) in
           rw (e, n) (record {

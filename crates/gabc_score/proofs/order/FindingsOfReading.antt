@@ -41,14 +41,14 @@ module _ (P : Finding → Type 0) (no_notes : (p : Place) → P (record { place 
   read_finds ending r i = by r.fault i.last
     where
       ended : (o : Option Fault) → events_onto r.last r.before ≡ events_onto ts [] → All P (result_by_fault fs at r.before (events_onto r.last r.before) o).findings
-      ended (Some fault) e = stopped_finds i.prefix i.more r.before (Some fault) i.all i.told
+      ended (Some fault) e = stopped_finds i.prefix i.more r.before (Some fault) i.all i.emitted
       ended None e = whole_finds (events_onto r.last r.before) e
 
       at_end : (how : InputEnding) → events_onto r.last r.before ≡ events_onto ts [] → All P (result_at_end limits head fs at how r.before (events_onto r.last r.before)).findings
       at_end Whole e = ended (fault_of_end limits head at (events_onto r.last r.before) (cut_of (events_onto r.last r.before))) e
-      at_end Broken e = stopped_finds i.prefix i.more r.before None i.all i.told
-      at_end (At fault) e = stopped_finds i.prefix i.more r.before (Some fault) i.all i.told
+      at_end Broken e = stopped_finds i.prefix i.more r.before None i.all i.emitted
+      at_end (At fault) e = stopped_finds i.prefix i.more r.before (Some fault) i.all i.emitted
 
       by : (o : Option Fault) → (o ≡ None → events_onto r.last r.before ≡ events_onto ts []) → All P (result_by limits head fs at ending r.before r.last o).findings
-      by (Some fault) e = stopped_finds i.prefix i.more r.before (Some fault) i.all i.told
+      by (Some fault) e = stopped_finds i.prefix i.more r.before (Some fault) i.all i.emitted
       by None e = at_end ending (e refl)

@@ -95,21 +95,21 @@ pub record IsFront (before : List BodyEvent) (ts : List BodyEvent) (r : EventsTo
   pub prefix : List BodyEvent
   pub more : List BodyEvent
   pub all : ts ≡ prefix ++ more
-  pub told : r.before ≡ events_onto prefix before
+  pub emitted : r.before ≡ events_onto prefix before
   pub last : r.fault ≡ None → events_onto r.last r.before ≡ events_onto ts before
 
 pub reached_prefix : (limits : Limits) (head : ℕ) (before : List BodyEvent) (xs : List Char) (lists : List (List BodyEvent)) → IsFront before (concat_of lists) (events_to_stop limits head before xs lists)
-reached_prefix limits head before [] lists = record { prefix = []; more = concat_of lists; all = refl; told = refl; last = λ e. refl }
-reached_prefix limits head before (x ∷ xs) [] = record { prefix = []; more = []; all = refl; told = refl; last = λ e. refl }
+reached_prefix limits head before [] lists = record { prefix = []; more = concat_of lists; all = refl; emitted = refl; last = λ e. refl }
+reached_prefix limits head before (x ∷ xs) [] = record { prefix = []; more = []; all = refl; emitted = refl; last = λ e. refl }
 reached_prefix limits head before (x ∷ xs) (now ∷ lists) = by (code_at limits head (events_onto now before)) (reached_prefix limits head (events_onto now before) xs lists)
   where
     by : (o : Option Code) → IsFront (events_onto now before) (concat_of lists) (events_to_stop limits head (events_onto now before) xs lists) → IsFront before (now ++ concat_of lists) (stopped_events o x.place before (events_to_stop limits head (events_onto now before) xs lists))
-    by (Some code) r = record { prefix = []; more = now ++ concat_of lists; all = refl; told = refl; last = λ e. absurd (cc) }
+    by (Some code) r = record { prefix = []; more = now ++ concat_of lists; all = refl; emitted = refl; last = λ e. absurd (cc) }
     by None r = record {
       prefix = now ++ r.prefix;
       more = r.more;
       all = ap (λ ts. now ++ ts) r.all ∙ sym (append_assoc now r.prefix r.more);
-      told = r.told ∙ sym (onto_append now r.prefix before);
+      emitted = r.emitted ∙ sym (onto_append now r.prefix before);
       last = λ e. r.last e ∙ sym (onto_append now (concat_of lists) before);
     }
 
@@ -139,28 +139,28 @@ module _ (limits : Limits) (head : ℕ) (fs : List Finding) (at q p : Place) (ts
       subst (λ gs. AreInOrder (fs ++ gs)) (sym (ap findings_of f ∙ found_onto prefix []))
       (order_append fs (found prefix) q p order up next (order_prefix (found prefix) (found more) (subst AreInOrder same all.order)) (from_prefix p (found prefix) (found more) (subst (AllFrom p) same all.from)))
 
-  whole_sorted : (told : List BodyEvent) → told ≡ events_onto ts [] → AreInOrder (result_whole fs at told).findings
-  whole_sorted told e =
-      let same : findings_of told ≡ found ts = ap findings_of e ∙ found_onto ts [] in
-      subst (λ gs. AreInOrder (fs ++ (gs ++ found_at_end at told))) (sym same)
-      (subst AreInOrder (append_assoc fs (found ts) (found_at_end at told))
-      (with_end at (fs ++ found ts) (has_last told) _ (order_append fs (found ts) q p order up next all.order all.from)
+  whole_sorted : (emitted : List BodyEvent) → emitted ≡ events_onto ts [] → AreInOrder (result_whole fs at emitted).findings
+  whole_sorted emitted e =
+      let same : findings_of emitted ≡ found ts = ap findings_of e ∙ found_onto ts [] in
+      subst (λ gs. AreInOrder (fs ++ (gs ++ found_at_end at emitted))) (sym same)
+      (subst AreInOrder (append_assoc fs (found ts) (found_at_end at emitted))
+      (with_end at (fs ++ found ts) (has_last emitted) _ (order_append fs (found ts) q p order up next all.order all.from)
       (before_append (no_notes at) fs (found ts) (all_before q (no_notes at) fs up (before_then q p at next end)) all.before)))
 
   read_sorted : (ending : InputEnding) (r : EventsToStop) → IsFront [] ts r → AreInOrder (result_by limits head fs at ending r.before r.last r.fault).findings
   read_sorted ending r i = by r.fault i.last
     where
       ended : (o : Option Fault) → events_onto r.last r.before ≡ events_onto ts [] → AreInOrder (result_by_fault fs at r.before (events_onto r.last r.before) o).findings
-      ended (Some fault) e = stopped_sorted i.prefix i.more r.before (Some fault) i.all i.told
+      ended (Some fault) e = stopped_sorted i.prefix i.more r.before (Some fault) i.all i.emitted
       ended None e = whole_sorted (events_onto r.last r.before) e
 
       at_end : (how : InputEnding) → events_onto r.last r.before ≡ events_onto ts [] → AreInOrder (result_at_end limits head fs at how r.before (events_onto r.last r.before)).findings
       at_end Whole e = ended (fault_of_end limits head at (events_onto r.last r.before) (cut_of (events_onto r.last r.before))) e
-      at_end Broken e = stopped_sorted i.prefix i.more r.before None i.all i.told
-      at_end (At fault) e = stopped_sorted i.prefix i.more r.before (Some fault) i.all i.told
+      at_end Broken e = stopped_sorted i.prefix i.more r.before None i.all i.emitted
+      at_end (At fault) e = stopped_sorted i.prefix i.more r.before (Some fault) i.all i.emitted
 
       by : (o : Option Fault) → (o ≡ None → events_onto r.last r.before ≡ events_onto ts []) → AreInOrder (result_by limits head fs at ending r.before r.last o).findings
-      by (Some fault) e = stopped_sorted i.prefix i.more r.before (Some fault) i.all i.told
+      by (Some fault) e = stopped_sorted i.prefix i.more r.before (Some fault) i.all i.emitted
       by None e = at_end ending (e refl)
 
 -- ---- the score

@@ -31,21 +31,21 @@ use Rattle.gabc_score.proofs.score_events.NothingBehindTheEnd.{Ends, silent, the
 -- ---- what is left ends at its first stop or end
 
 module _ (limits : Limits) where
-  end_ends : (s : HeldScore) (now : List BodyEvent) (fault : Option Fault) (outs : List ScoreOutput) → outs ≡ [] → Ends (end_outputs_by s now fault ++ outs)
-  end_ends s now (Some fault) outs e = last_ends [] (placed_behind s.given s.gathered.made) (Stop fault) outs e
-  end_ends s now None outs e = last_ends _ _ End outs e
+  end_ends : (s : HeldScore) (now : List BodyEvent) (fault : Option Fault) (outputs : List ScoreOutput) → outputs ≡ [] → Ends (end_outputs_by s now fault ++ outputs)
+  end_ends s now (Some fault) outputs e = last_ends [] (placed_behind s.has_lent s.gathered.made) (Stop fault) outputs e
+  end_ends s now None outputs e = last_ends _ _ End outputs e
 
   by_code : (code : Option Code) (s : HeldScore) (x : Char) (now : List BodyEvent) (xs : List HeadEvent) (later : List (List ScoreOutput)) → Ends (concat_of later) → Ends (concat_of (left_by code s x now xs later))
-  by_code (Some code) s x now xs later h = last_ends [] (placed_behind s.given s.gathered.made) (Stop (fault_at x.place code)) (concat_of (silence xs)) (joined_silence xs)
+  by_code (Some code) s x now xs later h = last_ends [] (placed_behind s.has_lent s.gathered.made) (Stop (fault_at x.place code)) (concat_of (silence xs)) (joined_silence xs)
   by_code None s x now xs later h = then_end (findings_now now) _ (concat_of later) h
 
   body_ends : (s : HeldScore) (lists : List (List BodyEvent)) (xs : List HeadEvent) → Ends (concat_of (body_left limits s lists xs))
-  body_ends s lists [] = then_end [] (placed_behind s.given s.gathered.made) [] tt
+  body_ends s lists [] = then_end [] (placed_behind s.has_lent s.gathered.made) [] tt
   body_ends s (now ∷ lists) (head_event.Body x ∷ xs) = by_code (code_in limits (with_all s.gathered now)) s x now xs _ (body_ends (score_past s x now) lists xs)
   body_ends s [] (head_event.Body x ∷ xs) = silent _ (joined_silence (head_event.Body x ∷ xs))
   body_ends s lists (head_event.End ∷ xs) =
       end_ends s (concat_of lists) (end_fault limits s.next (with_last (with_all s.gathered (concat_of lists)))) (concat_of (silence xs)) (joined_silence xs)
-  body_ends s lists (head_event.Stop fault ∷ xs) = last_ends [] (placed_behind s.given s.gathered.made) (Stop fault) (concat_of (silence xs)) (joined_silence xs)
+  body_ends s lists (head_event.Stop fault ∷ xs) = last_ends [] (placed_behind s.has_lent s.gathered.made) (Stop fault) (concat_of (silence xs)) (joined_silence xs)
   body_ends s lists (head_event.Found f ∷ xs) = (λ l. absurd (cc), body_ends s lists xs)
   body_ends s lists (head_event.Heads lines macros canonical ∷ xs) = body_ends s lists xs
 
@@ -63,7 +63,7 @@ module _ (limits : Limits) where
   left_ends score_part.Over s body xs = silent _ (joined_silence xs)
 
 pub machine_ends : (m : ScoreMachine) (xs : List HeadEvent) → Ends (concat_of (left_of (shown m) xs))
-machine_ends m xs = left_ends m.limits m.part (record { next = m.next; gathered = m.pair.gathered; given = m.given }) m.body xs
+machine_ends m xs = left_ends m.limits m.part (record { next = m.next; gathered = m.pair.gathered; has_lent = m.has_lent }) m.body xs
 
 -- ---- the same of events
 
@@ -71,43 +71,43 @@ both_empty : (a b : List ScoreOutput) → a ++ b ≡ [] → (a ≡ []) × (b ≡
 both_empty [] b e = (refl, e)
 both_empty (x ∷ a) b e = absurd (cc)
 
-last_event : (l : LentSyllable) (outs later : List ScoreOutput) (before behind : List ScoreEvent) (e : ScoreEvent) → Ends (outs ++ later) → events_lent l outs ≡ before ++ e ∷ behind → is_last_event e ≡ true
+last_event : (l : LentSyllable) (outputs later : List ScoreOutput) (before behind : List ScoreEvent) (e : ScoreEvent) → Ends (outputs ++ later) → events_lent l outputs ≡ before ++ e ∷ behind → is_last_event e ≡ true
     → (behind ≡ []) × (later ≡ [])
 last_event l [] later [] behind e h k t = absurd (cc)
 last_event l [] later (p ∷ before) behind e h k t = absurd (cc)
-last_event l (Found f ∷ outs) later [] behind e h k t = absurd (cc)
-last_event l (Found f ∷ outs) later (p ∷ before) behind e h k t = let r : events_lent l outs ≡ before ++ e ∷ behind = cc in last_event l outs later before behind e h.1 r t
-last_event l (Syllable s ∷ outs) later [] behind e h k t = absurd (cc)
-last_event l (Syllable s ∷ outs) later (p ∷ before) behind e h k t = let r : events_lent Second outs ≡ before ++ e ∷ behind = cc in last_event Second outs later before behind e h.1 r t
-last_event l (Stop fault ∷ outs) later [] behind e h k t =
-    let n = both_empty outs later (h.0 refl) in let r : events_lent l outs ≡ behind = cc in (sym r ∙ ap (events_lent l) n.0, n.1)
-last_event l (Stop fault ∷ outs) later (p ∷ before) behind e h k t = let r : events_lent l outs ≡ before ++ e ∷ behind = cc in last_event l outs later before behind e h.1 r t
-last_event l (End ∷ outs) later [] behind e h k t =
-    let n = both_empty outs later (h.0 refl) in let r : events_lent l outs ≡ behind = cc in (sym r ∙ ap (events_lent l) n.0, n.1)
-last_event l (End ∷ outs) later (p ∷ before) behind e h k t = let r : events_lent l outs ≡ before ++ e ∷ behind = cc in last_event l outs later before behind e h.1 r t
+last_event l (Found f ∷ outputs) later [] behind e h k t = absurd (cc)
+last_event l (Found f ∷ outputs) later (p ∷ before) behind e h k t = let r : events_lent l outputs ≡ before ++ e ∷ behind = cc in last_event l outputs later before behind e h.1 r t
+last_event l (Syllable s ∷ outputs) later [] behind e h k t = absurd (cc)
+last_event l (Syllable s ∷ outputs) later (p ∷ before) behind e h k t = let r : events_lent Second outputs ≡ before ++ e ∷ behind = cc in last_event Second outputs later before behind e h.1 r t
+last_event l (Stop fault ∷ outputs) later [] behind e h k t =
+    let n = both_empty outputs later (h.0 refl) in let r : events_lent l outputs ≡ behind = cc in (sym r ∙ ap (events_lent l) n.0, n.1)
+last_event l (Stop fault ∷ outputs) later (p ∷ before) behind e h k t = let r : events_lent l outputs ≡ before ++ e ∷ behind = cc in last_event l outputs later before behind e h.1 r t
+last_event l (End ∷ outputs) later [] behind e h k t =
+    let n = both_empty outputs later (h.0 refl) in let r : events_lent l outputs ≡ behind = cc in (sym r ∙ ap (events_lent l) n.0, n.1)
+last_event l (End ∷ outputs) later (p ∷ before) behind e h k t = let r : events_lent l outputs ≡ before ++ e ∷ behind = cc in last_event l outputs later before behind e h.1 r t
 
 -- no outputs are no events
-pub no_events : (lists : List (List ScoreOutput)) → concat_of lists ≡ [] → concat_of (map (λ outs. events_of outs) lists) ≡ []
+pub no_events : (lists : List (List ScoreOutput)) → concat_of lists ≡ [] → concat_of (map (λ outputs. events_of outputs) lists) ≡ []
 no_events [] e = refl
-no_events (outs ∷ lists) e = let n = both_empty outs (concat_of lists) e in ap (λ os. events_of os ++ concat_of (map (λ outs. events_of outs) lists)) n.0 ∙ no_events lists n.1
+no_events (outputs ∷ lists) e = let n = both_empty outputs (concat_of lists) e in ap (λ os. events_of os ++ concat_of (map (λ outputs. events_of outputs) lists)) n.0 ∙ no_events lists n.1
 
 added : (old new : BoundedList ScoreEvent) (xs ys : List ScoreEvent) → new ≡ extended_by old xs → new ≡ extended_by old ys → xs ≡ ys
 added old new xs ys e h = append_cancel_left old.items xs ys (ap (λ (r : BoundedList ScoreEvent). r.items) (sym e ∙ h))
 
-pub stops : (m : ScoreMachine) (x : HeadEvent) (outs : List ScoreOutput) (after : List HeadEvent → List (List ScoreOutput)) (old new : BoundedList ScoreEvent)
-    → ((xs : List HeadEvent) → left_of (shown m) (x ∷ xs) ≡ outs ∷ after xs) → new ≡ extended_by old (events_of outs)
-    → StopsAtEnd is_last_event (λ (xs : List HeadEvent). map (λ outs. events_of outs) (after xs)) old new
-stops m x outs after old new law e before behind o h t =
-    let events = added old new (events_of outs) (before ++ o ∷ behind) e h in
-    let each : (xs : List HeadEvent) → (behind ≡ []) × (concat_of (after xs) ≡ []) = λ xs. last_event First outs (concat_of (after xs)) before behind o (subst (λ lists. Ends (concat_of lists)) (law xs) (machine_ends m (x ∷ xs))) events t in
+pub stops : (m : ScoreMachine) (x : HeadEvent) (outputs : List ScoreOutput) (after : List HeadEvent → List (List ScoreOutput)) (old new : BoundedList ScoreEvent)
+    → ((xs : List HeadEvent) → left_of (shown m) (x ∷ xs) ≡ outputs ∷ after xs) → new ≡ extended_by old (events_of outputs)
+    → StopsAtEnd is_last_event (λ (xs : List HeadEvent). map (λ outputs. events_of outputs) (after xs)) old new
+stops m x outputs after old new law e before behind o h t =
+    let events = added old new (events_of outputs) (before ++ o ∷ behind) e h in
+    let each : (xs : List HeadEvent) → (behind ≡ []) × (concat_of (after xs) ≡ []) = λ xs. last_event First outputs (concat_of (after xs)) before behind o (subst (λ lists. Ends (concat_of lists)) (law xs) (machine_ends m (x ∷ xs))) events t in
     ((each []).0, λ xs. no_events (after xs) (each xs).1)
 
-pub stops_last : (m : ScoreMachine) (outs : List ScoreOutput) (after : List HeadEvent → List (List ScoreEvent)) (old new : BoundedList ScoreEvent)
-    → left_of (shown m) [] ≡ outs ∷ [] → new ≡ extended_by old (events_of outs) → EmitsNothing after → StopsAtEnd is_last_event after old new
-stops_last m outs after old new law e none before behind o h t =
-    let events = added old new (events_of outs) (before ++ o ∷ behind) e h in
-    ((last_event First outs [] before behind o (subst (λ lists. Ends (concat_of lists)) law (machine_ends m [])) events t).0, none)
+pub stops_last : (m : ScoreMachine) (outputs : List ScoreOutput) (after : List HeadEvent → List (List ScoreEvent)) (old new : BoundedList ScoreEvent)
+    → left_of (shown m) [] ≡ outputs ∷ [] → new ≡ extended_by old (events_of outputs) → EmitsNothing after → StopsAtEnd is_last_event after old new
+stops_last m outputs after old new law e none before behind o h t =
+    let events = added old new (events_of outputs) (before ++ o ∷ behind) e h in
+    ((last_event First outputs [] before behind o (subst (λ lists. Ends (concat_of lists)) law (machine_ends m [])) events t).0, none)
 
 -- behind its last event a machine gives nothing
-pub over_is_silent : (m : ScoreMachine) → m.part ≡ score_part.Over → EmitsNothing (λ (xs : List HeadEvent). map (λ outs. events_of outs) (left_of (shown m) xs))
+pub over_is_silent : (m : ScoreMachine) → m.part ≡ score_part.Over → EmitsNothing (λ (xs : List HeadEvent). map (λ outputs. events_of outputs) (left_of (shown m) xs))
 over_is_silent m e xs = no_events (left_of (shown m) xs) (ap (λ part. concat_of (outputs_left m.limits part (shown m).held m.body xs)) e ∙ joined_silence xs)

@@ -27,10 +27,10 @@ nothing_said found = record { syllables = []; findings = found; fault = None }
 
 -- ---- an input more
 
-pub collects_on : (r next total : BodyResult) (left after : List HeadEvent → List (List ScoreOutput)) (x : HeadEvent) (outs : List ScoreOutput) (xs : List HeadEvent)
-    → left (x ∷ xs) ≡ outs ∷ after xs → next ≡ result_with r outs → result_with r (concat_of (left (x ∷ xs))) ≡ total → result_with next (concat_of (after xs)) ≡ total
-collects_on r next total left after x outs xs law e h =
-    ap (λ s. result_with s (concat_of (after xs))) e ∙ with_more r outs (concat_of (after xs)) ∙ ap (λ lists. result_with r (concat_of lists)) (sym law) ∙ h
+pub collects_on : (r next total : BodyResult) (left after : List HeadEvent → List (List ScoreOutput)) (x : HeadEvent) (outputs : List ScoreOutput) (xs : List HeadEvent)
+    → left (x ∷ xs) ≡ outputs ∷ after xs → next ≡ result_with r outputs → result_with r (concat_of (left (x ∷ xs))) ≡ total → result_with next (concat_of (after xs)) ≡ total
+collects_on r next total left after x outputs xs law e h =
+    ap (λ s. result_with s (concat_of (after xs))) e ∙ with_more r outputs (concat_of (after xs)) ∙ ap (λ lists. result_with r (concat_of lists)) (sym law) ∙ h
 
 -- ---- counts
 
@@ -50,9 +50,9 @@ counts_below ending at (x ∷ cs) l c =
 -- ---- the whole body
 
 module _ (limits : Limits) (small : limits.syllable < 2 ^ 64 - 1) (low : limits.input < 2 ^ 64 - 1) (head : ℕ) (fits : head < 2 ^ 64) (found : List Finding) where
-  says_is : (ending : InputEnding) (outs : List ScoreOutput) (w : BodyResult) → Says (found ++ []) [] ending outs w → result_with (nothing_said found) outs ≡ w
-  says_is ending outs w s =
-      ap (λ (t : Said). record { syllables = t.syllables; findings = found ++ t.findings; fault = t.fault }) s.said
+  says_is : (ending : InputEnding) (outputs : List ScoreOutput) (w : BodyResult) → Says (found ++ []) [] ending outputs w → result_with (nothing_said found) outputs ≡ w
+  says_is ending outputs w s =
+      ap (λ (t : Said). record { syllables = t.syllables; findings = found ++ t.findings; fault = t.fault }) s.result_is
       ∙ ap (λ ss. record { syllables = ss; findings = found ++ s.findings; fault = w.fault }) (sym s.syllables)
       ∙ ap (λ fs. record { syllables = w.syllables; findings = fs; fault = w.fault }) (ap (λ fs. fs ++ s.findings) (sym (append-nil found)) ∙ sym s.all_findings)
 

@@ -24,12 +24,12 @@ use Rattle.gabc_score.proofs.score_events.GivenSyllables.{given_then}
 use Rattle.gabc_score.proofs.score_events.WhatOutputsSay.{said_by, said_before, said_of}
 
 -- The outputs say what a result does behind what was found, and behind the syllables that were given before.
-pub record Says (found : List Finding) (before : List UnplacedSyllable) (ending : InputEnding) (outs : List ScoreOutput) (w : BodyResult) : Type 0 where
+pub record Says (found : List Finding) (before : List UnplacedSyllable) (ending : InputEnding) (outputs : List ScoreOutput) (w : BodyResult) : Type 0 where
   pub later : List UnplacedSyllable
   pub syllables : w.syllables ≡ with_positions (before ++ later)
   pub findings : List Finding
   pub all_findings : w.findings ≡ found ++ findings
-  pub said : said_by outs ≡ record { findings = findings; syllables = not_given (length before) (before ++ later); fault = w.fault; ended = is_whole ending w.fault }
+  pub result_is : said_by outputs ≡ record { findings = findings; syllables = not_given (length before) (before ++ later); fault = w.fault; ended = is_whole ending w.fault }
 
 -- the place behind these characters
 abbrev pub end_place : Place → List Char → Place
@@ -41,7 +41,7 @@ module _ (limits : Limits) (head : ℕ) (found : List Finding) where
 
   said_stop : (before : List BodyEvent) (fault : Fault) (silent : List ScoreOutput) → silent ≡ []
       → said_by (outputs_at_stop before fault ++ silent) ≡ record { findings = []; syllables = not_given (count_made before) (all_syllables before); fault = Some fault; ended = false }
-  said_stop before fault silent e = ap (λ outs. said_by (outputs_at_stop before fault ++ outs)) e ∙ ap said_by (append-nil (outputs_at_stop before fault)) ∙ said_of [] (not_given (count_made before) (all_syllables before)) (Stop fault ∷ []) ∙ ap (λ ss. record { findings = []; syllables = ss; fault = Some fault; ended = false }) (append-nil (not_given (count_made before) (all_syllables before)))
+  said_stop before fault silent e = ap (λ outputs. said_by (outputs_at_stop before fault ++ outputs)) e ∙ ap said_by (append-nil (outputs_at_stop before fault)) ∙ said_of [] (not_given (count_made before) (all_syllables before)) (Stop fault ∷ []) ∙ ap (λ ss. record { findings = []; syllables = ss; fault = Some fault; ended = false }) (append-nil (not_given (count_made before) (all_syllables before)))
 
   no_end : (ending : InputEnding) (fault : Fault) → is_whole ending (Some fault) ≡ false
   no_end Whole fault = refl
@@ -55,7 +55,7 @@ module _ (limits : Limits) (head : ℕ) (found : List Finding) where
     syllables = ap with_positions (sym (append-nil (all_syllables before)));
     findings = [];
     all_findings = sym (append-nil (found ++ findings_of before));
-    said = said_stop before fault silent e
+    result_is = said_stop before fault silent e
         ∙ ap (λ ms. record { findings = []; syllables = not_given (count_made before) ms; fault = Some fault; ended = false }) (sym (append-nil (all_syllables before)))
         ∙ ap (λ b. record { findings = []; syllables = not_given (count_made before) (all_syllables before ++ []); fault = Some fault; ended = b }) (sym (no_end ending fault));
   }
@@ -71,7 +71,7 @@ module _ (limits : Limits) (head : ℕ) (found : List Finding) where
       → Says (found ++ findings_of before) (all_syllables before) Whole ((outputs_of (findings_now now ++ last) (not_given (count_made before) units) ++ End ∷ []) ++ [])
       (record { syllables = with_positions units; findings = found ++ (findings_of (events_onto now before) ++ last); fault = None })
   whole_says at before now last later units u =
-      let given : List PlacedSyllable = not_given (count_made before) units in
+      let lent : List PlacedSyllable = not_given (count_made before) units in
       record {
         later = later;
         syllables = ap with_positions u;
@@ -81,10 +81,10 @@ module _ (limits : Limits) (head : ℕ) (found : List Finding) where
             ∙ ap (λ fs. (found ++ fs) ++ last) (found_on before now)
             ∙ ap (λ fs. fs ++ last) (sym (append_assoc found (findings_of before) (findings_now now)))
             ∙ append_assoc (found ++ findings_of before) (findings_now now) last;
-        said = ap said_by (append-nil (outputs_of (findings_now now ++ last) given ++ End ∷ []))
-            ∙ said_of (findings_now now ++ last) given (End ∷ [])
-            ∙ ap (λ fs. record { findings = fs; syllables = given ++ []; fault = None; ended = true }) (append-nil (findings_now now ++ last))
-            ∙ ap (λ ss. record { findings = findings_now now ++ last; syllables = ss; fault = None; ended = true }) (append-nil given ∙ ap (not_given (count_made before)) u);
+        result_is = ap said_by (append-nil (outputs_of (findings_now now ++ last) lent ++ End ∷ []))
+            ∙ said_of (findings_now now ++ last) lent (End ∷ [])
+            ∙ ap (λ fs. record { findings = fs; syllables = lent ++ []; fault = None; ended = true }) (append-nil (findings_now now ++ last))
+            ∙ ap (λ ss. record { findings = findings_now now ++ last; syllables = ss; fault = None; ended = true }) (append-nil lent ∙ ap (not_given (count_made before)) u);
       }
 
   end_says : (at : Place) (before now : List BodyEvent) (fault : Option Fault)
@@ -101,17 +101,17 @@ module _ (limits : Limits) (head : ℕ) (found : List Finding) where
     syllables = ap with_positions (sym (append-nil (all_syllables before)));
     findings = [];
     all_findings = sym (append-nil (found ++ findings_of before));
-    said = said_of [] (not_given (count_made before) (all_syllables before)) []
+    result_is = said_of [] (not_given (count_made before) (all_syllables before)) []
         ∙ ap (λ ss. record { findings = []; syllables = ss; fault = None; ended = false }) (append-nil (not_given (count_made before) (all_syllables before)))
         ∙ ap (λ ms. record { findings = []; syllables = not_given (count_made before) ms; fault = None; ended = false }) (sym (append-nil (all_syllables before)));
   }
 
   -- ---- a character
 
-  says_on : (ending : InputEnding) (before now : List BodyEvent) (outs : List ScoreOutput) (w : BodyResult)
-      → Says (found ++ findings_of (events_onto now before)) (all_syllables (events_onto now before)) ending outs w
-      → Says (found ++ findings_of before) (all_syllables before) ending (outputs_at before now ++ outs) w
-  says_on ending before now outs w s =
+  says_on : (ending : InputEnding) (before now : List BodyEvent) (outputs : List ScoreOutput) (w : BodyResult)
+      → Says (found ++ findings_of (events_onto now before)) (all_syllables (events_onto now before)) ending outputs w
+      → Says (found ++ findings_of before) (all_syllables before) ending (outputs_at before now ++ outputs) w
+  says_on ending before now outputs w s =
       let m = made_after now before in
       let all : List UnplacedSyllable = all_syllables (events_onto now before) in
       record {
@@ -122,8 +122,8 @@ module _ (limits : Limits) (head : ℕ) (found : List Finding) where
             ∙ ap (λ fs. (found ++ fs) ++ s.findings) (found_on before now)
             ∙ ap (λ fs. fs ++ s.findings) (sym (append_assoc found (findings_of before) (findings_now now)))
             ∙ append_assoc (found ++ findings_of before) (findings_now now) s.findings;
-        said = said_of (findings_now now) (given_now (count_made before) all) outs
-            ∙ ap (said_before (findings_now now) (given_now (count_made before) all)) s.said
+        result_is = said_of (findings_now now) (given_now (count_made before) all) outputs
+            ∙ ap (said_before (findings_now now) (given_now (count_made before) all)) s.result_is
             ∙ ap (λ ss. record { findings = findings_now now ++ s.findings; syllables = ss; fault = w.fault; ended = is_whole ending w.fault })
             (given_then (all_syllables before) m.0 s.later all m.1);
       }

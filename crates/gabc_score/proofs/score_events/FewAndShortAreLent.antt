@@ -159,14 +159,14 @@ lends_these limits most fs ss tail none few within =
     record { few = let n = ap length e in omega (arith, n, few); within = subst (All (IsWithin limits)) (sym e) within }
 
 -- no more are given than that number
-pub few_given : (n : ℕ) (first second : PlacedSyllable) (ss : List PlacedSyllable) → take n (first ∷ second ∷ []) ≡ ss → length ss ≤ n
-few_given n first second ss e = let h = length-take n (first ∷ second ∷ []) in let k = ap length e in grind (arith, nat_tests)
+pub few_lent : (n : ℕ) (first second : PlacedSyllable) (ss : List PlacedSyllable) → take n (first ∷ second ∷ []) ≡ ss → length ss ≤ n
+few_lent n first second ss e = let h = length-take n (first ∷ second ∷ []) in let k = ap length e in grind (arith, nat_tests)
 
 -- a syllable that was held is short
-pub held_lends : (limits : Limits) (most : ℕ) (given : Bool) (held made : List UnplacedSyllable) (tail : List ScoreOutput) → syllables_in tail ≡ [] → held ≡ made → All (IsShort limits.syllable) made
-    → length (placed_behind given held) ≤ 1 → 1 ≤ most → Lends limits most (outputs_of [] (placed_behind given held) ++ tail)
-held_lends limits most given held made tail none e short few one =
-    lends_these limits most [] (placed_behind given held) tail none (omega (arith, few, one)) (placed_within limits (not given) held (subst (All (IsShort limits.syllable)) (sym e) short))
+pub held_lends : (limits : Limits) (most : ℕ) (has_lent : Bool) (held made : List UnplacedSyllable) (tail : List ScoreOutput) → syllables_in tail ≡ [] → held ≡ made → All (IsShort limits.syllable) made
+    → length (placed_behind has_lent held) ≤ 1 → 1 ≤ most → Lends limits most (outputs_of [] (placed_behind has_lent held) ++ tail)
+held_lends limits most has_lent held made tail none e short few one =
+    lends_these limits most [] (placed_behind has_lent held) tail none (omega (arith, few, one)) (placed_within limits (not has_lent) held (subst (All (IsShort limits.syllable)) (sym e) short))
 
 -- at an end without a fault no limit is passed
 pub no_code : (limits : Limits) (at : Place) (g : Gathered) → end_fault limits at g ≡ None → code_in limits g ≡ None
@@ -181,5 +181,5 @@ no_code limits at g h = by g.cut refl h
         none (Some code) h = absurd (cc h)
 
 -- nothing is lent
-pub lends_none : (limits : Limits) (most : ℕ) (outs : List ScoreOutput) → syllables_in outs ≡ [] → Lends limits most outs
-lends_none limits most outs e = record { few = let n = ap length e in omega (arith, n); within = subst (All (IsWithin limits)) (sym e) (All-nil (IsWithin limits)) }
+pub lends_none : (limits : Limits) (most : ℕ) (outputs : List ScoreOutput) → syllables_in outputs ≡ [] → Lends limits most outputs
+lends_none limits most outputs e = record { few = let n = ap length e in omega (arith, n); within = subst (All (IsWithin limits)) (sym e) (All-nil (IsWithin limits)) }

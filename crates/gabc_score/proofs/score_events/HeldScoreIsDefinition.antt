@@ -39,7 +39,7 @@ module _ (limits : Limits) (head : ℕ) (small : limits.syllable < 2 ^ 64 - 1) (
   holding at before = record {
     next = at;
     gathered = without (count_made before - 1) (gathered limits.syllable head before);
-    given = nat_lt 1 (count_made before);
+    has_lent = nat_lt 1 (count_made before);
   }
 
   module _ (before now : List BodyEvent) where
@@ -65,14 +65,14 @@ module _ (limits : Limits) (head : ℕ) (small : limits.syllable < 2 ^ 64 - 1) (
 
     past_is : (at : Place) (x : Char) → score_past (holding at before) x now ≡ holding (place_after_char x.place x.c) all
     past_is at x =
-        ap (λ (g : Gathered). record { next = place_after_char x.place x.c; gathered = with_held g; given = nat_lt 1 (count_made before) || nat_lt 1 (length g.made) }) now_is
+        ap (λ (g : Gathered). record { next = place_after_char x.place x.c; gathered = with_held g; has_lent = nat_lt 1 (count_made before) || nat_lt 1 (length g.made) }) now_is
         ∙ ap (λ (ms : List UnplacedSyllable). record {
           next = place_after_char x.place x.c;
           gathered = record (gathered limits.syllable head all) { made = ms };
-          given = nat_lt 1 (count_made before) || nat_lt 1 (length (drop k (all_syllables all)));
+          has_lent = nat_lt 1 (count_made before) || nat_lt 1 (length (drop k (all_syllables all)));
         })
         (held_then (count_made before) (count_made all) (all_syllables all) refl (made_grows before now))
-        ∙ ap (λ b. record { next = place_after_char x.place x.c; gathered = without (count_made all - 1) (gathered limits.syllable head all); given = b })
+        ∙ ap (λ b. record { next = place_after_char x.place x.c; gathered = without (count_made all - 1) (gathered limits.syllable head all); has_lent = b })
         (given_then_is (count_made before) (count_made all) (length (drop k (all_syllables all))) (length-drop k (all_syllables all)) (made_grows before now))
 
     abbrev last_of : Gathered → Gathered
@@ -95,7 +95,7 @@ module _ (limits : Limits) (head : ℕ) (small : limits.syllable < 2 ^ 64 - 1) (
     held_is at = ap (outputs_of []) (placed_rest (count_made before) (all_syllables before))
 
     stop_is : (at : Place) (fault : Fault) → stop_outputs (holding at before) fault ≡ outputs_at_stop before fault
-    stop_is at fault = ap (λ outs. outs ++ Stop fault ∷ []) (held_is at)
+    stop_is at fault = ap (λ outputs. outputs ++ Stop fault ∷ []) (held_is at)
 
     abbrev end_from : Place → ViewContent → Gathered → List ScoreOutput
     end_from at view g = outputs_of (findings_now now ++ end_findings at (has_text view) (g.eu || g.nlba)) (placed_behind (nat_lt 1 (count_made before)) g.made) ++ End ∷ []
@@ -114,8 +114,8 @@ module _ (limits : Limits) (head : ℕ) (small : limits.syllable < 2 ^ 64 - 1) (
 
   by_code : (at : Place) (before now : List BodyEvent) (x : Char) (xs : List HeadEvent) (left later : List (List ScoreOutput)) → left ≡ later → (code : Option Code)
       → left_by code (holding at before) x now xs left ≡ outputs_by code x before now xs later
-  by_code at before now x xs left later e (Some code) = ap (λ outs. outs ∷ silence xs) (stop_is before now at (fault_at x.place code))
-  by_code at before now x xs left later e None = ap (λ outs. outs ∷ left) (point_is before now at) ∙ ap (λ lists. outputs_at before now ∷ lists) e
+  by_code at before now x xs left later e (Some code) = ap (λ outputs. outputs ∷ silence xs) (stop_is before now at (fault_at x.place code))
+  by_code at before now x xs left later e None = ap (λ outputs. outputs ∷ left) (point_is before now at) ∙ ap (λ lists. outputs_at before now ∷ lists) e
 
   -- the place behind a character, where no count reaches its last value
   abbrev bounded_place : Char → Bool → Place
@@ -134,17 +134,17 @@ module _ (limits : Limits) (head : ℕ) (small : limits.syllable < 2 ^ 64 - 1) (
   -- what it will still emit
   pub left_is : (at : Place) (before : List BodyEvent) (lists : List (List BodyEvent)) (xs : List HeadEvent) → AreCountsBelow xs
       → body_left limits (holding at before) lists xs ≡ body_outputs limits head at before lists xs
-  left_is at before lists [] p = ap (λ outs. outs ∷ []) (held_is before [] at)
+  left_is at before lists [] p = ap (λ outputs. outputs ∷ []) (held_is before [] at)
   left_is at before (now ∷ lists) (head_event.Body x ∷ xs) p =
       ap (λ s. left_by (code_in limits (with_all (holding at before).gathered now)) (holding at before) x now xs (body_left limits s lists xs)) (past_is before now at x)
       ∙ ap (λ place. left_by (code_in limits (with_all (holding at before).gathered now)) (holding at before) x now xs (body_left limits (holding place (events_onto now before)) lists xs)) (next_is x p.0)
       ∙ ap (λ code. left_by code (holding at before) x now xs (body_left limits (holding (next_place x.place x.c) (events_onto now before)) lists xs)) (code_here before now at)
       ∙ by_code at before now x xs _ _ (left_is (next_place x.place x.c) (events_onto now before) lists xs p.1) (code_at limits head (events_onto now before))
   left_is at before [] (head_event.Body x ∷ xs) p = refl
-  left_is at before lists (head_event.End ∷ xs) p = ap (λ outs. outs ∷ silence xs) (end_is before (concat_of lists) at)
-  left_is at before lists (head_event.Stop fault ∷ xs) p = ap (λ outs. outs ∷ silence xs) (stop_is before [] at fault)
-  left_is at before lists (head_event.Found f ∷ xs) p = ap (λ outs. (Found f ∷ []) ∷ outs) (left_is at before lists xs p)
-  left_is at before lists (head_event.Heads lines macros canonical ∷ xs) p = ap (λ outs. [] ∷ outs) (left_is at before lists xs p.1)
+  left_is at before lists (head_event.End ∷ xs) p = ap (λ outputs. outputs ∷ silence xs) (end_is before (concat_of lists) at)
+  left_is at before lists (head_event.Stop fault ∷ xs) p = ap (λ outputs. outputs ∷ silence xs) (stop_is before [] at fault)
+  left_is at before lists (head_event.Found f ∷ xs) p = ap (λ outputs. (Found f ∷ []) ∷ outputs) (left_is at before lists xs p)
+  left_is at before lists (head_event.Heads lines macros canonical ∷ xs) p = ap (λ outputs. [] ∷ outputs) (left_is at before lists xs p.1)
 
 -- ---- from the first event on
 
@@ -159,8 +159,8 @@ score_is limits small low [] p = refl
 score_is limits small low (head_event.Heads lines macros canonical ∷ xs) p =
     let lists = events_from texts_by_stage lines macros InComment (characters_in xs) in
     ap (λ s. [] ∷ body_left limits s lists xs) (holds_nothing limits canonical small low first_place (let h = p.0 in omega (arith, h)))
-    ∙ ap (λ outs. [] ∷ outs) (left_is limits canonical small low first_place [] lists xs p.1)
-score_is limits small low (head_event.Found f ∷ xs) p = ap (λ outs. (Found f ∷ []) ∷ outs) (score_is limits small low xs p)
+    ∙ ap (λ outputs. [] ∷ outputs) (left_is limits canonical small low first_place [] lists xs p.1)
+score_is limits small low (head_event.Found f ∷ xs) p = ap (λ outputs. (Found f ∷ []) ∷ outputs) (score_is limits small low xs p)
 score_is limits small low (head_event.Stop fault ∷ xs) p = refl
 score_is limits small low (head_event.End ∷ xs) p = refl
-score_is limits small low (head_event.Body x ∷ xs) p = ap (λ outs. [] ∷ outs) (score_is limits small low xs p.1)
+score_is limits small low (head_event.Body x ∷ xs) p = ap (λ outputs. [] ∷ outputs) (score_is limits small low xs p.1)

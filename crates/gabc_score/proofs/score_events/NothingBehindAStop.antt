@@ -13,11 +13,11 @@ use Rattle.gabc_score.specs.ScoreEvents.{ScoreOutput, Stop}
 use Rattle.gabc_score.specs.ScoreStage.{ScoreStageState, left_of}
 use Rattle.gabc_score.specs.machine.ScoreStage.{HeldScore, outputs_left, stop_outputs}
 
-by_part : (limits : Limits) (part : ScorePart) (s : HeldScore) (body : BodyStageState) (fault : Fault) (given : List HeadEvent)
-    → concat_of (outputs_left limits part s body (head_event.Stop fault ∷ given)) ≡ concat_of (outputs_left limits part s body (head_event.Stop fault ∷ []))
-by_part limits score_part.Heads s body fault given = ap (λ (more : List ScoreOutput). Stop fault ∷ more) (joined_silence {O = ScoreOutput} given)
-by_part limits score_part.Body s body fault given = ap (λ (more : List ScoreOutput). stop_outputs s fault ++ more) (joined_silence {O = ScoreOutput} given)
-by_part limits score_part.Over s body fault given = joined_silence {O = ScoreOutput} given
+by_part : (limits : Limits) (part : ScorePart) (s : HeldScore) (body : BodyStageState) (fault : Fault) (later : List HeadEvent)
+    → concat_of (outputs_left limits part s body (head_event.Stop fault ∷ later)) ≡ concat_of (outputs_left limits part s body (head_event.Stop fault ∷ []))
+by_part limits score_part.Heads s body fault later = ap (λ (more : List ScoreOutput). Stop fault ∷ more) (joined_silence {O = ScoreOutput} later)
+by_part limits score_part.Body s body fault later = ap (λ (more : List ScoreOutput). stop_outputs s fault ++ more) (joined_silence {O = ScoreOutput} later)
+by_part limits score_part.Over s body fault later = joined_silence {O = ScoreOutput} later
 
-pub nothing_behind : (s : ScoreStageState) (fault : Fault) (given : List HeadEvent) → concat_of (left_of s (head_event.Stop fault ∷ given)) ≡ concat_of (left_of s (head_event.Stop fault ∷ []))
-nothing_behind s fault given = by_part s.limits s.part s.held s.body fault given
+pub nothing_behind : (s : ScoreStageState) (fault : Fault) (later : List HeadEvent) → concat_of (left_of s (head_event.Stop fault ∷ later)) ≡ concat_of (left_of s (head_event.Stop fault ∷ []))
+nothing_behind s fault later = by_part s.limits s.part s.held s.body fault later

@@ -20,31 +20,31 @@ use Rattle.gabc_score.specs.ScoreEvents.{ScoreOutput, Found, Stop, Syllable, End
 -- behind the first stop or end among these nothing stands
 abbrev pub Ends : List ScoreOutput → Type 0
 Ends [] = Unit {0}
-Ends (o ∷ outs) = (is_last o ≡ true → outs ≡ []) × Ends outs
+Ends (o ∷ outputs) = (is_last o ≡ true → outputs ≡ []) × Ends outputs
 
-pub silent : (outs : List ScoreOutput) → outs ≡ [] → Ends outs
-silent outs e = subst Ends (sym e) tt
+pub silent : (outputs : List ScoreOutput) → outputs ≡ [] → Ends outputs
+silent outputs e = subst Ends (sym e) tt
 
-found_ends : (fs : List Finding) (outs : List ScoreOutput) → Ends outs → Ends (map (λ f. Found f) fs ++ outs)
-found_ends [] outs h = h
-found_ends (f ∷ fs) outs h = (λ l. absurd (cc), found_ends fs outs h)
+found_ends : (fs : List Finding) (outputs : List ScoreOutput) → Ends outputs → Ends (map (λ f. Found f) fs ++ outputs)
+found_ends [] outputs h = h
+found_ends (f ∷ fs) outputs h = (λ l. absurd (cc), found_ends fs outputs h)
 
-given_end : (ss : List PlacedSyllable) (outs : List ScoreOutput) → Ends outs → Ends (map (λ s. Syllable s) ss ++ outs)
-given_end [] outs h = h
-given_end (s ∷ ss) outs h = (λ l. absurd (cc), given_end ss outs h)
+given_end : (ss : List PlacedSyllable) (outputs : List ScoreOutput) → Ends outputs → Ends (map (λ s. Syllable s) ss ++ outputs)
+given_end [] outputs h = h
+given_end (s ∷ ss) outputs h = (λ l. absurd (cc), given_end ss outputs h)
 
 -- what comes behind findings and syllables
-pub then_end : (fs : List Finding) (ss : List PlacedSyllable) (outs : List ScoreOutput) → Ends outs → Ends (outputs_of fs ss ++ outs)
-then_end fs ss outs h = subst Ends (sym (append_assoc (map (λ f. Found f) fs) (map (λ s. Syllable s) ss) outs)) (found_ends fs (map (λ s. Syllable s) ss ++ outs) (given_end ss outs h))
+pub then_end : (fs : List Finding) (ss : List PlacedSyllable) (outputs : List ScoreOutput) → Ends outputs → Ends (outputs_of fs ss ++ outputs)
+then_end fs ss outputs h = subst Ends (sym (append_assoc (map (λ f. Found f) fs) (map (λ s. Syllable s) ss) outputs)) (found_ends fs (map (λ s. Syllable s) ss ++ outputs) (given_end ss outputs h))
 
-pub last_ends : (fs : List Finding) (ss : List PlacedSyllable) (o : ScoreOutput) (outs : List ScoreOutput) → outs ≡ [] → Ends ((outputs_of fs ss ++ o ∷ []) ++ outs)
-last_ends fs ss o outs e = subst Ends (sym (append_assoc (outputs_of fs ss) (o ∷ []) outs)) (then_end fs ss (o ∷ outs) (λ l. e, silent outs e))
+pub last_ends : (fs : List Finding) (ss : List PlacedSyllable) (o : ScoreOutput) (outputs : List ScoreOutput) → outputs ≡ [] → Ends ((outputs_of fs ss ++ o ∷ []) ++ outputs)
+last_ends fs ss o outputs e = subst Ends (sym (append_assoc (outputs_of fs ss) (o ∷ []) outputs)) (then_end fs ss (o ∷ outputs) (λ l. e, silent outputs e))
 
 module _ (limits : Limits) (head : ℕ) where
-  end_ends : (at : Place) (before now : List BodyEvent) (fault : Option Fault) (outs : List ScoreOutput) → outs ≡ [] → Ends (outputs_at_end at before now fault ++ outs)
-  end_ends at before now (Some fault) outs e = last_ends [] (not_given (count_made before) (all_syllables before)) (Stop fault) outs e
-  end_ends at before now None outs e =
-      last_ends (findings_now now ++ found_at_end at (events_onto now before)) (not_given (count_made before) (all_units (events_onto now before))) End outs e
+  end_ends : (at : Place) (before now : List BodyEvent) (fault : Option Fault) (outputs : List ScoreOutput) → outputs ≡ [] → Ends (outputs_at_end at before now fault ++ outputs)
+  end_ends at before now (Some fault) outputs e = last_ends [] (not_given (count_made before) (all_syllables before)) (Stop fault) outputs e
+  end_ends at before now None outputs e =
+      last_ends (findings_now now ++ found_at_end at (events_onto now before)) (not_given (count_made before) (all_units (events_onto now before))) End outputs e
 
   by_code : (code : Option Code) (x : Char) (before now : List BodyEvent) (xs : List HeadEvent) (later : List (List ScoreOutput)) → Ends (concat_of later) → Ends (concat_of (outputs_by code x before now xs later))
   by_code (Some code) x before now xs later h = last_ends [] (not_given (count_made before) (all_syllables before)) (Stop (fault_at x.place code)) (concat_of (silence xs)) (joined_silence xs)
@@ -69,11 +69,11 @@ score_ends texts limits (head_event.Stop fault ∷ xs) = (λ l. joined_silence x
 score_ends texts limits (head_event.End ∷ xs) = (λ l. joined_silence xs, silent _ (joined_silence xs))
 score_ends texts limits (head_event.Body x ∷ xs) = score_ends texts limits xs
 
-nothing_behind : (outs before behind : List ScoreOutput) (o : ScoreOutput) → Ends outs → outs ≡ before ++ o ∷ behind → is_last o ≡ true → behind ≡ []
+nothing_behind : (outputs before behind : List ScoreOutput) (o : ScoreOutput) → Ends outputs → outputs ≡ before ++ o ∷ behind → is_last o ≡ true → behind ≡ []
 nothing_behind [] [] behind o h e l = absurd (cc)
 nothing_behind [] (p ∷ before) behind o h e l = absurd (cc)
-nothing_behind (q ∷ outs) [] behind o h e l = let i : (q ≡ o) × (outs ≡ behind) = (cc, cc) in sym i.1 ∙ h.0 (ap is_last i.0 ∙ l)
-nothing_behind (q ∷ outs) (p ∷ before) behind o h e l = let t : outs ≡ before ++ o ∷ behind = cc in nothing_behind outs before behind o h.1 t l
+nothing_behind (q ∷ outputs) [] behind o h e l = let i : (q ≡ o) × (outputs ≡ behind) = (cc, cc) in sym i.1 ∙ h.0 (ap is_last i.0 ∙ l)
+nothing_behind (q ∷ outputs) (p ∷ before) behind o h e l = let t : outputs ≡ before ++ o ∷ behind = cc in nothing_behind outputs before behind o h.1 t l
 
 pub nothing_follows : (texts : Texts) (limits : Limits) (xs : List HeadEvent) (before behind : List ScoreOutput) (o : ScoreOutput)
     → concat_of (score_outputs texts limits xs) ≡ before ++ o ∷ behind → is_last o ≡ true → behind ≡ []

@@ -70,28 +70,28 @@ module _ (first second : PlacedSyllable) where
   none_of zero = refl
   none_of (suc n) = refl
 
-  collected_from : (l : LentSyllable) (ahead : List PlacedSyllable) (outs : List ScoreOutput) (n : ℕ) → AreAhead l ahead → syllables_in outs ≡ take n ahead → (r : BodyResult)
-      → result_past_all first second r (events_lent l outs) ≡ result_with r outs
+  collected_from : (l : LentSyllable) (ahead : List PlacedSyllable) (outputs : List ScoreOutput) (n : ℕ) → AreAhead l ahead → syllables_in outputs ≡ take n ahead → (r : BodyResult)
+      → result_past_all first second r (events_lent l outputs) ≡ result_with r outputs
   collected_from l ahead [] n h e r = sym (with_none r)
-  collected_from l ahead (Found f ∷ outs) n h e r = collected_from l ahead outs n h e (record r { findings = r.findings ++ f ∷ [] }) ∙ ap (λ fs. record { syllables = r.syllables ++ syllables_in outs; findings = fs; fault = fault_then r.fault (fault_in outs) }) (append_assoc r.findings (f ∷ []) (findings_in outs))
-  collected_from l ahead (Stop f ∷ outs) n h e r = collected_from l ahead outs n h e (record r { fault = fault_then r.fault (Some f) }) ∙ ap (λ o. record { syllables = r.syllables ++ syllables_in outs; findings = r.findings ++ findings_in outs; fault = o }) (then_assoc r.fault (Some f) (fault_in outs))
-  collected_from l ahead (End ∷ outs) n h e r = collected_from l ahead outs n h e r
-  collected_from First ahead (Syllable s ∷ outs) zero h e r = absurd (cc)
-  collected_from First ahead (Syllable s ∷ outs) (suc n) h e r =
-      let k : s ∷ syllables_in outs ≡ first ∷ take n (second ∷ []) = e ∙ ap (take (suc n)) h in
-      let i : (s ≡ first) × (syllables_in outs ≡ take n (second ∷ [])) = (cc, cc) in
-      collected_from Second (second ∷ []) outs n (inl refl) i.1 (record r { syllables = r.syllables ++ first ∷ [] })
-      ∙ ap (λ ss. record { syllables = ss; findings = r.findings ++ findings_in outs; fault = fault_then r.fault (fault_in outs) }) (append_assoc r.syllables (first ∷ []) (syllables_in outs) ∙ ap (λ t. r.syllables ++ t ∷ syllables_in outs) (sym i.0))
-  collected_from Second ahead (Syllable s ∷ outs) zero h e r = absurd (cc)
-  collected_from Second ahead (Syllable s ∷ outs) (suc n) (inr h) e r = absurd (let k : s ∷ syllables_in outs ≡ [] = e ∙ ap (take (suc n)) h in cc)
-  collected_from Second ahead (Syllable s ∷ outs) (suc n) (inl h) e r =
-      let k : s ∷ syllables_in outs ≡ second ∷ take n [] = e ∙ ap (take (suc n)) h in
-      let i : (s ≡ second) × (syllables_in outs ≡ take n []) = (cc, cc) in
-      collected_from Second [] outs zero (inr refl) (i.1 ∙ none_of n) (record r { syllables = r.syllables ++ second ∷ [] })
-      ∙ ap (λ ss. record { syllables = ss; findings = r.findings ++ findings_in outs; fault = fault_then r.fault (fault_in outs) }) (append_assoc r.syllables (second ∷ []) (syllables_in outs) ∙ ap (λ t. r.syllables ++ t ∷ syllables_in outs) (sym i.0))
+  collected_from l ahead (Found f ∷ outputs) n h e r = collected_from l ahead outputs n h e (record r { findings = r.findings ++ f ∷ [] }) ∙ ap (λ fs. record { syllables = r.syllables ++ syllables_in outputs; findings = fs; fault = fault_then r.fault (fault_in outputs) }) (append_assoc r.findings (f ∷ []) (findings_in outputs))
+  collected_from l ahead (Stop f ∷ outputs) n h e r = collected_from l ahead outputs n h e (record r { fault = fault_then r.fault (Some f) }) ∙ ap (λ o. record { syllables = r.syllables ++ syllables_in outputs; findings = r.findings ++ findings_in outputs; fault = o }) (then_assoc r.fault (Some f) (fault_in outputs))
+  collected_from l ahead (End ∷ outputs) n h e r = collected_from l ahead outputs n h e r
+  collected_from First ahead (Syllable s ∷ outputs) zero h e r = absurd (cc)
+  collected_from First ahead (Syllable s ∷ outputs) (suc n) h e r =
+      let k : s ∷ syllables_in outputs ≡ first ∷ take n (second ∷ []) = e ∙ ap (take (suc n)) h in
+      let i : (s ≡ first) × (syllables_in outputs ≡ take n (second ∷ [])) = (cc, cc) in
+      collected_from Second (second ∷ []) outputs n (inl refl) i.1 (record r { syllables = r.syllables ++ first ∷ [] })
+      ∙ ap (λ ss. record { syllables = ss; findings = r.findings ++ findings_in outputs; fault = fault_then r.fault (fault_in outputs) }) (append_assoc r.syllables (first ∷ []) (syllables_in outputs) ∙ ap (λ t. r.syllables ++ t ∷ syllables_in outputs) (sym i.0))
+  collected_from Second ahead (Syllable s ∷ outputs) zero h e r = absurd (cc)
+  collected_from Second ahead (Syllable s ∷ outputs) (suc n) (inr h) e r = absurd (let k : s ∷ syllables_in outputs ≡ [] = e ∙ ap (take (suc n)) h in cc)
+  collected_from Second ahead (Syllable s ∷ outputs) (suc n) (inl h) e r =
+      let k : s ∷ syllables_in outputs ≡ second ∷ take n [] = e ∙ ap (take (suc n)) h in
+      let i : (s ≡ second) × (syllables_in outputs ≡ take n []) = (cc, cc) in
+      collected_from Second [] outputs zero (inr refl) (i.1 ∙ none_of n) (record r { syllables = r.syllables ++ second ∷ [] })
+      ∙ ap (λ ss. record { syllables = ss; findings = r.findings ++ findings_in outputs; fault = fault_then r.fault (fault_in outputs) }) (append_assoc r.syllables (second ∷ []) (syllables_in outputs) ∙ ap (λ t. r.syllables ++ t ∷ syllables_in outputs) (sym i.0))
 
-  pub collected : (r : BodyResult) (outs : List ScoreOutput) → syllables_in outs ≡ take (length (syllables_in outs)) (first ∷ second ∷ []) → result_past_all first second r (events_of outs) ≡ result_with r outs
-  collected r outs e = collected_from First (first ∷ second ∷ []) outs (length (syllables_in outs)) refl e r
+  pub collected : (r : BodyResult) (outputs : List ScoreOutput) → syllables_in outputs ≡ take (length (syllables_in outputs)) (first ∷ second ∷ []) → result_past_all first second r (events_of outputs) ≡ result_with r outputs
+  collected r outputs e = collected_from First (first ∷ second ∷ []) outputs (length (syllables_in outputs)) refl e r
 
   past_append : (r : BodyResult) (xs ys : List ScoreEvent) → result_past_all first second r (xs ++ ys) ≡ result_past_all first second (result_past_all first second r xs) ys
   past_append r [] ys = refl

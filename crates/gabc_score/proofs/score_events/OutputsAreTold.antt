@@ -15,13 +15,13 @@ use Rattle.gabc_score.specs.machine.SlotPair.{lent_of}
 abbrev pub found_events : List Finding → List ScoreEvent
 found_events fs = map (λ (f : Finding). event.Found f) fs
 
-found_lent : (l : LentSyllable) (fs : List Finding) (outs : List ScoreOutput) → events_lent l (map (λ f. Found f) fs ++ outs) ≡ found_events fs ++ events_lent l outs
-found_lent l [] outs = refl
-found_lent l (f ∷ fs) outs = ap (λ es. event.Found f ∷ es) (found_lent l fs outs)
+found_lent : (l : LentSyllable) (fs : List Finding) (outputs : List ScoreOutput) → events_lent l (map (λ f. Found f) fs ++ outputs) ≡ found_events fs ++ events_lent l outputs
+found_lent l [] outputs = refl
+found_lent l (f ∷ fs) outputs = ap (λ es. event.Found f ∷ es) (found_lent l fs outputs)
 
-pub found_syllables : (fs : List Finding) (outs : List ScoreOutput) → syllables_in (map (λ f. Found f) fs ++ outs) ≡ syllables_in outs
-found_syllables [] outs = refl
-found_syllables (f ∷ fs) outs = found_syllables fs outs
+pub found_syllables : (fs : List Finding) (outputs : List ScoreOutput) → syllables_in (map (λ f. Found f) fs ++ outputs) ≡ syllables_in outputs
+found_syllables [] outputs = refl
+found_syllables (f ∷ fs) outputs = found_syllables fs outputs
 
 module _ (fs : List Finding) (tail : List ScoreOutput) (last : List ScoreEvent) (none : syllables_in tail ≡ []) (last_is : (l : LentSyllable) → events_lent l tail ≡ last) (first second : PlacedSyllable) where
   abbrev outs_of : ℕ → List ScoreOutput
@@ -60,9 +60,9 @@ module _ (fs : List Finding) (tail : List ScoreOutput) (last : List ScoreEvent) 
   all_events : (n : ℕ) → n ≤ 2 → events_of (outs_of n) ≡ found_events fs ++ (lent_of n ++ last)
   all_events n h = ap events_of (assoc n) ∙ found_lent First fs _ ∙ ap (λ es. found_events fs ++ es) (lent_are n h)
 
-  pub told : (n : ℕ) (ss : List PlacedSyllable) → take n (first ∷ second ∷ []) ≡ ss → n ≤ 2 → length fs ≤ 10 → length last ≤ 1 → (old new : BoundedList ScoreEvent)
+  pub emitted : (n : ℕ) (ss : List PlacedSyllable) → take n (first ∷ second ∷ []) ≡ ss → n ≤ 2 → length fs ≤ 10 → length last ≤ 1 → (old new : BoundedList ScoreEvent)
       → new ≡ extended_by old (found_events fs ++ (lent_of n ++ last)) → Tells (outputs_of fs ss ++ tail) old new first second
-  told n ss e h few one old new k =
+  emitted n ss e h few one old new k =
       subst (λ ss. Tells (outputs_of fs ss ++ tail) old new first second) e (record {
         events = k ∙ ap (extended_by old) (sym (all_events n h));
         few = let l = length-append (found_events fs) (lent_of n ++ last) in
@@ -77,8 +77,8 @@ module _ (fs : List Finding) (tail : List ScoreOutput) (last : List ScoreEvent) 
 pub told_now : (fs : List Finding) (first second : PlacedSyllable) (n : ℕ) (ss : List PlacedSyllable) → take n (first ∷ second ∷ []) ≡ ss → n ≤ 2 → length fs ≤ 10 → (old new : BoundedList ScoreEvent)
     → new ≡ extended_by old (found_events fs ++ lent_of n) → Tells (outputs_of fs ss) old new first second
 told_now fs first second n ss e h few old new k =
-    subst (λ outs. Tells outs old new first second) (append-nil (outputs_of fs ss))
-    (told fs [] [] refl (λ l. refl) first second n ss e h few (omega arith) old new (k ∙ ap (λ es. extended_by old (found_events fs ++ es)) (sym (append-nil (lent_of n)))))
+    subst (λ outputs. Tells outputs old new first second) (append-nil (outputs_of fs ss))
+    (emitted fs [] [] refl (λ l. refl) first second n ss e h few (omega arith) old new (k ∙ ap (λ es. extended_by old (found_events fs ++ es)) (sym (append-nil (lent_of n)))))
 
 -- ---- a room that is extended step by step
 

@@ -43,7 +43,7 @@ characters_are ending (x ∷ xs) = ap (λ ys. x ∷ ys) (characters_are ending x
 found_heads : (texts : Texts) (limits : Limits) (fs : List Finding) (xs : List HeadEvent)
     → concat_of (score_outputs texts limits (map (λ f. head_event.Found f) fs ++ xs)) ≡ map (λ f. Found f) fs ++ concat_of (score_outputs texts limits xs)
 found_heads texts limits [] xs = refl
-found_heads texts limits (f ∷ fs) xs = ap (λ outs. Found f ∷ outs) (found_heads texts limits fs xs)
+found_heads texts limits (f ∷ fs) xs = ap (λ outputs. Found f ∷ outputs) (found_heads texts limits fs xs)
 
 -- the macros, summed from either side
 either_side : (a b c d e f g h i j : ℕ) → a + (b + (c + (d + (e + (f + (g + (h + (i + (j + 0))))))))) ≡ 0 + a + b + c + d + e + f + g + h + i + j
@@ -133,7 +133,7 @@ module _ (limits : Limits) (ending : InputEnding) (t : List ℕ) (h : Heads) whe
       by : {w : BodyResult} → Says (h.findings ++ []) [] ending (body_from xs (macros_of h.book)) w
           → said_before h.findings [] (said_by (body_from xs (macros_of h.book))) ≡ said_of_body ending w
       by {w = w} s =
-          ap (said_before h.findings []) s.said
+          ap (said_before h.findings []) s.result_is
           ∙ ap (λ ss. record { findings = h.findings ++ s.findings; syllables = ss; fault = w.fault; ended = is_whole ending w.fault }) (sym s.syllables)
           ∙ ap (λ fs. record { findings = fs; syllables = w.syllables; fault = w.fault; ended = is_whole ending w.fault })
           (sym (s.all_findings ∙ ap (λ fs. fs ++ s.findings) (append-nil h.findings)))

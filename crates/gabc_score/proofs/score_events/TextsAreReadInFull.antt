@@ -78,11 +78,11 @@ module _ (limits : Limits) (ending : InputEnding) (t : List ℕ) (few : length (
       → AreCountsBelow (head_events limits ending t)
   text_below heads_short = below_by (λ heads e. (heads_short limits t heads e).1) (heads_of limits t) refl
 
-  module _ (gives : (at : Place) (t : List ℕ) → CountsFit at t → events_left (fresh_stage at) t ≡ events_by_point at t) where
+  module _ (step : (at : Place) (t : List ℕ) → CountsFit at t → events_left (fresh_stage at) t ≡ events_by_point at t) where
     body_alike : (lines macros : ℕ) → events_from texts_by_stage lines macros InComment (body_characters t) ≡ events_from texts_by_definition lines macros InComment (body_characters t)
     body_alike lines macros =
         subst (λ xs. events_from texts_by_stage lines macros InComment xs ≡ events_from texts_by_definition lines macros InComment xs) placed
-        (same_told gives lines macros (place_after (heads_text t)) (behind_heads t) InComment fits)
+        (same_told step lines macros (place_after (heads_text t)) (behind_heads t) InComment fits)
 
     heads_alike : (book : List (List ℕ × List ℕ)) → let xs = heads_told book ∷ to_come ending (body_characters t) in score_outputs texts_by_stage limits xs ≡ score_outputs texts_by_definition limits xs
     heads_alike book =

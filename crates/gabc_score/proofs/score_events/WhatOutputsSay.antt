@@ -13,26 +13,26 @@ pub record Said : Type 0 where
   pub ended : Bool
 
 abbrev pub said_by : List ScoreOutput → Said
-said_by outs = record { findings = findings_in outs; syllables = syllables_in outs; fault = fault_in outs; ended = has_end outs }
+said_by outputs = record { findings = findings_in outputs; syllables = syllables_in outputs; fault = fault_in outputs; ended = has_end outputs }
 
 -- these findings and syllables, and then what is said later
 abbrev pub said_before : List Finding → List PlacedSyllable → Said → Said
 said_before findings syllables later = record later { findings = findings ++ later.findings; syllables = syllables ++ later.syllables }
 
-said_found : (fs : List Finding) (outs : List ScoreOutput) → said_by (map (λ f. Found f) fs ++ outs) ≡ said_before fs [] (said_by outs)
-said_found [] outs = refl
-said_found (f ∷ fs) outs = ap (λ (s : Said). record s { findings = f ∷ s.findings }) (said_found fs outs)
+said_found : (fs : List Finding) (outputs : List ScoreOutput) → said_by (map (λ f. Found f) fs ++ outputs) ≡ said_before fs [] (said_by outputs)
+said_found [] outputs = refl
+said_found (f ∷ fs) outputs = ap (λ (s : Said). record s { findings = f ∷ s.findings }) (said_found fs outputs)
 
-said_given : (ss : List PlacedSyllable) (outs : List ScoreOutput) → said_by (map (λ s. Syllable s) ss ++ outs) ≡ said_before [] ss (said_by outs)
-said_given [] outs = refl
-said_given (s ∷ ss) outs = ap (λ (t : Said). record t { syllables = s ∷ t.syllables }) (said_given ss outs)
+said_given : (ss : List PlacedSyllable) (outputs : List ScoreOutput) → said_by (map (λ s. Syllable s) ss ++ outputs) ≡ said_before [] ss (said_by outputs)
+said_given [] outputs = refl
+said_given (s ∷ ss) outputs = ap (λ (t : Said). record t { syllables = s ∷ t.syllables }) (said_given ss outputs)
 
-pub found_first : (fs : List Finding) (outs : List ScoreOutput) → said_by (map (λ f. Found f) fs ++ outs) ≡ said_before fs [] (said_by outs)
+pub found_first : (fs : List Finding) (outputs : List ScoreOutput) → said_by (map (λ f. Found f) fs ++ outputs) ≡ said_before fs [] (said_by outputs)
 found_first = said_found
 
 -- findings and syllables come before what is said later
-pub said_of : (fs : List Finding) (ss : List PlacedSyllable) (outs : List ScoreOutput) → said_by (outputs_of fs ss ++ outs) ≡ said_before fs ss (said_by outs)
-said_of fs ss outs = by (append_assoc (map (λ f. Found f) fs) (map (λ s. Syllable s) ss) outs)
+pub said_of : (fs : List Finding) (ss : List PlacedSyllable) (outputs : List ScoreOutput) → said_by (outputs_of fs ss ++ outputs) ≡ said_before fs ss (said_by outputs)
+said_of fs ss outputs = by (append_assoc (map (λ f. Found f) fs) (map (λ s. Syllable s) ss) outputs)
   where
-    by : outputs_of fs ss ++ outs ≡ map (λ f. Found f) fs ++ (map (λ s. Syllable s) ss ++ outs) → said_by (outputs_of fs ss ++ outs) ≡ said_before fs ss (said_by outs)
-    by e = ap said_by e ∙ said_found fs (map (λ s. Syllable s) ss ++ outs) ∙ ap (said_before fs []) (said_given ss outs)
+    by : outputs_of fs ss ++ outputs ≡ map (λ f. Found f) fs ++ (map (λ s. Syllable s) ss ++ outputs) → said_by (outputs_of fs ss ++ outputs) ≡ said_before fs ss (said_by outputs)
+    by e = ap said_by e ∙ said_found fs (map (λ s. Syllable s) ss ++ outputs) ∙ ap (said_before fs []) (said_given ss outputs)

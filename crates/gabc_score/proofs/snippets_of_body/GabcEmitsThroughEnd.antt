@@ -120,7 +120,7 @@ module _ (split : Bool) (macros : ℕ) where
   abbrev pub gabc_grammar : Grammar (List Char)
   gabc_grammar = record {
     Running = Running;
-    said = said_of;
+    emitted_at = said_of;
     cut = λ back. cut_events split back;
     next = next_of;
     kept = λ back. kept back;

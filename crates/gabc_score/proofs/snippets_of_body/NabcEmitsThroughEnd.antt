@@ -129,7 +129,7 @@ cuts_nabc t r = cuts_by t (has_end t) r
 abbrev pub nabc_grammar : Grammar (List ℕ)
 nabc_grammar = record {
   Running = Running;
-  said = λ t x. events_at t x;
+  emitted_at = λ t x. events_at t x;
   cut = λ t. cut_events t;
   next = next_of;
   kept = λ t. kept_of t;

@@ -3,7 +3,7 @@ use Rattle.std.proofs.Common.{reverse, append-nil, ◌≡◌, ℕ, zero, suc, �
 use Rattle.gabc_places.specs.StageLaw.{concat_of}
 use Rattle.gabc_places.specs.declared.place.Place.{Place}
 use Rattle.gabc_places.specs.declared.place.Char.{Char}
-use Rattle.gabc_patterns.specs.Reading.{Table, IsSnippet}
+use Rattle.gabc_patterns.specs.LongestItems.{Table, IsSnippet}
 use Rattle.gabc_patterns.specs.Function.{trim}
 use Rattle.gabc_patterns.proofs.FunctionsMeetRelations.{trim_trims}
 use Rattle.gabc_text.specs.Events.{codes_of}

@@ -79,17 +79,17 @@ pub record Cuts (emitted : List NoteEvent) : Type 0 where
 -- how snippets are emitted: state by state
 pub record Grammar (S : Type 0) : Type 1 where
   pub Running : S → Type 0
-  pub said : S → Char → List NoteEvent
+  pub emitted_at : S → Char → List NoteEvent
   pub cut : S → List NoteEvent
   pub next : S → Char → S
   pub kept : S → List ℕ
   pub count : List ℕ → ℕ
-  pub goes : (s : S) (x : Char) → Running s → Goes Running kept next s x (said s x) ⊎ Stops (count (kept s)) x.c (said s x)
+  pub goes : (s : S) (x : Char) → Running s → Goes Running kept next s x (emitted_at s x) ⊎ Stops (count (kept s)) x.c (emitted_at s x)
   pub cuts : (s : S) → Running s → Cuts (cut s)
 
 abbrev pub lists : {S : Type 0} → Grammar S → S → List Char → List (List NoteEvent)
 lists g s [] = g.cut s ∷ []
-lists g s (x ∷ xs) = g.said s x ∷ lists g (g.next s x) xs
+lists g s (x ∷ xs) = g.emitted_at s x ∷ lists g (g.next s x) xs
 
 -- the state behind these characters
 abbrev pub run : {S : Type 0} → Grammar S → S → List Char → S
@@ -176,35 +176,35 @@ module _ (lines line : ℕ) (opened : Place) where
         ∙ ap (λ t. map (note_event line opened) st.mids ++ t ∷ []) (mark_is_emitted st.how count c st.is_mark)
 
     -- what is kept behind a character is kept behind what it keeps
-    kept_on : (s : S) (x : Char) (mids : List NoteEvent) → g.kept (g.next s x) ≡ g.kept s ++ kept_of (g.said s x) → g.kept (g.next s x) ++ kept_of mids ≡ g.kept s ++ kept_of (g.said s x ++ mids)
+    kept_on : (s : S) (x : Char) (mids : List NoteEvent) → g.kept (g.next s x) ≡ g.kept s ++ kept_of (g.emitted_at s x) → g.kept (g.next s x) ++ kept_of mids ≡ g.kept s ++ kept_of (g.emitted_at s x ++ mids)
     kept_on s x mids h =
-        ap (λ ks. ks ++ kept_of mids) h ∙ append_assoc (g.kept s) (kept_of (g.said s x)) (kept_of mids)
-        ∙ ap (λ ks. g.kept s ++ ks) (sym (kept_append (g.said s x) mids))
+        ap (λ ks. ks ++ kept_of mids) h ∙ append_assoc (g.kept s) (kept_of (g.emitted_at s x)) (kept_of mids)
+        ∙ ap (λ ks. g.kept s ++ ks) (sym (kept_append (g.emitted_at s x) mids))
 
     events_on : (s : S) (x : Char) (mids : List NoteEvent) (later : List BodyEvent) (last : BodyEvent) → later ≡ map (note_event line opened) mids ++ last ∷ []
-        → map (note_event line opened) (g.said s x) ++ later ≡ map (note_event line opened) (g.said s x ++ mids) ++ last ∷ []
+        → map (note_event line opened) (g.emitted_at s x) ++ later ≡ map (note_event line opened) (g.emitted_at s x ++ mids) ++ last ∷ []
     events_on s x mids later last h =
-        ap (λ ts. map (note_event line opened) (g.said s x) ++ ts) h
-        ∙ sym (append_assoc (map (note_event line opened) (g.said s x)) (map (note_event line opened) mids) (last ∷ []))
-        ∙ ap (λ ts. ts ++ last ∷ []) (sym (map-append (note_event line opened) (g.said s x) mids))
+        ap (λ ts. map (note_event line opened) (g.emitted_at s x) ++ ts) h
+        ∙ sym (append_assoc (map (note_event line opened) (g.emitted_at s x)) (map (note_event line opened) mids) (last ∷ []))
+        ∙ ap (λ ts. ts ++ last ∷ []) (sym (map-append (note_event line opened) (g.emitted_at s x) mids))
 
-    few_on : (s : S) (x : Char) (mids : List NoteEvent) (prefix : List Char) → size (kept_of (g.said s x)) ≤ len_utf8 x.c → size (kept_of mids) ≤ size (codes_of prefix)
-        → size (kept_of (g.said s x ++ mids)) ≤ size (codes_of (x ∷ prefix))
+    few_on : (s : S) (x : Char) (mids : List NoteEvent) (prefix : List Char) → size (kept_of (g.emitted_at s x)) ≤ len_utf8 x.c → size (kept_of mids) ≤ size (codes_of prefix)
+        → size (kept_of (g.emitted_at s x ++ mids)) ≤ size (codes_of (x ∷ prefix))
     few_on s x mids prefix h k =
-        let all : size (kept_of (g.said s x ++ mids)) ≡ size (kept_of (g.said s x)) + size (kept_of mids) = ap size (kept_append (g.said s x) mids) ∙ size_append (kept_of (g.said s x)) (kept_of mids) in
+        let all : size (kept_of (g.emitted_at s x ++ mids)) ≡ size (kept_of (g.emitted_at s x)) + size (kept_of mids) = ap size (kept_append (g.emitted_at s x) mids) ∙ size_append (kept_of (g.emitted_at s x)) (kept_of mids) in
         let more : size (codes_of (x ∷ prefix)) ≡ len_utf8 x.c + size (codes_of prefix) = size_append (x.c ∷ []) (codes_of prefix) ∙ ap (λ n. n + size (codes_of prefix)) (size_of_one x.c) in
         omega arith
 
     few_none : (mids : List NoteEvent) → kept_of mids ≡ [] → size (kept_of mids) ≤ 0
     few_none mids h = let none : size (kept_of mids) ≡ 0 = ap size h in omega arith
 
-    ended_here : (s : S) (end : Char) (rest : List Char) (mark : Mark) → mark_of (g.said s end) ≡ Some mark
-        → Goes g.Running g.kept g.next s end (g.said s end) ⊎ Stops (g.count (g.kept s)) end.c (g.said s end) → EndEmitted g lines line opened s [] end mark (concat_of (events_through (part_at s (end ∷ rest)) []))
-    ended_here s end rest mark h (inl go) = absurd (let e = silent_mark (g.said s end) go.silent in cc)
+    ended_here : (s : S) (end : Char) (rest : List Char) (mark : Mark) → mark_of (g.emitted_at s end) ≡ Some mark
+        → Goes g.Running g.kept g.next s end (g.emitted_at s end) ⊎ Stops (g.count (g.kept s)) end.c (g.emitted_at s end) → EndEmitted g lines line opened s [] end mark (concat_of (events_through (part_at s (end ∷ rest)) []))
+    ended_here s end rest mark h (inl go) = absurd (let e = silent_mark (g.emitted_at s end) go.silent in cc)
     ended_here s end rest mark h (inr st) = record {
       mids = st.mids;
       how = st.how;
-      told_are = append-nil (map (note_event line opened) (g.said s end)) ∙ stop_emitted (g.count (g.kept s)) end.c (g.said s end) st
+      told_are = append-nil (map (note_event line opened) (g.emitted_at s end)) ∙ stop_emitted (g.count (g.kept s)) end.c (g.emitted_at s end) st
           ∙ ap (λ ks. map (note_event line opened) st.mids ++ Notes line (note.Ended st.how (g.count ks)) ∷ []) (sym (append-nil (g.kept s)) ∙ ap (λ ks. g.kept s ++ ks) (sym st.none));
       silent = st.silent;
       few = few_none st.mids st.none;
@@ -213,19 +213,19 @@ module _ (lines line : ℕ) (opened : Place) where
       marks = mark_emitted st.how (g.count (g.kept s)) end.c st.is_mark mark (sym (mark_last st.mids st.how (g.count (g.kept s)) st.silent) ∙ ap mark_of (sym st.events_are) ∙ h);
     }
 
-    no_stop : (s : S) (x : Char) → mark_of (g.said s x) ≡ None → Stops (g.count (g.kept s)) x.c (g.said s x) → ⊥
+    no_stop : (s : S) (x : Char) → mark_of (g.emitted_at s x) ≡ None → Stops (g.count (g.kept s)) x.c (g.emitted_at s x) → ⊥
     no_stop s x h st = marked st.how (g.count (g.kept s)) x.c st.is_mark (sym (mark_last st.mids st.how (g.count (g.kept s)) st.silent) ∙ ap mark_of (sym st.events_are) ∙ h)
 
-    ended_on : (s : S) (x : Char) (prefix : List Char) (end : Char) (rest : List Char) (mark : Mark) → mark_of (g.said s x) ≡ None
-        → Goes g.Running g.kept g.next s x (g.said s x) ⊎ Stops (g.count (g.kept s)) x.c (g.said s x)
+    ended_on : (s : S) (x : Char) (prefix : List Char) (end : Char) (rest : List Char) (mark : Mark) → mark_of (g.emitted_at s x) ≡ None
+        → Goes g.Running g.kept g.next s x (g.emitted_at s x) ⊎ Stops (g.count (g.kept s)) x.c (g.emitted_at s x)
         → (g.Running (g.next s x) → EndEmitted g lines line opened (g.next s x) prefix end mark (concat_of (events_through (part_at (g.next s x) (prefix ++ end ∷ rest)) prefix)))
         → EndEmitted g lines line opened s (x ∷ prefix) end mark (concat_of (events_through (part_at s (x ∷ prefix ++ end ∷ rest)) (x ∷ prefix)))
     ended_on s x prefix end rest mark h (inl go) later = let on = later go.runs in record {
-      mids = g.said s x ++ on.mids;
+      mids = g.emitted_at s x ++ on.mids;
       how = on.how;
       told_are = events_on s x on.mids (concat_of (events_through (part_at (g.next s x) (prefix ++ end ∷ rest)) prefix)) (Notes line (note.Ended on.how (g.count (g.kept (g.next s x) ++ kept_of on.mids)))) on.told_are
-          ∙ ap (λ ks. map (note_event line opened) (g.said s x ++ on.mids) ++ Notes line (note.Ended on.how (g.count ks)) ∷ []) (kept_on s x on.mids go.kept_is);
-      silent = ends_append (g.said s x) on.mids go.silent ∙ on.silent;
+          ∙ ap (λ ks. map (note_event line opened) (g.emitted_at s x ++ on.mids) ++ Notes line (note.Ended on.how (g.count ks)) ∷ []) (kept_on s x on.mids go.kept_is);
+      silent = ends_append (g.emitted_at s x) on.mids go.silent ∙ on.silent;
       few = few_on s x on.mids prefix go.few on.few;
       kept_is = sym (kept_on s x on.mids go.kept_is) ∙ on.kept_is;
       is_mark = on.is_mark;
@@ -249,16 +249,16 @@ module _ (lines line : ℕ) (opened : Place) where
       silent = refl;
     }
 
-    cut_on : (s : S) (x : Char) (last : List Char) → mark_of (g.said s x) ≡ None
-        → Goes g.Running g.kept g.next s x (g.said s x) ⊎ Stops (g.count (g.kept s)) x.c (g.said s x)
+    cut_on : (s : S) (x : Char) (last : List Char) → mark_of (g.emitted_at s x) ≡ None
+        → Goes g.Running g.kept g.next s x (g.emitted_at s x) ⊎ Stops (g.count (g.kept s)) x.c (g.emitted_at s x)
         → (g.Running (g.next s x) → CutEmitted line opened (concat_of (events_through (part_at (g.next s x) last) last)))
         → CutEmitted line opened (concat_of (events_through (part_at s (x ∷ last)) (x ∷ last)))
     cut_on s x last h (inl go) later = let on = later go.runs in record {
-      mids = g.said s x ++ on.mids;
+      mids = g.emitted_at s x ++ on.mids;
       place = on.place;
       count = on.count;
       told_are = events_on s x on.mids (concat_of (events_through (part_at (g.next s x) last) last)) (Notes line (note.Ended (note_end.Cut on.place) on.count)) on.told_are;
-      silent = ends_append (g.said s x) on.mids go.silent ∙ on.silent;
+      silent = ends_append (g.emitted_at s x) on.mids go.silent ∙ on.silent;
     }
     cut_on s x last h (inr st) later = absurd (no_stop s x h st)
 

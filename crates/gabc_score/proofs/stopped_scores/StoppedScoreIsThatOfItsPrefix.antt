@@ -287,8 +287,8 @@ module _ (ends : (at : Place) (t : List ℕ) → EndsOnce at t) (tells : (at : P
       ∙ ap (λ ts. events_onto ts []) (joined_append (take (length prefix) (events_here xs)) end)
       ∙ onto_append (concat_of (take (length prefix) (events_here xs))) (finished ∷ []) [] in
       let same : r ≡ g.mid = let e = sym by_prefix ∙ by_units in cc in
-      let made : length (all_syllables g.mid) ≡ length g.gives.made = ap length g.gives.made_is in
-      let as_units : length g.gives.made ≡ length (closed_units us (JustText [])) = as_many lines false false (closed_units us (JustText [])) g.gives.made g.gives.are in
+      let made : length (all_syllables g.mid) ≡ length g.step.made = ap length g.step.made_is in
+      let as_units : length g.step.made ≡ length (closed_units us (JustText [])) = as_many lines false false (closed_units us (JustText [])) g.step.made g.step.are in
       let as_closed : length (closed_units us (JustText [])) ≡ length us = closed_count us (JustText []) in
       let as_taken : length us ≡ suc j = length-take-le (suc j) u.closed some_units in
       record {
@@ -296,7 +296,7 @@ module _ (ends : (at : Place) (t : List ℕ) → EndsOnce at t) (tells : (at : P
         all = h.0 ∙ ap (λ cs. comment ++ cs) split ∙ sym (append_assoc comment zs tail);
         few = omega arith;
         events = events;
-        seam = record { since = ap since_close same ∙ g.gives.since; uncut = ap cut_of same ∙ g.gives.uncut };
+        seam = record { since = ap since_close same ∙ g.step.since; uncut = ap cut_of same ∙ g.step.uncut };
         count = ap (λ b. length (all_syllables b)) same ∙ made ∙ as_units ∙ as_closed ∙ as_taken;
       }
 

@@ -132,8 +132,8 @@ module _ (ends : (at : Place) (t : List ℕ) → EndsOnce at t) (tells : (at : P
       let more = made_after (concat_of (events_of_cutting texts_by_definition lines macros (text_from texts_by_definition g.at (whole (last_pieces lines u.last) end)) (last_pieces lines u.last) end)) g.mid in
       let us = closed_units u.closed u.last in
       let count : close_count (concat_of (take n lists)) ≡ count_within n u.closed = pieces_count lines macros part pieces end tt fits h n few ∙ units_within_are lines u.closed u.last n in
-      first_are us (concat_of (take n lists)) (concat_of (drop n lists)) (all_events lines macros part pieces end []) g.gives.made more.0 (count_within n u.closed)
-      (split_at n lists) (ap all_syllables g.events_are ∙ more.1 ∙ ap (λ (ms : List UnplacedSyllable). ms ++ more.0) g.gives.made_is) g.gives.are count
+      first_are us (concat_of (take n lists)) (concat_of (drop n lists)) (all_events lines macros part pieces end []) g.step.made more.0 (count_within n u.closed)
+      (split_at n lists) (ap all_syllables g.events_are ∙ more.1 ∙ ap (λ (ms : List UnplacedSyllable). ms ++ more.0) g.step.made_is) g.step.are count
       (subst (λ m. count_within n u.closed ≤ m) (sym (closed_count u.closed u.last)) (within_few n u.closed))
 
   pub point_emits : (xs : List Char) (cut : BodyCutting) (n : ℕ) → IsCut texts_by_definition lines macros xs cut → size (codes_of xs) < 2 ^ 63 → n ≤ length xs

@@ -211,13 +211,13 @@ module _ (ends : (at : Place) (t : List ℕ) → EndsOnce at t) (tells : (at : P
       → BodyGives (score_units (Some u)) (all_events lines macros part pieces end []))
   units_body u at fits h none =
       let g = units_give ends tells spans in_order lines macros u.closed u.last at [] refl fits h in
-      let l = last_emits u.last g.at g.mid g.gives.since g.cuts (ap cut_of (sym g.events_are) ∙ none) in
+      let l = last_emits u.last g.at g.mid g.step.since g.cuts (ap cut_of (sym g.events_are) ∙ none) in
       let us = closed_units u.closed u.last in (
-        g.gives.made ++ l.0,
+        g.step.made ++ l.0,
         (
-          ap all_units g.events_are ∙ l.1.0 ∙ ap (λ (ms : List UnplacedSyllable). ms ++ l.0) g.gives.made_is,
-          all_append lines false false us (last_units u.last) g.gives.made l.0 g.gives.are
-              (subst (λ b. AreMade lines (eu_behind false (tags_in us)) b (last_units u.last) l.0) g.gives.nlba (subst (λ b. AreMade lines b (is_nlba g.mid) (last_units u.last) l.0) g.gives.eu l.1.1)),
+          ap all_units g.events_are ∙ l.1.0 ∙ ap (λ (ms : List UnplacedSyllable). ms ++ l.0) g.step.made_is,
+          all_append lines false false us (last_units u.last) g.step.made l.0 g.step.are
+              (subst (λ b. AreMade lines (eu_behind false (tags_in us)) b (last_units u.last) l.0) g.step.nlba (subst (λ b. AreMade lines b (is_nlba g.mid) (last_units u.last) l.0) g.step.eu l.1.1)),
         ),
       )
 

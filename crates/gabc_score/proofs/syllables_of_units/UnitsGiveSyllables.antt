@@ -184,7 +184,7 @@ module _ (lines macros : ℕ) where
   -- behind the unit the text goes on with `more`
   pub record Continues (u : ScoreUnit) (tags : List (List ℕ)) (part : PartAhead) (pieces more : List CutPart) (last : List Char) (at : Place) (before : List BodyEvent) : Type 0 where
     pub mid : List BodyEvent
-    pub gives : UnitGives lines u tags before mid
+    pub step : UnitGives lines u tags before mid
     pub events_are : all_events part pieces last before ≡ all_events (text_from texts_by_definition at (whole more last)) more last mid
     pub cuts : Cuts texts_by_definition lines macros (text_from texts_by_definition at (whole more last)) more last
 
@@ -192,7 +192,7 @@ module _ (lines macros : ℕ) where
   pub record GoesOn (us : List ScoreUnit) (part : PartAhead) (pieces : List CutPart) (last : LastUnit) (before : List BodyEvent) : Type 0 where
     pub at : Place
     pub mid : List BodyEvent
-    pub gives : UnitsGive lines us before mid
+    pub step : UnitsGive lines us before mid
     pub events_are : all_events part pieces (last_characters last) before
         ≡ all_events (text_from texts_by_definition at (whole (last_pieces lines last) (last_characters last))) (last_pieces lines last) (last_characters last) mid
     pub cuts : Cuts texts_by_definition lines macros (text_from texts_by_definition at (whole (last_pieces lines last) (last_characters last))) (last_pieces lines last) (last_characters last)
@@ -225,7 +225,7 @@ module _ (ends : (at : Place) (t : List ℕ) → EndsOnce at t) (tells : (at : P
       let c = close_unit text lines line opened_at final.characters final.end rest Closes events l before far (spans far.text) l.marks closes u t notes_are ys yss some characters_are in
       record {
         mid = events_onto events before;
-        gives = record {
+        step = record {
           made = c.0;
           made_is = c.1;
           holds = c.2;
@@ -272,16 +272,16 @@ module _ (ends : (at : Place) (t : List ℕ) → EndsOnce at t) (tells : (at : P
       let made_same = next_made text lines line opened_at e.characters e.end rest mark events l before far (spans far.text) l.marks.0 in
       record {
         mid = r.mid;
-        gives = record {
-          made = r.gives.made;
-          made_is = r.gives.made_is ∙ ap (λ (ms : List UnplacedSyllable). ms ++ r.gives.made ∷ []) made_same;
-          holds = r.gives.holds;
-          made_eu = r.gives.made_eu ∙ eu_same;
-          made_nlba = r.gives.made_nlba ∙ nlba_same;
-          eu = r.gives.eu ∙ eu_same;
-          nlba = r.gives.nlba ∙ nlba_same;
-          uncut = r.gives.uncut ∙ line_uncut lines line opened_at e.characters e.end mark events l before;
-          since = r.gives.since;
+        step = record {
+          made = r.step.made;
+          made_is = r.step.made_is ∙ ap (λ (ms : List UnplacedSyllable). ms ++ r.step.made ∷ []) made_same;
+          holds = r.step.holds;
+          made_eu = r.step.made_eu ∙ eu_same;
+          made_nlba = r.step.made_nlba ∙ nlba_same;
+          eu = r.step.eu ∙ eu_same;
+          nlba = r.step.nlba ∙ nlba_same;
+          uncut = r.step.uncut ∙ line_uncut lines line opened_at e.characters e.end mark events l before;
+          since = r.step.since;
         };
         events_are = through_more (events_through part e.characters) (events_of_cutting texts_by_definition lines macros (snippet_from lines macros next opened_at rest) pieces last) before ∙ r.events_are;
         cuts = r.cuts;
@@ -334,16 +334,16 @@ module _ (ends : (at : Place) (t : List ℕ) → EndsOnce at t) (tells : (at : P
       text_spans (codes "<nlba>") (codes "</nlba>") at prefix end rest Opens before since h.0 ∙ ap (λ t. nlba_behind (is_nlba before) (span_tags t)) (sym text_is) in
       record {
         mid = r.mid;
-        gives = record {
-          made = r.gives.made;
-          made_is = r.gives.made_is ∙ ap (λ (ms : List UnplacedSyllable). ms ++ r.gives.made ∷ []) o.1;
-          holds = r.gives.holds;
-          made_eu = r.gives.made_eu ∙ eu_is;
-          made_nlba = r.gives.made_nlba ∙ nlba_is;
-          eu = r.gives.eu ∙ eu_is;
-          nlba = r.gives.nlba ∙ nlba_is;
-          uncut = r.gives.uncut ∙ opened_uncut (codes_of xs) events e.0 before;
-          since = r.gives.since;
+        step = record {
+          made = r.step.made;
+          made_is = r.step.made_is ∙ ap (λ (ms : List UnplacedSyllable). ms ++ r.step.made ∷ []) o.1;
+          holds = r.step.holds;
+          made_eu = r.step.made_eu ∙ eu_is;
+          made_nlba = r.step.made_nlba ∙ nlba_is;
+          eu = r.step.eu ∙ eu_is;
+          nlba = r.step.nlba ∙ nlba_is;
+          uncut = r.step.uncut ∙ opened_uncut (codes_of xs) events e.0 before;
+          since = r.step.since;
         };
         events_are = through_more (events_through part prefix) (events_of_cutting texts_by_definition lines macros (snippet_from lines macros 0 end.place rest) pieces last) before ∙ r.events_are;
         cuts = r.cuts;
@@ -356,7 +356,7 @@ module _ (ends : (at : Place) (t : List ℕ) → EndsOnce at t) (tells : (at : P
   units_give [] last at before since fits h = record {
     at = at;
     mid = before;
-    gives = record { made = []; made_is = sym (append-nil (all_syllables before)); are = tt; eu = refl; nlba = refl; uncut = refl; since = since };
+    step = record { made = []; made_is = sym (append-nil (all_syllables before)); are = tt; eu = refl; nlba = refl; uncut = refl; since = since };
     events_are = refl;
     cuts = h;
   }
@@ -364,7 +364,7 @@ module _ (ends : (at : Place) (t : List ℕ) → EndsOnce at t) (tells : (at : P
       let more = units_pieces lines units last in
       let ends_with = last_characters last in
       let one = unit_emits at u more ends_with before since fits h in
-      let g = one.gives in
+      let g = one.step in
       let v = score_unit u (characters_from units last) in
       let same : score_unit u (whole more ends_with) ≡ v = ap (score_unit u) (units_whole lines units last) in
       let holds : HoldsUnit lines v g.made = subst (λ w. HoldsUnit lines w g.made) same g.holds in
@@ -377,20 +377,20 @@ module _ (ends : (at : Place) (t : List ℕ) → EndsOnce at t) (tells : (at : P
       record {
         at = r.at;
         mid = r.mid;
-        gives = record {
-          made = g.made ∷ r.gives.made;
-          made_is = r.gives.made_is ∙ ap (λ (ms : List UnplacedSyllable). ms ++ r.gives.made) g.made_is ∙ append_assoc (all_syllables before) (g.made ∷ []) r.gives.made;
+        step = record {
+          made = g.made ∷ r.step.made;
+          made_is = r.step.made_is ∙ ap (λ (ms : List UnplacedSyllable). ms ++ r.step.made) g.made_is ∙ append_assoc (all_syllables before) (g.made ∷ []) r.step.made;
           are = (
             (holds, (g.made_eu ∙ ap (eu_behind (is_eu before)) tags, g.made_nlba ∙ ap (nlba_behind (is_nlba before)) tags)),
-            subst (λ b. AreMade lines (eu_behind (is_eu before) (span_tags v.text)) b (closed_units units last) r.gives.made) nlba_is
-                (subst (λ b. AreMade lines b (is_nlba one.mid) (closed_units units last) r.gives.made) eu_is r.gives.are),
+            subst (λ b. AreMade lines (eu_behind (is_eu before) (span_tags v.text)) b (closed_units units last) r.step.made) nlba_is
+                (subst (λ b. AreMade lines b (is_nlba one.mid) (closed_units units last) r.step.made) eu_is r.step.are),
           );
-          eu = r.gives.eu ∙ ap (λ b. eu_behind b (tags_in (closed_units units last))) eu_is
+          eu = r.step.eu ∙ ap (λ b. eu_behind b (tags_in (closed_units units last))) eu_is
               ∙ sym (behind_append (codes "<eu>") (codes "</eu>") (is_eu before) (span_tags v.text) (tags_in (closed_units units last)));
-          nlba = r.gives.nlba ∙ ap (λ b. nlba_behind b (tags_in (closed_units units last))) nlba_is
+          nlba = r.step.nlba ∙ ap (λ b. nlba_behind b (tags_in (closed_units units last))) nlba_is
               ∙ sym (behind_append (codes "<nlba>") (codes "</nlba>") (is_nlba before) (span_tags v.text) (tags_in (closed_units units last)));
-          uncut = r.gives.uncut ∙ g.uncut;
-          since = r.gives.since;
+          uncut = r.step.uncut ∙ g.uncut;
+          since = r.step.since;
         };
         events_are = one.events_are ∙ r.events_are;
         cuts = r.cuts;

@@ -151,23 +151,23 @@ module _ (texts : Texts) (lines macros : ℕ) where
 
 -- ---- what the parts tell
 
-abbrev IsRead : PartAhead → Type 0
-IsRead InComment = ⊥
-IsRead (InText lists) = Unit
-IsRead (InNotes line opened lists) = Unit
+abbrev IsPastComment : PartAhead → Type 0
+IsPastComment InComment = ⊥
+IsPastComment (InText lists) = Unit
+IsPastComment (InNotes line opened lists) = Unit
 
-onward_read : (part : PartAhead) → IsRead part → IsRead (part_onward part)
+onward_read : (part : PartAhead) → IsPastComment part → IsPastComment (part_onward part)
 onward_read InComment h = h
 onward_read (InText lists) h = tt
 onward_read (InNotes line opened lists) h = tt
 
-end_told : (part : PartAhead) → IsRead part → events_at_end part ≡ events_in part
+end_told : (part : PartAhead) → IsPastComment part → events_at_end part ≡ events_in part
 end_told InComment h = elim h [ ]
 end_told (InText lists) h = refl
 end_told (InNotes line opened lists) h = refl
 
 module _ (texts : Texts) (lines macros : ℕ) where
-  follows_read : (mark : Mark) (x : Char) (xs : List Char) → IsRead (part_following texts lines macros mark x xs)
+  follows_read : (mark : Mark) (x : Char) (xs : List Char) → IsPastComment (part_following texts lines macros mark x xs)
   follows_read Opens x xs = tt
   follows_read (Next line opened) x xs = tt
   follows_read Closes x xs = tt
@@ -179,7 +179,7 @@ module _ (texts : Texts) (lines macros : ℕ) where
   abbrev told_by : PartAhead → Char → List Char → Option Mark → List (List BodyEvent)
   told_by part x xs o = events_in part ∷ events_from texts lines macros (behind_by o part x xs) xs
 
-  point_emitted : (part : PartAhead) → IsRead part → (x : Char) (xs : List Char) → events_from texts lines macros part (x ∷ xs) ≡ told_by part x xs (mark_in lines part)
+  point_emitted : (part : PartAhead) → IsPastComment part → (x : Char) (xs : List Char) → events_from texts lines macros part (x ∷ xs) ≡ told_by part x xs (mark_in lines part)
   point_emitted InComment h x xs = elim h [ ]
   point_emitted (InText lists) h x xs = by (list_any is_text_end (first_list lists))
     where
@@ -196,20 +196,20 @@ module _ (texts : Texts) (lines macros : ℕ) where
       by false true = refl
       by false false = refl
 
-  endless_emitted : (part : PartAhead) (last : List Char) → IsRead part → Endless lines part last → events_from texts lines macros part last ≡ events_through part last
+  endless_emitted : (part : PartAhead) (last : List Char) → IsPastComment part → Endless lines part last → events_from texts lines macros part last ≡ events_through part last
   endless_emitted part [] k h = ap (λ ts. ts ∷ []) (end_told part k)
   endless_emitted part (x ∷ xs) k h =
       point_emitted part k x xs ∙ ap (told_by part x xs) h.0
       ∙ ap (λ ls. events_in part ∷ ls) (endless_emitted (part_onward part) xs (onward_read part k) h.1)
 
-  ends_emitted : (part : PartAhead) (prefix : List Char) (mark : Mark) (end : Char) (rest : List Char) → IsRead part → EndsBehind lines part prefix mark
+  ends_emitted : (part : PartAhead) (prefix : List Char) (mark : Mark) (end : Char) (rest : List Char) → IsPastComment part → EndsBehind lines part prefix mark
       → events_from texts lines macros part (prefix ++ end ∷ rest) ≡ events_through part prefix ++ events_from texts lines macros (part_following texts lines macros mark end rest) rest
   ends_emitted part [] mark end rest k h = point_emitted part k end rest ∙ ap (told_by part end rest) h
   ends_emitted part (x ∷ prefix) mark end rest k h =
       point_emitted part k x (prefix ++ end ∷ rest) ∙ ap (told_by part x (prefix ++ end ∷ rest)) h.0
       ∙ ap (λ ls. events_in part ∷ ls) (ends_emitted (part_onward part) prefix mark end rest (onward_read part k) h.1)
 
-  cuts_emitted : (part : PartAhead) (pieces : List CutPart) (last : List Char) → IsRead part → Cuts texts lines macros part pieces last
+  cuts_emitted : (part : PartAhead) (pieces : List CutPart) (last : List Char) → IsPastComment part → Cuts texts lines macros part pieces last
       → events_from texts lines macros part (whole pieces last) ≡ events_of_cutting texts lines macros part pieces last
   cuts_emitted part [] last k h = endless_emitted part last k h
   cuts_emitted part (p ∷ pieces) last k h =
@@ -232,7 +232,7 @@ module _ (texts : Texts) (lines macros : ℕ) where
   lf_emitted [] (x ∷ xs) h k = ap (comment_by x xs) k
   lf_emitted (x ∷ xs) ys h k = ap (comment_by x (xs ++ ys)) h.0 ∙ ap (λ ls. [] ∷ ls) (lf_emitted xs ys h.1 k)
 
-  first_read : (ys : List Char) → BeginsWithLf ys → IsRead (first_text texts ys)
+  first_read : (ys : List Char) → BeginsWithLf ys → IsPastComment (first_text texts ys)
   first_read [] k = elim k [ ]
   first_read (x ∷ xs) k = tt
 

@@ -90,7 +90,7 @@ module _ (ends : (at : Place) (t : List ℕ) → EndsOnce at t) (tells : (at : P
         g.events_are ∙ ap (λ ts. events_onto ts g.mid) (last_events g.at last lf g.cuts) in
         record {
           stays = subst (StaysWithin limit) (sym here) (stays_on limit (text_emitted (concat_of (events_by_point s.at (10 ∷ [])))) s.mid s.stays (omega arith));
-          uncut = ap cut_of there ∙ lf_uncut g.at g.mid ∙ g.gives.uncut;
+          uncut = ap cut_of there ∙ lf_uncut g.at g.mid ∙ g.step.uncut;
         }
 
     body_read : (xs : List Char) (cut : BodyCutting) → IsCut texts_by_definition lines macros xs cut → cut.units ≡ Some u → size (codes_of xs) < 2 ^ 63

@@ -22,7 +22,7 @@ fault_then None later = later
 
 -- a result with what these outputs say behind it
 abbrev pub result_with : BodyResult → List ScoreOutput → BodyResult
-result_with r outs = record { syllables = r.syllables ++ syllables_in outs; findings = r.findings ++ findings_in outs; fault = fault_then r.fault (fault_in outs) }
+result_with r outputs = record { syllables = r.syllables ++ syllables_in outputs; findings = r.findings ++ findings_in outputs; fault = fault_then r.fault (fault_in outputs) }
 
 -- a result past events, where these two syllables are lent
 module _ (first second : PlacedSyllable) where
@@ -39,9 +39,9 @@ module _ (first second : PlacedSyllable) where
 
 -- with how the input ended nothing is left but these outputs, which are told
 pub record EndsAs (before : ScoreStageState) (ending : InputEnding) (old new : BoundedList ScoreEvent) (first second : PlacedSyllable) : Type 0 where
-  pub outs : List ScoreOutput
-  pub law : concat_of (left_of before (ending_events ending)) ≡ outs
-  pub told : Tells outs old new first second
+  pub outputs : List ScoreOutput
+  pub law : concat_of (left_of before (ending_events ending)) ≡ outputs
+  pub emitted : Tells outputs old new first second
 
 -- these characters, and how they cease
 abbrev pub to_come : InputEnding → List Char → List HeadEvent

@@ -1,12 +1,17 @@
 -- What a machine over a score shows, and what holds of it between two calls.
-use Rattle.std.specs.Prelude.{◌≡◌, ℕ, ◌≤◌, false, [], length}
+use Rattle.std.specs.Prelude.{◌≡◌, ℕ, ◌≤◌, false, List, [], ◌∷◌, length, None}
 use Rattle.std.specs.List.{All}
+use Rattle.gabc_places.specs.declared.place.Char.{Char}
+use Rattle.gabc_headers.specs.declared.head_event.HeadEvent.{HeadEvent}
+use Rattle.gabc_headers.specs.declared.head_event.HeadEvent.TheVariants as head_event
 use Rattle.gabc_score.specs.Canonical.{canonical}
 use Rattle.gabc_score.specs.Syllable.{UnplacedSyllable}
 use Rattle.gabc_score.specs.declared.score_machine.ScoreMachine.{ScoreMachine}
 use Rattle.gabc_score.specs.declared.score_machine.ScorePart.{ScorePart}
 use Rattle.gabc_score.specs.declared.score_machine.ScorePart.TheVariants as score_part
-use Rattle.gabc_score.specs.ScoreStage.{ScoreStageState}
+use Rattle.gabc_score.specs.declared.slot_pair.SlotUse.TheVariants.{Filling}
+use Rattle.gabc_score.specs.ScoreStage.{ScoreStageState, left_of}
+use Rattle.gabc_score.specs.machine.BodyBuilder.{code_in}
 use Rattle.gabc_score.specs.machine.Gatherer.{nothing_gathered}
 use Rattle.gabc_score.specs.machine.PartCounts.{CountsHold}
 use Rattle.gabc_score.specs.machine.ScoreStage.{HeldScore}
@@ -14,7 +19,7 @@ use Rattle.gabc_score.specs.machine.SlotPair.{is_made}
 
 -- what was read
 abbrev pub held_score : ScoreMachine → HeldScore
-held_score m = record { next = m.next; gathered = m.pair.gathered; given = m.given }
+held_score m = record { next = m.next; gathered = m.pair.gathered; has_lent = m.has_lent }
 
 abbrev pub shown : ScoreMachine → ScoreStageState
 shown m = record { limits = m.limits; part = m.part; held = held_score m; body = m.body; first = m.pair.first; second = m.pair.second }
@@ -37,13 +42,27 @@ pub record IsAtRest (m : ScoreMachine) : Type 0 where
 pub record IsBeforeBody (m : ScoreMachine) : Type 0 where
   pub rests : IsAtRest m
   pub nothing : m.pair.gathered ≡ nothing_gathered m.limits.syllable 0
-  pub none_given : m.given ≡ false
+  pub none_lent : m.has_lent ≡ false
 
 -- in the body what is counted holds, and the kept text is within the limit
 pub record IsInBody (m : ScoreMachine) : Type 0 where
   pub rests : IsAtRest m
   pub counts : CountsHold m.body.part m.pair.gathered.builder
   pub kept : length m.pair.gathered.builder.kept ≤ m.limits.syllable
+
+-- in the body, where nothing is lent, no limit is passed and one whole syllable is held at most
+pub record IsFreed (m : ScoreMachine) : Type 0 where
+  pub part : m.part ≡ score_part.Body
+  pub body : IsInBody m
+  pub used : m.pair.used ≡ Filling
+  pub code : code_in m.limits m.pair.gathered ≡ None
+  pub one : length m.pair.gathered.made ≤ 1
+
+-- At this character of the body nothing was to come, and it goes on in its part with what follows under the same limits.
+pub record PassesQuietly (before : ScoreStageState) (x : Char) (after : ScoreStageState) : Type 0 where
+  pub limits : after.limits ≡ before.limits
+  pub part : after.part ≡ before.part
+  pub law : (xs : List HeadEvent) → left_of before (head_event.Body x ∷ xs) ≡ [] ∷ left_of after xs
 
 abbrev pub IsScoreAt : ScorePart → ScoreMachine → Type 0
 IsScoreAt score_part.Heads m = IsBeforeBody m

@@ -22,18 +22,18 @@ use Rattle.gabc_score.specs.machine.BodyBuilder.{with_all, code_in, end_fault, e
 use Rattle.gabc_score.specs.machine.Gatherer.{Gathered, nothing_gathered, with_last}
 
 -- The place of the next character, and what was gathered: of the syllables made, those not given yet, of which the last is held. And
--- whether one was given before.
+-- whether one was lent before.
 pub record HeldScore : Type 0 where
   pub next : Place
   pub gathered : Gathered
-  pub given : Bool
+  pub has_lent : Bool
 
 -- these syllables, the first of which is the first not given yet
 abbrev pub placed_behind : Bool → List UnplacedSyllable → List PlacedSyllable
-placed_behind given made = placed_syllables_by (not given) made
+placed_behind has_lent made = placed_syllables_by (not has_lent) made
 
 abbrev pub held_outputs : HeldScore → List ScoreOutput
-held_outputs s = outputs_of [] (placed_behind s.given s.gathered.made)
+held_outputs s = outputs_of [] (placed_behind s.has_lent s.gathered.made)
 
 abbrev pub stop_outputs : HeldScore → Fault → List ScoreOutput
 stop_outputs s fault = held_outputs s ++ Stop fault ∷ []
@@ -42,7 +42,7 @@ stop_outputs s fault = held_outputs s ++ Stop fault ∷ []
 abbrev pub point_outputs : HeldScore → List BodyEvent → List ScoreOutput
 point_outputs s now =
     let made = (with_all s.gathered now).made in
-    outputs_of (findings_now now) (take (length made - 1) (placed_behind s.given made))
+    outputs_of (findings_now now) (take (length made - 1) (placed_behind s.has_lent made))
 
 -- all but the last are given
 abbrev pub with_held : Gathered → Gathered
@@ -51,13 +51,13 @@ with_held g = record g { made = drop (length g.made - 1) g.made }
 abbrev pub score_past : HeldScore → Char → List BodyEvent → HeldScore
 score_past s x now =
     let g = with_all s.gathered now in
-    record { next = place_after_char x.place x.c; gathered = with_held g; given = s.given || nat_lt 1 (length g.made) }
+    record { next = place_after_char x.place x.c; gathered = with_held g; has_lent = s.has_lent || nat_lt 1 (length g.made) }
 
 abbrev pub end_outputs_by : HeldScore → List BodyEvent → Option Fault → List ScoreOutput
 end_outputs_by s now (Some fault) = stop_outputs s fault
 end_outputs_by s now None =
     let g = with_all s.gathered now in
-    outputs_of (findings_now now ++ end_findings s.next (has_text g.builder.view) ((with_last g).eu || (with_last g).nlba)) (placed_behind s.given (with_last g).made)
+    outputs_of (findings_now now ++ end_findings s.next (has_text g.builder.view) ((with_last g).eu || (with_last g).nlba)) (placed_behind s.has_lent (with_last g).made)
     ++ End ∷ []
 
 abbrev pub end_outputs : Limits → HeldScore → List BodyEvent → List ScoreOutput
@@ -82,7 +82,7 @@ body_left limits s lists (head_event.Heads lines macros canonical ∷ xs) = [] �
 
 -- nothing was read of a body whose canonical headers have so many bytes
 abbrev pub begun_score : Limits → Place → ℕ → HeldScore
-begun_score limits at head = record { next = at; gathered = nothing_gathered limits.syllable head; given = false }
+begun_score limits at head = record { next = at; gathered = nothing_gathered limits.syllable head; has_lent = false }
 
 abbrev pub fresh_score : Limits → ℕ → HeldScore
 fresh_score limits head = begun_score limits first_place head

@@ -3,7 +3,7 @@ use Rattle.std.specs.Prelude.{ℕ, List, [], ◌∷◌, Bool, true, false, take}
 use Rattle.gabc_notes.specs.declared.stage.NoteEvent.{NoteEvent}
 use Rattle.gabc_score.specs.Events.{is_close}
 use Rattle.gabc_score.specs.declared.slot_pair.SlotUse.{SlotUse}
-use Rattle.gabc_score.specs.declared.slot_pair.SlotUse.TheVariants.{Reads, Made, Lent}
+use Rattle.gabc_score.specs.declared.slot_pair.SlotUse.TheVariants.{Filling, Made, Lent}
 use Rattle.gabc_score.specs.Syllable.{UnplacedSyllable, PlacedSyllable}
 use Rattle.gabc_score.specs.declared.score_event.LentSyllable.TheVariants.{First, Second}
 use Rattle.gabc_score.specs.declared.score_event.ScoreEvent.{ScoreEvent}
@@ -22,7 +22,7 @@ pub record SlotPairState : Type 0 where
 
 -- nothing is read where the slot holds a whole syllable
 abbrev pub reading_in : SlotUse → ReadSyllable → OpenSyllable
-reading_in Reads s = s.reading
+reading_in Filling s = s.reading
 reading_in Made s = nothing_open
 reading_in Lent s = nothing_open
 
@@ -33,31 +33,31 @@ held_in false s = []
 -- the syllable that was made last
 abbrev pub made_last : SlotUse → ReadSyllable → List UnplacedSyllable
 made_last Made s = made_in s ∷ []
-made_last Reads s = []
+made_last Filling s = []
 made_last Lent s = []
 
 -- the first that may be lent is the one held, or what was held when it was given for the next
 abbrev pub first_in : SlotUse → ReadSyllable → ReadSyllable → PlacedSyllable
 first_in Lent now other = placed_in now
-first_in Reads now other = placed_in other
+first_in Filling now other = placed_in other
 first_in Made now other = placed_in other
 
 abbrev pub is_made : SlotUse → Bool
 is_made Made = true
-is_made Reads = false
+is_made Filling = false
 is_made Lent = false
 
 abbrev pub used_by : Bool → SlotUse
 used_by true = Made
-used_by false = Reads
+used_by false = Filling
 
 -- a `)` ends what is read
 abbrev pub used_past : NoteEvent → SlotUse
 used_past e = used_by (is_close e)
 
 -- so many of the two are given
-abbrev pub given_of : ℕ → SlotPairState → List PlacedSyllable
-given_of n s = take n (s.first ∷ s.second ∷ [])
+abbrev pub lent_syllables : ℕ → SlotPairState → List PlacedSyllable
+lent_syllables n s = take n (s.first ∷ s.second ∷ [])
 
 -- the events that give them
 abbrev pub lent_of : ℕ → List ScoreEvent

@@ -198,8 +198,8 @@ module _ (c : ℕ) (t : List ℕ) (read : List ℕ) (s : TextStage) (mode : Toke
   abbrev stage : TextStage
   stage = stage_in read s mode more
 
-  abbrev Reading : Step → Type 0
-  Reading w = From read s mode more held c t
+  abbrev FromStep : Step → Type 0
+  FromStep w = From read s mode more held c t
       (findings_there s.progress.place (option_list_of (early_at s.facts mode c)) ++ (option_list_of (char_event (past s.progress.next more) (keep s.facts mode c)) ++ events_of_step (stage_past_char stage c) w (bytes_past s.progress.kept (kept_held mode more))))
       (stage_after_step (stage_past_char stage c) w)
 
@@ -225,7 +225,7 @@ module _ (c : ℕ) (t : List ℕ) (read : List ℕ) (s : TextStage) (mode : Toke
   longer : held ++ c ∷ [] ≡ read ++ (more ++ c ∷ [])
   longer = ap (λ (x : List ℕ). x ++ c ∷ []) here ∙ append_assoc read more (c ∷ [])
 
-  stays : (next : TokenState) → Runs t → next_step mode c ≡ Stays next → Holds next (held ++ c ∷ []) → Reading (Stays next)
+  stays : (next : TokenState) → Runs t → next_step mode c ≡ Stays next → Holds next (held ++ c ∷ []) → FromStep (Stays next)
   stays next ih e h =
       let kept : kept_held mode more ++ option_list_of (keep s.facts mode c) ≡ kept_held next (more ++ c ∷ []) =
       subst (KeptGo s.facts (kept_held mode more ++ option_list_of (keep s.facts mode c)) more c) e kept_next in
@@ -288,7 +288,7 @@ module _ (c : ℕ) (t : List ℕ) (read : List ℕ) (s : TextStage) (mode : Toke
     none_owed : owed_events_at read s (k ∷ []) ≡ []
     none_owed = ap (λ (b : Bool). cond b (token_events_by s.facts s.progress k (drop (length read) (spelling k))) []) lone
 
-    ends_token : Runs t → ((u : List ℕ) → tokens (held ++ c ∷ u) ≡ k ∷ tokens u) → Reading (Ends k.kind so)
+    ends_token : Runs t → ((u : List ℕ) → tokens (held ++ c ∷ u) ≡ k ∷ tokens u) → FromStep (Ends k.kind so)
     ends_token ih cuts =
         let spelled : held ++ c ∷ t ≡ spelling k ++ t = sym (append_assoc held (c ∷ []) t) ∙ ap (λ (x : List ℕ). x ++ t) (sym f) in
         let run = ih [] (past_token read s k) Plain [] [] refl refl in (
@@ -303,13 +303,13 @@ module _ (c : ℕ) (t : List ℕ) (read : List ℕ) (s : TextStage) (mode : Toke
           ap (λ (x : TextStage). LeftAt x c t) state_is ∙ run.1 ∙ sym (remaining_more k (held ++ c ∷ t) t (cuts t) spelled),
         )
 
-  read_emits : Runs t → (mode ≡ Plain → c == 40 ≡ false) → settled_kind mode c ≡ None → Reading (next_step mode c)
+  read_emits : Runs t → (mode ≡ Plain → c == 40 ≡ false) → settled_kind mode c ≡ None → FromStep (next_step mode c)
   read_emits ih plain e = by (next_step mode c) refl (goes mode held c holds e plain)
     where
-      by : (w : Step) → next_step mode c ≡ w → WentBy w held c → Reading w
+      by : (w : Step) → next_step mode c ≡ w → WentBy w held c → FromStep w
       by (Stays next) f h = stays next ih f h
       by (Ends d so) f h =
-          subst (λ (x : TokenKind). Reading (Ends x so)) h.kind_is (ends_token so h.token (f ∙ ap (λ (x : TokenKind). Ends x so) (sym h.kind_is)) h.sort_is h.spelled ih h.cuts)
+          subst (λ (x : TokenKind). FromStep (Ends x so)) h.kind_is (ends_token so h.token (f ∙ ap (λ (x : TokenKind). Ends x so) (sym h.kind_is)) h.sort_is h.spelled ih h.cuts)
 
   -- a character before which no token ends
   settled_emits : Runs t → settled_kind mode c ≡ None → From read s mode more held c t (events_of_settled_push stage c) (settled_push_stage stage c)

@@ -125,7 +125,7 @@ piece_bytes : (K : List ℕ) (p : Piece) (q : PieceFacts) (w b : Bool) → IsPie
 piece_bytes K p q w b h g =
     ap (λ (x : PieceKind). piece_text_by x (span_bytes (encodes K) p.span)) h.kind_is
     ∙ ap (piece_text_by q.kind) (spanned_is K p.span (kept_of_piece q) h.stands)
-    ∙ by q.kind q.text g.says
+    ∙ by q.kind q.text g.reads_so
   where
     char : (t : List ℕ) → text_of_piece piece.Char (letter t) ≡ t → with_dollar (encodes t) ≡ encodes (spelling (letter t))
     char [] e = absurd (cc)

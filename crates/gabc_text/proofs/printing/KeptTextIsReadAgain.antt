@@ -115,7 +115,7 @@ left_still b k e =
         count = ap (λ (ps : List PieceFacts). count_pieces b + length ps) g ∙ (let h : count_pieces b + 0 ≡ count_pieces b = omega arith in h);
         begin = begins k.kind e;
         end = ends k.kind e;
-        translation = says k.kind e;
+        translation = reads_so k.kind e;
       };
       none = g;
     }
@@ -136,9 +136,9 @@ left_still b k e =
         by false f = refl
     ends _ e = refl
 
-    says : (d : TokenKind) → is_left_out b d ≡ true → cond (is_whole_translation d && not (has_translation b)) (Some (but_end k.more)) (translation_text b) ≡ translation_text b
-    says kind.Translation e = absurd (cc)
-    says _ e = refl
+    reads_so : (d : TokenKind) → is_left_out b d ≡ true → cond (is_whole_translation d && not (has_translation b)) (Some (but_end k.more)) (translation_text b) ≡ translation_text b
+    reads_so kind.Translation e = absurd (cc)
+    reads_so _ e = refl
 
 -- ---- a blank after a blank
 

@@ -20,7 +20,7 @@ use Rattle.gabc_text.proofs.printing.PrintedPiecesAreReadAgain.{Good, AllGood, S
 -- a letter is one character that is no blank
 pub record IsLetter (k : Token) : Type 0 where
   pub c : ℕ
-  pub says : last_of k.first k.more ≡ c ∷ []
+  pub reads_so : last_of k.first k.more ≡ c ∷ []
   pub no_blank : is_blank c ≡ false
 
 abbrev LetterAt : List ℕ → ℕ → Type 0
@@ -37,12 +37,12 @@ special_no_blank c e =
     λ _. rw (turned 32 c e32, turned 9 c e9, turned 10 c e10) refl))) e
 
 dollar_letter : (t : List ℕ) → IsLetter (dollar_at t)
-dollar_letter [] = record { c = 36; says = refl; no_blank = refl }
+dollar_letter [] = record { c = 36; reads_so = refl; no_blank = refl }
 dollar_letter (d ∷ t) = by (is_special d) refl
   where
     by : (b : Bool) → is_special d ≡ b → IsLetter (record { kind = kind.Letter; first = 36; more = cond b (d ∷ []) [] })
-    by true e = record { c = d; says = refl; no_blank = special_no_blank d e }
-    by false e = record { c = 36; says = refl; no_blank = refl }
+    by true e = record { c = d; reads_so = refl; no_blank = special_no_blank d e }
+    by false e = record { c = 36; reads_so = refl; no_blank = refl }
 
 tag_letter : (t : List ℕ) (o : Option (List ℕ)) → (tag_at t o).kind ≡ kind.Letter → IsLetter (tag_at t o)
 tag_letter t None e = absurd (cc)
@@ -73,7 +73,7 @@ token_letter c t =
     by_case 60 c (LetterAt t) (tag_letter t (through (codes ">") t)) (λ e60.
     by_case 91 c (LetterAt t) (λ e. absurd (in_brackets (through (codes "]") t) e)) (λ e91.
     λ e. let f : single c ≡ kind.Letter = rw (e36, e37, e60, e91) at e in
-    rw (e36, e37, e60, e91) (record { c = c; says = refl; no_blank = single_letter c f })))))
+    rw (e36, e37, e60, e91) (record { c = c; reads_so = refl; no_blank = single_letter c f })))))
   where
     in_brackets : (o : Option (List ℕ)) → (ended_token kind.Translation kind.OpenTranslation 91 [] t o).kind ≡ kind.Letter → ⊥
     in_brackets None e = absurd (cc)
@@ -117,20 +117,20 @@ good_by : (d : TokenKind) (c : ℕ) (s : List ℕ) (before : List Token) (w b : 
 good_by kind.Letter c s before w b p f e =
     let l = f.letters refl in
     subst (GoodFrom before (record { kind = kind.Letter; first = c; more = s }) w b) (let g : piece.Char ≡ p = cc in g)
-    (subst (λ (t : List ℕ). Good (record { kind = piece.Char; styles = open_styles before; text = t }) w b) (sym l.says)
-    (record { test = λ s. is_open s before; styles_are = refl; stable = letter_stable l.c l.no_blank; says = letter_emits l.c w b }))
+    (subst (λ (t : List ℕ). Good (record { kind = piece.Char; styles = open_styles before; text = t }) w b) (sym l.reads_so)
+    (record { test = λ s. is_open s before; styles_are = refl; stable = letter_stable l.c l.no_blank; reads_so = letter_emits l.c w b }))
 good_by kind.Raw c s before w b p f e =
     subst (GoodFrom before (record { kind = kind.Raw; first = c; more = s }) w b) (let g : piece.Raw ≡ p = cc in g)
-    (record { test = λ s. is_open s before; styles_are = refl; stable = f.again refl; says = (refl, refl, refl) })
+    (record { test = λ s. is_open s before; styles_are = refl; stable = f.again refl; reads_so = (refl, refl, refl) })
 good_by kind.Tag c s before w b p f e = by (effect_of (c ∷ s)) refl e
   where
     by : (so : TagEffect) → effect_of (c ∷ s) ≡ so → tag_piece so ≡ Some p → GoodFrom before (record { kind = kind.Tag; first = c; more = s }) w b p
     by Mark g h =
         subst (GoodFrom before (record { kind = kind.Tag; first = c; more = s }) w b) (let g : piece.Mark ≡ p = cc in g)
-        (record { test = λ s. is_open s before; styles_are = refl; stable = f.again refl; says = (ap tag_piece g, refl, refl) })
+        (record { test = λ s. is_open s before; styles_are = refl; stable = f.again refl; reads_so = (ap tag_piece g, refl, refl) })
     by Other g h =
         subst (GoodFrom before (record { kind = kind.Tag; first = c; more = s }) w b) (let g : piece.Tag ≡ p = cc in g)
-        (record { test = λ s. is_open s before; styles_are = refl; stable = f.again refl; says = (ap tag_piece g, refl, refl) })
+        (record { test = λ s. is_open s before; styles_are = refl; stable = f.again refl; reads_so = (ap tag_piece g, refl, refl) })
     by _ g h = absurd (cc)
 good_by _ c s before w b p f e = absurd (cc)
 
@@ -138,7 +138,7 @@ good_by _ c s before w b p f e = absurd (cc)
 
 any_blank : (b d : Bool) (ps : List PieceFacts) → AllGood false b ps → AllGood false d ps
 any_blank b d [] h = tt
-any_blank b d (p ∷ ps) h = (record { test = (h.0).test; styles_are = (h.0).styles_are; stable = (h.0).stable; says = by p.kind (h.0).says }, h.1)
+any_blank b d (p ∷ ps) h = (record { test = (h.0).test; styles_are = (h.0).styles_are; stable = (h.0).stable; reads_so = by p.kind (h.0).reads_so }, h.1)
   where
     by : (k : PieceKind) → Says k p.text false b → Says k p.text false d
     by piece.Blank g = absurd (let e = g.1 in cc)
@@ -164,7 +164,7 @@ blank_after before = record { kind = piece.Blank; styles = open_styles before; t
 -- a token that is no piece but a blank
 blank_case : (before : List Token) (sp w b : Bool) (ps : List PieceFacts) → AllGood w (sp || b) ps → AllGood w b (cond (sp && w && not b) (blank_after before ∷ []) [] ++ ps)
 blank_case before true true false ps g =
-    (record { test = λ s. is_open s before; styles_are = refl; stable = λ u. refl; says = (refl, refl, refl) }, g)
+    (record { test = λ s. is_open s before; styles_are = refl; stable = λ u. refl; reads_so = (refl, refl, refl) }, g)
 blank_case before true true true ps g = g
 blank_case before true false b ps g = any_blank true b ps g
 blank_case before false w b ps g = g

@@ -239,7 +239,7 @@ pub piece_marks : (p : PieceFacts) (w b : Bool) (now : List Token) → Good p w 
     → Marks now (printed_piece p.kind p.text ∷ []) [] [] (has_begin now) (has_end now) (count_pieces now + 1)
 piece_marks p w b now g d =
     let e = no_brace p w b g in
-    let one : length (pieces_at now (printed_piece p.kind p.text)) ≡ 1 = ap length d.gives in
+    let one : length (pieces_at now (printed_piece p.kind p.text)) ≡ 1 = ap length d.pieces_are in
     record { begins_are = rw e.0 refl; ends_are = rw e.1 refl; begun_is = rw e.0 refl; ended_is = rw e.1 refl; count_is = ap (λ (n : ℕ). count_pieces now + n) one }
   where
     kinds : (d : TokenKind) (t : List ℕ) (p : PieceKind) → piece_kind d (effect_as d t) ≡ Some p → (is_begin d ≡ false) × (is_end d ≡ false)
@@ -248,7 +248,7 @@ piece_marks p w b now g d =
     kinds _ t p e = (refl, refl)
 
     no_brace : (p : PieceFacts) (w b : Bool) → Good p w b → (is_begin (printed_piece p.kind p.text).kind ≡ false) × (is_end (printed_piece p.kind p.text).kind ≡ false)
-    no_brace p w b g = by p.kind g.says
+    no_brace p w b g = by p.kind g.reads_so
       where
         by : (k : PieceKind) → Says k p.text w b → (is_begin (printed_piece k p.text).kind ≡ false) × (is_end (printed_piece k p.text).kind ≡ false)
         by piece.Blank h = (refl, refl)

@@ -110,7 +110,7 @@ pub record Good (p : PieceFacts) (w b : Bool) : Type 0 where
   pub test : Style → Bool
   pub styles_are : p.styles ≡ filter test all_styles
   pub stable : Stable (printed_piece p.kind p.text)
-  pub says : Says p.kind p.text w b
+  pub reads_so : Says p.kind p.text w b
 
 -- the pieces after a word or none, and after a blank or none
 abbrev pub AllGood : Bool → Bool → List PieceFacts → Type 0
@@ -133,7 +133,7 @@ same_open s _ t p was e = refl
 
 -- what a printed piece does after such tokens
 pub record Does (p : PieceFacts) (w b : Bool) (before : List Token) : Type 0 where
-  pub gives : pieces_at before (printed_piece p.kind p.text) ≡ record { kind = p.kind; styles = open_styles before; text = p.text } ∷ []
+  pub pieces_are : pieces_at before (printed_piece p.kind p.text) ≡ record { kind = p.kind; styles = open_styles before; text = p.text } ∷ []
   pub word : has_word (printed_piece p.kind p.text ∷ before) ≡ (is_word_kind (Some p.kind) || w)
   pub blank : follows_blank (printed_piece p.kind p.text ∷ before) ≡ is_blank_piece p.kind
   pub opens : (s : Style) → is_open s (printed_piece p.kind p.text ∷ before) ≡ is_open s before
@@ -142,7 +142,7 @@ pub record Does (p : PieceFacts) (w b : Bool) (before : List Token) : Type 0 whe
 no_blank : (k : PieceKind) (t : List ℕ) (ss : List Style) (w b : Bool) (before : List Token) → kind_of (printed_piece k t) ≡ Some k → text_of_piece k (printed_piece k t) ≡ t → is_space (printed_piece k t).kind ≡ false
     → is_blank_piece k ≡ false → has_word before ≡ w → Does (record { kind = k; styles = ss; text = t }) w b before
 no_blank k t ss w b before e f g n h = record {
-  gives = of_kind before (printed_piece k t) k t e f;
+  pieces_are = of_kind before (printed_piece k t) k t e f;
   word = ap (λ o. is_word_kind o || has_word before) e ∙ ap (λ x. is_word_kind (Some k) || x) h;
   blank = rw (g, e, n) refl;
   opens = λ s. same_open s (printed_piece k t).kind (spelling (printed_piece k t)) k (is_open s before) e;
@@ -150,11 +150,11 @@ no_blank k t ss w b before e f g n h = record {
 }
 
 pub does : (p : PieceFacts) (w b : Bool) (before : List Token) → Good p w b → has_word before ≡ w → (w ≡ true → follows_blank before ≡ b) → Does p w b before
-does p w b before h e f = by p.kind h.says
+does p w b before h e f = by p.kind h.reads_so
   where
     by : (k : PieceKind) → Says k p.text w b → Does (record { kind = k; styles = p.styles; text = p.text }) w b before
     by piece.Blank g = record {
-      gives = rw (e, g.1, f g.1, g.2, g.0) refl;
+      pieces_are = rw (e, g.1, f g.1, g.2, g.0) refl;
       word = e ∙ g.1;
       blank = refl;
       opens = λ s. refl;
@@ -183,7 +183,7 @@ pieces_again centre i old (p ∷ ps) w b before o h e f g =
     let none : AllOnce p.styles = rw set (once (g.0).test) in
     along_append pieces_at before gap (printed_piece p.kind p.text ∷ print_from centre (i + 1) p.styles ps)
     ∙ ap (λ (x : List PieceFacts). x ++ along pieces_at now (printed_piece p.kind p.text ∷ print_from centre (i + 1) p.styles ps)) (silent_along before gap silent)
-    ∙ ap (λ (x : List PieceFacts). x ++ along pieces_at (printed_piece p.kind p.text ∷ now) (print_from centre (i + 1) p.styles ps)) d.gives
+    ∙ ap (λ (x : List PieceFacts). x ++ along pieces_at (printed_piece p.kind p.text ∷ now) (print_from centre (i + 1) p.styles ps)) d.pieces_are
     ∙ ap (λ (x : List Style). record { kind = p.kind; styles = x; text = p.text } ∷ along pieces_at (printed_piece p.kind p.text ∷ now) (print_from centre (i + 1) p.styles ps)) styles
     ∙ ap (λ (x : List PieceFacts). p ∷ x)
     (pieces_again centre (i + 1) p.styles ps (is_word_kind (Some p.kind) || w) (is_blank_piece p.kind) (printed_piece p.kind p.text ∷ now) none opens d.word (λ x. d.blank) g.1)

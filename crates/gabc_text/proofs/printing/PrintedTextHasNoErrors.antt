@@ -76,7 +76,7 @@ in_gap centre i old new =
     (openings (after_common old new).1)
 
 in_piece : (p : PieceFacts) (w b : Bool) → Good p w b → is_stray (printed_piece p.kind p.text).kind ≡ false
-in_piece p w b g = by p.kind g.says
+in_piece p w b g = by p.kind g.reads_so
   where
     kinds : (d : TokenKind) (t : List ℕ) (q : PieceKind) → piece_kind d (effect_as d t) ≡ Some q → is_stray d ≡ false
     kinds kind.Stray t q e = absurd (cc)

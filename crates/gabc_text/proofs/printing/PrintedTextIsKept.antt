@@ -68,7 +68,7 @@ gap_kept old new before ms h =
     (openings (after_common old new).1 (push (map closing_tag (reverse (after_common old new).0) ++ ms) before))
 
 piece_kept : (p : PieceFacts) (w b : Bool) (now : List Token) → Good p w b → (w ≡ true → follows_blank now ≡ b) → kept_at now (printed_piece p.kind p.text) ≡ spelling (printed_piece p.kind p.text)
-piece_kept p w b now g f = by p.kind g.says
+piece_kept p w b now g f = by p.kind g.reads_so
   where
     spelled : (k : Token) (q : PieceKind) → (is_left_out now k.kind ≡ false) × (is_space k.kind ≡ false) → kept_at now k ≡ spelling k
     spelled k q h = rw (h.0, h.1) refl

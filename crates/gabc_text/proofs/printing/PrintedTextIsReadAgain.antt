@@ -44,7 +44,7 @@ stable_from centre i old (p ∷ ps) w b g =
 -- ---- no blank at the end
 
 no_blank_after : (w b : Bool) (q : PieceFacts) → Good q w b → is_blank_piece q.kind ≡ true → b ≡ false
-no_blank_after w b q g e = by q.kind g.says e
+no_blank_after w b q g e = by q.kind g.reads_so e
   where
     by : (k : PieceKind) → Says k q.text w b → is_blank_piece k ≡ true → b ≡ false
     by piece.Blank h e = h.2
@@ -91,7 +91,7 @@ silent_translation [] ls h = refl
 silent_translation (k ∷ ks) ls h = no_translation k (ks ++ ls) (h.0).no_translation ∙ silent_translation ks ls h.1
 
 facts_no_translation : (p : PieceFacts) (w b : Bool) → Good p w b → is_translation (printed_piece p.kind p.text).kind ≡ false
-facts_no_translation p w b g = by p.kind g.says
+facts_no_translation p w b g = by p.kind g.reads_so
   where
     kinds : (d : TokenKind) (t : List ℕ) (p : PieceKind) → piece_kind d (effect_as d t) ≡ Some p → is_translation d ≡ false
     kinds kind.Translation t p e = absurd (cc)
@@ -200,8 +200,8 @@ translation_one k others f g h = by k.kind refl
         let r = g e in
         let same : k ≡ record { kind = kind.Translation; first = 91; more = r.s ++ 93 ∷ [] } = ap (λ d. record { kind = d; first = k.first; more = k.more }) e
         ∙ ap (λ c. record { kind = kind.Translation; first = c; more = k.more }) r.first_is ∙ ap (λ s. record { kind = kind.Translation; first = 91; more = s }) r.more_is in
-        let says : take (length k.more - 1) k.more ≡ r.s = ap (λ (u : List ℕ). take (length u - 1) u) r.more_is ∙ but_last r.s in
-        subst (λ (u : List ℕ). IsTranslated (Some u)) (sym says) (subst Stable same (f (rw e refl)))
+        let reads_so : take (length k.more - 1) k.more ≡ r.s = ap (λ (u : List ℕ). take (length u - 1) u) r.more_is ∙ but_last r.s in
+        subst (λ (u : List ℕ). IsTranslated (Some u)) (sym reads_so) (subst Stable same (f (rw e refl)))
     by _ e = h
 
 translation_fine : (n : ℕ) (t : List ℕ) → IsTranslated (translation_from (tokens_after n t))

@@ -31,12 +31,12 @@ abbrev IsLast : Token → List Token → Type 0
 IsLast k ks = (ks ≡ []) × (tokens (spelling k) ≡ k ∷ [])
 
 -- whatever follows; before a plain one; at the end; or it is left out
-abbrev IsRead : Token → List Token → Type 0
-IsRead k ks = Stable k ⊎ (Lone k ks ⊎ (IsLast k ks ⊎ (k.kind ≡ kind.Comment)))
+abbrev IsReadBack : Token → List Token → Type 0
+IsReadBack k ks = Stable k ⊎ (Lone k ks ⊎ (IsLast k ks ⊎ (k.kind ≡ kind.Comment)))
 
 abbrev AllRead : List Token → Type 0
 AllRead [] = Unit {0}
-AllRead (k ∷ ks) = IsRead k ks × AllRead ks
+AllRead (k ∷ ks) = IsReadBack k ks × AllRead ks
 
 none_after : (t : List ℕ) → tokens_after (length t) t ≡ []
 none_after [] = refl
@@ -44,7 +44,7 @@ none_after (c ∷ t) = none_after t
 
 -- the token that begins with c, and those after it
 abbrev ReadAt : List ℕ → ℕ → Type 0
-ReadAt t c = c == 40 ≡ false → IsRead (token_at c t) (tokens_after (length (token_at c t).more) t)
+ReadAt t c = c == 40 ≡ false → IsReadBack (token_at c t) (tokens_after (length (token_at c t).more) t)
 
 last_read : (c : ℕ) (t : List ℕ) → c == 40 ≡ false → (token_at c t).first ≡ c → (token_at c t).more ≡ t → IsLast (token_at c t) (tokens_after (length (token_at c t).more) t)
 last_read c t ne f m = (
@@ -80,7 +80,7 @@ dollar_read : (t : List ℕ) → ReadAt t 36
 dollar_read [] ne = inr (inl (refl, tt))
 dollar_read (d ∷ u) ne = by (is_special d) refl
   where
-    by : (b : Bool) → is_special d ≡ b → IsRead (record { kind = kind.Letter; first = 36; more = cond b (d ∷ []) [] }) (tokens_after (length {A = ℕ} (cond b (d ∷ []) [])) (d ∷ u))
+    by : (b : Bool) → is_special d ≡ b → IsReadBack (record { kind = kind.Letter; first = 36; more = cond b (d ∷ []) [] }) (tokens_after (length {A = ℕ} (cond b (d ∷ []) [])) (d ∷ u))
     by true e = inl (escaped_stable d e)
     by false e = inr (inl (refl, plain_next d u e))
 
@@ -91,11 +91,11 @@ tag_read t ne = by (through (62 ∷ []) t) refl
     here : (o : Option (List ℕ)) → through (62 ∷ []) t ≡ o → token_at 60 t ≡ tag_at t o
     here o e = ap (tag_at t) e
 
-    stands : (token_at 60 t).kind ≡ kind.Tag ⊎ (token_at 60 t).kind ≡ kind.Raw → IsRead (token_at 60 t) (tokens_after (length (token_at 60 t).more) t)
+    stands : (token_at 60 t).kind ≡ kind.Tag ⊎ (token_at 60 t).kind ≡ kind.Raw → IsReadBack (token_at 60 t) (tokens_after (length (token_at 60 t).more) t)
     stands (inl e) = inl (token_again 60 t (rw e refl))
     stands (inr e) = inl (token_again 60 t (rw e refl))
 
-    last : (token_at 60 t).first ≡ 60 → (token_at 60 t).more ≡ t → IsRead (token_at 60 t) (tokens_after (length (token_at 60 t).more) t)
+    last : (token_at 60 t).first ≡ 60 → (token_at 60 t).more ≡ t → IsReadBack (token_at 60 t) (tokens_after (length (token_at 60 t).more) t)
     last f m = inr (inr (inl (last_read 60 t ne f m)))
 
     rest_of : (name : List ℕ) → through (62 ∷ []) t ≡ Some name → name ++ drop (length name) t ≡ t
@@ -104,18 +104,18 @@ tag_read t ne = by (through (62 ∷ []) t) refl
         ap (λ (x : List ℕ). name ++ drop (length name) x) f.parts ∙ ap (λ (x : List ℕ). name ++ x) (drop_past name f.rest) ∙ sym f.parts
 
     raws : (name : List ℕ) (o : Option (List ℕ)) → through (62 ∷ []) t ≡ Some name → token_at 60 t ≡ ended_token kind.Raw kind.OpenTag 60 name (drop (length name) t) o
-        → IsRead (token_at 60 t) (tokens_after (length (token_at 60 t).more) t)
+        → IsReadBack (token_at 60 t) (tokens_after (length (token_at 60 t).more) t)
     raws name None e f = last (ap (λ (k : Token). k.first) f) (ap (λ (k : Token). k.more) f ∙ rest_of name e)
     raws name (Some y) e f = stands (inr (ap (λ (k : Token). k.kind) f))
 
-    sorted : (name : List ℕ) (so : TagEffect) → through (62 ∷ []) t ≡ Some name → token_at 60 t ≡ token_of_tag name (drop (length name) t) so → IsRead (token_at 60 t) (tokens_after (length (token_at 60 t).more) t)
+    sorted : (name : List ℕ) (so : TagEffect) → through (62 ∷ []) t ≡ Some name → token_at 60 t ≡ token_of_tag name (drop (length name) t) so → IsReadBack (token_at 60 t) (tokens_after (length (token_at 60 t).more) t)
     sorted name (Begins raw) e f = raws name (through (ending_of raw) (drop (length name) t)) e f
     sorted name (Opens r) e f = stands (inl (ap (λ (k : Token). k.kind) f))
     sorted name (Closes r) e f = stands (inl (ap (λ (k : Token). k.kind) f))
     sorted name Mark e f = stands (inl (ap (λ (k : Token). k.kind) f))
     sorted name Other e f = stands (inl (ap (λ (k : Token). k.kind) f))
 
-    by : (o : Option (List ℕ)) → through (62 ∷ []) t ≡ o → IsRead (token_at 60 t) (tokens_after (length (token_at 60 t).more) t)
+    by : (o : Option (List ℕ)) → through (62 ∷ []) t ≡ o → IsReadBack (token_at 60 t) (tokens_after (length (token_at 60 t).more) t)
     by None e = last (ap (λ (k : Token). k.first) (here None e)) (ap (λ (k : Token). k.more) (here None e))
     by (Some name) e = sorted name (effect_of (60 ∷ name)) e (here (Some name) e)
 
@@ -125,7 +125,7 @@ bracket_read t ne = by (through (93 ∷ []) t) refl
     here : (o : Option (List ℕ)) → through (93 ∷ []) t ≡ o → token_at 91 t ≡ ended_token kind.Translation kind.OpenTranslation 91 [] t o
     here o e = ap (ended_token kind.Translation kind.OpenTranslation 91 [] t) e
 
-    by : (o : Option (List ℕ)) → through (93 ∷ []) t ≡ o → IsRead (token_at 91 t) (tokens_after (length (token_at 91 t).more) t)
+    by : (o : Option (List ℕ)) → through (93 ∷ []) t ≡ o → IsReadBack (token_at 91 t) (tokens_after (length (token_at 91 t).more) t)
     by None e = inr (inr (inl (last_read 91 t ne (ap (λ (k : Token). k.first) (here None e)) (ap (λ (k : Token). k.more) (here None e)))))
     by (Some y) e = inl (token_again 91 t (let f = ap (λ (k : Token). k.kind) (here (Some y) e) in rw f refl))
 
@@ -169,14 +169,14 @@ kept_tokens (k ∷ ks) b h = by (is_left_out b k.kind) (is_space k.kind) (follow
     left : k.kind ≡ kind.Comment → is_left_out b k.kind ≡ false → ⊥
     left e f = let g : is_left_out b k.kind ≡ true = rw e refl in absurd (cc)
 
-    whole : is_left_out b k.kind ≡ false → IsRead k ks → tokens (text_of_tokens (along kept_token (k ∷ b) ks)) ≡ along kept_token (k ∷ b) ks
+    whole : is_left_out b k.kind ≡ false → IsReadBack k ks → tokens (text_of_tokens (along kept_token (k ∷ b) ks)) ≡ along kept_token (k ∷ b) ks
         → tokens (spelling k ++ text_of_tokens (along kept_token (k ∷ b) ks)) ≡ k ∷ along kept_token (k ∷ b) ks
     whole o (inl s) ih = s (text_of_tokens (along kept_token (k ∷ b) ks)) ∙ ap (λ (x : List Token). k ∷ x) ih
     whole o (inr (inl l)) ih = lone_read b ks k l ∙ ap (λ (x : List Token). k ∷ x) ih
     whole o (inr (inr (inl l))) ih = rw (l.0) (ap tokens (append-nil (spelling k)) ∙ l.1)
     whole o (inr (inr (inr e))) ih = absurd (left e o)
 
-    by : (o s f : Bool) → is_left_out b k.kind ≡ o → IsRead k ks → tokens (text_of_tokens (along kept_token (k ∷ b) ks)) ≡ along kept_token (k ∷ b) ks
+    by : (o s f : Bool) → is_left_out b k.kind ≡ o → IsReadBack k ks → tokens (text_of_tokens (along kept_token (k ∷ b) ks)) ≡ along kept_token (k ∷ b) ks
         → tokens (text_of_tokens (kept_token_by o s f k ++ along kept_token (k ∷ b) ks)) ≡ kept_token_by o s f k ++ along kept_token (k ∷ b) ks
     by true s f e r ih = ih
     by false true true e r ih = ih

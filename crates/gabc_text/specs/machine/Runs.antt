@@ -1,7 +1,9 @@
 -- What the code has still to put while it goes over the pieces of a view.
-use Rattle.std.specs.Prelude.{ℕ, List, ◌++◌, drop}
+use Rattle.std.specs.Prelude.{ℕ, List, ◌++◌, Option, drop}
+use Rattle.gabc_places.specs.declared.place.Span.{Span}
 use Rattle.gabc_text.specs.declared.canonical.Run.{Run}
 use Rattle.gabc_text.specs.declared.styles.Styles.{Styles}
+use Rattle.gabc_text.specs.declared.view.Piece.{Piece}
 use Rattle.gabc_text.specs.declared.view.TextView.{TextView}
 use Rattle.gabc_text.specs.Canonical.{listed_styles, span_bytes, text_from}
 
@@ -9,6 +11,10 @@ use Rattle.gabc_text.specs.Canonical.{listed_styles, span_bytes, text_from}
 abbrev pub text_at : TextView → List ℕ → Styles → ℕ → List ℕ
 text_at v kept old i = text_from v.centre kept i (listed_styles old) (drop i v.pieces.items)
 
--- the text of a run and of the pieces behind it, whose styles are these
+-- the text of a run of these pieces and of those behind it, whose styles are these
+abbrev pub text_behind_run : Option Span → List Piece → List ℕ → Styles → Run → List ℕ
+text_behind_run centre pieces kept old r = span_bytes kept r.span ++ text_from centre kept r.next (listed_styles old) (drop r.next pieces)
+
+-- the same of the pieces of a view
 abbrev pub text_behind : TextView → List ℕ → Styles → Run → List ℕ
-text_behind v kept old r = span_bytes kept r.span ++ text_at v kept old r.next
+text_behind v = text_behind_run v.centre v.pieces.items

@@ -13,7 +13,7 @@ use Rattle.gabc_neumes.specs.declared.glyph.Glyph.{Glyph}
 use Rattle.gabc_neumes.specs.declared.glyph.GlyphKind.{GlyphKind}
 use Rattle.gabc_patterns.specs.Derivative.{rows_run, end_kind}
 use Rattle.gabc_patterns.specs.Pattern.{Pattern, Spells, never, nothing, one_of, any_but, ◌·◌, ◌or◌, many}
-use Rattle.gabc_patterns.specs.Reading.{Table, IsItemOf}
+use Rattle.gabc_patterns.specs.LongestItems.{Table, IsItemOf}
 use Rattle.gabc_patterns.proofs.BothOfTwoTests.{and_true}
 use Rattle.gabc_patterns.proofs.RowsRun.{item_at_end}
 use Rattle.std.proofs.lemmas.Bool.{leb-true}

@@ -2,7 +2,7 @@
 use Rattle.std.proofs.Common.{◌≡◌, ℕ, zero, suc, List, [], ◌∷◌, Option, Some, None, refl, sym, ap, ◌∙◌, subst, length, take, drop, ◌≤◌, ◌+◌, arith, length-append, length-take, take-append-drop}
 use Rattle.std.proofs.lemmas.Str.{encodes-append, length-le-encodes}
 use lib.Utf8.{encodes}
-use Rattle.gabc_patterns.specs.Reading.{Table}
+use Rattle.gabc_patterns.specs.LongestItems.{Table}
 use Rattle.gabc_patterns.specs.Function.{longest_item, items_within}
 use Rattle.gabc_patterns.proofs.ItemSoFar.{IsBest}
 use Rattle.gabc_patterns.proofs.ItemsFunctionReads.{longest_item_best}

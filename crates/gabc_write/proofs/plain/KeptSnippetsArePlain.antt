@@ -2,7 +2,7 @@
 use Rattle.std.proofs.Common.{◌≡◌, ℕ, zero, suc, List, [], ◌∷◌, ◌++◌, Bool, true, false, cond, if◌then◌else◌, refl, ap, ◌∙◌, reverse}
 use Rattle.std.proofs.lemmas.Grind.{reverse_onto}
 use Rattle.gabc_places.specs.declared.place.Char.{Char}
-use Rattle.gabc_patterns.specs.Reading.{Table}
+use Rattle.gabc_patterns.specs.LongestItems.{Table}
 use Rattle.gabc_patterns.specs.Derivative.{is_snippet, is_viable}
 use Rattle.gabc_patterns.specs.Function.{keep_from, trim_from}
 use Rattle.gabc_text.specs.Events.{codes_of}

@@ -5,7 +5,7 @@ use Rattle.gabc_places.specs.declared.place.Place.{Place}
 use Rattle.gabc_places.specs.declared.place.Char.{Char}
 use Rattle.gabc_places.specs.Place.{next_place, place_past, placed_characters_from}
 use Rattle.gabc_places.proofs.PlacesOfAText.{length_placed}
-use Rattle.gabc_patterns.specs.Reading.{IsSnippet}
+use Rattle.gabc_patterns.specs.LongestItems.{IsSnippet}
 use Rattle.gabc_text.specs.View.{kept, findings}
 use Rattle.gabc_text.specs.ViewFacts.{view_facts, has_error}
 use Rattle.gabc_text.specs.Printed.{print, text_tokens, translation_tokens, text_of_tokens}
@@ -141,7 +141,7 @@ module _ (ends_once : (at : Place) (t : List ℕ) → EndsOnce at t)
       characters = characters_are;
       one_more = one_more;
       again = record {
-        says = ap view_facts codes_are ∙ facts t later;
+        view_stays = ap view_facts codes_are ∙ facts t later;
         errors = λ place. ap (λ (x : List ℕ). has_error (findings place x)) codes_are ∙ none_wrong place t later;
         kept = ap kept codes_are ∙ all_kept t later;
         snippets = snippets_again gabc_again nabc_again lines macros 0 notes s ss rest behind (several (s ∷ ss) single) each behind_is;

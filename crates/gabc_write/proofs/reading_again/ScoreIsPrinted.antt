@@ -32,7 +32,7 @@ use Rattle.gabc_write.specs.FileAgain.{printed_file, IsFileAgain}
 use Rattle.gabc_write.specs.ScoreAgain.{IsPrintedScore, IsSameScore, IsScoreAgain}
 use Rattle.gabc_notes.specs.ReadAgain.{IsWarning}
 use Rattle.gabc_score.specs.WithinLimits.{CanonicalWithin, AreWithin}
-use Rattle.gabc_write.specs.Said.{AreSame}
+use Rattle.gabc_write.specs.SyllableMeaning.{AreSame}
 use Rattle.gabc_write.proofs.reading_again.NoLimitIsPassedAgain.{AllShort, printed_short, within_larger, file_fits}
 use Rattle.gabc_write.proofs.plain.PlainCharacters.{NoMark, is_plain, plain, append, parts_of, is_text, text_plain}
 use Rattle.gabc_write.proofs.plain.KeptSnippetsArePlain.{codes_append}
@@ -216,7 +216,7 @@ pub score_again : (printed : (limits : Limits) (ending : InputEnding) (t : List 
     → (same : (limits : Limits) (book : List (List ℕ × List ℕ)) (facts : List SyllableFacts) → IsFileAgain limits book facts
     → length (encodes (printed_file book facts)) < 2 ^ 63 → (score_of limits Whole (printed_file book facts)).fault ≡ None
     → IsSameScore book facts (score_of limits Whole (printed_file book facts)))
-    → (given : (limits : Limits) (ending : InputEnding) (t : List ℕ) (book : List (List ℕ × List ℕ)) → (score_of limits ending t).book ≡ Some book
+    → (well_read : (limits : Limits) (ending : InputEnding) (t : List ℕ) (book : List (List ℕ × List ℕ)) → (score_of limits ending t).book ≡ Some book
     → AreWithin limits (length (encodes (canonical_heads book))) (score_of limits ending t).syllables)
     → (none : (limits : Limits) (book : List (List ℕ × List ℕ)) (facts : List SyllableFacts) → IsFileAgain limits book facts → AllShort limits.syllable facts
     → length (encodes (printed_file book facts)) ≤ limits.input → (score_of limits Whole (printed_file book facts)).fault ≡ None)
@@ -225,14 +225,14 @@ pub score_again : (printed : (limits : Limits) (ending : InputEnding) (t : List 
     → AreFactsOf units ss facts → AreFactsOf others ts facts → FirstBeginsWord facts → AreSame ss ts)
     → (limits larger : Limits) (ending : InputEnding) (t : List ℕ) (book : List (List ℕ × List ℕ)) → AreNoLess limits larger → length (encodes t) < 2 ^ 63 → IsText t
     → (score_of limits ending t).book ≡ Some book → IsScoreAgain larger t book (score_of limits ending t).syllables
-score_again printed decoded file same given none warns equal limits larger ending t book no_less short text h =
+score_again printed decoded file same well_read none warns equal limits larger ending t book no_less short text h =
     let syllables = (score_of limits ending t).syllables in
     let p = printed limits ending t book short h in
     let heads = heads_are limits ending t book h in
     let own = p.text text in
     let read : IsFileAgain larger book p.facts = subst (λ (b : List (List ℕ × List ℕ)). IsFileAgain larger b p.facts) heads.book_is
     (file limits larger t heads.heads p.facts no_less heads.read (subst (λ (b : List (List ℕ × List ℕ)). AreSyllables (nabc_lines_of b) p.facts) (sym heads.book_is) p.are_syllables) p.first) in
-    let w : CanonicalWithin larger (length (encodes (canonical_heads book))) syllables = within_larger limits larger _ syllables no_less (given limits ending t book h).canonical in
+    let w : CanonicalWithin larger (length (encodes (canonical_heads book))) syllables = within_larger limits larger _ syllables no_less (well_read limits ending t book h).canonical in
     let fits = file_fits larger book syllables w in
     let size : length (encodes (printed_file book p.facts)) ≤ larger.input = subst (λ (bytes : List ℕ). length bytes ≤ larger.input) p.bytes fits in
     let no_fault = none larger book p.facts read (printed_short larger.syllable syllables p.facts p.texts w.texts) size in
@@ -246,6 +246,6 @@ score_again printed decoded file same given none warns equal limits larger endin
       no_fault = no_fault;
       warnings = warns larger book p.facts read;
       same = again;
-      said = equal (nabc_lines_of book) again.units p.units _ syllables p.facts again.syllables_are p.syllables_are again.facts_are p.facts_are p.first;
+      same_meaning = equal (nabc_lines_of book) again.units p.units _ syllables p.facts again.syllables_are p.syllables_are again.facts_are p.facts_are p.first;
       same_file = again.bytes ∙ sym p.bytes;
     }

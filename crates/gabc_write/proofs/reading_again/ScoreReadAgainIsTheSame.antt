@@ -42,7 +42,7 @@ module _ (lines macros : ℕ) where
   same_facts (u ∷ units) last [] others h k = absurd h
   same_facts (u ∷ units) last (f ∷ facts) [] h k = absurd k
   same_facts (u ∷ units) last (f ∷ facts) (g ∷ others) h k =
-      let view : g.view ≡ f.view = k.0.0 ∙ h.0.says in
+      let view : g.view ≡ f.view = k.0.0 ∙ h.0.view_stays in
       let snippets : g.snippets ≡ f.snippets = k.0.1 (some_parts u.nexts u.final) ∙ kept_again 0 (snippets_in u) (characters_from units last) f.snippets h.0.snippets in
       let one : g ≡ f = ap₂ (λ v (ss : List (List ℕ)). record { view = v; snippets = ss }) view snippets in
       ap₂ (λ (x : SyllableFacts) (xs : List SyllableFacts). x ∷ xs) one (same_facts units last facts others h.1 k.1)

@@ -20,11 +20,11 @@ use Rattle.gabc_score.specs.Holding.{ReadSnippet}
 use Rattle.gabc_score.specs.Syllable.{PlacedSyllable, slice, is_mark}
 use Rattle.gabc_score.specs.SyllablesOfUnits.{ScoreUnit, NotesAre, HoldsUnit, IsLeftOpen, AreSyllablesOf, begins_word, next_begins_word, span_tags, tags_in}
 use Rattle.gabc_write.specs.BodyAgain.{SyllableFacts, FirstBeginsWord, FirstTextBeginsWord, AreFactsOf}
-use Rattle.gabc_write.specs.Said.{PieceSaid, piece_said, SyllableSaid, said, AreSame}
+use Rattle.gabc_write.specs.SyllableMeaning.{PieceMeaning, meaning_of_piece, SyllableMeaning, meaning_of, AreSame}
 
 -- ---- what facts say
 
-abbrev piece_of_facts : PieceFacts → PieceSaid
+abbrev piece_of_facts : PieceFacts → PieceMeaning
 piece_of_facts p = record { kind = p.kind; styles = p.styles; text = encodes (kept_of_piece p) }
 
 -- snippets from that one on, with their lines
@@ -43,7 +43,7 @@ tags_of f = map (λ (p : PieceFacts). p.text) (filter (λ (p : PieceFacts). is_m
 abbrev all_tags : List SyllableFacts → List (List ℕ)
 all_tags facts = flat_map tags_of facts
 
-abbrev said_by : ℕ → SyllableFacts → Position → Bool → Bool → SyllableSaid
+abbrev said_by : ℕ → SyllableFacts → Position → Bool → Bool → SyllableMeaning
 said_by lines f position eu nlba = record {
   text = encodes (text_of_tokens (text_tokens f.view));
   word_start = f.view.word_start;
@@ -91,16 +91,16 @@ lined_is lines i bytes (x ∷ xs) h =
 module _ (starts : (t : List ℕ) → (view_in t).word_start ≡ (view_facts t).word_start) (centres : (t : List ℕ) → (view_in t).centre ≡ (view_facts t).centre)
     (canonical : (whole t : List ℕ) → StandsForView whole (view_in t) t → canonical_text (view_in t) (encodes whole) ≡ encodes (text_of_tokens (text_tokens (view_facts t))))
     (bytes : (text : List ℕ) (span : Span) (part : List ℕ) → StandsFor text span part → slice span (encodes text) ≡ encodes part) (lines : ℕ) where
-  pieces_said : (whole : List ℕ) (ps : List Piece) (qs : List PieceFacts) → ArePiecesOf whole ps qs → map (piece_said (encodes whole)) ps ≡ map piece_of_facts qs
+  pieces_said : (whole : List ℕ) (ps : List Piece) (qs : List PieceFacts) → ArePiecesOf whole ps qs → map (meaning_of_piece (encodes whole)) ps ≡ map piece_of_facts qs
   pieces_said whole [] [] h = refl
   pieces_said whole [] (q ∷ qs) h = absurd h
   pieces_said whole (p ∷ ps) [] h = absurd h
   pieces_said whole (p ∷ ps) (q ∷ qs) h =
-      let one : piece_said (encodes whole) p ≡ piece_of_facts q =
+      let one : meaning_of_piece (encodes whole) p ≡ piece_of_facts q =
       ap (λ k. record { kind = k; styles = listed_styles p.styles; text = slice p.span (encodes whole) }) h.0.kind_is
       ∙ ap (λ ss. record { kind = q.kind; styles = ss; text = slice p.span (encodes whole) }) h.0.styles_are
       ∙ ap (λ (b : List ℕ). record { kind = q.kind; styles = q.styles; text = b }) (bytes whole p.span (kept_of_piece q) h.0.stands) in
-      ap₂ (λ (x : PieceSaid) (xs : List PieceSaid). x ∷ xs) one (pieces_said whole ps qs h.1)
+      ap₂ (λ (x : PieceMeaning) (xs : List PieceMeaning). x ∷ xs) one (pieces_said whole ps qs h.1)
 
   translation_said : (whole : List ℕ) (o : Option Span) (q : Option (List ℕ)) → IsTranslation whole o q → option_map (λ (s : Span). slice s (encodes whole)) o ≡ option_map encodes q
   translation_said whole None None h = refl
@@ -109,15 +109,15 @@ module _ (starts : (t : List ℕ) → (view_in t).word_start ≡ (view_facts t).
   translation_said whole (Some s) (Some t) h = ap (λ (b : List ℕ). Some b) (bytes whole s t h)
 
   one_said : (u : ScoreUnit) (s : PlacedSyllable) (f : SyllableFacts) → HoldsUnit lines u s.made → f.view ≡ view_facts u.text
-      → map (λ (x : Snippet). slice x.span s.made.kept) s.made.snippets ≡ map encodes f.snippets → said s ≡ said_by lines f s.position s.made.eu s.made.nlba
+      → map (λ (x : Snippet). slice x.span s.made.kept) s.made.snippets ≡ map encodes f.snippets → meaning_of s ≡ said_by lines f s.position s.made.eu s.made.nlba
   one_said u s f h view texts =
       let position = s.position in
       let eu = s.made.eu in
       let nlba = s.made.nlba in
       let words : s.made.text.word_start ≡ f.view.word_start = ap (λ (v : ViewContent). v.word_start) h.view_is ∙ starts u.text ∙ sym (ap (λ (v : ViewFacts). v.word_start) view) in
       let centre : s.made.text.centre ≡ f.view.centre = ap (λ (v : ViewContent). v.centre) h.view_is ∙ centres u.text ∙ sym (ap (λ (v : ViewFacts). v.centre) view) in
-      let pieces : map (piece_said s.made.kept) s.made.text.pieces ≡ map piece_of_facts f.view.pieces =
-      ap (λ (k : List ℕ). map (piece_said k) s.made.text.pieces) h.kept_is
+      let pieces : map (meaning_of_piece s.made.kept) s.made.text.pieces ≡ map piece_of_facts f.view.pieces =
+      ap (λ (k : List ℕ). map (meaning_of_piece k) s.made.text.pieces) h.kept_is
       ∙ pieces_said h.whole s.made.text.pieces (view_facts u.text).pieces h.stands.pieces
       ∙ sym (ap (λ (v : ViewFacts). map piece_of_facts v.pieces) view) in
       let translation : option_map (λ (span : Span). slice span s.made.kept) s.made.text.translation ≡ option_map encodes f.view.translation =
@@ -131,16 +131,16 @@ module _ (starts : (t : List ℕ) → (view_in t).word_start ≡ (view_facts t).
       ∙ sym (ap (λ (v : ViewFacts). encodes (text_of_tokens (text_tokens v))) view) in
       all s.position s.made.eu s.made.nlba text words pieces centre translation snippets
     where
-      all : (position : Position) (eu nlba : Bool) {b b' : List ℕ} {w w' : Bool} {ps ps' : List PieceSaid} {c c' : Option Span} {t t' : Option (List ℕ)} {ss ss' : List (ℕ × List ℕ)} → b ≡ b' → w ≡ w' → ps ≡ ps' → c ≡ c' → t ≡ t' → ss ≡ ss'
-          → (let one : SyllableSaid = record { text = b; word_start = w; pieces = ps; centre = c; translation = t; snippets = ss; position = position; eu = eu; nlba = nlba } in
-          let other : SyllableSaid = record { text = b'; word_start = w'; pieces = ps'; centre = c'; translation = t'; snippets = ss'; position = position; eu = eu; nlba = nlba } in one ≡ other)
+      all : (position : Position) (eu nlba : Bool) {b b' : List ℕ} {w w' : Bool} {ps ps' : List PieceMeaning} {c c' : Option Span} {t t' : Option (List ℕ)} {ss ss' : List (ℕ × List ℕ)} → b ≡ b' → w ≡ w' → ps ≡ ps' → c ≡ c' → t ≡ t' → ss ≡ ss'
+          → (let one : SyllableMeaning = record { text = b; word_start = w; pieces = ps; centre = c; translation = t; snippets = ss; position = position; eu = eu; nlba = nlba } in
+          let other : SyllableMeaning = record { text = b'; word_start = w'; pieces = ps'; centre = c'; translation = t'; snippets = ss'; position = position; eu = eu; nlba = nlba } in one ≡ other)
       all position eu nlba d e f g h i = rw (d, e, f, g, h, i) refl
 
   -- ---- all syllables
 
   -- by the facts before it and behind it
   record IsSaid (before : List SyllableFacts) (f : SyllableFacts) (after : List SyllableFacts) (s : PlacedSyllable) : Type 0 where
-    said_is : said s ≡ said_by lines f (position_by f.view.word_start (next_begins after)) s.made.eu s.made.nlba
+    said_is : meaning_of s ≡ said_by lines f (position_by f.view.word_start (next_begins after)) s.made.eu s.made.nlba
     eu_is : IsTrue s.made.eu ↔ IsLeftOpen (codes "<eu>") (codes "</eu>") (all_tags (before ++ f ∷ []))
     nlba_is : IsTrue s.made.nlba ↔ IsLeftOpen (codes "<nlba>") (codes "</nlba>") (all_tags (before ++ f ∷ []))
 
@@ -204,8 +204,8 @@ module _ (starts : (t : List ℕ) → (view_in t).word_start ≡ (view_facts t).
       let position = position_by f.view.word_start (next_begins facts) in
       let eu : s.made.eu ≡ t.made.eu = same_bool _ s.made.eu t.made.eu h.0.eu_is k.0.eu_is in
       let nlba : s.made.nlba ≡ t.made.nlba = same_bool _ s.made.nlba t.made.nlba h.0.nlba_is k.0.nlba_is in
-      let one : said s ≡ said t = h.0.said_is ∙ ap₂ (said_by lines f position) eu nlba ∙ sym k.0.said_is in
-      ap₂ (λ (x : SyllableSaid) (xs : List SyllableSaid). x ∷ xs) one (same_said (before ++ f ∷ []) facts ss ts h.1 k.1)
+      let one : meaning_of s ≡ meaning_of t = h.0.said_is ∙ ap₂ (said_by lines f position) eu nlba ∙ sym k.0.said_is in
+      ap₂ (λ (x : SyllableMeaning) (xs : List SyllableMeaning). x ∷ xs) one (same_said (before ++ f ∷ []) facts ss ts h.1 k.1)
 
   first_text : (units : List ScoreUnit) (ss : List PlacedSyllable) (facts : List SyllableFacts) → AreFactsOf units ss facts → FirstBeginsWord facts → FirstTextBeginsWord units
   first_text [] ss facts h g = tt

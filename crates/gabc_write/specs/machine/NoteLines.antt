@@ -40,11 +40,11 @@ more_if b n = if b then n + 1 else n
 
 -- the place behind an item, which is part of an element or not, and before which a glyph was told or not
 abbrev pub place_after : ItemPlace → Item → Bool → Bool → ItemPlace
-place_after place i in_element told = record {
+place_after place i in_element with_glyph = record {
   in_element = in_element;
   in_segment = is_in_segment i;
   notes = if is_in_segment i then more_if (is_note i.kind) place.notes else 0;
-  glyphs = if is_in_segment i then more_if told place.glyphs else 0;
+  glyphs = if is_in_segment i then more_if with_glyph place.glyphs else 0;
 }
 
 -- the place behind an item with these glyphs

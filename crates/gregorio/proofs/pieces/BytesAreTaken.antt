@@ -1,6 +1,5 @@
 -- A byte that an engine takes brings what was to come for it, and so do the bytes of a piece.
-use Rattle.std.proofs.Common.{◌≡◌, ℕ, ◌+◌, ◌*◌, ◌<◌, ◌||◌, ◌⊎◌, inl, inr, List, [], ◌∷◌, ◌++◌, length, take, slice_index_or, Bool, true, false, if◌then◌else◌, Option, None, Result, refl, ap, sym, ◌∙◌, append_assoc, arith, add-one}
-use Rattle.std.proofs.Math.Seq.{take-suc}
+use Rattle.std.proofs.Common.{◌≡◌, ℕ, ◌+◌, ◌*◌, ◌<◌, ◌||◌, ◌⊎◌, inl, inr, List, [], ◌∷◌, ◌++◌, length, take, Bool, true, false, if◌then◌else◌, Option, None, Result, refl, ap, sym, ◌∙◌, arith}
 use Rattle.gabc_places.specs.StageLaw.{concat_of}
 use Rattle.gabc_places.specs.declared.code.Fault.{Fault}
 use Rattle.gabc_places.specs.declared.limits.Limits.{Limits}
@@ -72,29 +71,18 @@ byte_taken d e h now w new byte items law a empty bytes ending =
 abbrev pub Takes : EngineState → List ℕ → EngineState → Type 0
 Takes old piece new = (bytes : List ℕ) (ending : SourceEnding) → streams_left old ending (piece ++ bytes) ≡ with_waiting new (streams_left new ending bytes)
 
-none_wait : (s : EngineState) → NothingWaits s → (rest : Streams) → with_waiting s rest ≡ rest
+pub none_wait : (s : EngineState) → NothingWaits s → (rest : Streams) → with_waiting s rest ≡ rest
 none_wait s waits rest = ap (λ (o : List ℕ). behind_bytes o s.messages rest) waits.output ∙ ap (λ (l : List ℕ). behind_bytes [] l rest) waits.messages
 
 pub takes_none : (s : EngineState) → NothingWaits s → Takes s [] s
 takes_none s waits = λ bytes ending. sym (none_wait s waits (streams_left s ending bytes))
 
-pub takes_next : (first now new : EngineState) (piece : List ℕ) (count : ℕ) (d : ℕ) → count < length piece → Takes first (take count piece) now → NothingWaits now
-    → ((bytes : List ℕ) (ending : SourceEnding) → streams_left now ending (slice_index_or piece count d ∷ bytes) ≡ with_waiting new (streams_left new ending bytes))
-    → Takes first (take (count + 1) piece) new
-takes_next first now new piece count d within so_far waits one = λ bytes ending.
-    let x = slice_index_or piece count d in
-    let more : take (count + 1) piece ≡ take count piece ++ x ∷ [] = ap (λ (n : ℕ). take n piece) (add-one count) ∙ take-suc piece count d within in
-    ap (λ (xs : List ℕ). streams_left first ending xs) (ap (λ (xs : List ℕ). xs ++ bytes) more ∙ append_assoc (take count piece) (x ∷ []) bytes)
-    ∙ (so_far (x ∷ bytes) ending
-    ∙ (none_wait now waits (streams_left now ending (x ∷ bytes))
-    ∙ one bytes ending))
-
 -- an engine that is over takes a piece, and nothing follows
-over_takes : (p : RunPart) (score : ScoreStageState) (w : Written) → is_running_in p ≡ false → (book other : List (List ℕ × List ℕ)) (given more : List HeadEvent)
-    → streams_given p score w book given ≡ streams_given p score w other more
-over_takes part.Heads score w h book other given more = absurd (cc h)
-over_takes part.Body score w h book other given more = absurd (cc h)
-over_takes (part.Over status) score w h book other given more = refl
+over_takes : (p : RunPart) (score : ScoreStageState) (w : Written) → is_running_in p ≡ false → (book other : List (List ℕ × List ℕ)) (from_heads more : List HeadEvent)
+    → streams_given p score w book from_heads ≡ streams_given p score w other more
+over_takes part.Heads score w h book other from_heads more = absurd (cc h)
+over_takes part.Body score w h book other from_heads more = absurd (cc h)
+over_takes (part.Over status) score w h book other from_heads more = refl
 
 pub stopped_takes : (s : EngineState) → is_running s ≡ false → NothingWaits s → (piece : List ℕ) → Takes s piece s
 stopped_takes s stopped waits piece = λ bytes ending.
@@ -113,9 +101,9 @@ status_where : (score : ScoreStageState) (w : Written) (book : List (List ℕ ×
     → is_running_in p ≡ true → (streams_given p score w book []).status ≡ ReadFault
 status_where score w book part.Heads stop end h = refl
 status_where score w book part.Body stop end h =
-    let outs = concat_of (left_of score []) in
-    let errors = w.errors || has_errors (Rattle.gabc_score.specs.ScoreEvents.findings_in outs) in
-    ap (λ (f : Option Fault). status_by f (if has_end outs then false else true) errors) stop
+    let outputs = concat_of (left_of score []) in
+    let errors = w.errors || has_errors (Rattle.gabc_score.specs.ScoreEvents.findings_in outputs) in
+    ap (λ (f : Option Fault). status_by f (if has_end outputs then false else true) errors) stop
     ∙ ap (λ (b : Bool). status_by None (if b then false else true) errors) end
 status_where score w book (part.Over status) stop end h = absurd (cc h)
 

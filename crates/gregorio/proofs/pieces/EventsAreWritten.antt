@@ -5,7 +5,7 @@ use Rattle.gabc_headers.specs.declared.head_event.HeadEvent.TheVariants as head_
 use Rattle.gregorio.specs.declared.run_part.RunPart.{RunPart}
 use Rattle.gregorio.specs.declared.run_part.RunPart.TheVariants as part
 use Rattle.gregorio.specs.Engine.{Streams, behind_bytes}
-use Rattle.gregorio.specs.machine.ScoreWriter.{ScoreWriterState, HasRoom, IsSteady, WritesAt, IsBodyBehind, streams_of}
+use Rattle.gregorio.specs.machine.ScoreWriter.{ScoreWriterState, FitsEvents, IsSteady, WritesAt, IsBodyBehind, streams_of}
 use Rattle.gregorio.specs.machine.Engine.{WritesAll, IsBodyPast, HasMark}
 use Rattle.gregorio.proofs.pieces.RoomIsLeft.{room_for_first}
 use Rattle.gregorio.proofs.pieces.BytesAreJoined.{behind_both, extended_by_none, extended_by_both}
@@ -16,7 +16,7 @@ writes_none w read = record {
   lines = [];
   out = extended_by_none w.writer.out;
   messages = extended_by_none w.writer.messages;
-  law = λ book given same. refl;
+  law = λ book from_heads same. refl;
 }
 
 pub writes_next : (x : HeadEvent) (events : List HeadEvent) (read : List (List ℕ × List ℕ)) (old mid new : ScoreWriterState) → WritesAt old x read mid → WritesAll mid events read new
@@ -26,9 +26,9 @@ writes_next x events read old mid new a b = record {
   lines = a.lines ++ b.lines;
   out = extended_by_both old.writer.out mid.writer.out new.writer.out a.output b.output a.out b.out;
   messages = extended_by_both old.writer.messages mid.writer.messages new.writer.messages a.lines b.lines a.messages b.messages;
-  law = λ book given same. a.law book (events ++ given) same.0
-      ∙ (ap (λ (s : Streams). behind_bytes a.output a.lines s) (b.law book given same.1)
-      ∙ sym (behind_both a.output a.lines b.output b.lines (streams_of new book given)));
+  law = λ book from_heads same. a.law book (events ++ from_heads) same.0
+      ∙ (ap (λ (s : Streams). behind_bytes a.output a.lines s) (b.law book from_heads same.1)
+      ∙ sym (behind_both a.output a.lines b.output b.lines (streams_of new book from_heads)));
 }
 
 -- ---- the line `%%`
@@ -73,21 +73,21 @@ steady_both old mid new a b = record {
 
 -- ---- one of a list of events, and those behind it
 
-module _ (given : List HeadEvent) (i : ℕ) (d : HeadEvent) (within : i < length given) where
+module _ (from_heads : List HeadEvent) (i : ℕ) (d : HeadEvent) (within : i < length from_heads) where
   abbrev now : HeadEvent
-  now = slice_index_or given i d
+  now = slice_index_or from_heads i d
 
-  left_is : drop i given ≡ now ∷ drop (i + 1) given
-  left_is = drop-cons given i d within ∙ ap (λ (k : ℕ). now ∷ drop k given) (sym (add-one i))
+  left_is : drop i from_heads ≡ now ∷ drop (i + 1) from_heads
+  left_is = drop-cons from_heads i d within ∙ ap (λ (k : ℕ). now ∷ drop k from_heads) (sym (add-one i))
 
-  pub room_now : (w : ScoreWriterState) → HasRoom w (drop i given) → HasRoom w (now ∷ [])
-  room_now w room = room_for_first w now (drop (i + 1) given) (subst (λ (left : List HeadEvent). HasRoom w left) left_is room)
+  pub room_now : (w : ScoreWriterState) → FitsEvents w (drop i from_heads) → FitsEvents w (now ∷ [])
+  room_now w room = room_for_first w now (drop (i + 1) from_heads) (subst (λ (left : List HeadEvent). FitsEvents w left) left_is room)
 
-  pub writes_left : (read : List (List ℕ × List ℕ)) (old mid new : ScoreWriterState) → WritesAt old now read mid → WritesAll mid (drop (i + 1) given) read new → WritesAll old (drop i given) read new
-  writes_left read old mid new a b = subst (λ (left : List HeadEvent). WritesAll old left read new) (sym left_is) (writes_next now (drop (i + 1) given) read old mid new a b)
+  pub writes_left : (read : List (List ℕ × List ℕ)) (old mid new : ScoreWriterState) → WritesAt old now read mid → WritesAll mid (drop (i + 1) from_heads) read new → WritesAll old (drop i from_heads) read new
+  writes_left read old mid new a b = subst (λ (left : List HeadEvent). WritesAll old left read new) (sym left_is) (writes_next now (drop (i + 1) from_heads) read old mid new a b)
 
-  pub room_left : (w : ScoreWriterState) (events : List HeadEvent) → HasRoom w (drop i given ++ events) → HasRoom w (now ∷ (drop (i + 1) given ++ events))
-  room_left w events room = subst (λ (left : List HeadEvent). HasRoom w (left ++ events)) left_is room
+  pub room_left : (w : ScoreWriterState) (events : List HeadEvent) → FitsEvents w (drop i from_heads ++ events) → FitsEvents w (now ∷ (drop (i + 1) from_heads ++ events))
+  room_left w events room = subst (λ (left : List HeadEvent). FitsEvents w (left ++ events)) left_is room
 
-  pub past_left : (p q : RunPart) → (q ≡ part.Body → IsBodyBehind p now) → IsBodyPast q (drop (i + 1) given) → IsBodyPast p (drop i given)
-  past_left p q at h = subst (λ (left : List HeadEvent). IsBodyPast p left) (sym left_is) (past_next p q now (drop (i + 1) given) at h)
+  pub past_left : (p q : RunPart) → (q ≡ part.Body → IsBodyBehind p now) → IsBodyPast q (drop (i + 1) from_heads) → IsBodyPast p (drop i from_heads)
+  past_left p q at h = subst (λ (left : List HeadEvent). IsBodyPast p left) (sym left_is) (past_next p q now (drop (i + 1) from_heads) at h)

@@ -18,7 +18,7 @@ use Rattle.gabc_headers.specs.HeadEvents.{HeaderStageState, events_left, events_
 use Rattle.gabc_headers.proofs.entries.TextsAsBytes.{length-encodes}
 use Rattle.gregorio.specs.declared.run_part.RunPart.TheVariants as part
 use Rattle.gregorio.specs.machine.RunWriter.{line_room}
-use Rattle.gregorio.specs.machine.ScoreWriter.{ScoreWriterState, HasRoom, IsReserved, IsShortBook, IsSteady, events_room}
+use Rattle.gregorio.specs.machine.ScoreWriter.{ScoreWriterState, FitsEvents, IsReserved, IsShortBook, IsSteady, events_room}
 use Rattle.gregorio.specs.machine.Engine.{GoTogether, IsBodyPast, IsEmpty, WritesAll, WritesItems}
 use Rattle.gregorio.proofs.pieces.ItemsAreRead.{AreHeadsShort, items_by_heads, short_stage_after, together_by_heads}
 use Rattle.gregorio.proofs.pieces.RoomIsLeft.{input_is_few, least_room, room_with_end}
@@ -42,31 +42,31 @@ no_heads_are_short limits =
 
 -- ---- what is given
 
-pub record GivesInput (h : HeaderStageState) (item : Result Char Fault) (given : List HeadEvent) : Type 0 where
-  pub is : given ≡ events_of_input h.limits h.progress item
+pub record GivesInput (h : HeaderStageState) (item : Result Char Fault) (from_heads : List HeadEvent) : Type 0 where
+  pub is : from_heads ≡ events_of_input h.limits h.progress item
   pub few : length (events_of_input h.limits h.progress item) ≤ 2
 
 abbrev first_list : List (List HeadEvent) → List HeadEvent
 first_list [] = []
 first_list (events ∷ lists) = events
 
-pub given_of_input : (h : HeaderStageState) (after : List (Result Char Fault) → List (List HeadEvent)) (item : Result Char Fault) (r old new : BoundedList HeadEvent) (given : List HeadEvent)
-    → old ≡ record r { items = [] } → Pushes (events_left h.limits h.progress) after item 2 old new → given ≡ new.items → GivesInput h item given
-given_of_input h after item r old new given empty p now =
+pub given_of_input : (h : HeaderStageState) (after : List (Result Char Fault) → List (List HeadEvent)) (item : Result Char Fault) (r old new : BoundedList HeadEvent) (from_heads : List HeadEvent)
+    → old ≡ record r { items = [] } → Pushes (events_left h.limits h.progress) after item 2 old new → from_heads ≡ new.items → GivesInput h item from_heads
+given_of_input h after item r old new from_heads empty p now =
     let same : events_of_input h.limits h.progress item ≡ p.events = ap first_list (p.law []) in
     record {
       is = now ∙ (ap (λ (x : BoundedList HeadEvent). x.items) p.out ∙ (ap (λ (x : BoundedList HeadEvent). x.items ++ p.events) empty ∙ sym same));
       few = subst (λ (events : List HeadEvent). length events ≤ 2) (sym same) p.few;
     }
 
-pub given_of_end : (h : HeaderStageState) (r old new : BoundedList HeadEvent) (given : List HeadEvent)
-    → old ≡ record r { items = [] } → Finishes (events_left h.limits h.progress) 2 old new → given ≡ new.items → given ≡ events_of_end h.limits h.progress
-given_of_end h r old new given empty p now =
+pub given_of_end : (h : HeaderStageState) (r old new : BoundedList HeadEvent) (from_heads : List HeadEvent)
+    → old ≡ record r { items = [] } → Finishes (events_left h.limits h.progress) 2 old new → from_heads ≡ new.items → from_heads ≡ events_of_end h.limits h.progress
+given_of_end h r old new from_heads empty p now =
     now ∙ (ap (λ (x : BoundedList HeadEvent). x.items) p.out ∙ (ap (λ (x : BoundedList HeadEvent). x.items ++ p.events) empty ∙ sym (ap first_list p.law)))
 
 -- ---- room
 
-front_room : (w : ScoreWriterState) (events more : List HeadEvent) → HasRoom w (events ++ more) → HasRoom w events
+front_room : (w : ScoreWriterState) (events more : List HeadEvent) → FitsEvents w (events ++ more) → FitsEvents w events
 front_room w events more room =
     let line = 16 * line_room w.writer.written.name in
     let lines = room.lines in
@@ -84,15 +84,15 @@ front_room w events more room =
     front [] = least_room w.writer.written.format w.score.limits.syllable more
     front (x ∷ xs) = let h = front xs in omega (arith, h)
 
-module _ (h : HeaderStageState) (w : ScoreWriterState) (item : Result Char Fault) (given : List HeadEvent) (gives : GivesInput h item given) where
-  pub room_for_given : IsReserved w → IsEmpty w → HasRoom w (given ++ head_event.End ∷ [])
+module _ (h : HeaderStageState) (w : ScoreWriterState) (item : Result Char Fault) (from_heads : List HeadEvent) (step : GivesInput h item from_heads) where
+  pub room_for_given : IsReserved w → IsEmpty w → FitsEvents w (from_heads ++ head_event.End ∷ [])
   room_for_given reserved empty =
-      subst (λ (events : List HeadEvent). HasRoom w (events ++ head_event.End ∷ [])) (sym gives.is)
+      subst (λ (events : List HeadEvent). FitsEvents w (events ++ head_event.End ∷ [])) (sym step.is)
       (room_with_end w (events_of_input h.limits h.progress item) reserved empty
-      (input_is_few w.writer.written.format w.score.limits.syllable h.limits h.progress item gives.few))
+      (input_is_few w.writer.written.format w.score.limits.syllable h.limits h.progress item step.few))
 
-  pub room_for_just_given : IsReserved w → IsEmpty w → HasRoom w given
-  room_for_just_given reserved empty = front_room w given (head_event.End ∷ []) (room_for_given reserved empty)
+  pub room_for_just_given : IsReserved w → IsEmpty w → FitsEvents w from_heads
+  room_for_just_given reserved empty = front_room w from_heads (head_event.End ∷ []) (room_for_given reserved empty)
 
   module _ (now : HeaderStageState) (is_now : now ≡ stage_after h item) (book : List (List ℕ × List ℕ)) (is_book : book ≡ now.book) where
     book_after : book ≡ (stage_after h item).book
@@ -101,13 +101,13 @@ module _ (h : HeaderStageState) (w : ScoreWriterState) (item : Result Char Fault
     pub short_book_given : AreHeadsShort → GoTogether h w → IsShortBook w.score.limits book
     short_book_given heads_short together = subst (λ (b : List (List ℕ × List ℕ)). IsShortBook w.score.limits b) (sym book_after) (short_stage_after h w item heads_short together)
 
-    pub together_given : (new : ScoreWriterState) → AreHeadsShort → GoTogether h w → ((w.part ≡ part.Body) → ⊥) → (new.part ≡ part.Body → IsBodyPast w.part given) → IsSteady w new → GoTogether now new
+    pub together_given : (new : ScoreWriterState) → AreHeadsShort → GoTogether h w → ((w.part ≡ part.Body) → ⊥) → (new.part ≡ part.Body → IsBodyPast w.part from_heads) → IsSteady w new → GoTogether now new
     together_given new heads_short together not_body past steady =
         subst (λ (s : HeaderStageState). GoTogether s new) (sym is_now)
-        (together_by_heads h w new item heads_short together not_body (λ e. subst (λ (events : List HeadEvent). IsBodyPast w.part events) gives.is (past e)) steady)
+        (together_by_heads h w new item heads_short together not_body (λ e. subst (λ (events : List HeadEvent). IsBodyPast w.part events) step.is (past e)) steady)
 
-    pub writes_given : (new : ScoreWriterState) → WritesAll w given book new → WritesItems h w (item ∷ []) now new
+    pub writes_given : (new : ScoreWriterState) → WritesAll w from_heads book new → WritesItems h w (item ∷ []) now new
     writes_given new writes =
         subst (λ (s : HeaderStageState). WritesItems h w (item ∷ []) s new) (sym is_now)
-        (items_by_heads h w new item (subst (λ (events : List HeadEvent). WritesAll w events (stage_after h item).book new) gives.is
-        (subst (λ (b : List (List ℕ × List ℕ)). WritesAll w given b new) book_after writes)))
+        (items_by_heads h w new item (subst (λ (events : List HeadEvent). WritesAll w events (stage_after h item).book new) step.is
+        (subst (λ (b : List (List ℕ × List ℕ)). WritesAll w from_heads b new) book_after writes)))

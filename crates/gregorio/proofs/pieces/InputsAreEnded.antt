@@ -18,7 +18,7 @@ use Rattle.gregorio.specs.declared.source_bytes.SourceEnding.{SourceEnding}
 use Rattle.gregorio.specs.declared.source_bytes.SourceEnding.TheVariants.{Whole as Ended}
 use Rattle.gregorio.specs.Engine.{Streams, behind_bytes, book_behind, ended_with, given_left, is_running_in, streams_given}
 use Rattle.gregorio.specs.Outcome.{is_whole}
-use Rattle.gregorio.specs.machine.ScoreWriter.{ScoreWriterState, HasRoom, IsReserved, IsShortBook, WritesLast, streams_of}
+use Rattle.gregorio.specs.machine.ScoreWriter.{ScoreWriterState, FitsEvents, IsReserved, IsShortBook, WritesLast, streams_of}
 use Rattle.gregorio.specs.machine.Engine.{AreBooksAt, GoTogether, IsEmpty, IsSettled, WritesAll, WritesItems, streams_of_items}
 use Rattle.gregorio.proofs.pieces.BytesAreJoined.{behind_both, extended_by_both, waits_now}
 use Rattle.gregorio.proofs.pieces.RoomIsLeft.{none_are_few, room_for_none, room_with_end}
@@ -59,11 +59,11 @@ over_is_last d h w status over_now bytes ending =
     let items = emitted_by (is_whole ending) bytes (decoder.events_left d bytes) in
     ap (λ (p : RunPart). streams_given p w.score w.writer.written (book_behind h items) (given_left h ending items)) over_now
 
-settled_part : (p : RunPart) (w : ScoreWriterState) → is_running_in p ≡ false → (book other : List (List ℕ × List ℕ)) (given more : List HeadEvent)
-    → streams_given p w.score w.writer.written book given ≡ streams_given p w.score w.writer.written other more
-settled_part part.Heads w h book other given more = absurd (cc h)
-settled_part part.Body w h book other given more = absurd (cc h)
-settled_part (part.Over status) w h book other given more = refl
+settled_part : (p : RunPart) (w : ScoreWriterState) → is_running_in p ≡ false → (book other : List (List ℕ × List ℕ)) (from_heads more : List HeadEvent)
+    → streams_given p w.score w.writer.written book from_heads ≡ streams_given p w.score w.writer.written other more
+settled_part part.Heads w h book other from_heads more = absurd (cc h)
+settled_part part.Body w h book other from_heads more = absurd (cc h)
+settled_part (part.Over status) w h book other from_heads more = refl
 
 pub over_is_settled : (w : ScoreWriterState) → is_running_in w.part ≡ false → IsSettled w
 over_is_settled w h = settled_part w.part w h
@@ -90,9 +90,9 @@ no_books_at_end limits (reading t) book read = books_by (heads_of limits t) book
 no_books_at_end limits (behind b) book read = (tt, tt)
 no_books_at_end limits over book read = tt
 
-pub ends_given : (h : HeaderStageState) (w mid new : ScoreWriterState) (status : Status) (given : List HeadEvent) (read : List (List ℕ × List ℕ)) → given ≡ events_of_end h.limits h.progress
-    → WritesAll w given read mid → WritesLast mid new status → EndsWith (streams_of_items h w Ended []) w new status
-ends_given h w mid new status given read is a last =
+pub ends_given : (h : HeaderStageState) (w mid new : ScoreWriterState) (status : Status) (from_heads : List HeadEvent) (read : List (List ℕ × List ℕ)) → from_heads ≡ events_of_end h.limits h.progress
+    → WritesAll w from_heads read mid → WritesLast mid new status → EndsWith (streams_of_items h w Ended []) w new status
+ends_given h w mid new status from_heads read is a last =
     ends_behind (streams_of_items h w Ended []) (streams_of mid h.book []) w mid new status a.output a.lines a.out a.messages
     (ap (λ (events : List HeadEvent). streams_of w h.book (events ++ [])) (sym is)
     ∙ a.law h.book [] (subst (λ (events : List HeadEvent). AreBooksAt events h.book read) (sym is) (no_books_at_end h.limits h.progress h.book read)))
@@ -108,7 +108,7 @@ ends_items d h now w mid new status items law a e =
 
 -- ---- room and the book
 
-pub room_for_last : (w : ScoreWriterState) → IsReserved w → IsEmpty w → HasRoom w []
+pub room_for_last : (w : ScoreWriterState) → IsReserved w → IsEmpty w → FitsEvents w []
 room_for_last w reserved empty = room_for_none w _ (room_with_end w [] reserved empty (none_are_few w.writer.written.format w.score.limits.syllable))
 
 pub short_book_at_end : (h now : HeaderStageState) (w : ScoreWriterState) (book : List (List ℕ × List ℕ)) → GoTogether h w → now ≡ stage_at h over → book ≡ now.book → IsShortBook w.score.limits book

@@ -33,7 +33,7 @@ past_over : (limits : Limits) (book : List (List ℕ × List ℕ)) (items : List
 past_over limits book [] = refl
 past_over limits book (item ∷ items) = past_over limits book items
 
-past_behind : (limits : Limits) (book : List (List ℕ × List ℕ)) (items : List (Result Char Fault)) → (stage_past (record { limits = limits; progress = behind book; book = book }) items).book ≡ book
+pub past_behind : (limits : Limits) (book : List (List ℕ × List ℕ)) (items : List (Result Char Fault)) → (stage_past (record { limits = limits; progress = behind book; book = book }) items).book ≡ book
 past_behind limits book [] = refl
 past_behind limits book (Ok c ∷ items) = past_behind limits book items
 past_behind limits book (Err fault ∷ items) = past_over limits book items
@@ -74,7 +74,7 @@ items_by_heads h w new item a = record {
   out = a.out;
   messages = a.messages;
   law = λ ending more.
-      ap (λ (given : List HeadEvent). streams_of w (book_behind (stage_after h item) more) given) (given_next h ending item more)
+      ap (λ (from_heads : List HeadEvent). streams_of w (book_behind (stage_after h item) more) from_heads) (given_next h ending item more)
       ∙ a.law (book_behind (stage_after h item) more) (given_left (stage_after h item) ending more) (books_are_kept h.limits h.progress h.book item more);
 }
 
@@ -147,13 +147,13 @@ short_stage_after h w item heads_short together =
 
 -- behind a stop a stage of scores gives nothing
 abbrev pub IsStopLast : Type 0
-IsStopLast = (s : ScoreStageState) (fault : Fault) (given : List HeadEvent) → concat_of (left_of s (head_event.Stop fault ∷ given)) ≡ concat_of (left_of s (head_event.Stop fault ∷ []))
+IsStopLast = (s : ScoreStageState) (fault : Fault) (from_heads : List HeadEvent) → concat_of (left_of s (head_event.Stop fault ∷ from_heads)) ≡ concat_of (left_of s (head_event.Stop fault ∷ []))
 
-stop_in_body : IsStopLast → (w : ScoreWriterState) → w.part ≡ part.Body → (fault : Fault) (book other : List (List ℕ × List ℕ)) (given more : List HeadEvent)
-    → streams_of w book (head_event.Stop fault ∷ given) ≡ streams_of w other (head_event.Stop fault ∷ more)
-stop_in_body last w body fault book other given more =
-    ap (λ (p : RunPart). streams_given p w.score w.writer.written book (head_event.Stop fault ∷ given)) body
-    ∙ (ap (λ (outs : List ScoreOutput). streams_in w.writer.written [] true outs) (last w.score fault given ∙ sym (last w.score fault more))
+stop_in_body : IsStopLast → (w : ScoreWriterState) → w.part ≡ part.Body → (fault : Fault) (book other : List (List ℕ × List ℕ)) (from_heads more : List HeadEvent)
+    → streams_of w book (head_event.Stop fault ∷ from_heads) ≡ streams_of w other (head_event.Stop fault ∷ more)
+stop_in_body last w body fault book other from_heads more =
+    ap (λ (p : RunPart). streams_given p w.score w.writer.written book (head_event.Stop fault ∷ from_heads)) body
+    ∙ (ap (λ (outputs : List ScoreOutput). streams_in w.writer.written [] true outputs) (last w.score fault from_heads ∙ sym (last w.score fault more))
     ∙ ap (λ (p : RunPart). streams_given p w.score w.writer.written other (head_event.Stop fault ∷ more)) (sym body))
 
 -- an item of the body has no book
@@ -163,10 +163,10 @@ no_book (Err fault) book read = tt
 
 -- where it is no matter what comes behind an event, it is none later
 settled_behind : (w new : ScoreWriterState) (item : Result Char Fault) → WritesAt w (event_of_item item) [] new
-    → ((book other : List (List ℕ × List ℕ)) (given more : List HeadEvent) → streams_of w book (event_of_item item ∷ given) ≡ streams_of w other (event_of_item item ∷ more)) → IsSettled new
-settled_behind w new item a same = λ book other given more.
-    behind_same a.output a.lines (streams_of new book given) (streams_of new other more)
-    (sym (a.law book given (no_book item book [])) ∙ (same book other given more ∙ a.law other more (no_book item other [])))
+    → ((book other : List (List ℕ × List ℕ)) (from_heads more : List HeadEvent) → streams_of w book (event_of_item item ∷ from_heads) ≡ streams_of w other (event_of_item item ∷ more)) → IsSettled new
+settled_behind w new item a same = λ book other from_heads more.
+    behind_same a.output a.lines (streams_of new book from_heads) (streams_of new other more)
+    (sym (a.law book from_heads (no_book item book [])) ∙ (same book other from_heads more ∙ a.law other more (no_book item other [])))
 
 pub record ReadsItem (h : HeaderStageState) (w : ScoreWriterState) (item : Result Char Fault) (new : ScoreWriterState) : Type 0 where
   pub writes : WritesItems h w (item ∷ []) h new
@@ -175,7 +175,7 @@ pub record ReadsItem (h : HeaderStageState) (w : ScoreWriterState) (item : Resul
 module _ (w new : ScoreWriterState) (item : Result Char Fault) (a : WritesAt w (event_of_item item) [] new) (steady : IsSteady w new) where
   settled_item : (h : HeaderStageState) → GoTogether h w → IsSettled w → ReadsItem h w item new
   settled_item h together settled =
-      let after : IsSettled new = settled_behind w new item a (λ book other given more. settled book other (event_of_item item ∷ given) (event_of_item item ∷ more)) in
+      let after : IsSettled new = settled_behind w new item a (λ book other from_heads more. settled book other (event_of_item item ∷ from_heads) (event_of_item item ∷ more)) in
       record {
         writes = record {
           output = a.output;
@@ -200,7 +200,7 @@ character_read limits book w new c a =
       out = a.out;
       messages = a.messages;
       law = λ ending more.
-          ap (λ (given : List HeadEvent). streams_of w (book_behind h more) given) (given_next h ending (Ok c) more)
+          ap (λ (from_heads : List HeadEvent). streams_of w (book_behind h more) from_heads) (given_next h ending (Ok c) more)
           ∙ a.law (book_behind h more) (given_left h ending more) tt;
     }
 
@@ -213,7 +213,7 @@ stop_read last h book w new fault progress body a settled = record {
   messages = a.messages;
   law = λ ending more.
       let rest = given_left (stage_after h (Err fault)) ending more in
-      ap (λ (given : List HeadEvent). streams_of w (book_behind h (Err fault ∷ more)) given)
+      ap (λ (from_heads : List HeadEvent). streams_of w (book_behind h (Err fault ∷ more)) from_heads)
       (given_next h ending (Err fault) more ∙ ap (λ (p : HeadProgress). events_of_input h.limits p (Err fault) ++ rest) progress)
       ∙ (a.law (book_behind h (Err fault ∷ more)) rest tt
       ∙ ap (λ (s : Streams). behind_bytes a.output a.lines s) (settled (book_behind h (Err fault ∷ more)) (book_behind h more) rest (given_left h ending more)));

@@ -14,7 +14,7 @@ use Rattle.gabc_headers.specs.HeadEvents.{HeadProgress, reading, behind, over, e
 use Rattle.gregorio.specs.declared.run_part.RunPart.{RunPart}
 use Rattle.gregorio.specs.declared.run_part.RunPart.TheVariants as part
 use Rattle.gregorio.specs.machine.RunWriter.{heads_room, line_room, syllable_room}
-use Rattle.gregorio.specs.machine.ScoreWriter.{ScoreWriterState, HasRoom, IsReserved, events_room, heads_left}
+use Rattle.gregorio.specs.machine.ScoreWriter.{ScoreWriterState, FitsEvents, IsReserved, events_room, heads_left}
 use Rattle.gregorio.specs.machine.Engine.{IsEmpty, event_of_item}
 use Rattle.gregorio_jobs.specs.declared.job.Format.{Format}
 
@@ -24,7 +24,7 @@ pub least_room : (format : Format) (limit : ℕ) (events : List HeadEvent) → e
 least_room format limit [] = omega arith
 least_room format limit (x ∷ events) = let h = least_room format limit events in omega (arith, h)
 
-pub room_for_first : (w : ScoreWriterState) (x : HeadEvent) (events : List HeadEvent) → HasRoom w (x ∷ events) → HasRoom w (x ∷ [])
+pub room_for_first : (w : ScoreWriterState) (x : HeadEvent) (events : List HeadEvent) → FitsEvents w (x ∷ events) → FitsEvents w (x ∷ [])
 room_for_first w x events room =
     let line = 16 * line_room w.writer.written.name in
     let lines = room.lines in
@@ -37,7 +37,7 @@ room_for_first w x events room =
       scratch = room.scratch;
     }
 
-pub room_for_none : (w : ScoreWriterState) (events : List HeadEvent) → HasRoom w events → HasRoom w []
+pub room_for_none : (w : ScoreWriterState) (events : List HeadEvent) → FitsEvents w events → FitsEvents w []
 room_for_none w events room =
     let line = 16 * line_room w.writer.written.name in
     let lines = room.lines in
@@ -66,7 +66,7 @@ length_with_end : (events : List HeadEvent) → length (events ++ head_event.End
 length_with_end [] = refl
 length_with_end (x ∷ events) = let h = length_with_end events in omega (arith, h)
 
-pub room_with_end : (w : ScoreWriterState) (events : List HeadEvent) → IsReserved w → IsEmpty w → AreFew w.writer.written.format w.score.limits.syllable events → HasRoom w (events ++ head_event.End ∷ [])
+pub room_with_end : (w : ScoreWriterState) (events : List HeadEvent) → IsReserved w → IsEmpty w → AreFew w.writer.written.format w.score.limits.syllable events → FitsEvents w (events ++ head_event.End ∷ [])
 room_with_end w events reserved empty few =
     let all = events ++ head_event.End ∷ [] in
     let line = 16 * line_room w.writer.written.name in
@@ -140,13 +140,13 @@ item_is_few format limit (Err fault) = stop_is_few format limit fault
 
 -- ---- what the end of the input gives
 
-room_for_stop : (w : ScoreWriterState) (fault : Fault) → HasRoom w (head_event.End ∷ []) → HasRoom w (head_event.Stop fault ∷ [])
+room_for_stop : (w : ScoreWriterState) (fault : Fault) → FitsEvents w (head_event.End ∷ []) → FitsEvents w (head_event.Stop fault ∷ [])
 room_for_stop w fault room = let texts = room.texts in record { lines = room.lines; texts = omega (arith, texts); scratch = room.scratch }
 
-pub room_for_end : (w : ScoreWriterState) (limits : Limits) (progress : HeadProgress) → HasRoom w (head_event.End ∷ []) → HasRoom w (events_of_end limits progress)
+pub room_for_end : (w : ScoreWriterState) (limits : Limits) (progress : HeadProgress) → FitsEvents w (head_event.End ∷ []) → FitsEvents w (events_of_end limits progress)
 room_for_end w limits (reading t) room = by (heads_of limits t)
   where
-    by : (r : Result Heads HeadFault) → HasRoom w (events_at_end r)
+    by : (r : Result Heads HeadFault) → FitsEvents w (events_at_end r)
     by (Ok heads) = room_for_none w (head_event.End ∷ []) room
     by (Err stopped) = room_for_stop w stopped.fault room
 room_for_end w limits (behind book) room = room

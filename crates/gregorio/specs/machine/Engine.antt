@@ -25,7 +25,7 @@ pub record WritesAll (old : ScoreWriterState) (events : List HeadEvent) (read : 
   pub lines : List ℕ
   pub out : new.writer.out ≡ extended_by old.writer.out output
   pub messages : new.writer.messages ≡ extended_by old.writer.messages lines
-  pub law : (book : List (List ℕ × List ℕ)) (given : List HeadEvent) → AreBooksAt events book read → streams_of old book (events ++ given) ≡ behind_bytes output lines (streams_of new book given)
+  pub law : (book : List (List ℕ × List ℕ)) (from_heads : List HeadEvent) → AreBooksAt events book read → streams_of old book (events ++ from_heads) ≡ behind_bytes output lines (streams_of new book from_heads)
 
 -- the line `%%` is among these
 abbrev pub HasMark : List HeadEvent → Type 0
@@ -70,7 +70,7 @@ pub record IsEmpty (w : ScoreWriterState) : Type 0 where
 
 -- whatever comes, it will write the same
 abbrev pub IsSettled : ScoreWriterState → Type 0
-IsSettled w = (book other : List (List ℕ × List ℕ)) (given more : List HeadEvent) → streams_of w book given ≡ streams_of w other more
+IsSettled w = (book other : List (List ℕ × List ℕ)) (from_heads more : List HeadEvent) → streams_of w book from_heads ≡ streams_of w other more
 
 -- the book that the stage of headers stands behind is the one that it has read
 abbrev pub IsBookRead : HeadProgress → List (List ℕ × List ℕ) → Type 0
@@ -87,7 +87,7 @@ pub record GoTogether (h : HeaderStageState) (w : ScoreWriterState) : Type 0 whe
   pub short : IsShortBook h.limits h.book
 
 -- There is room for the events of one call, and the rooms of the writer are those of the limits.
-pub record IsEngine (heads : HeaderStageState) (given : BoundedList HeadEvent) (w : ScoreWriterState) : Type 0 where
-  pub few : 2 ≤ given.limit
+pub record IsEngine (heads : HeaderStageState) (from_heads : BoundedList HeadEvent) (w : ScoreWriterState) : Type 0 where
+  pub few : 2 ≤ from_heads.limit
   pub together : GoTogether heads w
   pub reserved : IsReserved w

@@ -72,7 +72,7 @@ last_room = 25
 -- how many bytes of messages these may bring
 abbrev pub lines_room : List ℕ → List ScoreOutput → ℕ
 lines_room name [] = 0
-lines_room name (o ∷ outs) = line_room name + lines_room name outs
+lines_room name (o ∷ outputs) = line_room name + lines_room name outputs
 
 -- how many bytes of the output
 abbrev pub text_room : Format → ℕ → ScoreOutput → ℕ
@@ -83,17 +83,17 @@ text_room format limit End = last_room
 
 abbrev pub texts_room : Format → ℕ → List ScoreOutput → ℕ
 texts_room format limit [] = 0
-texts_room format limit (o ∷ outs) = text_room format limit o + texts_room format limit outs
+texts_room format limit (o ∷ outputs) = text_room format limit o + texts_room format limit outputs
 
 -- With what these bring, the messages and the output have at most so many bytes. The syllables are within the limits.
-pub record IsInRoom (limits : Limits) (most_lines most_texts : ℕ) (w : RunWriterState) (outs : List ScoreOutput) : Type 0 where
-  pub lines : length w.messages.items + lines_room w.written.name outs ≤ most_lines
-  pub texts : length w.out.items + texts_room w.written.format limits.syllable outs ≤ most_texts
+pub record IsInRoom (limits : Limits) (most_lines most_texts : ℕ) (w : RunWriterState) (outputs : List ScoreOutput) : Type 0 where
+  pub lines : length w.messages.items + lines_room w.written.name outputs ≤ most_lines
+  pub texts : length w.out.items + texts_room w.written.format limits.syllable outputs ≤ most_texts
   pub scratch : limits.syllable ≤ w.scratch
-  pub within : All (IsWithin limits) (syllables_in outs)
+  pub within : All (IsWithin limits) (syllables_in outputs)
 
 abbrev pub HasRoomFor : Limits → RunWriterState → List ScoreOutput → Type 0
-HasRoomFor limits w outs = IsInRoom limits w.messages.limit w.out.limit w outs
+HasRoomFor limits w outputs = IsInRoom limits w.messages.limit w.out.limit w outputs
 
 -- what no call changes
 pub record IsSteadyWriter (old new : RunWriterState) : Type 0 where

@@ -1,14 +1,15 @@
 -- What a writer of scores does with what a stage of headers gives.
-use Rattle.std.specs.Prelude.{false, true, None, ◌≡◌, ℕ, ◌+◌, ◌*◌, ◌≤◌, List, [], ◌∷◌, length, map, encode_utf8_all}
+use Rattle.std.specs.Prelude.{false, true, None, ◌≡◌, ℕ, ◌+◌, ◌*◌, ◌<◌, ◌≤◌, List, [], ◌∷◌, ◌++◌, length, map, encode_utf8_all}
 use Rattle.gabc_places.specs.BoundedList.{extended_by}
 use Rattle.gabc_places.specs.declared.limits.Limits.{Limits}
+use Rattle.gabc_places.specs.declared.place.Place.{Place}
 use Rattle.gabc_headers.specs.Canonical.{canonical_heads}
 use Rattle.gabc_headers.specs.declared.head_event.HeadEvent.{HeadEvent}
 use Rattle.gabc_headers.specs.declared.head_event.HeadEvent.TheVariants as head_event
 use Rattle.gabc_score.specs.declared.score_event.ScoreEvent.{ScoreEvent}
 use Rattle.gabc_score.specs.declared.score_event.ScoreEvent.TheVariants as event
 use Rattle.gabc_score.specs.ScoreEvents.{ScoreOutput, Found, Stop, Syllable, End}
-use Rattle.gabc_score.specs.ScoreStage.{ScoreStageState, lent_in}
+use Rattle.gabc_score.specs.ScoreStage.{ScoreStageState, body_inputs, lent_in}
 use Rattle.gregorio.specs.declared.run_part.RunPart.{RunPart}
 use Rattle.gregorio.specs.declared.run_part.RunPart.TheVariants as part
 use Rattle.gregorio.specs.Outcome.{input_name, status_by}
@@ -40,7 +41,7 @@ with_told s End = record s { part = part.Over (status_by None false s.writer.wri
 
 abbrev pub with_all_told : ScoreWriterState → List ScoreOutput → ScoreWriterState
 with_all_told s [] = s
-with_all_told s (o ∷ outs) = with_all_told (with_told s o) outs
+with_all_told s (o ∷ outputs) = with_all_told (with_told s o) outputs
 
 abbrev pub writer_at : ScoreStageState → RunPart → RunWriterState → ScoreWriterState
 writer_at score at writer = record { score = score; part = at; writer = writer }
@@ -50,7 +51,7 @@ told_by s events = map (output_told s) events
 
 -- what it will still write, where these come and the headers are this book
 abbrev pub streams_of : ScoreWriterState → List (List ℕ × List ℕ) → List HeadEvent → Streams
-streams_of s book given = streams_given s.part s.score s.writer.written book given
+streams_of s book from_heads = streams_given s.part s.score s.writer.written book from_heads
 
 -- ---- a call
 
@@ -65,7 +66,16 @@ pub record WritesAt (old : ScoreWriterState) (x : HeadEvent) (read : List (List 
   pub lines : List ℕ
   pub out : new.writer.out ≡ extended_by old.writer.out output
   pub messages : new.writer.messages ≡ extended_by old.writer.messages lines
-  pub law : (book : List (List ℕ × List ℕ)) (given : List HeadEvent) → IsBookAt x book read → streams_of old book (x ∷ given) ≡ behind_bytes output lines (streams_of new book given)
+  pub law : (book : List (List ℕ × List ℕ)) (from_heads : List HeadEvent) → IsBookAt x book read → streams_of old book (x ∷ from_heads) ≡ behind_bytes output lines (streams_of new book from_heads)
+
+-- At these characters, the first of which stands at this place, it was in the body and wrote nothing, and it goes on in its part with what
+-- follows.
+pub record WritesNothing (old : ScoreWriterState) (at : Place) (bytes : List ℕ) (new : ScoreWriterState) : Type 0 where
+  pub body : 0 < length bytes → old.part ≡ part.Body
+  pub part : new.part ≡ old.part
+  pub limits : new.score.limits ≡ old.score.limits
+  pub writer : new.writer ≡ old.writer
+  pub law : (book : List (List ℕ × List ℕ)) (from_heads : List HeadEvent) → streams_of old book (body_inputs at bytes ++ from_heads) ≡ streams_of new book from_heads
 
 -- At the end of what comes it wrote what was still to come.
 pub record WritesLast (old new : ScoreWriterState) (status : Status) : Type 0 where
@@ -116,7 +126,7 @@ heads_left part.Body format limit = 0
 heads_left (part.Over status) format limit = 0
 
 -- There is room for what these bring, and for what the end of what comes brings then.
-pub record HasRoom (s : ScoreWriterState) (events : List HeadEvent) : Type 0 where
+pub record FitsEvents (s : ScoreWriterState) (events : List HeadEvent) : Type 0 where
   pub lines : length s.writer.messages.items + (length events + 1) * (16 * line_room s.writer.written.name) ≤ s.writer.messages.limit
   pub texts : length s.writer.out.items + (heads_left s.part s.writer.written.format s.score.limits.header + events_room s.writer.written.format s.score.limits.syllable events) ≤ s.writer.out.limit
   pub scratch : s.score.limits.syllable ≤ s.writer.scratch

@@ -12,8 +12,8 @@ use Rattle.gregorio_jobs.specs.declared.refusal.Refusal.TheVariants.{O3}
 use Rattle.gregorio_jobs.specs.Wants.{Said, answer, format_named}
 use Rattle.gregorio_jobs.specs.machine.Plan.{format_by, input_by, output_by}
 
-abbrev said : Bool → Option Text → Bool → Option Text → Option Text → Bool → Option Text → Bool → Said
-said help format stdin file output stdout messages all_warnings = record {
+abbrev matched : Bool → Option Text → Bool → Option Text → Option Text → Bool → Option Text → Bool → Said
+matched help format stdin file output stdout messages all_warnings = record {
   help = help;
   format = format;
   stdin = stdin;
@@ -25,13 +25,13 @@ said help format stdin file output stdout messages all_warnings = record {
 }
 
 format_fails : (stdin : Bool) (file output : Option Text) (stdout : Bool) (messages : Option Text) (all_warnings : Bool) (r : Refusal) (help : Bool) (format : Option Text)
-    → help ≡ false → format_by format ≡ Err r → answer (said help format stdin file output stdout messages all_warnings) ≡ Err r
+    → help ≡ false → format_by format ≡ Err r → answer (matched help format stdin file output stdout messages all_warnings) ≡ Err r
 format_fails stdin file output stdout messages all_warnings r true format h e = cc
 format_fails stdin file output stdout messages all_warnings r false None h e = cc
 format_fails stdin file output stdout messages all_warnings r false (Some name) h e = go (format_named name) refl e
   where
     go : (k : Option Format) → format_named name ≡ k → option_map_or Ok k (Err O3) ≡ Err r
-        → answer (said false (Some name) stdin file output stdout messages all_warnings) ≡ Err r
+        → answer (matched false (Some name) stdin file output stdout messages all_warnings) ≡ Err r
     go None q d = rw q cc
     go (Some f) q d = cc
 
@@ -39,14 +39,14 @@ format_fails stdin file output stdout messages all_warnings r false (Some name) 
 input_fails : (output : Option Text) (stdout : Bool) (messages : Option Text) (all_warnings : Bool) (f : Format) (r : Refusal)
     (help : Bool) (format : Option Text) (stdin : Bool) (file : Option Text)
     → help ≡ false → format_by format ≡ Ok f → input_by stdin file ≡ Err r
-    → answer (said help format stdin file output stdout messages all_warnings) ≡ Err r
+    → answer (matched help format stdin file output stdout messages all_warnings) ≡ Err r
 input_fails output stdout messages all_warnings f r true format stdin file h e i = cc
 input_fails output stdout messages all_warnings f r false None stdin file h e i = cc
 input_fails output stdout messages all_warnings f r false (Some name) stdin file h e i = go (format_named name) refl e stdin file i
   where
     go : (k : Option Format) → format_named name ≡ k → option_map_or Ok k (Err O3) ≡ Ok f
         → (stdin : Bool) (file : Option Text) → input_by stdin file ≡ Err r
-        → answer (said false (Some name) stdin file output stdout messages all_warnings) ≡ Err r
+        → answer (matched false (Some name) stdin file output stdout messages all_warnings) ≡ Err r
     go None q d stdin file i = cc
     go (Some g) q d true (Some w) i = rw q cc
     go (Some g) q d true None i = cc
@@ -57,7 +57,7 @@ input_fails output stdout messages all_warnings f r false (Some name) stdin file
 output_fails : (messages : Option Text) (all_warnings : Bool) (f : Format) (x : Input) (r : Refusal)
     (help : Bool) (format : Option Text) (stdin : Bool) (file output : Option Text) (stdout : Bool)
     → help ≡ false → format_by format ≡ Ok f → input_by stdin file ≡ Ok x → output_by output stdout (is_some file) ≡ Err r
-    → answer (said help format stdin file output stdout messages all_warnings) ≡ Err r
+    → answer (matched help format stdin file output stdout messages all_warnings) ≡ Err r
 output_fails messages all_warnings f x r true format stdin file output stdout h e i o = cc
 output_fails messages all_warnings f x r false None stdin file output stdout h e i o = cc
 output_fails messages all_warnings f x r false (Some name) stdin file output stdout h e i o = go (format_named name) refl e stdin file i output stdout o
@@ -65,7 +65,7 @@ output_fails messages all_warnings f x r false (Some name) stdin file output std
     go : (k : Option Format) → format_named name ≡ k → option_map_or Ok k (Err O3) ≡ Ok f
         → (stdin : Bool) (file : Option Text) → input_by stdin file ≡ Ok x
         → (output : Option Text) (stdout : Bool) → output_by output stdout (is_some file) ≡ Err r
-        → answer (said false (Some name) stdin file output stdout messages all_warnings) ≡ Err r
+        → answer (matched false (Some name) stdin file output stdout messages all_warnings) ≡ Err r
     go None q d stdin file i output stdout o = cc
     go (Some g) q d true (Some w) i output stdout o = cc
     go (Some g) q d false None i output stdout o = cc
@@ -82,7 +82,7 @@ output_fails messages all_warnings f x r false (Some name) stdin file output std
 runs : (messages : Option Text) (all_warnings : Bool) (f : Format) (x : Input) (y : Output)
     (help : Bool) (format : Option Text) (stdin : Bool) (file output : Option Text) (stdout : Bool)
     → help ≡ false → format_by format ≡ Ok f → input_by stdin file ≡ Ok x → output_by output stdout (is_some file) ≡ Ok y
-    → answer (said help format stdin file output stdout messages all_warnings)
+    → answer (matched help format stdin file output stdout messages all_warnings)
     ≡ Ok (Run (record { format = f; input = x; output = y; messages = messages; all_warnings = all_warnings }))
 runs messages all_warnings f x y true format stdin file output stdout h e i o = cc
 runs messages all_warnings f x y false None stdin file output stdout h e i o = cc
@@ -91,7 +91,7 @@ runs messages all_warnings f x y false (Some name) stdin file output stdout h e 
     go : (k : Option Format) → format_named name ≡ k → option_map_or Ok k (Err O3) ≡ Ok f
         → (stdin : Bool) (file : Option Text) → input_by stdin file ≡ Ok x
         → (output : Option Text) (stdout : Bool) → output_by output stdout (is_some file) ≡ Ok y
-        → answer (said false (Some name) stdin file output stdout messages all_warnings)
+        → answer (matched false (Some name) stdin file output stdout messages all_warnings)
         ≡ Ok (Run (record { format = f; input = x; output = y; messages = messages; all_warnings = all_warnings }))
     go None q d stdin file i output stdout o = cc
     go (Some g) q d true (Some w) i output stdout o = cc

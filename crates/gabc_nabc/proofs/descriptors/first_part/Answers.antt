@@ -1,6 +1,6 @@
 use Rattle.std.proofs.Common.{◌≡◌, ℕ, ◌+◌, Some, None, arith, ap, ◌∙◌}
 use Rattle.std.specs.Str.Iter.{chars_rest}
-use Rattle.gabc_nabc.specs.Class.{class_of_character}
+use Rattle.gabc_nabc.specs.CharClass.{class_of_character}
 use Rattle.gabc_nabc.specs.DescriptorMachine.{going_on}
 use Rattle.gabc_nabc.specs.machine.DescriptorMachine.{is_space_at_end}
 use Rattle.gabc_nabc.proofs.parts_of_text.FirstPartByBytes.{begun_at, fits_in, ends_at, on_at, stops_at, end_at}

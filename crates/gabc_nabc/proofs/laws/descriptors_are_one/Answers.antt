@@ -1,5 +1,5 @@
 use Rattle.gabc_nabc.specs.Table.{nabc}
-use Rattle.gabc_patterns.specs.Reading.{IsItemOf}
+use Rattle.gabc_patterns.specs.LongestItems.{IsItemOf}
 use Rattle.gabc_patterns.proofs.OneReading.{one_reading}
 use Rattle.gabc_nabc.proofs.grammar.LawsOfEvents.{kinds_are_one, none_empty}
 use Rattle.gabc_nabc.proofs.laws.descriptors_are_one.Goals as goal

@@ -23,12 +23,12 @@ loop-c-preserved g c =
     let less : length (chars_rest c.loop-c.c-iterator) ≡ len_utf8 c.in-Some.c + length (chars_rest c.next.new.self) =
     ap (λ (t : List ℕ). length t) step ∙ (length-append (encode c.in-Some.c) (chars_rest c.next.new.self) ∙ ap (λ (n : ℕ). n + length (chars_rest c.next.new.self)) (length-encode c.in-Some.c)) in
     let fits = place_fits c.loop-c.place c.in-Some.c (length (chars_rest c.loop-c.c-iterator)) (length (chars_rest c.next.new.self)) i.line i.column (omega (arith, less, (len_utf8_bounds c.in-Some.c).0)) in
-    let gives = c.push.ensures.events in
-    let events : c.slice.result.now ≡ gives.events = c.slice.ensures ∙ added_alone c.loop-c.room c.push.new.out gives.events (ap (λ (h : BoundedList NoteEvent). h.items) i.room) gives.out in
+    let pushed = c.push.ensures.events in
+    let events : c.slice.result.now ≡ pushed.events = c.slice.ensures ∙ added_alone c.loop-c.room c.push.new.out pushed.events (ap (λ (h : BoundedList NoteEvent). h.items) i.room) pushed.out in
     let later : List (List NoteEvent) = g.S.Stage.rest c.push.new.self (placed_characters_from (next_place c.loop-c.place c.in-Some.c) (chars (chars_rest c.next.new.self))) in
     let before : List (List NoteEvent) = g.S.Stage.rest c.loop-c.stage (placed_characters_from c.loop-c.place (chars (chars_rest c.loop-c.c-iterator))) in
-    let law : before ≡ gives.events ∷ later =
-    ap (λ (t : List ℕ). g.S.Stage.rest c.loop-c.stage (placed_characters_from c.loop-c.place t)) past ∙ gives.law (placed_characters_from (next_place c.loop-c.place c.in-Some.c) (chars (chars_rest c.next.new.self))) in
+    let law : before ≡ pushed.events ∷ later =
+    ap (λ (t : List ℕ). g.S.Stage.rest c.loop-c.stage (placed_characters_from c.loop-c.place t)) past ∙ pushed.law (placed_characters_from (next_place c.loop-c.place c.in-Some.c) (chars (chars_rest c.next.new.self))) in
     let total : List Char = take c.characters-count.result (kept_chars_of (concat_of (g.S.Stage.rest c.args.stage.now (placed_characters_from c.args.at (chars c.args.body.now))))) in
     let now = c.in_ok-add_all_kept.ensures ∙ ap (λ (l : List NoteEvent). take c.characters-count.result (c.loop-c.found ++ kept_chars_of l)) events in
     record {
@@ -40,7 +40,7 @@ loop-c-preserved g c =
       line = rw c.after-place.ensures.next fits.0;
       column = rw c.after-place.ensures.next fits.1;
       most = c.push.ensures.most ∙ i.most;
-      room = c.clear.ensures ∙ ap (λ (h : BoundedList NoteEvent). record h { items = [] }) (gives.out ∙ ap (λ (h : BoundedList NoteEvent). extended_by h gives.events) i.room);
+      room = c.clear.ensures ∙ ap (λ (h : BoundedList NoteEvent). record h { items = [] }) (pushed.out ∙ ap (λ (h : BoundedList NoteEvent). extended_by h pushed.events) i.room);
     }
 
 pub returns : goal.returns

@@ -1,6 +1,6 @@
 use Rattle.std.proofs.Common.{◌≡◌, ℕ, ◌+◌, Some, None, arith, ap, ◌∙◌}
 use Rattle.std.specs.Str.Iter.{chars_rest}
-use Rattle.gabc_notes.specs.machine.Class.{class_of_character}
+use Rattle.gabc_notes.specs.machine.CharClass.{class_of_character}
 use Rattle.gabc_notes.specs.machine.ItemMachine.{going_on, kind_at_end}
 use Rattle.gabc_notes.proofs.items_of_text.FirstItemByBytes.{begun_at, fits_in, ends_at, on_at, stops_at, end_at}
 use Rattle.gabc_notes.proofs.items.item_read.Goals as goal

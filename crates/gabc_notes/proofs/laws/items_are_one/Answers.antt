@@ -1,6 +1,6 @@
 use Rattle.gabc_notes.specs.Table.{gabc}
 use Rattle.gabc_notes.proofs.grammar.LawsOfKeptTexts.{kinds_are_one, none_empty}
-use Rattle.gabc_patterns.specs.Reading.{IsItemOf}
+use Rattle.gabc_patterns.specs.LongestItems.{IsItemOf}
 use Rattle.gabc_patterns.proofs.OneReading.{one_reading}
 use Rattle.gabc_notes.proofs.laws.items_are_one.Goals as goal
 

@@ -1,4 +1,4 @@
-use Rattle.gabc_patterns.specs.Reading.{IsItem}
+use Rattle.gabc_patterns.specs.LongestItems.{IsItem}
 use Rattle.gabc_patterns.proofs.LongestPrefixIsOne.{one_longest}
 use Rattle.gabc_patterns.proofs.laws.longest_is_one.Goals as goal
 

@@ -1,5 +1,5 @@
 use Rattle.std.proofs.Common.{[], subst}
-use Rattle.gabc_patterns.specs.Reading.{IsViable}
+use Rattle.gabc_patterns.specs.LongestItems.{IsViable}
 use Rattle.gabc_patterns.proofs.KeptTextIsKeptAgain.{viable_prefix, keeps_viable, nothing_viable}
 use Rattle.gabc_patterns.proofs.laws.prefixes_of_kept_are_viable.Goals as goal
 

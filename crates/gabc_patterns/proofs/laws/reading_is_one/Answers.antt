@@ -1,4 +1,4 @@
-use Rattle.gabc_patterns.specs.Reading.{IsItemOf}
+use Rattle.gabc_patterns.specs.LongestItems.{IsItemOf}
 use Rattle.gabc_patterns.proofs.OneReading.{one_cutting, one_reading}
 use Rattle.gabc_patterns.proofs.laws.reading_is_one.Goals as goal
 

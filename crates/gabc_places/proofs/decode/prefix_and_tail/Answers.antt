@@ -1,5 +1,5 @@
 use Rattle.std.proofs.Common.{sym, ◌∙◌}
-use Rattle.gabc_places.proofs.texts.Utf8PrefixIsRead.{prefix-whole, prefix-told, tail-whole, tail-told}
+use Rattle.gabc_places.proofs.texts.Utf8PrefixIsRead.{prefix-whole, prefix-read, tail-whole, tail-read}
 use Rattle.gabc_places.proofs.decode.prefix_and_tail.Goals as goal
 
 pub returns-in-Ok-clause-text : goal.returns-in-Ok-clause-text
@@ -9,13 +9,13 @@ pub returns-in-Ok-clause-tail : goal.returns-in-Ok-clause-tail
 returns-in-Ok-clause-tail c = let e = c.in-Ok.ensures.cases in sym (tail-whole _ e.1)
 
 pub returns-in-None-clause-text : goal.returns-in-None-clause-text
-returns-in-None-clause-text c = let e = c.in-Err.ensures in prefix-told _ _ _ (c.valid_up_to.ensures ∙ e.valid_len) c.in-Ok-from_utf8.ensures.cases.0
+returns-in-None-clause-text c = let e = c.in-Err.ensures in prefix-read _ _ _ (c.valid_up_to.ensures ∙ e.valid_len) c.in-Ok-from_utf8.ensures.cases.0
 
 pub returns-in-None-clause-tail : goal.returns-in-None-clause-tail
-returns-in-None-clause-tail c = let e = c.in-Err.ensures in sym (tail-told _ _ _ e.cases.1.short e.valid_len (c.in-None.ensures ∙ e.fault))
+returns-in-None-clause-tail c = let e = c.in-Err.ensures in sym (tail-read _ _ _ e.cases.1.short e.valid_len (c.in-None.ensures ∙ e.fault))
 
 pub returns-in-Some-clause-text : goal.returns-in-Some-clause-text
-returns-in-Some-clause-text c = let e = c.in-Err.ensures in prefix-told _ _ _ (c.valid_up_to.ensures ∙ e.valid_len) c.in-Ok-from_utf8.ensures.cases.0
+returns-in-Some-clause-text c = let e = c.in-Err.ensures in prefix-read _ _ _ (c.valid_up_to.ensures ∙ e.valid_len) c.in-Ok-from_utf8.ensures.cases.0
 
 pub returns-in-Some-clause-tail : goal.returns-in-Some-clause-tail
-returns-in-Some-clause-tail c = let e = c.in-Err.ensures in sym (tail-told _ _ _ e.cases.1.short e.valid_len (c.in-Some.ensures ∙ e.fault))
+returns-in-Some-clause-tail c = let e = c.in-Err.ensures in sym (tail-read _ _ _ e.cases.1.short e.valid_len (c.in-Some.ensures ∙ e.fault))

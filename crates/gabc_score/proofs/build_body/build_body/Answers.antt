@@ -27,9 +27,9 @@ loop-c-preserved c =
     let rest = chars_rest c.loop-c.c-iterator in
     let next = chars_rest c.next.new.self in
     let past = chars_past_char rest next c.in-Some.c i.utf8 step in
-    let g = c.push.ensures.gives in
-    let given = ap (λ (r : BoundedList ScoreEvent). r.items) (g.told.events ∙ ap (λ r. extended_by r (events_of g.outs)) i.room) in
-    let room = ap (λ (r : BoundedList ScoreEvent). r.limit) (g.told.events ∙ ap (λ r. extended_by r (events_of g.outs)) i.room) in
+    let g = c.push.ensures.step in
+    let emitted_now = ap (λ (r : BoundedList ScoreEvent). r.items) (g.emitted.events ∙ ap (λ r. extended_by r (events_of g.outputs)) i.room) in
+    let room = ap (λ (r : BoundedList ScoreEvent). r.limit) (g.emitted.events ∙ ap (λ r. extended_by r (events_of g.outputs)) i.room) in
     let ending = c.args.ending in
     let x : Char = record { c = c.in-Some.c; place = c.loop-c.place } in
     let xs = to_come ending (placed_characters_from (next_place c.loop-c.place c.in-Some.c) (chars next)) in
@@ -40,9 +40,9 @@ loop-c-preserved c =
       utf8 = IsUtf8-past_char rest next c.in-Some.c i.utf8 step;
       room = c.in_ok-add_all.ensures.room ∙ ap (λ n. record { items = []; limit = n }) room;
       rests = c.push.ensures.rests;
-      said = ap (λ p. result_with c.add_all.new.self (concat_of (left_of (shown c.push.new.self) (to_come ending (placed_characters_from p (chars next)))))) c.after-place.ensures.next
-          ∙ collects_on c.loop-c.result c.add_all.new.self _ (left_of (shown c.loop-c.machine)) (left_of (shown c.push.new.self)) (head_event.Body x) g.outs xs (g.law xs) (c.in_ok-add_all.ensures.said g.outs given g.told.lent)
-          (ap (λ cs. result_with c.loop-c.result (concat_of (left_of (shown c.loop-c.machine) (to_come ending (placed_characters_from c.loop-c.place cs))))) (sym past) ∙ i.said);
+      result_is = ap (λ p. result_with c.add_all.new.self (concat_of (left_of (shown c.push.new.self) (to_come ending (placed_characters_from p (chars next)))))) c.after-place.ensures.next
+          ∙ collects_on c.loop-c.result c.add_all.new.self _ (left_of (shown c.loop-c.machine)) (left_of (shown c.push.new.self)) (head_event.Body x) g.outputs xs (g.law xs) (c.in_ok-add_all.ensures.result_is g.outputs emitted_now g.emitted.lent)
+          (ap (λ cs. result_with c.loop-c.result (concat_of (left_of (shown c.loop-c.machine) (to_come ending (placed_characters_from c.loop-c.place cs))))) (sym past) ∙ i.result_is);
       line = omega (arith, fits.0);
       column = omega (arith, fits.1);
     }
@@ -57,7 +57,7 @@ returns c =
     let cs = chars c.args.body.now in
     let xs = placed_characters_from start.at cs in
     let ends = c.end_machine.ensures in
-    let given = ap (λ (r : BoundedList ScoreEvent). r.items) (ends.told.events ∙ ap (λ r. extended_by r (events_of ends.outs)) i.room) in
+    let emitted_now = ap (λ (r : BoundedList ScoreEvent). r.items) (ends.emitted.events ∙ ap (λ r. extended_by r (events_of ends.outputs)) i.room) in
     let l = left_of (shown c.loop-c.machine) in
     let small : c.args.limits.syllable < 2 ^ 64 - 1 = let r = c.args.limits.in_range.syllable_most in omega (arith, r) in
     let low : c.args.limits.input < 2 ^ 64 - 1 = let r = c.args.limits.in_range in omega (arith, r) in
@@ -65,10 +65,10 @@ returns c =
     let line = c.requires.line in
     let column = c.requires.column in
     let stage = c.args.stage in
-    c.in_ok-add_all-2.ensures.said ends.outs given ends.told.lent
+    c.in_ok-add_all-2.ensures.result_is ends.outputs emitted_now ends.emitted.lent
     ∙ ap (result_with c.loop-c.result) (sym ends.law)
     ∙ ap (λ cs. result_with c.loop-c.result (concat_of (l (to_come ending (placed_characters_from c.loop-c.place cs))))) (sym none)
-    ∙ i.said
+    ∙ i.result_is
     ∙ ap (λ ss. result_with (record { syllables = ss; findings = start.findings; fault = None }) (concat_of (left_of (shown c.in_ok-machine.machine) (to_come ending xs)))) c.new.ensures
     ∙ ap (λ lists. result_with (nothing_said start.findings) (concat_of lists)) (c.in_ok-machine.ensures.left (to_come ending xs))
     ∙ ap (λ ys. result_with (nothing_said start.findings) (concat_of (body_left c.args.limits (begun_score c.args.limits start.at start.head) (running_events_left stage ys) (to_come ending xs)))) (characters_are ending xs)

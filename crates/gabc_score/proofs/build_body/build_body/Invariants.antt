@@ -15,7 +15,7 @@ invariant-loop-c l = record {
   utf8 : IsUtf8 (chars_rest l.c-iterator);
   room : l.out ≡ record { items = []; limit = 16 };
   rests : IsScore l.machine;
-  said : result_with l.result (concat_of (left_of (shown l.machine) (to_come l.fn.ending (placed_characters_from l.place (chars (chars_rest l.c-iterator))))))
+  result_is : result_with l.result (concat_of (left_of (shown l.machine) (to_come l.fn.ending (placed_characters_from l.place (chars (chars_rest l.c-iterator))))))
       ≡ result_with l.initial.result (concat_of (left_of (shown l.initial.machine) (to_come l.fn.ending (placed_characters_from l.fn.start.at (chars l.fn.body)))));
   line : l.place.line + length (chars_rest l.c-iterator) < 2 ^ 64;
   column : l.place.column + length (chars_rest l.c-iterator) < 2 ^ 64;

@@ -5,6 +5,6 @@ use Rattle.gabc_score.proofs.part_events.emit_text.Given as goal
 
 abbrev pub invariant-loop-item : goal.invariant-loop-item
 invariant-loop-item l = record {
-  told : l.out ≡ extended_by l.initial.out (map (λ o. of_text o) (take l.item-index l.events));
+  emitted : l.out ≡ extended_by l.initial.out (map (λ o. of_text o) (take l.item-index l.events));
   room : Fits l.out (length l.events - l.item-index);
 }

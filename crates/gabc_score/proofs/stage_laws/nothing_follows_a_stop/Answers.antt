@@ -2,4 +2,4 @@ use Rattle.gabc_score.proofs.score_events.NothingBehindAStop.{nothing_behind}
 use Rattle.gabc_score.proofs.stage_laws.nothing_follows_a_stop.Goals as goal
 
 pub returns : goal.returns
-returns c s fault given = nothing_behind s fault given
+returns c s fault later = nothing_behind s fault later

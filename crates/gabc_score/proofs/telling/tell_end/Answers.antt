@@ -4,8 +4,8 @@ use Rattle.gabc_places.specs.declared.code.Code.TheVariants.{W9, W11}
 use Rattle.gabc_score.specs.declared.score_event.ScoreEvent.TheVariants as event
 use Rattle.gabc_score.specs.ScoreEvents.{End}
 use Rattle.gabc_score.specs.machine.SlotPair.{lent_of}
-use Rattle.gabc_score.proofs.score_events.FewAndShortAreLent.{few_given}
-use Rattle.gabc_score.proofs.score_events.OutputsAreTold.{told, then_more, found_then, few_at_end, found_events}
+use Rattle.gabc_score.proofs.score_events.FewAndShortAreLent.{few_lent}
+use Rattle.gabc_score.proofs.score_events.OutputsAreTold.{emitted, then_more, found_then, few_at_end, found_events}
 use Rattle.gabc_score.proofs.telling.tell_end.Goals as goal
 
 only_one : length (event.End ∷ []) ≤ 1
@@ -24,9 +24,9 @@ returns c =
     let found = found_then out c.tell_found.new.out c.tell_code.new.out c.tell_code-2.new.out fs w9 w11 c.tell_found.ensures c.tell_code.ensures
     (c.tell_code-2.ensures ∙ ap (λ b. extended_by c.tell_code.new.out (found_events (cond b (record { place = c.args.at; code = W11 } ∷ []) []))) c.has_open.ensures) in
     record {
-      told = told (fs ++ (w9 ++ w11)) (End ∷ []) (event.End ∷ []) refl (λ l. refl) p.first p.second n _ c.give_all-count.ensures.given c.give_all-count.ensures.most
+      emitted = emitted (fs ++ (w9 ++ w11)) (End ∷ []) (event.End ∷ []) refl (λ l. refl) p.first p.second n _ c.give_all-count.ensures.lends c.give_all-count.ensures.most
           (few_at_end fs _ _ c.args.has_last is_open c.requires.few) only_one out c.push.new.self
           (then_more out c.tell_code-2.new.out c.push.new.self (found_events (fs ++ (w9 ++ w11))) (lent_of n ++ event.End ∷ []) found
           (then_more c.tell_code-2.new.out c.tell_lent.new.out c.push.new.self (lent_of n) (event.End ∷ []) c.tell_lent.ensures c.push.ensures));
-      few = let most = c.give_all-count.ensures.most in let n = few_given c.give_all-count.result p.first p.second _ c.give_all-count.ensures.given in omega (arith, most, n);
+      few = let most = c.give_all-count.ensures.most in let n = few_lent c.give_all-count.result p.first p.second _ c.give_all-count.ensures.lends in omega (arith, most, n);
     }

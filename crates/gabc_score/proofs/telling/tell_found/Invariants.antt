@@ -5,6 +5,6 @@ use Rattle.gabc_score.proofs.telling.tell_found.Given as goal
 
 abbrev pub invariant-loop-finding : goal.invariant-loop-finding
 invariant-loop-finding l = record {
-  told : l.out ≡ extended_by l.initial.out (map (λ o. event.Found o) (take l.finding-index l.found));
+  emitted : l.out ≡ extended_by l.initial.out (map (λ o. event.Found o) (take l.finding-index l.found));
   room : Fits l.out (length l.found - l.finding-index);
 }

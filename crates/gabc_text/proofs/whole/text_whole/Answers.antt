@@ -32,11 +32,11 @@ loop-c-preserved-then-is_in_raw c =
     let none = subst (NonePass (λ x. x == 60)) (sym c.before_tag-raw.ensures.prefix) (none_before (chars c.loop-c.rest.now)) in
     let g = raw_goes (built_text_of c.loop-c.builder) (built_text_of c.pass.new.self) _ c.loop-c.stage c.pass.new.stage (chars c.loop-c.rest.now) (chars c.before_tag-raw.result.now) (chars c.range_from-rest.result.now) _
     (prefix_chars c.loop-c.rest.now c.before_tag-raw.result.now c.range_from-rest.result.now c.before_tag-raw.utf8 c.before_tag-raw.ensures.begins c.range_from-rest.ensures.value)
-    (sym c.is_in_raw.ensures ∙ c.if-is_in_raw.true) none c.pass.ensures.stage c.in_ok-pass.ensures.events i.told i.left in
+    (sym c.is_in_raw.ensures ∙ c.if-is_in_raw.true) none c.pass.ensures.stage c.in_ok-pass.ensures.events i.events_same i.left in
     record {
       utf8 = c.range_from-rest.utf8;
       running = g.0;
-      told = g.1.0;
+      events_same = g.1.0;
       left = g.1.1;
       shorter = omega (arith, i.shorter, c.range_from-rest.ensures.len);
       empty = i.empty;
@@ -57,7 +57,7 @@ loop-c-preserved c =
     record {
       utf8 = c.range_from-rest-else-c-ne60.utf8;
       running = sym c.is_done.ensures ∙ c.if-is_done.false;
-      told = events_goes (built_text_of c.loop-c.builder) (built_text_of c.feed.new.self) _ c.loop-c.stage c.feed.new.stage c.in-Some.c rest (rw past at i.told) c.feed.ensures.stage c.in_ok-feed.ensures.events;
+      events_same = events_goes (built_text_of c.loop-c.builder) (built_text_of c.feed.new.self) _ c.loop-c.stage c.feed.new.stage c.in-Some.c rest (rw past at i.events_same) c.feed.ensures.stage c.in_ok-feed.ensures.events;
       left = left_goes c.loop-c.stage c.feed.new.stage c.in-Some.c rest _ (rw past at i.left) c.feed.ensures.stage (sym c.is_done.ensures ∙ c.if-is_done.false);
       shorter = omega (arith, i.shorter, c.range_from-rest-else-c-ne60.ensures.len);
       empty = c.in_ok-feed.ensures.room;
@@ -71,7 +71,7 @@ returns-then-is_done c =
     let past : chars c.loop-c.rest.now ≡ c.in-Some.c ∷ cs = chars_past_char c.loop-c.rest.now (chars_rest c.next.new.self) c.in-Some.c i.utf8 step in
     let fits = text_fits c.args.at c.args.body.now c.utf8.body c.requires.line c.requires.column in
     let done = sym c.is_done.ensures ∙ c.if-is_done.true in
-    let events = events_goes (built_text_of c.loop-c.builder) (built_text_of c.feed.new.self) _ c.loop-c.stage c.feed.new.stage c.in-Some.c cs (rw past at i.told) c.feed.ensures.stage c.in_ok-feed.ensures.events in
+    let events = events_goes (built_text_of c.loop-c.builder) (built_text_of c.feed.new.self) _ c.loop-c.stage c.feed.new.stage c.in-Some.c cs (rw past at i.events_same) c.feed.ensures.stage c.in_ok-feed.ensures.events in
     let index = bytes_before c.args.body.now c.loop-c.rest.now _ c.utf8.body i.utf8 i.shorter refl in
     let m = all_meant c.args.at (chars c.args.body.now) (built_text_of c.feed.new.self) _ (c.in-Some.c ∷ cs) fits
     (events_ends (built_text_of c.feed.new.self) _ c.feed.new.stage cs events done)
@@ -91,7 +91,7 @@ returns c =
     let fits = text_fits c.args.at c.args.body.now c.utf8.body c.requires.line c.requires.column in
     let index : length c.args.body.now + bytes_of [] ≡ bytes_of (chars c.args.body.now) = omega (arith, bytes_chars c.args.body.now c.utf8.body) in
     let m = all_meant c.args.at (chars c.args.body.now) (built_text_of c.close.new.self) _ [] fits
-    (c.in_ok-close.ensures ∙ ap (with_events (built_text_of c.loop-c.builder)) (sym (append-nil (events_of_finish c.loop-c.stage))) ∙ (rw none at i.told)) (rw none at i.left) index in
+    (c.in_ok-close.ensures ∙ ap (with_events (built_text_of c.loop-c.builder)) (sym (append-nil (events_of_finish c.loop-c.stage))) ∙ (rw none at i.events_same)) (rw none at i.left) index in
     record {
       kept_is = c.into_read-2.ensures.kept ∙ m.kept_is;
       view_is = ap content_of c.into_read-2.ensures.view ∙ m.view_is;

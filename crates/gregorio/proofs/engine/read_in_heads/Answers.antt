@@ -5,28 +5,28 @@ use Rattle.gregorio.proofs.engine.read_in_heads.Goals as goal
 
 pub pass_on-requires-clause-room : goal.pass_on-requires-clause-room
 pass_on-requires-clause-room c =
-    let gives = given_of_input c.args.heads.now _ c.args.item c.args.given.now c.clear.new.self c.push.new.out c.slice.result.now c.clear.ensures c.push.ensures.events c.slice.ensures in
-    room_for_just_given c.args.heads.now c.args.writer.now c.args.item c.slice.result.now gives c.requires.reserved c.requires.empty
+    let step = given_of_input c.args.heads.now _ c.args.item c.args.from_heads.now c.clear.new.self c.push.new.out c.slice.result.now c.clear.ensures c.push.ensures.events c.slice.ensures in
+    room_for_just_given c.args.heads.now c.args.writer.now c.args.item c.slice.result.now step c.requires.reserved c.requires.empty
 
 pub pass_on-requires-clause-book : goal.pass_on-requires-clause-book
 pass_on-requires-clause-book c =
-    let gives = given_of_input c.args.heads.now _ c.args.item c.args.given.now c.clear.new.self c.push.new.out c.slice.result.now c.clear.ensures c.push.ensures.events c.slice.ensures in
-    short_book_given c.args.heads.now c.args.writer.now c.args.item c.slice.result.now gives c.push.new.self c.push.ensures.state c.book.result.now c.book.ensures
+    let step = given_of_input c.args.heads.now _ c.args.item c.args.from_heads.now c.clear.new.self c.push.new.out c.slice.result.now c.clear.ensures c.push.ensures.events c.slice.ensures in
+    short_book_given c.args.heads.now c.args.writer.now c.args.item c.slice.result.now step c.push.new.self c.push.ensures.state c.book.result.now c.book.ensures
     (short_heads c.canonical_lines_are_within_the_limits.ensures) c.requires.together
 
 pub returns-clause-together : goal.returns-clause-together
 returns-clause-together c =
-    let gives = given_of_input c.args.heads.now _ c.args.item c.args.given.now c.clear.new.self c.push.new.out c.slice.result.now c.clear.ensures c.push.ensures.events c.slice.ensures in
-    together_given c.args.heads.now c.args.writer.now c.args.item c.slice.result.now gives c.push.new.self c.push.ensures.state c.book.result.now c.book.ensures
+    let step = given_of_input c.args.heads.now _ c.args.item c.args.from_heads.now c.clear.new.self c.push.new.out c.slice.result.now c.clear.ensures c.push.ensures.events c.slice.ensures in
+    together_given c.args.heads.now c.args.writer.now c.args.item c.slice.result.now step c.push.new.self c.push.ensures.state c.book.result.now c.book.ensures
     c.pass_on.new.writer (short_heads c.canonical_lines_are_within_the_limits.ensures) c.requires.together c.requires.heads c.pass_on.ensures.part c.pass_on.ensures.steady
 
 pub returns-clause-writes : goal.returns-clause-writes
 returns-clause-writes c =
-    let gives = given_of_input c.args.heads.now _ c.args.item c.args.given.now c.clear.new.self c.push.new.out c.slice.result.now c.clear.ensures c.push.ensures.events c.slice.ensures in
-    writes_given c.args.heads.now c.args.writer.now c.args.item c.slice.result.now gives c.push.new.self c.push.ensures.state c.book.result.now c.book.ensures
+    let step = given_of_input c.args.heads.now _ c.args.item c.args.from_heads.now c.clear.new.self c.push.new.out c.slice.result.now c.clear.ensures c.push.ensures.events c.slice.ensures in
+    writes_given c.args.heads.now c.args.writer.now c.args.item c.slice.result.now step c.push.new.self c.push.ensures.state c.book.result.now c.book.ensures
     c.pass_on.new.writer c.pass_on.ensures.writes
 
 pub returns-clause-room : goal.returns-clause-room
 returns-clause-room c =
-    let gives = given_of_input c.args.heads.now _ c.args.item c.args.given.now c.clear.new.self c.push.new.out c.slice.result.now c.clear.ensures c.push.ensures.events c.slice.ensures in
-    c.pass_on.ensures.room (End ∷ []) (room_for_given c.args.heads.now c.args.writer.now c.args.item c.slice.result.now gives c.requires.reserved c.requires.empty)
+    let step = given_of_input c.args.heads.now _ c.args.item c.args.from_heads.now c.clear.new.self c.push.new.out c.slice.result.now c.clear.ensures c.push.ensures.events c.slice.ensures in
+    c.pass_on.ensures.room (End ∷ []) (room_for_given c.args.heads.now c.args.writer.now c.args.item c.slice.result.now step c.requires.reserved c.requires.empty)

@@ -1,5 +1,5 @@
 use Rattle.std.proofs.Common.{◌≡◌, refl}
-use Rattle.gabc_notes.specs.machine.Class.{class_of_character}
+use Rattle.gabc_notes.specs.machine.CharClass.{class_of_character}
 use Rattle.gabc_notes.specs.machine.ItemMachine.{next_state}
 use Rattle.gabc_notes.proofs.machine.StageEmitsItsEvents.{push_emits}
 use Rattle.gabc_notes.proofs.Stopping.{push_stops}

@@ -1,6 +1,6 @@
 use Rattle.std.proofs.Common.{true, refl, sym, ◌∙◌}
 use Rattle.gabc_notes.specs.declared.stage.CharRole.TheVariants.{Ends}
-use Rattle.gabc_notes.specs.machine.Class.{class_of_character}
+use Rattle.gabc_notes.specs.machine.CharClass.{class_of_character}
 use Rattle.gabc_notes.specs.machine.ItemMachine.{next_state}
 use Rattle.gabc_notes.proofs.machine.ShortWays.{whole_is, facts_of, close_emits}
 use Rattle.gabc_notes.proofs.Stopping.{push_stops}

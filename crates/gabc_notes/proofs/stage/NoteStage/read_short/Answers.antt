@@ -3,5 +3,5 @@ use Rattle.gabc_notes.proofs.stage.NoteStage.read_short.Goals as goal
 
 pub returns-clause-events : goal.returns-clause-events
 returns-clause-events c =
-    note_emits c.args.self.now c.args.x c.args.next c.requires.comment c.requires.step c.saturating_add-kept.result c.args.out.now c.push.new.self
-    c.requires.runs c.saturating_add-kept.ensures c.push.ensures
+    note_emits c.args.self.now c.args.x c.args.next c.requires.comment c.requires.step c.pass_short.new.self c.args.out.now c.push.new.self
+    c.requires.runs c.pass_short.ensures c.push.ensures

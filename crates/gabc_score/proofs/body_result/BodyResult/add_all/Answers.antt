@@ -15,11 +15,11 @@ loop-event-preserved c =
           ∙ ap (λ es. result_past_all a b c.args.self.now (take (k + 1) es)) same;
     }
 
-pub returns-clause-said : goal.returns-clause-said
-returns-clause-said c outs e l =
+pub returns-clause-result_is : goal.returns-clause-result_is
+returns-clause-result_is c outputs e l =
     let a = c.args.pair.now.first in
     let b = c.args.pair.now.second in
     let k = c.loop-event.event-index in
     let items = c.args.out.now.items in
     let past : length items ≤ k = let t = c.loop-event-test.false in let s = ap length c.slice-event-items.ensures in omega (arith, t, s) in
-    c.loop-event.invariant.past ∙ ap (result_past_all a b c.args.self.now) (take_all k items past ∙ e) ∙ collected a b c.args.self.now outs l
+    c.loop-event.invariant.past ∙ ap (result_past_all a b c.args.self.now) (take_all k items past ∙ e) ∙ collected a b c.args.self.now outputs l

@@ -5,17 +5,17 @@ use Rattle.gabc_score.specs.machine.ScoreStage.{placed_behind}
 use Rattle.gabc_score.proofs.score_events.FewAndShortAreLent.{held_lends}
 use Rattle.gabc_score.proofs.score_machine.ScoreMachine.break_off.Goals as goal
 
-pub returns-clause-gives : goal.returns-clause-gives
-returns-clause-gives c =
+pub returns-clause-step : goal.returns-clause-step
+returns-clause-step c =
     let held = c.free.new.self.held in
     let rests = c.requires.rests.rests in
     let limits = c.args.self.now.limits in
-    let outs = outputs_of [] (placed_behind c.args.self.now.given held) in
+    let outputs = outputs_of [] (placed_behind c.args.self.now.has_lent held) in
     record {
-      outs = outs;
-      lends = subst (λ (outs : List ScoreOutput). Lends limits 1 outs) (append-nil outs)
-          (held_lends limits 1 c.args.self.now.given held c.args.self.now.pair.gathered.made [] refl c.free.ensures.held rests.short c.tell_broken.ensures.few (omega arith));
+      outputs = outputs;
+      lends = subst (λ (outputs : List ScoreOutput). Lends limits 1 outputs) (append-nil outputs)
+          (held_lends limits 1 c.args.self.now.has_lent held c.args.self.now.pair.gathered.made [] refl c.free.ensures.held rests.short c.tell_broken.ensures.few (omega arith));
       limits = refl;
       law = search rules;
-      told = c.tell_broken.ensures.told;
+      emitted = c.tell_broken.ensures.emitted;
     }

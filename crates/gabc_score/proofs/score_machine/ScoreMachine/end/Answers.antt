@@ -12,26 +12,26 @@ use Rattle.gabc_score.proofs.score_machine.ScoreMachine.end.Goals as goal
 pub tell_end-requires-clause-few : goal.tell_end-requires-clause-few
 tell_end-requires-clause-few c = rw (c.slice-found.ensures) (few_found c.args.self.now.found c.hold.new.found c.close.new.self.events c.requires.rests.rests.none c.hold.ensures.found c.close.ensures.events.few)
 
-pub returns-in-Some-clause-gives : goal.returns-in-Some-clause-gives
-returns-in-Some-clause-gives c =
+pub returns-in-Some-clause-step : goal.returns-in-Some-clause-step
+returns-in-Some-clause-step c =
     let held = c.close_last-has_last.new.self.held in
     let rests = c.requires.rests.rests in
     let same = c.close_last-has_last.ensures.held ∙ (c.hold.ensures.held ∙ c.free.ensures.held) in
     record {
-      outs = outputs_of [] (placed_behind c.args.self.now.given held) ++ Stop c.in-Some.fault ∷ [];
-      lends = held_lends c.args.self.now.limits 2 c.args.self.now.given held c.args.self.now.pair.gathered.made (Stop c.in-Some.fault ∷ []) refl same rests.short c.stop.ensures.few (omega arith);
+      outputs = outputs_of [] (placed_behind c.args.self.now.has_lent held) ++ Stop c.in-Some.fault ∷ [];
+      lends = held_lends c.args.self.now.limits 2 c.args.self.now.has_lent held c.args.self.now.pair.gathered.made (Stop c.in-Some.fault ∷ []) refl same rests.short c.stop.ensures.few (omega arith);
       limits = c.stop.ensures.limits;
       law = search rules;
-      told = c.stop.ensures.told;
+      emitted = c.stop.ensures.emitted;
     }
 
-pub returns-in-None-clause-gives : goal.returns-in-None-clause-gives
-returns-in-None-clause-gives c =
+pub returns-in-None-clause-step : goal.returns-in-None-clause-step
+returns-in-None-clause-step c =
     let g = c.hold.new.pair.gathered in
     let p = c.close_last-has_last.new.self in
     let fs = c.hold.new.found.items in
     let found = fs ++ end_findings c.args.self.now.next c.close_last-has_last.result (p.gathered.eu || p.gathered.nlba) in
-    let given = placed_behind c.args.self.now.given p.gathered.made in
+    let lent = placed_behind c.args.self.now.has_lent p.gathered.made in
     let rests = c.requires.rests.rests in
     let limits = c.args.self.now.limits in
     let now = c.close.new.self.events in
@@ -40,9 +40,9 @@ returns-in-None-clause-gives c =
     let none : code_in limits (with_last (with_all old now)) ≡ None = no_code limits c.args.self.now.next (with_last (with_all old now)) (sym (ap (end_fault limits c.args.self.now.next) is) ∙ (sym c.end_fault.ensures.fault ∙ c.in-None.is)) in
     let short : All (IsShort limits.syllable) p.gathered.made = subst (λ (k : Gathered). All (IsShort limits.syllable) k.made) (sym is) (short_at_end limits old now rests.limit rests.over rests.short none) in
     record {
-      outs = outputs_of found given ++ End ∷ [];
-      lends = lends_these c.args.self.now.limits 2 found given (End ∷ []) refl c.tell_end.ensures.few (placed_within c.args.self.now.limits _ p.gathered.made short);
+      outputs = outputs_of found lent ++ End ∷ [];
+      lends = lends_these c.args.self.now.limits 2 found lent (End ∷ []) refl c.tell_end.ensures.few (placed_within c.args.self.now.limits _ p.gathered.made short);
       limits = refl;
       law = search rules;
-      told = rw (sym c.slice-found.ensures) c.tell_end.ensures.told;
+      emitted = rw (sym c.slice-found.ensures) c.tell_end.ensures.emitted;
     }

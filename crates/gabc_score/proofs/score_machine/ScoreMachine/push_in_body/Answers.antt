@@ -4,24 +4,24 @@ use Rattle.gabc_score.specs.machine.ScoreStage.{placed_behind}
 use Rattle.gabc_score.proofs.score_events.FewAndShortAreLent.{held_lends, lends_none}
 use Rattle.gabc_score.proofs.score_machine.ScoreMachine.push_in_body.Goals as goal
 
-pub returns-in-Found-clause-gives : goal.returns-in-Found-clause-gives
-returns-in-Found-clause-gives c =
+pub returns-in-Found-clause-step : goal.returns-in-Found-clause-step
+returns-in-Found-clause-step c =
     rw (c.requires.part, c.in-Found.is) (record {
-      outs = Found c.in-Found.finding ∷ [];
+      outputs = Found c.in-Found.finding ∷ [];
       lends = lends_none c.args.self.now.limits _ (Found c.in-Found.finding ∷ []) refl;
       limits = refl;
       law = λ xs. refl;
-      told = record { events = c.push.ensures; few = omega arith; lent = refl };
+      emitted = record { events = c.push.ensures; few = omega arith; lent = refl };
     })
 
-pub returns-in-Stop-clause-gives : goal.returns-in-Stop-clause-gives
-returns-in-Stop-clause-gives c =
+pub returns-in-Stop-clause-step : goal.returns-in-Stop-clause-step
+returns-in-Stop-clause-step c =
     let held = c.free.new.self.held in
     let rests = c.requires.rests.rests in
     record {
-      outs = outputs_of [] (placed_behind c.args.self.now.given held) ++ Stop c.in-Stop.fault ∷ [];
-      lends = rw c.in-Stop.is (held_lends c.args.self.now.limits 1 c.args.self.now.given held c.args.self.now.pair.gathered.made (Stop c.in-Stop.fault ∷ []) refl c.free.ensures.held rests.short c.stop.ensures.few (omega arith));
+      outputs = outputs_of [] (placed_behind c.args.self.now.has_lent held) ++ Stop c.in-Stop.fault ∷ [];
+      lends = rw c.in-Stop.is (held_lends c.args.self.now.limits 1 c.args.self.now.has_lent held c.args.self.now.pair.gathered.made (Stop c.in-Stop.fault ∷ []) refl c.free.ensures.held rests.short c.stop.ensures.few (omega arith));
       limits = c.stop.ensures.limits;
       law = search rules;
-      told = c.stop.ensures.told;
+      emitted = c.stop.ensures.emitted;
     }

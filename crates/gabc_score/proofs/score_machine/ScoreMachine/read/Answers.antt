@@ -18,25 +18,25 @@ use Rattle.gabc_score.proofs.score_machine.ScoreMachine.read.Goals as goal
 pub tell_point-gave-requires-clause-few : goal.tell_point-gave-requires-clause-few
 tell_point-gave-requires-clause-few c = few_found c.args.self.now.found c.hold.new.found c.take.new.self.events c.requires.rests.rests.none c.hold.ensures.found c.take.ensures.events.few
 
-pub returns-in-Some-clause-gives : goal.returns-in-Some-clause-gives
-returns-in-Some-clause-gives c =
+pub returns-in-Some-clause-step : goal.returns-in-Some-clause-step
+returns-in-Some-clause-step c =
     let held = c.hold.new.pair.held in
     let rests = c.requires.rests.rests in
     let same = c.hold.ensures.held ∙ c.free.ensures.held in
     let fault = fault_at c.args.x.place c.in-Some.code in
     record {
-      outs = outputs_of [] (placed_behind c.args.self.now.given held) ++ Stop fault ∷ [];
-      lends = held_lends c.args.self.now.limits 1 c.args.self.now.given held c.args.self.now.pair.gathered.made (Stop fault ∷ []) refl same rests.short c.stop.ensures.few (omega arith);
+      outputs = outputs_of [] (placed_behind c.args.self.now.has_lent held) ++ Stop fault ∷ [];
+      lends = held_lends c.args.self.now.limits 1 c.args.self.now.has_lent held c.args.self.now.pair.gathered.made (Stop fault ∷ []) refl same rests.short c.stop.ensures.few (omega arith);
       limits = c.stop.ensures.limits;
       law = search rules;
-      told = c.stop.ensures.told;
+      emitted = c.stop.ensures.emitted;
     }
 
-pub returns-after-self-clause-gives : goal.returns-after-self-clause-gives
-returns-after-self-clause-gives c =
+pub returns-after-self-clause-step : goal.returns-after-self-clause-step
+returns-after-self-clause-step c =
     let made = c.hold.new.pair.gathered.made in
     let fs = c.hold.new.found.items in
-    let given = take (length made - 1) (placed_behind c.args.self.now.given made) in
+    let lent = take (length made - 1) (placed_behind c.args.self.now.has_lent made) in
     let rests = c.requires.rests.rests in
     let limits = c.args.self.now.limits in
     let now = c.take.new.self.events in
@@ -44,13 +44,13 @@ returns-after-self-clause-gives c =
     let is : c.hold.new.pair.gathered ≡ with_all old now = c.hold.ensures.gathered ∙ ap (λ (k : Gathered). with_all k now) c.free.ensures.gathered in
     let none : code_in limits (with_all old now) ≡ None = sym (ap (code_in limits) is) ∙ (sym c.code.ensures.code ∙ c.in-None.is) in
     let short : All (IsShort limits.syllable) made = subst (λ (k : Gathered). All (IsShort limits.syllable) k.made) (sym is) (short_now limits old now rests.limit rests.over rests.short none) in
-    let within : All (IsWithin limits) given = All-take (IsWithin limits) (length made - 1) (placed_behind c.args.self.now.given made) (placed_within limits (not c.args.self.now.given) made short) in
+    let within : All (IsWithin limits) lent = All-take (IsWithin limits) (length made - 1) (placed_behind c.args.self.now.has_lent made) (placed_within limits (not c.args.self.now.has_lent) made short) in
     record {
-      outs = outputs_of fs given;
-      lends = subst (λ (outs : List ScoreOutput). Lends limits 1 outs) (append-nil (outputs_of fs given)) (lends_these limits 1 fs given [] refl c.tell_point-gave.ensures.few within);
+      outputs = outputs_of fs lent;
+      lends = subst (λ (outputs : List ScoreOutput). Lends limits 1 outputs) (append-nil (outputs_of fs lent)) (lends_these limits 1 fs lent [] refl c.tell_point-gave.ensures.few within);
       limits = refl;
       law = search rules;
-      told = c.tell_point-gave.ensures.told;
+      emitted = c.tell_point-gave.ensures.emitted;
     }
 
 pub returns-after-self-clause-rests : goal.returns-after-self-clause-rests

@@ -5,5 +5,5 @@ use Rattle.gabc_score.proofs.score_stage.ScoreStageStage.push.Goals as goal
 
 pub returns-clause-end : goal.returns-clause-end
 returns-clause-end c =
-    let g = c.push.ensures.gives in
-    stops c.self.inside.machine c.args.input g.outs (left_of (shown c.push.new.self)) c.args.out.now c.push.new.out g.law g.told.events
+    let g = c.push.ensures.step in
+    stops c.self.inside.machine c.args.input g.outputs (left_of (shown c.push.new.self)) c.args.out.now c.push.new.out g.law g.emitted.events

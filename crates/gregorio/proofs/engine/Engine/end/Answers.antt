@@ -1,10 +1,10 @@
 use Rattle.std.proofs.Common.{List, [], option_to_list, ap, sym, subst, ◌∙◌, append-nil}
-use Rattle.gabc_headers.specs.declared.head_event.HeadEvent.{HeadEvent as Given}
+use Rattle.gabc_headers.specs.declared.head_event.HeadEvent.{HeadEvent as HeadItem}
 use Rattle.gregorio.specs.declared.engine.Engine.TheInside.{Inside}
 use Rattle.gregorio.specs.declared.source_bytes.SourceEnding.TheVariants.{Whole}
 use Rattle.gregorio.specs.Engine.{EngineState, is_running, streams_left}
 use Rattle.gregorio.specs.machine.Engine.{IsEmpty, streams_of_items}
-use Rattle.gregorio.specs.machine.ScoreWriter.{HasRoom, WritesLast}
+use Rattle.gregorio.specs.machine.ScoreWriter.{FitsEvents, WritesLast}
 use Rattle.gabc_places.specs.DecoderMachine as decoder
 use Rattle.gabc_places.specs.StageLaw.{concat_of}
 use Rattle.gregorio.proofs.pieces.HeadersAreRead.{given_of_end}
@@ -19,14 +19,14 @@ finish-requires-2 c =
       output = ap (λ (s : EngineState). s.output) c.self.view_is ∙ c.requires.waits.output;
       messages = ap (λ (s : EngineState). s.messages) c.self.view_is ∙ c.requires.waits.messages;
     } in
-    let room : HasRoom c.if-running.self-inside.writer [] = elim c.if-running.branch [
-      | then-running w ↦ subst (λ (i : Inside). HasRoom i.writer []) (sym w.self-inside-is)
-          (w.pass_on.ensures.room [] (subst (λ (events : List Given). HasRoom w.read_decoded.new.writer events) (sym (append-nil w.slice.result.now))
-          (subst (λ (events : List Given). HasRoom w.read_decoded.new.writer events)
-          (sym (given_of_end w.read_decoded.new.heads w.read_decoded.new.given w.clear.new.self w.finish.new.out w.slice.result.now
+    let room : FitsEvents c.if-running.self-inside.writer [] = elim c.if-running.branch [
+      | then-running w ↦ subst (λ (i : Inside). FitsEvents i.writer []) (sym w.self-inside-is)
+          (w.pass_on.ensures.room [] (subst (λ (events : List HeadItem). FitsEvents w.read_decoded.new.writer events) (sym (append-nil w.slice.result.now))
+          (subst (λ (events : List HeadItem). FitsEvents w.read_decoded.new.writer events)
+          (sym (given_of_end w.read_decoded.new.heads w.read_decoded.new.from_heads w.clear.new.self w.finish.new.out w.slice.result.now
           w.clear.ensures w.finish.ensures.ends w.slice.ensures))
           (room_for_end w.read_decoded.new.writer w.read_decoded.new.heads.limits w.read_decoded.new.heads.progress w.read_decoded.ensures.room))))
-      | else-running w ↦ subst (λ (i : Inside). HasRoom i.writer []) (sym w.self-inside-is) (room_for_last c.self.inside.writer c.self.invariant.reserved empty)
+      | else-running w ↦ subst (λ (i : Inside). FitsEvents i.writer []) (sym w.self-inside-is) (room_for_last c.self.inside.writer c.self.invariant.reserved empty)
     ] in
     record { room = room }
 
@@ -41,11 +41,11 @@ returns-clause-law c =
       | then-running w ↦
           let last : WritesLast w.pass_on.new.writer c.finish-2.new.self c.finish-2.result =
           subst (λ (i : Inside). WritesLast i.writer c.finish-2.new.self c.finish-2.result) w.self-inside-is c.finish-2.ensures.writes in
-          let given = given_of_end w.read_decoded.new.heads w.read_decoded.new.given w.clear.new.self w.finish.new.out w.slice.result.now
+          let from_heads = given_of_end w.read_decoded.new.heads w.read_decoded.new.from_heads w.clear.new.self w.finish.new.out w.slice.result.now
           w.clear.ensures w.finish.ensures.ends w.slice.ensures in
           ends_items c.self.inside.decoder c.self.inside.heads w.read_decoded.new.heads c.self.inside.writer w.read_decoded.new.writer c.finish-2.new.self c.finish-2.result
           (option_to_list w.end-item.result) w.end-item.ensures.item w.read_decoded.ensures.writes
-          (ends_given w.read_decoded.new.heads w.read_decoded.new.writer w.pass_on.new.writer c.finish-2.new.self c.finish-2.result w.slice.result.now w.book.result.now given w.pass_on.ensures.writes last)
+          (ends_given w.read_decoded.new.heads w.read_decoded.new.writer w.pass_on.new.writer c.finish-2.new.self c.finish-2.result w.slice.result.now w.book.result.now from_heads w.pass_on.ensures.writes last)
       | else-running w ↦
           ends_again c.self.inside.heads c.self.inside.writer c.finish-2.new.self c.finish-2.result Whole (concat_of (decoder.events_left c.self.inside.decoder []))
           (ap is_running c.self.view_is ∙ (sym c.running.ensures ∙ w.if-running.false))

@@ -1,6 +1,8 @@
-use Rattle.std.proofs.Common.{inl, inr, length, take, sym, ◌∙◌, arith}
+use Rattle.std.proofs.Common.{inl, inr, length, length-drop, take, ap, sym, ◌∙◌, arith}
 use Rattle.gregorio.specs.Engine.{NothingWaits}
-use Rattle.gregorio.proofs.pieces.BytesAreTaken.{begun_by, read_fault_if_broken, stopped_takes, takes_next, takes_none}
+use Rattle.gregorio.proofs.PiecesAreSent.{all_behind}
+use Rattle.gregorio.proofs.pieces.BytesAreTaken.{begun_by, read_fault_if_broken, stopped_takes, takes_none}
+use Rattle.gregorio.proofs.pieces.FrontIsTaken.{takes_more}
 use Rattle.gregorio.proofs.engine.Engine.feed.Goals as goal
 
 pub loop-count-init : goal.loop-count-init
@@ -12,12 +14,18 @@ loop-count-init c = record {
 
 pub loop-count-preserved : goal.loop-count-preserved
 loop-count-preserved c =
-    let waits = c.nothing_waits.ensures.waits c.if-nothing_waits.true in
+    let i = c.loop-count.invariant in
+    let some = c.take_some-count.ensures.some in
+    let within = c.take_some-count.ensures.taken in
     let more = c.loop-count-test.true in
+    let all = all_behind c.loop-count.count c.args.piece.now in
+    let l = length-drop c.loop-count.count c.args.piece.now in
+    let left = ap length all in
     record {
-      taken = takes_next c.args.self.now c.loop-count.self c.take.new.self c.args.piece.now c.loop-count.count 0 more c.loop-count.invariant.taken waits c.take.ensures.law;
-      within = omega (arith, more);
-      begun = inl (omega arith);
+      taken = takes_more c.args.self.now c.loop-count.self c.take_some-count.new.self c.args.piece.now _ c.loop-count.count c.take_some-count.result all i.taken
+          (c.nothing_waits.ensures.waits c.if-nothing_waits.true) c.take_some-count.ensures.law;
+      within = omega (arith, within, l, left, more);
+      begun = inl (omega (arith, some (omega (arith, l, left, more))));
     }
 
 pub returns-after-loop-count-clause-law : goal.returns-after-loop-count-clause-law

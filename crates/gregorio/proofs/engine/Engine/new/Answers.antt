@@ -41,7 +41,7 @@ returns-in-Ok-clause-all c bytes ending =
 pub invariant_of-result : goal.invariant_of-result
 invariant_of-result c =
     let fresh : c.in_ok-heads.heads ≡ fresh_stage c.args.limits = c.in_ok-heads.ensures in
-    let two : c.in_ok-given.given.limit ≡ 2 = ap (λ (r : BoundedList _). r.limit) c.in_ok-given.ensures in
+    let two : c.in_ok-from_heads.from_heads.limit ≡ 2 = ap (λ (r : BoundedList _). r.limit) c.in_ok-from_heads.ensures in
     let together : GoTogether c.in_ok-heads.heads c.in-Ok.writer = record {
       limits = ap (λ (h : HeaderStageState). h.limits) fresh ∙ sym c.in-Ok.ensures.limits;
       body = λ body. absurd (cc (sym c.in-Ok.ensures.part ∙ body));

@@ -1,0 +1,10 @@
+use Rattle.std.proofs.Common.{Some, ap, ◌∙◌}
+use Rattle.gabc_places.specs.contracts.decoder.Decoder.{the_view}
+use Rattle.gabc_places.proofs.decoding.SkippedBytesAreJoined.{skipped_joined}
+use Rattle.gabc_places.proofs.decoder.Decoder.skip.Goals as goal
+
+pub returns-in-Some : goal.returns-in-Some
+returns-in-Some c = record {
+  joined = λ more. rw (← c.self.view_is) (skipped_joined c.args.bytes.now (the_view c.self.inside) c.from-self-inside.result (rw (← c.self.view_is) at c.requires.few) c.requires.printable
+      (ap (λ n. Some n) c.from-self-inside.ensures ∙ c.in-Some.ensures.value) more);
+}

@@ -1,0 +1,24 @@
+-- Printable characters of ASCII, of which a decoder takes many at once.
+use Rattle.std.specs.Prelude.{ℕ, ◌-◌, ◌≤◌, List, [], ◌∷◌, map, not, ◌&&◌, if◌then◌else◌, Result, Ok}
+use Rattle.std.specs.List.{enumerate_from}
+use Rattle.gabc_places.specs.declared.place.Place.{Place}
+use Rattle.gabc_places.specs.declared.place.Char.{Char}
+use Rattle.gabc_places.specs.declared.code.Fault.{Fault}
+use Rattle.gabc_places.specs.DecoderMachine.{DecoderState, is_unfinished}
+
+-- no control character, and no part of a longer character
+abbrev pub IsPrintable : ℕ → Type 0
+IsPrintable byte = (32 ≤ byte) × (byte ≤ 126)
+
+-- How many printable bytes a decoder takes at once: those that are left to its limit, where it runs and no character is pending, and
+-- else none.
+abbrev pub most_skipped : DecoderState → ℕ
+most_skipped s = if s.running && not (is_unfinished s.pending) then s.limit - s.taken else 0
+
+-- these characters of one line, the first of which stands at `place`: each with its column
+abbrev pub characters_at : Place → List ℕ → List Char
+characters_at place cs = map (λ (p : ℕ × ℕ). record { c = p.1; place = record { line = place.line; column = p.0 } }) (enumerate_from place.column cs)
+
+-- what a decoder emits for them: one for each byte
+abbrev pub skipped_events : Place → List ℕ → List (List (Result Char Fault))
+skipped_events place cs = map (λ (c : Char). Ok c ∷ []) (characters_at place cs)

@@ -1,0 +1,112 @@
+-- The `(` of the notes, a character of a snippet and the `|` behind it are taken quietly.
+use Rattle.std.proofs.Common.{◌≡◌, ℕ, ◌+◌, ◌<◌, ◌≤◌, List, [], ◌∷◌, ◌++◌, length, encode_utf8, refl, sym, ap, subst, ◌∙◌, arith, length-append}
+use Rattle.std.proofs.lemmas.Str.{length-encode, len_utf8_ascii}
+use Rattle.gabc_places.specs.declared.place.Char.{Char}
+use Rattle.gabc_places.specs.declared.place.Place.{Place}
+use Rattle.gabc_text.specs.declared.stage.TextEnd.TheVariants as text_end
+use Rattle.gabc_text.specs.declared.stage.TextEvent.TheVariants as text
+use Rattle.gabc_text.specs.declared.stage.TextStage.{TextStage}
+use Rattle.gabc_text.specs.Events.{codes_of}
+use Rattle.gabc_text.specs.EventsLeft.{events_left}
+use Rattle.gabc_text.specs.TakenAtOnce.{Takes}
+use Rattle.gabc_notes.specs.TakenAtOnce.{TakesNext}
+use Rattle.gabc_notes.specs.declared.stage.NoteEnd.TheVariants as note_end
+use Rattle.gabc_notes.specs.declared.stage.NoteEvent.{NoteEvent}
+use Rattle.gabc_notes.specs.declared.stage.NoteEvent.TheVariants as note
+use Rattle.gabc_score.specs.declared.body_stage.BodyPart.TheVariants as part
+use Rattle.gabc_score.specs.declared.events.BodyEvent.TheVariants as event
+use Rattle.gabc_score.specs.declared.slot_pair.SlotUse.TheVariants.{Filling}
+use Rattle.gabc_score.specs.BodyStage.{BodyStageState, part_with, texts_by_stage}
+use Rattle.gabc_score.specs.Events.{InText, InNotes, events_from, next_line, snippet_from}
+use Rattle.gabc_score.specs.Syllable.{prefix_of}
+use Rattle.gabc_score.specs.machine.BodyBuilder.{with_all}
+use Rattle.gabc_score.specs.machine.Gatherer.{Gathered}
+use Rattle.gabc_score.specs.machine.PartCounts.{CountsInNotes, CountsHold}
+use Rattle.gabc_score.specs.machine.Quiet.{TakesQuietly}
+use Rattle.gabc_score.specs.machine.SlotPair.{SlotPairState}
+use Rattle.gabc_score.proofs.building.CountsOfParts.{text_ends, prefix_between, notes_go}
+
+-- a printable character adds one byte
+pub one_byte : (kept : List ℕ) (c : ℕ) → c < 128 → length (kept ++ encode_utf8 c) ≤ length kept + 1
+one_byte kept c h =
+    let e : length (encode_utf8 c) ≡ 1 = length-encode c ∙ len_utf8_ascii c h in
+    let l = length-append kept (encode_utf8 c) in omega (arith, e, l)
+
+module _ (before after : BodyStageState) (x : Char) (pair next : SlotPairState) (held : next.held ≡ pair.held) (used : next.used ≡ Filling)
+    (lines : after.nabc_lines ≡ before.nabc_lines) (macros : after.macros ≡ before.macros) (ascii : x.c < 128) where
+  -- the `(` of the notes
+  pub end_quiet : (s t : TextStage) → before.part ≡ part.Text s → x.c ≡ 40 → Takes s 40 (text.Ended text_end.Notes ∷ []) t
+      → ((xs : List Char) → part_with after.part xs ≡ snippet_from before.nabc_lines before.macros 0 x.place xs)
+      → next.gathered ≡ with_all pair.gathered (event.Text (text.Ended text_end.Notes) ∷ []) → ((o : _) → CountsInNotes o → CountsHold after.part o)
+      → CountsHold before.part pair.gathered.builder → TakesQuietly before x pair after next
+  end_quiet s t is mark takes snippet gathered into counts = record {
+    events = event.Text (text.Ended text_end.Notes) ∷ [];
+    law = λ xs.
+        rw (is, lines, macros) (ap (λ lists. events_from texts_by_stage before.nabc_lines before.macros (InText lists) (x ∷ xs))
+        (ap (λ c. events_left s (c ∷ codes_of xs)) mark ∙ takes.law (codes_of xs))
+        ∙ ap (λ p. (event.Text (text.Ended text_end.Notes) ∷ []) ∷ events_from texts_by_stage before.nabc_lines before.macros p xs) (sym (snippet xs)));
+    silent = refl;
+    gathered = gathered;
+    made = ap (λ (g : Gathered). g.made) gathered;
+    over = ap (λ (g : Gathered). g.over) gathered;
+    total = ap (λ (g : Gathered). g.total) gathered;
+    limit = ap (λ (g : Gathered). g.limit) gathered;
+    cut = ap (λ (g : Gathered). g.cut) gathered;
+    kept = rw gathered (one_byte pair.gathered.builder.kept 40 (omega arith));
+    held = held;
+    used = used;
+    counts = rw gathered ((text_ends s t (text.Ended text_end.Notes ∷ []) (omega arith) takes.pieces after.part into).counts pair.gathered
+        (subst (λ b. CountsHold b pair.gathered.builder) is counts));
+  }
+
+  -- a character of a snippet
+  pub note_quiet : (line : ℕ) (opened : Place) (from to : List Char → List (List NoteEvent))
+      → ((xs : List Char) → part_with before.part xs ≡ InNotes line opened (from xs)) → ((xs : List Char) → part_with after.part xs ≡ InNotes line opened (to xs))
+      → ((xs : List Char) → from (x ∷ xs) ≡ (note.Kept x ∷ []) ∷ to xs)
+      → next.gathered ≡ with_all pair.gathered (event.Notes line (note.Kept x) ∷ []) → ((o : _) → CountsHold before.part o → CountsInNotes o) → ((o : _) → CountsInNotes o → CountsHold after.part o)
+      → CountsHold before.part pair.gathered.builder → TakesQuietly before x pair after next
+  note_quiet line opened from to is now law gathered out into counts = record {
+    events = event.Notes line (note.Kept x) ∷ [];
+    law = λ xs. rw (is (x ∷ xs), now xs, lines, macros)
+        (ap (λ lists. events_from texts_by_stage before.nabc_lines before.macros (InNotes line opened lists) (x ∷ xs)) (law xs));
+    silent = refl;
+    gathered = gathered;
+    made = ap (λ (g : Gathered). g.made) gathered;
+    over = ap (λ (g : Gathered). g.over) gathered;
+    total = ap (λ (g : Gathered). g.total) gathered;
+    limit = ap (λ (g : Gathered). g.limit) gathered;
+    cut = ap (λ (g : Gathered). g.cut) gathered;
+    kept = rw gathered (one_byte pair.gathered.builder.kept x.c ascii);
+    held = held;
+    used = used;
+    counts = rw gathered ((notes_go line opened before.part (note.Kept x ∷ []) (omega arith) out after.part into).counts pair.gathered counts);
+  }
+
+  -- the `|` that ends a snippet
+  pub next_quiet : (line : ℕ) (opened : Place) (count : ℕ) (from to : List Char → List (List NoteEvent))
+      → ((xs : List Char) → part_with before.part xs ≡ InNotes line opened (from xs)) → x.c ≡ 124 → TakesNext from to count
+      → ((xs : List Char) → part_with after.part xs ≡ snippet_from before.nabc_lines before.macros (next_line before.nabc_lines line) opened xs)
+      → next.gathered ≡ with_all pair.gathered (event.Notes line (note.Ended note_end.Next count) ∷ [])
+      → ((o : _) → CountsHold before.part o → CountsInNotes o) → ((o : _) → CountsInNotes o → CountsHold after.part o)
+      → CountsHold before.part pair.gathered.builder → TakesQuietly before x pair after next
+  next_quiet line opened count from to is mark takes snippet gathered out into counts =
+      let open_now = pair.gathered.builder in
+      let cut : length (prefix_of (open_now.from + count) open_now.kept) ≤ length open_now.kept = (prefix_between open_now.from count open_now.kept (out open_now counts).1).1 in
+      let marked = one_byte (prefix_of (open_now.from + count) open_now.kept) 124 (omega arith) in
+      record {
+        events = event.Notes line (note.Ended note_end.Next count) ∷ [];
+        law = λ xs. rw (is (x ∷ xs), lines, macros)
+            (ap (λ lists. events_from texts_by_stage before.nabc_lines before.macros (InNotes line opened lists) (x ∷ xs)) (takes.law x xs mark)
+            ∙ ap (λ p. (event.Notes line (note.Ended note_end.Next count) ∷ []) ∷ events_from texts_by_stage before.nabc_lines before.macros p xs) (sym (snippet xs)));
+        silent = refl;
+        gathered = gathered;
+        made = ap (λ (g : Gathered). g.made) gathered;
+        over = ap (λ (g : Gathered). g.over) gathered;
+        total = ap (λ (g : Gathered). g.total) gathered;
+        limit = ap (λ (g : Gathered). g.limit) gathered;
+        cut = ap (λ (g : Gathered). g.cut) gathered;
+        kept = rw gathered (omega (arith, cut, marked));
+        held = held;
+        used = used;
+        counts = rw gathered ((notes_go line opened before.part (note.Ended note_end.Next count ∷ []) (omega arith) out after.part into).counts pair.gathered counts);
+      }

@@ -1,0 +1,66 @@
+-- Snippets that follow one another in the kept text, each behind its mark, and a text before them: all of it is one part of the kept text.
+use Rattle.std.proofs.Common.{◌≡◌, ℕ, ◌+◌, ◌-◌, ◌<◌, ◌≤◌, List, ◌∷◌, ◌++◌, length, take, drop, get_or, refl, sym, ap, ◌∙◌, arith, add-one, drop-cons, append_assoc, codes, false, Option, Some, None}
+use Rattle.std.specs.Option.{is_some}
+use Rattle.std.proofs.lemmas.Bool.{false≢true}
+use Rattle.std.proofs.lemmas.List.{take-append-drop, drop-drop}
+use Rattle.std.proofs.lemmas.Grind.{common_steps}
+use Rattle.gabc_places.specs.declared.place.Span.{Span}
+use Rattle.gabc_text.specs.Canonical.{span_bytes}
+use Rattle.gabc_score.specs.declared.snippets.Snippet.{Snippet}
+use Rattle.gabc_score.specs.Syllable.{slice}
+use Rattle.gabc_score.specs.Canonical.{translation_text, with_bars}
+use Rattle.gabc_score.specs.machine.SyllableText.{snippets_behind_bars}
+use Rattle.gabc_score.proofs.building.SnippetsWithBars.{bars_behind_first}
+
+-- what lies between a and b, and then all from b on
+part_and_rest : (xs : List ℕ) (a b : ℕ) → a ≤ b → take (b - a) (drop a xs) ++ drop b xs ≡ drop a xs
+part_and_rest xs a b h =
+    let e : a + (b - a) ≡ b = omega arith in
+    let rest : drop b xs ≡ drop (b - a) (drop a xs) = sym (drop-drop (b - a) a xs ∙ ap (λ (n : ℕ). drop n xs) e) in
+    rw rest (take-append-drop (b - a) (drop a xs))
+
+-- a span, and then all behind it
+span_and_rest : (kept : List ℕ) (s : Span) → s.from ≤ s.to → slice s kept ++ drop s.to kept ≡ drop s.from kept
+unfolding slice
+span_and_rest kept s h = part_and_rest kept s.from s.to h
+
+-- a mark, the span behind it, and then all behind that
+mark_and_span : (kept : List ℕ) (i mark : ℕ) (s : Span) → i < length kept → get_or kept i 0 ≡ mark → s.from ≡ i + 1 → s.from ≤ s.to
+    → mark ∷ (slice s kept ++ drop s.to kept) ≡ drop i kept
+mark_and_span kept i mark s h m f o =
+    let first : drop i kept ≡ get_or kept i 0 ∷ drop (i + 1) kept = rw add-one (drop-cons kept i 0 h) in
+    rw (span_and_rest kept s o, first, m, f) refl
+
+-- a step over the next snippet
+pub next_as_kept : (kept : List ℕ) (snippets : List Snippet) (i end : ℕ) (d : Snippet) → i < length snippets
+    → end < length kept → get_or kept end 0 ≡ 124 → (get_or snippets i d).span.from ≡ end + 1
+    → (get_or snippets i d).span.from ≤ (get_or snippets i d).span.to
+    → snippets_behind_bars kept (drop (i + 1) snippets) ++ codes ")" ≡ drop (get_or snippets i d).span.to kept
+    → snippets_behind_bars kept (drop i snippets) ++ codes ")" ≡ drop end kept
+next_as_kept kept snippets i end d h w m f o rest =
+    let next : drop i snippets ≡ get_or snippets i d ∷ drop (i + 1) snippets = rw add-one (drop-cons snippets i d h) in
+    let s = (get_or snippets i d).span in
+    let split = append_assoc (slice s kept) (snippets_behind_bars kept (drop (i + 1) snippets)) (codes ")") in
+    rw next (ap (λ (x : List ℕ). 124 ∷ x) (split ∙ ap (λ (x : List ℕ). slice s kept ++ x) rest) ∙ mark_and_span kept end 124 s w m f o)
+
+-- the notes in their brackets
+pub notes_as_kept : (kept : List ℕ) (first : Snippet) (others : List Snippet) (from : ℕ) → from < length kept → get_or kept from 0 ≡ 40
+    → first.span.from ≡ from + 1 → first.span.from ≤ first.span.to → snippets_behind_bars kept others ++ codes ")" ≡ drop first.span.to kept
+    → codes "(" ++ (with_bars kept (first ∷ others) ++ codes ")") ≡ drop from kept
+notes_as_kept kept first others from h m f o rest =
+    let split = append_assoc (slice first.span kept) (snippets_behind_bars kept others) (codes ")") in
+    rw (bars_behind_first kept first others)
+    (ap (λ (x : List ℕ). 40 ∷ x) (split ∙ ap (λ (x : List ℕ). slice first.span kept ++ x) rest) ∙ mark_and_span kept from 40 first.span h m f o)
+
+-- a text, and then all behind it
+text_and_rest : (kept : List ℕ) (text : Span) → text.from ≤ text.to → text.to ≤ length kept → span_bytes kept text ++ drop text.to kept ≡ drop text.from kept
+text_and_rest kept text h k =
+    let within : span_bytes kept text ≡ take (text.to - text.from) (drop text.from kept) = grind (arith, common_steps) in
+    rw within (part_and_rest kept text.from text.to h)
+
+-- a text without a translation that ends where the notes begin, and the notes
+pub text_as_kept : (kept part notes : List ℕ) (text : Span) (translation : Option Span) (from : ℕ) → part ≡ span_bytes kept text → false ≡ is_some translation
+    → notes ≡ drop text.to kept → text.from ≤ text.to → text.to ≤ length kept → text.from ≡ from
+    → part ++ (translation_text kept translation ++ notes) ≡ drop from kept
+text_as_kept kept part notes text None from p t n h k f = rw (p, n, ← f) (text_and_rest kept text h k)
+text_as_kept kept part notes text (Some s) from p t n h k f = absurd (false≢true t)

@@ -1,0 +1,69 @@
+-- Characters of the body at which nothing is given, one after another.
+use Rattle.std.proofs.Common.{◌≡◌, ℕ, ◌+◌, ◌<◌, List, [], ◌∷◌, ◌++◌, map, length, take, slice_index_or, sym, ap, subst, ◌∙◌, arith, append_assoc, length-take, add-one}
+use Rattle.std.proofs.lemmas.Bool.Decides.{nat_tests}
+use Rattle.std.proofs.lemmas.List.{map-append}
+use Rattle.std.proofs.Math.Seq.{take-suc}
+use Rattle.std.specs.List.{All, enumerate_from}
+use Rattle.std.proofs.lemmas.List.Elements.{All-nil, All-cons, All-append}
+use Rattle.gabc_places.specs.declared.place.Char.{Char}
+use Rattle.gabc_places.specs.declared.place.Place.{Place}
+use Rattle.gabc_places.specs.Skip.{IsPrintable}
+use Rattle.gabc_headers.specs.declared.head_event.HeadEvent.{HeadEvent}
+use Rattle.gabc_headers.specs.declared.head_event.HeadEvent.TheVariants as head_event
+use Rattle.gabc_score.specs.ScoreEvents.{ScoreOutput}
+use Rattle.gabc_score.specs.ScoreStage.{ScoreStageState, GivesNothing, body_inputs, left_of, nothing_each}
+use Rattle.gabc_score.specs.machine.ScoreMachine.{PassesQuietly}
+
+enumerate_one_more : (n : ℕ) (xs : List ℕ) (x : ℕ) → enumerate_from n (xs ++ x ∷ []) ≡ enumerate_from n xs ++ (n + length xs, x) ∷ []
+enumerate_one_more n [] x = ap (λ (m : ℕ). (m, x) ∷ []) (omega arith)
+enumerate_one_more n (y ∷ ys) x =
+    ap (λ (l : List (ℕ × ℕ)). (n, y) ∷ l)
+    (enumerate_one_more (n + 1) ys x ∙ ap (λ (m : ℕ). enumerate_from (n + 1) ys ++ (m, x) ∷ []) (omega arith))
+
+-- the character that stands so many columns behind that place
+abbrev pub char_behind : Place → ℕ → ℕ → Char
+char_behind at count byte = record { c = byte; place = record { line = at.line; column = at.column + count } }
+
+inputs_one_more : (at : Place) (bytes : List ℕ) (byte : ℕ) → body_inputs at (bytes ++ byte ∷ []) ≡ body_inputs at bytes ++ head_event.Body (char_behind at (length bytes) byte) ∷ []
+inputs_one_more at bytes byte =
+    let char_of : ℕ × ℕ → Char = λ (p : ℕ × ℕ). record { c = p.1; place = record { line = at.line; column = p.0 } } in
+    let input_of : Char → HeadEvent = λ (x : Char). head_event.Body x in
+    ap (λ (l : List (ℕ × ℕ)). map input_of (map char_of l)) (enumerate_one_more at.column bytes byte)
+    ∙ ap (λ (l : List Char). map input_of l) (map-append char_of (enumerate_from at.column bytes) ((at.column + length bytes, byte) ∷ []))
+    ∙ map-append input_of (map char_of (enumerate_from at.column bytes)) (char_behind at (length bytes) byte ∷ [])
+
+nothing_one_more : (bytes : List ℕ) (byte : ℕ) → nothing_each (bytes ++ byte ∷ []) ≡ nothing_each bytes ++ [] ∷ []
+nothing_one_more bytes byte = map-append (λ (b : ℕ). []) bytes (byte ∷ [])
+
+gives_more : (a b c : ScoreStageState) (at : Place) (bytes : List ℕ) (byte : ℕ) → GivesNothing a at bytes b → PassesQuietly b (char_behind at (length bytes) byte) c → GivesNothing a at (bytes ++ byte ∷ []) c
+gives_more a b c at bytes byte step passes = record {
+  limits = passes.limits ∙ step.limits;
+  part = passes.part ∙ step.part;
+  law = λ xs.
+      let x = head_event.Body (char_behind at (length bytes) byte) in
+      ap (λ (is : List HeadEvent). left_of a (is ++ xs)) (inputs_one_more at bytes byte)
+      ∙ ap (λ (is : List HeadEvent). left_of a is) (append_assoc (body_inputs at bytes) (x ∷ []) xs)
+      ∙ step.law (x ∷ xs)
+      ∙ ap (λ (l : List (List ScoreOutput)). nothing_each bytes ++ l) (passes.law xs)
+      ∙ sym (append_assoc (nothing_each bytes) ([] ∷ []) (left_of c xs))
+      ∙ ap (λ (l : List (List ScoreOutput)). l ++ left_of c xs) (sym (nothing_one_more bytes byte));
+}
+
+take_one_more : (bytes : List ℕ) (count d : ℕ) → count < length bytes → take (count + 1) bytes ≡ take count bytes ++ slice_index_or bytes count d ∷ []
+take_one_more bytes count d within = ap (λ (n : ℕ). take n bytes) (add-one count) ∙ take-suc bytes count d within
+
+taken_length : (bytes : List ℕ) (count : ℕ) → count < length bytes → length (take count bytes) ≡ count
+taken_length bytes count within = let h = length-take count bytes in grind (arith, nat_tests)
+
+-- with the next byte as well
+pub gives_next : (a b c : ScoreStageState) (at : Place) (bytes : List ℕ) (count d : ℕ) → count < length bytes → GivesNothing a at (take count bytes) b
+    → PassesQuietly b (char_behind at count (slice_index_or bytes count d)) c → GivesNothing a at (take (count + 1) bytes) c
+gives_next a b c at bytes count d within step passes =
+    subst (λ (l : List ℕ). GivesNothing a at l c) (sym (take_one_more bytes count d within))
+    (gives_more a b c at (take count bytes) (slice_index_or bytes count d) step
+    (subst (λ (n : ℕ). PassesQuietly b (char_behind at n (slice_index_or bytes count d)) c) (sym (taken_length bytes count within)) passes))
+
+pub printable_next : (bytes : List ℕ) (count d : ℕ) → count < length bytes → All IsPrintable (take count bytes) → IsPrintable (slice_index_or bytes count d) → All IsPrintable (take (count + 1) bytes)
+printable_next bytes count d within printable next =
+    subst (All IsPrintable) (sym (take_one_more bytes count d within))
+    (All-append IsPrintable (take count bytes) (slice_index_or bytes count d ∷ []) printable (All-cons IsPrintable (slice_index_or bytes count d) [] next (All-nil IsPrintable)))

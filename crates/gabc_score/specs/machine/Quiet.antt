@@ -1,0 +1,26 @@
+-- Characters at which nothing is given, which are gathered without rooms of events.
+use Rattle.std.specs.Prelude.{◌≡◌, ◌+◌, ◌≤◌, List, [], ◌∷◌, length}
+use Rattle.gabc_places.specs.declared.place.Char.{Char}
+use Rattle.gabc_score.specs.declared.events.BodyEvent.{BodyEvent}
+use Rattle.gabc_score.specs.declared.slot_pair.SlotUse.TheVariants.{Filling}
+use Rattle.gabc_score.specs.BodyStage.{BodyStageState, running_events_left}
+use Rattle.gabc_score.specs.ScoreEvents.{findings_now}
+use Rattle.gabc_score.specs.machine.BodyBuilder.{with_all}
+use Rattle.gabc_score.specs.machine.PartCounts.{CountsHold}
+use Rattle.gabc_score.specs.machine.SlotPair.{SlotPairState}
+
+-- The body goes on behind x, and what it emits there is gathered: nothing is found, no syllable is made, and one byte more is kept at most.
+pub record TakesQuietly (before : BodyStageState) (x : Char) (pair : SlotPairState) (after : BodyStageState) (next : SlotPairState) : Type 0 where
+  pub events : List BodyEvent
+  pub law : (xs : List Char) → running_events_left before (x ∷ xs) ≡ events ∷ running_events_left after xs
+  pub silent : findings_now events ≡ []
+  pub gathered : next.gathered ≡ with_all pair.gathered events
+  pub made : next.gathered.made ≡ pair.gathered.made
+  pub over : next.gathered.over ≡ pair.gathered.over
+  pub total : next.gathered.total ≡ pair.gathered.total
+  pub limit : next.gathered.limit ≡ pair.gathered.limit
+  pub cut : next.gathered.cut ≡ pair.gathered.cut
+  pub held : next.held ≡ pair.held
+  pub used : next.used ≡ Filling
+  pub counts : CountsHold after.part next.gathered.builder
+  pub kept : length next.gathered.builder.kept ≤ length pair.gathered.builder.kept + 1

@@ -1,0 +1,27 @@
+use Rattle.std.proofs.Common.{take, ◌++◌, List, ℕ, ap, sym, subst, ◌∙◌}
+use Rattle.gabc_places.specs.declared.place.Place.{Place}
+use Rattle.gregorio.specs.Engine.{EngineState, streams_left}
+use Rattle.gregorio.specs.machine.ScoreWriter.{WritesNothing}
+use Rattle.gregorio.proofs.pieces.BytesAreTaken.{still_reserved}
+use Rattle.gregorio.proofs.pieces.FrontIsTaken.{front_is_taken, front_of_front, still_steady, still_together}
+use Rattle.gregorio.proofs.engine.Engine.take_front.Goals as goal
+
+pub invariant_of-self : goal.invariant_of-self
+invariant_of-self c = record {
+  few = c.self.invariant.few;
+  together = still_together c.self.inside.writer c.take_front-count.new.self _ _ c.take_front-count.ensures.writes c.self.inside.heads c.self.invariant.together;
+  reserved = still_reserved c.self.inside.writer c.take_front-count.new.self (still_steady _ _ _ _ c.take_front-count.ensures.writes) c.self.invariant.reserved;
+}
+
+pub returns-clause-law : goal.returns-clause-law
+returns-clause-law c = λ bytes ending.
+    let d = c.self.inside.decoder in
+    let w = c.self.inside.writer in
+    let new = c.take_front-count.new.self in
+    let most = c.min-most.result in
+    let count = c.take_front-count.result in
+    let front = take count (take most c.args.piece.now) in
+    let writes : WritesNothing w d.place front new = subst (λ (at : Place). WritesNothing w at front new) c.place.ensures c.take_front-count.ensures.writes in
+    ap (λ (xs : List ℕ). streams_left c.args.self.now ending (xs ++ bytes)) (sym (front_of_front count most c.args.piece.now c.take_front-count.ensures.within))
+    ∙ (ap (λ (s : EngineState). streams_left s ending (front ++ bytes)) (sym c.self.view_is)
+    ∙ front_is_taken d c.skip.new.self c.self.inside.heads w new front writes c.self.invariant.together c.skip.ensures.joined bytes ending)

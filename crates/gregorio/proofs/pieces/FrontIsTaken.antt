@@ -1,0 +1,185 @@
+-- A front of bytes at which nothing is written leaves what was to come behind it.
+use Rattle.std.proofs.Common.{◌≡◌, ℕ, ◌+◌, ◌<◌, ◌≤◌, ◌⊎◌, inl, inr, List, [], ◌∷◌, ◌++◌, length, map, true, take, drop, slice_index_or, Result, Ok, refl, ap, sym, subst, ◌∙◌, append_assoc, arith, add-one, length-take, take-add, take-take}
+use Rattle.std.proofs.Math.Seq.{take-suc}
+use Rattle.gabc_places.specs.StageLaw.{concat_of}
+use Rattle.gabc_places.specs.Skip.{characters_at, skipped_events}
+use Rattle.gabc_places.specs.declared.code.Fault.{Fault}
+use Rattle.gabc_places.specs.declared.limits.Limits.{Limits}
+use Rattle.gabc_places.specs.declared.place.Char.{Char}
+use Rattle.gabc_places.specs.declared.place.Place.{Place}
+use Rattle.gabc_places.specs.DecoderMachine.{DecoderState}
+use Rattle.gabc_places.specs.DecoderMachine as decoder
+use Rattle.gabc_headers.specs.declared.head_event.HeadEvent.{HeadEvent}
+use Rattle.gabc_headers.specs.declared.head_event.HeadEvent.TheVariants as head_event
+use Rattle.gabc_headers.specs.HeadEvents.{HeaderStageState, HeadProgress, reading, behind, over, IsBehind, emitted_by}
+use Rattle.gabc_score.specs.ScoreStage.{ScoreStageState, GivesNothing, body_inputs, left_of, nothing_each}
+use Rattle.gabc_score.specs.ScoreEvents.{ScoreOutput}
+use Rattle.gregorio.specs.declared.run_part.RunPart.{RunPart}
+use Rattle.gregorio.specs.declared.run_part.RunPart.TheVariants as part
+use Rattle.gregorio.specs.declared.source_bytes.SourceEnding.{SourceEnding}
+use Rattle.gregorio.specs.declared.source_bytes.SourceEnding.TheVariants.{Whole as Ended, Broken}
+use Rattle.gregorio.specs.Engine.{EngineState, NothingWaits, book_behind, given_left, streams_given, streams_in, streams_left, with_waiting}
+use Rattle.gregorio.specs.Outcome.{is_whole}
+use Rattle.gregorio.specs.machine.RunWriter.{RunWriterState}
+use Rattle.gregorio.specs.machine.ScoreWriter.{ScoreWriterState, IsSteady, WritesNothing, streams_of}
+use Rattle.gregorio.specs.machine.Engine.{GoTogether, IsSettled, streams_of_items}
+use Rattle.gregorio.proofs.pieces.BytesAreTaken.{Takes, none_wait}
+use Rattle.gregorio.proofs.pieces.ItemsAreRead.{past_behind}
+
+-- ---- what a writer writes
+
+-- lists with nothing in them add nothing
+nothing_joined : (bytes : List ℕ) (rest : List (List ScoreOutput)) → concat_of (nothing_each bytes ++ rest) ≡ concat_of rest
+nothing_joined [] rest = refl
+nothing_joined (byte ∷ bytes) rest = nothing_joined bytes rest
+
+pub nothing_is_given : (w : ScoreWriterState) (at : Place) (bytes : List ℕ) (score : ScoreStageState) → w.part ≡ part.Body → GivesNothing w.score at bytes score
+    → WritesNothing w at bytes (record w { score = score })
+nothing_is_given w at bytes score body a = record {
+  body = λ some. body;
+  part = refl;
+  limits = a.limits;
+  writer = refl;
+  law = λ book from_heads.
+      ap (λ (p : RunPart). streams_given p w.score w.writer.written book (body_inputs at bytes ++ from_heads)) body
+      ∙ (ap (λ (outputs : List ScoreOutput). streams_in w.writer.written [] true outputs)
+      (ap (λ (lists : List (List ScoreOutput)). concat_of lists) (a.law from_heads) ∙ nothing_joined bytes (left_of score from_heads))
+      ∙ ap (λ (p : RunPart). streams_given p score w.writer.written book from_heads) (sym body));
+}
+
+pub none_is_given : (w : ScoreWriterState) (at : Place) → WritesNothing w at [] w
+none_is_given w at = record { body = λ some. absurd (omega (arith, some)); part = refl; limits = refl; writer = refl; law = λ book from_heads. refl }
+
+-- ---- what a decoder gives
+
+abbrev characters : Place → List ℕ → List (Result Char Fault)
+characters at bytes = map (λ (c : Char). Ok c) (characters_at at bytes)
+
+abbrev next_column : Place → Place
+next_column at = record { line = at.line; column = at.column + 1 }
+
+items_skipped : (at : Place) (bytes more : List ℕ) (rest : List (List (Result Char Fault))) (ending : SourceEnding)
+    → emitted_by (is_whole ending) (bytes ++ more) (skipped_events at bytes ++ rest) ≡ characters at bytes ++ emitted_by (is_whole ending) more rest
+items_skipped at [] more rest ending = refl
+items_skipped at (byte ∷ bytes) more rest Ended =
+    ap (λ (items : List (Result Char Fault)). Ok (record { c = byte; place = at }) ∷ items) (items_skipped (next_column at) bytes more rest Ended)
+items_skipped at (byte ∷ bytes) more rest Broken =
+    ap (λ (items : List (Result Char Fault)). Ok (record { c = byte; place = at }) ∷ items) (items_skipped (next_column at) bytes more rest Broken)
+
+-- ---- what a stage of headers passes on
+
+given_behind : (limits : Limits) (book : List (List ℕ × List ℕ)) (cs : List Char) (ending : SourceEnding) (more : List (Result Char Fault))
+    → (let h : HeaderStageState = record { limits = limits; progress = behind book; book = book } in
+    given_left h ending (map (λ (c : Char). Ok c) cs ++ more) ≡ map (λ (c : Char). head_event.Body c) cs ++ given_left h ending more)
+given_behind limits book [] ending more = refl
+given_behind limits book (c ∷ cs) Ended more = ap (λ (events : List HeadEvent). head_event.Body c ∷ events) (given_behind limits book cs Ended more)
+given_behind limits book (c ∷ cs) Broken more = ap (λ (events : List HeadEvent). head_event.Body c ∷ events) (given_behind limits book cs Broken more)
+
+-- ---- what both write
+
+module _ (w new : ScoreWriterState) (at : Place) (bytes : List ℕ) (a : WritesNothing w at bytes new) where
+  settled_later : IsSettled w → IsSettled new
+  settled_later settled = λ book other from_heads more.
+      sym (a.law book from_heads) ∙ (settled book other (body_inputs at bytes ++ from_heads) (body_inputs at bytes ++ more) ∙ a.law other more)
+
+  pub still_together : (h : HeaderStageState) → GoTogether h w → GoTogether h new
+  still_together h together = record {
+    limits = together.limits ∙ sym a.limits;
+    body = λ e. by (together.body (sym a.part ∙ e));
+    book = together.book;
+    short = together.short;
+  }
+    where
+      by : IsBehind h.progress ⊎ IsSettled w → IsBehind h.progress ⊎ IsSettled new
+      by (inl is) = inl is
+      by (inr settled) = inr (settled_later settled)
+
+  pub still_steady : IsSteady w new
+  still_steady = record {
+    limits = a.limits;
+    format = ap (λ (x : RunWriterState). x.written.format) a.writer;
+    name = ap (λ (x : RunWriterState). x.written.name) a.writer;
+    out = ap (λ (x : RunWriterState). x.out.limit) a.writer;
+    messages = ap (λ (x : RunWriterState). x.messages.limit) a.writer;
+    scratch = ap (λ (x : RunWriterState). x.scratch) a.writer;
+  }
+
+  front_settled : (h : HeaderStageState) → IsSettled w → (ending : SourceEnding) (more : List (Result Char Fault))
+      → streams_of_items h w ending (characters at bytes ++ more) ≡ streams_of_items h new ending more
+  front_settled h settled ending more =
+      let all = characters at bytes ++ more in
+      settled (book_behind h all) (book_behind h more) (given_left h ending all) (body_inputs at bytes ++ given_left h ending more)
+      ∙ a.law (book_behind h more) (given_left h ending more)
+
+  front_behind : (limits : Limits) (book : List (List ℕ × List ℕ)) (ending : SourceEnding) (more : List (Result Char Fault))
+      → (let h : HeaderStageState = record { limits = limits; progress = behind book; book = book } in
+      streams_of_items h w ending (characters at bytes ++ more) ≡ streams_of_items h new ending more)
+  front_behind limits book ending more =
+      let h : HeaderStageState = record { limits = limits; progress = behind book; book = book } in
+      let all = characters at bytes ++ more in
+      ap (λ (b : List (List ℕ × List ℕ)). streams_of w b (given_left h ending all)) (past_behind limits book all ∙ sym (past_behind limits book more))
+      ∙ (ap (λ (from_heads : List HeadEvent). streams_of w (book_behind h more) from_heads) (given_behind limits book (characters_at at bytes) ending more)
+      ∙ a.law (book_behind h more) (given_left h ending more))
+
+  front_in_body : (limits : Limits) (progress : HeadProgress) (book : List (List ℕ × List ℕ)) (ending : SourceEnding) (more : List (Result Char Fault)) → IsBehind progress
+      → (let h : HeaderStageState = record { limits = limits; progress = progress; book = book } in
+      GoTogether h w → streams_of_items h w ending (characters at bytes ++ more) ≡ streams_of_items h new ending more)
+  front_in_body limits (reading t) book ending more is together = absurd is
+  front_in_body limits over book ending more is together = absurd is
+  front_in_body limits (behind other) book ending more is together =
+      subst (λ (b : List (List ℕ × List ℕ)). let h : HeaderStageState = record { limits = limits; progress = behind b; book = book } in
+      streams_of_items h w ending (characters at bytes ++ more) ≡ streams_of_items h new ending more)
+      (sym together.book) (front_behind limits book ending more)
+
+  front_of_items : (h : HeaderStageState) → w.part ≡ part.Body → GoTogether h w → (ending : SourceEnding) (more : List (Result Char Fault))
+      → streams_of_items h w ending (characters at bytes ++ more) ≡ streams_of_items h new ending more
+  front_of_items h body together ending more = by (together.body body)
+    where
+      by : IsBehind h.progress ⊎ IsSettled w → streams_of_items h w ending (characters at bytes ++ more) ≡ streams_of_items h new ending more
+      by (inl is) = front_in_body h.limits h.progress h.book ending more is together
+      by (inr settled) = front_settled h settled ending more
+
+pub items_of_a_front : (w new : ScoreWriterState) (at : Place) (bytes : List ℕ) → WritesNothing w at bytes new → (h : HeaderStageState) → GoTogether h w
+    → (ending : SourceEnding) (more : List (Result Char Fault)) → streams_of_items h w ending (characters at bytes ++ more) ≡ streams_of_items h new ending more
+items_of_a_front w new at [] a h together ending more = a.law (book_behind h more) (given_left h ending more)
+items_of_a_front w new at (byte ∷ bytes) a h together ending more =
+    front_of_items w new at (byte ∷ bytes) a h (a.body (omega arith)) together ending more
+
+-- Bytes that a decoder skips are those of the front.
+pub front_is_taken : (d e : DecoderState) (h : HeaderStageState) (w new : ScoreWriterState) (bytes : List ℕ) → WritesNothing w d.place bytes new → GoTogether h w
+    → ((more : List ℕ) → decoder.events_left d (bytes ++ more) ≡ skipped_events d.place bytes ++ decoder.events_left e more) → (more : List ℕ) (ending : SourceEnding)
+    → streams_of_items h w ending (emitted_by (is_whole ending) (bytes ++ more) (decoder.events_left d (bytes ++ more)))
+    ≡ streams_of_items h new ending (emitted_by (is_whole ending) more (decoder.events_left e more))
+front_is_taken d e h w new bytes a together law more ending =
+    ap (λ (items : List (Result Char Fault)). streams_of_items h w ending items)
+    (ap (λ (lists : List (List (Result Char Fault))). emitted_by (is_whole ending) (bytes ++ more) lists) (law more)
+    ∙ items_skipped d.place bytes more (decoder.events_left e more) ending)
+    ∙ items_of_a_front w new d.place bytes a h together ending (emitted_by (is_whole ending) more (decoder.events_left e more))
+
+-- ---- the front of a piece
+
+-- a front of a front of a piece is a front of the piece
+pub front_of_front : (count most : ℕ) (piece : List ℕ) → count ≤ length (take most piece) → take count (take most piece) ≡ take count piece
+front_of_front count most piece within = let l = length-take most piece in take-take count most piece (omega (arith, within, l))
+
+-- Bytes at which nothing is written and one byte more bring what was to come for that byte.
+pub takes_front_and_byte : (old mid new : EngineState) (piece : List ℕ) (count d : ℕ) → count < length piece
+    → ((bytes : List ℕ) (ending : SourceEnding) → streams_left old ending (take count piece ++ bytes) ≡ streams_left mid ending bytes)
+    → ((bytes : List ℕ) (ending : SourceEnding) → streams_left mid ending (slice_index_or piece count d ∷ bytes) ≡ with_waiting new (streams_left new ending bytes))
+    → Takes old (take (count + 1) piece) new
+takes_front_and_byte old mid new piece count d within front one = λ bytes ending.
+    let x = slice_index_or piece count d in
+    ap (λ (xs : List ℕ). streams_left old ending xs)
+    (ap (λ (xs : List ℕ). xs ++ bytes) (ap (λ (n : ℕ). take n piece) (add-one count) ∙ take-suc piece count d within) ∙ append_assoc (take count piece) (x ∷ []) bytes)
+    ∙ (front (x ∷ bytes) ending ∙ one bytes ending)
+
+-- bytes behind bytes that were taken
+pub takes_more : (first now new : EngineState) (piece rest : List ℕ) (count more : ℕ) → rest ≡ drop count piece → Takes first (take count piece) now → NothingWaits now
+    → Takes now (take more rest) new → Takes first (take (count + more) piece) new
+takes_more first now new piece rest count more is so_far waits law = λ bytes ending.
+    ap (λ (xs : List ℕ). streams_left first ending xs)
+    (ap (λ (xs : List ℕ). xs ++ bytes) (take-add count more piece ∙ ap (λ (xs : List ℕ). take count piece ++ take more xs) (sym is))
+    ∙ append_assoc (take count piece) (take more rest) bytes)
+    ∙ (so_far (take more rest ++ bytes) ending
+    ∙ (none_wait now waits (streams_left now ending (take more rest ++ bytes))
+    ∙ law bytes ending))
