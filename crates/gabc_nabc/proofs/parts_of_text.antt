@@ -1,3 +1,3 @@
-pub mod FirstPartByBytes
+pub mod FirstPartIsFound
 pub mod PartsAreTheReading
 pub mod PartsByBytes

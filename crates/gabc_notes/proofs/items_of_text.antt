@@ -1,4 +1,4 @@
-pub mod FirstItemByBytes
+pub mod FirstItemIsFound
 pub mod ItemAtCharacter
 pub mod ItemByStates
 pub mod ItemsByBytes

@@ -5,6 +5,4 @@ pub mod LoopOverBody
 pub mod MachineReadsTable
 pub mod OneCharacterMore
 pub mod ShortWays
-pub mod SnippetsByState
 pub mod StageEmitsItsEvents
-pub mod TextIsReadByCharacter

@@ -5,6 +5,7 @@ pub mod CharactersBeyondTheTable
 pub mod DerivativesSpellWhatFollows
 pub mod EqualPatterns
 pub mod Examples
+pub mod FirstItemByBytes
 pub mod FunctionsMeetRelations
 pub mod ItemHere
 pub mod ItemList
@@ -19,6 +20,8 @@ pub mod OneReading
 pub mod ReadingExists
 pub mod RowsAfterACharacter
 pub mod RowsRun
+pub mod SnippetsByState
 pub mod StatesAfterTexts
 pub mod StatesFollowExamples
 pub mod TestedAutomatonReads
+pub mod TextIsReadByCharacter

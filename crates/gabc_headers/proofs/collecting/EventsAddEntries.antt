@@ -1,10 +1,11 @@
 -- What the events of a text's parts add.
-use Rattle.std.proofs.Common.{◌≡◌, ℕ, ◌≤◌, ◌+◌, ◌-◌, ◌&&◌, List, [], ◌∷◌, ◌++◌, Bool, true, false, cond, refl, sym, ap, ◌∙◌, subst, arith, length, take, drop, slice_range, IsUtf8, IsCharBoundary, append_assoc, bytes_eq, length-append}
+use Rattle.std.proofs.Common.{◌≡◌, ℕ, ◌≤◌, ◌+◌, ◌-◌, List, [], ◌∷◌, ◌++◌, Bool, true, false, cond, refl, sym, ap, ◌∙◌, subst, arith, length, take, drop, slice_range, IsUtf8, IsCharBoundary, append_assoc, bytes_eq, length-append}
 use Rattle.std.specs.Str.{chars}
 use Rattle.std.proofs.lemmas.Str.{chars-encodes, encodes-append, IsCharBoundary-at_seam}
 use Rattle.std.proofs.Math.Seq.{drop-append_seam, take-append_seam}
-use lib.Utf8.{encodes, scalars, scalar}
+use lib.Utf8.{encodes, scalars}
 use Rattle.gabc_places.specs.declared.place.Span.{Span}
+use Rattle.gabc_places.proofs.texts.CharactersOfStrings.{scalars_split}
 use Rattle.gabc_headers.specs.declared.events.HeaderEvent.{HeaderEvent}
 use Rattle.gabc_headers.specs.declared.events.HeaderEvent.TheVariants.{LeftOut, Header}
 use Rattle.gabc_headers.specs.Lines.{bytes_len}
@@ -18,22 +19,6 @@ use Rattle.gabc_places.specs.declared.code.Code.TheVariants.{E5, W2}
 use Rattle.gabc_headers.specs.machine.EntryMap.{comes_again}
 use Rattle.gabc_headers.specs.machine.Events.{SpanHolds, AreEventsOf}
 use Rattle.gabc_headers.proofs.entries.TextsAsBytes.{length-encodes}
-
-and_left : (a b : Bool) → (a && b) ≡ true → a ≡ true
-and_left true b h = refl
-and_left false b h = h
-
-and_right : (a b : Bool) → (a && b) ≡ true → b ≡ true
-and_right true b h = h
-and_right false b h = absurd (cc)
-
-pub scalars_left : (a b : List ℕ) → scalars (a ++ b) ≡ true → scalars a ≡ true
-scalars_left [] b h = refl
-scalars_left (c ∷ a) b h = rw (and_left (scalar c) (scalars (a ++ b)) h) (scalars_left a b (and_right (scalar c) (scalars (a ++ b)) h))
-
-scalars_right : (a b : List ℕ) → scalars (a ++ b) ≡ true → scalars b ≡ true
-scalars_right [] b h = h
-scalars_right (c ∷ a) b h = scalars_right a b (and_right (scalar c) (scalars (a ++ b)) h)
 
 utf8 : (cs : List ℕ) → scalars cs ≡ true → IsUtf8 (encodes cs)
 utf8 cs h = (cs, (h, refl))
@@ -53,7 +38,7 @@ slice_is t v s h =
     ∙ (ap (λ (m : ℕ). take m (encodes v ++ encodes h.back)) n ∙ take-append_seam (encodes v) (encodes h.back))))
 
 held : (t v : List ℕ) (s : Span) → scalars t ≡ true → SpanHolds t s v → scalars v ≡ true
-held t v s u h = scalars_left v h.back (scalars_right h.prefix (v ++ h.back) (subst (λ (x : List ℕ). scalars x ≡ true) h.text u))
+held t v s u h = (scalars_split v h.back (scalars_split h.prefix (v ++ h.back) (subst (λ (x : List ℕ). scalars x ≡ true) h.text u)).1).0
 
 -- the span of a part of a text shows it
 pub holds_shown : (t v : List ℕ) (s : Span) → scalars t ≡ true → SpanHolds t s v → text_at (encodes t) s ≡ v
@@ -62,7 +47,7 @@ holds_shown t v s u h = ap chars (slice_is t v s h) ∙ chars-encodes v (held t 
 pub holds_within : (t v : List ℕ) (s : Span) → scalars t ≡ true → SpanHolds t s v → IsWithin (encodes t) s
 holds_within t v s u h =
     let w = subst (λ (x : List ℕ). scalars x ≡ true) h.text u in
-    let r = scalars_right h.prefix (v ++ h.back) w in
+    let r = (scalars_split h.prefix (v ++ h.back) w).1 in
     let f : s.from ≡ length (encodes h.prefix) = h.from ∙ sym (length-encodes h.prefix) in
     let n : s.to ≡ length (encodes h.prefix ++ encodes v) = (let a = h.to in let d = length-encodes v in let g = length-encodes h.prefix in let k = length-append (encodes h.prefix) (encodes v) in omega arith) in
     let e = cut t h.prefix v h.back h.text in
@@ -71,7 +56,7 @@ holds_within t v s u h =
       first = subst (λ (m : ℕ). IsCharBoundary (encodes t) m) (sym f) (IsCharBoundary-at_seam (encodes t) (encodes h.prefix) (encodes v ++ encodes h.back) e
           (subst IsUtf8 (encodes-append v h.back) (utf8 (v ++ h.back) r)));
       last = subst (λ (m : ℕ). IsCharBoundary (encodes t) m) (sym n) (IsCharBoundary-at_seam (encodes t) (encodes h.prefix ++ encodes v) (encodes h.back)
-          (e ∙ sym (append_assoc (encodes h.prefix) (encodes v) (encodes h.back))) (utf8 h.back (scalars_right v h.back r)));
+          (e ∙ sym (append_assoc (encodes h.prefix) (encodes v) (encodes h.back))) (utf8 h.back (scalars_split v h.back r).1));
     }
 
 pub holds_len : (t v : List ℕ) (s : Span) → SpanHolds t s v → length (slice_range (encodes t) s.from s.to) ≡ bytes_len v

@@ -33,7 +33,7 @@ use Rattle.gabc_headers.specs.machine.Collected.{heads_at_score}
 use Rattle.gabc_headers.specs.machine.HeaderMachine.{push_one, take_one, then_take, held_push, fresh_machine}
 use Rattle.gabc_headers.specs.machine.Events.{with_event}
 use Rattle.gabc_headers.proofs.collecting.HeadsFollowFromEvents.{collected_of, read_within}
-use Rattle.gabc_headers.proofs.collecting.EventsAddEntries.{scalars_left}
+use Rattle.gabc_places.proofs.texts.CharactersOfStrings.{scalars_split}
 use Rattle.gabc_headers.proofs.groups.BookNeedsScoreLine.{score_behind}
 use Rattle.gabc_headers.proofs.FrontHasTheSameHeaders.{len_again, heads_again}
 use Rattle.gabc_headers.proofs.prefixes.EventsGrow.{spelled_longer}
@@ -179,10 +179,10 @@ module _ (limits : Limits) (held xs : List ℕ) (c : ℕ) (r new : HeaderMachine
   whole_is = append_assoc held (c ∷ []) xs
 
   u_longer : scalars longer ≡ true
-  u_longer = scalars_left longer xs (subst (λ (x : List ℕ). scalars x ≡ true) (sym whole_is) u)
+  u_longer = (scalars_split longer xs (subst (λ (x : List ℕ). scalars x ≡ true) (sym whole_is) u)).0
 
   u_held : scalars held ≡ true
-  u_held = scalars_left held (c ∷ xs) u
+  u_held = (scalars_split held (c ∷ xs) u).0
 
   o : AreOpen limits held es
   o = open_so_far limits held r es u_held h

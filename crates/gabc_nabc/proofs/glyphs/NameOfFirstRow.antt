@@ -7,7 +7,7 @@ use Rattle.std.specs.Str.{chars}
 use Rattle.std.proofs.lemmas.Str.{chars_past_char, IsUtf8-past_char}
 use lib.Utf8.{encode}
 use Rattle.gabc_nabc.specs.Names.{name_among, name_by, name_in}
-use Rattle.gabc_nabc.proofs.machine.TextIsReadByCharacter.{chars-none}
+use Rattle.gabc_places.proofs.texts.CharactersOfStrings.{chars-none}
 
 abbrev pub Row : Type 0
 Row = ℕ × ℕ × Bor (List ℕ)

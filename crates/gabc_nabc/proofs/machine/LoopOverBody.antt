@@ -5,7 +5,8 @@ use Rattle.std.specs.Char.{len_utf8}
 use Rattle.std.proofs.lemmas.List.{drop_all}
 use Rattle.std.proofs.Math.Seq.{take-append_seam, drop-append_seam}
 use Rattle.std.proofs.lemmas.Str.{encodes-append, length-encode, chars_from_encodes, scalars-chars, IsCharBoundary-at_seam}
-use lib.Utf8.{encode, encodes, scalar, scalars}
+use lib.Utf8.{encode, encodes, scalars}
+use Rattle.gabc_places.proofs.texts.CharactersOfStrings.{scalars_split}
 use Rattle.gabc_places.specs.declared.code.Finding.{Finding}
 use Rattle.gabc_places.specs.declared.place.Char.{Char}
 use Rattle.gabc_places.specs.declared.place.Place.{Place}
@@ -19,7 +20,6 @@ use Rattle.gabc_notes.specs.declared.stage.NoteEvent.{NoteEvent}
 use Rattle.gabc_notes.specs.declared.stage.NoteEvent.TheVariants.{Ended}
 use Rattle.gabc_patterns.specs.Derivative.{is_viable}
 use Rattle.gabc_patterns.specs.Function.{trim, keep_from}
-use Rattle.gabc_patterns.proofs.BothOfTwoTests.{and_true}
 use Rattle.gabc_patterns.proofs.FunctionsMeetRelations.{trim_trims}
 use Rattle.gabc_nabc.specs.Table.{nabc}
 use Rattle.gabc_nabc.specs.Events.{is_character, is_end, has_end, characters_behind, kept_of, bytes_in, end_by_mark, events_at, nabc_events_behind, cut_events, nabc_events}
@@ -193,10 +193,6 @@ abbrev bytes_emitted : Option (NoteEnd × ℕ) → ℕ
 bytes_emitted None = 0
 bytes_emitted (Some p) = p.1
 
-scalars_split : (a b : List ℕ) → scalars (a ++ b) ≡ true → scalars b ≡ true
-scalars_split [] b e = e
-scalars_split (c ∷ a) b e = scalars_split a b (and_true (scalar c) (scalars (a ++ b)) e).1
-
 -- the kept text up to its longest prefix that is a snippet
 trimmed : (u bytes : List ℕ) (len : ℕ) → bytes ≡ encodes u → scalars u ≡ true → len ≡ bytes_in (trim nabc u) → length (encodes u) < 2 ^ 64
     → (take len bytes ≡ encodes (trim nabc u)) × IsCharBoundary bytes len
@@ -208,7 +204,7 @@ trimmed u bytes len e good l small =
     let n : length (encodes a) ≡ len = (let m = ap length (sym e ∙ cut) in omega (arith, l, m, small, length-append (encodes a) (encodes b))) in
     let all : scalars (a ++ b) ≡ true = ap scalars (sym s.cut) ∙ good in (
       ap (λ (k : ℕ). take k bytes) (sym n) ∙ (ap (take (length (encodes a))) cut ∙ take-append_seam (encodes a) (encodes b)),
-      subst (IsCharBoundary bytes) n (IsCharBoundary-at_seam bytes (encodes a) (encodes b) cut (b, (scalars_split a b all, refl))),
+      subst (IsCharBoundary bytes) n (IsCharBoundary-at_seam bytes (encodes a) (encodes b) cut (b, ((scalars_split a b all).1, refl))),
     )
 
 -- the character that ends it

@@ -15,7 +15,7 @@ use Rattle.gabc_patterns.proofs.ItemsOneByOne.{items_lie}
 use Rattle.gabc_nabc.specs.Table.{nabc}
 use Rattle.gabc_nabc.specs.Parts.{IsNabc, AreDescriptorsOf, AreWithin, placed_parts, parts_of, read_as, piece_of}
 use Rattle.gabc_nabc.specs.declared.descriptor.Descriptor.{Descriptor}
-use Rattle.gabc_nabc.proofs.parts_of_text.PartsByBytes.{scalars_split}
+use Rattle.gabc_places.proofs.texts.CharactersOfStrings.{scalars_split}
 
 -- What a text says of its parts behind a prefix.
 record Placed (before t : List ℕ) (is : List (Bool × List ℕ)) : Type 0 where

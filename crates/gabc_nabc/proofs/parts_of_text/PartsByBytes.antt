@@ -1,14 +1,14 @@
 -- The parts of a text one after the other, by their bytes.
-use Rattle.std.specs.Prelude.{Bool, true}
+use Rattle.std.specs.Prelude.{Bool}
 use Rattle.std.proofs.Common.{◌≡◌, ℕ, List, [], ◌∷◌, ◌++◌, refl, sym, ap, ◌∙◌, subst, Option, Some, None, append_assoc, append-nil, take, drop, length, ◌≤◌, ◌<◌, ◌+◌, ◌-◌, arith, length-append, length-drop, drop-drop, take-append-drop, IsUtf8}
 use Rattle.std.specs.Str.{chars}
 use Rattle.std.proofs.lemmas.List.{length-take-le}
 use Rattle.std.proofs.lemmas.Str.{encodes-append, encodes-chars, scalars-chars, chars-encodes, length-le-encodes}
 use Rattle.std.proofs.Math.Seq.{drop-append_seam}
 use lib.Utf8.{encodes, scalars}
+use Rattle.gabc_places.proofs.texts.CharactersOfStrings.{scalars_split}
 use Rattle.gabc_places.specs.BoundedList.{BoundedList, Fits, extended_by}
 use Rattle.gabc_patterns.specs.Function.{longest_item, items}
-use Rattle.gabc_patterns.proofs.BothOfTwoTests.{and_true}
 use Rattle.gabc_patterns.proofs.ItemSoFar.{IsBest}
 use Rattle.gabc_patterns.proofs.ItemsFunctionReads.{longest_item_best}
 use Rattle.gabc_patterns.proofs.ItemsOneByOne.{items_none, items_more}
@@ -31,13 +31,6 @@ pub record Listed (text : List ℕ) (parts : List Descriptor) (at : ℕ) : Type 
 -- before the first part
 pub listed_first : (text : List ℕ) → IsUtf8 text → Listed text [] 0
 listed_first text u = record { fits = omega arith; utf8 = u; all = refl; few = omega arith }
-
-pub scalars_split : (a b : List ℕ) → scalars (a ++ b) ≡ true → (scalars a ≡ true) × (scalars b ≡ true)
-scalars_split [] b e = (refl, e)
-scalars_split (c ∷ a) b e =
-    let f = and_true _ (scalars (a ++ b)) e in
-    let g = scalars_split a b f.1 in
-    (rw (f.0, g.0) refl, g.1)
 
 -- What is left of a text behind its first part.
 pub record Behind (text : List ℕ) (at : ℕ) (i : Bool × ℕ) : Type 0 where

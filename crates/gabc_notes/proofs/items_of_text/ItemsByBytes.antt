@@ -16,7 +16,7 @@ use Rattle.gabc_patterns.specs.LongestItems.{IsReading}
 use Rattle.gabc_patterns.specs.Items.{FollowOn}
 use Rattle.gabc_patterns.specs.Function.{items, longest_item}
 use Rattle.gabc_notes.proofs.grammar.LawsOfKeptTexts.{kinds_are_one}
-use Rattle.gabc_notes.proofs.items_of_text.FirstItemByBytes.{scalars_split}
+use Rattle.gabc_places.proofs.texts.CharactersOfStrings.{scalars_split}
 use Rattle.gabc_patterns.proofs.ItemsFunctionReads.{items_are}
 use Rattle.gabc_patterns.proofs.ItemsOneByOne.{items_first, items_none}
 

@@ -11,7 +11,10 @@ use Rattle.gabc_notes.specs.declared.class.CharClass.TheVariants as class
 use Rattle.gabc_notes.specs.declared.item.ItemKind.TheVariants as kind
 use Rattle.gabc_notes.specs.declared.state.ItemState.{ItemState}
 use Rattle.gabc_notes.specs.declared.state.ItemState.TheVariants as state
-use Rattle.gabc_notes.proofs.items_of_text.FirstItemByBytes.{begun_at, ends_at, stops_at, end_at}
+use Rattle.gabc_notes.specs.Table.{gabc}
+use Rattle.gabc_notes.proofs.machine.MachineReadsTable.{machine, items_read}
+use Rattle.gabc_notes.proofs.items_of_text.FirstItemIsFound.{best_found}
+use Rattle.gabc_patterns.proofs.FirstItemByBytes.{begun_at, ends_at, stops_at, end_at}
 
 -- what holds of the three classes of small pitches holds of their letters
 small : (P : CharClass → Type 0) (c : ℕ) → 97 ≤ c → c ≤ 110 → (c ≡ 98 → P class.FlatB) → P class.ClefLetter → P class.Pitch → P (class_of_character c)
@@ -54,8 +57,8 @@ pub alone : (c : ℕ) → 97 ≤ c → c ≤ 110 → IsUtf8 (c ∷ []) → IsFir
 alone c low high u =
     let b = begins c low high in
     let text : List ℕ = c ∷ [] in
-    let one = ends_at text [] text [] state.Start b.state 0 1 c kind.Note None (begun_at text text refl u) (ap (λ (x : List ℕ). x ++ []) (sym (encode_ascii c (omega arith)))) b.begun b.ends (let n = len_utf8_ascii c (omega arith) in omega (arith, n)) in
-    (end_at text (c ∷ []) [] b.state 1 (Some (kind.Note, 1)) u one refl).found
+    let one = ends_at gabc machine items_read text [] text [] state.Start b.state 0 1 c kind.Note None (begun_at gabc machine items_read text text refl u) (ap (λ (x : List ℕ). x ++ []) (sym (encode_ascii c (omega arith)))) b.begun b.ends (let n = len_utf8_ascii c (omega arith) in omega (arith, n)) in
+    (best_found text (Some (kind.Note, 1)) u (end_at gabc machine items_read text (c ∷ []) [] b.state 1 (Some (kind.Note, 1)) one refl)).found
 
 pub before_pitch : (c d : ℕ) (rest : List ℕ) → 97 ≤ c → c ≤ 110 → 99 ≤ d → d ≤ 110 → IsUtf8 (c ∷ d ∷ rest) → IsFirstItem (c ∷ d ∷ rest) kind.Note 1
 before_pitch c d rest low high from to u =
@@ -63,8 +66,8 @@ before_pitch c d rest low high from to u =
     let text : List ℕ = c ∷ d ∷ rest in
     let here : text ≡ encode c ++ (d ∷ rest) = ap (λ (x : List ℕ). x ++ (d ∷ rest)) (sym (encode_ascii c (omega arith))) in
     let next : d ∷ rest ≡ encode d ++ rest = ap (λ (x : List ℕ). x ++ rest) (sym (encode_ascii d (omega arith))) in
-    let one = ends_at text [] text (d ∷ rest) state.Start b.state 0 1 c kind.Note None (begun_at text text refl u) here b.begun b.ends (let n = len_utf8_ascii c (omega arith) in omega (arith, n)) in
-    (stops_at text (c ∷ []) (d ∷ rest) rest b.state 1 d (Some (kind.Note, 1)) u one next (b.stops d from to)).found
+    let one = ends_at gabc machine items_read text [] text (d ∷ rest) state.Start b.state 0 1 c kind.Note None (begun_at gabc machine items_read text text refl u) here b.begun b.ends (let n = len_utf8_ascii c (omega arith) in omega (arith, n)) in
+    (best_found text (Some (kind.Note, 1)) u (stops_at gabc machine items_read text (c ∷ []) (d ∷ rest) rest b.state 1 d (Some (kind.Note, 1)) one next (b.stops d from to))).found
 
 pub alone_in : (t : List ℕ) → 1 ≤ length t → length t < 2 → (97 ≤ slice_index t 0) × (slice_index t 0 ≤ 110) → IsUtf8 t → IsFirstItem t kind.Note 1
 alone_in [] some few h u = let bad : ⊥ = omega (arith, some) in absurd bad

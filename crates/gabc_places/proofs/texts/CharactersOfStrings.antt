@@ -3,12 +3,13 @@ use Rattle.std.proofs.Common.{subst, take, ◌+◌, ◌≤◌, ◌≡◌, ◌≢
 use Rattle.std.specs.Str.{chars, NonePass, NoCharPasses, IsCharBoundary}
 use Rattle.std.specs.Bool.{◌==◌}
 use Rattle.std.specs.Char.{IsScalar, len_utf8}
+use Rattle.std.proofs.lemmas.Bool.{and_parts}
 use Rattle.std.proofs.lemmas.Bool.Decides.{nat_tests}
 use Rattle.std.proofs.lemmas.List.Elements.{filter-append}
 use Rattle.std.proofs.lemmas.Str.{chars-nil, chars-append, chars_past_char, encodes-chars, chars_from_encodes, IsUtf8-append, IsUtf8-encode, IsUtf8-take, IsUtf8-drop, IsCharBoundary-from_drop}
 use Rattle.std.proofs.lemmas.List.{take-append-drop}
 use Rattle.gabc_places.specs.Text.{is_shown}
-use lib.Utf8.{encode, encodes}
+use lib.Utf8.{encode, encodes, scalar, scalars}
 
 -- the one character of its own bytes
 pub chars-encode : (c : ℕ) → IsScalar c → chars (encode c) ≡ c ∷ []
@@ -24,6 +25,14 @@ chars-pushed (Err x) bs more text c u s v e = tt
 pub chars-none : (bs : List ℕ) → length bs ≡ 0 → chars bs ≡ []
 chars-none [] e = chars-nil
 chars-none (x ∷ xs) e = absurd (omega arith)
+
+-- the characters of both parts of a text are scalar values
+pub scalars_split : (a b : List ℕ) → scalars (a ++ b) ≡ true → (scalars a ≡ true) × (scalars b ≡ true)
+scalars_split [] b e = (refl, e)
+scalars_split (c ∷ a) b e =
+    let f = and_parts (scalar c) (scalars (a ++ b)) e in
+    let g = scalars_split a b f.1 in
+    (rw (f.0, g.0) refl, g.1)
 
 -- a text is added behind a text, if there is memory
 pub chars-added : {E : Type 0} (r : Result (Unit {0}) E) (bs more text part : List ℕ) → IsUtf8 bs → chars bs ≡ text → more ≡ cond (is_ok r) (bs ++ part) bs → OnOk r (chars more ≡ text ++ chars part)

@@ -14,10 +14,12 @@ use Rattle.gabc_notes.specs.declared.stage.NoteEnd.TheVariants as note_end
 use Rattle.gabc_notes.specs.declared.stage.NoteEvent.{NoteEvent}
 use Rattle.gabc_notes.specs.declared.stage.NoteEvent.TheVariants as note
 use Rattle.gabc_score.specs.declared.body_stage.BodyPart.TheVariants as part
+use Rattle.gabc_score.specs.declared.events.BodyEvent.{BodyEvent}
 use Rattle.gabc_score.specs.declared.events.BodyEvent.TheVariants as event
 use Rattle.gabc_score.specs.declared.slot_pair.SlotUse.TheVariants.{Filling}
-use Rattle.gabc_score.specs.BodyStage.{BodyStageState, part_with, texts_by_stage}
+use Rattle.gabc_score.specs.BodyStage.{BodyStageState, part_with, running_events_left, texts_by_stage}
 use Rattle.gabc_score.specs.Events.{InText, InNotes, events_from, next_line, snippet_from}
+use Rattle.gabc_score.specs.ScoreEvents.{findings_now}
 use Rattle.gabc_score.specs.Syllable.{prefix_of}
 use Rattle.gabc_score.specs.machine.BodyBuilder.{with_all}
 use Rattle.gabc_score.specs.machine.Gatherer.{Gathered}
@@ -32,6 +34,37 @@ one_byte kept c h =
     let e : length (encode_utf8 c) ≡ 1 = length-encode c ∙ len_utf8_ascii c h in
     let l = length-append kept (encode_utf8 c) in omega (arith, e, l)
 
+-- What was gathered, where events of a body find nothing and make no syllable: one byte more is kept at most.
+pub record OnlyKeeps (g h : Gathered) (es : List BodyEvent) : Type 0 where
+  pub silent : findings_now es ≡ []
+  pub made : h.made ≡ g.made
+  pub over : h.over ≡ g.over
+  pub total : h.total ≡ g.total
+  pub limit : h.limit ≡ g.limit
+  pub cut : h.cut ≡ g.cut
+  pub kept : length h.builder.kept ≤ length g.builder.kept + 1
+
+module _ (before after : BodyStageState) (x : Char) (pair next : SlotPairState) (held : next.held ≡ pair.held) (used : next.used ≡ Filling) where
+  -- these events are taken quietly
+  pub events_quiet : (es : List BodyEvent) → ((xs : List Char) → running_events_left before (x ∷ xs) ≡ es ∷ running_events_left after xs)
+      → OnlyKeeps pair.gathered (with_all pair.gathered es) es → next.gathered ≡ with_all pair.gathered es → CountsHold after.part (with_all pair.gathered es).builder
+      → TakesQuietly before x pair after next
+  events_quiet es law keeps gathered counts = record {
+    events = es;
+    law = law;
+    silent = keeps.silent;
+    gathered = gathered;
+    made = ap (λ (g : Gathered). g.made) gathered ∙ keeps.made;
+    over = ap (λ (g : Gathered). g.over) gathered ∙ keeps.over;
+    total = ap (λ (g : Gathered). g.total) gathered ∙ keeps.total;
+    limit = ap (λ (g : Gathered). g.limit) gathered ∙ keeps.limit;
+    cut = ap (λ (g : Gathered). g.cut) gathered ∙ keeps.cut;
+    kept = rw gathered keeps.kept;
+    held = held;
+    used = used;
+    counts = rw gathered counts;
+  }
+
 module _ (before after : BodyStageState) (x : Char) (pair next : SlotPairState) (held : next.held ≡ pair.held) (used : next.used ≡ Filling)
     (lines : after.nabc_lines ≡ before.nabc_lines) (macros : after.macros ≡ before.macros) (ascii : x.c < 128) where
   -- the `(` of the notes
@@ -39,25 +72,14 @@ module _ (before after : BodyStageState) (x : Char) (pair next : SlotPairState) 
       → ((xs : List Char) → part_with after.part xs ≡ snippet_from before.nabc_lines before.macros 0 x.place xs)
       → next.gathered ≡ with_all pair.gathered (event.Text (text.Ended text_end.Notes) ∷ []) → ((o : _) → CountsInNotes o → CountsHold after.part o)
       → CountsHold before.part pair.gathered.builder → TakesQuietly before x pair after next
-  end_quiet s t is mark takes snippet gathered into counts = record {
-    events = event.Text (text.Ended text_end.Notes) ∷ [];
-    law = λ xs.
-        rw (is, lines, macros) (ap (λ lists. events_from texts_by_stage before.nabc_lines before.macros (InText lists) (x ∷ xs))
-        (ap (λ c. events_left s (c ∷ codes_of xs)) mark ∙ takes.law (codes_of xs))
-        ∙ ap (λ p. (event.Text (text.Ended text_end.Notes) ∷ []) ∷ events_from texts_by_stage before.nabc_lines before.macros p xs) (sym (snippet xs)));
-    silent = refl;
-    gathered = gathered;
-    made = ap (λ (g : Gathered). g.made) gathered;
-    over = ap (λ (g : Gathered). g.over) gathered;
-    total = ap (λ (g : Gathered). g.total) gathered;
-    limit = ap (λ (g : Gathered). g.limit) gathered;
-    cut = ap (λ (g : Gathered). g.cut) gathered;
-    kept = rw gathered (one_byte pair.gathered.builder.kept 40 (omega arith));
-    held = held;
-    used = used;
-    counts = rw gathered ((text_ends s t (text.Ended text_end.Notes ∷ []) (omega arith) takes.pieces after.part into).counts pair.gathered
-        (subst (λ b. CountsHold b pair.gathered.builder) is counts));
-  }
+  end_quiet s t is mark takes snippet gathered into counts =
+      events_quiet before after x pair next held used (event.Text (text.Ended text_end.Notes) ∷ [])
+      (λ xs. rw (is, lines, macros) (ap (λ lists. events_from texts_by_stage before.nabc_lines before.macros (InText lists) (x ∷ xs))
+      (ap (λ c. events_left s (c ∷ codes_of xs)) mark ∙ takes.law (codes_of xs))
+      ∙ ap (λ p. (event.Text (text.Ended text_end.Notes) ∷ []) ∷ events_from texts_by_stage before.nabc_lines before.macros p xs) (sym (snippet xs))))
+      (record { silent = refl; made = refl; over = refl; total = refl; limit = refl; cut = refl; kept = one_byte pair.gathered.builder.kept 40 (omega arith) }) gathered
+      ((text_ends s t (text.Ended text_end.Notes ∷ []) (omega arith) takes.pieces after.part into).counts pair.gathered
+      (subst (λ b. CountsHold b pair.gathered.builder) is counts))
 
   -- a character of a snippet
   pub note_quiet : (line : ℕ) (opened : Place) (from to : List Char → List (List NoteEvent))
@@ -65,22 +87,12 @@ module _ (before after : BodyStageState) (x : Char) (pair next : SlotPairState) 
       → ((xs : List Char) → from (x ∷ xs) ≡ (note.Kept x ∷ []) ∷ to xs)
       → next.gathered ≡ with_all pair.gathered (event.Notes line (note.Kept x) ∷ []) → ((o : _) → CountsHold before.part o → CountsInNotes o) → ((o : _) → CountsInNotes o → CountsHold after.part o)
       → CountsHold before.part pair.gathered.builder → TakesQuietly before x pair after next
-  note_quiet line opened from to is now law gathered out into counts = record {
-    events = event.Notes line (note.Kept x) ∷ [];
-    law = λ xs. rw (is (x ∷ xs), now xs, lines, macros)
-        (ap (λ lists. events_from texts_by_stage before.nabc_lines before.macros (InNotes line opened lists) (x ∷ xs)) (law xs));
-    silent = refl;
-    gathered = gathered;
-    made = ap (λ (g : Gathered). g.made) gathered;
-    over = ap (λ (g : Gathered). g.over) gathered;
-    total = ap (λ (g : Gathered). g.total) gathered;
-    limit = ap (λ (g : Gathered). g.limit) gathered;
-    cut = ap (λ (g : Gathered). g.cut) gathered;
-    kept = rw gathered (one_byte pair.gathered.builder.kept x.c ascii);
-    held = held;
-    used = used;
-    counts = rw gathered ((notes_go line opened before.part (note.Kept x ∷ []) (omega arith) out after.part into).counts pair.gathered counts);
-  }
+  note_quiet line opened from to is now law gathered out into counts =
+      events_quiet before after x pair next held used (event.Notes line (note.Kept x) ∷ [])
+      (λ xs. rw (is (x ∷ xs), now xs, lines, macros)
+      (ap (λ lists. events_from texts_by_stage before.nabc_lines before.macros (InNotes line opened lists) (x ∷ xs)) (law xs)))
+      (record { silent = refl; made = refl; over = refl; total = refl; limit = refl; cut = refl; kept = one_byte pair.gathered.builder.kept x.c ascii }) gathered
+      ((notes_go line opened before.part (note.Kept x ∷ []) (omega arith) out after.part into).counts pair.gathered counts)
 
   -- the `|` that ends a snippet
   pub next_quiet : (line : ℕ) (opened : Place) (count : ℕ) (from to : List Char → List (List NoteEvent))
@@ -93,20 +105,9 @@ module _ (before after : BodyStageState) (x : Char) (pair next : SlotPairState) 
       let open_now = pair.gathered.builder in
       let cut : length (prefix_of (open_now.from + count) open_now.kept) ≤ length open_now.kept = (prefix_between open_now.from count open_now.kept (out open_now counts).1).1 in
       let marked = one_byte (prefix_of (open_now.from + count) open_now.kept) 124 (omega arith) in
-      record {
-        events = event.Notes line (note.Ended note_end.Next count) ∷ [];
-        law = λ xs. rw (is (x ∷ xs), lines, macros)
-            (ap (λ lists. events_from texts_by_stage before.nabc_lines before.macros (InNotes line opened lists) (x ∷ xs)) (takes.law x xs mark)
-            ∙ ap (λ p. (event.Notes line (note.Ended note_end.Next count) ∷ []) ∷ events_from texts_by_stage before.nabc_lines before.macros p xs) (sym (snippet xs)));
-        silent = refl;
-        gathered = gathered;
-        made = ap (λ (g : Gathered). g.made) gathered;
-        over = ap (λ (g : Gathered). g.over) gathered;
-        total = ap (λ (g : Gathered). g.total) gathered;
-        limit = ap (λ (g : Gathered). g.limit) gathered;
-        cut = ap (λ (g : Gathered). g.cut) gathered;
-        kept = rw gathered (omega (arith, cut, marked));
-        held = held;
-        used = used;
-        counts = rw gathered ((notes_go line opened before.part (note.Ended note_end.Next count ∷ []) (omega arith) out after.part into).counts pair.gathered counts);
-      }
+      events_quiet before after x pair next held used (event.Notes line (note.Ended note_end.Next count) ∷ [])
+      (λ xs. rw (is (x ∷ xs), lines, macros)
+      (ap (λ lists. events_from texts_by_stage before.nabc_lines before.macros (InNotes line opened lists) (x ∷ xs)) (takes.law x xs mark)
+      ∙ ap (λ p. (event.Notes line (note.Ended note_end.Next count) ∷ []) ∷ events_from texts_by_stage before.nabc_lines before.macros p xs) (sym (snippet xs))))
+      (record { silent = refl; made = refl; over = refl; total = refl; limit = refl; cut = refl; kept = omega (arith, cut, marked) }) gathered
+      ((notes_go line opened before.part (note.Ended note_end.Next count ∷ []) (omega arith) out after.part into).counts pair.gathered counts)

@@ -1,5 +1,5 @@
 -- A letter of a text, the blank that begins a word, and a character that is kept and nothing else are taken quietly.
-use Rattle.std.proofs.Common.{◌≡◌, ℕ, ◌<◌, ◌≤◌, List, [], ◌∷◌, ◌++◌, false, map, length, encode_utf8, refl, ap, subst, ◌∙◌, arith}
+use Rattle.std.proofs.Common.{◌≡◌, ◌<◌, ◌≤◌, List, ◌∷◌, false, map, length, refl, ap, subst, ◌∙◌, arith}
 use Rattle.std.specs.List.{list_any}
 use Rattle.gabc_places.specs.declared.place.Char.{Char}
 use Rattle.gabc_text.specs.declared.stage.TextEvent.{TextEvent}
@@ -9,50 +9,26 @@ use Rattle.gabc_text.specs.Events.{codes_of}
 use Rattle.gabc_text.specs.EventsLeft.{events_left}
 use Rattle.gabc_text.specs.TakenAtOnce.{Takes, letter_events, word_events, kept_events}
 use Rattle.gabc_score.specs.declared.body_stage.BodyPart.TheVariants as part
-use Rattle.gabc_score.specs.declared.events.BodyEvent.{BodyEvent}
 use Rattle.gabc_score.specs.declared.events.BodyEvent.TheVariants as event
 use Rattle.gabc_score.specs.declared.slot_pair.SlotUse.TheVariants.{Filling}
 use Rattle.gabc_score.specs.BodyStage.{BodyStageState, texts_by_stage}
 use Rattle.gabc_score.specs.Events.{InText, events_from, is_text_end}
-use Rattle.gabc_score.specs.ScoreEvents.{findings_now}
 use Rattle.gabc_score.specs.machine.BodyBuilder.{with_all}
-use Rattle.gabc_score.specs.machine.Gatherer.{Gathered}
 use Rattle.gabc_score.specs.machine.PartCounts.{CountsHold}
 use Rattle.gabc_score.specs.machine.Quiet.{TakesQuietly}
 use Rattle.gabc_score.specs.machine.SlotPair.{SlotPairState}
 use Rattle.gabc_score.proofs.building.CountsOfParts.{text_goes}
-use Rattle.gabc_score.proofs.building.QuietParts.{one_byte}
-
--- These events of a text only keep a character of this code: of what was gathered the open syllable changes, and nothing is found.
-record OnlyKeeps (c : ℕ) (g h : Gathered) (es : List BodyEvent) : Type 0 where
-  silent : findings_now es ≡ []
-  made : h.made ≡ g.made
-  over : h.over ≡ g.over
-  total : h.total ≡ g.total
-  limit : h.limit ≡ g.limit
-  cut : h.cut ≡ g.cut
-  kept : h.builder.kept ≡ g.builder.kept ++ encode_utf8 c
+use Rattle.gabc_score.proofs.building.QuietParts.{OnlyKeeps, events_quiet, one_byte}
 
 module _ (before after : BodyStageState) (x : Char) (pair next : SlotPairState) (held : next.held ≡ pair.held) (used : next.used ≡ Filling)
     (lines : after.nabc_lines ≡ before.nabc_lines) (macros : after.macros ≡ before.macros) (ascii : x.c < 128)
     (s t : TextStage) (is : before.part ≡ part.Text s) (now : after.part ≡ part.Text t) where
-  text_quiet : (es : List TextEvent) → length es ≤ 8 → Takes s x.c es t → OnlyKeeps x.c pair.gathered (with_all pair.gathered (map (λ o. event.Text o) es)) (map (λ o. event.Text o) es) → list_any is_text_end es ≡ false
+  text_quiet : (es : List TextEvent) → length es ≤ 8 → Takes s x.c es t → OnlyKeeps pair.gathered (with_all pair.gathered (map (λ o. event.Text o) es)) (map (λ o. event.Text o) es) → list_any is_text_end es ≡ false
       → next.gathered ≡ with_all pair.gathered (map (λ o. event.Text o) es) → CountsHold before.part pair.gathered.builder → TakesQuietly before x pair after next
-  text_quiet es few takes keeps goes_on gathered counts = record {
-    events = map (λ o. event.Text o) es;
-    law = λ xs. rw (is, now, lines, macros) (ap (λ lists. events_from texts_by_stage before.nabc_lines before.macros (InText lists) (x ∷ xs)) (takes.law (codes_of xs)) ∙ goes xs);
-    silent = keeps.silent;
-    gathered = gathered;
-    made = ap (λ (g : Gathered). g.made) gathered ∙ keeps.made;
-    over = ap (λ (g : Gathered). g.over) gathered ∙ keeps.over;
-    total = ap (λ (g : Gathered). g.total) gathered ∙ keeps.total;
-    limit = ap (λ (g : Gathered). g.limit) gathered ∙ keeps.limit;
-    cut = ap (λ (g : Gathered). g.cut) gathered ∙ keeps.cut;
-    kept = rw (gathered, keeps.kept) (one_byte pair.gathered.builder.kept x.c ascii);
-    held = held;
-    used = used;
-    counts = rw (now, gathered) ((text_goes s t es few takes.pieces).counts pair.gathered (subst (λ b. CountsHold b pair.gathered.builder) is counts));
-  }
+  text_quiet es few takes keeps goes_on gathered counts =
+      events_quiet before after x pair next held used (map (λ o. event.Text o) es)
+      (λ xs. rw (is, now, lines, macros) (ap (λ lists. events_from texts_by_stage before.nabc_lines before.macros (InText lists) (x ∷ xs)) (takes.law (codes_of xs)) ∙ goes xs))
+      keeps gathered (rw now ((text_goes s t es few takes.pieces).counts pair.gathered (subst (λ b. CountsHold b pair.gathered.builder) is counts)))
     where
       goes : (xs : List Char) → events_from texts_by_stage before.nabc_lines before.macros (InText (es ∷ events_left t (codes_of xs))) (x ∷ xs)
           ≡ map (λ o. event.Text o) es ∷ events_from texts_by_stage before.nabc_lines before.macros (InText (events_left t (codes_of xs))) xs
@@ -62,16 +38,16 @@ module _ (before after : BodyStageState) (x : Char) (pair next : SlotPairState) 
   pub letter_quiet : (p : Piece) → Takes s x.c (letter_events s x.c p) t → next.gathered ≡ with_all pair.gathered (map (λ o. event.Text o) (letter_events s x.c p))
       → CountsHold before.part pair.gathered.builder → TakesQuietly before x pair after next
   letter_quiet p takes =
-      text_quiet (letter_events s x.c p) (omega arith) takes (record { silent = refl; made = refl; over = refl; total = refl; limit = refl; cut = refl; kept = refl }) refl
+      text_quiet (letter_events s x.c p) (omega arith) takes (record { silent = refl; made = refl; over = refl; total = refl; limit = refl; cut = refl; kept = one_byte pair.gathered.builder.kept x.c ascii }) refl
 
   -- the blank that begins a word
   pub word_quiet : Takes s x.c (word_events s x.c) t → next.gathered ≡ with_all pair.gathered (map (λ o. event.Text o) (word_events s x.c))
       → CountsHold before.part pair.gathered.builder → TakesQuietly before x pair after next
   word_quiet takes =
-      text_quiet (word_events s x.c) (omega arith) takes (record { silent = refl; made = refl; over = refl; total = refl; limit = refl; cut = refl; kept = refl }) refl
+      text_quiet (word_events s x.c) (omega arith) takes (record { silent = refl; made = refl; over = refl; total = refl; limit = refl; cut = refl; kept = one_byte pair.gathered.builder.kept x.c ascii }) refl
 
   -- what is kept and nothing else
   pub kept_quiet : Takes s x.c (kept_events s x.c) t → next.gathered ≡ with_all pair.gathered (map (λ o. event.Text o) (kept_events s x.c))
       → CountsHold before.part pair.gathered.builder → TakesQuietly before x pair after next
   kept_quiet takes =
-      text_quiet (kept_events s x.c) (omega arith) takes (record { silent = refl; made = refl; over = refl; total = refl; limit = refl; cut = refl; kept = refl }) refl
+      text_quiet (kept_events s x.c) (omega arith) takes (record { silent = refl; made = refl; over = refl; total = refl; limit = refl; cut = refl; kept = one_byte pair.gathered.builder.kept x.c ascii }) refl

@@ -4,7 +4,7 @@ use Rattle.std.specs.Str.Iter.{chars_rest}
 use Rattle.std.proofs.lemmas.Str.{chars_past_char, IsUtf8-past_char, encodes-chars, length-encode, IsUtf8-string_bytes}
 use lib.Utf8.{encode}
 use Rattle.gabc_nabc.specs.machine.BuiltNabc.{built_nabc_of}
-use Rattle.gabc_nabc.proofs.machine.TextIsReadByCharacter.{chars-none}
+use Rattle.gabc_places.proofs.texts.CharactersOfStrings.{chars-none}
 use Rattle.gabc_nabc.proofs.machine.LoopOverBody.{goes_on, fits, ends, cut_open, place_fits}
 use Rattle.gabc_nabc.proofs.whole.nabc_whole.Goals as goal
 

@@ -10,7 +10,7 @@ use Rattle.gabc_places.specs.StageLaw.{concat_of}
 use Rattle.gabc_places.specs.Place.{next_place, placed_characters_from}
 use Rattle.gabc_notes.specs.SnippetRead.{kept_chars_of}
 use Rattle.gabc_notes.specs.declared.stage.NoteEvent.{NoteEvent}
-use Rattle.gabc_notes.proofs.machine.TextIsReadByCharacter.{chars-none}
+use Rattle.gabc_places.proofs.texts.CharactersOfStrings.{chars-none}
 use Rattle.gabc_notes.proofs.KeptChars.{driven, full, no_longer, none_pushed, added_alone}
 use Rattle.gabc_notes.proofs.machine.LoopOverBody.{place_fits}
 use Rattle.gabc_notes.proofs.chars.kept_chars_by.Goals as goal

@@ -2,38 +2,41 @@ use Rattle.std.proofs.Common.{◌≡◌, ℕ, ◌+◌, Some, None, arith, ap, �
 use Rattle.std.specs.Str.Iter.{chars_rest}
 use Rattle.gabc_notes.specs.machine.CharClass.{class_of_character}
 use Rattle.gabc_notes.specs.machine.ItemMachine.{going_on, kind_at_end}
-use Rattle.gabc_notes.proofs.items_of_text.FirstItemByBytes.{begun_at, fits_in, ends_at, on_at, stops_at, end_at}
+use Rattle.gabc_notes.specs.Table.{gabc}
+use Rattle.gabc_notes.proofs.machine.MachineReadsTable.{machine, items_read}
+use Rattle.gabc_notes.proofs.items_of_text.FirstItemIsFound.{best_found}
+use Rattle.gabc_patterns.proofs.FirstItemByBytes.{begun_at, fits_in, ends_at, on_at, stops_at, end_at}
 use Rattle.gabc_notes.proofs.items.item_read.Goals as goal
 
 pub loop-c-init : goal.loop-c-init
-loop-c-init c = begun_at c.args.text.now (chars_rest c.into_iter-c-iterator.result) (ap chars_rest c.into_iter-c-iterator.ensures.into_iter_gives ∙ c.chars-c-items.ensures.rest) c.utf8.text
+loop-c-init c = begun_at gabc machine items_read c.args.text.now (chars_rest c.into_iter-c-iterator.result) (ap chars_rest c.into_iter-c-iterator.ensures.into_iter_gives ∙ c.chars-c-items.ensures.rest) c.utf8.text
 
 pub overflow_add-read : goal.overflow_add-read
 overflow_add-read c =
-    let f = fits_in c.args.text.now c.loop-c.yielded _ _ c.loop-c.state c.loop-c.read c.in-Some.c c.loop-c.best c.utf8.text c.loop-c.invariant c.in-Some.ensures.steps.0 in
+    let f = fits_in gabc machine items_read c.args.text.now c.loop-c.yielded _ _ c.loop-c.state c.loop-c.read c.in-Some.c c.loop-c.best c.utf8.text c.loop-c.invariant c.in-Some.ensures.steps.0 in
     omega (arith, f, c.len_utf8-read.ensures.value)
 
 pub loop-c-preserved-in-Some-ends : goal.loop-c-preserved-in-Some-ends
 loop-c-preserved-in-Some-ends c =
     let g : going_on c.loop-c.state (class_of_character c.in-Some.c) ≡ Some c.in-Some-goes_on.after = cc (c.class_of.ensures, c.goes_on.ensures, c.in-Some-goes_on.is) in
     let e : kind_at_end c.in-Some-goes_on.after ≡ Some c.in-Some-ends.kind = cc (c.ends.ensures, c.in-Some-ends.is) in
-    ends_at c.args.text.now c.loop-c.yielded _ _ c.loop-c.state c.in-Some-goes_on.after c.loop-c.read _ c.in-Some.c c.in-Some-ends.kind c.loop-c.best c.loop-c.invariant c.in-Some.ensures.steps.0 g e
+    ends_at gabc machine items_read c.args.text.now c.loop-c.yielded _ _ c.loop-c.state c.in-Some-goes_on.after c.loop-c.read _ c.in-Some.c c.in-Some-ends.kind c.loop-c.best c.loop-c.invariant c.in-Some.ensures.steps.0 g e
     (ap (λ (n : ℕ). c.loop-c.read + n) c.len_utf8-read.ensures.value)
 
 pub loop-c-preserved : goal.loop-c-preserved
 loop-c-preserved c =
     let g : going_on c.loop-c.state (class_of_character c.in-Some.c) ≡ Some c.in-Some-goes_on.after = cc (c.class_of.ensures, c.goes_on.ensures, c.in-Some-goes_on.is) in
     let e : kind_at_end c.in-Some-goes_on.after ≡ None = cc (c.ends.ensures, c.in_default.is) in
-    on_at c.args.text.now c.loop-c.yielded _ _ c.loop-c.state c.in-Some-goes_on.after c.loop-c.read _ c.in-Some.c c.loop-c.best c.loop-c.invariant c.in-Some.ensures.steps.0 g e
+    on_at gabc machine items_read c.args.text.now c.loop-c.yielded _ _ c.loop-c.state c.in-Some-goes_on.after c.loop-c.read _ c.in-Some.c c.loop-c.best c.loop-c.invariant c.in-Some.ensures.steps.0 g e
     (ap (λ (n : ℕ). c.loop-c.read + n) c.len_utf8-read.ensures.value)
 
 pub returns-in-None-goes_on : goal.returns-in-None-goes_on
 returns-in-None-goes_on c =
     let g : going_on c.loop-c.state (class_of_character c.in-Some.c) ≡ None = cc (c.class_of.ensures, c.goes_on.ensures, c.in-None-goes_on.is) in
-    let t = stops_at c.args.text.now c.loop-c.yielded _ _ c.loop-c.state c.loop-c.read c.in-Some.c c.loop-c.best c.utf8.text c.loop-c.invariant c.in-Some.ensures.steps.0 g in
+    let t = best_found c.args.text.now c.loop-c.best c.utf8.text (stops_at gabc machine items_read c.args.text.now c.loop-c.yielded _ _ c.loop-c.state c.loop-c.read c.in-Some.c c.loop-c.best c.loop-c.invariant c.in-Some.ensures.steps.0 g) in
     record { found = t.found; none = t.none }
 
 pub returns : goal.returns
 returns c =
-    let t = end_at c.args.text.now c.loop-c.yielded _ c.loop-c.state c.loop-c.read c.loop-c.best c.utf8.text c.loop-c.invariant c.in-None.ensures.steps.0.0 in
+    let t = best_found c.args.text.now c.loop-c.best c.utf8.text (end_at gabc machine items_read c.args.text.now c.loop-c.yielded _ c.loop-c.state c.loop-c.read c.loop-c.best c.loop-c.invariant c.in-None.ensures.steps.0.0) in
     record { found = t.found; none = t.none }

@@ -5,8 +5,8 @@ use Rattle.gabc_notes.specs.Table.{gabc}
 use Rattle.gabc_notes.specs.machine.CharClass.{class_of_character}
 use Rattle.gabc_notes.specs.machine.ItemMachine.{next_state}
 use Rattle.gabc_notes.proofs.machine.MachineReadsTable.{machine, snippets_read}
-use Rattle.gabc_notes.proofs.machine.TextIsReadByCharacter.{one_read, one_next, all_read}
-use Rattle.gabc_notes.proofs.machine.SnippetsByState.{stuck, told_by}
+use Rattle.gabc_patterns.proofs.TextIsReadByCharacter.{one_read, one_next, all_read}
+use Rattle.gabc_patterns.proofs.SnippetsByState.{stuck, told_by}
 use Rattle.gabc_patterns.proofs.StatesAfterTexts.{stands_first, stands_next}
 use Rattle.gabc_notes.proofs.kept.is_snippet.Goals as goal
 
@@ -30,10 +30,10 @@ pub returns-in-None-next_state : goal.returns-in-None-next_state
 returns-in-None-next_state c =
     let i = c.loop-c.invariant in
     let n : next_state c.loop-c.state (class_of_character c.in-Some.c) ≡ None = cc (c.class_of.ensures, c.next_state.ensures, c.in-None-next_state.is) in
-    let none = stuck c.loop-c.state c.loop-c.yielded _ _ c.in-Some.c i.stands n (one_next _ _ _ _ _ i.utf8 c.in-Some.ensures.steps.0 i.whole) in
+    let none = stuck gabc machine snippets_read c.loop-c.state c.loop-c.yielded _ _ c.in-Some.c i.stands n (one_next _ _ _ _ _ i.utf8 c.in-Some.ensures.steps.0 i.whole) in
     (λ e. absurd (let f : false ≡ true = e in cc), λ h. absurd (none h))
 
 pub returns : goal.returns
 returns c =
     let i = c.loop-c.invariant in
-    rw c.is_whole.ensures (told_by c.loop-c.state c.loop-c.yielded _ i.stands (all_read _ _ _ c.in-None.ensures.steps.0.0 i.whole))
+    rw c.is_whole.ensures (told_by gabc machine snippets_read c.loop-c.state c.loop-c.yielded _ i.stands (all_read _ _ _ c.in-None.ensures.steps.0.0 i.whole))

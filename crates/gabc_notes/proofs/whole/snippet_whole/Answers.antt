@@ -12,7 +12,7 @@ use Rattle.gabc_notes.specs.machine.BuiltSnippet.{BuiltSnippet, built_snippet_of
 use Rattle.gabc_notes.specs.declared.stage.NoteEnd.{NoteEnd}
 use Rattle.gabc_notes.specs.declared.stage.NoteEnd.TheVariants.{Close}
 use Rattle.gabc_notes.specs.declared.stage.NoteStage.{NoteStage}
-use Rattle.gabc_notes.proofs.machine.TextIsReadByCharacter.{chars-none}
+use Rattle.gabc_places.proofs.texts.CharactersOfStrings.{chars-none}
 use Rattle.gabc_notes.proofs.machine.LoopOverBody.{Reaches, Stops, reaches_first, reaches_next, stops_at, stops_cut, place_fits, first_scalar}
 use Rattle.gabc_notes.proofs.whole.snippet_whole.Goals as goal
 

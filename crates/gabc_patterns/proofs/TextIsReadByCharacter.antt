@@ -4,11 +4,6 @@ use Rattle.std.specs.Str.{chars}
 use Rattle.std.proofs.lemmas.Str.{chars_past_char, chars-nil}
 use lib.Utf8.{encode}
 
--- no characters are left at the end
-pub chars-none : (bs : List ℕ) → length bs ≡ 0 → chars bs ≡ []
-chars-none [] e = chars-nil
-chars-none (x ∷ xs) e = absurd (omega arith)
-
 -- a character moves from the rest to what was read
 pub one_read : (done bs rest all : List ℕ) (c : ℕ) → IsUtf8 bs → bs ≡ encode c ++ rest → done ++ chars bs ≡ all
     → (done ++ c ∷ []) ++ chars rest ≡ all
@@ -20,4 +15,5 @@ one_next done bs rest all c u e h = sym h ∙ ap (λ t. done ++ t) (chars_past_c
 
 -- all was read
 pub all_read : (done bs all : List ℕ) → length bs ≡ 0 → done ++ chars bs ≡ all → done ≡ all
-all_read done bs all e h = sym (append-nil done) ∙ ap (λ t. done ++ t) (sym (chars-none bs e)) ∙ h
+all_read done [] all e h = sym (append-nil done) ∙ ap (λ t. done ++ t) (sym chars-nil) ∙ h
+all_read done (x ∷ xs) all e h = absurd (omega arith)

@@ -1,0 +1,18 @@
+-- Which texts are snippets, by the state that the automaton is in.
+use Rattle.std.proofs.Common.{refl, ◌≡◌, ℕ, List, [], ◌∷◌, ◌++◌, true, false, Bool, IsTrue, ◌↔◌, None, sym, append_assoc, subst, ◌∙◌}
+use Rattle.gabc_patterns.specs.LongestItems.{Table, IsSnippet}
+use Rattle.gabc_patterns.proofs.AutomatonsByTests.{Automaton, ReadsSnippets}
+use Rattle.gabc_patterns.proofs.StatesAfterTexts.{Stands, left_out, whole_at, not_whole_at}
+
+module _ {K S C : Type 0} (table : Table K) (a : Automaton K S C) (r : ReadsSnippets table a) where
+  -- where there is no next state, the text is no snippet whatever follows
+  pub stuck : (s : S) (done later all : List ℕ) (c : ℕ) → Stands table a s done → a.next s (a.class_of c) ≡ None → all ≡ done ++ c ∷ later → ¬ IsSnippet table all
+  stuck s done later all c h n e i = left_out table a r s done c h n (later, subst (IsSnippet table) (e ∙ sym (append_assoc done (c ∷ []) later)) i)
+
+  -- at the end the state tells
+  pub told_by : (s : S) (done all : List ℕ) → Stands table a s done → done ≡ all → IsTrue (a.whole s) ↔ IsSnippet table all
+  told_by s done all h e = (λ w. subst (IsSnippet table) e (whole_at table a r s done h w), λ i. go (a.whole s) refl i)
+    where
+      go : (b : Bool) → a.whole s ≡ b → IsSnippet table all → IsTrue b
+      go true w i = refl
+      go false w i = absurd (not_whole_at table a r s done h w (subst (IsSnippet table) (sym e) i))
