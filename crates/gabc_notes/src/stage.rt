@@ -1,6 +1,6 @@
 //! A machine that reads a snippet a character at a time.
 
-ghost use Rattle.std.specs.Prelude.{◌≡◌, ℕ, List, [], ◌∷◌, true, false, None, IfSome, IsSome};
+ghost use Rattle.std.specs.Prelude.{◌≡◌, ℕ, List, [], ◌∷◌, true, false, None, IfSome, IsSome, IsTrue};
 ghost use Rattle.gabc_places.specs.declared.place.Char.{Char};
 ghost use Rattle.gabc_places.specs.BoundedList.{Fits, extended_by};
 ghost use Rattle.gabc_places.specs.StageLaw.{Pushes, StopsAtEnd};
@@ -8,7 +8,7 @@ ghost use Rattle.gabc_notes.specs.declared.stage.CharFacts.{CharFacts};
 ghost use Rattle.gabc_notes.specs.machine.ItemMachine.{IsShortStep, raw_state, attribute_state, facts_by_states, prefix_after, stage_after, stage_kept};
 ghost use Rattle.gabc_notes.specs.ItemMachine.{events_left};
 ghost use Rattle.gabc_notes.specs.Ends.{is_ended};
-ghost use Rattle.gabc_notes.specs.TakenAtOnce.{TakesNext, StandsBeforeNext};
+ghost use Rattle.gabc_notes.specs.TakenAtOnce.{TakesNext, StandsBeforeKept, StandsBeforeNext};
 ghost use Rattle.gabc_notes.specs.StageEvents.{role_in, warning_in, before_in, events_in, event_list};
 ghost use Rattle.gabc_notes.specs.Events.{is_defined, end_by_mark, finding_event, note_events};
 
@@ -389,6 +389,7 @@ impl NoteStage {
         ensures taken { result ≡ true → (xs : List Char) → events_left self.old (x ∷ xs)
             ≡ (NoteEvent.Kept x ∷ []) ∷ events_left self.new xs }
         ensures same { result ≡ false → self.new ≡ self.old }
+        ensures takes { StandsBeforeKept self.old x → IsTrue result }
     {
         let next = next_state(self.state, class_of(x.c));
         let facts = look(self.state, next, self.name);
@@ -401,13 +402,14 @@ impl NoteStage {
         }
     }
 
-    /// Takes `x` if it is kept and nothing else is emitted at it, and returns whether it did. Else nothing changes, and `push` reads
+    /// Takes `x` if it is kept and nothing else is emitted at it, and returns whether it did. Else nothing changes, and `push` takes
     /// `x`: so too each `)` and `|`, and what follows while a comment is open.
     #[inline(always)]
     pub fn take_kept(&mut self, x: Char) -> bool
         ensures taken { result ≡ true → (xs : List Char) → events_left self.old (x ∷ xs)
             ≡ (NoteEvent.Kept x ∷ []) ∷ events_left self.new xs }
         ensures same { result ≡ false → self.new ≡ self.old }
+        ensures takes { StandsBeforeKept self.old x → IsTrue result }
     {
         if self.ended || self.before.comment {
             return false;

@@ -8,7 +8,7 @@ use Rattle.gabc_text.specs.EventsLeft as text
 use Rattle.gabc_text.specs.TextStage.{fresh_stage}
 use Rattle.gabc_notes.specs.ItemMachine as notes
 use Rattle.gabc_nabc.specs.DescriptorMachine as nabc
-use Rattle.gabc_text.specs.declared.stage.TextEvent.{TextEvent}
+use Rattle.gabc_text.specs.declared.text_event.TextEvent.{TextEvent}
 use Rattle.gabc_notes.specs.declared.stage.NoteEvent.{NoteEvent}
 use Rattle.gabc_score.specs.declared.events.BodyEvent.{BodyEvent}
 use Rattle.gabc_score.specs.declared.events.BodyEvent.TheVariants.{Text}

@@ -5,9 +5,9 @@ use Rattle.gabc_places.specs.declared.place.Span.{Span}
 use Rattle.gabc_text.specs.declared.view.PieceKind.{PieceKind}
 use Rattle.gabc_text.specs.declared.view.PieceKind.TheVariants.{Mark}
 use Rattle.gabc_text.specs.TextView.{ViewContent, content_of}
-use Rattle.gabc_text.specs.declared.stage.TextPart.TheVariants as part
-use Rattle.gabc_text.specs.declared.stage.TextEnd.TheVariants.{Notes}
-use Rattle.gabc_text.specs.declared.stage.TextEvent.TheVariants as text
+use Rattle.gabc_text.specs.declared.text_event.TextPart.TheVariants as part
+use Rattle.gabc_text.specs.declared.text_event.TextEnd.TheVariants.{Notes}
+use Rattle.gabc_text.specs.declared.text_event.TextEvent.TheVariants as text
 use Rattle.gabc_text.specs.BuiltText.{with_part}
 use Rattle.gabc_notes.specs.declared.stage.NoteEnd.TheVariants.{Next, Close}
 use Rattle.gabc_notes.specs.declared.stage.NoteEvent.TheVariants as note

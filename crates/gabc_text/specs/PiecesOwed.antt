@@ -2,9 +2,9 @@
 use Rattle.std.specs.Prelude.{ℕ, suc, zero, ◌+◌, ◌≤◌, length, List, [], ◌∷◌, Bool, true, false, not, ◌&&◌, is_some}
 use Rattle.gabc_text.specs.declared.token_state.TokenState.{TokenState}
 use Rattle.gabc_text.specs.declared.token_state.TokenState.TheVariants.{Dollar}
-use Rattle.gabc_text.specs.declared.stage.TextPart.TheVariants as part
-use Rattle.gabc_text.specs.declared.stage.TextEvent.{TextEvent}
-use Rattle.gabc_text.specs.declared.stage.TextEvent.TheVariants as out
+use Rattle.gabc_text.specs.declared.text_event.TextPart.TheVariants as part
+use Rattle.gabc_text.specs.declared.text_event.TextEvent.{TextEvent}
+use Rattle.gabc_text.specs.declared.text_event.TextEvent.TheVariants as out
 use Rattle.gabc_text.specs.declared.stage.TextStage.{TextStage}
 use Rattle.gabc_text.specs.BuiltText.{kept_in}
 

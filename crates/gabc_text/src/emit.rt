@@ -6,7 +6,7 @@ ghost use Rattle.gabc_text.specs.Events.{option_list_of};
 ghost use Rattle.gabc_text.specs.EventsLeft.{findings_there};
 ghost use Rattle.gabc_text.specs.machine.TextStage.{char_event};
 
-use crate::stage::{TextEvent, TextPart};
+use crate::text_event::{TextEvent, TextPart};
 use crate::view::Piece;
 use gabc_places::{Char, Code, Finding, Place, Room};
 

@@ -7,7 +7,8 @@ ghost use Rattle.gabc_text.specs.Events.{codes_of, events_by_point};
 ghost use Rattle.gabc_text.specs.BuiltText.{kept_chars_in};
 ghost use Rattle.gabc_text.specs.View.{kept};
 
-use crate::stage::{TextEvent, TextStage};
+use crate::stage::TextStage;
+use crate::text_event::TextEvent;
 use gabc_places::{Char, Place, Sequence, outputs_of};
 use std::alloc::{AllocError, Global};
 

@@ -24,7 +24,8 @@ ghost use Rattle.gabc_text.specs.Ends.{EndsOnce};
 ghost use Rattle.std.specs.Prelude.{◌*◌, ◌≤◌};
 ghost use Rattle.gabc_places.specs.BoundedList.{Fits, extended_by};
 
-use crate::stage::{TextEvent, TextStage};
+use crate::stage::TextStage;
+use crate::text_event::TextEvent;
 use gabc_places::{Char, Place, Room, drive};
 
 /// A fresh machine emits what the definition says, where no count of the text reaches its last value, and what it does not

@@ -22,6 +22,7 @@ mod stage;
 mod styles;
 mod tag_name;
 mod tags;
+mod text_event;
 mod text_facts;
 mod token;
 mod token_state;
@@ -30,7 +31,8 @@ mod whole;
 
 pub use canonical::{text_len, text_span, write_text};
 pub use kept::kept_chars;
-pub use stage::{TextEnd, TextEvent, TextPart, TextStage};
+pub use stage::TextStage;
 pub use styles::{Style, Styles};
+pub use text_event::{TextEnd, TextEvent, TextPart};
 pub use view::{Piece, PieceKind, Pieces, TextEnding, TextView};
 pub use whole::{TextRead, text_whole};

@@ -7,7 +7,7 @@ ghost use Rattle.gabc_text.specs.Events.{count_by, option_list_of};
 ghost use Rattle.gabc_text.specs.EventsLeft.{parts_by, piece_by, piece_there, waiting_behind};
 ghost use Rattle.gabc_text.specs.machine.TextStage.{progress_after, progress_past};
 
-use crate::stage::TextPart;
+use crate::text_event::TextPart;
 use crate::text_facts::{TextFacts, piece_at};
 use crate::token::{TagEffect, TokenKind};
 use crate::view::{Piece, PieceKind};

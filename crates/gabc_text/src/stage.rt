@@ -15,6 +15,7 @@ ghost use Rattle.gabc_text.specs.TakenAtOnce.{letter_piece, TakesLetter, TakesEn
 
 use crate::emit::{emit_char, emit_code, emit_part, emit_piece};
 use crate::progress::{Progress, centre, part_at, piece_there};
+use crate::text_event::{TextEnd, TextEvent, TextPart};
 use crate::text_facts::{
     TextFacts, centre_code, code_at, early_at, keep, kind_of, no_facts, style_code,
 };
@@ -23,41 +24,7 @@ use crate::token_state::{
     Step, TokenState, is_plain, is_plain_letter, is_unmatched, kind_at_end, next_step, settled_kind,
 };
 use crate::view::{Piece, PieceKind};
-use gabc_places::{Char, Finding, Place, Room, Span, Stage};
-
-/// A part of a text's view.
-#[derive(Clone, Copy, Debug, PartialEq, Eq)]
-pub enum TextPart {
-    /// The syllable begins a word.
-    WordStart,
-    Piece(Piece),
-    /// The centre: from and to how many pieces. It comes just before the end.
-    Centre(Span),
-    /// The translation without its brackets, in bytes of the kept text.
-    Translation(Span),
-}
-
-/// How a text ended.
-#[derive(Clone, Copy, Debug, PartialEq, Eq)]
-pub enum TextEnd {
-    /// At the `(` of the notes.
-    Notes,
-    /// At the end of the input.
-    Finished,
-    /// At the end of the input, inside the tag, raw part or translation that begins here.
-    Cut(Place),
-}
-
-/// What a text emits as it is read.
-#[derive(Clone, Copy, Debug, PartialEq, Eq)]
-pub enum TextEvent {
-    /// A character of the kept text.
-    Kept(Char),
-    /// A part of the view.
-    Part(TextPart),
-    Found(Finding),
-    Ended(TextEnd),
-}
+use gabc_places::{Char, Place, Room, Stage};
 
 /// Reads a text, one character at a time, up to the `(` of its notes (GregorioRef, "Syllable Text Syntax"). What a character
 /// makes known is emitted with it; after the `(` nothing is emitted. It asks for no memory.

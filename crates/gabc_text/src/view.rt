@@ -5,8 +5,8 @@ ghost use Rattle.gabc_places.specs.GrowingList.{HasCapacity};
 ghost use Rattle.gabc_text.specs.BuiltText.{empty_view, with_part};
 ghost use Rattle.gabc_text.specs.TextView.{content_of};
 
-use crate::stage::TextPart;
 use crate::styles::Styles;
+use crate::text_event::TextPart;
 use gabc_places::{Growing, Place, Span};
 use std::alloc::{AllocError, Global};
 

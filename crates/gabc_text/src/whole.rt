@@ -9,7 +9,8 @@ ghost use Rattle.gabc_text.specs.BuiltText.{with_event, with_events, empty_text}
 ghost use Rattle.gabc_text.specs.TextRead.{IsTextRead};
 ghost use Rattle.gabc_text.specs.machine.TextStage.{push_stage, events_of_push, events_of_finish};
 
-use crate::stage::{TextEnd, TextEvent, TextStage};
+use crate::stage::TextStage;
+use crate::text_event::{TextEnd, TextEvent};
 use crate::view::{TextEnding, TextView};
 use gabc_places::{Findings, Place, Room};
 use memchr::memchr;

@@ -139,19 +139,41 @@ fn push_all(stage: &mut HeaderStage, text: &str, out: &mut Room<HeadEvent>)
     }
 }
 
+/// Adds to a text what the stage lends: the text of the headers, how many headers are in its book, the mode and the macros.
+fn show_lent(rt: &HostRuntime, stage: &HeaderStage, shown: &mut String) -> Result<(), Fail> {
+    let (text, book) = (stage.text(), stage.book());
+    let (count, macros) = (book.len(), book.macros());
+    let mode = book.get("mode").unwrap_or("none");
+    let line = format!(in rt.alloc(); "{text}|{count} {mode} {macros}|")?;
+    shown.push_str(line.as_str())?;
+    Ok(())
+}
+
+/// What a stage lends before the second `%` of its line, and behind it.
+fn lent_around_the_line(
+    rt: &HostRuntime,
+    stage: &mut HeaderStage,
+    out: &mut Room<HeadEvent>,
+) -> Result<String, Fail>
+    requires { 2 ≤ out.old.limit }
+{
+    let mut shown = String::new(rt.alloc());
+    push_all(stage, "mode:1;\nmode:2;\n%", out);
+    show_lent(rt, stage, &mut shown)?;
+    push_all(stage, "%\n(f)", out);
+    show_lent(rt, stage, &mut shown)?;
+    Ok(shown)
+}
+
 #[test]
 fn the_text_and_then_the_book_are_lent(rt: HostRuntime) -> Result<(), Fail> {
     let mut out = Room::with_limit(rt.alloc(), 2)?;
     let mut stage = HeaderStage::with_limits(rt.alloc(), Limits::DEFAULT)?;
-    assert_eq!(rt; stage.most(), 2);
-    push_all(&mut stage, "mode:1;\nmode:2;\n%", &mut out);
-    assert_eq!(rt; stage.text(), "mode:1;\nmode:2;\n%");
-    assert!(rt; stage.book().is_empty());
-    push_all(&mut stage, "%\n(f)", &mut out);
-    assert_eq!(rt; stage.text(), "");
-    assert_eq!(rt; stage.book().len(), 1);
-    assert_eq!(rt; stage.book().get("mode"), Some("2"));
-    assert_eq!(rt; stage.book().macros(), 0);
+    let most = stage.most();
+    let shown = lent_around_the_line(&rt, &mut stage, &mut out);
+    drop(stage);
+    assert_eq!(rt; most, 2);
+    assert_eq!(rt; shown?.as_str(), "mode:1;\nmode:2;\n%|0 none 0||1 2 0|");
     Ok(())
 }
 

@@ -6,7 +6,9 @@ use Rattle.gabc_places.specs.StageLaw.{Pushes}
 use Rattle.gabc_notes.specs.machine.CharClass.{class_of_character}
 use Rattle.gabc_notes.specs.machine.ItemMachine.{IsShortStep, next_state, raw_state, facts_by_states, stage_after, stage_kept, whole_at}
 use Rattle.gabc_notes.specs.ItemMachine.{events_left}
-use Rattle.gabc_notes.specs.TakenAtOnce.{TakesNext}
+use Rattle.gabc_notes.specs.TakenAtOnce.{TakesNext, StandsBeforeKept}
+use Rattle.gabc_places.specs.declared.code.Code.TheVariants.{E6, W10}
+use Rattle.gabc_notes.specs.Events.{finding_event, end_by_mark}
 use Rattle.gabc_notes.specs.StageEvents.{role_in, warning_in, events_in, event_list}
 use Rattle.gabc_notes.specs.declared.stage.Before.{Before}
 use Rattle.gabc_notes.specs.declared.stage.CharFacts.{CharFacts}
@@ -17,7 +19,7 @@ use Rattle.gabc_notes.specs.declared.stage.NoteEnd.TheVariants.{Next}
 use Rattle.gabc_notes.specs.declared.stage.NoteEvent.TheVariants.{Kept, Ended}
 use Rattle.gabc_notes.specs.declared.stage.NoteStage.{NoteStage}
 use Rattle.gabc_notes.specs.declared.stage.CharRole.{CharRole}
-use Rattle.gabc_notes.specs.declared.stage.CharRole.TheVariants.{Ends, Keep}
+use Rattle.gabc_notes.specs.declared.stage.CharRole.TheVariants.{Silent, Comment, Ends, Keep, LeaveOut}
 use Rattle.gabc_notes.specs.declared.state.ItemState.{ItemState}
 use Rattle.gabc_notes.specs.declared.state.ItemState.TheVariants.{Raw, SlashRaw}
 use Rattle.gabc_notes.proofs.machine.StageEmitsItsEvents.{push_law, push_emits}
@@ -73,6 +75,34 @@ kept_taken st next x o e r w xs f g h k kept m none n =
     ∙ (ap (λ (q : CharRole). event_list (events_in q st.macros st.before e x) ∷ events_left (stage_after st r e o x) xs) kept
     ∙ (ap (λ (v : Option NoteEvent). (Kept x ∷ (option_to_list v ++ [])) ∷ events_left (stage_after st r e o x) xs) (sym m ∙ none)
     ∙ ap (λ (s : NoteStage). (Kept x ∷ []) ∷ events_left s xs) (sym n)))
+
+-- ---- a character at which something else is emitted
+
+ends_otherwise : (whole fused : Bool) (x : Char) (kept : ℕ)
+    → option_to_list (cond whole None (Some (finding_event x.place E6))) ++ (option_to_list (cond fused (Some (finding_event x.place W10)) None) ++ (Ended (end_by_mark x.c) kept ∷ [])) ≡ Kept x ∷ [] → ⊥
+ends_otherwise false fused x kept e = cc
+ends_otherwise true false x kept e = cc
+ends_otherwise true true x kept e = cc
+
+-- it is not kept, or a warning comes with it
+emits_otherwise : (r : CharRole) (macros : ℕ) (b : Before) (e : CharFacts) (x : Char) (w : Option NoteEvent) → w ≡ warning_in macros b e x → (r ≡ Keep → w ≡ None → ⊥)
+    → event_list (events_in r macros b e x) ≡ Kept x ∷ [] → ⊥
+emits_otherwise Keep macros b e x None m h k = h refl refl
+emits_otherwise Keep macros b e x (Some v) m h k =
+    let two : Kept x ∷ v ∷ [] ≡ Kept x ∷ [] = ap (λ (o : Option NoteEvent). Kept x ∷ (option_to_list o ++ [])) m ∙ k in cc
+emits_otherwise LeaveOut macros b e x w m h k = cc
+emits_otherwise Ends macros b e x w m h k = ends_otherwise e.whole b.fused x b.whole k
+emits_otherwise Silent macros b e x w m h k = cc
+emits_otherwise Comment macros b e x w m h k = cc
+
+-- so the stage does not stand before a character that is kept with nothing else to emit
+pub none_kept_alone : (st : NoteStage) (x : Char) (o : Option ItemState) (e : CharFacts) (r : CharRole) (w : Option NoteEvent) → st.ended ≡ false
+    → o ≡ next_state st.state (class_of_character x.c) → e ≡ facts_by_states st.state o st.name → r ≡ role_in st.split st.before.comment e x.c
+    → w ≡ warning_in st.macros st.before e x → (r ≡ Keep → w ≡ None → ⊥) → StandsBeforeKept st x → ⊥
+none_kept_alone st x o e r w f g h k m other s =
+    let both : event_list (events_in r st.macros st.before e x) ∷ events_left (stage_after st r e o x) [] ≡ (Kept x ∷ []) ∷ s.later =
+    sym (push_law st x [] o e r f g h k) ∙ s.alone in
+    emits_otherwise r st.macros st.before e x w m other (cc both)
 
 -- ---- the end at a `)`
 

@@ -3,8 +3,8 @@ use Rattle.std.proofs.Common.{◌≡◌, ℕ, List, [], ◌∷◌, ◌++◌, map
 use lib.Utf8.{encode, encodes}
 use Rattle.gabc_places.specs.declared.place.Place.{Place}
 use Rattle.gabc_text.specs.TextView.{ViewContent}
-use Rattle.gabc_text.specs.declared.stage.TextEvent.{TextEvent}
-use Rattle.gabc_text.specs.declared.stage.TextEvent.TheVariants as text
+use Rattle.gabc_text.specs.declared.text_event.TextEvent.{TextEvent}
+use Rattle.gabc_text.specs.declared.text_event.TextEvent.TheVariants as text
 use Rattle.gabc_text.specs.BuiltText.{BuiltText as Gathered, with_events, with_event, with_part}
 use Rattle.gabc_text.specs.Ends.{ends_in}
 use Rattle.gabc_notes.specs.declared.stage.NoteEvent.{NoteEvent}

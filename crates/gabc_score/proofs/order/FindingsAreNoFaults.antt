@@ -20,8 +20,8 @@ use Rattle.gabc_headers.specs.Book.{nabc_lines_of, is_kept, repeats, has_header,
 use Rattle.gabc_headers.specs.Lines.{lines, has_score}
 use Rattle.gabc_headers.specs.Parts.{HeaderPart as HeadPart, left_out, header, unended}
 use Rattle.gabc_headers.specs.Heads.{findings_behind as heads_found, findings_at, names_after, name_findings, head_findings, head_stops, heads_by, heads_of, findings_of as found_in_heads, head_parts}
-use Rattle.gabc_text.specs.declared.stage.TextEvent.{TextEvent}
-use Rattle.gabc_text.specs.declared.stage.TextEvent.TheVariants as text
+use Rattle.gabc_text.specs.declared.text_event.TextEvent.{TextEvent}
+use Rattle.gabc_text.specs.declared.text_event.TextEvent.TheVariants as text
 use Rattle.gabc_text.specs.Events.{codes_of, events_by_point}
 use Rattle.gabc_text.specs.BuiltText.{found_in}
 use Rattle.gabc_text.specs.View.{findings}

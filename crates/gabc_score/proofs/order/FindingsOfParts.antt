@@ -8,8 +8,8 @@ use Rattle.gabc_places.specs.Findings.{AreInOrder, LieBetween}
 use Rattle.gabc_places.specs.StageLaw.{concat_of}
 use Rattle.gabc_places.specs.Place.{next_place, place_past, placed_characters_from}
 use Rattle.gabc_places.proofs.PlacesOfAText.{length_placed}
-use Rattle.gabc_text.specs.declared.stage.TextEvent.{TextEvent}
-use Rattle.gabc_text.specs.declared.stage.TextEvent.TheVariants as text
+use Rattle.gabc_text.specs.declared.text_event.TextEvent.{TextEvent}
+use Rattle.gabc_text.specs.declared.text_event.TextEvent.TheVariants as text
 use Rattle.gabc_text.specs.Events.{codes_of, events_by_point}
 use Rattle.gabc_text.specs.BuiltText.{found_in}
 use Rattle.gabc_notes.specs.declared.stage.NoteEvent.{NoteEvent}

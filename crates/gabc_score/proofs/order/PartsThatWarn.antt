@@ -11,7 +11,7 @@ use Rattle.gabc_places.specs.StageLaw.{concat_of}
 use Rattle.gabc_headers.specs.declared.heads.Heads.{Heads}
 use Rattle.gabc_headers.specs.Book.{nabc_lines_of}
 use Rattle.gabc_headers.specs.Heads.{heads_of}
-use Rattle.gabc_text.specs.declared.stage.TextEvent.{TextEvent}
+use Rattle.gabc_text.specs.declared.text_event.TextEvent.{TextEvent}
 use Rattle.gabc_text.specs.BuiltText.{found_in}
 use Rattle.gabc_text.specs.Events.{codes_of, events_by_point}
 use Rattle.gabc_text.specs.View.{findings}

@@ -6,9 +6,9 @@ use Rattle.gabc_places.specs.declared.place.Place.{Place}
 use Rattle.gabc_places.specs.declared.place.Char.{Char}
 use Rattle.gabc_places.specs.Place.{next_place, placed_characters_from}
 use Rattle.gabc_places.proofs.PlacesOfAText.{length_placed}
-use Rattle.gabc_text.specs.declared.stage.TextEnd.TheVariants as text_end
-use Rattle.gabc_text.specs.declared.stage.TextEvent.{TextEvent}
-use Rattle.gabc_text.specs.declared.stage.TextEvent.TheVariants as text_out
+use Rattle.gabc_text.specs.declared.text_event.TextEnd.TheVariants as text_end
+use Rattle.gabc_text.specs.declared.text_event.TextEvent.{TextEvent}
+use Rattle.gabc_text.specs.declared.text_event.TextEvent.TheVariants as text_out
 use Rattle.gabc_text.specs.Events.{CountsFit, codes_of, events_by_point}
 use Rattle.gabc_text.specs.EventsLeft.{events_left}
 use Rattle.gabc_text.specs.TextStage.{fresh_stage}

@@ -17,9 +17,9 @@ use Rattle.gabc_notes.specs.declared.stage.NoteEvent.{NoteEvent}
 use Rattle.gabc_notes.specs.declared.stage.NoteEvent.TheVariants as note
 use Rattle.gabc_notes.specs.SnippetRead.{ends_of}
 use Rattle.gabc_text.specs.Ends.{ends_in}
-use Rattle.gabc_text.specs.declared.stage.TextEnd.TheVariants as text_end
-use Rattle.gabc_text.specs.declared.stage.TextEvent.{TextEvent}
-use Rattle.gabc_text.specs.declared.stage.TextEvent.TheVariants as text_out
+use Rattle.gabc_text.specs.declared.text_event.TextEnd.TheVariants as text_end
+use Rattle.gabc_text.specs.declared.text_event.TextEvent.{TextEvent}
+use Rattle.gabc_text.specs.declared.text_event.TextEvent.TheVariants as text_out
 use Rattle.gabc_score.specs.declared.events.BodyEvent.{BodyEvent}
 use Rattle.gabc_score.specs.declared.events.BodyEvent.TheVariants.{Text, Notes}
 use Rattle.gabc_score.specs.Syllable.{UnplacedSyllable, since_close, all_syllables, is_eu, is_nlba, is_open}

@@ -9,7 +9,7 @@ use Rattle.gabc_places.specs.declared.place.Char.{Char}
 use Rattle.gabc_places.specs.Place.{next_place, is_line_feed, place_after, place_past, placed_characters_from}
 use Rattle.gabc_places.proofs.PlacesOfAText.{behind_after}
 use Rattle.gabc_headers.specs.Heads.{head_len}
-use Rattle.gabc_text.specs.declared.stage.TextEvent.{TextEvent}
+use Rattle.gabc_text.specs.declared.text_event.TextEvent.{TextEvent}
 use Rattle.gabc_text.specs.Events.{CountsFit, codes_of, events_by_point}
 use Rattle.gabc_text.specs.View.{bytes_of}
 use Rattle.gabc_text.specs.EventsLeft.{events_left}

@@ -3,8 +3,8 @@ use Rattle.std.specs.Prelude.{ℕ, ◌+◌, ◌≤◌, List, [], ◌∷◌, Bool
 use Rattle.std.specs.Prelude.{string_bytes}
 use Rattle.std.specs.String.{string_capacity}
 use Rattle.gabc_text.specs.TextView.{content_of}
-use Rattle.gabc_text.specs.declared.stage.TextEvent.{TextEvent}
-use Rattle.gabc_text.specs.declared.stage.TextEvent.TheVariants as text
+use Rattle.gabc_text.specs.declared.text_event.TextEvent.{TextEvent}
+use Rattle.gabc_text.specs.declared.text_event.TextEvent.TheVariants as text
 use Rattle.gabc_notes.specs.declared.stage.NoteEvent.{NoteEvent}
 use Rattle.gabc_notes.specs.declared.stage.NoteEvent.TheVariants as note
 use Rattle.gabc_score.specs.declared.events.BodyEvent.{BodyEvent}

@@ -16,11 +16,11 @@ use Rattle.gabc_text.specs.declared.view.PieceKind.{PieceKind}
 use Rattle.gabc_text.specs.declared.view.PieceKind.TheVariants as piece
 use Rattle.gabc_text.specs.declared.view.Piece.{Piece}
 use Rattle.gabc_text.specs.TextView.{ViewContent}
-use Rattle.gabc_text.specs.declared.stage.TextPart.{TextPart}
-use Rattle.gabc_text.specs.declared.stage.TextPart.TheVariants as part
-use Rattle.gabc_text.specs.declared.stage.TextEnd.TheVariants as ending
-use Rattle.gabc_text.specs.declared.stage.TextEvent.{TextEvent}
-use Rattle.gabc_text.specs.declared.stage.TextEvent.TheVariants as out
+use Rattle.gabc_text.specs.declared.text_event.TextPart.{TextPart}
+use Rattle.gabc_text.specs.declared.text_event.TextPart.TheVariants as part
+use Rattle.gabc_text.specs.declared.text_event.TextEnd.TheVariants as ending
+use Rattle.gabc_text.specs.declared.text_event.TextEvent.{TextEvent}
+use Rattle.gabc_text.specs.declared.text_event.TextEvent.TheVariants as out
 use Rattle.gabc_text.specs.Token.{Token, tokens}
 use Rattle.gabc_text.specs.View.{along, effect, kind_of, piece_kind, is_space, has_word, starts_word, follows_blank, has_translation, place_of, found_at, findings_at, findings_at_end, findings, kept, kept_at, early_codes, late_codes, is_blank_piece, count_pieces, begin_of, end_of, centre_by, piece_of, PieceFacts}
 use Rattle.gabc_text.specs.Events.{events_of, events_at, end_events, token_events, finding_events, chars_at, parts_at, kept_of, piece_at, all_pieces_at, all_pieces_by, waiting_blank, waiting_by, option_list_of, is_whole_translation, translation_at, centre_of, count_by, end_after, after_tokens}

@@ -5,12 +5,12 @@ use Rattle.gabc_places.specs.declared.place.Place.{Place}
 use Rattle.gabc_places.specs.declared.place.Char.{Char}
 use Rattle.gabc_places.specs.declared.place.Span.{Span}
 use Rattle.gabc_places.specs.declared.code.Code.{Code}
-use Rattle.gabc_text.specs.declared.stage.TextEnd.{TextEnd}
-use Rattle.gabc_text.specs.declared.stage.TextEnd.TheVariants as ending
-use Rattle.gabc_text.specs.declared.stage.TextPart.{TextPart}
-use Rattle.gabc_text.specs.declared.stage.TextPart.TheVariants as part
-use Rattle.gabc_text.specs.declared.stage.TextEvent.{TextEvent}
-use Rattle.gabc_text.specs.declared.stage.TextEvent.TheVariants as out
+use Rattle.gabc_text.specs.declared.text_event.TextEnd.{TextEnd}
+use Rattle.gabc_text.specs.declared.text_event.TextEnd.TheVariants as ending
+use Rattle.gabc_text.specs.declared.text_event.TextPart.{TextPart}
+use Rattle.gabc_text.specs.declared.text_event.TextPart.TheVariants as part
+use Rattle.gabc_text.specs.declared.text_event.TextEvent.{TextEvent}
+use Rattle.gabc_text.specs.declared.text_event.TextEvent.TheVariants as out
 use Rattle.gabc_text.specs.Token.{Token, spelling, tokens}
 use Rattle.gabc_text.specs.View.{along, effect, place_of, found_at, findings_at_end, early_codes, late_codes, is_open_kind}
 use Rattle.gabc_text.specs.Events.{lists_at, owed_events, events_at, end_events, token_events, finding_events, early_events, chars_at, parts_at, option_list_of, centre_of, end_after, end_by_rest, no_events_each}

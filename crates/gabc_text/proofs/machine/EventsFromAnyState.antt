@@ -13,8 +13,8 @@ use Rattle.gabc_text.specs.declared.token_state.Step.{Step}
 use Rattle.gabc_text.specs.declared.token_state.Step.TheVariants.{Stays, Ends}
 use Rattle.gabc_text.specs.declared.progress.Progress.{Progress}
 use Rattle.gabc_text.specs.declared.stage.TextStage.{TextStage}
-use Rattle.gabc_text.specs.declared.stage.TextEnd.TheVariants as ending
-use Rattle.gabc_text.specs.declared.stage.TextEvent.{TextEvent}
+use Rattle.gabc_text.specs.declared.text_event.TextEnd.TheVariants as ending
+use Rattle.gabc_text.specs.declared.text_event.TextEvent.{TextEvent}
 use Rattle.gabc_text.specs.Token.{Token, spelling, tokens, is_special}
 use Rattle.gabc_text.specs.View.{effect, is_open_kind, is_translation}
 use Rattle.gabc_text.specs.Events.{option_list_of, is_lone, with_first, with_last, no_events_each}

@@ -8,7 +8,7 @@ use Rattle.gabc_text.specs.declared.token_state.TokenState.TheVariants.{Plain, D
 use Rattle.gabc_text.specs.declared.text_facts.TextFacts.{TextFacts}
 use Rattle.gabc_text.specs.declared.progress.Progress.{Progress}
 use Rattle.gabc_text.specs.declared.stage.TextStage.{TextStage}
-use Rattle.gabc_text.specs.declared.stage.TextEvent.{TextEvent}
+use Rattle.gabc_text.specs.declared.text_event.TextEvent.{TextEvent}
 use Rattle.gabc_text.specs.Token.{tokens}
 use Rattle.gabc_text.specs.View.{along}
 use Rattle.gabc_text.specs.Events.{codes_of, after_tokens, no_events_each}

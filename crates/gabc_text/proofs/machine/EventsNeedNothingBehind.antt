@@ -1,7 +1,7 @@
 -- What the machine gives does not depend on what follows.
 use Rattle.std.proofs.Common.{◌≡◌, ℕ, suc, ◌+◌, ◌≤◌, List, [], ◌∷◌, ◌++◌, Bool, true, false, cond, refl, ap, ◌∙◌, length, length-append, take, arith}
 use Rattle.gabc_text.specs.declared.stage.TextStage.{TextStage}
-use Rattle.gabc_text.specs.declared.stage.TextEvent.{TextEvent}
+use Rattle.gabc_text.specs.declared.text_event.TextEvent.{TextEvent}
 use Rattle.gabc_text.specs.machine.TextStage.{push_stage, events_of_push}
 use Rattle.gabc_text.proofs.machine.EventsStepByStep.{stepwise, stepwise_left}
 use Rattle.gabc_text.specs.Events.{no_events_each}

@@ -11,8 +11,8 @@ use Rattle.gabc_text.specs.declared.token_state.TokenState.TheVariants.{Plain, D
 use Rattle.gabc_text.specs.declared.token_state.Step.{Step}
 use Rattle.gabc_text.specs.declared.token_state.Step.TheVariants.{Stays, Ends}
 use Rattle.gabc_text.specs.declared.text_facts.TextFacts.{TextFacts}
-use Rattle.gabc_text.specs.declared.stage.TextEvent.{TextEvent}
-use Rattle.gabc_text.specs.declared.stage.TextEvent.TheVariants as out
+use Rattle.gabc_text.specs.declared.text_event.TextEvent.{TextEvent}
+use Rattle.gabc_text.specs.declared.text_event.TextEvent.TheVariants as out
 use Rattle.gabc_text.specs.Token.{Token, spelling, single, is_text, effect_of}
 use Rattle.gabc_text.specs.View.{is_space, is_translation}
 use Rattle.gabc_text.specs.Events.{option_list_of, no_events_each, with_first, but_last, is_lone}

@@ -1,7 +1,7 @@
 -- What the machine gives step by step, a character at a time.
 use Rattle.std.specs.Prelude.{ℕ, cond, List, [], ◌∷◌}
 use Rattle.gabc_text.specs.declared.stage.TextStage.{TextStage}
-use Rattle.gabc_text.specs.declared.stage.TextEvent.{TextEvent}
+use Rattle.gabc_text.specs.declared.text_event.TextEvent.{TextEvent}
 use Rattle.gabc_text.specs.machine.TextStage.{push_stage, events_of_push, events_of_finish}
 
 -- what the machine will still give for these characters and then the end: a list for each of them, and one for the end

@@ -9,7 +9,7 @@ use Rattle.gabc_text.specs.declared.token.TagEffect.{TagEffect}
 use Rattle.gabc_text.specs.declared.token_state.TokenState.{TokenState}
 use Rattle.gabc_text.specs.declared.token_state.TokenState.TheVariants as state
 use Rattle.gabc_text.specs.declared.token_state.Step.TheVariants.{Stays, Ends}
-use Rattle.gabc_text.specs.declared.stage.TextPart.TheVariants as part
+use Rattle.gabc_text.specs.declared.text_event.TextPart.TheVariants as part
 use Rattle.gabc_text.specs.declared.stage.TextStage.{TextStage}
 use Rattle.gabc_text.specs.Events.{is_whole_translation}
 use Rattle.gabc_text.specs.EventsLeft.{parts_by, codes_by}

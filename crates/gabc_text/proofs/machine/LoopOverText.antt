@@ -5,9 +5,9 @@ use Rattle.std.proofs.lemmas.Str.{length-encode, encodes-chars, length-le-encode
 use lib.Utf8.{encode, encodes}
 use Rattle.gabc_places.specs.StageLaw.{concat_of}
 use Rattle.gabc_places.specs.declared.place.Place.{Place}
-use Rattle.gabc_text.specs.declared.stage.TextEvent.{TextEvent}
+use Rattle.gabc_text.specs.declared.text_event.TextEvent.{TextEvent}
 use Rattle.gabc_text.specs.declared.stage.TextStage.{TextStage}
-use Rattle.gabc_text.specs.declared.stage.TextEnd.TheVariants as ending
+use Rattle.gabc_text.specs.declared.text_event.TextEnd.TheVariants as ending
 use Rattle.gabc_text.specs.declared.view.TextEnding.TheVariants as ways
 use Rattle.gabc_text.specs.Token.{Token, tokens}
 use Rattle.gabc_text.specs.View.{place_of, bytes_of, kept, findings, ending_in, ending_after, ending_by, length_of, is_open_kind}

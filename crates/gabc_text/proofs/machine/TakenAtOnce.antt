@@ -3,9 +3,9 @@ use Rattle.std.proofs.Common.{◌≡◌, ◌&&◌, not, ℕ, List, [], ◌∷◌
 use Rattle.std.specs.List.{list_any}
 use Rattle.gabc_places.specs.declared.code.Code.TheVariants.{W3, W4}
 use Rattle.gabc_text.specs.declared.token_state.TokenState.TheVariants.{Plain}
-use Rattle.gabc_text.specs.declared.stage.TextEnd.TheVariants as ending
-use Rattle.gabc_text.specs.declared.stage.TextEvent.{TextEvent}
-use Rattle.gabc_text.specs.declared.stage.TextEvent.TheVariants as out
+use Rattle.gabc_text.specs.declared.text_event.TextEnd.TheVariants as ending
+use Rattle.gabc_text.specs.declared.text_event.TextEvent.{TextEvent}
+use Rattle.gabc_text.specs.declared.text_event.TextEvent.TheVariants as out
 use Rattle.gabc_text.specs.declared.stage.TextStage.{TextStage}
 use Rattle.gabc_text.specs.Events.{count_by}
 use Rattle.gabc_text.specs.EventsLeft.{codes_last}

@@ -6,7 +6,7 @@ use Rattle.gabc_text.specs.declared.token.TagEffect.TheVariants.{Other}
 use Rattle.gabc_text.specs.declared.token_state.TokenState.{TokenState}
 use Rattle.gabc_text.specs.declared.token_state.TokenState.TheVariants.{Plain, Dollar, Comment, Tag, Raw, Translation}
 use Rattle.gabc_text.specs.declared.stage.TextStage.{TextStage}
-use Rattle.gabc_text.specs.declared.stage.TextEvent.{TextEvent}
+use Rattle.gabc_text.specs.declared.text_event.TextEvent.{TextEvent}
 use Rattle.gabc_text.specs.Token.{Token, spelling, tokens}
 use Rattle.gabc_text.specs.View.{effect, effect_as, text_of}
 use Rattle.gabc_text.specs.Events.{with_last, no_events_each, after_tokens}

@@ -7,10 +7,10 @@ use Rattle.gabc_places.specs.declared.place.Place.{Place}
 use Rattle.gabc_places.specs.declared.place.Span.{Span}
 use Rattle.gabc_places.specs.declared.code.Code.{Code}
 use Rattle.gabc_places.specs.declared.code.Finding.{Finding}
-use Rattle.gabc_text.specs.declared.stage.TextPart.{TextPart}
-use Rattle.gabc_text.specs.declared.stage.TextPart.TheVariants as part
-use Rattle.gabc_text.specs.declared.stage.TextEvent.{TextEvent}
-use Rattle.gabc_text.specs.declared.stage.TextEvent.TheVariants as out
+use Rattle.gabc_text.specs.declared.text_event.TextPart.{TextPart}
+use Rattle.gabc_text.specs.declared.text_event.TextPart.TheVariants as part
+use Rattle.gabc_text.specs.declared.text_event.TextEvent.{TextEvent}
+use Rattle.gabc_text.specs.declared.text_event.TextEvent.TheVariants as out
 use Rattle.gabc_text.specs.Token.{Token, spelling, tokens}
 use Rattle.gabc_text.specs.View.{along, effect, is_left_out, is_space, follows_space, place_of, text_of, found_at, findings_at_end, early_codes, late_codes, is_cut, codes_at_end}
 use Rattle.gabc_text.specs.Events.{events_by_point, after_tokens, end_events, lists_at, lists_end, with_first, with_last, no_events_each, kept_each, kept_lists_by, owed_events, last_char_events, early_events, token_events, finding_events, is_lone, parts_at, option_list_of, centre_of, end_after}

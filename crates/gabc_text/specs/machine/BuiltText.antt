@@ -2,8 +2,8 @@
 use Rattle.std.specs.Prelude.{ℕ, string_bytes}
 use Rattle.gabc_text.specs.declared.view.TextEnding.{TextEnding}
 use Rattle.gabc_text.specs.declared.view.TextEnding.TheVariants as text_ending
-use Rattle.gabc_text.specs.declared.stage.TextEnd.{TextEnd}
-use Rattle.gabc_text.specs.declared.stage.TextEnd.TheVariants as ending
+use Rattle.gabc_text.specs.declared.text_event.TextEnd.{TextEnd}
+use Rattle.gabc_text.specs.declared.text_event.TextEnd.TheVariants as ending
 use Rattle.gabc_text.specs.declared.whole.TextBuilder.{TextBuilder}
 use Rattle.gabc_text.specs.BuiltText.{BuiltText}
 use Rattle.gabc_text.specs.TextView.{content_of}

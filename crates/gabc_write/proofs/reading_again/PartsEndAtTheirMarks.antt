@@ -4,10 +4,10 @@ use Rattle.std.specs.List.{list_any}
 use Rattle.gabc_places.specs.StageLaw.{concat_of}
 use Rattle.gabc_places.specs.declared.place.Place.{Place}
 use Rattle.gabc_places.specs.declared.place.Char.{Char}
-use Rattle.gabc_text.specs.declared.stage.TextEnd.{TextEnd}
-use Rattle.gabc_text.specs.declared.stage.TextEnd.TheVariants as text_end
-use Rattle.gabc_text.specs.declared.stage.TextEvent.{TextEvent}
-use Rattle.gabc_text.specs.declared.stage.TextEvent.TheVariants as text_out
+use Rattle.gabc_text.specs.declared.text_event.TextEnd.{TextEnd}
+use Rattle.gabc_text.specs.declared.text_event.TextEnd.TheVariants as text_end
+use Rattle.gabc_text.specs.declared.text_event.TextEvent.{TextEvent}
+use Rattle.gabc_text.specs.declared.text_event.TextEvent.TheVariants as text_out
 use Rattle.gabc_text.specs.Ends.{EndsOnce, Leaves, ends_in}
 use Rattle.gabc_text.specs.Events.{after_tokens, events_by_point, no_events_each}
 use Rattle.gabc_notes.specs.declared.stage.NoteEnd.{NoteEnd}

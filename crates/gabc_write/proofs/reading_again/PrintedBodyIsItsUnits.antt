@@ -4,7 +4,7 @@ use Rattle.gabc_places.specs.StageLaw.{concat_of}
 use Rattle.gabc_places.specs.declared.place.Place.{Place}
 use Rattle.gabc_places.specs.declared.place.Char.{Char}
 use Rattle.gabc_places.specs.Place.{place_past, placed_characters_from}
-use Rattle.gabc_text.specs.declared.stage.TextEvent.{TextEvent}
+use Rattle.gabc_text.specs.declared.text_event.TextEvent.{TextEvent}
 use Rattle.gabc_text.specs.Ends.{EndsOnce, ends_in}
 use Rattle.gabc_text.specs.Events.{codes_of, after_tokens, events_by_point}
 use Rattle.gabc_text.specs.Printed.{print, text_tokens, translation_tokens, text_of_tokens, word_break}

@@ -1,6 +1,6 @@
 use Rattle.std.proofs.Common.{◌∙◌, sym, ap, length, List}
 use Rattle.gabc_text.specs.TextStage.{fresh_stage}
-use Rattle.gabc_text.specs.declared.stage.TextEvent.{TextEvent}
+use Rattle.gabc_text.specs.declared.text_event.TextEvent.{TextEvent}
 use Rattle.gabc_text.proofs.machine.FreshStageEmitsEventsByPoint.{fresh_stepwise}
 use Rattle.gabc_text.proofs.events.EventsByPointAreEvents.{points_joined}
 use Rattle.gabc_text.proofs.machine.EventsNeedNothingBehind.{each_emits}

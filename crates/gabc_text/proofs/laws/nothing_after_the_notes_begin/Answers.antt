@@ -1,5 +1,5 @@
 use Rattle.std.proofs.Common.{◌∙◌, ◌+◌, ◌++◌, ◌∷◌, [], ap, sym, length, take, List}
-use Rattle.gabc_text.specs.declared.stage.TextEvent.{TextEvent}
+use Rattle.gabc_text.specs.declared.text_event.TextEvent.{TextEvent}
 use Rattle.gabc_text.specs.Events.{no_events_each}
 use Rattle.gabc_text.proofs.machine.EventsNeedNothingBehind.{left_through, emitted_through}
 use Rattle.gabc_text.proofs.machine.EventsLeftAreThoseAhead.{rest_is, left_is}

@@ -1,6 +1,6 @@
 use Rattle.std.proofs.Common.{sym, ap, subst, ◌∙◌, refl}
-use Rattle.gabc_text.specs.declared.stage.TextPart.TheVariants as text_part
-use Rattle.gabc_text.specs.declared.stage.TextEvent.TheVariants as text
+use Rattle.gabc_text.specs.declared.text_event.TextPart.TheVariants as text_part
+use Rattle.gabc_text.specs.declared.text_event.TextEvent.TheVariants as text
 use Rattle.gabc_notes.specs.ItemMachine as notes
 use Rattle.gabc_nabc.specs.DescriptorMachine as nabc
 use Rattle.gabc_score.specs.declared.body_stage.BodyPart.{BodyPart}

@@ -1,6 +1,6 @@
 use Rattle.std.proofs.Common.{sym, ap, ◌∙◌}
 use Rattle.gabc_places.specs.declared.code.Code.{Code}
-use Rattle.gabc_text.specs.declared.stage.TextPart.{TextPart}
+use Rattle.gabc_text.specs.declared.text_event.TextPart.{TextPart}
 use Rattle.gabc_text.specs.Events.{option_list_of}
 use Rattle.gabc_text.proofs.machine.KeptCharactersAreTaken.{silent_token}
 use Rattle.gabc_text.proofs.stage.TextStage.is_silent.Goals as goal
