@@ -94,7 +94,7 @@ pub fn canonical_lines_are_within_the_limits()
         × (bytes_len (canonical_heads heads.book) + 1 ≤ limits.input) }
 {}
 
-/// Told character by character, the headers of a text are what they are when they are read whole, followed by the characters
+/// Emitted character by character, the headers of a text are what they are when they are read whole, followed by the characters
 /// of its body and its end: no finding, stop or character comes twice, and none is left out.
 pub fn events_make_the_headers()
     ensures { (limits : Limits) (t : List ℕ) → All IsScalar t →

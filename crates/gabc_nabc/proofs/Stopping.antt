@@ -1,4 +1,4 @@
--- Behind an end that a stage tells, it tells nothing.
+-- Behind an end that a stage emits, it emits nothing.
 use Rattle.std.proofs.Common.{◌≡◌, List, [], ◌∷◌, ◌++◌, Bool, true, false, cond, refl, ap, ◌∙◌, ℕ, Some, None, option_to_list}
 use Rattle.std.specs.List.{list_any}
 use Rattle.gabc_places.specs.declared.code.Code.TheVariants.{E6, W7}

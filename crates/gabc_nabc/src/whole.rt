@@ -121,7 +121,7 @@ impl NabcBuilder {
     }
 }
 
-/// Returns how a snippet ends at the byte `index`, by what the stage told.
+/// Returns how a snippet ends at the byte `index`, by what the stage emitted.
 fn ending_of(end: NoteEnd, index: usize) -> SnippetEnding
     ensures { result ≡ ending_of end index }
 {

@@ -1,4 +1,4 @@
--- Behind an end that a stage tells, it tells nothing.
+-- Behind an end that a stage emits, it emits nothing.
 use Rattle.std.proofs.Common.{◌≡◌, List, [], ◌∷◌, ◌++◌, Bool, true, false, cond, not, ◌&&◌, ◌||◌, ◌==◌, ℕ, refl, sym, ap, ◌∙◌, Option, Some, None, append_assoc, option_to_list}
 use Rattle.std.specs.List.{list_any}
 use Rattle.std.proofs.lemmas.List.Folds.{list_any-append}

@@ -70,7 +70,7 @@ abbrev pub ending_by : Option ℕ → List Char → SnippetEnding
 ending_by None back = Cut (if in_raw (kept back) then opener back else record { line = 0; column = 0 })
 ending_by (Some c) back = if c == 124 then Next (index_of back) else Close (index_of back)
 
--- the same, as a stage tells it
+-- the same, as a stage emits it
 abbrev pub end_by : Option ℕ → List Char → NoteEnd
 end_by None back = end.Cut (if in_raw (kept back) then opener back else record { line = 0; column = 0 })
 end_by (Some c) back = end_by_mark c

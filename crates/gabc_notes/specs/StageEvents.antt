@@ -1,5 +1,5 @@
--- What a stage tells, character by character, by the kept text and what stands before a character. It is no promise: that it
--- is what `Said` says is proved.
+-- What a stage emits, character by character, by the kept text and what stands before a character. It is no promise: that it
+-- is `note_events` is proved.
 use Rattle.std.specs.Prelude.{ℕ, ◌+◌, ◌-◌, ◌^◌, min, List, [], ◌∷◌, ◌++◌, Bool, true, false, not, ◌&&◌, ◌||◌, ◌==◌, codes, if◌then◌else◌, Option, Some, None, option_to_list}
 use Rattle.std.specs.Char.{len_utf8}
 use Rattle.gabc_places.specs.declared.code.Code.TheVariants.{E1, E6, W8, W10}

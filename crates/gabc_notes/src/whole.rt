@@ -105,7 +105,7 @@ impl SnippetBuilder {
     }
 }
 
-/// Returns how a snippet ends at the byte `index`, by what the machine told.
+/// Returns how a snippet ends at the byte `index`, by what the machine emitted.
 fn ending_of(end: NoteEnd, index: usize) -> SnippetEnding
     ensures { result ≡ ending_of end index }
 {
@@ -144,7 +144,7 @@ pub fn snippet_whole(
         index += c.len_utf8();
     }
     builder.close(&mut stage, &mut room)?;
-    // At the latest this call told an end, so the default is never taken.
+    // At the latest this call emitted an end, so the default is never taken.
     let (end, bytes) = builder.end.unwrap_or((NoteEnd::Close, 0));
     Ok(builder.into_read(ending_of(end, index), bytes))
 }

@@ -7,17 +7,18 @@
 //!
 //! This crate is the theory of that, for any table and any type of kinds. It runs nothing. It has
 //!
-//! - definitions, in `specs/`: `Pattern` (what a pattern spells), `Reading` (tables, the longest item, readings, snippets),
+//! - definitions, in `specs/`: `Pattern` (what a pattern spells), `LongestItems` (tables, the longest item, readings, snippets),
 //!   `Kept` (what is kept), `Items` (items by the places where they begin and end). The same as functions that compute:
-//!   `Derivative` (whether a text is a snippet, and viable), `Function` (items, the kept text). And `Fallback`, for the
-//!   next state of an automaton;
+//!   `Derivative` (whether a text is a snippet, and viable), `Function` (items, the kept text). And `machine/Fallback`, for
+//!   the next state of an automaton;
 //! - [`laws`], each the contract of a function that does nothing;
 //! - lemmas for the crates above, in `proofs/`. A crate describes its automaton by a record of its functions and an
-//!   example text of each state (`Automaton`); two tests of each state, closed by `refl`, show that it reads the table
-//!   (`Checked`). Then the state after a text tells whether the text is viable and whole (`Standing`), what follows at a
-//!   state is what follows after its example (`Rest`), and a loop over characters keeps a text (`Keeping`), finds the
-//!   longest item at a place (`ItemSoFar`, `ItemHere`) and lists the items (`ItemList`). For lists that are read by
-//!   letters of their elements, as notes are, there are `Letters` and `Exists`;
+//!   example text of each state (`AutomatonsByTests`); two tests of each state, closed by `refl`, show that it reads the
+//!   table (`TestedAutomatonReads`). Then the state after a text tells whether the text is viable and whole
+//!   (`StatesAfterTexts`), and what follows at a state is what follows after its example (`StatesFollowExamples`). A loop over
+//!   characters keeps a text (`AutomatonKeeps`), finds the longest item at a place (`ItemSoFar`, `ItemHere`, by bytes
+//!   `FirstItemByBytes`) and lists the items (`ItemList`). For lists that are read by letters of their elements, as notes
+//!   are, there are `ItemsByLetters` and `ReadingExists`;
 //! - a small table by example, in `proofs/Examples`.
 #![tactic(auto)]
 

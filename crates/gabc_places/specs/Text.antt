@@ -16,7 +16,7 @@ use Rattle.gabc_places.specs.Place.{place_after}
 unfoldable pub utf8_prefix_of : List ℕ → List ℕ
 utf8_prefix_of bytes = chars (take (utf8_valid_len bytes) bytes)
 
--- by the length of the bytes that are wrong: none is told where more bytes could make a character
+-- by the length of the bytes that are wrong: there is none where more bytes could make a character
 abbrev pub tail_by : Option ℕ → Tail
 tail_by None = Part
 tail_by (Some n) = Wrong

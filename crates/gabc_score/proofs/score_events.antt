@@ -12,7 +12,7 @@ pub mod NothingBehindAStop
 pub mod NothingBehindTheEnd
 pub mod NothingIsGiven
 pub mod OutputsAreCollected
-pub mod OutputsAreTold
+pub mod OutputsOfLentSyllables
 pub mod ScoreOutputs
 pub mod TextsAreReadInFull
 pub mod WhatOutputsSay

@@ -73,7 +73,7 @@ abbrev pub stopped_events : Option Code → Place → List BodyEvent → EventsT
 stopped_events (Some code) place before later = record { before = before; fault = Some (fault_at place code); last = [] }
 stopped_events None place before later = later
 
--- The stop is the first point at which a limit is passed. What has its point there is not told.
+-- The stop is the first point at which a limit is passed. What has its point there is not emitted.
 abbrev pub events_to_stop : Limits → ℕ → List BodyEvent → List Char → List (List BodyEvent) → EventsToStop
 events_to_stop limits head before [] lists = record { before = before; fault = None; last = concat_of lists }
 events_to_stop limits head before (x ∷ xs) [] = record { before = before; fault = None; last = [] }

@@ -1,4 +1,4 @@
--- What the machine over a body will still tell. It is no promise: that it tells what a body tells is proved, where no count of
+-- What the machine over a body will still emit. It is no promise: that it emits what a body emits is proved, where no count of
 -- the body reaches its last value.
 use Rattle.std.specs.Prelude.{ℕ, List, [], map, Bool, if◌then◌else◌}
 use Rattle.gabc_places.specs.StageLaw.{silence}
@@ -31,7 +31,7 @@ pub record BodyStageState : Type 0 where
   pub over : Bool
   pub events : List BodyEvent
 
--- the part, with the lists that it will still tell of these characters and the end
+-- the part, with the lists that it will still emit of these characters and the end
 abbrev pub part_with : rust.BodyPart → List Char → PartAhead
 part_with part.Comment xs = InComment
 part_with (part.Text stage) xs = InText (text.events_left stage (codes_of xs))

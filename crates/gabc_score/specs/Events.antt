@@ -1,10 +1,10 @@
--- What each character of a body tells, and its end: one list for each.
+-- What each character of a body emits, and its end: one list for each.
 --
 -- The body begins with a comment, up to its first LF. Then comes a text, up to its `(`, then a snippet of notes, up to its end;
 -- at a `|` the next snippet, at a `)` the next text. Each part is read from where it begins by the definition of texts, of GABC or
--- of NABC snippets, and told from there to the character that ends it.
+-- of NABC snippets, and its events come from there to the character that ends it.
 --
--- In these definitions `texts` is how a text is read. What a body tells, `body_events`, takes the definition of texts for it.
+-- In these definitions `texts` is how a text is read. What a body emits, `body_events`, takes the definition of texts for it.
 use Rattle.std.specs.Prelude.{ℕ, ◌+◌, ◌-◌, ◌^◌, min, nat_lt, List, [], ◌∷◌, map, Bool, true, false, ◌==◌, if◌then◌else◌}
 use Rattle.std.specs.List.{list_any}
 use Rattle.gabc_places.specs.declared.place.Place.{Place}
@@ -22,7 +22,7 @@ use Rattle.gabc_nabc.specs.Events as nabc
 use Rattle.gabc_score.specs.declared.events.BodyEvent.{BodyEvent}
 use Rattle.gabc_score.specs.declared.events.BodyEvent.TheVariants.{Text, Notes}
 
--- The part of a body that a character stands in, with the lists that the part will still tell: for each character to come and the
+-- The part of a body that a character stands in, with the lists that the part will still emit: for each character to come and the
 -- end. The notes with their line and the place of their `(`.
 pub data PartAhead : Type 0 where
   InComment : PartAhead
@@ -60,7 +60,7 @@ abbrev pub other_lists : {X : Type 0} → List (List X) → List (List X)
 other_lists [] = []
 other_lists (xs ∷ lists) = lists
 
--- what the character tells that stands in this part, or the end
+-- what the character emits that stands in this part, or the end
 abbrev pub events_in : PartAhead → List BodyEvent
 events_in InComment = []
 events_in (InText lists) = map (λ (o : TextEvent). Text o) (first_list lists)

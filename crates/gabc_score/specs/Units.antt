@@ -169,6 +169,6 @@ module _ (texts : Texts) (lines macros : ℕ) where
   events_of_parts None = events_at_end InComment ∷ []
   events_of_parts (Some cut) = events_of_cutting texts lines macros (first_text texts (whole cut.pieces cut.last)) cut.pieces cut.last
 
-  -- what a body tells that is cut so: nothing of the comment, then what each part tells through its end, and what the last part tells
+  -- what a body emits that is cut so: nothing of the comment, then what each part emits through its end, and what the last part emits
   abbrev pub events_of_body_cutting : BodyCutting → List (List BodyEvent)
   events_of_body_cutting cut = map (λ (x : Char). []) cut.comment ++ events_of_parts (option_map (cutting_of lines) cut.units)

@@ -47,13 +47,13 @@ pub fn a_body_has_one_cutting()
         IsCut texts lines macros xs other → cut ≡ other }
 {}
 
-/// A body tells a list for each character, and one for its end.
+/// A body emits a list for each character, and one for its end.
 pub fn a_body_has_events_for_each_character()
     ensures { (lines macros : ℕ) (xs : List Char) →
         length (body_events lines macros xs) ≡ length xs + 1 }
 {}
 
-/// What a body tells is what the parts of its units tell, one after the other: each through the character that ends it.
+/// What a body emits is what the parts of its units emit, one after the other: each through the character that ends it.
 pub fn a_body_emits_the_events_of_its_units()
     ensures { (lines macros : ℕ) (xs : List Char) (cut : BodyCutting) →
         IsCut texts_by_definition lines macros xs cut →

@@ -2,7 +2,7 @@
 //!
 //! ```
 //! let text = Text::from_str(alloc, "%%\nKy(f)ri(gfg)e(x.)")?;
-//! let score = score_whole(alloc, &text, Ending::Whole, Limits::DEFAULT)?;
+//! let score = score_whole(alloc, &text, InputEnding::Whole, Limits::DEFAULT)?;
 //! for syllable in &score.syllables {
 //!     for snippet in &syllable.snippets {
 //!         let notes = syllable.slice(snippet.span); // "f", "gfg", ""

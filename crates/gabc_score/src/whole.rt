@@ -18,7 +18,7 @@ use gabc_places::{Fault, Limits, Place, Text};
 use std::alloc::{AllocError, Global};
 
 /// Reads the score of `text`, which ended so: its headers, its syllables and what was found, up to the first fault (GregorioRef,
-/// "Headers" and "Syllable Text Syntax"). `gabc_places::text_of` gives the text, and the fault of an `Ending::At`.
+/// "Headers" and "Syllable Text Syntax"). `gabc_places::text_of` gives the text, and the fault of an `InputEnding::At`.
 pub fn score_whole(
     alloc: Global,
     text: &Text,

@@ -16,9 +16,9 @@ use Rattle.gregorio.specs.declared.run_part.RunPart.TheVariants as part
 use Rattle.gregorio.specs.machine.RunWriter.{HasRoomFor, IsInRoom, last_room, line_room, lines_room, syllable_room, texts_room, with_last}
 use Rattle.gregorio.specs.machine.ScoreWriter.{ScoreWriterState, FitsEvents, IsSteady, WritesAt, WritesLast, event_room, told_by, with_all_told, writer_at}
 use Rattle.gregorio.proofs.BodyIsWritten.{IsBehindHeads, break_is_written, end_is_written, ends_where_told, event_is_written, outs_are, stays_behind_heads}
-use Rattle.gregorio.proofs.OutputsAreToldByEvents.{as_many_told, nothing_left}
+use Rattle.gregorio.proofs.OutputsOfEvents.{as_many_told, nothing_left}
 use Rattle.gregorio.proofs.RoomForAnEvent.{event_has_room, event_in_room, lines_within, room_behind, texts_are, texts_before_end}
-use Rattle.gregorio.proofs.WhatIsToldIsStillToBeWritten.{EndsAtLast}
+use Rattle.gregorio.proofs.WhatIsEmittedIsStillToBeWritten.{EndsAtLast}
 
 -- ---- an event
 

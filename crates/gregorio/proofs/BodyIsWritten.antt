@@ -14,12 +14,12 @@ use Rattle.gregorio.specs.declared.run_part.RunPart.TheVariants as part
 use Rattle.gregorio.specs.Engine.{Streams, Written, behind_bytes, last_text, streams_in, streams_given}
 use Rattle.gregorio.specs.machine.RunWriter.{with_last}
 use Rattle.gregorio.specs.machine.ScoreWriter.{ScoreWriterState, WritesAt, WritesLast, streams_of, told_by, with_told, with_all_told, writer_at}
-use Rattle.gregorio.proofs.OutputsAreToldByEvents.{ends_at_last, told_is}
-use Rattle.gregorio.proofs.WhatIsToldIsStillToBeWritten.{EndsAtLast, extended_both, lines_of_outputs, messages_all_told, out_all_told, streams_at, streams_behind, texts_of_outputs}
+use Rattle.gregorio.proofs.OutputsOfEvents.{ends_at_last, told_is}
+use Rattle.gregorio.proofs.WhatIsEmittedIsStillToBeWritten.{EndsAtLast, extended_both, lines_of_outputs, messages_all_told, out_all_told, streams_at, streams_behind, texts_of_outputs}
 
--- ---- what is told
+-- ---- the outputs
 
--- what a call told is the outputs that it gave
+-- what a call emitted is the outputs that it gave
 pub outs_are : (outputs : List ScoreOutput) (old new : BoundedList ScoreEvent) (s : ScoreStageState) → old.items ≡ [] → Tells outputs old new s.first s.second → told_by s new.items ≡ outputs
 outs_are outputs old new s empty emitted =
     ap (λ (r : BoundedList ScoreEvent). told_by s r.items) emitted.events

@@ -17,7 +17,7 @@ use Rattle.gregorio.specs.Outcome.{shown_line}
 use Rattle.gregorio.specs.Engine.{Streams, behind_bytes, has_heads, head_text_in, heads_text, outputs_from_heads, streams_given, streams_in}
 use Rattle.gregorio.specs.machine.RunWriter.{with_fault, with_found, with_heads}
 use Rattle.gregorio.specs.machine.ScoreWriter.{ScoreWriterState, WritesAt, WritesLast}
-use Rattle.gregorio.proofs.WhatIsToldIsStillToBeWritten.{extended_both, streams_at_stop, streams_behind_found}
+use Rattle.gregorio.proofs.WhatIsEmittedIsStillToBeWritten.{extended_both, streams_at_stop, streams_behind_found}
 
 nothing_added : (r : BoundedList ℕ) → r ≡ extended_by r []
 nothing_added r = ap (λ (l : List ℕ). record r { items = l }) (sym (append-nil r.items))

@@ -14,7 +14,7 @@ use Rattle.gabc_score.specs.ScoreStage.{Lends, most_lent}
 use Rattle.gregorio.specs.machine.RunWriter.{RunWriterState, IsInRoom, HasRoomFor, line_room, lines_room, texts_room, syllable_room, last_room}
 use Rattle.gregorio.specs.machine.ScoreWriter.{ScoreWriterState, FitsEvents, IsSteady, event_room, events_room, heads_left, with_told, with_all_told}
 use Rattle.gregorio.proofs.BodyIsWritten.{IsBehindHeads}
-use Rattle.gregorio.proofs.WhatIsToldIsStillToBeWritten.{EndsAtLast}
+use Rattle.gregorio.proofs.WhatIsEmittedIsStillToBeWritten.{EndsAtLast}
 
 abbrev is_over : RunPart → Bool
 is_over part.Heads = false

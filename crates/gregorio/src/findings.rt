@@ -1,4 +1,4 @@
-//! What is told of findings and the fault.
+//! What is written of findings and the fault.
 
 ghost use Rattle.std.specs.Prelude.{◌≡◌, ◌+◌, ◌≤◌, length};
 ghost use Rattle.std.specs.List.{flat_map, list_any};

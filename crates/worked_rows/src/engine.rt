@@ -37,7 +37,7 @@ const KYRIE: Trial = Trial {
     status: Status::Whole,
 };
 
-/// An error is told with its character, within notes that are never closed.
+/// An error is written with its character, within notes that are never closed.
 const OPEN_NOTES: Trial = Trial {
     format: Format::Gabc,
     input: b"%%\n(/.",

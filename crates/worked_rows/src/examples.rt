@@ -24,7 +24,7 @@ fn is_shown(alloc: Global, fault: Fault, wanted: &str) -> bool {
     }
 }
 
-/// Whether this is a text without the byte that is not UTF-8, which is told.
+/// Whether this is the text in front of a byte that is not UTF-8, with the fault.
 fn is_cut(alloc: Global, decoded: &Decoded) -> bool {
     match decoded.fault {
         Some(fault) => {

@@ -1,4 +1,4 @@
--- What a reader tells of a text, and the headers that follow from it.
+-- What a machine emits of a text, and the headers that follow from it.
 use Rattle.std.proofs.Common.{◌≡◌, ℕ, List, [], ◌++◌, true, false, refl, ap, ◌∙◌, subst, take, Option, Some, None, Err, append-nil, IsUtf8}
 use Rattle.std.proofs.lemmas.Str.{encodes_same}
 use lib.Utf8.{encodes, scalars}

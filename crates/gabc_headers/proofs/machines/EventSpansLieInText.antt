@@ -1,5 +1,5 @@
 -- The part reader over the headers' own text: its spans lie in what is read, its events are known where they are given,
--- and what it has not told yet becomes known later.
+-- and what it has not emitted yet becomes known later.
 use Rattle.std.proofs.Common.{◌≡◌, ℕ, ◌+◌, ◌≤◌, List, [], ◌∷◌, ◌++◌, drop, Bool, true, false, cond, Option, Some, None, refl, sym, ap, ◌∙◌, arith, append_assoc, slice_range, drop-drop, nat_lt, not, le_refl}
 use Rattle.gabc_places.specs.declared.place.Span.{Span}
 use Rattle.gabc_headers.specs.Parts.{HeaderPart, left_out, header, unended, is_good_name}
@@ -157,7 +157,7 @@ module _ (rd : PartMachine) (i : ℕ) (h : Near i rd) where
           of true = finish_at
           of false = tt
 
--- ---- what is not told yet becomes known later
+-- ---- what is not emitted yet becomes known later
 
 -- a part that is late for i + 1 is late for i
 late_weak : (i : ℕ) (p : HeaderPart) → IsLate (i + 1) p → IsLate i p
@@ -191,7 +191,7 @@ pub record Later (all : List HeaderPart) (i : ℕ) (done : List HeaderPart) : Ty
 pub drop_next : (text r : List ℕ) (i c : ℕ) → drop i text ≡ c ∷ r → drop (i + 1) text ≡ r
 drop_next text r i c e = sym (drop-drop 1 i text) ∙ ap (drop 1) e
 
--- the parts that are not told before i become known at i or later
+-- the parts that are not emitted before i become known at i or later
 pub later : (all : List HeaderPart) (text r : List ℕ) (i : ℕ) (rd : PartMachine) (done : List HeaderPart) → drop i text ≡ r → StandsIn all text rd.state r i rd done → Near i rd → Later all i done
 later all text [] i rd done d h n = record {
   rest = seen text (last_in rd.state rd i) ++ open_part (open_in rd.state rd.header);

@@ -1,4 +1,4 @@
--- The reader over a text: what it has told and what it stands before.
+-- The machine over a text: what it has emitted and what it stands before.
 use Rattle.std.proofs.Common.{◌≡◌, ℕ, ◌+◌, ◌≤◌, List, [], ◌∷◌, ◌++◌, length, take, drop, true, false, ◌&&◌, ◌==◌, Option, refl, sym, ap, ◌∙◌, subst, arith, length-append, slice_range, zero-le}
 use Rattle.std.proofs.Math.Seq.{take-append_seam, drop-append_seam}
 use Rattle.std.proofs.lemmas.Bool.Decides.{nat_tests}

@@ -168,7 +168,7 @@ module _ (all : List HeaderPart) (text : List ℕ) where
 
   -- ---- the end of the text
 
-  -- all parts are those told, what the end tells, and the open value
+  -- all parts are those emitted, what the end emits, and the open value
   pub the_end : (i : ℕ) (rd : PartMachine) (done : List HeaderPart) → StandsIn all text rd.state [] i rd done
       → all ≡ (done ++ seen text (last_in rd.state rd i)) ++ open_part (open_in rd.state rd.header)
   the_end i rd done h = by rd.state h

@@ -65,7 +65,7 @@ late_all : (s : List (List ℕ)) (p : ℕ) (rest : List HeaderPart) → AreLate 
 late_all s p [] h = refl
 late_all s p (q ∷ rest) h = known-append p (findings_at s q) (findings_behind (names_after s q) rest) ∙ rw (late_at s p q h.0, late_all (names_after s q) p rest h.1) refl
 
--- what is known before a point is what is found at the parts told before it
+-- what is known before a point is what is found at the parts emitted before it
 pub early_all : (s : List (List ℕ)) (p : ℕ) (events rest : List HeaderPart) → AreEarly p events → AreLate p rest → findings_before p (findings_behind s (events ++ rest)) ≡ all_known (findings_behind s events)
 early_all s p [] rest e l = late_all s p rest l
 early_all s p (q ∷ events) rest e l =

@@ -151,11 +151,11 @@ module _ (limits : Limits) (held : List ℕ) (c : ℕ) (heads : Heads) (now : he
 
 -- ---- one character, and what follows
 
--- what a text tells
+-- what a text emits
 abbrev events_of_text : Limits → List ℕ → List HeadEvent
 events_of_text limits t = events_of_heads t (heads_of limits t)
 
--- what is told from here on makes the whole
+-- what is emitted from here on makes the whole
 abbrev Makes : Limits → List ℕ → List HeaderEvent → List ℕ → Type 0
 Makes limits held es xs = map (λ f. Found f) (collected_of held es).findings ++ concat_of (events_left limits (reading held) (given_behind held xs)) ≡ events_of_text limits (held ++ xs)
 
@@ -201,7 +201,7 @@ module _ (limits : Limits) (held xs : List ℕ) (c : ℕ) (r new : HeaderMachine
       ∙ (ap (λ (x : Result Heads HeadFault). drop (length (collected_of held es).findings) (findings_of x)) e
       ∙ (ap (λ (x : List Finding). drop (length (collected_of held es).findings) x) f ∙ drop-append_seam (collected_of held es).findings more)))
 
-  -- what a character tells with which the headers go on
+  -- what a character emits with which the headers go on
   pub read_tells : (e : Option HeaderEvent) → push_one r c ≡ (new, Read e)
       → (events_at limits held c ≡ map (λ f. Found f) (found_at (encodes longer) e (collected_of held es))) × (progress_by longer (heads_of limits longer) ≡ reading longer)
   read_tells e p =
@@ -252,7 +252,7 @@ module _ (limits : Limits) (held xs : List ℕ) (c : ℕ) (r new : HeaderMachine
       ∙ now_is (Score place body line) p)
   same_heads (Text place line) n p = absurd n
 
-  -- what a character tells with which they are stopped
+  -- what a character emits with which they are stopped
   pub stopped_tells : (f : HeadFault) → heads_of limits longer ≡ Err f → f.at_end ≡ false → (events_at limits held c ≡ Stop f.fault ∷ []) × (progress_by longer (heads_of limits longer) ≡ over)
   stopped_tells f now e = (
     ap (λ (x : Result Heads HeadFault). events_by (new_findings limits held longer) x) now ∙ closed_events (new_findings limits held longer) f e,
@@ -328,6 +328,6 @@ makes limits [] held r es u h = makes_end limits held r es (subst (λ (x : List 
 makes limits (c ∷ xs) held r es u h = makes_step limits held xs c r es u h
     (λ new more k. makes limits xs (held ++ c ∷ []) new more (subst (λ (x : List ℕ). scalars x ≡ true) (sym (append_assoc held (c ∷ []) xs)) u) k)
 
--- Told character by character, the headers of a text are what they are as a whole.
+-- Emitted character by character, the headers of a text are what they are as a whole.
 pub events_make_heads : (limits : Limits) (t : List ℕ) → scalars t ≡ true → concat_of (events_left limits (reading []) (given_behind [] t)) ≡ events_of_heads t (heads_of limits t)
 events_make_heads limits t u = makes limits t [] (fresh_machine limits.header) [] u (begin_read limits.header)

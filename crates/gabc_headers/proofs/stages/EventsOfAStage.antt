@@ -1,4 +1,4 @@
--- What a stage of headers gives of a character, by what its machine tells of it.
+-- What a stage of headers gives of a character, by what its machine emits of it.
 use Rattle.std.proofs.Common.{◌≡◌, ℕ, ◌+◌, ◌≤◌, List, [], ◌∷◌, ◌++◌, length, map, Bool, true, false, cond, codes, refl, sym, ap, ◌∙◌, subst, arith, Option, Some, None, Result, Ok, Err, IsUtf8, append-nil}
 use Rattle.std.specs.Char.{IsScalar, len_utf8}
 use Rattle.std.specs.Str.{chars}
@@ -86,7 +86,7 @@ good_last text (d ∷ es) (Some e) h = good_last text es (Some e) h.1
 
 -- ---- a character
 
--- what a character tells with which the headers go on
+-- what a character emits with which the headers go on
 pub record ReadsOn (limits : Limits) (text : List ℕ) (space : ℕ) (new : HeaderMachine) (headers : BoundedList (List ℕ × Span)) (c : ℕ) (e : Option HeaderEvent) : Type 0 where
   pub fits : length text + length (encode c) ≤ space
   pub good : IsGoodOption (text ++ encode c) e
@@ -96,7 +96,7 @@ pub record ReadsOn (limits : Limits) (text : List ℕ) (space : ℕ) (new : Head
   pub next : (now : BoundedList (List ℕ × Span)) (more : ℕ) → space ≤ more → now.items ≡ put_at (text ++ encode c) e headers.items → now.limit ≡ headers.limit
       → IsReading limits (text ++ encode c) more new now
 
--- what a character tells that ends the headers
+-- what a character emits that ends the headers
 pub record Tells (limits : Limits) (text : List ℕ) (c : ℕ) (events : List HeadEvent) (progress : HeadProgress) : Type 0 where
   pub events_are : events_at limits (chars text) c ≡ events
   pub progress_is : progress_with limits (chars text) c ≡ progress

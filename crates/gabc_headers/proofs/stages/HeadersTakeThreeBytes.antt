@@ -259,7 +259,7 @@ paid_more t r next es c e h p = by (read_by r next c e p)
         let one = fewer (headers_in es) (headers_in es + header_count (part_step (freed r) 37).1) m.bytes m.parts (omega arith) (spent_step (headers_in es) (freed r) 37 h.spent) in
         rw (n, f) (record { spent = rw (headers_more es (part_step m c).1) (spent_step (headers_in es) m c one) })
 
--- what counts is no more than what is told
+-- what counts is no more than what is emitted
 collected_few : (text : List ℕ) (es : List HeaderEvent) (c : Collected) → length (collected_with_all text es c).headers ≤ length c.headers + headers_in es
 collected_few text [] c = omega arith
 collected_few text (e ∷ es) c = let a = one e in let b = collected_few text es (collected_with text e c) in omega (arith, a, b)

@@ -59,7 +59,7 @@ abbrev pub open_part : Option ℕ → List HeaderPart
 open_part None = []
 open_part (Some k) = unended k ∷ []
 
--- the headers end so, at this point, where these parts are not told
+-- the headers end so, at this point, where these parts are not emitted
 abbrev pub EndsAs : ℕ → List ℕ → List HeaderPart → ℕ → HeaderEnding → Type 0
 EndsAs limit t rest stop (Score place body line) =
     (has_score (lines t) ≡ true) × (text_stops limit t ≡ []) × (stop ≡ head_len t + 1) × (place ≡ place_after (take (head_len t) t))

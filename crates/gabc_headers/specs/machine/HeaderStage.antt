@@ -26,7 +26,7 @@ Takes r es (c ∷ t) last all =
 abbrev pub headers_within : Limits → ℕ
 headers_within limits = limits.header / 3 + 1
 
--- In the headers: the machine has read the text, and what it told of headers is put.
+-- In the headers: the machine has read the text, and what it emitted of headers is put.
 pub record IsReading (limits : Limits) (text : List ℕ) (room : ℕ) (machine : HeaderMachine) (headers : BoundedList (List ℕ × Span)) : Type 0 where
   pub events : List HeaderEvent
   pub taken : Takes (fresh_machine limits.header) [] (chars text) machine events

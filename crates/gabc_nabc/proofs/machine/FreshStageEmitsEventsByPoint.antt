@@ -1,4 +1,4 @@
--- The stage tells what the definition tells.
+-- The stage emits what the definition says.
 use Rattle.std.proofs.Common.{◌≡◌, ℕ, ◌<◌, ◌≤◌, List, [], ◌∷◌, ◌++◌, Bool, true, false, cond, ◌&&◌, ◌||◌, ◌==◌, refl, sym, ap, ◌∙◌, subst, arith, Option, Some, None, is_some, option_to_list}
 use native.Mathlib.Decide.{dec_lt}
 use Rattle.std.proofs.lemmas.Bool.Decides.{nat_tests}
@@ -181,7 +181,7 @@ one_unless : (b : Bool) (y : NoteEvent) → option_to_list (cond b None (Some y)
 one_unless true y = refl
 one_unless false y = refl
 
--- a stage that knows what it needs of a text tells what follows it
+-- a stage that knows what it needs of a text emits what follows it
 pub goes_on_emitted : (xs : List Char) (t : List ℕ) (st : NabcStage) → Reached t st → events_left st xs ≡ nabc_events_behind t xs
 goes_on_emitted [] t st r = rw (r.running, r.unended, r.kept) refl
 goes_on_emitted (x ∷ xs) t st r =

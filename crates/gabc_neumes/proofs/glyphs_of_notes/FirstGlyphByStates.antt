@@ -117,7 +117,7 @@ reading_on ns i s z before d best l h g f = record {
   last = last_next ns i d l;
 }
 
--- What the reading has told.
+-- What the reading has found.
 pub record BestFound (ns : List Note) (best : Option (GlyphKind × ℕ)) : Type 0 where
   pub found : IfSome best (λ g. IsFirstGlyph ns g.0 g.1)
   pub none : IfNone best (ns ≡ [])

@@ -1,4 +1,4 @@
--- What a fresh stage tells is what is said of the characters by those before them.
+-- What a fresh stage emits is what the definition says of the characters by those before them.
 use Rattle.std.proofs.Common.{◌≡◌, ℕ, inl, inr, List, [], ◌∷◌, ◌++◌, Bool, true, false, cond, not, ◌&&◌, ◌||◌, ◌==◌, refl, sym, ap, ◌∙◌, subst, Option, Some, None, option_to_list, append_assoc, eqb-true}
 use Rattle.gabc_places.specs.declared.code.Code.TheVariants.{E1, E6, W8, W10}
 use Rattle.gabc_places.specs.declared.place.Char.{Char}
@@ -405,7 +405,7 @@ begun split = record {
   no_raw = λ e. refl;
 }
 
--- so a fresh stage tells what is said
+-- so a fresh stage emits what the definition says
 pub fresh_says : (split : Bool) (macros : ℕ) (xs : List Char) → events_behind split macros [] [] nothing_before xs ≡ note_events split macros xs
 unfolding note_events
 fresh_says split macros xs = events_emits split macros xs [] [] nothing_before (begun split)

@@ -1,4 +1,4 @@
--- The stage tells what the definition tells.
+-- The stage emits what the definition says.
 use Rattle.std.proofs.Common.{◌≡◌, ℕ, List, [], ◌∷◌, ◌++◌, Bool, true, false, cond, not, ◌&&◌, ◌||◌, ◌==◌, refl, sym, ap, ◌∙◌, codes, Option, Some, None, append-nil, length, ◌≤◌, arith, option_to_list}
 use Rattle.gabc_places.specs.declared.place.Char.{Char}
 use Rattle.gabc_patterns.specs.Pattern.{is_in}
@@ -173,7 +173,7 @@ not_kept split comment s n c e = go (comment && not (c == 10)) (not (raw_state s
     go false false true e = absurd (cc)
     go false false false e = absurd (cc)
 
--- what follows a character is what the stage tells from there on
+-- what follows a character is what the stage emits from there on
 follow_rest : (st : NoteStage) (x : Char) (xs : List Char) (o : Option ItemState) (e : CharFacts) (r : CharRole) → st.ended ≡ false
     → next_state st.state (class_of_character x.c) ≡ o → (o ≡ None → r ≡ Keep → ⊥)
     → events_following r (silence xs) (events_behind st.split st.macros (example st.state ++ x.c ∷ []) (raw_with e (example_prefix st.name) x.c) (before_in r st.before e x) xs)

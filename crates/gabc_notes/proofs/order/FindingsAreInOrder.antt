@@ -188,7 +188,7 @@ raw_viable k c r =
 
 -- ---- a character
 
--- the place from which findings are still told: of the bracket that is open, else of the next character
+-- the place from which findings are still emitted: of the bracket that is open, else of the next character
 abbrev pub low : List Char → Place → Place
 low back p = cond (in_raw (kept back)) (opener back) p
 

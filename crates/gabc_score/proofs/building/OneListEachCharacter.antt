@@ -1,4 +1,4 @@
--- How many lists a body tells.
+-- How many lists a body emits.
 use Rattle.std.proofs.Common.{◌≡◌, ℕ, suc, ◌+◌, List, [], ◌∷◌, length, refl, ap, ◌∙◌, arith}
 use Rattle.gabc_places.specs.declared.place.Char.{Char}
 use Rattle.gabc_score.specs.Events.{PartAhead, Texts, events_from, part_at, part_behind}

@@ -29,7 +29,7 @@ use Rattle.gabc_score.specs.machine.ScoreStage.{placed_behind}
 use Rattle.gabc_score.specs.machine.SyllableBuilder.{made_from}
 use Rattle.gabc_score.specs.machine.ScoreMachine.{IsShort}
 use Rattle.gabc_score.proofs.score_events.EventsStayWithinBounds.{limit_stays}
-use Rattle.gabc_score.proofs.score_events.OutputsAreTold.{found_syllables}
+use Rattle.gabc_score.proofs.score_events.OutputsOfLentSyllables.{found_syllables}
 
 -- ---- short syllables stay so
 

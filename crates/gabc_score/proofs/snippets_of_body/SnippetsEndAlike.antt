@@ -1,4 +1,4 @@
--- Where a snippet ends, and what it tells through its end: for GABC and NABC alike.
+-- Where a snippet ends, and what it emits through its end: for GABC and NABC alike.
 use Rattle.std.proofs.Common.{true, false, ◌&&◌, ◌≡◌, ◌⊎◌, inl, inr, ℕ, ◌+◌, ◌≤◌, Bool, false, ◌==◌, ◌||◌, if◌then◌else◌, List, [], ◌∷◌, ◌++◌, map, Option, Some, None, refl, sym, ap, ◌∙◌, arith, append_assoc, append-nil}
 use Rattle.std.specs.Char.{len_utf8}
 use Rattle.std.specs.List.{list_any}
@@ -168,7 +168,7 @@ module _ (lines line : ℕ) (opened : Place) where
     abbrev part_at : S → List Char → PartAhead
     part_at s xs = InNotes line opened (lists g s xs)
 
-    -- what a stopping character tells
+    -- what a stopping character emits
     stop_emitted : (count c : ℕ) (emitted : List NoteEvent) (st : Stops count c emitted) → map (note_event line opened) emitted ≡ map (note_event line opened) st.mids ++ Notes line (note.Ended st.how count) ∷ []
     stop_emitted count c emitted st =
         ap (map (note_event line opened)) st.events_are

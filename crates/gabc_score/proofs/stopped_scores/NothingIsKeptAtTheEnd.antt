@@ -1,4 +1,4 @@
--- What a body tells with its end keeps nothing and ends no syllable.
+-- What a body emits with its end keeps nothing and ends no syllable.
 use Rattle.std.proofs.Common.{◌≡◌, ℕ, suc, ◌+◌, ◌<◌, ◌==◌, nat_lt, List, [], ◌∷◌, ◌++◌, map, length, drop, Bool, true, false, cond, if◌then◌else◌, Option, Some, None, ◌⊎◌, inl, inr, refl, sym, ap, subst, ◌∙◌, arith, length-append, reverse}
 use Rattle.std.specs.List.{list_any}
 use Rattle.gabc_places.specs.declared.place.Place.{Place}

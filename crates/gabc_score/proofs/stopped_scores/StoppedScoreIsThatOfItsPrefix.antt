@@ -140,7 +140,7 @@ module _ (ends : (at : Place) (t : List ℕ) → EndsOnce at t) (tells : (at : P
   abbrev events_here : List Char → List (List BodyEvent)
   events_here xs = body_events lines macros xs
 
-  -- a prefix of a body tells what the body tells of it, and the end, at a seam
+  -- a prefix of a body emits what the body emits of it, and the end, at a seam
   pub record IsWholeFront (xs prefix : List Char) (n k : ℕ) : Type 0 where
     pub behind : List Char
     pub all : xs ≡ prefix ++ behind

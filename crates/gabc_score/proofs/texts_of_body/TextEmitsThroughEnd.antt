@@ -1,4 +1,4 @@
--- What a text tells through its end.
+-- What a text emits through its end.
 use Rattle.std.proofs.Common.{◌≡◌, ℕ, suc, ◌+◌, ◌<◌, ◌≤◌, Bool, false, if◌then◌else◌, List, [], ◌∷◌, ◌++◌, length, drop, Option, Some, None, refl, sym, ap, subst, ◌∙◌, arith, append_assoc, append-nil, length-append}
 use Rattle.std.specs.List.{list_any}
 use lib.Utf8.{encodes}
@@ -151,7 +151,7 @@ pub codes_append : (xs ys : List Char) → codes_of (xs ++ ys) ≡ codes_of xs +
 codes_append [] ys = refl
 codes_append (x ∷ xs) ys = ap (λ cs. x.c ∷ cs) (codes_append xs ys)
 
--- what a text tells through its end: what is emitted before the end gathers to its kept text and its view
+-- what a text emits through its end: what is emitted before the end gathers to its kept text and its view
 pub record TextEmitted (t : List ℕ) (how : TextEnd) (events : List BodyEvent) : Type 0 where
   pub mids : List TextEvent
   pub told_are : events ≡ text_emitted mids ++ Text (text.Ended how) ∷ []

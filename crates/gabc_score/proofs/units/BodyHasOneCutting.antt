@@ -1,4 +1,4 @@
--- Each body has one cutting, and what it tells is what its parts tell.
+-- Each body has one cutting, and what it emits is what its parts emit.
 use Rattle.std.proofs.Common.{◌≡◌, ℕ, List, [], ◌∷◌, ◌++◌, map, Bool, true, false, ◌==◌, if◌then◌else◌, Option, Some, None, refl, sym, ap, subst, ◌∙◌}
 use Rattle.std.specs.List.{list_any}
 use Rattle.std.specs.Option.{option_map}

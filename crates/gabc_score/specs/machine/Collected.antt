@@ -37,7 +37,7 @@ module _ (first second : PlacedSyllable) where
   result_past_all r [] = r
   result_past_all r (e ∷ es) = result_past_all (result_past r e) es
 
--- with how the input ended nothing is left but these outputs, which are told
+-- with how the input ended nothing is left but these outputs, which are emitted
 pub record EndsAs (before : ScoreStageState) (ending : InputEnding) (old new : BoundedList ScoreEvent) (first second : PlacedSyllable) : Type 0 where
   pub outputs : List ScoreOutput
   pub law : concat_of (left_of before (ending_events ending)) ≡ outputs

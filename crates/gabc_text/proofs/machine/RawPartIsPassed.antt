@@ -70,7 +70,7 @@ left_on s (c ∷ cs) ds h none =
     ap (λ (b : Bool). cond b (c ∷ (cs ++ ds)) (stepwise_left (push_stage s c) (cs ++ ds))) (running (push_stage s c) (raw_step s c h none.0))
     ∙ left_on (push_stage s c) cs ds (raw_step s c h none.0) none.1
 
--- what it tells for them, and then for what follows
+-- what it emits for them, and then for what follows
 pub events_on : (t : BuiltText) (s : TextStage) (cs ds : List ℕ) → with_events t (concat_of (stepwise s (cs ++ ds))) ≡ with_events (with_events t (events_of_pushes s cs)) (concat_of (stepwise (stage_past s cs) ds))
 events_on t s [] ds = refl
 events_on t s (c ∷ cs) ds =

@@ -28,7 +28,7 @@ line_of_next note (g ∷ glyphs) = if g.first == note then line_of_glyph g else 
 abbrev pub tells_glyph : ItemKind → ℕ → List Glyph → Bool
 tells_glyph kind note glyphs = is_note kind && begins_at note glyphs
 
--- the lines of an item at a place, with the glyphs that have not been told
+-- the lines of an item at a place, with the glyphs that have not been written
 abbrev pub lines_at : List ℕ → ItemPlace → List Glyph → Item → List ℕ
 lines_at kept place glyphs i =
     (if is_in_element kept i && not place.in_element then codes "element\n" else [])
@@ -38,7 +38,7 @@ lines_at kept place glyphs i =
 abbrev pub more_if : Bool → ℕ → ℕ
 more_if b n = if b then n + 1 else n
 
--- the place behind an item, which is part of an element or not, and before which a glyph was told or not
+-- the place behind an item, which is part of an element or not, and before which a glyph was written or not
 abbrev pub place_after : ItemPlace → Item → Bool → Bool → ItemPlace
 place_after place i in_element with_glyph = record {
   in_element = in_element;

@@ -1,4 +1,4 @@
--- What a call told that answers as it should unless there is no memory.
+-- What a call answered that answers as it should unless there is no memory.
 use Rattle.std.proofs.Common.{◌≡◌, ◌≢◌, ◌∙◌, Result, Ok, Err, sym}
 use Rattle.gregorio_jobs.specs.declared.refusal.Refusal.{Refusal}
 use Rattle.gregorio_jobs.specs.declared.refusal.Refusal.TheVariants.{O0}

@@ -1,6 +1,6 @@
 use Rattle.std.proofs.Common.{[], arith}
 use Rattle.gabc_score.proofs.score_events.FewAndShortAreLent.{few_lent}
-use Rattle.gabc_score.proofs.score_events.OutputsAreTold.{told_now}
+use Rattle.gabc_score.proofs.score_events.OutputsOfLentSyllables.{told_now}
 use Rattle.gabc_score.proofs.telling.tell_broken.Goals as goal
 
 pub returns : goal.returns

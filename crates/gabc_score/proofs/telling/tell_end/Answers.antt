@@ -5,7 +5,7 @@ use Rattle.gabc_score.specs.declared.score_event.ScoreEvent.TheVariants as event
 use Rattle.gabc_score.specs.ScoreEvents.{End}
 use Rattle.gabc_score.specs.machine.SlotPair.{lent_of}
 use Rattle.gabc_score.proofs.score_events.FewAndShortAreLent.{few_lent}
-use Rattle.gabc_score.proofs.score_events.OutputsAreTold.{emitted, then_more, found_then, few_at_end, found_events}
+use Rattle.gabc_score.proofs.score_events.OutputsOfLentSyllables.{emitted, then_more, found_then, few_at_end, found_events}
 use Rattle.gabc_score.proofs.telling.tell_end.Goals as goal
 
 only_one : length (event.End ∷ []) ≤ 1

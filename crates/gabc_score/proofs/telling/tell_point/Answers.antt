@@ -2,7 +2,7 @@ use Rattle.std.proofs.Common.{◌∙◌, ap, arith}
 use Rattle.gabc_places.specs.BoundedList.{extended_by}
 use Rattle.gabc_score.specs.machine.SlotPair.{lent_of}
 use Rattle.gabc_score.proofs.score_events.FewAndShortAreLent.{few_lent}
-use Rattle.gabc_score.proofs.score_events.OutputsAreTold.{told_now, then_more, found_events}
+use Rattle.gabc_score.proofs.score_events.OutputsOfLentSyllables.{told_now, then_more, found_events}
 use Rattle.gabc_score.proofs.telling.tell_point.Goals as goal
 
 pub returns-clause-emitted : goal.returns-clause-emitted

@@ -1,4 +1,4 @@
--- Events that lend syllables tell the outputs.
+-- The outputs of events that lend syllables.
 use Rattle.std.proofs.Common.{◌≡◌, ℕ, zero, suc, ◌≤◌, Bool, true, false, cond, List, [], ◌∷◌, ◌++◌, map, take, length, refl, sym, ap, subst, ◌∙◌, arith, length-append, append-nil, append_assoc}
 use Rattle.std.proofs.lemmas.List.{length-map, map-append}
 use Rattle.gabc_places.specs.declared.code.Finding.{Finding}

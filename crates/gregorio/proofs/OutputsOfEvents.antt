@@ -1,4 +1,4 @@
--- The events of a stage, with the syllables that it lends, tell its outputs.
+-- The outputs of a stage are its events, with the syllables that it lends.
 use Rattle.std.proofs.Common.{◌≡◌, ℕ, zero, suc, List, [], ◌∷◌, ◌++◌, map, length, take, refl, sym, ap, ◌∙◌, append_assoc}
 use Rattle.gabc_places.specs.BoundedList.{BoundedList, extended_by}
 use Rattle.gabc_places.specs.StageLaw.{concat_of, EmitsNothing, StopsAtEnd}
@@ -11,7 +11,7 @@ use Rattle.gabc_score.specs.ScoreEvents.{ScoreOutput, Found, Stop, Syllable, End
 use Rattle.gabc_score.specs.ScoreStage.{ScoreStageState, events_lent, events_of, is_last_event, left_of, events_left}
 use Rattle.gabc_score.specs.Syllable.{PlacedSyllable}
 use Rattle.gregorio.specs.machine.ScoreWriter.{told_by}
-use Rattle.gregorio.proofs.WhatIsToldIsStillToBeWritten.{EndsAtLast, no_item}
+use Rattle.gregorio.proofs.WhatIsEmittedIsStillToBeWritten.{EndsAtLast, no_item}
 
 abbrev head_or : PlacedSyllable → List PlacedSyllable → PlacedSyllable
 head_or d [] = d
@@ -25,7 +25,7 @@ take_none : (n : ℕ) → take {A = PlacedSyllable} n [] ≡ []
 take_none zero = refl
 take_none (suc n) = refl
 
--- ---- what is told
+-- ---- the outputs
 
 module _ (s : ScoreStageState) where
   told_none : (outputs : List ScoreOutput) → syllables_in outputs ≡ [] → told_by s (events_lent Second outputs) ≡ outputs
