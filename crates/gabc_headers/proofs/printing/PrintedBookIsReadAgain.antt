@@ -107,13 +107,13 @@ not_cond false x = refl
 -- ---- the book is read again
 
 -- a book within the limits
-record Within (limits : Limits) (book : List (List ℕ × List ℕ)) : Type 0 where
+record IsWithinLimits (limits : Limits) (book : List (List ℕ × List ℕ)) : Type 0 where
   entries : AreEntries book
   once : NoneAgain [] book
   header : nat_lt limits.header (bytes_len (header_lines book)) ≡ false
   input : nat_lt limits.input (bytes_len (header_lines book) + 3) ≡ false
 
-module _ (limits : Limits) (book : List (List ℕ × List ℕ)) (w : Within limits book) (more : List ℕ) where
+module _ (limits : Limits) (book : List (List ℕ × List ℕ)) (w : IsWithinLimits limits book) (more : List ℕ) where
   abbrev again : List ℕ
   again = canonical_heads book ++ more
 
@@ -208,14 +208,14 @@ module _ (limits : Limits) (book : List (List ℕ × List ℕ)) (w : Within limi
 -- ---- the book of a text
 
 -- headers that are read whole have a book within the limits
-within_limits : (limits : Limits) (t : List ℕ) (heads : Heads) → heads_of limits t ≡ Ok heads → Within limits heads.book
+within_limits : (limits : Limits) (t : List ℕ) (heads : Heads) → heads_of limits t ≡ Ok heads → IsWithinLimits limits heads.book
 within_limits limits t heads ok =
     let (groups, cut) = some_groups (head_of (lines t)) in
     let none = none_apart limits t [] heads ok in
     let above = nothing_both _ _ (nothing_both (open_stops (head_len t + 1) (open_line (head_parts t))) (score_stops limits t) none.1).1 in
     let all : AreEntries (entries (head_parts t)) = subst (λ (x : List HeaderPart). AreEntries (entries x)) (sym (groups_tell groups 1 0 (head_of (lines t)) cut))
     (entries_good (parts_of_groups 1 0 groups) (good_parts groups (head_of (lines t)) 1 0 cut (head_lines t))) in
-    subst (Within limits) (sym (whole (head_stops limits t) ok)) (record {
+    subst (IsWithinLimits limits) (sym (whole (head_stops limits t) ok)) (record {
       entries = standing_good [] (entries (head_parts t)) all;
       once = book_once (entries (head_parts t));
       header = within limits.header (bytes_len (header_lines (book_of (head_parts t)))) _ above.0;
@@ -226,7 +226,7 @@ within_limits limits t heads ok =
     whole [] e = cc
     whole (s ∷ stops) e = absurd (cc)
 
-within_larger : (limits larger : Limits) (book : List (List ℕ × List ℕ)) → AreNoLess limits larger → Within limits book → Within larger book
+within_larger : (limits larger : Limits) (book : List (List ℕ × List ℕ)) → AreNoLess limits larger → IsWithinLimits limits book → IsWithinLimits larger book
 within_larger limits larger book no_less w =
     let h = w.header in
     let i = w.input in

@@ -71,7 +71,7 @@ quiet t (x ∷ xs) e =
 -- ---- the loop
 
 -- Of the text t, whose first character stands at that place, the characters done are read, and rest is not.
-pub record Going (at : Place) (t done rest : List ℕ) (place : Place) (st : NabcStage) (g : BuiltNabc) (index : ℕ) : Type 0 where
+pub record Reaches (at : Place) (t done rest : List ℕ) (place : Place) (st : NabcStage) (g : BuiltNabc) (index : ℕ) : Type 0 where
   pub cut : done ++ rest ≡ t
   pub follows : (xs : List Char) → events_left st xs ≡ nabc_events_behind done xs
   pub unended : has_end done ≡ false
@@ -82,7 +82,7 @@ pub record Going (at : Place) (t done rest : List ℕ) (place : Place) (st : Nab
   pub counted : index ≡ length (encodes done)
 
 pub begins : (at : Place) (t : List ℕ) (st : NabcStage) (g : BuiltNabc) → ((xs : List Char) → events_left st xs ≡ nabc_events xs) → g ≡ record { kept = []; findings = []; end = None }
-    → Going at t [] t at st g 0
+    → Reaches at t [] t at st g 0
 begins at t st g h e = rw e (record { cut = refl; follows = h; unended = refl; kept = refl; opened = refl; findings = refl; prefix = refl; counted = refl })
 
 abbrev first_list : List (List NoteEvent) → List NoteEvent
@@ -108,9 +108,9 @@ findings_on g now done cs x e =
 
 -- a character that does not end the snippet
 pub goes_on : (at : Place) (t done cs : List ℕ) (place then : Place) (c : ℕ) (st next : NabcStage) (g now : BuiltNabc) (index later : ℕ)
-    → Going at t done (c ∷ cs) place st g index → next ≡ stage_after st c → now ≡ with_events g (stage_events_at st (record { c = c; place = place }))
+    → Reaches at t done (c ∷ cs) place st g index → next ≡ stage_after st c → now ≡ with_events g (stage_events_at st (record { c = c; place = place }))
     → now.end ≡ None → then ≡ next_place place c → later ≡ index + len_utf8 c
-    → Going at t (done ++ c ∷ []) cs then next now later
+    → Reaches at t (done ++ c ∷ []) cs then next now later
 goes_on at t done cs place then c st next g now index later r e f n p i = go (is_end done c) refl
   where
     x : Char
@@ -119,7 +119,7 @@ goes_on at t done cs place then c st next g now index later r e f n p i = go (is
     events_now : now ≡ with_events g (events_at done x)
     events_now = f ∙ ap (with_events g) (events_here done st x r.follows)
 
-    go : (b : Bool) → is_end done c ≡ b → Going at t (done ++ c ∷ []) cs then next now later
+    go : (b : Bool) → is_end done c ≡ b → Reaches at t (done ++ c ∷ []) cs then next now later
     go true h = absurd (let k = sym n ∙ ap (λ (y : BuiltNabc). y.end) (events_now ∙ gathers_end g done x r.unended h) in cc)
     go false h =
         let on : now ≡ record g { kept = encodes (kept_of (done ++ c ∷ [])); findings = g.findings ++ findings_of (events_at done x) } = events_now ∙ gathers_on g done x r.unended h r.kept in
@@ -137,7 +137,7 @@ goes_on at t done cs place then c st next g now index later r e f n p i = go (is
         })
 
 -- the bytes of a character fit
-pub fits : (at : Place) (t done cs : List ℕ) (place : Place) (c : ℕ) (st : NabcStage) (g : BuiltNabc) (index : ℕ) → Going at t done (c ∷ cs) place st g index
+pub fits : (at : Place) (t done cs : List ℕ) (place : Place) (c : ℕ) (st : NabcStage) (g : BuiltNabc) (index : ℕ) → Reaches at t done (c ∷ cs) place st g index
     → index + len_utf8 c + length (encodes cs) ≡ length (encodes t)
 fits at t done cs place c st g index r =
     let e = ap (λ (u : List ℕ). length (encodes u)) (sym r.cut) in
@@ -169,7 +169,7 @@ pub record Ends (at : Place) (t kept : List ℕ) (found : List Finding) (way : S
   pub how_is : way ≡ ending_behind (before_end t) (from_end t)
 
 -- the end of the text
-pub cut_open : (at : Place) (t done : List ℕ) (place : Place) (st : NabcStage) (g now : BuiltNabc) (index : ℕ) → Going at t done [] place st g index
+pub cut_open : (at : Place) (t done : List ℕ) (place : Place) (st : NabcStage) (g now : BuiltNabc) (index : ℕ) → Reaches at t done [] place st g index
     → now ≡ with_events g (events_of_cut st) → Ends at t now.kept now.findings (snippet_ending.Cut (record { line = 0; column = 0 }))
 cut_open at t done place st g now index r f =
     let whole : done ≡ t = sym (append-nil done) ∙ r.cut in
@@ -209,7 +209,7 @@ trimmed u bytes len e good l small =
 
 -- the character that ends it
 pub ends : (at : Place) (t done cs : List ℕ) (place : Place) (c : ℕ) (st : NabcStage) (g now : BuiltNabc) (index len : ℕ) (end : NoteEnd)
-    → Going at t done (c ∷ cs) place st g index → now ≡ with_events g (stage_events_at st (record { c = c; place = place })) → now.end ≡ Some (end, len)
+    → Reaches at t done (c ∷ cs) place st g index → now ≡ with_events g (stage_events_at st (record { c = c; place = place })) → now.end ≡ Some (end, len)
     → IsUtf8 now.kept → length (encodes t) < 2 ^ 64
     → IsCharBoundary now.kept len × Ends at t (take len now.kept) now.findings (ending_of end index)
 ends at t done cs place c st g now index len end r f n u small = go (is_end done c) refl

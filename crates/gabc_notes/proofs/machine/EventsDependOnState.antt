@@ -42,24 +42,24 @@ facts_by kept raw c =
     rw (raw_by kept, raw_by (kept ++ c ∷ []), n) refl
 
 -- names that no later characters tell apart
-abbrev pub Alike : List ℕ → List ℕ → Type 0
-Alike r s = (w : List ℕ) → macro_digit (r ++ w) ≡ macro_digit (s ++ w)
+abbrev pub NameAlike : List ℕ → List ℕ → Type 0
+NameAlike r s = (w : List ℕ) → macro_digit (r ++ w) ≡ macro_digit (s ++ w)
 
-alike_now : (r s : List ℕ) → Alike r s → macro_digit r ≡ macro_digit s
+alike_now : (r s : List ℕ) → NameAlike r s → macro_digit r ≡ macro_digit s
 alike_now r s h = ap macro_digit (sym (append-nil r)) ∙ (h [] ∙ ap macro_digit (append-nil s))
 
-alike_on : (r s : List ℕ) (c : ℕ) → Alike r s → Alike (r ++ c ∷ []) (s ++ c ∷ [])
+alike_on : (r s : List ℕ) (c : ℕ) → NameAlike r s → NameAlike (r ++ c ∷ []) (s ++ c ∷ [])
 alike_on r s c h w = ap macro_digit (append_assoc r (c ∷ []) w) ∙ (h (c ∷ w) ∙ ap macro_digit (sym (append_assoc s (c ∷ []) w)))
 
-alike_with : (e : CharFacts) (r s : List ℕ) (c : ℕ) → Alike r s → Alike (raw_with e r c) (raw_with e s c)
+alike_with : (e : CharFacts) (r s : List ℕ) (c : ℕ) → NameAlike r s → NameAlike (raw_with e r c) (raw_with e s c)
 alike_with e r s c h = go e.raw_after
   where
-    go : (b : Bool) → Alike (cond b (r ++ c ∷ []) []) (cond b (s ++ c ∷ []) [])
+    go : (b : Bool) → NameAlike (cond b (r ++ c ∷ []) []) (cond b (s ++ c ∷ []) [])
     go true = alike_on r s c h
     go false = λ w. refl
 
 -- two texts at which the reading stands alike are emitted alike
-pub events_alike : (split : Bool) (macros : ℕ) (xs : List Char) (t u r s : List ℕ) (b : Before) → at_end t ≡ at_end u → Alike r s
+pub events_alike : (split : Bool) (macros : ℕ) (xs : List Char) (t u r s : List ℕ) (b : Before) → at_end t ≡ at_end u → NameAlike r s
     → events_behind split macros t r b xs ≡ events_behind split macros u s b xs
 events_alike split macros [] t u r s b e h = ap (λ (x : Bool). (cut_event x b ∷ []) ∷ []) (raw_by t ∙ (ap raw_at e ∙ sym (raw_by u)))
 events_alike split macros (x ∷ xs) t u r s b e h =

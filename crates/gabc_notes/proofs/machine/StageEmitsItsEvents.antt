@@ -22,7 +22,7 @@ use Rattle.gabc_notes.specs.declared.state.ItemState.{ItemState}
 use Rattle.gabc_notes.specs.declared.state.ItemState.TheVariants.{Start, Dash, DashPitch, Body, Pitch, ClefPitch, ClefFlat, Clef as ClefS, Join, JoinPitch, JoinFlat, Altered, Sharp, Bar as BarS, Colon, BarAsked, BarSigned, Slash, Blanks, SmallZ, CapitalZ, Raw, SlashRaw, At, Done}
 use Rattle.gabc_notes.specs.declared.state.FullItem.TheVariants.{Alteration as FullAlteration, Clef as FullClef, Spacing as FullSpacing, Custos as FullCustos, Break as FullBreak, Attribute as FullAttribute, Fusion as FullFusion}
 use Rattle.gabc_notes.proofs.machine.MachineReadsTable.{machine, snippets_read}
-use Rattle.gabc_notes.proofs.machine.EventsDependOnState.{at_end, raw_at, facts_at, facts_by, Alike, events_alike}
+use Rattle.gabc_notes.proofs.machine.EventsDependOnState.{at_end, raw_at, facts_at, facts_by, NameAlike, events_alike}
 use Rattle.gabc_places.specs.BoundedList.{BoundedList, extended_by}
 use Rattle.gabc_places.specs.StageLaw.{Pushes, silence}
 use Rattle.gabc_notes.specs.StageEvents.{CharEvents}
@@ -118,7 +118,7 @@ looked_is s n c =
     ∙ by_states s (next_state s (class_of_character c)) n))
 
 -- a name with a character more
-pub name_alike : (n : MacroPrefix) (c : ℕ) → Alike (example_prefix n ++ c ∷ []) (example_prefix (prefix_with n c))
+pub name_alike : (n : MacroPrefix) (c : ℕ) → NameAlike (example_prefix n ++ c ∷ []) (example_prefix (prefix_with n c))
 name_alike Closed c w = go (c == 91) refl w
   where
     go : (b : Bool) → c == 91 ≡ b → (w : List ℕ) → macro_digit (c ∷ w) ≡ macro_digit (example_prefix (cond b Opened Other) ++ w)
@@ -156,10 +156,10 @@ name_alike Named c w = refl
 name_alike (Last d) c w = refl
 name_alike Other c w = refl
 
-named_alike : (e : CharFacts) (n : MacroPrefix) (c : ℕ) → Alike (raw_with e (example_prefix n) c) (example_prefix (prefix_after e n c))
+named_alike : (e : CharFacts) (n : MacroPrefix) (c : ℕ) → NameAlike (raw_with e (example_prefix n) c) (example_prefix (prefix_after e n c))
 named_alike e n c = go e.raw_after
   where
-    go : (b : Bool) → Alike (cond b (example_prefix n ++ c ∷ []) []) (example_prefix (cond b (prefix_with n c) Closed))
+    go : (b : Bool) → NameAlike (cond b (example_prefix n ++ c ∷ []) []) (example_prefix (cond b (prefix_with n c) Closed))
     go true = name_alike n c
     go false = λ w. refl
 

@@ -35,7 +35,7 @@ abbrev pub keeping : List ℕ → Sum → Sum
 keeping more s = record s { part = s.part ++ more }
 
 -- what is emitted within a part ends no syllable, and the syllables that were made stay
-pub record Within (before after : List BodyEvent) (now : List BodyEvent) : Type 0 where
+pub record AreInPart (before after : List BodyEvent) (now : List BodyEvent) : Type 0 where
   pub since : since_close after ≡ events_onto now (since_close before)
   pub made : all_syllables after ≡ all_syllables before
 
@@ -52,7 +52,7 @@ notes_keep line opened (note.Found f ∷ lists) events h = notes_keep line opene
 notes_keep line opened (note.Ended how n ∷ lists) events h = cc
 
 pub notes_within : (line : ℕ) (opened : Place) (lists : List NoteEvent) (before : List BodyEvent) → ends_of lists ≡ []
-    → Within before (events_onto (map (note_event line opened) lists) before) (map (note_event line opened) lists)
+    → AreInPart before (events_onto (map (note_event line opened) lists) before) (map (note_event line opened) lists)
 notes_within line opened [] before h = record { since = refl; made = refl }
 notes_within line opened (note.Kept x ∷ lists) before h =
     let on = notes_within line opened lists (Notes line (note.Kept x) ∷ before) h in record { since = on.since; made = on.made }
@@ -74,7 +74,7 @@ text_gathers (text.Part p ∷ lists) events g h k v = text_gathers lists (Text (
 text_gathers (text.Found f ∷ lists) events g h k v = text_gathers lists (Text (text.Found f) ∷ events) (with_event g (text.Found f)) h k v
 text_gathers (text.Ended how ∷ lists) events g h k v = cc
 
-pub text_within : (lists : List TextEvent) (before : List BodyEvent) → Within before (events_onto (text_emitted lists) before) (text_emitted lists)
+pub text_within : (lists : List TextEvent) (before : List BodyEvent) → AreInPart before (events_onto (text_emitted lists) before) (text_emitted lists)
 text_within [] before = record { since = refl; made = refl }
 text_within (o ∷ lists) before =
     let on = text_within lists (Text o ∷ before) in record { since = on.since; made = on.made }

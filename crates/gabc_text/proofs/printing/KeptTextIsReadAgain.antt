@@ -212,7 +212,7 @@ blank_still b k e f =
 -- ---- the whole
 
 -- what is said and kept of the kept tokens
-pub record Alike (b c ks : List Token) : Type 0 where
+pub record AreTokensAlike (b c ks : List Token) : Type 0 where
   pub pieces : along pieces_at b ks ≡ along pieces_at c (along kept_token b ks)
   pub kept : along kept_at b ks ≡ along kept_at c (along kept_token b ks)
   pub after : Same (onto ks b) (onto (along kept_token b ks) c)
@@ -240,12 +240,12 @@ blank_same c k e = record {
   translation = rw e refl;
 }
 
-pub alike : (ks b c : List Token) → Same b c → Alike b c ks
+pub alike : (ks b c : List Token) → Same b c → AreTokensAlike b c ks
 alike [] b c h = record { pieces = refl; kept = refl; after = h }
 alike (k ∷ ks) b c h = by (is_left_out b k.kind) (is_space k.kind) (follows_space b) refl refl refl (λ d g. alike ks (k ∷ b) d g)
   where
-    by : (o s f : Bool) → is_left_out b k.kind ≡ o → is_space k.kind ≡ s → follows_space b ≡ f → ((d : List Token) → Same (k ∷ b) d → Alike (k ∷ b) d ks)
-        → Alike b c (k ∷ ks)
+    by : (o s f : Bool) → is_left_out b k.kind ≡ o → is_space k.kind ≡ s → follows_space b ≡ f → ((d : List Token) → Same (k ∷ b) d → AreTokensAlike (k ∷ b) d ks)
+        → AreTokensAlike b c (k ∷ ks)
     by true s f eo es ef ih =
         let st = left_still b k eo in
         let r = ih c (same_then (k ∷ b) b c st.same h) in

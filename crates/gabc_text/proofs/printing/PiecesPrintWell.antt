@@ -12,7 +12,7 @@ use Rattle.gabc_text.proofs.printing.ViewFromFirstToken.{pieces_of}
 use Rattle.gabc_text.specs.ViewFacts.{but_blank}
 use Rattle.gabc_text.proofs.tokens.CasesOfCharacters.{by_case}
 use Rattle.gabc_text.proofs.machine.TokenStateByCharacter.{turned}
-use Rattle.gabc_text.proofs.printing.TokensAreReadAgain.{Again, token_again, letter_stable}
+use Rattle.gabc_text.proofs.printing.TokensAreReadAgain.{IsReadAgain, token_again, letter_stable}
 use Rattle.gabc_text.proofs.printing.PrintedPiecesAreReadAgain.{Good, AllGood, Says}
 
 -- ---- letters
@@ -82,7 +82,7 @@ token_letter c t =
 -- ---- a piece of a text
 
 pub record Fine (k : Token) : Type 0 where
-  pub again : Again k
+  pub again : IsReadAgain k
   pub letters : k.kind ≡ kind.Letter → IsLetter k
 
 abbrev pub EachFine : List Token → Type 0

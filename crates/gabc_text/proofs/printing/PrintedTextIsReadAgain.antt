@@ -16,7 +16,7 @@ use Rattle.gabc_text.specs.declared.token.TagEffect.{TagEffect}
 use Rattle.gabc_text.specs.declared.token.TagEffect.TheVariants.{Opens, Closes, Mark, Begins, Other}
 use Rattle.gabc_text.proofs.tokens.CasesOfCharacters.{by_case}
 use Rattle.gabc_text.proofs.printing.PrintedBracesGiveCentre.{centre_from, no_centre}
-use Rattle.gabc_text.proofs.printing.TokensAreReadAgain.{Stable, AllStable, written_stable, Again, token_again}
+use Rattle.gabc_text.proofs.printing.TokensAreReadAgain.{Stable, AllStable, written_stable, IsReadAgain, token_again}
 use Rattle.gabc_text.proofs.printing.PrintedTagsOpenStyles.{push, push_append, along_append}
 use Rattle.gabc_text.proofs.printing.PrintedPiecesAreReadAgain.{AllSilent, between_silent, are_braces, silent_word, silent_blank, silent_starts, Good, AllGood, Says, does, pieces_again}
 use Rattle.gabc_text.proofs.printing.PiecesPrintWell.{pieces_good, good_along, tokens_fine}
@@ -192,7 +192,7 @@ but_last s =
     prefix [] = refl
     prefix (c ∷ s) = ap (λ (u : List ℕ). c ∷ u) (prefix s)
 
-translation_one : (k : Token) (others : Option (List ℕ)) → Again k → (k.kind ≡ kind.Translation → Bracketed k) → IsTranslated others → IsTranslated (translation_by k.kind k.more others)
+translation_one : (k : Token) (others : Option (List ℕ)) → IsReadAgain k → (k.kind ≡ kind.Translation → Bracketed k) → IsTranslated others → IsTranslated (translation_by k.kind k.more others)
 translation_one k others f g h = by k.kind refl
   where
     by : (d : TokenKind) → k.kind ≡ d → IsTranslated (translation_by d k.more others)

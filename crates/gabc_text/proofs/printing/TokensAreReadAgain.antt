@@ -107,8 +107,8 @@ is_bracketed kind.Translation = true
 is_bracketed _ = false
 
 -- a token that is read again, if it is a raw part, a tag or a translation
-abbrev pub Again : Token → Type 0
-Again k = is_bracketed k.kind ≡ true → Stable k
+abbrev pub IsReadAgain : Token → Type 0
+IsReadAgain k = is_bracketed k.kind ≡ true → Stable k
 
 pub again_by : (k : Token) → k.first == 40 ≡ false → ((u : List ℕ) → token_at k.first (k.more ++ u) ≡ k) → Stable k
 again_by k ne f u = tokens_first k.first (k.more ++ u) u k ne (f u) refl
@@ -132,10 +132,10 @@ tag_only : (t name : List ℕ) (s : TagEffect) → through (62 ∷ []) t ≡ Som
 tag_only t name s e g k = again_by (record { kind = kind.Tag; first = 60; more = name }) refl
     (λ u. ap (λ (x : List ℕ). token_at 60 (x ++ u)) (sym (append-nil name)) ∙ tag_again t name [] u e ∙ ap (token_of_tag name u) g ∙ k u)
 
-tag_case : (t name v : List ℕ) (so : TagEffect) → through (62 ∷ []) t ≡ Some name → effect_of (60 ∷ name) ≡ so → Again (token_of_tag name v so)
+tag_case : (t name v : List ℕ) (so : TagEffect) → through (62 ∷ []) t ≡ Some name → effect_of (60 ∷ name) ≡ so → IsReadAgain (token_of_tag name v so)
 tag_case t name v (Begins raw) e f h = by (through (ending_of raw) v) refl h
   where
-    by : (o : Option (List ℕ)) → through (ending_of raw) v ≡ o → Again (ended_token kind.Raw kind.OpenTag 60 name v o)
+    by : (o : Option (List ℕ)) → through (ending_of raw) v ≡ o → IsReadAgain (ended_token kind.Raw kind.OpenTag 60 name v o)
     by None g h = absurd (cc)
     by (Some y) g h = again_by (record { kind = kind.Raw; first = 60; more = name ++ y }) refl
         (λ u. tag_again t name y u e ∙ ap (token_of_tag name (y ++ u)) f ∙ ap (ended_token kind.Raw kind.OpenTag 60 name (y ++ u)) (raw_found raw v y g u))
@@ -144,22 +144,22 @@ tag_case t name v (Closes r) e f h = tag_only t name (Closes r) e f (λ u. refl)
 tag_case t name v Mark e f h = tag_only t name Mark e f (λ u. refl)
 tag_case t name v Other e f h = tag_only t name Other e f (λ u. refl)
 
-at_tag : (t : List ℕ) → Again (token_at 60 t)
+at_tag : (t : List ℕ) → IsReadAgain (token_at 60 t)
 at_tag t = by (through (62 ∷ []) t) refl
   where
-    by : (o : Option (List ℕ)) → through (62 ∷ []) t ≡ o → Again (tag_at t o)
+    by : (o : Option (List ℕ)) → through (62 ∷ []) t ≡ o → IsReadAgain (tag_at t o)
     by None e h = absurd (cc)
     by (Some name) e h = tag_case t name (drop (length name) t) (effect_of (60 ∷ name)) e refl h
 
-at_bracket : (t : List ℕ) → Again (token_at 91 t)
+at_bracket : (t : List ℕ) → IsReadAgain (token_at 91 t)
 at_bracket t = by (through (93 ∷ []) t) refl
   where
-    by : (o : Option (List ℕ)) → through (93 ∷ []) t ≡ o → Again (ended_token kind.Translation kind.OpenTranslation 91 [] t o)
+    by : (o : Option (List ℕ)) → through (93 ∷ []) t ≡ o → IsReadAgain (ended_token kind.Translation kind.OpenTranslation 91 [] t o)
     by None e h = absurd (cc)
     by (Some y) e h = again_by (record { kind = kind.Translation; first = 91; more = y }) refl
         (λ u. ap (ended_token kind.Translation kind.OpenTranslation 91 [] (y ++ u)) (one_found 93 t y e u))
 
-at_dollar : (t : List ℕ) → Again (token_at 36 t)
+at_dollar : (t : List ℕ) → IsReadAgain (token_at 36 t)
 at_dollar [] h = absurd (cc)
 at_dollar (c ∷ t) h = absurd (cc)
 
@@ -167,27 +167,27 @@ single_plain : (c : ℕ) → is_bracketed (single c) ≡ false
 single_plain c = single_kind (λ k. is_bracketed k ≡ false) refl refl refl refl refl c
 
 -- each token of a text
-abbrev AgainAt : List ℕ → ℕ → Type 0
-AgainAt t c = Again (token_at c t)
+abbrev IsReadAgainAt : List ℕ → ℕ → Type 0
+IsReadAgainAt t c = IsReadAgain (token_at c t)
 
-pub token_again : (c : ℕ) (t : List ℕ) → Again (token_at c t)
+pub token_again : (c : ℕ) (t : List ℕ) → IsReadAgain (token_at c t)
 token_again c t =
-    by_case 36 c (AgainAt t) (at_dollar t) (λ e36.
-    by_case 37 c (AgainAt t) (λ h. absurd (cc)) (λ e37.
-    by_case 60 c (AgainAt t) (at_tag t) (λ e60.
-    by_case 91 c (AgainAt t) (at_bracket t) (λ e91.
+    by_case 36 c (IsReadAgainAt t) (at_dollar t) (λ e36.
+    by_case 37 c (IsReadAgainAt t) (λ h. absurd (cc)) (λ e37.
+    by_case 60 c (IsReadAgainAt t) (at_tag t) (λ e60.
+    by_case 91 c (IsReadAgainAt t) (at_bracket t) (λ e91.
     λ h. absurd (let f : is_bracketed (single c) ≡ true = rw (e36, e37, e60, e91) at h in let g = single_plain c in cc)))))
 
-abbrev pub EachAgain : List Token → Type 0
-EachAgain [] = Unit {0}
-EachAgain (k ∷ ks) = Again k × EachAgain ks
+abbrev pub EachIsReadAgain : List Token → Type 0
+EachIsReadAgain [] = Unit {0}
+EachIsReadAgain (k ∷ ks) = IsReadAgain k × EachIsReadAgain ks
 
-pub tokens_again : (n : ℕ) (t : List ℕ) → EachAgain (tokens_after n t)
+pub tokens_again : (n : ℕ) (t : List ℕ) → EachIsReadAgain (tokens_after n t)
 tokens_again n [] = tt
 tokens_again (suc n) (c ∷ t) = tokens_again n t
 tokens_again zero (c ∷ t) = by (c == 40) (token_again c t) (tokens_again (length (token_at c t).more) t)
   where
-    by : (b : Bool) → Again (token_at c t) → EachAgain (tokens_after (length (token_at c t).more) t) → EachAgain (cond b [] (token_at c t ∷ tokens_after (length (token_at c t).more) t))
+    by : (b : Bool) → IsReadAgain (token_at c t) → EachIsReadAgain (tokens_after (length (token_at c t).more) t) → EachIsReadAgain (cond b [] (token_at c t ∷ tokens_after (length (token_at c t).more) t))
     by true f g = tt
     by false f g = (f, g)
 
