@@ -10,4 +10,4 @@ pub mod prefixes
 pub mod printing
 pub mod stages
 pub mod stops
-pub mod FrontHasTheSameHeaders
+pub mod PrefixHasTheSameHeaders

@@ -1,4 +1,4 @@
--- What a header stage gives: for each character what the text with it tells more than the text before it.
+-- What a header stage emits: for each character what the text with it has more than the text before it.
 use Rattle.std.specs.Prelude.{ℕ, ◌+◌, ◌*◌, List, [], ◌∷◌, ◌++◌, Bool, true, false, if◌then◌else◌, length, take, drop, map, Result, Ok, Err, zero, suc}
 use Rattle.gabc_places.specs.declared.place.Char.{Char}
 use Rattle.gabc_places.specs.declared.code.Fault.{Fault}
@@ -34,8 +34,8 @@ abbrev pub macros_of : List (List ℕ × List ℕ) → ℕ
 macros_of book = macros_from 10 0 1 book
 
 -- what the line `%%` gives
-abbrev pub heads_told : List (List ℕ × List ℕ) → HeadEvent
-heads_told book = heads_event (nabc_lines_of book) (macros_of book) (bytes_len (canonical_heads book))
+abbrev pub event_of_book : List (List ℕ × List ℕ) → HeadEvent
+event_of_book book = heads_event (nabc_lines_of book) (macros_of book) (bytes_len (canonical_heads book))
 
 -- the findings of the longer text that the shorter one has not
 abbrev pub new_findings : Limits → List ℕ → List ℕ → List Finding
@@ -43,7 +43,7 @@ new_findings limits before after = drop (length (findings_of (heads_of limits be
 
 -- Of a character: the text with it is stopped, by something else than its end; or what is found more, and the headers if they are whole.
 abbrev pub events_by : List Finding → Result Heads HeadFault → List HeadEvent
-events_by found (Ok heads) = map (λ f. Found f) found ++ heads_told heads.book ∷ []
+events_by found (Ok heads) = map (λ f. Found f) found ++ event_of_book heads.book ∷ []
 events_by found (Err stopped) = if stopped.at_end then map (λ f. Found f) found else Stop stopped.fault ∷ []
 
 abbrev pub events_at : Limits → List ℕ → ℕ → List HeadEvent
@@ -136,26 +136,26 @@ text_held (behind book) = []
 text_held over = []
 
 -- the characters of a text as they come in, behind this prefix
-abbrev pub given_behind : List ℕ → List ℕ → List (Result Char Fault)
-given_behind prefix t = map (λ c. Ok c) (placed_characters_behind prefix t)
+abbrev pub inputs_behind : List ℕ → List ℕ → List (Result Char Fault)
+inputs_behind prefix t = map (λ c. Ok c) (placed_characters_behind prefix t)
 
 -- the characters behind the `%%`
 abbrev pub body_characters : List ℕ → List Char
 body_characters t = drop (head_len t + 2) (placed_characters t)
 
--- What headers that are read whole tell, and the characters behind them; or what is found before their stop, and the stop.
+-- What headers that are read whole emit, and the characters behind them; or what is found before their stop, and the stop.
 abbrev pub events_of_heads : List ℕ → Result Heads HeadFault → List HeadEvent
-events_of_heads t (Ok heads) = map (λ f. Found f) heads.findings ++ heads_told heads.book ∷ (map (λ c. Body c) (body_characters t) ++ End ∷ [])
+events_of_heads t (Ok heads) = map (λ f. Found f) heads.findings ++ event_of_book heads.book ∷ (map (λ c. Body c) (body_characters t) ++ End ∷ [])
 events_of_heads t (Err stopped) = map (λ f. Found f) stopped.findings ++ Stop stopped.fault ∷ []
 
--- What they tell of a text that breaks off: neither its end nor a stop at this end.
+-- What they emit of a text that breaks off: neither its end nor a stop at this end.
 abbrev pub events_of_broken : List ℕ → Result Heads HeadFault → List HeadEvent
-events_of_broken t (Ok heads) = map (λ f. Found f) heads.findings ++ heads_told heads.book ∷ map (λ c. Body c) (body_characters t)
+events_of_broken t (Ok heads) = map (λ f. Found f) heads.findings ++ event_of_book heads.book ∷ map (λ c. Body c) (body_characters t)
 events_of_broken t (Err stopped) = map (λ f. Found f) stopped.findings ++ (if stopped.at_end then [] else Stop stopped.fault ∷ [])
 
--- What they tell of a text that a fault stops. This fault takes the place of one that has the end as its point.
+-- What they emit of a text that a fault stops. This fault takes the place of one that has the end as its point.
 abbrev pub events_of_stopped : Fault → List ℕ → Result Heads HeadFault → List HeadEvent
-events_of_stopped fault t (Ok heads) = map (λ f. Found f) heads.findings ++ heads_told heads.book ∷ (map (λ c. Body c) (body_characters t) ++ Stop fault ∷ [])
+events_of_stopped fault t (Ok heads) = map (λ f. Found f) heads.findings ++ event_of_book heads.book ∷ (map (λ c. Body c) (body_characters t) ++ Stop fault ∷ [])
 events_of_stopped fault t (Err stopped) = map (λ f. Found f) stopped.findings ++ Stop (if stopped.at_end then fault else stopped.fault) ∷ []
 
 -- what is emitted of these inputs, whose end has come or not: the list of the end is the last one

@@ -94,7 +94,7 @@ impl HeaderBook {
         self.entries.is_empty()
     }
 
-    /// Returns the name of the header at `index`, from 0.
+    /// Returns the name of the header at `index`, from 0 and below `len()`.
     pub fn name(&self, index: usize) -> &str
         requires { index < length self.now }
         ensures { IsSomeAnd (slice_get self.now index) (λ entry. chars result.now ≡ entry.0) }
@@ -103,7 +103,7 @@ impl HeaderBook {
         &self.text.as_str()[entry.name.from..entry.name.to]
     }
 
-    /// Returns the value of the header at `index`, from 0.
+    /// Returns the value of the header at `index`, from 0 and below `len()`.
     pub fn value(&self, index: usize) -> &str
         requires { index < length self.now }
         ensures { IsSomeAnd (slice_get self.now index) (λ entry. chars result.now ≡ entry.1) }
@@ -142,7 +142,7 @@ impl HeaderBook {
         }
     }
 
-    /// Returns whether the macro of `digit`, 0 to 9, is defined.
+    /// Returns whether the macro of `digit`, 0 to 9, is defined (GregorioRef, "Macros").
     pub fn is_macro(&self, digit: u8) -> bool
         requires { digit < 10 }
         ensures { result ≡ has_header (macro_name digit) self.now }
@@ -150,7 +150,7 @@ impl HeaderBook {
         self.get(macro_header(digit)).is_some()
     }
 
-    /// Returns the macros that are defined: the bit `d` tells it of the macro of the digit `d`.
+    /// Returns the macros that are defined: the bit `d` tells it of the macro of the digit `d` (GregorioRef, "Macros").
     pub fn macros(&self) -> u16
         ensures { result ≡ macros_of self.now }
     {

@@ -9,7 +9,8 @@ ghost use Rattle.gabc_headers.specs.machine.HeaderText.{before_value, after_valu
 use crate::book::HeaderBook;
 use gabc_places::Put;
 
-/// Returns whether `value` is written on lines of its own: it has several lines, or would end too early on its header's line.
+/// Returns whether `value` is written on lines of its own: it has several lines, or would end too early on its header's line
+/// (GregorioRef, "Headers").
 pub fn wants_own_lines(value: &str) -> bool
     ensures { result ≡ wants_lines (lines (chars value.now)) }
 {

@@ -39,7 +39,7 @@ fn finding_at(line: u64, code: Code) -> Finding
     Finding { place, code }
 }
 
-/// Takes what an event tells of the text to the headers, and answers what is found at it. It asks for no memory.
+/// Takes an event of the text to the headers, and returns what is found at it. It asks for no memory.
 pub(crate) fn take_event(headers: &mut EntryMap, text: &str, event: HeaderEvent) -> Option<Finding>
     requires good { IsGoodEvent text.now event }
     requires room { Fits headers.old 1 }
@@ -70,7 +70,7 @@ pub(crate) fn take_event(headers: &mut EntryMap, text: &str, event: HeaderEvent)
 }
 
 impl Collected {
-    /// Takes what an event tells of the text.
+    /// Takes an event of the text.
     fn take(&mut self, text: &str, event: HeaderEvent) -> Result<(), AllocError>
         requires good { IsGoodEvent text.now event }
         requires room { Fits self.old.headers 1 }
@@ -85,7 +85,7 @@ impl Collected {
     }
 }
 
-/// What the events tell of the text.
+/// What the events say of the text.
 pub(crate) fn collect(
     alloc: Global,
     text: &str,

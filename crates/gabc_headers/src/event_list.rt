@@ -18,9 +18,9 @@ pub(crate) fn events_of_headers(
     ensures { IfOk result (λ t. AreHeaderEvents limit text.now t.events.items t.end) }
 {
     let mut events = Vec::new(alloc);
-    let mut reader = HeaderMachine::new(limit);
+    let mut machine = HeaderMachine::new(limit);
     for c in text.as_str().chars() {
-        match reader.push(c) {
+        match machine.push(c) {
             HeaderStep::Read(Some(event)) => events.push(event)?,
             HeaderStep::Read(None) => {}
             HeaderStep::Ended(end) => return Ok(HeaderEvents { events, end }),
@@ -28,6 +28,6 @@ pub(crate) fn events_of_headers(
     }
     Ok(HeaderEvents {
         events,
-        end: reader.end(),
+        end: machine.end(),
     })
 }

@@ -1,4 +1,4 @@
-//! What the reader of the headers tells.
+//! What the machine of the headers emits.
 
 use gabc_places::{Place, Span};
 
@@ -21,7 +21,7 @@ pub(crate) enum HeaderEvent {
 /// How the headers end. A header whose value is not ended there is named by its first line, `open_line`.
 #[derive(Clone, Copy, Debug)]
 pub(crate) enum HeaderEnding {
-    /// At the line `%%`, whose first character stands at `place`. The score begins at the byte `body`.
+    /// At the line `%%`, whose first character stands at `place`. The body begins at the byte `body`.
     Score {
         place: Place,
         body: usize,

@@ -1,8 +1,8 @@
-//! What a header stage gives.
+//! What a header stage emits.
 
 use gabc_places::{Char, Fault, Finding};
 
-/// What is given of the headers of a text, and of what stands behind them.
+/// What a header stage emits: of the headers of a text, and of what stands behind them.
 #[derive(Clone, Copy, Debug, PartialEq, Eq)]
 pub enum HeadEvent {
     Found(Finding),

@@ -1,4 +1,4 @@
-//! The reader of the headers of a text, a character at a time and in bounded room.
+//! The machine of the headers of a text, a character at a time and in bounded room.
 
 ghost use Rattle.std.specs.Prelude.{◌≡◌, ◌<◌, ◌^◌};
 ghost use Rattle.gabc_headers.specs.machine.HeaderMachine.{IsBounded, fresh_machine, take_one, push_one, end_here};
@@ -15,7 +15,7 @@ pub(crate) enum HeaderStep {
     Ended(HeaderEnding),
 }
 
-/// The reader. It has read so many characters (`point`) and bytes, and stands at this place. A `%` that begins a line
+/// The machine. It has read so many characters (`point`) and bytes, and stands at this place. A `%` that begins a line
 /// is held back, until the next character tells whether that is the line `%%`.
 #[derive(Clone, Copy)]
 pub(crate) struct HeaderMachine {

@@ -5,7 +5,7 @@ ghost use Rattle.std.specs.Str.{chars};
 ghost use Rattle.gabc_places.specs.BoundedList.{Fits, extended_by};
 ghost use Rattle.gabc_headers.specs.declared.head_event.HeadEvent.TheVariants.{Found, Stop};
 ghost use Rattle.gabc_headers.specs.Canonical.{header_lines};
-ghost use Rattle.gabc_headers.specs.HeadEvents.{over, fresh_stage, stage_at, stage_after, progress_with, events_at, events_of_input, events_of_end, heads_told, text_held};
+ghost use Rattle.gabc_headers.specs.HeadEvents.{over, fresh_stage, stage_at, stage_after, progress_with, events_at, events_of_input, events_of_end, event_of_book, text_held};
 ghost use Rattle.gabc_headers.specs.Lines.{bytes_len};
 ghost use Rattle.gabc_headers.specs.machine.Collected.{found_list, name_found};
 ghost use Rattle.gabc_headers.specs.machine.HeaderStage.{IsInHeaders};
@@ -63,8 +63,8 @@ impl Model for HeaderStage {
         (string_capacity s.text) s.machine s.headers s.room };
 }
 
-/// Tells what is found, if something is.
-fn tell_finding(found: Option<Finding>, out: &mut Room<HeadEvent>)
+/// Emits what is found, if something is.
+fn emit_finding(found: Option<Finding>, out: &mut Room<HeadEvent>)
     requires { Fits out.old 1 }
     ensures { out.new ≡ extended_by out.old (map (λ f. Found f) (found_list found)) }
 {
@@ -73,13 +73,13 @@ fn tell_finding(found: Option<Finding>, out: &mut Room<HeadEvent>)
     }
 }
 
-/// Tells the headers at the line `%%`, whose canonical lines have so many bytes.
-fn tell_heads(book: &HeaderBook, place: Place, size: usize, out: &mut Room<HeadEvent>)
+/// Emits the headers at the line `%%`, whose canonical lines have so many bytes.
+fn emit_heads(book: &HeaderBook, place: Place, size: usize, out: &mut Room<HeadEvent>)
     requires size { size ≡ bytes_len (header_lines book.now) }
     requires small { size < 2 ^ 31 }
     requires room { Fits out.old 2 }
     ensures { out.new ≡ extended_by out.old
-        (map (λ f. Found f) (name_found place book.now) ++ heads_told book.now ∷ []) }
+        (map (λ f. Found f) (name_found place book.now) ++ event_of_book book.now ∷ []) }
 {
     if book.get("name").is_none() {
         out.push(HeadEvent::Found(Finding {
@@ -95,7 +95,8 @@ fn tell_heads(book: &HeaderBook, place: Place, size: usize, out: &mut Room<HeadE
 }
 
 impl HeaderStage {
-    /// Returns a stage before the first character of a text, and reserves the memory that it ever takes.
+    /// Returns a stage under `limits` before the first character of a text, and reserves all the memory that it takes. It fails only for want
+    /// of memory.
     pub fn with_limits(alloc: Global, limits: Limits) -> Result<HeaderStage, AllocError>
         ensures { IfOk result (λ stage. stage ≡ fresh_stage limits) }
     {
@@ -112,7 +113,7 @@ impl HeaderStage {
         })
     }
 
-    /// Tells that the text is stopped. Nothing follows.
+    /// Emits that the text is stopped. Nothing follows.
     fn stop(&mut self, fault: Fault, out: &mut Room<HeadEvent>)
         requires { Fits out.old 1 }
         ensures state { self.new ≡ stage_at self.old over }
@@ -141,7 +142,7 @@ impl HeaderStage {
                 self.machine = machine;
                 if let Some(event) = event {
                     let found = take_event(&mut self.headers, self.text.as_str(), event);
-                    tell_finding(found, out);
+                    emit_finding(found, out);
                 }
             }
             HeaderStep::Ended(
@@ -157,7 +158,7 @@ impl HeaderStage {
                         self.headers.fill(text, &mut self.room);
                         self.book.take(&mut self.room);
                         self.part = HeadPart::Behind;
-                        tell_heads(&self.book, place, size, out);
+                        emit_heads(&self.book, place, size, out);
                     }
                     Err(fault) => self.stop(fault, out),
                 }

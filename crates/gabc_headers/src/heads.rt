@@ -12,7 +12,7 @@ use std::fmt;
 #[derive(Debug, Drop)]
 pub struct Heads {
     pub book: HeaderBook,
-    /// The byte of the text at which its score begins: the one behind the `%%`.
+    /// The byte of the text, from 0, at which its body begins: the one behind the `%%`.
     pub body: usize,
     pub findings: Findings,
 }
@@ -26,7 +26,8 @@ pub struct HeadFault {
     pub at_end: bool,
 }
 
-/// Prints the words of the fault's message: `LINE:COLUMN: fatal: CODE: TEXT`.
+/// Prints what the fault's message has behind the file's name: `LINE:COLUMN: KIND: CODE: TEXT`, where KIND is `fatal` for each code of a
+/// fault.
 impl fmt::Display for HeadFault {
     ghost output = { λ x. Some (message_text x.fault.place x.fault.code) };
 

@@ -17,7 +17,7 @@ ghost use Rattle.gabc_headers.specs.Lines.{bytes_len};
 ghost use Rattle.gabc_headers.specs.HeadsAgain.{heads_again};
 ghost use Rattle.gabc_headers.specs.EntryMap.{put_all};
 ghost use Rattle.gabc_headers.specs.Groups.{Group, AreGroups, parts_of_groups};
-ghost use Rattle.gabc_headers.specs.HeadEvents.{emitted_by, events_left, events_of_broken, events_of_heads, events_of_stopped, fresh_stage, given_behind, reading, stage_past};
+ghost use Rattle.gabc_headers.specs.HeadEvents.{emitted_by, events_left, events_of_broken, events_of_heads, events_of_stopped, fresh_stage, inputs_behind, reading, stage_past};
 ghost use Rattle.gabc_places.specs.Decoder.{fault_items};
 ghost use Rattle.gabc_headers.specs.Parts.{outside, parts};
 
@@ -98,20 +98,20 @@ pub fn canonical_lines_are_within_the_limits()
 /// of its body and its end: no finding, stop or character comes twice, and none is left out.
 pub fn events_make_the_headers()
     ensures { (limits : Limits) (t : List ℕ) → All IsScalar t →
-        concat_of (events_left limits (reading []) (given_behind [] t))
+        concat_of (events_left limits (reading []) (inputs_behind [] t))
         ≡ events_of_heads t (heads_of limits t) }
 {}
 
-/// The events of a text's characters do not wait for the end of the input. A text that breaks off gives its findings, its headers and
+/// The events of a text's characters do not wait for the end of the input. A text that breaks off emits its findings, its headers and
 /// each character of its body. If a fault stops it, this fault comes behind them, unless the headers were stopped before. Then the
-/// end gives nothing more.
+/// end emits nothing more.
 pub fn events_need_no_end()
     ensures broken { (limits : Limits) (t : List ℕ) → All IsScalar t →
-        let xs = given_behind [] t in
+        let xs = inputs_behind [] t in
         emitted_by false xs (events_left limits (reading []) xs)
         ≡ events_of_broken t (heads_of limits t) }
     ensures stopped { (limits : Limits) (t : List ℕ) (fault : Fault) (ended : Bool) →
-        All IsScalar t → let xs = given_behind [] t ++ Err fault ∷ [] in
+        All IsScalar t → let xs = inputs_behind [] t ++ Err fault ∷ [] in
         emitted_by ended xs (events_left limits (reading []) xs)
         ≡ events_of_stopped fault t (heads_of limits t) }
 {}
@@ -120,6 +120,6 @@ pub fn events_need_no_end()
 pub fn the_book_is_read()
     ensures { (limits : Limits) (t : List ℕ) (heads : Heads) (fault : Option Fault) →
         All IsScalar t → heads_of limits t ≡ Ok heads →
-        (stage_past (fresh_stage limits) (given_behind [] t ++ fault_items fault)).book
+        (stage_past (fresh_stage limits) (inputs_behind [] t ++ fault_items fault)).book
         ≡ heads.book }
 {}

@@ -1,4 +1,4 @@
-//! The reader of the headers' lines, a character at a time. It knows no end: not the line `%%`, and no limit.
+//! The machine of the headers' lines, a character at a time. It knows no end: not the line `%%`, and no limit.
 
 ghost use Rattle.std.specs.Prelude.{◌≡◌, ◌+◌, ◌<◌, ◌^◌};
 ghost use Rattle.gabc_headers.specs.declared.characters.HeaderChar.TheVariants.{Colon};
@@ -59,7 +59,7 @@ impl Trim {
     }
 }
 
-/// Where the reader stands: in a line that begins no header yet or in its name; in the rest of a line that is skipped;
+/// Where the machine stands: in a line that begins no header yet or in its name; in the rest of a line that is skipped;
 /// or in a value, on the header's own line or a later one (`long`).
 #[derive(Clone, Copy)]
 pub(crate) enum PartState {
@@ -68,7 +68,7 @@ pub(crate) enum PartState {
     Value { long: bool, run: Run },
 }
 
-/// A reader of lines. `line` is the current one, from 1; `header` and `name` are those of the value in which it stands,
+/// A machine of lines. `line` is the current one, from 1; `header` and `name` are those of the value in which it stands,
 /// the name unless its header is left out.
 #[derive(Clone, Copy)]
 pub(crate) struct PartMachine {
@@ -100,7 +100,7 @@ impl PartMachine {
         }
     }
 
-    // The same reader in another state.
+    // The same machine in another state.
     fn in_state(self, state: PartState) -> PartMachine
         ensures { result ≡ record self { state = state } }
     {
@@ -223,7 +223,7 @@ impl PartMachine {
         }
     }
 
-    /// The reader after a character with this point, which ends before the byte `next`, and what that makes known.
+    /// The machine after a character with this point, which ends before the byte `next`, and what that makes known.
     pub(crate) fn step(
         self,
         kind: HeaderChar,

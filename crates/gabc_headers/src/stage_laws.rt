@@ -1,4 +1,4 @@
-//! Laws of a stage of headers. Each function's contract is a law, and its body drives a stage or gives it one input.
+//! Laws of a stage of headers. Each function's contract is a law. Its body drives a stage, gives it one input, calls other laws, or does nothing.
 
 ghost use Rattle.std.specs.Prelude.{◌≡◌, ◌+◌, ◌*◌, ◌≤◌, List, [], ◌∷◌, true, length, None, OnOk, Result};
 ghost use Rattle.gabc_places.specs.declared.place.Char.{Char};
@@ -16,7 +16,7 @@ use crate::header_stage::HeaderStage;
 use gabc_places::{Chain, Char, Decoder, Fault, Limits, Room, Stage, drive};
 use std::alloc::{AllocError, Global};
 
-/// A fresh stage of headers, driven over `inputs`, gives what the definition gives of them.
+/// A fresh stage of headers, driven over `inputs`, emits what the definition says of them.
 pub fn a_fresh_stage_emits(
     alloc: Global,
     limits: Limits,
@@ -32,8 +32,8 @@ pub fn a_fresh_stage_emits(
     Ok(())
 }
 
-/// A fresh stage of headers behind a fresh decoder, driven over the `bytes` of an input that ended, gives what the definition gives of
-/// the characters and the fault that `text_of` returns. Without a fault that is what `headers_whole` returns for the text, then the
+/// A fresh stage of headers behind a fresh decoder, driven over the `bytes` of an input that ended, emits what the definition says
+/// of the characters and the fault that `text_of` returns. Without a fault that is what `headers_whole` returns for the text, then the
 /// characters of its body and the end.
 pub fn a_fresh_stage_reads_bytes(
     alloc: Global,
@@ -90,7 +90,7 @@ pub fn the_end_is_taken(stage: &mut HeaderStage, out: &mut Room<HeadEvent>)
     stage.finish(out);
 }
 
-/// Two stages with the same limits that hold the same text of the headers give the same of whatever follows.
+/// Two stages with the same limits that hold the same text of the headers emit the same of whatever follows.
 pub fn stages_of_one_text_agree(one: &HeaderStage, other: &HeaderStage)
     requires limits { one.now.limits ≡ other.now.limits }
     requires one { one.now.progress ≡ reading (text_held one.now.progress) }
@@ -100,7 +100,7 @@ pub fn stages_of_one_text_agree(one: &HeaderStage, other: &HeaderStage)
         ≡ events_left other.now.limits other.now.progress xs }
 {}
 
-/// Two stages behind their headers give the same of whatever follows, whatever the headers were.
+/// Two stages behind their headers emit the same of whatever follows, whatever the headers were.
 pub fn stages_behind_headers_agree(one: &HeaderStage, other: &HeaderStage)
     requires one { IsBehind one.now.progress }
     requires other { IsBehind other.now.progress }

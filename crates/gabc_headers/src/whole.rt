@@ -14,9 +14,9 @@ use crate::score_line::{end_fault, score_len};
 use gabc_places::{Code, Fault, Finding, Findings, Limits, Place, Text};
 use std::alloc::{AllocError, Global};
 
-/// Reads the headers of `text`, whose end is the input's end (GregorioRef, "Headers"). Answers the headers and where the score
-/// begins, or what stopped them: no line `%%` (F2), a value that is not ended (F3), more bytes than `limits.header` (F4), or than
-/// `limits.input` in canonical form (F7).
+/// Reads the headers of `text`, whose end is the input's end (GregorioRef, "Headers"). Returns the headers and where the body
+/// begins, or what stopped them: no line `%%` (F2), a value that is not ended (F3), more bytes than `limits.header`, as read or in
+/// canonical form (F4), or with `%%` and an LF more canonical bytes than `limits.input` (F7). It fails only for want of memory.
 pub fn headers_whole(
     alloc: Global,
     text: &Text,

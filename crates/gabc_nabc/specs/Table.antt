@@ -27,7 +27,7 @@ modifier = one_of (codes "SGM->~") · optional digit
 abbrev pub glyph : Pattern
 glyph = code · many modifier · optional pitch
 
--- points: subpunctis or praepunctis
+-- points: subpunctis or prepunctis
 abbrev pub points : Pattern
 points = (text (codes "su") or text (codes "pp")) · optional letter · digit · optional pitch
 

@@ -171,7 +171,7 @@ fn send(events: NabcEvents, out: &mut Room<NoteEvent>)
     }
 }
 
-/// Reads an NABC snippet: emits each character that is kept, the findings as they become known, and the end. It asks for no
+/// Reads an NABC snippet (GregorioRef, the NABC reference): emits each character that is kept, the findings as they become known, and the end. It asks for no
 /// memory.
 #[derive(Drop)]
 pub struct NabcStage {
@@ -227,8 +227,8 @@ impl NabcStage {
         }
     }
 
-    /// Takes the character `x` if what is emitted at it is that it is kept, and nothing else, and returns whether it did. It then
-    /// does what `push` does. Where it returns false it changed nothing, and `x` is still to be pushed. It takes no `)` and no `|`.
+    /// Takes `x` if it is kept and nothing else is emitted at it, and returns whether it did. Where it did not, nothing changes, and `push`
+    /// takes `x`. It takes no `)` and no `|`.
     pub fn take_kept(&mut self, x: Char) -> bool
         ensures taken { result ≡ true → (xs : List Char)
             → events_left self.old (x ∷ xs) ≡ (Kept x ∷ []) ∷ events_left self.new xs }

@@ -34,7 +34,7 @@ fn first_glyph(notes: &[Note]) -> Option<(GlyphKind, usize)>
 }
 
 /// Adds to `out` the glyphs of a segment whose notes are `notes`, in order: each is the longest neume that begins where the one
-/// before it ends, and its notes count from 0 in `notes` (GregorioRef, chapter Notation, section Complex Neumes). `out` has to take
+/// before it ends, and its notes count from 0 in `notes` (GregorioRef, "Complex Neumes"). `out` has to take
 /// as many glyphs more as there are notes. It asks for no memory.
 pub fn cut(notes: &[Note], out: &mut Room<Glyph>)
     requires { Fits out.old (length notes.now) }

@@ -24,8 +24,7 @@
 //! assert_eq!(rt; glyphs.slice(), [glyph].as_slice()); // a torculus: 3 notes from note 0 on
 //! ```
 //!
-//! The rules are those of GregorioRef, chapter Notation, sections Complex Neumes and Neume Spacing; the kinds are those of
-//! `docs/LANGUAGE.md`.
+//! The rules are those of GregorioRef, "Complex Neumes" and "Neume Spacing"; the kinds are those of `docs/LANGUAGE.md`.
 //!
 //! Notes are read as letters (`specs/Letters.antt`), one for each: by the shape of the first, and of another by whether it is
 //! joinable and whether it is higher or lower than the note before it. The machine of `state.rt` is proved to read the table

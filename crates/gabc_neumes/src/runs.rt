@@ -101,8 +101,8 @@ fn add_runs(kind: RunKind, kept: &str, items: &[Item], out: &mut Room<Span>)
     add_run(from, items.len(), out);
 }
 
-/// Adds to `out` the elements of `items`, which are items of `kept`, in order: spans that count the items from 0. An element is as
-/// many items in a row as have no divider among them; it may hold no note (GregorioRef, chapter Notation, section Neume Spacing).
+/// Adds to `out` the elements of `items`, items of `kept`, in order. Their spans count the items from 0. An element is as many items in a
+/// row as have no divider among them; it may hold no note (GregorioRef, "Neume Spacing").
 /// The items have to lie in `kept`, as those of `items_whole` do, and `out` has to take as many spans more as there are items. It
 /// asks for no memory.
 pub fn elements(kept: &str, items: &[Item], out: &mut Room<Span>)
@@ -114,7 +114,7 @@ pub fn elements(kept: &str, items: &[Item], out: &mut Room<Span>)
     add_runs(RunKind::Element, kept, items, out);
 }
 
-/// Adds to `out` the segments of `items`, which are items of `kept`, in order: spans that count the items from 0. A segment is as
+/// Adds to `out` the segments of `items`, items of `kept`, in order. Their spans count the items from 0. A segment is as
 /// many notes, attributes and fusion marks in a row as there are; it may hold no note. What is cut into glyphs are its notes. The
 /// items have to lie in `kept`, as those of `items_whole` do, and `out` has to take as many spans more as there are items. It asks
 /// for no memory.

@@ -31,7 +31,7 @@ text_is split macros xs =
     sym (take-map (λ (x : Char). x.c) n (kept_chars_of (concat_of (note_events split macros xs))))
     ∙ (ap (take n) (kept_chars-kept (concat_of (note_events split macros xs)) ∙ emitted_kept split macros xs [] refl) ∙ prefix_is s.mark s.back)
 
--- a driver's answer, where `text` is the kept text and `rest` what is said of the characters
+-- a driver's answer, where `text` is the kept text and `rest` what is emitted of the characters
 pub chars_returned : {E : Type 0} (r : Result (List Char) E) (split : Bool) (macros : ℕ) (xs : List Char) (rest : List (List NoteEvent)) (text : List ℕ)
     → text ≡ kept_by (stop_after split [] xs).mark (stop_after split [] xs).back → rest ≡ note_events split macros xs
     → IfOk r (λ cs. cs ≡ take (length text) (kept_chars_of (concat_of rest))) → IfOk r (λ cs. cs ≡ kept_chars_in split macros xs)

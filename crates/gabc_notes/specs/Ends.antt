@@ -13,7 +13,7 @@ IsMarkOf split Close c = c ≡ 41
 IsMarkOf split Next c = (c ≡ 124) × (split ≡ true)
 IsMarkOf split (Cut place) c = ⊥
 
--- The events tell one end, behind all else, and the character is its mark.
+-- The events have one end, behind all else, and the character is its mark.
 pub record EndWithMark (split : Bool) (c : ℕ) (events : List NoteEvent) : Type 0 where
   pub before : List NoteEvent
   pub how : NoteEnd
@@ -22,7 +22,7 @@ pub record EndWithMark (split : Bool) (c : ℕ) (events : List NoteEvent) : Type
   pub endless : ends_of before ≡ []
   pub mark : IsMarkOf split how c
 
--- The events tell no end, or one, behind all else, at its mark.
+-- The events have no end, or one, behind all else, at its mark.
 abbrev pub EndAtMost : Bool → ℕ → List NoteEvent → Type 0
 EndAtMost split c events = (ends_of events ≡ []) ⊎ EndWithMark split c events
 

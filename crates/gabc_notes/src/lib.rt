@@ -10,8 +10,8 @@
 //!   snippet to its end, and `note_of` reads an item. Spans count bytes of the kept text.
 //! - `NoteStage` reads the characters of a snippet one at a time: it emits those that are kept, the findings, and the end. What it
 //!   emits is `note_events` of `specs/Events.antt`, a definition without states: what is emitted of a character depends on it and
-//!   on the characters before it. `NoteStage::take_kept` takes a character of which nothing but itself is emitted, and else leaves
-//!   the stage as it was.
+//!   on the characters before it. `NoteStage::take_kept` takes a character of which nothing but itself is emitted (no `)` and no
+//!   `|`, and none while a comment is open), and else leaves the stage as it was.
 //! - `laws` has what follows of the definitions.
 //!
 //! Texts and places come from `gabc_places`: lines and columns from 1, a column a character. A snippet of a score begins behind
@@ -34,7 +34,7 @@
 //! assert_eq!(rt; chars.as_slice().last().map(|x| x.place.column), Some(4)); // of `v`
 //! ```
 //!
-//! The rules are those of GregorioRef, chapter Notation, section Note Syntax.
+//! The rules are those of GregorioRef, "Notation — Note Syntax".
 //!
 //! The machine of `state.rt` is proved to read the table (`proofs/machine/MachineReadsTable.antt`): each state stands for a text that ends in
 //! it, and what may follow that text in the table is compared with the machine's next state, for each character below 128.

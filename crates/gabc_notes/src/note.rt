@@ -127,7 +127,7 @@ fn shape_behind(text: &[u8]) -> Shape
     }
 }
 
-/// Returns the height of `pitch`, a letter of either case: from 0 for `a` to 13 for `n`, and 14 for `p`.
+/// Returns the height of `pitch`, a letter of either case: from 0 for `a` to 13 for `n`, and 14 for `p` (GregorioRef, "Pitches").
 pub fn height_of(pitch: u8) -> u8
     ensures { result ≡ height_of pitch }
 {
@@ -160,7 +160,7 @@ fn height_and_shape(text: &[u8]) -> (u8, Shape)
     }
 }
 
-/// Returns the note that `item` is, by its bytes in `kept`: `None` unless its kind is `ItemKind::Note`. The span of `item` has to
+/// Returns the note that `item` is, by its bytes in `kept`: `None` unless its kind is `ItemKind::Note` (GregorioRef, "One-Note Neumes"). The span of `item` has to
 /// lie within `kept`, as that of each item of `items_whole` does.
 pub fn note_of(kept: &str, item: Item) -> Option<Note>
     requires { (item.span.from ≤ item.span.to) × (item.span.to ≤ length kept.now) }

@@ -277,7 +277,8 @@ fn prefix_after(facts: CharFacts, name: MacroPrefix, c: char) -> MacroPrefix
     }
 }
 
-/// Reads a snippet: emits each character that is kept, the findings as they become known, and the end. It asks for no memory.
+/// Reads a snippet (GregorioRef, "Notation — Note Syntax"): emits each character that is kept, the findings as they become known, and the
+/// end. It asks for no memory.
 #[derive(Drop)]
 pub struct NoteStage {
     split: bool,

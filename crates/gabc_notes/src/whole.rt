@@ -116,7 +116,8 @@ fn ending_of(end: NoteEnd, index: usize) -> SnippetEnding
     }
 }
 
-/// Reads the snippet of notes with which `body` begins, up to the mark that ends it or the end of `body`. The first character of
+/// Reads the snippet of notes with which `body` begins, up to the mark that ends it or the end of `body` (GregorioRef, "Notation — Note
+/// Syntax"). Each number of `at` and the bytes of `body` together have to be below 2^64. The first character of
 /// `body` stands at `at`, a line and a column from 1, as `gabc_places` counts them in a `Text`. With `split` a `|` ends the snippet
 /// too. The bit `d` of `macros`, from 0 to 9, tells that the macro of the digit `d` is defined. It fails only for want of memory.
 pub fn snippet_whole(

@@ -10,8 +10,8 @@ module _ {K S C : Type 0} (table : Table K) (a : Automaton K S C) (r : ReadsSnip
   stuck s done later all c h n e i = left_out table a r s done c h n (later, subst (IsSnippet table) (e ∙ sym (append_assoc done (c ∷ []) later)) i)
 
   -- at the end the state tells
-  pub told_by : (s : S) (done all : List ℕ) → Stands table a s done → done ≡ all → IsTrue (a.whole s) ↔ IsSnippet table all
-  told_by s done all h e = (λ w. subst (IsSnippet table) e (whole_at table a r s done h w), λ i. go (a.whole s) refl i)
+  pub emitted_by : (s : S) (done all : List ℕ) → Stands table a s done → done ≡ all → IsTrue (a.whole s) ↔ IsSnippet table all
+  emitted_by s done all h e = (λ w. subst (IsSnippet table) e (whole_at table a r s done h w), λ i. go (a.whole s) refl i)
     where
       go : (b : Bool) → a.whole s ≡ b → IsSnippet table all → IsTrue b
       go true w i = refl

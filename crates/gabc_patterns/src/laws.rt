@@ -23,7 +23,7 @@ pub fn longest_is_one<K>()
         Longest (IsItem rows) b y → (a ≡ b) × (x ≡ y) }
 {}
 
-/// Two readings of a text cut it alike, and are one if no text is spelt by rows of two kinds.
+/// Two readings of a text cut it alike, and are one if no text is spelled by rows of two kinds.
 pub fn reading_is_one<K>()
     ensures texts { (rows : Table K) → ¬ IsItem rows [] → (is js : List (K × List ℕ)) (t : List ℕ) →
         IsReading rows is t → IsReading rows js t → map (λ i. i.1) is ≡ map (λ i. i.1) js }

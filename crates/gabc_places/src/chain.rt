@@ -11,7 +11,7 @@ ghost use Rattle.gabc_places.specs.Chain.{chain_events};
 use crate::{Room, Stage};
 use std::marker::Model;
 
-/// Passes the outputs of the first stage to the second. It emits at most `(first.most() + 1) * second.most()` outputs a call.
+/// Passes the events of the first stage to the second. It emits at most `(first.most() + 1) * second.most()` events a call.
 #[derive(Drop)]
 pub struct Chain<A: Stage, B: Stage<Input = A::Output>> {
     first: A,
@@ -32,7 +32,8 @@ impl<A: Stage, B: Stage<Input = A::Output>> Model for Chain<A, B> {
 }
 
 impl<A: Stage, B: Stage<Input = A::Output>> Chain<A, B> {
-    /// Returns a chain of the two stages. `between` holds what the first emits in one call; items that it has are dropped.
+    /// Returns a chain of `first` and `second`. `between` has to take `first.most()` events, and those that it has are dropped.
+    /// `(first.most() + 1) * second.most()` has to fit a `usize`.
     pub fn new(first: A, second: B, between: Room<A::Output>) -> Chain<A, B>
         requires fits { (A.most_of first + 1) * B.most_of second < 2 ^ 64 }
         requires room { A.most_of first ≤ between.limit }

@@ -152,7 +152,7 @@ impl Decoder {
     }
 
     /// Takes `bytes` at once, as `take` takes them one by one. What it emits for them is known without it: each byte is a character, at
-    /// the next column of this line.
+    /// the next column of this line. Each of `bytes` has to be printable, and there may be at most `most_skipped` of them.
     pub fn skip(&mut self, bytes: &[u8])
         requires few { length bytes.now ≤ most_skipped_by self.old }
         requires printable { All IsPrintable bytes.now }

@@ -1,4 +1,4 @@
-//! A list that grows, and whose capacity is told.
+//! A list that grows, and whose capacity contracts see.
 
 ghost use Rattle.std.specs.Prelude.{◌≡◌, ◌↔◌, ◌∷◌, ◌++◌, ◌≤◌, ◌<◌, ◌^◌, [], length, IsOk, IfOk, IsTrue, OnErr, OnOk};
 ghost use Rattle.std.specs.Slice.Iter.{iter_rest, iter_steps};
@@ -25,7 +25,7 @@ impl<T: Copy> Model for Growing<T> {
 }
 
 impl<T: Copy> Growing<T> {
-    /// Returns a list of no items, which asks for no memory.
+    /// Returns a list of no items, and asks for no memory.
     pub fn new(alloc: Global) -> Growing<T>
         ensures { result.items ≡ [] }
     {
@@ -34,7 +34,7 @@ impl<T: Copy> Growing<T> {
         }
     }
 
-    /// Returns a list of no items, and reserves memory for `capacity` of them.
+    /// Returns a list of no items, and reserves memory for `capacity` of them. It fails only for want of memory.
     pub fn with_capacity(alloc: Global, capacity: usize) -> Result<Growing<T>, AllocError>
         ensures { IfOk result (λ list. list ≡ record { items = []; capacity = capacity }) }
     {
@@ -63,7 +63,7 @@ impl<T: Copy> Growing<T> {
         self.items.extend_from_slice(items)
     }
 
-    /// Returns a list of the same items, in memory of its own that is just large enough.
+    /// Returns a list of the same items, in memory of its own. It fails only for want of memory.
     pub fn copy(&self, alloc: Global) -> Result<Growing<T>, AllocError>
         ensures { IfOk result (λ list. list.items ≡ self.now.items) }
     {

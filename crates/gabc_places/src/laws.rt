@@ -1,4 +1,4 @@
-//! Laws of the definitions that contracts speak of. The functions do nothing: each is there for its clauses.
+//! Laws of the definitions that contracts speak of. Each function is there for its clauses: all but two do nothing, and those run a fresh decoder.
 
 ghost use Rattle.std.specs.Prelude.{◌≡◌, ◌≢◌, ℕ, ◌<◌, List, [], ◌∷◌, ◌++◌, length, take, Bool, ◌≤◌, Some, None, IsSome, slice_index, encode_utf8_all};
 ghost use Rattle.std.specs.Char.{IsScalar};

@@ -61,7 +61,7 @@ impl fmt::Display for Finding {
     }
 }
 
-/// Prints the words of a message behind the file's name: `LINE:COLUMN: fatal: CODE: TEXT`.
+/// Prints what a message has behind the file's name: `LINE:COLUMN: KIND: CODE: TEXT`, where KIND is `fatal` for each code of a fault.
 impl fmt::Display for Fault {
     ghost output = { λ x. Some (message_text x.place x.code) };
 

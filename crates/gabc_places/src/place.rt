@@ -45,7 +45,7 @@ pub struct Char {
     pub place: Place,
 }
 
-/// A part of a kept text: its bytes from `from` up to `to`.
+/// A part of a text: its bytes from `from` up to before `to`, counted from 0; of elements and segments, a part of the items.
 #[derive(Clone, Copy, Debug, PartialEq, Eq)]
 pub struct Span {
     pub from: usize,

@@ -25,7 +25,7 @@ impl<T: Copy> Model for Room<T> {
 }
 
 impl<T: Copy> Room<T> {
-    /// Returns an empty room for `limit` items, and reserves their memory.
+    /// Returns an empty room for `limit` items, and reserves their memory. It fails only for want of memory.
     pub fn with_limit(alloc: Global, limit: usize) -> Result<Room<T>, AllocError>
         ensures { IfOk result (λ r. r ≡ record { items = []; limit = limit }) }
     {
@@ -56,7 +56,7 @@ impl<T: Copy> Room<T> {
         self.items.as_slice()
     }
 
-    /// Adds `item` at the end.
+    /// Adds `item` at the end. There has to be room for it.
     pub fn push(&mut self, item: T)
         requires { Fits self.old 1 }
         ensures { self.new ≡ extended_by self.old (item ∷ []) }
@@ -66,7 +66,7 @@ impl<T: Copy> Room<T> {
         };
     }
 
-    /// Adds `items` at the end.
+    /// Adds `items` at the end. There has to be room for them.
     pub fn append(&mut self, items: &[T])
         requires { Fits self.old (length items.now) }
         ensures { self.new ≡ extended_by self.old items.now }

@@ -23,7 +23,7 @@ pub trait Sink {
     // how many writes failed
     ghost failures: { Self → ℕ };
 
-    /// Takes bytes of the prefix of `bytes`, and returns how many: at least one, if there is one. Where it fails it took none.
+    /// Takes a prefix of `bytes`, and returns how many bytes it has: at least 1, if there is one. Where it fails, it took none.
     fn write(&mut self, bytes: &[u8]) -> Result<usize, SinkFault>
         ensures bound { WritesAtMost result bytes.now }
         ensures bytes { WriteAppends (written self.old) (written self.new) result bytes.now }
@@ -41,7 +41,7 @@ pub struct Unsent {
     pub sent: usize,
 }
 
-/// Writes all `bytes` to `sink`. Where the sink fails, it took the first `sent` of them, and nothing more is tried.
+/// Writes all `bytes` to `sink`. Where the sink fails, it took the first `sent` of them, fewer than all.
 pub fn send_all<S: Sink>(sink: &mut S, bytes: &[u8]) -> Result<(), Unsent>
     ensures all { OnOk result (Appends (S.written sink.old) (S.written sink.new) bytes.now) }
     ensures prefix { IfErr result (λ u. Appends (S.written sink.old) (S.written sink.new)

@@ -4,7 +4,7 @@ pub mod EndOfBody
 pub mod EventsOfOnePoint
 pub mod EventsOfSnippets
 pub mod EventsOfSyllableParts
-pub mod GathererHoldsDefinition
+pub mod BuilderHoldsDefinition
 pub mod OneListEachCharacter
 pub mod QuietParts
 pub mod QuietTexts

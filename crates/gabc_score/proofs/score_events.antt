@@ -3,7 +3,7 @@ pub mod BodyIsCollected
 pub mod EventsStayWithinBounds
 pub mod BodyOutputs
 pub mod FewAndShortAreLent
-pub mod GivenByHeaders
+pub mod EmittedByHeaders
 pub mod GivenSyllables
 pub mod HeldScoreIsDefinition
 pub mod HeldSyllables

@@ -106,7 +106,7 @@ part_behind texts lines macros (InNotes line opened lists) x xs =
     if list_any is_close (first_list lists) then text_from texts (behind_mark x.place) xs else
     InNotes line opened (other_lists lists)
 
--- what the characters tell, the first of which stands in this part, and the end
+-- what the characters emit, the first of which stands in this part, and the end
 abbrev pub events_from : Texts → ℕ → ℕ → PartAhead → List Char → List (List BodyEvent)
 events_from texts lines macros part [] = events_at_end part ∷ []
 events_from texts lines macros part (x ∷ xs) =
@@ -116,6 +116,6 @@ events_from texts lines macros part (x ∷ xs) =
 abbrev pub texts_by_definition : Texts
 texts_by_definition at xs = events_by_point at (codes_of xs)
 
--- what the characters of a body tell, with so many NABC lines and the macros of these bits
+-- what the characters of a body emit, with so many NABC lines and the macros of these bits
 abbrev pub body_events : ℕ → ℕ → List Char → List (List BodyEvent)
 body_events lines macros xs = events_from texts_by_definition lines macros InComment xs

@@ -17,7 +17,7 @@ use Rattle.gabc_headers.specs.declared.heads.HeadFault.{HeadFault}
 use Rattle.gabc_headers.specs.declared.head_event.HeadEvent.{HeadEvent}
 use Rattle.gabc_headers.specs.declared.head_event.HeadEvent.TheVariants as head_event
 use Rattle.gabc_headers.specs.Heads.{heads_of}
-use Rattle.gabc_headers.specs.HeadEvents.{heads_told}
+use Rattle.gabc_headers.specs.HeadEvents.{event_of_book}
 use Rattle.gabc_score.specs.declared.events.BodyEvent.{BodyEvent}
 use Rattle.gabc_score.specs.declared.ending.InputEnding.{InputEnding}
 use Rattle.gabc_score.specs.declared.ending.InputEnding.TheVariants.{Whole, Broken, At}
@@ -136,7 +136,7 @@ stop_events (Some fault) = head_event.Stop fault ∷ []
 
 abbrev pub head_events_by : InputEnding → List ℕ → Result Heads HeadFault → List HeadEvent
 head_events_by ending t (Ok heads) =
-    map (λ f. head_event.Found f) heads.findings ++ heads_told heads.book ∷ (map (λ x. head_event.Body x) (body_characters t) ++ ending_events ending)
+    map (λ f. head_event.Found f) heads.findings ++ event_of_book heads.book ∷ (map (λ x. head_event.Body x) (body_characters t) ++ ending_events ending)
 head_events_by ending t (Err stop) = map (λ f. head_event.Found f) stop.findings ++ stop_events (head_fault_by ending stop.at_end stop.fault)
 
 -- what a header stage gives of a text that ended so

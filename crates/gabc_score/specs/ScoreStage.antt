@@ -45,7 +45,7 @@ abbrev pub events_of : List ScoreOutput → List ScoreEvent
 events_of outputs = events_lent First outputs
 
 -- a call gave these outputs as events, and lends their syllables
-pub record Tells (outputs : List ScoreOutput) (old new : BoundedList ScoreEvent) (first second : PlacedSyllable) : Type 0 where
+pub record GivesOutputs (outputs : List ScoreOutput) (old new : BoundedList ScoreEvent) (first second : PlacedSyllable) : Type 0 where
   pub events : new ≡ extended_by old (events_of outputs)
   pub few : length (events_of outputs) ≤ 16
   pub lent : syllables_in outputs ≡ take (length (syllables_in outputs)) (first ∷ second ∷ [])
@@ -74,7 +74,7 @@ pub record GivesAt (before : ScoreStageState) (x : HeadEvent) (after : ScoreStag
   pub lends : Lends before.limits (most_lent x) outputs
   pub limits : after.limits ≡ before.limits
   pub law : (xs : List HeadEvent) → left_of before (x ∷ xs) ≡ outputs ∷ left_of after xs
-  pub emitted : Tells outputs old new after.first after.second
+  pub emitted : GivesOutputs outputs old new after.first after.second
 
 -- At the end of the inputs it gave what was still to come.
 pub record GivesLast (before after : ScoreStageState) (old new : BoundedList ScoreEvent) : Type 0 where
@@ -82,7 +82,7 @@ pub record GivesLast (before after : ScoreStageState) (old new : BoundedList Sco
   pub lends : Lends before.limits 1 outputs
   pub limits : after.limits ≡ before.limits
   pub law : left_of before [] ≡ outputs ∷ []
-  pub emitted : Tells outputs old new after.first after.second
+  pub emitted : GivesOutputs outputs old new after.first after.second
 
 -- ---- characters at which nothing is given
 

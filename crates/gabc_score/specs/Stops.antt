@@ -1,4 +1,4 @@
--- The stop of a body: the first point at which a limit is passed. `reached` of specs/Body.antt finds it.
+-- The stop of a body: the first point at which a limit is passed. `events_to_stop` of specs/Body.antt finds it.
 use Rattle.std.specs.Prelude.{◌≡◌, ℕ, suc, ◌<◌, List, ◌∷◌, ◌++◌, length, take, drop, Some, None}
 use Rattle.gabc_places.specs.declared.code.Code.{Code}
 use Rattle.gabc_places.specs.declared.limits.Limits.{Limits}

@@ -2,7 +2,7 @@
 --
 -- A unit is a text with the `(` that ends it, and a note part: snippets of the lines 0, 1, .. and 0 again, the last of which ends at
 -- a `)`, each other at a `|`. Read one after the other, these are the parts of the body: each is a text or a snippet, as
--- `specs/Parts.antt` reads it from where it begins, and ends at the first character whose list has its end.
+-- `specs/Events.antt` reads it from where it begins, and ends at the first character whose list has its end.
 use Rattle.std.specs.Prelude.{◌≡◌, ℕ, List, [], ◌∷◌, ◌++◌, map, true, false, ◌==◌, if◌then◌else◌, Option, Some, None}
 use Rattle.std.specs.List.{list_any}
 use Rattle.std.specs.Option.{option_map}
@@ -79,7 +79,7 @@ module _ (texts : Texts) (lines macros : ℕ) where
   Cuts part [] last = Endless lines part last
   Cuts part (p ∷ pieces) last = EndsBehind lines part p.characters p.mark × Cuts (part_following p.mark p.end (whole pieces last)) pieces last
 
-  -- what parts tell that are cut so, one after the other
+  -- what parts emit that are cut so, one after the other
   abbrev pub events_of_cutting : PartAhead → List CutPart → List Char → List (List BodyEvent)
   events_of_cutting part [] last = events_through part last
   events_of_cutting part (p ∷ pieces) last = events_through part p.characters ++ events_of_cutting (part_following p.mark p.end (whole pieces last)) pieces last

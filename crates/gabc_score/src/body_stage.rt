@@ -57,7 +57,7 @@ pub(crate) enum Emitter {
     Notes { line: u8, opened: Place },
 }
 
-/// Reads the body of a score a character at a time, and tells what its texts and notes tell. It asks for no memory once made.
+/// Reads the body of a score a character at a time, and emits what its texts and notes emit. It asks for no memory once made.
 #[derive(Drop)]
 pub struct BodyStage {
     nabc_lines: u8,

@@ -1,9 +1,9 @@
-//! What the characters of a score tell.
+//! What a stage over a body emits.
 
 use gabc_notes::NoteEvent;
 use gabc_text::TextEvent;
 
-/// What a character of a score tells.
+/// What a stage over a body emits: an event of a text or of a snippet.
 #[derive(Clone, Copy, Debug, PartialEq, Eq)]
 pub enum BodyEvent {
     /// Of a text.

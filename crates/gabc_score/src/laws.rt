@@ -35,7 +35,7 @@ ghost use Rattle.gabc_score.specs.Units.{BodyUnit, JustText, BodyCutting, IsCut,
 ghost use Rattle.gabc_score.specs.WithinLimits.{CanonicalWithin, AreWithin, KeepsWithin};
 ghost use Rattle.gabc_score.specs.ScoreEvents.{ScoreOutput, score_outputs, head_events, outputs_of_text, findings_in, syllables_in, fault_in, has_end, is_whole, is_last};
 ghost use Rattle.gabc_headers.specs.declared.head_event.HeadEvent.{HeadEvent};
-ghost use Rattle.gabc_headers.specs.HeadEvents.{emitted_by, events_left, given_behind, reading};
+ghost use Rattle.gabc_headers.specs.HeadEvents.{emitted_by, events_left, inputs_behind, reading};
 ghost use Rattle.gabc_places.specs.StageLaw.{concat_of};
 
 /// Each body has one cutting into a comment, units and what stands behind the last `)`, however its texts are read.
@@ -276,17 +276,17 @@ pub fn a_score_says_what_it_emits()
         ≡ is_whole ending (score_of limits ending t).fault }
 {}
 
-/// What a score is given of a text is what a stage of headers gives of it, whether the text has ended, breaks off or is stopped by a
+/// The events that a score takes of a text are those that a stage of headers emits of it, whether the text has ended, breaks off or is stopped by a
 /// fault. Behind this fault it is no matter whether the end has come.
-pub fn a_stage_of_headers_gives_the_events()
+pub fn a_stage_of_headers_emits_the_events()
     ensures whole { (limits : Limits) (t : List ℕ) → All IsScalar t →
-        let xs = given_behind [] t in
+        let xs = inputs_behind [] t in
         head_events limits Whole t ≡ emitted_by true xs (events_left limits (reading []) xs) }
     ensures broken { (limits : Limits) (t : List ℕ) → All IsScalar t →
-        let xs = given_behind [] t in
+        let xs = inputs_behind [] t in
         head_events limits Broken t ≡ emitted_by false xs (events_left limits (reading []) xs) }
     ensures stopped { (limits : Limits) (t : List ℕ) (fault : Fault) (ended : Bool) →
-        All IsScalar t → let xs = given_behind [] t ++ Err fault ∷ [] in
+        All IsScalar t → let xs = inputs_behind [] t ++ Err fault ∷ [] in
         head_events limits (At fault) t
         ≡ emitted_by ended xs (events_left limits (reading []) xs) }
 {
@@ -294,7 +294,7 @@ pub fn a_stage_of_headers_gives_the_events()
     gabc_headers::laws::events_need_no_end();
 }
 
-/// Behind a stop or the end a score emits nothing, whatever it is given.
+/// Behind a stop or the end a score emits nothing, whatever it takes.
 pub fn nothing_follows_the_end()
     ensures { (texts : Texts) (limits : Limits) (inputs : List HeadEvent)
         (before behind : List ScoreOutput) (o : ScoreOutput)

@@ -1,7 +1,7 @@
 //! The score: syllables with their positions, what was found, and what stopped the reading.
 //!
 //! ```
-//! let text = Text::from_str(alloc, "%%\nKy(f)ri(gfg)e(x.)")?;
+//! let text = Text::from_str(alloc, "name:;\n%%\nKy(f)ri(gfg)e(x.)")?;
 //! let score = score_whole(alloc, &text, InputEnding::Whole, Limits::DEFAULT)?;
 //! for syllable in &score.syllables {
 //!     for snippet in &syllable.snippets {
@@ -9,7 +9,7 @@
 //!     }
 //! }
 //! for finding in &score.findings {
-//!     let message = format!(in alloc; "{finding}")?; // "2:16: error: E1: character left out of the notes"
+//!     let message = format!(in alloc; "{finding}")?; // E1 at 3:15 and at 3:16: "3:15: error: E1: character left out of the notes"
 //! }
 //! ```
 #![tactic(auto)]
@@ -21,6 +21,7 @@ mod canonical;
 mod context;
 mod ending;
 mod events;
+mod giving;
 mod kept_text;
 pub mod laws;
 mod part_ends;
@@ -37,7 +38,6 @@ mod snippets;
 pub mod stage_laws;
 mod syllable;
 mod syllables;
-mod telling;
 mod whole;
 
 pub use body_stage::BodyStage;

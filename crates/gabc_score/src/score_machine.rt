@@ -1,4 +1,4 @@
-//! A machine from what a stage of headers gives to the score.
+//! A machine from what a stage of headers emits to the score.
 
 ghost use Rattle.std.specs.Prelude.{◌≡◌, ◌≢◌, ◌+◌, ◌<◌, ◌≤◌, ◌^◌, List, [], ◌∷◌, ◌++◌, true, false, length, take, None, IfOk};
 ghost use Rattle.std.specs.List.{All};
@@ -9,15 +9,15 @@ ghost use Rattle.gabc_score.specs.BodyStage.{running_events_left};
 ghost use Rattle.gabc_places.specs.BoundedList.{Fits};
 ghost use Rattle.gabc_text.specs.TextStage.{place_after_char};
 ghost use Rattle.gabc_score.specs.ScoreEvents.{outputs_of, Stop, characters_in};
-ghost use Rattle.gabc_score.specs.ScoreStage.{Tells, GivesAt, GivesLast, GivesNothing, left_of};
+ghost use Rattle.gabc_score.specs.ScoreStage.{GivesOutputs, GivesAt, GivesLast, GivesNothing, left_of};
 ghost use Rattle.gabc_score.specs.machine.ScoreStage.{placed_behind, begun_score, body_left};
 ghost use Rattle.gabc_score.specs.machine.ScoreMachine.{shown, IsInBody, IsBeforeBody, IsScore, IsFreed, PassesQuietly};
 ghost use Rattle.gabc_score.specs.machine.SlotPair.{is_made};
 
 use crate::body_stage::{BodyPart, BodyStage};
+use crate::giving::{give_broken, give_end, give_point, give_stop};
 use crate::score_event::ScoreEvent;
 use crate::slot_pair::{SlotPair, SlotUse};
-use crate::telling::{tell_broken, tell_end, tell_point, tell_stop};
 use gabc_headers::HeadEvent;
 use gabc_places::{Char, Fault, Finding, Limits, Place, Room, is_printable};
 use std::alloc::{AllocError, Global};
@@ -30,7 +30,7 @@ pub(crate) enum ScorePart {
     Over,
 }
 
-/// Reads what a stage of headers gives.
+/// Reads what a stage of headers emits.
 #[derive(Drop)]
 pub(crate) struct ScoreMachine {
     pub(crate) limits: Limits,
@@ -108,12 +108,12 @@ impl ScoreMachine {
         requires fits { Fits out.old 16 }
         ensures part { self.new.part ≡ ScorePart.Over }
         ensures limits { self.new.limits ≡ self.old.limits }
-        ensures emitted { Tells
+        ensures emitted { GivesOutputs
             (outputs_of [] (placed_behind self.old.has_lent self.old.pair.held) ++ Stop fault ∷ [])
             out.old out.new self.new.pair.first self.new.pair.second }
         ensures few { length (placed_behind self.old.has_lent self.old.pair.held) ≤ 1 }
     {
-        tell_stop(&mut self.pair, self.has_lent, fault, out);
+        give_stop(&mut self.pair, self.has_lent, fault, out);
         self.part = ScorePart::Over;
     }
 
@@ -138,7 +138,7 @@ impl ScoreMachine {
                 out,
             ),
             None => {
-                let gave = tell_point(&mut self.pair, self.has_lent, &mut self.found, out);
+                let gave = give_point(&mut self.pair, self.has_lent, &mut self.found, out);
                 self.has_lent = self.has_lent || gave;
                 self.next = place_behind(x);
             }
@@ -161,7 +161,7 @@ impl ScoreMachine {
             Some(fault) => self.stop(fault, out),
             None => {
                 let found = self.found.slice();
-                tell_end(
+                give_end(
                     &mut self.pair,
                     self.has_lent,
                     has_last,
@@ -311,7 +311,7 @@ impl ScoreMachine {
         ensures part { self.new.part ≡ ScorePart.Over }
     {
         self.pair.free();
-        tell_broken(&mut self.pair, self.has_lent, out);
+        give_broken(&mut self.pair, self.has_lent, out);
         self.part = ScorePart::Over;
     }
 

@@ -1,4 +1,4 @@
-//! A stage from what a stage of headers gives to the score.
+//! A stage from what a stage of headers emits to the score.
 
 ghost use Rattle.std.specs.Prelude.{◌≡◌, ◌≤◌, List, length, take, IfOk};
 ghost use Rattle.gabc_headers.specs.declared.head_event.HeadEvent.{HeadEvent};
@@ -19,7 +19,7 @@ use gabc_places::{Limits, Place, Room, Stage};
 use std::alloc::{AllocError, Global};
 use std::marker::Model;
 
-/// Reads a score from what a stage of headers gives: what is found, each whole syllable with its position, and what stops the
+/// Reads a score from what a stage of headers emits: what is found, each whole syllable with its position, and what stops the
 /// reading (GregorioRef, "Syllable Text Syntax"). It asks for no memory once made.
 #[derive(Drop)]
 pub struct ScoreStage {
@@ -39,7 +39,8 @@ impl Model for ScoreStage {
 
 impl ScoreStage {
     /// Returns a stage before the first event of the headers, and reserves the memory that it ever takes: for two syllables of
-    /// `limits.syllable` bytes. It gives what the definition gives of all events of which no count reaches its last value.
+    /// `limits.syllable` bytes. It gives what the definition says of all events of which no count reaches its last value. It
+    /// fails only for want of memory.
     pub fn with_limits(alloc: Global, limits: Limits) -> Result<ScoreStage, AllocError>
         ensures outputs { IfOk result (λ stage. (xs : List HeadEvent) → AreCountsBelow xs →
             left_of stage xs ≡ score_outputs texts_by_stage limits xs) }

@@ -233,7 +233,7 @@ impl SlotPair {
         self.used = SlotUse::Made;
     }
 
-    /// Closes the last text, where it has a piece, a centre or a translation: its notes are one empty snippet. Tells whether
+    /// Closes the last text, where it has a piece, a centre or a translation: its notes are one empty snippet. Returns whether
     /// it has.
     pub(crate) fn close_last(&mut self) -> bool
         requires { self.old.used ≢ SlotUse.Lent }
@@ -321,7 +321,7 @@ impl SlotPair {
     }
 
     /// Gives the held syllable where the one that was read is whole, which is held from then on. `has_lent` tells whether one was
-    /// lent before. Tells how many it gave, one or none.
+    /// lent before. Returns how many it gave, one or none.
     pub(crate) fn turn(&mut self, has_lent: bool) -> usize
         ensures gathered { self.new.gathered ≡ with_held self.old.gathered }
         ensures lends { lent_syllables result self.new ≡ take (length self.old.gathered.made - 1)
@@ -348,7 +348,7 @@ impl SlotPair {
         }
     }
 
-    /// Gives the held syllable as the last one. Tells how many it gave, one or none.
+    /// Gives the held syllable as the last one. Returns how many it gave, one or none.
     pub(crate) fn give_held(&mut self, has_lent: bool) -> usize
         requires { self.old.used ≢ SlotUse.Lent }
         ensures lends { lent_syllables result self.new ≡ placed_behind has_lent self.old.held }
@@ -359,7 +359,7 @@ impl SlotPair {
         if self.held { 1 } else { 0 }
     }
 
-    /// Gives the held syllable, and behind it the one that was made last. Tells how many it gave.
+    /// Gives the held syllable, and behind it the one that was made last. Returns how many it gave.
     pub(crate) fn give_all(&mut self, has_lent: bool) -> usize
         requires { self.old.used ≢ SlotUse.Lent }
         ensures lends { lent_syllables result self.new ≡ placed_behind has_lent self.old.gathered.made }

@@ -1,4 +1,4 @@
-//! Laws of a stage over a score. Each function's contract is a law, and its body drives a stage or gives it one input.
+//! Laws of a stage over a score. Each function's contract is a law. Its body drives a stage, gives it one input, calls other laws, or does nothing.
 
 ghost use Rattle.std.specs.Prelude.{◌≡◌, ◌+◌, ◌*◌, ◌<◌, ◌≤◌, ◌^◌, ℕ, List, [], ◌∷◌, None, false, length, map, encode_utf8_all, IfOk, OnOk};
 ghost use Rattle.gabc_headers.specs.declared.head_event.HeadEvent.{HeadEvent};
@@ -58,7 +58,7 @@ pub fn nothing_follows_a_stop()
         concat_of (left_of s (Stop fault ∷ later)) ≡ concat_of (left_of s (Stop fault ∷ [])) }
 {}
 
-/// Of whatever a stage of headers gives of a text with fewer than 2^63 bytes no count reaches its last value, and a score reads the
+/// Of whatever a stage of headers emits of a text with fewer than 2^63 bytes no count reaches its last value, and a score reads the
 /// texts of its body by their machine as by their definition.
 pub fn texts_are_read_in_full()
     ensures counts { (limits : Limits) (ending : InputEnding) (t : List ℕ) →
@@ -73,7 +73,7 @@ pub fn texts_are_read_in_full()
 }
 
 /// A fresh stage over a score gives what the definition says of a text with fewer than 2^63 bytes, however its input ended, once it takes
-/// what a stage of headers gives of this text. Returns this stage.
+/// what a stage of headers emits of this text. Returns this stage.
 pub fn a_fresh_stage_reads_texts(alloc: Global, limits: Limits) -> Result<ScoreStage, AllocError>
     ensures { IfOk result (λ stage. (ending : InputEnding) (t : List ℕ) →
         length (encode_utf8_all t) < 2 ^ 63 →

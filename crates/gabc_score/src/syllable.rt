@@ -41,7 +41,7 @@ pub struct Syllable {
     pub kept: String,
     pub snippets: Snippets,
     pub position: Position,
-    /// Whether the span that `<eu>` opens is open at the end of its text, and that of `<nlba>`.
+    /// Whether the span that `<eu>` opens is open at the end of its text, and that of `<nlba>` (GregorioRef, "Syllable Text Syntax").
     pub eu: bool,
     pub nlba: bool,
 }

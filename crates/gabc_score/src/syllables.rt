@@ -47,7 +47,7 @@ impl Syllables {
         }
     }
 
-    /// Adds a syllable at the end. Where there is no memory for it, the list is as it was.
+    /// Adds a syllable at the end. It fails only for want of memory.
     pub(crate) fn push(&mut self, syllable: Syllable) -> Result<(), AllocError>
         ensures { OnOk result (self.new ≡ self.old ++ placed_of syllable ∷ []) }
     {

@@ -17,8 +17,9 @@ use gabc_headers::{HeadFault, HeaderBook, Heads, headers_whole};
 use gabc_places::{Fault, Limits, Place, Text};
 use std::alloc::{AllocError, Global};
 
-/// Reads the score of `text`, which ended so: its headers, its syllables and what was found, up to the first fault (GregorioRef,
-/// "Headers" and "Syllable Text Syntax"). `gabc_places::text_of` gives the text, and the fault of an `InputEnding::At`.
+/// Reads the score of `text`, whose input ended as `ending` tells, under `limits`: its headers, its syllables and what was found, up to the first fault (GregorioRef,
+/// "Headers" and "Syllable Text Syntax"). `gabc_places::text_of` gives the text, and the fault of an `InputEnding::At`. It fails only
+/// for want of memory.
 pub fn score_whole(
     alloc: Global,
     text: &Text,

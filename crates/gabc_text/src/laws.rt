@@ -1,4 +1,4 @@
-//! Laws of the definitions that contracts speak of. The functions do nothing: each is there for its clauses.
+//! Laws of the definitions that contracts speak of. Each function is there for its clauses: all but one do nothing, and that one drives a fresh stage.
 
 ghost use Rattle.std.specs.Prelude.{◌≡◌, ℕ, ◌+◌, ◌<◌, List, [], ◌∷◌, ◌++◌, length, take, true, false, cond, codes, encode_utf8_all};
 ghost use Rattle.gabc_places.specs.StageLaw.{concat_of};

@@ -1,6 +1,6 @@
 //! The text of a syllable: its pieces with their styles, its centre and its translation.
 //!
-//! A place of a kept text's byte is found among the characters that were kept:
+//! The place of a byte of the kept text is found among the characters that were kept:
 //!
 //! ```
 //! let body = "<i>a) b</i>(f)";
@@ -9,7 +9,7 @@
 //! for piece in &read.view.pieces {
 //!     let place = place_of_byte(kept.as_slice(), piece.span.from); // of `b`: 1:7
 //! }
-//! let len = text_len(&read.view, read.kept.as_str()); // 10, the bytes that `write_text` adds
+//! let len = text_len(&read.view, read.kept.as_str()); // 10, the bytes that `write_text` puts
 //! ```
 #![tactic(auto)]
 

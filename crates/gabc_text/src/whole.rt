@@ -47,7 +47,7 @@ impl TextBuilder {
         }
     }
 
-    /// Adds what the machine gave.
+    /// Adds what the machine emitted.
     fn add(&mut self, event: TextEvent) -> Result<(), AllocError>
         ensures { OnOk result (built_text_of self.new ≡ with_event (built_text_of self.old) event) }
     {
@@ -60,7 +60,7 @@ impl TextBuilder {
         Ok(())
     }
 
-    /// Adds all that the machine gave.
+    /// Adds all that the machine emitted.
     fn add_all(&mut self, events: &[TextEvent]) -> Result<(), AllocError>
         ensures { OnOk result (built_text_of self.new
             ≡ with_events (built_text_of self.old) events.now) }

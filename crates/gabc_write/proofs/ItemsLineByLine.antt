@@ -174,13 +174,13 @@ pub record Stands (kept : List ℕ) (before items : List Item) (place : ItemPlac
   pub in_segment : place.in_segment ≡ is_behind_segment before
   pub notes : place.notes ≡ length (notes_before kept before)
   pub few : place.notes ≤ length before
-  pub few_told : place.glyphs ≤ place.notes
+  pub few_written : place.glyphs ≤ place.notes
   pub none : place.in_segment ≡ false → place.glyphs ≡ 0
   pub inside : place.in_segment ≡ true → Open kept before items place.notes place.glyphs glyphs
 
 -- before the first item
 pub stands_first : (kept : List ℕ) (items : List Item) (glyphs : List Glyph) → Stands kept [] items (record { in_element = false; in_segment = false; notes = 0; glyphs = 0 }) glyphs
-stands_first kept items glyphs = record { in_element = refl; in_segment = refl; notes = refl; few = omega arith; few_told = omega arith; none = λ e. refl; inside = λ e. absurd (cc) }
+stands_first kept items glyphs = record { in_element = refl; in_segment = refl; notes = refl; few = omega arith; few_written = omega arith; none = λ e. refl; inside = λ e. absurd (cc) }
 
 -- where no segment is open, no notes of one stand before
 no_notes : (kept : List ℕ) (before : List Item) → is_behind_segment before ≡ false → notes_before kept before ≡ []
@@ -270,7 +270,7 @@ step_outside kept before items i place old e s =
         in_segment = sym e;
         notes = sym (ap (length {A = Note}) (before_none kept before i e));
         few = omega arith;
-        few_told = omega arith;
+        few_written = omega arith;
         none = λ x. refl;
         inside = λ x. absurd (cc);
       });
@@ -301,7 +301,7 @@ step_inside kept before items i place old glyphs e s o = go (is_note i.kind) ref
 
     step_with : (note glyphs_put : ℕ) → note ≡ length (notes_before kept (i ∷ before)) → note ≤ length (i ∷ before) → glyphs_put ≤ note → Open kept (i ∷ before) items note glyphs_put glyphs
         → Stands kept (i ∷ before) items (record { in_element = is_in_element kept i; in_segment = true; notes = note; glyphs = glyphs_put }) glyphs
-    step_with note glyphs_put n l m p = record { in_element = refl; in_segment = sym e; notes = n; few = l; few_told = m; none = λ x. absurd (cc); inside = λ x. p }
+    step_with note glyphs_put n l m p = record { in_element = refl; in_segment = sym e; notes = n; few = l; few_written = m; none = λ x. absurd (cc); inside = λ x. p }
 
     go : (b : Bool) → is_note i.kind ≡ b → Step kept before items i place glyphs
     go true f =
@@ -315,7 +315,7 @@ step_inside kept before items i place old glyphs e s o = go (is_note i.kind) ref
           fits = o.fits;
           lines = ap (λ (x : List ℕ). (if is_in_element kept i && not place.in_element then codes "element\n" else []) ++ x) tail
               ∙ element_same kept before i place.in_element (glyph_line kept before i items ++ line_of_item kept i) s.in_element;
-          stands = subst (λ (p : ItemPlace). Stands kept (i ∷ before) items p glyphs) same (step_with (place.notes + 1) glyphs_put (count true f) (few true) (let m = s.few_told in omega (arith, more_small (begins_at place.notes (drop place.glyphs glyphs)) place.glyphs)) t.1);
+          stands = subst (λ (p : ItemPlace). Stands kept (i ∷ before) items p glyphs) same (step_with (place.notes + 1) glyphs_put (count true f) (few true) (let m = s.few_written in omega (arith, more_small (begins_at place.notes (drop place.glyphs glyphs)) place.glyphs)) t.1);
         }
     go false f =
         let there : ItemPlace = record { in_element = is_in_element kept i; in_segment = true; notes = place.notes; glyphs = place.glyphs } in
@@ -326,7 +326,7 @@ step_inside kept before items i place old glyphs e s o = go (is_note i.kind) ref
           fits = o.fits;
           lines = ap (λ (x : List ℕ). (if is_in_element kept i && not place.in_element then codes "element\n" else []) ++ x) tail
               ∙ element_same kept before i place.in_element (glyph_line kept before i items ++ line_of_item kept i) s.in_element;
-          stands = subst (λ (p : ItemPlace). Stands kept (i ∷ before) items p glyphs) same (step_with place.notes place.glyphs (count false f) (few false) s.few_told open_on);
+          stands = subst (λ (p : ItemPlace). Stands kept (i ∷ before) items p glyphs) same (step_with place.notes place.glyphs (count false f) (few false) s.few_written open_on);
         }
 
 -- an item's step

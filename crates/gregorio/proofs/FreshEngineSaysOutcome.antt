@@ -15,7 +15,7 @@ use Rattle.gabc_headers.specs.declared.head_event.HeadEvent.{HeadEvent}
 use Rattle.gabc_headers.specs.declared.heads.Heads.{Heads}
 use Rattle.gabc_headers.specs.declared.heads.HeadFault.{HeadFault}
 use Rattle.gabc_headers.specs.Heads.{heads_of}
-use Rattle.gabc_headers.specs.HeadEvents.{emitted_by, events_left, fresh_stage, given_behind, reading, stage_past}
+use Rattle.gabc_headers.specs.HeadEvents.{emitted_by, events_left, fresh_stage, inputs_behind, reading, stage_past}
 use Rattle.gabc_score.specs.BodyStage.{texts_by_stage}
 use Rattle.gabc_score.specs.Events.{texts_by_definition}
 use Rattle.gabc_score.specs.declared.ending.InputEnding.{InputEnding}
@@ -29,7 +29,7 @@ use Rattle.gregorio.specs.declared.run_part.RunPart.TheVariants as part
 use Rattle.gregorio.specs.declared.source_bytes.SourceEnding.{SourceEnding}
 use Rattle.gregorio.specs.declared.source_bytes.SourceEnding.TheVariants.{Whole as Ended, Broken}
 use Rattle.gregorio.specs.Outcome.{is_whole, is_cut_short, ending_by, outcome_of}
-use Rattle.gregorio.specs.Engine.{given_left, has_heads, outputs_from_heads, streams_given, streams_of_outcome}
+use Rattle.gregorio.specs.Engine.{head_events_left, has_heads, outputs_from_heads, streams_by_part, streams_of_outcome}
 use Rattle.gregorio.specs.machine.ScoreWriter.{fresh_writer}
 use Rattle.gregorio.proofs.OutputsOfAFreshScore.{has_book, outputs_same}
 use Rattle.gregorio.proofs.StreamsOfAFreshEngine.{SaysScore, stops_at, streams_same}
@@ -43,16 +43,16 @@ items_are d limits known at_end Broken bytes = ap (λ (xs : List ℕ). concat_of
 
 -- what a stage of headers gives of a text, by how its input ended
 pub record GivesHeads (limits : Limits) (t : List ℕ) : Type 0 where
-  pub whole : head_events limits score_ending.Whole t ≡ emitted_by true (given_behind [] t) (events_left limits (reading []) (given_behind [] t))
-  pub broken : head_events limits score_ending.Broken t ≡ emitted_by false (given_behind [] t) (events_left limits (reading []) (given_behind [] t))
-  pub stopped : (fault : Fault) (ended : Bool) → head_events limits (score_ending.At fault) t ≡ emitted_by ended (given_behind [] t ++ Err fault ∷ []) (events_left limits (reading []) (given_behind [] t ++ Err fault ∷ []))
+  pub whole : head_events limits score_ending.Whole t ≡ emitted_by true (inputs_behind [] t) (events_left limits (reading []) (inputs_behind [] t))
+  pub broken : head_events limits score_ending.Broken t ≡ emitted_by false (inputs_behind [] t) (events_left limits (reading []) (inputs_behind [] t))
+  pub stopped : (fault : Fault) (ended : Bool) → head_events limits (score_ending.At fault) t ≡ emitted_by ended (inputs_behind [] t ++ Err fault ∷ []) (events_left limits (reading []) (inputs_behind [] t ++ Err fault ∷ []))
 
 pub given_are : (limits : Limits) (ending : SourceEnding) (t : List ℕ) (stop : Option Fault) → GivesHeads limits t
-    → given_left (fresh_stage limits) ending (given_behind [] t ++ fault_items stop) ≡ head_events limits (ending_by ending stop) t
+    → head_events_left (fresh_stage limits) ending (inputs_behind [] t ++ fault_items stop) ≡ head_events limits (ending_by ending stop) t
 given_are limits Ended t None g =
-    ap (λ (xs : List (Result Char Fault)). emitted_by true xs (events_left limits (reading []) xs)) (append-nil (given_behind [] t)) ∙ sym g.whole
+    ap (λ (xs : List (Result Char Fault)). emitted_by true xs (events_left limits (reading []) xs)) (append-nil (inputs_behind [] t)) ∙ sym g.whole
 given_are limits Broken t None g =
-    ap (λ (xs : List (Result Char Fault)). emitted_by false xs (events_left limits (reading []) xs)) (append-nil (given_behind [] t)) ∙ sym g.broken
+    ap (λ (xs : List (Result Char Fault)). emitted_by false xs (events_left limits (reading []) xs)) (append-nil (inputs_behind [] t)) ∙ sym g.broken
 given_are limits Ended t (Some fault) g = sym (g.stopped fault true)
 given_are limits Broken t (Some fault) g = sym (g.stopped fault false)
 
@@ -87,7 +87,7 @@ module _ (job : Job) (limits : Limits) (score : ScoreStageState) (ending : Sourc
   score_is : SaysScore e (outputs_from_heads score from_heads) made
   score_is = subst (λ (outputs : List ScoreOutput). SaysScore e outputs made) (sym outs_are) r.score_is
 
-  pub says_outcome : streams_given part.Heads score (fresh_writer job) read from_heads ≡ streams_of_outcome job (record { score = made; broken = is_cut_short ending made.fault })
+  pub says_outcome : streams_by_part part.Heads score (fresh_writer job) read from_heads ≡ streams_of_outcome job (record { score = made; broken = is_cut_short ending made.fault })
   says_outcome =
       let b = book_by limits e decoded.text (heads_of limits decoded.text) read book in
       streams_same (fresh_writer job) refl refl ending decoded.fault (outputs_from_heads score from_heads) made score_is (stops_at limits e decoded.text (heads_of limits decoded.text)) r.few
@@ -98,10 +98,10 @@ module _ (job : Job) (limits : Limits) (score : ScoreStageState) (ending : Sourc
 pub record LawsBelow : Type 0 where
   pub scalars : (limit : ℕ) (bytes : List ℕ) → All IsScalar (text_of_bytes limit bytes)
   pub short : (limit : ℕ) (bytes : List ℕ) → length (encode_utf8_all (text_of_bytes limit bytes)) ≤ limit
-  pub book : (limits : Limits) (t : List ℕ) (heads : Heads) (fault : Option Fault) → All IsScalar t → heads_of limits t ≡ Ok heads → (stage_past (fresh_stage limits) (given_behind [] t ++ fault_items fault)).book ≡ heads.book
-  pub whole : (limits : Limits) (t : List ℕ) → All IsScalar t → let xs = given_behind [] t in head_events limits score_ending.Whole t ≡ emitted_by true xs (events_left limits (reading []) xs)
-  pub broken : (limits : Limits) (t : List ℕ) → All IsScalar t → let xs = given_behind [] t in head_events limits score_ending.Broken t ≡ emitted_by false xs (events_left limits (reading []) xs)
-  pub stopped : (limits : Limits) (t : List ℕ) (fault : Fault) (ended : Bool) → All IsScalar t → let xs = given_behind [] t ++ Err fault ∷ [] in head_events limits (score_ending.At fault) t ≡ emitted_by ended xs (events_left limits (reading []) xs)
+  pub book : (limits : Limits) (t : List ℕ) (heads : Heads) (fault : Option Fault) → All IsScalar t → heads_of limits t ≡ Ok heads → (stage_past (fresh_stage limits) (inputs_behind [] t ++ fault_items fault)).book ≡ heads.book
+  pub whole : (limits : Limits) (t : List ℕ) → All IsScalar t → let xs = inputs_behind [] t in head_events limits score_ending.Whole t ≡ emitted_by true xs (events_left limits (reading []) xs)
+  pub broken : (limits : Limits) (t : List ℕ) → All IsScalar t → let xs = inputs_behind [] t in head_events limits score_ending.Broken t ≡ emitted_by false xs (events_left limits (reading []) xs)
+  pub stopped : (limits : Limits) (t : List ℕ) (fault : Fault) (ended : Bool) → All IsScalar t → let xs = inputs_behind [] t ++ Err fault ∷ [] in head_events limits (score_ending.At fault) t ≡ emitted_by ended xs (events_left limits (reading []) xs)
   pub counts : (limits : Limits) (e : InputEnding) (t : List ℕ) → length (encode_utf8_all t) < 2 ^ 63 → AreCountsBelow (head_events limits e t)
   pub outputs : (limits : Limits) (e : InputEnding) (t : List ℕ) → length (encode_utf8_all t) < 2 ^ 63
       → score_outputs texts_by_stage limits (head_events limits e t) ≡ score_outputs texts_by_definition limits (head_events limits e t)
@@ -137,14 +137,14 @@ module _ (below : LawsBelow) (job : Job) (limits : Limits) (d : DecoderState) (s
 
   pub streams_are : (bytes : List ℕ) (ending : SourceEnding)
       → (let items = emitted_by (is_whole ending) bytes (decoder.events_left d bytes) in
-      streams_given part.Heads score (fresh_writer job) (stage_past (fresh_stage limits) items).book (given_left (fresh_stage limits) ending items))
+      streams_by_part part.Heads score (fresh_writer job) (stage_past (fresh_stage limits) items).book (head_events_left (fresh_stage limits) ending items))
       ≡ streams_of_outcome job (outcome_of limits ending bytes)
   streams_are bytes ending =
       let decoded = decoded_of limits (is_whole ending) bytes in
       let t = decoded.text in
-      let xs = given_behind [] t ++ fault_items decoded.fault in
+      let xs = inputs_behind [] t ++ fault_items decoded.fault in
       let scalars : All IsScalar t = below.scalars limits.input bytes in
       let step : GivesHeads limits t = record { whole = below.whole limits t scalars; broken = below.broken limits t scalars; stopped = λ fault ended. below.stopped limits t fault ended scalars } in
-      ap (λ (items : List (Result Char Fault)). streams_given part.Heads score (fresh_writer job) (stage_past (fresh_stage limits) items).book (given_left (fresh_stage limits) ending items)) (items_are d limits known at_end ending bytes)
-      ∙ (ap (λ (from_heads : List HeadEvent). streams_given part.Heads score (fresh_writer job) (stage_past (fresh_stage limits) xs).book from_heads) (given_are limits ending t decoded.fault step)
+      ap (λ (items : List (Result Char Fault)). streams_by_part part.Heads score (fresh_writer job) (stage_past (fresh_stage limits) items).book (head_events_left (fresh_stage limits) ending items)) (items_are d limits known at_end ending bytes)
+      ∙ (ap (λ (from_heads : List HeadEvent). streams_by_part part.Heads score (fresh_writer job) (stage_past (fresh_stage limits) xs).book from_heads) (given_are limits ending t decoded.fault step)
       ∙ says_outcome job limits score ending decoded (reads (ending_by ending decoded.fault) bytes) (stage_past (fresh_stage limits) xs).book (λ heads h. below.book limits t heads decoded.fault scalars h))

@@ -14,7 +14,7 @@ use Rattle.gregorio_jobs.specs.declared.job.Status.TheVariants.{Fatal, ReadFault
 use Rattle.gregorio.specs.declared.run_part.RunPart.{RunPart}
 use Rattle.gregorio.specs.declared.run_part.RunPart.TheVariants as part
 use Rattle.gregorio.specs.Outcome.{shown_line}
-use Rattle.gregorio.specs.Engine.{Streams, behind_bytes, has_heads, head_text_in, heads_text, outputs_from_heads, streams_given, streams_in}
+use Rattle.gregorio.specs.Engine.{Streams, behind_bytes, has_heads, head_text_in, heads_text, outputs_from_heads, streams_by_part, streams_in}
 use Rattle.gregorio.specs.machine.RunWriter.{with_fault, with_found, with_heads}
 use Rattle.gregorio.specs.machine.ScoreWriter.{ScoreWriterState, WritesAt, WritesLast}
 use Rattle.gregorio.proofs.WhatIsEmittedIsStillToBeWritten.{extended_both, streams_at_stop, streams_behind_found}
@@ -31,9 +31,9 @@ module _ (old : ScoreWriterState) (read : List (List ℕ × List ℕ)) (heads : 
     messages = refl;
     law = λ book from_heads h.
         let w = old.writer.written in
-        ap (λ (at : RunPart). streams_given at old.score w book (head_event.Found f ∷ from_heads)) heads
+        ap (λ (at : RunPart). streams_by_part at old.score w book (head_event.Found f ∷ from_heads)) heads
         ∙ (streams_behind_found w (head_text_in w.format book from_heads) (has_heads from_heads) f (outputs_from_heads old.score from_heads)
-        ∙ ap (λ (at : RunPart). behind_bytes [] (shown_line w.name w.all_warnings f) (streams_given at old.score (with_found old.writer f).written book from_heads)) (sym heads));
+        ∙ ap (λ (at : RunPart). behind_bytes [] (shown_line w.name w.all_warnings f) (streams_by_part at old.score (with_found old.writer f).written book from_heads)) (sym heads));
   }
 
   pub stop_is_written : (fault : Fault) → WritesAt old (head_event.Stop fault) read (record old { part = part.Over Fatal; writer = with_fault old.writer fault })
@@ -43,7 +43,7 @@ module _ (old : ScoreWriterState) (read : List (List ℕ × List ℕ)) (heads : 
     out = nothing_added old.writer.out;
     messages = refl;
     law = λ book from_heads h.
-        ap (λ (at : RunPart). streams_given at old.score old.writer.written book (head_event.Stop fault ∷ from_heads)) heads
+        ap (λ (at : RunPart). streams_by_part at old.score old.writer.written book (head_event.Stop fault ∷ from_heads)) heads
         ∙ streams_at_stop old.writer.written false fault;
   }
 
@@ -54,8 +54,8 @@ module _ (old : ScoreWriterState) (read : List (List ℕ × List ℕ)) (heads : 
     out = nothing_added old.writer.out;
     messages = nothing_added old.writer.messages;
     law = λ book from_heads h.
-        ap (λ (at : RunPart). streams_given at old.score old.writer.written book (head_event.Body x ∷ from_heads)) heads
-        ∙ ap (λ (at : RunPart). streams_given at old.score old.writer.written book from_heads) (sym heads);
+        ap (λ (at : RunPart). streams_by_part at old.score old.writer.written book (head_event.Body x ∷ from_heads)) heads
+        ∙ ap (λ (at : RunPart). streams_by_part at old.score old.writer.written book from_heads) (sym heads);
   }
 
   end_is_passed : WritesAt old head_event.End read old
@@ -65,8 +65,8 @@ module _ (old : ScoreWriterState) (read : List (List ℕ × List ℕ)) (heads : 
     out = nothing_added old.writer.out;
     messages = nothing_added old.writer.messages;
     law = λ book from_heads h.
-        ap (λ (at : RunPart). streams_given at old.score old.writer.written book (head_event.End ∷ from_heads)) heads
-        ∙ ap (λ (at : RunPart). streams_given at old.score old.writer.written book from_heads) (sym heads);
+        ap (λ (at : RunPart). streams_by_part at old.score old.writer.written book (head_event.End ∷ from_heads)) heads
+        ∙ ap (λ (at : RunPart). streams_by_part at old.score old.writer.written book from_heads) (sym heads);
   }
 
   pub event_is_passed : (x : HeadEvent) → ((y : Char) × (x ≡ head_event.Body y)) ⊎ (x ≡ head_event.End) → WritesAt old x read old
@@ -84,11 +84,11 @@ module _ (old : ScoreWriterState) (read : List (List ℕ × List ℕ)) (heads : 
         out = w.out ∙ extended_both old.writer.out text w.output;
         messages = w.messages;
         law = λ book from_heads h.
-            ap (λ (at : RunPart). streams_given at old.score old.writer.written book (head_event.Heads lines macros canonical ∷ from_heads)) heads
+            ap (λ (at : RunPart). streams_by_part at old.score old.writer.written book (head_event.Heads lines macros canonical ∷ from_heads)) heads
             ∙ (ap (λ (b : List (List ℕ × List ℕ)). streams_in old.writer.written (heads_text old.writer.written.format b) true (concat_of (left_of old.score (head_event.Heads lines macros canonical ∷ from_heads)))) h
             ∙ (ap (λ (s : Streams). behind_bytes text [] s) (w.law book from_heads h)
-            ∙ ap (λ (l : List ℕ). record { output = l; messages = w.lines ++ (streams_given new.part new.score new.writer.written book from_heads).messages; status = (streams_given new.part new.score new.writer.written book from_heads).status })
-            (sym (append_assoc text w.output (streams_given new.part new.score new.writer.written book from_heads).output))));
+            ∙ ap (λ (l : List ℕ). record { output = l; messages = w.lines ++ (streams_by_part new.part new.score new.writer.written book from_heads).messages; status = (streams_by_part new.part new.score new.writer.written book from_heads).status })
+            (sym (append_assoc text w.output (streams_by_part new.part new.score new.writer.written book from_heads).output))));
       }
 
   pub break_of_heads : WritesLast old (record old { part = part.Over ReadFault }) ReadFault
@@ -97,7 +97,7 @@ module _ (old : ScoreWriterState) (read : List (List ℕ × List ℕ)) (heads : 
     lines = [];
     out = nothing_added old.writer.out;
     messages = nothing_added old.writer.messages;
-    law = λ book. ap (λ (at : RunPart). streams_given at old.score old.writer.written book []) heads;
+    law = λ book. ap (λ (at : RunPart). streams_by_part at old.score old.writer.written book []) heads;
   }
 
 -- ---- behind the end
@@ -110,8 +110,8 @@ module _ (old : ScoreWriterState) (status : Status) (over : old.part ≡ part.Ov
     out = nothing_added old.writer.out;
     messages = nothing_added old.writer.messages;
     law = λ book from_heads h.
-        ap (λ (at : RunPart). streams_given at old.score old.writer.written book (x ∷ from_heads)) over
-        ∙ ap (λ (at : RunPart). streams_given at old.score old.writer.written book from_heads) (sym over);
+        ap (λ (at : RunPart). streams_by_part at old.score old.writer.written book (x ∷ from_heads)) over
+        ∙ ap (λ (at : RunPart). streams_by_part at old.score old.writer.written book from_heads) (sym over);
   }
 
   pub nothing_is_written_last : WritesLast old old status
@@ -120,5 +120,5 @@ module _ (old : ScoreWriterState) (status : Status) (over : old.part ≡ part.Ov
     lines = [];
     out = nothing_added old.writer.out;
     messages = nothing_added old.writer.messages;
-    law = λ book. ap (λ (at : RunPart). streams_given at old.score old.writer.written book []) over;
+    law = λ book. ap (λ (at : RunPart). streams_by_part at old.score old.writer.written book []) over;
   }

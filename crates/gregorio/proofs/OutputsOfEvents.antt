@@ -10,7 +10,7 @@ use Rattle.gabc_score.specs.declared.score_event.ScoreEvent.TheVariants as event
 use Rattle.gabc_score.specs.ScoreEvents.{ScoreOutput, Found, Stop, Syllable, End, syllables_in}
 use Rattle.gabc_score.specs.ScoreStage.{ScoreStageState, events_lent, events_of, is_last_event, left_of, events_left}
 use Rattle.gabc_score.specs.Syllable.{PlacedSyllable}
-use Rattle.gregorio.specs.machine.ScoreWriter.{told_by}
+use Rattle.gregorio.specs.machine.ScoreWriter.{outputs_of_events}
 use Rattle.gregorio.proofs.WhatIsEmittedIsStillToBeWritten.{EndsAtLast, no_item}
 
 abbrev head_or : PlacedSyllable → List PlacedSyllable → PlacedSyllable
@@ -28,46 +28,46 @@ take_none (suc n) = refl
 -- ---- the outputs
 
 module _ (s : ScoreStageState) where
-  told_none : (outputs : List ScoreOutput) → syllables_in outputs ≡ [] → told_by s (events_lent Second outputs) ≡ outputs
-  told_none [] h = refl
-  told_none (Found f ∷ outputs) h = ap (λ (l : List ScoreOutput). Found f ∷ l) (told_none outputs h)
-  told_none (Stop fault ∷ outputs) h = ap (λ (l : List ScoreOutput). Stop fault ∷ l) (told_none outputs h)
-  told_none (Syllable x ∷ outputs) h = no_item x (syllables_in outputs) h
-  told_none (End ∷ outputs) h = ap (λ (l : List ScoreOutput). End ∷ l) (told_none outputs h)
+  emitted_none : (outputs : List ScoreOutput) → syllables_in outputs ≡ [] → outputs_of_events s (events_lent Second outputs) ≡ outputs
+  emitted_none [] h = refl
+  emitted_none (Found f ∷ outputs) h = ap (λ (l : List ScoreOutput). Found f ∷ l) (emitted_none outputs h)
+  emitted_none (Stop fault ∷ outputs) h = ap (λ (l : List ScoreOutput). Stop fault ∷ l) (emitted_none outputs h)
+  emitted_none (Syllable x ∷ outputs) h = no_item x (syllables_in outputs) h
+  emitted_none (End ∷ outputs) h = ap (λ (l : List ScoreOutput). End ∷ l) (emitted_none outputs h)
 
-  told_second : (outputs : List ScoreOutput) → syllables_in outputs ≡ take (length (syllables_in outputs)) (s.second ∷ []) → told_by s (events_lent Second outputs) ≡ outputs
-  told_second [] h = refl
-  told_second (Found f ∷ outputs) h = ap (λ (l : List ScoreOutput). Found f ∷ l) (told_second outputs h)
-  told_second (Stop fault ∷ outputs) h = ap (λ (l : List ScoreOutput). Stop fault ∷ l) (told_second outputs h)
-  told_second (Syllable x ∷ outputs) h =
-      ap (λ (y : PlacedSyllable). Syllable y ∷ told_by s (events_lent Second outputs)) (sym (ap (head_or x) h))
-      ∙ ap (λ (l : List ScoreOutput). Syllable x ∷ l) (told_none outputs (ap tail_of h ∙ take_none (length (syllables_in outputs))))
-  told_second (End ∷ outputs) h = ap (λ (l : List ScoreOutput). End ∷ l) (told_second outputs h)
+  emitted_second : (outputs : List ScoreOutput) → syllables_in outputs ≡ take (length (syllables_in outputs)) (s.second ∷ []) → outputs_of_events s (events_lent Second outputs) ≡ outputs
+  emitted_second [] h = refl
+  emitted_second (Found f ∷ outputs) h = ap (λ (l : List ScoreOutput). Found f ∷ l) (emitted_second outputs h)
+  emitted_second (Stop fault ∷ outputs) h = ap (λ (l : List ScoreOutput). Stop fault ∷ l) (emitted_second outputs h)
+  emitted_second (Syllable x ∷ outputs) h =
+      ap (λ (y : PlacedSyllable). Syllable y ∷ outputs_of_events s (events_lent Second outputs)) (sym (ap (head_or x) h))
+      ∙ ap (λ (l : List ScoreOutput). Syllable x ∷ l) (emitted_none outputs (ap tail_of h ∙ take_none (length (syllables_in outputs))))
+  emitted_second (End ∷ outputs) h = ap (λ (l : List ScoreOutput). End ∷ l) (emitted_second outputs h)
 
-  pub told_is : (outputs : List ScoreOutput) → syllables_in outputs ≡ take (length (syllables_in outputs)) (s.first ∷ s.second ∷ []) → told_by s (events_of outputs) ≡ outputs
-  told_is [] h = refl
-  told_is (Found f ∷ outputs) h = ap (λ (l : List ScoreOutput). Found f ∷ l) (told_is outputs h)
-  told_is (Stop fault ∷ outputs) h = ap (λ (l : List ScoreOutput). Stop fault ∷ l) (told_is outputs h)
-  told_is (Syllable x ∷ outputs) h =
-      ap (λ (y : PlacedSyllable). Syllable y ∷ told_by s (events_lent Second outputs)) (sym (ap (head_or x) h))
-      ∙ ap (λ (l : List ScoreOutput). Syllable x ∷ l) (told_second outputs (ap tail_of h))
-  told_is (End ∷ outputs) h = ap (λ (l : List ScoreOutput). End ∷ l) (told_is outputs h)
+  pub emitted_is : (outputs : List ScoreOutput) → syllables_in outputs ≡ take (length (syllables_in outputs)) (s.first ∷ s.second ∷ []) → outputs_of_events s (events_of outputs) ≡ outputs
+  emitted_is [] h = refl
+  emitted_is (Found f ∷ outputs) h = ap (λ (l : List ScoreOutput). Found f ∷ l) (emitted_is outputs h)
+  emitted_is (Stop fault ∷ outputs) h = ap (λ (l : List ScoreOutput). Stop fault ∷ l) (emitted_is outputs h)
+  emitted_is (Syllable x ∷ outputs) h =
+      ap (λ (y : PlacedSyllable). Syllable y ∷ outputs_of_events s (events_lent Second outputs)) (sym (ap (head_or x) h))
+      ∙ ap (λ (l : List ScoreOutput). Syllable x ∷ l) (emitted_second outputs (ap tail_of h))
+  emitted_is (End ∷ outputs) h = ap (λ (l : List ScoreOutput). End ∷ l) (emitted_is outputs h)
 
 -- ---- how many
 
-pub as_many_told : (lent : LentSyllable) (outputs : List ScoreOutput) → length (events_lent lent outputs) ≡ length outputs
-as_many_told lent [] = refl
-as_many_told lent (Found f ∷ outputs) = ap suc (as_many_told lent outputs)
-as_many_told lent (Stop fault ∷ outputs) = ap suc (as_many_told lent outputs)
-as_many_told lent (Syllable x ∷ outputs) = ap suc (as_many_told Second outputs)
-as_many_told lent (End ∷ outputs) = ap suc (as_many_told lent outputs)
+pub as_many_emitted : (lent : LentSyllable) (outputs : List ScoreOutput) → length (events_lent lent outputs) ≡ length outputs
+as_many_emitted lent [] = refl
+as_many_emitted lent (Found f ∷ outputs) = ap suc (as_many_emitted lent outputs)
+as_many_emitted lent (Stop fault ∷ outputs) = ap suc (as_many_emitted lent outputs)
+as_many_emitted lent (Syllable x ∷ outputs) = ap suc (as_many_emitted Second outputs)
+as_many_emitted lent (End ∷ outputs) = ap suc (as_many_emitted lent outputs)
 
-none_told : (lent : LentSyllable) (outputs : List ScoreOutput) → events_lent lent outputs ≡ [] → outputs ≡ []
-none_told lent [] h = refl
-none_told lent (Found f ∷ outputs) h = no_item _ _ h
-none_told lent (Stop fault ∷ outputs) h = no_item _ _ h
-none_told lent (Syllable x ∷ outputs) h = no_item _ _ h
-none_told lent (End ∷ outputs) h = no_item _ _ h
+none_emitted : (lent : LentSyllable) (outputs : List ScoreOutput) → events_lent lent outputs ≡ [] → outputs ≡ []
+none_emitted lent [] h = refl
+none_emitted lent (Found f ∷ outputs) h = no_item _ _ h
+none_emitted lent (Stop fault ∷ outputs) h = no_item _ _ h
+none_emitted lent (Syllable x ∷ outputs) h = no_item _ _ h
+none_emitted lent (End ∷ outputs) h = no_item _ _ h
 
 -- ---- where they stop
 
@@ -80,20 +80,20 @@ module _ {P : Type 0} (after : List HeadEvent → List (List ScoreEvent)) (old n
   ends_at_last lent before (Found f ∷ outputs) e = ends_at_last lent (before ++ event.Found f ∷ []) outputs (one_on before (event.Found f) (events_lent lent outputs) e)
   ends_at_last lent before (Stop fault ∷ outputs) e =
       let r = stops before (events_lent lent outputs) (event.Stop fault) e refl in
-      (none_told lent outputs r.0, score_is r.1)
+      (none_emitted lent outputs r.0, score_is r.1)
   ends_at_last lent before (Syllable x ∷ outputs) e = ends_at_last Second (before ++ event.Syllable lent ∷ []) outputs (one_on before (event.Syllable lent) (events_lent Second outputs) e)
   ends_at_last lent before (End ∷ outputs) e =
       let r = stops before (events_lent lent outputs) event.End e refl in
-      (none_told lent outputs r.0, score_is r.1)
+      (none_emitted lent outputs r.0, score_is r.1)
 
-nothing_told : (lists : List (List ScoreOutput)) → concat_of (map (λ outputs. events_of outputs) lists) ≡ [] → concat_of lists ≡ []
-nothing_told [] h = refl
-nothing_told ([] ∷ lists) h = nothing_told lists h
-nothing_told ((Found f ∷ outputs) ∷ lists) h = no_item _ _ h
-nothing_told ((Stop fault ∷ outputs) ∷ lists) h = no_item _ _ h
-nothing_told ((Syllable x ∷ outputs) ∷ lists) h = no_item _ _ h
-nothing_told ((End ∷ outputs) ∷ lists) h = no_item _ _ h
+nothing_emitted : (lists : List (List ScoreOutput)) → concat_of (map (λ outputs. events_of outputs) lists) ≡ [] → concat_of lists ≡ []
+nothing_emitted [] h = refl
+nothing_emitted ([] ∷ lists) h = nothing_emitted lists h
+nothing_emitted ((Found f ∷ outputs) ∷ lists) h = no_item _ _ h
+nothing_emitted ((Stop fault ∷ outputs) ∷ lists) h = no_item _ _ h
+nothing_emitted ((Syllable x ∷ outputs) ∷ lists) h = no_item _ _ h
+nothing_emitted ((End ∷ outputs) ∷ lists) h = no_item _ _ h
 
 -- a stage that emits no event has no output left
 pub nothing_left : (s : ScoreStageState) (xs : List HeadEvent) → EmitsNothing (events_left s) → concat_of (left_of s xs) ≡ []
-nothing_left s xs h = nothing_told (left_of s xs) (h xs)
+nothing_left s xs h = nothing_emitted (left_of s xs) (h xs)

@@ -12,7 +12,7 @@ use Rattle.gregorio_jobs.specs.declared.job.Format.{Format}
 use Rattle.gregorio_jobs.specs.declared.job.Status.{Status}
 use Rattle.gabc_score.specs.ScoreStage.{Lends, most_lent}
 use Rattle.gregorio.specs.machine.RunWriter.{RunWriterState, IsInRoom, HasRoomFor, line_room, lines_room, texts_room, syllable_room, last_room}
-use Rattle.gregorio.specs.machine.ScoreWriter.{ScoreWriterState, FitsEvents, IsSteady, event_room, events_room, heads_left, with_told, with_all_told}
+use Rattle.gregorio.specs.machine.ScoreWriter.{ScoreWriterState, FitsEvents, IsSteady, event_room, events_room, heads_left, past_output, past_outputs}
 use Rattle.gregorio.proofs.BodyIsWritten.{IsBehindHeads}
 use Rattle.gregorio.proofs.WhatIsEmittedIsStillToBeWritten.{EndsAtLast}
 
@@ -56,18 +56,18 @@ texts_are P format limit (Syllable s ∷ outputs) ends = omega (arith, texts_are
 texts_are P format limit (End ∷ outputs) ends = texts_at_end format limit (length (syllables_in outputs) * syllable_room format limit) outputs ends.0
 
 -- no end, where the run goes on
-pub texts_before_end : (P : Type 0) (s : ScoreWriterState) (format : Format) (limit : ℕ) (outputs : List ScoreOutput) → EndsAtLast P outputs → (with_all_told s outputs).part ≡ part.Body
+pub texts_before_end : (P : Type 0) (s : ScoreWriterState) (format : Format) (limit : ℕ) (outputs : List ScoreOutput) → EndsAtLast P outputs → (past_outputs s outputs).part ≡ part.Body
     → texts_room format limit outputs ≤ length (syllables_in outputs) * syllable_room format limit
 texts_before_end P s format limit [] ends body = omega arith
-texts_before_end P s format limit (Found f ∷ outputs) ends body = omega (arith, texts_before_end P (with_told s (Found f)) format limit outputs ends body)
+texts_before_end P s format limit (Found f ∷ outputs) ends body = omega (arith, texts_before_end P (past_output s (Found f)) format limit outputs ends body)
 texts_before_end P s format limit (Stop fault ∷ outputs) ends body =
-    let t = with_told s (Stop fault) in
-    over_is_not_body (sym (ap (λ (l : List ScoreOutput). (with_all_told t l).part) ends.0) ∙ body)
+    let t = past_output s (Stop fault) in
+    over_is_not_body (sym (ap (λ (l : List ScoreOutput). (past_outputs t l).part) ends.0) ∙ body)
 texts_before_end P s format limit (Syllable x ∷ outputs) ends body =
-    omega (arith, texts_before_end P (with_told s (Syllable x)) format limit outputs ends body, times_more (length (syllables_in outputs)) (syllable_room format limit))
+    omega (arith, texts_before_end P (past_output s (Syllable x)) format limit outputs ends body, times_more (length (syllables_in outputs)) (syllable_room format limit))
 texts_before_end P s format limit (End ∷ outputs) ends body =
-    let t = with_told s End in
-    over_is_not_body (sym (ap (λ (l : List ScoreOutput). (with_all_told t l).part) ends.0) ∙ body)
+    let t = past_output s End in
+    over_is_not_body (sym (ap (λ (l : List ScoreOutput). (past_outputs t l).part) ends.0) ∙ body)
 
 pub texts_within : (P : Type 0) (format : Format) (limit : ℕ) (x : HeadEvent) (outputs : List ScoreOutput) → length (syllables_in outputs) ≤ most_lent x → EndsAtLast P outputs
     → texts_room format limit outputs ≤ event_room format limit x

@@ -15,7 +15,7 @@ use Rattle.gregorio.specs.declared.run_part.RunPart.{RunPart}
 use Rattle.gregorio.specs.declared.run_part.RunPart.TheVariants as part
 use Rattle.gregorio.specs.Outcome.{shown_line, fault_line, is_error_finding, status_by}
 use Rattle.gregorio.specs.Engine.{Streams, Written, behind_bytes, ended_with, streams_in, syllable_text, last_text, last_in, next_number, texts_behind, has_errors, status_in}
-use Rattle.gregorio.specs.machine.ScoreWriter.{ScoreWriterState, with_told, with_all_told}
+use Rattle.gregorio.specs.machine.ScoreWriter.{ScoreWriterState, past_output, past_outputs}
 
 abbrev streams_made : List ℕ → List ℕ → Status → Streams
 streams_made output messages status = record { output = output; messages = messages; status = status }
@@ -40,41 +40,41 @@ lines_of_output w End = []
 
 abbrev pub texts_of_outputs : ScoreWriterState → List ScoreOutput → List ℕ
 texts_of_outputs s [] = []
-texts_of_outputs s (o ∷ outputs) = text_of_output s.writer.written o ++ texts_of_outputs (with_told s o) outputs
+texts_of_outputs s (o ∷ outputs) = text_of_output s.writer.written o ++ texts_of_outputs (past_output s o) outputs
 
 abbrev pub lines_of_outputs : ScoreWriterState → List ScoreOutput → List ℕ
 lines_of_outputs s [] = []
-lines_of_outputs s (o ∷ outputs) = lines_of_output s.writer.written o ++ lines_of_outputs (with_told s o) outputs
+lines_of_outputs s (o ∷ outputs) = lines_of_output s.writer.written o ++ lines_of_outputs (past_output s o) outputs
 
-pub out_told : (s : ScoreWriterState) (o : ScoreOutput) → (with_told s o).writer.out ≡ extended_by s.writer.out (text_of_output s.writer.written o)
-out_told s (Found f) = ap (λ (l : List ℕ). record s.writer.out { items = l }) (sym (append-nil s.writer.out.items))
-out_told s (Stop fault) = refl
-out_told s (Syllable x) = refl
-out_told s End = refl
+pub out_emitted : (s : ScoreWriterState) (o : ScoreOutput) → (past_output s o).writer.out ≡ extended_by s.writer.out (text_of_output s.writer.written o)
+out_emitted s (Found f) = ap (λ (l : List ℕ). record s.writer.out { items = l }) (sym (append-nil s.writer.out.items))
+out_emitted s (Stop fault) = refl
+out_emitted s (Syllable x) = refl
+out_emitted s End = refl
 
-pub messages_told : (s : ScoreWriterState) (o : ScoreOutput) → (with_told s o).writer.messages ≡ extended_by s.writer.messages (lines_of_output s.writer.written o)
-messages_told s (Found f) = refl
-messages_told s (Stop fault) = refl
-messages_told s (Syllable x) = ap (λ (l : List ℕ). record s.writer.messages { items = l }) (sym (append-nil s.writer.messages.items))
-messages_told s End = ap (λ (l : List ℕ). record s.writer.messages { items = l }) (sym (append-nil s.writer.messages.items))
+pub messages_emitted : (s : ScoreWriterState) (o : ScoreOutput) → (past_output s o).writer.messages ≡ extended_by s.writer.messages (lines_of_output s.writer.written o)
+messages_emitted s (Found f) = refl
+messages_emitted s (Stop fault) = refl
+messages_emitted s (Syllable x) = ap (λ (l : List ℕ). record s.writer.messages { items = l }) (sym (append-nil s.writer.messages.items))
+messages_emitted s End = ap (λ (l : List ℕ). record s.writer.messages { items = l }) (sym (append-nil s.writer.messages.items))
 
 pub extended_both : (r : BoundedList ℕ) (a b : List ℕ) → extended_by (extended_by r a) b ≡ extended_by r (a ++ b)
 extended_both r a b = ap (λ (l : List ℕ). record r { items = l }) (append_assoc r.items a b)
 
-pub out_all_told : (s : ScoreWriterState) (outputs : List ScoreOutput) → (with_all_told s outputs).writer.out ≡ extended_by s.writer.out (texts_of_outputs s outputs)
-out_all_told s [] = ap (λ (l : List ℕ). record s.writer.out { items = l }) (sym (append-nil s.writer.out.items))
-out_all_told s (o ∷ outputs) =
-    let t = with_told s o in
-    out_all_told t outputs
-    ∙ (ap (λ (r : BoundedList ℕ). extended_by r (texts_of_outputs t outputs)) (out_told s o)
+pub out_all_emitted : (s : ScoreWriterState) (outputs : List ScoreOutput) → (past_outputs s outputs).writer.out ≡ extended_by s.writer.out (texts_of_outputs s outputs)
+out_all_emitted s [] = ap (λ (l : List ℕ). record s.writer.out { items = l }) (sym (append-nil s.writer.out.items))
+out_all_emitted s (o ∷ outputs) =
+    let t = past_output s o in
+    out_all_emitted t outputs
+    ∙ (ap (λ (r : BoundedList ℕ). extended_by r (texts_of_outputs t outputs)) (out_emitted s o)
     ∙ extended_both s.writer.out (text_of_output s.writer.written o) (texts_of_outputs t outputs))
 
-pub messages_all_told : (s : ScoreWriterState) (outputs : List ScoreOutput) → (with_all_told s outputs).writer.messages ≡ extended_by s.writer.messages (lines_of_outputs s outputs)
-messages_all_told s [] = ap (λ (l : List ℕ). record s.writer.messages { items = l }) (sym (append-nil s.writer.messages.items))
-messages_all_told s (o ∷ outputs) =
-    let t = with_told s o in
-    messages_all_told t outputs
-    ∙ (ap (λ (r : BoundedList ℕ). extended_by r (lines_of_outputs t outputs)) (messages_told s o)
+pub messages_all_emitted : (s : ScoreWriterState) (outputs : List ScoreOutput) → (past_outputs s outputs).writer.messages ≡ extended_by s.writer.messages (lines_of_outputs s outputs)
+messages_all_emitted s [] = ap (λ (l : List ℕ). record s.writer.messages { items = l }) (sym (append-nil s.writer.messages.items))
+messages_all_emitted s (o ∷ outputs) =
+    let t = past_output s o in
+    messages_all_emitted t outputs
+    ∙ (ap (λ (r : BoundedList ℕ). extended_by r (lines_of_outputs t outputs)) (messages_emitted s o)
     ∙ extended_both s.writer.messages (lines_of_output s.writer.written o) (lines_of_outputs t outputs))
 
 -- ---- what is still to be written
@@ -141,15 +141,15 @@ behind_both a b c d s = same _ _ _ _ _ _ (sym (append_assoc a c s.output)) (sym 
 
 pub streams_behind : (s : ScoreWriterState) (outputs rest : List ScoreOutput) → s.part ≡ part.Body → EndsAtLast (rest ≡ []) outputs
     → streams_in s.writer.written [] true (outputs ++ rest)
-    ≡ behind_bytes (texts_of_outputs s outputs) (lines_of_outputs s outputs) (streams_at (with_all_told s outputs).part (with_all_told s outputs).writer.written rest)
+    ≡ behind_bytes (texts_of_outputs s outputs) (lines_of_outputs s outputs) (streams_at (past_outputs s outputs).part (past_outputs s outputs).writer.written rest)
 streams_behind s [] rest body ends = sym (ap (λ (at : RunPart). streams_at at s.writer.written rest) body)
 streams_behind s (Found f ∷ outputs) rest body ends =
-    let t = with_told s (Found f) in
+    let t = past_output s (Found f) in
     streams_behind_found s.writer.written [] true f (outputs ++ rest)
     ∙ (ap (λ (x : Streams). behind_bytes [] (shown_line s.writer.written.name s.writer.written.all_warnings f) x) (streams_behind t outputs rest body ends)
     ∙ behind_both [] (shown_line s.writer.written.name s.writer.written.all_warnings f) (texts_of_outputs t outputs) (lines_of_outputs t outputs) _)
 streams_behind s (Syllable x ∷ outputs) rest body ends =
-    let t = with_told s (Syllable x) in
+    let t = past_output s (Syllable x) in
     let text = syllable_text s.writer.written.format (next_number s.writer.written.count) x in
     streams_behind_syllable s.writer.written x (outputs ++ rest)
     ∙ (ap (λ (y : Streams). behind_bytes text [] y) (streams_behind t outputs rest body ends)

@@ -101,8 +101,8 @@ abbrev pub items_left : EngineState → SourceEnding → List ℕ → List (Resu
 items_left s ending bytes = heads.emitted_by (is_whole ending) bytes (decoder.events_left s.decoder bytes)
 
 -- what the stage of headers will still give of these characters and the fault behind them
-abbrev pub given_left : HeaderStageState → SourceEnding → List (Result Char Fault) → List HeadEvent
-given_left h ending items = heads.emitted_by (is_whole ending) items (heads.events_left h.limits h.progress items)
+abbrev pub head_events_left : HeaderStageState → SourceEnding → List (Result Char Fault) → List HeadEvent
+head_events_left h ending items = heads.emitted_by (is_whole ending) items (heads.events_left h.limits h.progress items)
 
 -- the headers that this stage has read once these have come
 abbrev pub book_behind : HeaderStageState → List (Result Char Fault) → List (List ℕ × List ℕ)
@@ -152,16 +152,16 @@ abbrev pub head_text_in : Format → List (List ℕ × List ℕ) → List HeadEv
 head_text_in format book from_heads = if has_heads from_heads then heads_text format book else []
 
 -- In each part of a run, where these come and the headers are this book: behind a run nothing follows.
-abbrev pub streams_given : RunPart → ScoreStageState → Written → List (List ℕ × List ℕ) → List HeadEvent → Streams
-streams_given part.Heads score w book from_heads = streams_in w (head_text_in w.format book from_heads) (has_heads from_heads) (outputs_from_heads score from_heads)
-streams_given part.Body score w book from_heads = streams_in w [] true (concat_of (left_of score from_heads))
-streams_given (part.Over status) score w book from_heads = ended_with status
+abbrev pub streams_by_part : RunPart → ScoreStageState → Written → List (List ℕ × List ℕ) → List HeadEvent → Streams
+streams_by_part part.Heads score w book from_heads = streams_in w (head_text_in w.format book from_heads) (has_heads from_heads) (outputs_from_heads score from_heads)
+streams_by_part part.Body score w book from_heads = streams_in w [] true (concat_of (left_of score from_heads))
+streams_by_part (part.Over status) score w book from_heads = ended_with status
 
 -- What an engine will still write of these bytes, behind which the input ends so, beside what waits.
 abbrev pub streams_left : EngineState → SourceEnding → List ℕ → Streams
 streams_left s ending bytes =
     let items = items_left s ending bytes in
-    streams_given s.part s.score s.written (book_behind s.heads items) (given_left s.heads ending items)
+    streams_by_part s.part s.score s.written (book_behind s.heads items) (head_events_left s.heads ending items)
 
 -- what waits, and then these
 abbrev pub with_waiting : EngineState → Streams → Streams

@@ -134,7 +134,7 @@ fn read_in_heads(
     pass_on(from_heads.slice(), heads.book(), writer);
 }
 
-/// Reads what the decoder has given.
+/// Reads what the decoder has emitted.
 #[inline(always)]
 fn read_decoded(
     item: Option<Result<Char, Fault>>,
@@ -158,7 +158,8 @@ fn read_decoded(
 }
 
 impl Engine {
-    /// Returns an engine for `job` before the first byte of its input, and reserves the memory that it ever takes. The ends that `job` names
+    /// Returns an engine for `job` under `limits`, before the first byte of its input, and reserves the memory that it ever takes. It fails only
+    /// for want of memory. The ends that `job` names
     /// are not opened: its format, the name of its input and whether it wants warnings are all that counts.
     pub fn new(alloc: Global, job: &Job, limits: Limits) -> Result<Engine, AllocError>
         ensures all { IfOk result (λ engine. (bytes : List ℕ) (ending : EndOfSource) →
@@ -169,7 +170,7 @@ impl Engine {
     {
         gabc_places::laws::texts_are_scalars_within_the_limit();
         gabc_headers::laws::the_book_is_read();
-        gabc_score::laws::a_stage_of_headers_gives_the_events();
+        gabc_score::laws::a_stage_of_headers_emits_the_events();
         gabc_score::laws::a_score_says_what_it_emits();
         gabc_score::laws::syllables_are_fewer_than_bytes();
         gabc_score::stage_laws::texts_are_read_in_full();

@@ -1,4 +1,4 @@
-//! Reads a score of Gregorian chant in GABC, and writes it in canonical form or as a dump. Gives on what `gregorio_jobs` has: words, plans,
+//! Reads a score of Gregorian chant in GABC, and writes it in canonical form or as a dump. Re-exports what `gregorio_jobs` has: words, plans,
 //! jobs and statuses.
 //!
 //! Any `Source` and any two `Sink`s serve; `FromReader` and `ToWriter` of `gabc_places` make them of readers and writers:

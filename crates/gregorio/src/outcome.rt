@@ -40,8 +40,8 @@ fn is_cut_short(ending: SourceEnding, fault: Option<Fault>) -> bool
 }
 
 impl Outcome {
-    /// Reads the score of `bytes` under `limits`. These are a whole input, or what came of one whose source failed then, as `ending`
-    /// says. It fails only for want of memory.
+    /// Reads the score of `bytes` under `limits`. The bytes are a whole input, or those that came before its source failed, as `ending`
+    /// tells. It fails only for want of memory.
     pub fn of(
         alloc: Global,
         bytes: &[u8],

@@ -195,8 +195,8 @@ fn run_buffered<S: Source, O: Sink, M: Sink>(
     }
 }
 
-/// Reads a score from `source`, at most `limits.input` bytes and one more, writes it in the format of `job` to `out`, and its
-/// messages to `messages`. Returns how it went. At `WriteFault` each sink holds a prefix of its text; at `NoMemory` nothing was read
+/// Reads a score from `source`, at most one byte more than `limits.input`, writes it in the format of `job` to `out`, and its messages to
+/// `messages`. Returns how it went. The ends that `job` names are not opened. At `WriteFault` each sink holds a prefix of its text; at `NoMemory` nothing was read
 /// or written.
 pub fn compile<S: Source, O: Sink, M: Sink>(
     alloc: Global,

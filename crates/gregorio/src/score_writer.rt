@@ -1,4 +1,4 @@
-//! What a run does with what a stage of headers gives.
+//! What a run does with what a stage of headers emits.
 
 ghost use Rattle.std.specs.Prelude.{◌≡◌, ◌≤◌, ℕ, List, [], ◌∷◌, length, take, false, IfOk};
 ghost use Rattle.std.specs.List.{All};
@@ -9,7 +9,7 @@ ghost use Rattle.gabc_score.specs.ScoreEvents.{ScoreOutput, score_outputs};
 ghost use Rattle.gabc_score.specs.ScoreStage.{AreCountsBelow, left_of};
 ghost use Rattle.gregorio.specs.Engine.{is_running_in};
 ghost use Rattle.gregorio.specs.machine.RunWriter.{HasRoomFor, IsInRoom, IsSteadyWriter};
-ghost use Rattle.gregorio.specs.machine.ScoreWriter.{output_told, told_by, with_told, with_all_told, writer_at, IsBodyBehind, IsShortBook, emptied, fresh_writer, IsReserved, IsSteady, FitsEvents, WritesAt, WritesLast, WritesNothing};
+ghost use Rattle.gregorio.specs.machine.ScoreWriter.{output_of_event, outputs_of_events, past_output, past_outputs, writer_at, IsBodyBehind, IsShortBook, emptied, fresh_writer, IsReserved, IsSteady, FitsEvents, WritesAt, WritesLast, WritesNothing};
 
 use crate::run_part::RunPart;
 use crate::run_writer::RunWriter;
@@ -43,11 +43,11 @@ impl Model for ScoreWriter {
 /// Writes what `event` of `score` brings. A stop or the end ends the run.
 #[inline(never)]
 fn write_event(writer: &mut RunWriter, part: &mut RunPart, score: &ScoreStage, event: ScoreEvent)
-    requires { HasRoomFor score.now.limits writer.old (output_told score.now event ∷ []) }
+    requires { HasRoomFor score.now.limits writer.old (output_of_event score.now event ∷ []) }
     ensures writes { writer_at score.now part.new writer.new
-        ≡ with_told (writer_at score.now part.old writer.old) (output_told score.now event) }
+        ≡ past_output (writer_at score.now part.old writer.old) (output_of_event score.now event) }
     ensures room { (lines texts : ℕ) (outputs : List ScoreOutput) →
-        IsInRoom score.now.limits lines texts writer.old (output_told score.now event ∷ outputs) →
+        IsInRoom score.now.limits lines texts writer.old (output_of_event score.now event ∷ outputs) →
         IsInRoom score.now.limits lines texts writer.new outputs }
     ensures steady { IsSteadyWriter writer.old writer.new }
 {
@@ -74,11 +74,11 @@ fn write_events(
     score: &ScoreStage,
     events: &[ScoreEvent],
 )
-    requires { HasRoomFor score.now.limits writer.old (told_by score.now events.now) }
+    requires { HasRoomFor score.now.limits writer.old (outputs_of_events score.now events.now) }
     ensures writes { writer_at score.now part.new writer.new
-        ≡ with_all_told (writer_at score.now part.old writer.old) (told_by score.now events.now) }
+        ≡ past_outputs (writer_at score.now part.old writer.old) (outputs_of_events score.now events.now) }
     ensures room { (lines texts : ℕ) →
-        IsInRoom score.now.limits lines texts writer.old (told_by score.now events.now) →
+        IsInRoom score.now.limits lines texts writer.old (outputs_of_events score.now events.now) →
         IsInRoom score.now.limits lines texts writer.new [] }
     ensures steady { IsSteadyWriter writer.old writer.new }
 {

@@ -1,4 +1,4 @@
-//! The program `gregorio`: reads a score of Gregorian chant, and writes it in canonical form, as its
+//! The program `gregorio`: reads a score of Gregorian chant, and writes it in canonical form or as a dump, as its
 //! words want.
 #![tactic(auto)]
 

@@ -26,7 +26,7 @@ abbrev pub is_used : Text → List Row → Bool
 is_used id rows = is_from_words (option_and_then (λ (r : Row). r.source) (find (λ r. bytes_eq r.id id) rows))
 
 -- What words say that the command takes: which flags are there, and the first value of each option and of the word that is none.
-pub record Said : Type 0 where
+pub record ArgumentValues : Type 0 where
   pub help : Bool
   pub format : Option Text
   pub stdin : Bool
@@ -36,8 +36,8 @@ pub record Said : Type 0 where
   pub messages : Option Text
   pub all_warnings : Bool
 
-abbrev pub said_by : List Row → Said
-said_by rows = record {
+abbrev pub argument_values : List Row → ArgumentValues
+argument_values rows = record {
   help = is_used HELP.now rows;
   format = first_of FORMAT.now rows;
   stdin = is_used STDIN.now rows;
@@ -53,11 +53,11 @@ format_named name =
     if bytes_eq name (codes "gabc") then Some Gabc else (if bytes_eq name (codes "dump") then Some Dump else None)
 
 -- the format, where one is given that is known
-abbrev pub format_of : Said → Option Format
+abbrev pub format_of : ArgumentValues → Option Format
 format_of matched = option_and_then format_named matched.format
 
 -- the refusals in their order, each with whether it applies
-abbrev pub refusals : Said → List (Bool × Refusal)
+abbrev pub refusals : ArgumentValues → List (Bool × Refusal)
 refusals matched =
     (not (is_some matched.format), O2)
     ∷ (not (is_some (format_of matched)), O3)
@@ -67,11 +67,11 @@ refusals matched =
     ∷ (is_some matched.file && (not (is_some matched.output) && not matched.stdout), O7)
     ∷ []
 
-abbrev pub first_refusal : Said → Option Refusal
+abbrev pub first_refusal : ArgumentValues → Option Refusal
 first_refusal matched = option_map (λ r. r.1) (find (λ r. r.0) (refusals matched))
 
 -- the job; where no refusal applies, a format is given
-abbrev pub job_of : Said → Job
+abbrev pub job_of : ArgumentValues → Job
 job_of matched = record {
   format = unwrap_or (format_of matched) Gabc;
   input = option_map_or InputFile matched.file Stdin;
@@ -81,13 +81,13 @@ job_of matched = record {
 }
 
 -- help if it is asked for; else the first refusal; else the job
-abbrev pub answer : Said → Result Plan Refusal
+abbrev pub answer : ArgumentValues → Result Plan Refusal
 answer matched = if matched.help then Ok Help else option_map_or Err (first_refusal matched) (Ok (Run (job_of matched)))
 
-abbrev pub answer_unless : Kinds → Said → Result Plan Refusal
+abbrev pub answer_unless : Kinds → ArgumentValues → Result Plan Refusal
 answer_unless [] matched = answer matched
 answer_unless (kind ∷ kinds) matched = Err O1
 
 -- `O1` where `clap` states that the command refuses the words; else the answer to what they say
 abbrev pub wants : List Text → Result Plan Refusal
-wants words = answer_unless (fault_of gregorio_command words) (said_by (matches_of gregorio_command words))
+wants words = answer_unless (fault_of gregorio_command words) (argument_values (matches_of gregorio_command words))

@@ -9,7 +9,7 @@ use crate::name::Name;
 pub enum Format {
     /// Canonical GABC.
     Gabc,
-    /// A listing of what was read: a line for each header, syllable, neume, note and sign.
+    /// A listing of what was read: a line for each header, syllable, neume, note, sign and NABC part.
     Dump,
 }
 

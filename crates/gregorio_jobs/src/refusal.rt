@@ -44,7 +44,13 @@ impl Refusal {
     {
         match self {
             Refusal::O0 => 5,
-            _ => 3,
+            Refusal::O1
+            | Refusal::O2
+            | Refusal::O3
+            | Refusal::O4
+            | Refusal::O5
+            | Refusal::O6
+            | Refusal::O7 => 3,
         }
     }
 }

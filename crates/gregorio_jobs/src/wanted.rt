@@ -3,7 +3,7 @@
 ghost use Rattle.std.specs.Prelude.{◌≡◌, ◌≢◌, option_map};
 ghost use Rattle.clap.specs.Words.{kind_of, found_of, rows_of};
 ghost use Rattle.gregorio_jobs.specs.declared.refusal.Refusal.TheVariants.{O0};
-ghost use Rattle.gregorio_jobs.specs.Wants.{wants, answer, said_by, is_used as is_used_in, is_from_words as from_words};
+ghost use Rattle.gregorio_jobs.specs.Wants.{wants, answer, argument_values, is_used as is_used_in, is_from_words as from_words};
 ghost use Rattle.gregorio_jobs.specs.machine.Plan.{format_by, input_by, output_by, refused_by as refused_by_kind};
 
 use crate::arguments::{FILE, FORMAT, HELP, MESSAGES, OUTPUT, STDIN, STDOUT, WARNINGS, command};
@@ -95,7 +95,7 @@ fn messages_of(alloc: Global, file: Option<&str>) -> Result<Option<Name>, Refusa
 
 /// What words want that the command takes, by their matches.
 fn plan_by(alloc: Global, matches: &ArgMatches<'_>) -> Result<Plan, Refusal>
-    ensures { result ≢ Err O0 → result ≡ answer (said_by (rows_of (found_of matches.now))) }
+    ensures { result ≢ Err O0 → result ≡ answer (argument_values (rows_of (found_of matches.now))) }
 {
     if is_used(matches, HELP) {
         return Ok(Plan::Help);
@@ -116,7 +116,7 @@ fn plan_by(alloc: Global, matches: &ArgMatches<'_>) -> Result<Plan, Refusal>
 }
 
 /// Returns what `words`, those behind the program's name, want: the help line where `-h` is there,
-/// else the job of the words. Answers `O1` where they are none that the command takes, else the
+/// else the job of the words. Returns `O1` where the command takes no such words, else the
 /// first of `O2` to `O7` that applies, and `O0` where there is no memory. `-h` hides `O2` to `O7`.
 pub fn plan(alloc: Global, words: &Words) -> Result<Plan, Refusal>
     ensures { result ≢ Err O0 → result ≡ wants words.now }

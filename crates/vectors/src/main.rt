@@ -184,7 +184,7 @@ fn has_output(alloc: Global, format: Format, score: &[u8], output: &[u8], messag
 }
 
 /// Whether a score gives its canonical form, its dump and its messages, and the canonical form itself.
-fn is_told(rt: &HostRuntime, name: &str) -> io::Result<bool> {
+fn is_written(rt: &HostRuntime, name: &str) -> io::Result<bool> {
     let score = read_file(rt, name, "gabc")?;
     let canonical = read_file(rt, name, "canonical")?;
     let dump = read_file(rt, name, "dump")?;
@@ -207,7 +207,7 @@ fn is_told(rt: &HostRuntime, name: &str) -> io::Result<bool> {
 fn check_scores(rt: &HostRuntime) -> io::Result<()> {
     let mut agreed = 0u32;
     for name in SCORES {
-        if is_told(rt, name)? {
+        if is_written(rt, name)? {
             agreed = agreed.saturating_add(1);
         } else {
             println!(rt; "{name}.gabc differs")?;

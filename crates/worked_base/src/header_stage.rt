@@ -116,7 +116,7 @@ fn a_text_without_its_mark_is_stopped_at_its_end(rt: HostRuntime) -> Result<(), 
 }
 
 #[test]
-fn macros_and_lines_are_told(rt: HostRuntime) -> Result<(), Fail> {
+fn macros_and_lines_are_emitted(rt: HostRuntime) -> Result<(), Fail> {
     let shown = events_of(&rt, b"name:;\nnabc-lines:1;\ndef-m0:x;\ndef-m9:y;\n%%")?;
     assert_eq!(rt; shown.as_str(), "heads 1 513 46||end");
     Ok(())

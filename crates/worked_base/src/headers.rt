@@ -252,7 +252,7 @@ fn looks_into_books(rt: HostRuntime) -> Result<(), Fail> {
 }
 
 #[test]
-fn emits_which_values_want_lines(rt: HostRuntime) {
+fn says_which_values_want_lines(rt: HostRuntime) {
     for (value, wants) in [
         ("", false),
         ("a;b", false),

@@ -119,7 +119,7 @@ fn stops_at_the_first_failure(rt: HostRuntime) {
 }
 
 #[test]
-fn emits_how_much_was_sent(rt: HostRuntime) -> Result<(), Fail> {
+fn says_how_much_was_sent(rt: HostRuntime) -> Result<(), Fail> {
     let printed = format!(in rt.alloc(); "{SinkFault}, {}", Unsent { sent: 7 })?;
     assert_eq!(rt;
         printed.as_str(),

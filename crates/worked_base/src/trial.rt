@@ -4,7 +4,7 @@ use gabc_places::{Sink, SinkFault, Source, SourceFault, TrialSink, TrialSource, 
 use std::test::Fail;
 
 #[test]
-fn source_emits_and_fails(rt: HostRuntime) {
+fn source_gives_and_fails(rt: HostRuntime) {
     let mut source = TrialSource::new(b"abcdef", 2, Some(3));
     let mut buf = [0; 4];
     assert_eq!(rt; source.read(&mut buf), Ok(2));

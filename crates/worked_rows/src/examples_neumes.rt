@@ -102,7 +102,7 @@ fn item(kind: ItemKind, from: usize, to: usize) -> Item
 }
 
 #[test]
-fn items_tell_where_they_stand(rt: HostRuntime) {
+fn items_stand_where_they_say(rt: HostRuntime) {
     let kept = "g/0hx/";
     let inner = item(ItemKind::Spacing, 1, 3);
     let divider = item(ItemKind::Spacing, 5, 6);
@@ -122,7 +122,7 @@ fn items_go_as_far_as_one_begins(rt: HostRuntime) -> Result<(), AllocError> {
 }
 
 #[test]
-fn a_scratch_tells_its_limit(rt: HostRuntime) -> Result<(), AllocError> {
+fn a_scratch_has_its_limit(rt: HostRuntime) -> Result<(), AllocError> {
     let scratch = Scratch::with_limit(rt.alloc(), 64)?;
     let limit = scratch.limit();
     drop(scratch);

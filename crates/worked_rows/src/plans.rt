@@ -13,7 +13,7 @@ fn plan_of(alloc: Global, texts: &[&str]) -> Result<Result<Plan, Refusal>, Alloc
 }
 
 /// Returns whether this line tells of a refusal.
-fn is_told(alloc: Global, refusal: Refusal, line: &str) -> Result<bool, AllocError> {
+fn is_written(alloc: Global, refusal: Refusal, line: &str) -> Result<bool, AllocError> {
     Ok(format!(in alloc; "{refusal}")?.as_str() == line)
 }
 
@@ -60,7 +60,7 @@ const REFUSED: [(&[&str], Refusal, &str); 10] = [
 fn refuses_words(rt: HostRuntime) -> Result<(), AllocError> {
     for (texts, refusal, line) in &REFUSED {
         let well = is_refused(rt.alloc(), texts, *refusal)?
-            && is_told(rt.alloc(), *refusal, line)?
+            && is_written(rt.alloc(), *refusal, line)?
             && refusal.code() == 3;
         assert!(rt; well, "{line}");
     }
@@ -68,8 +68,8 @@ fn refuses_words(rt: HostRuntime) -> Result<(), AllocError> {
 }
 
 #[test]
-fn tells_of_no_memory(rt: HostRuntime) -> Result<(), AllocError> {
-    assert!(rt; is_told(rt.alloc(), Refusal::O0, "O0: no memory")?);
+fn answers_no_memory(rt: HostRuntime) -> Result<(), AllocError> {
+    assert!(rt; is_written(rt.alloc(), Refusal::O0, "O0: no memory")?);
     Ok(())
 }
 

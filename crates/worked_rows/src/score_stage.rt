@@ -81,7 +81,7 @@ fn push_all(
 }
 
 /// Whether a stage gives this of a body, which ended so.
-fn tells(
+fn emits(
     alloc: Global,
     stage: &mut ScoreStage,
     body: &str,
@@ -94,14 +94,14 @@ fn tells(
 }
 
 /// Whether a new stage gives this of a body, which ended so.
-fn is_told(
+fn is_written(
     alloc: Global,
     body: &str,
     end: Option<HeadEvent>,
     wanted: &str,
 ) -> Result<bool, AllocError> {
     let mut stage = ScoreStage::with_limits(alloc, Limits::DEFAULT)?;
-    let well = tells(alloc, &mut stage, body, end, wanted);
+    let well = emits(alloc, &mut stage, body, end, wanted);
     drop(stage);
     well
 }
@@ -110,13 +110,13 @@ fn is_told(
 fn gives_a_syllable_with_the_next(rt: HostRuntime) -> Result<(), AllocError> {
     let wanted =
         "|||||||||2:1: error: E1: character left out of the notes\n|First \" a(f)\" Beginning\n||2:2: warning: W9: text without notes at the end\nFirst \"b()\" Middle\nSecond \"c\" End\nend\n";
-    assert!(rt; is_told(rt.alloc(), "\na(f)b(Q)c", Some(HeadEvent::End), wanted)?);
+    assert!(rt; is_written(rt.alloc(), "\na(f)b(Q)c", Some(HeadEvent::End), wanted)?);
     Ok(())
 }
 
 #[test]
 fn gives_the_held_syllable_where_the_source_fails(rt: HostRuntime) -> Result<(), AllocError> {
     let wanted = "|||||||First \" a(f)\" One\n";
-    assert!(rt; is_told(rt.alloc(), "\na(f)b", None, wanted)?);
+    assert!(rt; is_written(rt.alloc(), "\na(f)b", None, wanted)?);
     Ok(())
 }

@@ -35,16 +35,16 @@ collected_of t events = collected_with_all (encodes t) events none
 
 module _ (limits : Limits) (t : List ℕ) (events : List HeaderEvent) (end : HeaderEnding) (u : scalars t ≡ true) (emitted : AreHeaderEvents limits.header t events end) where
   pub read_good : AreGoodEvents (encodes t) events
-  read_good = good_events t events emitted.emitted u emitted.tell (names-prefix emitted.emitted emitted.rest (subst HaveShortNames emitted.all (parts_short outside 1 0 (head_of (lines t)) tt)))
+  read_good = good_events t events emitted.emitted u emitted.are_events_of (names-prefix emitted.emitted emitted.rest (subst HaveShortNames emitted.all (parts_short outside 1 0 (head_of (lines t)) tt)))
 
   pub read_within : AreWithin (encodes t) (collected_of t events).headers
-  read_within = (follow t events emitted.emitted [] none u emitted.tell (λ n. refl) tt).within
+  read_within = (follow t events emitted.emitted [] none u emitted.are_events_of (λ n. refl) tt).within
 
   read_book : spelled_entries (encodes t) (collected_of t events).headers ≡ book_of emitted.emitted
-  read_book = (follow t events emitted.emitted [] none u emitted.tell (λ n. refl) tt).headers ∙ put-book (entries emitted.emitted)
+  read_book = (follow t events emitted.emitted [] none u emitted.are_events_of (λ n. refl) tt).headers ∙ put-book (entries emitted.emitted)
 
   read_found : (collected_of t events).findings ≡ all_known (findings_behind [] emitted.emitted)
-  read_found = (follow t events emitted.emitted [] none u emitted.tell (λ n. refl) tt).findings
+  read_found = (follow t events emitted.emitted [] none u emitted.are_events_of (λ n. refl) tt).findings
 
   ends_as : (e : HeaderEnding) → end ≡ e → EndsAs limits.header t emitted.rest emitted.stop e
   ends_as e q = subst (λ (x : HeaderEnding). EndsAs limits.header t emitted.rest emitted.stop x) q emitted.ends

@@ -1,4 +1,4 @@
--- The part reader over the headers' own text: its spans lie in what is read, its events are known where they are given,
+-- The part machine over the headers' own text: its spans lie in what is read, its events are known where they are given,
 -- and what it has not emitted yet becomes known later.
 use Rattle.std.proofs.Common.{◌≡◌, ℕ, ◌+◌, ◌≤◌, List, [], ◌∷◌, ◌++◌, drop, Bool, true, false, cond, Option, Some, None, refl, sym, ap, ◌∙◌, arith, append_assoc, slice_range, drop-drop, nat_lt, not, le_refl}
 use Rattle.gabc_places.specs.declared.place.Span.{Span}
@@ -28,7 +28,7 @@ abbrev pub SpanIn : ℕ → Option Span → Type 0
 SpanIn i None = Unit {0}
 SpanIn i (Some s) = (s.from ≤ s.to) × (s.to ≤ i)
 
--- all spans that the reader keeps end at i or before
+-- all spans that the machine keeps end at i or before
 pub record Near (i : ℕ) (rd : PartMachine) : Type 0 where
   pub from : rd.trim.from ≤ i
   pub to : rd.trim.to ≤ i
@@ -40,7 +40,7 @@ EventAt i None = Unit {0}
 EventAt i (Some (LeftOut k p)) = p ≡ i
 EventAt i (Some (Header k name value p)) = (name.from ≤ name.to) × (name.to ≤ i) × (value.from ≤ value.to) × (value.to ≤ i) × (p ≡ i)
 
--- a step at i leaves the reader near i + 1 and tells what is known at i
+-- a step at i leaves the machine near i + 1 and emits what is known at i
 abbrev pub NearAt : ℕ → PartMachine × Option HeaderEvent → Type 0
 NearAt i s = Near (i + 1) s.0 × EventAt i s.1
 
@@ -57,7 +57,7 @@ span_to i t a b = by (nat_lt t.to t.from)
     by true = a
     by false = b
 
--- a reader at the start of a line is near
+-- a machine at the start of a line is near
 pub near_fresh : (line i : ℕ) → Near i (at_line_start line i)
 near_fresh line i = record { from = le_refl i; to = le_refl i; name = tt }
 
@@ -72,11 +72,11 @@ module _ (rd : PartMachine) (i : ℕ) (h : Near i rd) where
   to_after true = let x = h.to in omega arith
   to_after false = le_refl (i + 1)
 
-  -- a reader whose trim grows stays near
+  -- a machine whose trim grows stays near
   near_trim : (st : PartState) (line : ℕ) (a b : Bool) → Near (i + 1) (record rd { state = st; line = line; trim = next_trim rd.trim (i + 1) a b })
   near_trim st line a b = record { from = from_after _; to = to_after b; name = span_next i rd.name h.name }
 
-  -- a reader whose state alone changes stays near
+  -- a machine whose state alone changes stays near
   near_same : (st : PartState) → Near (i + 1) (record rd { state = st })
   near_same st = record { from = (let x = h.from in omega arith); to = (let x = h.to in omega arith); name = span_next i rd.name h.name }
 
@@ -144,7 +144,7 @@ module _ (rd : PartMachine) (i : ℕ) (h : Near i rd) where
       by Skip = near_skip k
       by (Value long run) = near_value long run k
 
-  -- what the end tells is known there
+  -- what the end emits is known there
   pub near_last : EventAt i (last_in rd.state rd i)
   near_last = by rd.state
     where
@@ -181,7 +181,7 @@ pub open_late : (i : ℕ) (o : Option ℕ) → AreLate i (open_part o)
 open_late i None = tt
 open_late i (Some k) = (tt, tt)
 
--- what is left to tell from i on
+-- what is left to emit from i on
 pub record Later (all : List HeaderPart) (i : ℕ) (done : List HeaderPart) : Type 0 where
   pub rest : List HeaderPart
   pub whole : all ≡ done ++ rest
@@ -221,7 +221,7 @@ quiet_in (Value long run) leading = not (is_mark_run run)
 abbrev pub is_quiet : PartMachine → Bool
 is_quiet rd = quiet_in rd.state rd.trim.leading
 
--- behind an LF the reader is quiet
+-- behind an LF the machine is quiet
 pub quiet_line : (rd : PartMachine) (i next : ℕ) (good : Bool) → is_quiet (next_part_machine rd LineEnd i next good).0 ≡ true
 quiet_line rd i next good = by rd.state
   where
@@ -262,7 +262,7 @@ module _ (rd : PartMachine) (i : ℕ) where
           of true h = absurd (cc)
           of false h = refl
 
-  -- and the end tells nothing there
+  -- and the end emits nothing there
   pub quiet_last : is_quiet rd ≡ true → last_in rd.state rd i ≡ None
   quiet_last h = by rd.state h
     where

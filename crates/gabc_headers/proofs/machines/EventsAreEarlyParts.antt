@@ -11,18 +11,18 @@ use Rattle.gabc_headers.proofs.machines.PartMachineOfBytes.{moved_event}
 use Rattle.gabc_headers.proofs.machines.EventSpansLieInText.{EventAt}
 
 -- one event more
-tell_push : (t : List ℕ) (es : List HeaderEvent) (ps : List HeaderPart) (e : HeaderEvent) (p : HeaderPart) → AreEventsOf t es ps → IsEventOf t e p → AreEventsOf t (es ++ e ∷ []) (ps ++ p ∷ [])
-tell_push t [] [] e p h x = (x, tt)
-tell_push t (d ∷ es) (q ∷ ps) e p h x = (h.0, tell_push t es ps e p h.1 x)
-tell_push t [] (q ∷ ps) e p h x = absurd h
-tell_push t (d ∷ es) [] e p h x = absurd h
+emit_push : (t : List ℕ) (es : List HeaderEvent) (ps : List HeaderPart) (e : HeaderEvent) (p : HeaderPart) → AreEventsOf t es ps → IsEventOf t e p → AreEventsOf t (es ++ e ∷ []) (ps ++ p ∷ [])
+emit_push t [] [] e p h x = (x, tt)
+emit_push t (d ∷ es) (q ∷ ps) e p h x = (h.0, emit_push t es ps e p h.1 x)
+emit_push t [] (q ∷ ps) e p h x = absurd h
+emit_push t (d ∷ es) [] e p h x = absurd h
 
--- a step tells what is seen of it
-pub tell_step : (t head back : List ℕ) (i : ℕ) (es : List HeaderEvent) (events : List HeaderPart) (e : Option HeaderEvent) → t ≡ head ++ back → EventAt i e → AreEventsOf t es events
+-- a step emits what is seen of it
+pub emit_step : (t head back : List ℕ) (i : ℕ) (es : List HeaderEvent) (events : List HeaderPart) (e : Option HeaderEvent) → t ≡ head ++ back → EventAt i e → AreEventsOf t es events
     → AreEventsOf t (with_event es (moved_event (bytes_at head) e)) (events ++ seen head e)
-tell_step t head back i es events None b a h = subst (λ (x : List HeaderPart). AreEventsOf t es x) (sym (append-nil events)) h
-tell_step t head back i es events (Some (LeftOut k p)) b a h = tell_push t es events (LeftOut k p) (left_out k p) h (refl, refl)
-tell_step t head back i es events (Some (Header k n v p)) b a h = tell_push t es events _ _ h (refl, holds_at t head back n b a.0, holds_at t head back v b a.2, refl)
+emit_step t head back i es events None b a h = subst (λ (x : List HeaderPart). AreEventsOf t es x) (sym (append-nil events)) h
+emit_step t head back i es events (Some (LeftOut k p)) b a h = emit_push t es events (LeftOut k p) (left_out k p) h (refl, refl)
+emit_step t head back i es events (Some (Header k n v p)) b a h = emit_push t es events _ _ h (refl, holds_at t head back n b a.0, holds_at t head back v b a.2, refl)
 
 -- a part that is early for i is early for i + 1
 early_weak : (i : ℕ) (p : HeaderPart) → IsEarly i p → IsEarly (i + 1) p
@@ -53,7 +53,7 @@ open_emitted i (left_out k p ∷ events) rest h = open_emitted i events rest h.1
 open_emitted i (header k n v p ∷ events) rest h = open_emitted i events rest h.1
 open_emitted i (unended k ∷ events) rest h = absurd h.0
 
--- the open value is behind what the end tells
+-- the open value is behind what the end emits
 pub open_rest : (head : List ℕ) (e : Option HeaderEvent) (o : Option ℕ) → open_line (seen head e ++ open_part o) ≡ o
 open_rest head None None = refl
 open_rest head None (Some k) = refl

@@ -1,4 +1,4 @@
--- What the part reader's events are parts of, where its spans count characters.
+-- What the part machine's events are parts of, where its spans count characters.
 use Rattle.std.proofs.Common.{◌≡◌, ℕ, ◌-◌, List, [], ◌∷◌, Bool, true, false, cond, nat_lt, Option, Some, None, refl, ap, arith, take, drop, slice_range, ◌<◌}
 use Rattle.std.proofs.lemmas.Bool.Decides.{nat_tests}
 use Rattle.gabc_places.specs.declared.place.Span.{Span}

@@ -25,9 +25,9 @@ use Rattle.gabc_headers.proofs.machines.PartMachineOfBytes.{moved, moved_both, s
 use Rattle.gabc_headers.proofs.machines.SpansOfBytes.{bytes_at, bytes-append, bytes_mono, good_span, span_order}
 use Rattle.gabc_headers.proofs.machines.EventSpansLieInText.{Near, near_fresh, near_step, drop_next, is_quiet, quiet_line}
 use Rattle.gabc_headers.proofs.stops.TextTooLong.{Begins, begins_push, place_push}
-use Rattle.gabc_headers.proofs.machines.EventsAreEarlyParts.{tell_step, early_step}
+use Rattle.gabc_headers.proofs.machines.EventsAreEarlyParts.{emit_step, early_step}
 
--- The reader has read what is done, and stands before the rest. `rd` is its part reader, with spans in characters.
+-- The machine has read what is done, and stands before the rest. `rd` is its part machine, with spans in characters.
 pub record MachineReads (t : List ℕ) (limit : ℕ) (done rest : List ℕ) (r : HeaderMachine) (es : List HeaderEvent) : Type 0 where
   pub scan : Scan t done rest r.at_line
   pub rd : PartMachine
@@ -35,7 +35,7 @@ pub record MachineReads (t : List ℕ) (limit : ℕ) (done rest : List ℕ) (r :
   pub near : Near (length done) rd
   pub emitted : List HeaderPart
   pub stands : StandsIn (head_parts t) (head_text true t) rd.state (head_text r.at_line rest) (length done) rd emitted
-  pub tell : AreEventsOf t es emitted
+  pub are_events_of : AreEventsOf t es emitted
   pub early : AreEarly (length done) emitted
   pub quiet : r.at_line ≡ true → is_quiet rd ≡ true
   pub begins : Begins done r.at_line
@@ -54,7 +54,7 @@ begin_reads t limit = record {
   near = near_fresh 1 0;
   emitted = [];
   stands = begin_line (head_parts t) (head_text true t) (head_text true t) 0 1 [] refl (sym (parts_head t));
-  tell = tt;
+  are_events_of = tt;
   early = tt;
   quiet = λ e. refl;
   begins = λ x. refl;
@@ -88,7 +88,7 @@ module _ (t : List ℕ) (limit : ℕ) (done rest : List ℕ) (r : HeaderMachine)
       let sc = scan_more t done rest c r.at_line e h.scan in
       sym bytes_push ∙ ap bytes_len (sym (ap (λ (n : ℕ). take n (head_text true t)) (sym (length_one done c)) ∙ (ap (take (length (done ++ c ∷ []))) sc.head ∙ take-append_seam (done ++ c ∷ []) (head_text (c == 10) rest))))
 
-  -- the reader's test of a name is that of the name's characters
+  -- the machine's test of a name is that of the name's characters
   good_is : is_good_span (span_of r.parts.trim) ≡ is_good_name (slice_range (head_text true t) h.rd.trim.from h.rd.trim.to)
   good_is = ap (λ (p : PartMachine). is_good_span (span_of p.trim)) h.parts
       ∙ (ap is_good_span (span_moved (bytes_at (head_text true t)) (bytes_mono (head_text true t)) h.rd.trim)
@@ -98,14 +98,14 @@ module _ (t : List ℕ) (limit : ℕ) (done rest : List ℕ) (r : HeaderMachine)
   abbrev pub char_step : PartMachine × Option HeaderEvent
   char_step = next_part_machine h.rd (header_char_of c) (length done) (length done + 1) (is_good_span (span_of r.parts.trim))
 
-  -- the reader's step is the step over characters, its spans moved to bytes
+  -- the machine's step is the step over characters, its spans moved to bytes
   pub step_is : part_step r c ≡ moved_both (bytes_at (head_text true t)) char_step
   step_is = ap (λ (x : PartMachine). next_part_machine x (header_char_of c) r.point (r.bytes + len_utf8 c) (is_good_span (span_of r.parts.trim))) h.parts
       ∙ (ap (λ (x : ℕ). next_part_machine (moved (bytes_at (head_text true t)) h.rd) (header_char_of c) x (r.bytes + len_utf8 c) (is_good_span (span_of r.parts.trim))) h.point
       ∙ (ap (λ (x : ℕ). next_part_machine (moved (bytes_at (head_text true t)) h.rd) (header_char_of c) (length done) x (is_good_span (span_of r.parts.trim))) bytes_next
       ∙ step_moved (bytes_at (head_text true t)) (bytes_mono (head_text true t)) h.rd (length done) (length done + 1) (header_char_of c) (is_good_span (span_of r.parts.trim))))
 
-  -- where the step over characters leaves the part reader
+  -- where the step over characters leaves the part machine
   pub stands_next : StandsIn (head_parts t) (head_text true t) char_step.0.state (head_text (c == 10) rest) (length done + 1) char_step.0 (h.emitted ++ seen (head_text true t) char_step.1)
   stands_next = one_step (head_parts t) (head_text true t) c (head_text (c == 10) rest) (length done) h.rd h.emitted (is_good_span (span_of r.parts.trim))
       (drop_next (head_text true t) (head_text (c == 10) rest) (length done) c head_drop) (λ x y. good_is)
@@ -129,8 +129,8 @@ module _ (t : List ℕ) (limit : ℕ) (done rest : List ℕ) (r : HeaderMachine)
         near = subst (λ (k : ℕ). Near k char_step.0) (sym n) m.0;
         emitted = h.emitted ++ seen (head_text true t) char_step.1;
         stands = subst (λ (k : ℕ). StandsIn (head_parts t) (head_text true t) char_step.0.state (head_text (c == 10) rest) k char_step.0 (h.emitted ++ seen (head_text true t) char_step.1)) (sym n) stands_next;
-        tell = subst (λ (x : PartMachine × Option HeaderEvent). AreEventsOf t (with_event es x.1) (h.emitted ++ seen (head_text true t) char_step.1)) (sym step_is)
-            (tell_step t (head_text true t) b.0 (length done) es h.emitted char_step.1 b.1 m.1 h.tell);
+        are_events_of = subst (λ (x : PartMachine × Option HeaderEvent). AreEventsOf t (with_event es x.1) (h.emitted ++ seen (head_text true t) char_step.1)) (sym step_is)
+            (emit_step t (head_text true t) b.0 (length done) es h.emitted char_step.1 b.1 m.1 h.are_events_of);
         early = subst (λ (k : ℕ). AreEarly k (h.emitted ++ seen (head_text true t) char_step.1)) (sym n) (early_step (head_text true t) (length done) h.emitted char_step.1 m.1 h.early);
         quiet = quiet_next;
         begins = begins_push done c;

@@ -1,4 +1,4 @@
--- The reader, one push after the other.
+-- The machine, one push after the other.
 use Rattle.std.proofs.Common.{◌≡◌, ℕ, ◌+◌, ◌<◌, ◌≤◌, List, [], ◌∷◌, ◌++◌, length, Bool, true, false, cond, ◌&&◌, ◌==◌, nat_lt, Option, None, refl, sym, ap, ◌∙◌, subst, arith}
 use Rattle.std.proofs.lemmas.Bool.Decides.{nat_tests}
 use Rattle.std.specs.Char.{len_utf8}
@@ -24,12 +24,12 @@ use Rattle.gabc_headers.proofs.groups.TextBeforeScore.{head_text}
 use Rattle.gabc_headers.proofs.machines.MachineOverText.{MachineReads, begin_reads, reads_more, step_is}
 use Rattle.gabc_headers.proofs.stops.MachineEndsAtStop.{limit_here, limit_held, score_here, text_here, text_held}
 
--- what the part reader has not read: a `%` that is held back, and what comes
+-- what the part machine has not read: a `%` that is held back, and what comes
 abbrev pub pending : Bool → List ℕ → List ℕ
 pending true rest = 37 ∷ rest
 pending false rest = rest
 
--- the reader stands before the rest of the text
+-- the machine stands before the rest of the text
 pub record Following (t : List ℕ) (limit : ℕ) (rest : List ℕ) (r : HeaderMachine) (es : List HeaderEvent) : Type 0 where
   pub done : List ℕ
   pub reads : MachineReads t limit done (pending r.held rest) r es
@@ -39,12 +39,12 @@ pub record Following (t : List ℕ) (limit : ℕ) (rest : List ℕ) (r : HeaderM
 pub begin_following : (t : List ℕ) (limit : ℕ) → Following t limit t (fresh_machine limit) []
 begin_following t limit = record { done = []; reads = begin_reads t limit; held = λ e. refl }
 
--- what a push leaves: the reader before the rest, or what is emitted of the whole text
+-- what a push leaves: the machine before the rest, or what is emitted of the whole text
 abbrev pub AfterPush : List ℕ → ℕ → List ℕ → List HeaderEvent → HeaderMachine → HeaderStep → Type 0
 AfterPush t limit rest es r (Read e) = Following t limit rest r (with_event es e)
 AfterPush t limit rest es r (Ended end) = AreHeaderEvents limit t es end
 
--- another `held` changes nothing of what the reader has read
+-- another `held` changes nothing of what the machine has read
 reheld : (t : List ℕ) (limit : ℕ) (done rest : List ℕ) (r : HeaderMachine) (es : List HeaderEvent) (b : Bool) → MachineReads t limit done rest r es → MachineReads t limit done rest (record r { held = b }) es
 reheld t limit done rest r es b h = record {
   scan = h.scan;
@@ -53,7 +53,7 @@ reheld t limit done rest r es b h = record {
   near = h.near;
   emitted = h.emitted;
   stands = h.stands;
-  tell = h.tell;
+  are_events_of = h.are_events_of;
   early = h.early;
   quiet = h.quiet;
   begins = h.begins;

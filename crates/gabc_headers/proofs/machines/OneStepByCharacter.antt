@@ -1,4 +1,4 @@
--- One step of the reader, by the kind of the character; and the end of the text.
+-- One step of the machine, by the kind of the character; and the end of the text.
 use Rattle.std.proofs.Common.{◌≡◌, ℕ, ◌+◌, List, [], ◌∷◌, ◌++◌, drop, Bool, true, false, cond, ◌&&◌, ◌==◌, ◌≢◌, Option, Some, None, refl, sym, ap, ◌∙◌, subst, arith, append-nil, slice_range}
 use Rattle.std.proofs.lemmas.Bool.Decides.{nat_tests}
 use Rattle.gabc_headers.specs.Lines.{is_blank, is_bare}
@@ -66,11 +66,11 @@ is_kind c = on59 (c == 59) refl
 -- ---- a step
 
 module _ (all : List HeaderPart) (text : List ℕ) where
-  -- the reader in state st, as it stands after a step
+  -- the machine in state st, as it stands after a step
   abbrev pub After : List ℕ → ℕ → List HeaderPart → PartMachine × Option HeaderEvent → Type 0
   After r i done s = StandsIn all text s.0.state r i s.0 (done ++ seen text s.1)
 
-  -- a step that tells nothing
+  -- a step that emits nothing
   same : (r : List ℕ) (i : ℕ) (done : List HeaderPart) (rd : PartMachine) → StandsIn all text rd.state r i rd done → After r i done (rd, None)
   same r i done rd h = subst (λ (x : List HeaderPart). StandsIn all text rd.state r i rd x) (sym (append-nil done)) h
 

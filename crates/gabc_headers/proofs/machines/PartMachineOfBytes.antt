@@ -1,4 +1,4 @@
--- The part reader does with places of another kind, as bytes, what it does with those of characters.
+-- The part machine does with places of another kind, as bytes, what it does with those of characters.
 use Rattle.std.proofs.Common.{◌≡◌, ℕ, ◌+◌, ◌<◌, ◌≤◌, Bool, true, false, cond, ◌&&◌, nat_lt, Option, Some, None, refl, ap, ◌∙◌, arith}
 use Rattle.std.proofs.lemmas.Bool.Decides.{nat_tests}
 use Rattle.gabc_places.specs.declared.place.Span.{Span}
@@ -16,7 +16,7 @@ use Rattle.gabc_headers.specs.machine.Characters.{next_run, is_mark_run}
 use Rattle.gabc_headers.specs.machine.PartMachine.{span_of, header_of, at_line_start, event_at_end, with_trim, value_begun_at, in_value, step_in, next_part_machine, name_step, value_step, next_trim}
 
 module _ (f : ℕ → ℕ) where
-  -- a span, a trim, a name, a reader, an event and a step with each place moved by f
+  -- a span, a trim, a name, a machine, an event and a step with each place moved by f
   abbrev pub moved_span : Span → Span
   moved_span s = record { from = f s.from; to = f s.to }
 

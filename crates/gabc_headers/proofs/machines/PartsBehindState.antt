@@ -1,4 +1,4 @@
--- Where the reader stands: the parts of the text are those emitted so far, and those of what is left.
+-- Where the machine stands: the parts of the text are those emitted so far, and those of what is left.
 use Rattle.std.proofs.Common.{◌≡◌, ℕ, ◌+◌, suc, List, [], ◌∷◌, ◌++◌, length, drop, Bool, true, false, cond, ◌&&◌, ◌||◌, ◌==◌, not, Option, Some, None, refl, sym, ap, ◌∙◌, subst, arith, append_assoc, append-nil, length-append, slice_range}
 use Rattle.gabc_headers.specs.Lines.{mark_end, run_len, lines, on_first, is_blank, is_blank_or_lf, ends_no_value, is_bare, has_mark, before_mark, has_colon, before_colon, after_colon, trim_value, trim_name}
 use Rattle.gabc_headers.specs.Parts.{HeaderPart, left_out, header, unended, outside, within, parts, ended_parts, bad_name_parts, name_of, good_name, is_good_name}
@@ -44,7 +44,7 @@ abbrev pub named_as : List ℕ → Option Span → Option (List ℕ)
 named_as text None = None
 named_as text (Some s) = Some (text_at text s)
 
--- ---- where the reader stands
+-- ---- where the machine stands
 
 -- the prefix of a line that begins no header yet, or its name
 pub record NameSo (p : List ℕ) (leading : Bool) : Type 0 where
@@ -330,15 +330,15 @@ module _ (all : List HeaderPart) (text : List ℕ) where
   -- ---- a mark
 
   -- a header that ends is emitted with what its spans hold
-  told_end : (o : Option Span) (j i p : ℕ) (t : Trim) (v w : List ℕ) → p ≡ i → trim_value v ≡ w → w ≡ slice_range text t.from t.to
+  emitted_end : (o : Option Span) (j i p : ℕ) (t : Trim) (v w : List ℕ) → p ≡ i → trim_value v ≡ w → w ≡ slice_range text t.from t.to
       → ended_parts j (named_as text o) v p ≡ seen text (header_of j t i o)
-  told_end None j i p t v w e f g = refl
-  told_end (Some s) j i p t v w e f g = rw (e, f, g) (ap (λ (x : List ℕ). header j (text_at text s) x i ∷ []) (sym (span_slice text t)))
+  emitted_end None j i p t v w e f g = refl
+  emitted_end (Some s) j i p t v w e f g = rw (e, f, g) (ap (λ (x : List ℕ). header j (text_at text s) x i ∷ []) (sym (span_slice text t)))
 
   -- the header that ends at the mark is the one that is emitted
   closed : (long : Bool) (run : Run) (c r l : List ℕ) (i : ℕ) (rd : PartMachine) (done : List HeaderPart) (h : InValue long run c i rd done) → Closed long h.prefix l → run_len l ≡ 0
       → ended_parts rd.header (named_as text rd.name) (h.above ++ before_mark (wanted long) (h.prefix ++ l)) (h.line_start + mark_end (wanted long) (h.prefix ++ l)) ≡ seen text (event_at_end rd i)
-  closed long run c r l i rd done h z q = told_end rd.name rd.header i (h.line_start + mark_end (wanted long) (h.prefix ++ l)) rd.trim (h.above ++ before_mark (wanted long) (h.prefix ++ l)) (trim_value (h.above ++ h.prefix))
+  closed long run c r l i rd done h z q = emitted_end rd.name rd.header i (h.line_start + mark_end (wanted long) (h.prefix ++ l)) rd.trim (h.above ++ before_mark (wanted long) (h.prefix ++ l)) (trim_value (h.above ++ h.prefix))
       (let a = z.end in let b = h.place in omega arith) (z.value h.above)
       (sym (trim_slice is_blank_or_lf ends_no_value h.start (h.above ++ h.prefix) c text rd.trim h.trim h.at))
 

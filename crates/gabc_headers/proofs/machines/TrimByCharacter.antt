@@ -1,4 +1,4 @@
--- The reader's trim, one character after the other.
+-- The machine's trim, one character after the other.
 use Rattle.std.proofs.Common.{◌≡◌, ℕ, ◌+◌, ◌-◌, ◌≤◌, suc, List, [], ◌∷◌, ◌++◌, length, take, drop, Bool, true, false, cond, ◌&&◌, refl, sym, ap, ◌∙◌, arith, length-append, length-drop, slice_range, drop-drop}
 use Rattle.std.proofs.lemmas.List.{drop-append-le, take-append-le}
 use Rattle.gabc_headers.specs.Lines.{trim_start, trim_end, unless_last}

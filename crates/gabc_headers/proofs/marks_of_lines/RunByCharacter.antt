@@ -226,7 +226,7 @@ close long run p l h i j a b =
     length_semis zero = refl
     length_semis (suc n) = ap suc (length_semis n)
 
--- so is the run that the reader takes for one
+-- so is the run that the machine takes for one
 pub run_closes : (long : Bool) (run : Run) (p l : List ℕ) → RunOf long run p → is_mark_run run ≡ true → is_bare l ≡ true → Closed long p l
 run_closes long Text p l h e b = absurd (cc)
 run_closes long Short p l h e b = absurd (cc)

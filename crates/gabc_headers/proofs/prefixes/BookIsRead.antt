@@ -7,7 +7,7 @@ use Rattle.gabc_places.specs.declared.code.Fault.{Fault}
 use Rattle.gabc_places.specs.Decoder.{fault_items}
 use Rattle.gabc_headers.specs.declared.heads.Heads.{Heads}
 use Rattle.gabc_headers.specs.Heads.{heads_of}
-use Rattle.gabc_headers.specs.HeadEvents.{HeadProgress, HeaderStageState, reading, behind, over, progress_after, progress_by, given_behind, stage_at, stage_after, stage_past, fresh_stage}
+use Rattle.gabc_headers.specs.HeadEvents.{HeadProgress, HeaderStageState, reading, behind, over, progress_after, progress_by, inputs_behind, stage_at, stage_after, stage_past, fresh_stage}
 use Rattle.gabc_headers.proofs.prefixes.EventsNeedNoEnd.{progress_past, standing}
 
 -- behind the headers the book is theirs
@@ -44,10 +44,10 @@ fault_keeps s (Some fault) = by s.progress
     by over = refl
 
 pub book_is_read : (limits : Limits) (t : List ℕ) (heads : Heads) (fault : Option Fault) → scalars t ≡ true → heads_of limits t ≡ Ok heads
-    → (stage_past (fresh_stage limits) (given_behind [] t ++ fault_items fault)).book ≡ heads.book
+    → (stage_past (fresh_stage limits) (inputs_behind [] t ++ fault_items fault)).book ≡ heads.book
 book_is_read limits t heads fault u h =
-    let s = stage_past (fresh_stage limits) (given_behind [] t) in
-    let stands : s.progress ≡ behind heads.book = stands_past (fresh_stage limits) (given_behind [] t) ∙ (standing limits t u ∙ ap (progress_by t) h) in
-    let fits : IsBookOf s.progress s.book = keeps_book (fresh_stage limits) (given_behind [] t) tt in
-    ap (λ (x : HeaderStageState). x.book) (past_both (fresh_stage limits) (given_behind [] t) (fault_items fault))
+    let s = stage_past (fresh_stage limits) (inputs_behind [] t) in
+    let stands : s.progress ≡ behind heads.book = stands_past (fresh_stage limits) (inputs_behind [] t) ∙ (standing limits t u ∙ ap (progress_by t) h) in
+    let fits : IsBookOf s.progress s.book = keeps_book (fresh_stage limits) (inputs_behind [] t) tt in
+    ap (λ (x : HeaderStageState). x.book) (past_both (fresh_stage limits) (inputs_behind [] t) (fault_items fault))
     ∙ (fault_keeps s fault ∙ subst (λ (p : HeadProgress). IsBookOf p s.book) stands fits)

@@ -1,4 +1,4 @@
--- The events of a text's characters, one after the other, are what its headers tell.
+-- The events of a text's characters, one after the other, are those of its headers.
 use Rattle.std.proofs.Common.{◌≡◌, ℕ, ◌+◌, ◌≤◌, ◌<◌, ◌==◌, ◌&&◌, List, [], ◌∷◌, ◌++◌, length, take, drop, map, Bool, true, false, cond, nat_le, refl, sym, ap, ◌∙◌, subst, arith, Option, Some, None, Result, Ok, Err, append_assoc, append-nil, length-append}
 use Rattle.std.proofs.lemmas.Bool.Decides.{nat_tests}
 use Rattle.std.proofs.lemmas.List.{map-append, take-append-le, take-append-drop}
@@ -27,7 +27,7 @@ use Rattle.gabc_headers.specs.declared.header_machine.HeaderMachine.{HeaderMachi
 use Rattle.gabc_headers.specs.declared.header_machine.HeaderStep.{HeaderStep}
 use Rattle.gabc_headers.specs.declared.header_machine.HeaderStep.TheVariants.{Read, Ended}
 use Rattle.gabc_headers.specs.Heads.{heads_of, findings_of, head_len}
-use Rattle.gabc_headers.specs.HeadEvents.{HeadProgress, reading, behind, over, events_by, events_at, progress_by, events_left, events_at_end, new_findings, heads_told, given_behind, body_characters, events_of_heads}
+use Rattle.gabc_headers.specs.HeadEvents.{HeadProgress, reading, behind, over, events_by, events_at, progress_by, events_left, events_at_end, new_findings, event_of_book, inputs_behind, body_characters, events_of_heads}
 use Rattle.gabc_headers.specs.machine.EntryMap.{spelled_entries, AreWithin}
 use Rattle.gabc_headers.specs.machine.Collected.{heads_at_score}
 use Rattle.gabc_headers.specs.machine.HeaderMachine.{push_one, take_one, then_take, held_push, fresh_machine}
@@ -35,11 +35,11 @@ use Rattle.gabc_headers.specs.machine.Events.{with_event}
 use Rattle.gabc_headers.proofs.collecting.HeadsFollowFromEvents.{collected_of, read_within}
 use Rattle.gabc_places.proofs.texts.CharactersOfStrings.{scalars_split}
 use Rattle.gabc_headers.proofs.groups.BookNeedsScoreLine.{score_behind}
-use Rattle.gabc_headers.proofs.FrontHasTheSameHeaders.{len_again, heads_again}
+use Rattle.gabc_headers.proofs.PrefixHasTheSameHeaders.{len_again, heads_again}
 use Rattle.gabc_headers.proofs.prefixes.EventsGrow.{spelled_longer}
 use Rattle.gabc_headers.proofs.prefixes.HeadsSoFar.{HasRead, begin_read, read_more, read_ended, kept_so_far, heads_at, heads_at_end, AreOpen, open_so_far, found_at, found_more}
 
--- ---- a push never tells the end of the text
+-- ---- a push never emits the end of the text
 
 abbrev pub IsNoText : HeaderStep → Type 0
 IsNoText (Ended (Text place line)) = ⊥
@@ -157,7 +157,7 @@ events_of_text limits t = events_of_heads t (heads_of limits t)
 
 -- what is emitted from here on makes the whole
 abbrev Makes : Limits → List ℕ → List HeaderEvent → List ℕ → Type 0
-Makes limits held es xs = map (λ f. Found f) (collected_of held es).findings ++ concat_of (events_left limits (reading held) (given_behind held xs)) ≡ events_of_text limits (held ++ xs)
+Makes limits held es xs = map (λ f. Found f) (collected_of held es).findings ++ concat_of (events_left limits (reading held) (inputs_behind held xs)) ≡ events_of_text limits (held ++ xs)
 
 open_events : (found : List Finding) (f : HeadFault) → f.at_end ≡ true → events_by found (Err f) ≡ map (λ f. Found f) found
 open_events found f e = rw e refl
@@ -188,10 +188,10 @@ module _ (limits : Limits) (held xs : List ℕ) (c : ℕ) (r new : HeaderMachine
   o = open_so_far limits held r es u_held h
 
   abbrev rest : HeadProgress → List HeadEvent
-  rest progress = concat_of (events_left limits progress (given_behind longer xs))
+  rest progress = concat_of (events_left limits progress (inputs_behind longer xs))
 
-  split : concat_of (events_left limits (reading held) (given_behind held (c ∷ xs))) ≡ events_at limits held c ++ rest (progress_by longer (heads_of limits longer))
-  split = concat-cons (events_at limits held c) (events_left limits (progress_by longer (heads_of limits longer)) (given_behind longer xs))
+  split : concat_of (events_left limits (reading held) (inputs_behind held (c ∷ xs))) ≡ events_at limits held c ++ rest (progress_by longer (heads_of limits longer))
+  split = concat-cons (events_at limits held c) (events_left limits (progress_by longer (heads_of limits longer)) (inputs_behind longer xs))
 
   -- what is found more
   new_is : (more : List Finding) (now : Result Heads HeadFault) → heads_of limits longer ≡ now → findings_of now ≡ (collected_of held es).findings ++ more → new_findings limits held longer ≡ more
@@ -202,9 +202,9 @@ module _ (limits : Limits) (held xs : List ℕ) (c : ℕ) (r new : HeaderMachine
       ∙ (ap (λ (x : List Finding). drop (length (collected_of held es).findings) x) f ∙ drop-append_seam (collected_of held es).findings more)))
 
   -- what a character emits with which the headers go on
-  pub read_tells : (e : Option HeaderEvent) → push_one r c ≡ (new, Read e)
+  pub read_emits : (e : Option HeaderEvent) → push_one r c ≡ (new, Read e)
       → (events_at limits held c ≡ map (λ f. Found f) (found_at (encodes longer) e (collected_of held es))) × (progress_by longer (heads_of limits longer) ≡ reading longer)
-  read_tells e p =
+  read_emits e p =
       let n = read_more limits.header held r new es c e h p in
       let q = open_so_far limits longer new (with_event es e) u_longer n in
       let all = found_more limits.header held r es c e u_longer h in (
@@ -219,8 +219,8 @@ module _ (limits : Limits) (held xs : List ℕ) (c : ℕ) (r new : HeaderMachine
   goes_on e p next =
       let more = found_at (encodes longer) e (collected_of held es) in
       let all : (collected_of longer (with_event es e)).findings ≡ (collected_of held es).findings ++ more = found_more limits.header held r es c e u_longer h in
-      let tells = read_tells e p in
-      ap (λ (x : List HeadEvent). map (λ f. Found f) (collected_of held es).findings ++ x) (split ∙ (ap (λ (x : List HeadEvent). x ++ rest (progress_by longer (heads_of limits longer))) tells.0 ∙ ap (λ (x : HeadProgress). map (λ f. Found f) more ++ rest x) tells.1))
+      let emits = read_emits e p in
+      ap (λ (x : List HeadEvent). map (λ f. Found f) (collected_of held es).findings ++ x) (split ∙ (ap (λ (x : List HeadEvent). x ++ rest (progress_by longer (heads_of limits longer))) emits.0 ∙ ap (λ (x : HeadProgress). map (λ f. Found f) more ++ rest x) emits.1))
       ∙ (moved (collected_of held es).findings more (collected_of longer (with_event es e)).findings (rest (reading longer)) (sym all)
       ∙ (next ∙ ap (events_of_text limits) whole_is))
 
@@ -253,41 +253,41 @@ module _ (limits : Limits) (held xs : List ℕ) (c : ℕ) (r new : HeaderMachine
   same_heads (Text place line) n p = absurd n
 
   -- what a character emits with which they are stopped
-  pub stopped_tells : (f : HeadFault) → heads_of limits longer ≡ Err f → f.at_end ≡ false → (events_at limits held c ≡ Stop f.fault ∷ []) × (progress_by longer (heads_of limits longer) ≡ over)
-  stopped_tells f now e = (
+  pub stopped_emits : (f : HeadFault) → heads_of limits longer ≡ Err f → f.at_end ≡ false → (events_at limits held c ≡ Stop f.fault ∷ []) × (progress_by longer (heads_of limits longer) ≡ over)
+  stopped_emits f now e = (
     ap (λ (x : Result Heads HeadFault). events_by (new_findings limits held longer) x) now ∙ closed_events (new_findings limits held longer) f e,
     ap (λ (x : Result Heads HeadFault). progress_by longer x) now ∙ closed_progress longer f e,
   )
 
   stopped_makes : (f : HeadFault) → heads_of limits longer ≡ Err f → heads_of limits (held ++ c ∷ xs) ≡ Err f → f.at_end ≡ false → f.findings ≡ (collected_of held es).findings → Makes limits held es (c ∷ xs)
   stopped_makes f now all e g =
-      let tells = stopped_tells f now e in
+      let emits = stopped_emits f now e in
       ap (λ (x : List HeadEvent). map (λ f. Found f) (collected_of held es).findings ++ x)
-      (split ∙ (ap (λ (x : List HeadEvent). x ++ rest (progress_by longer (heads_of limits longer))) tells.0
-      ∙ (ap (λ (x : HeadProgress). Stop f.fault ∷ rest x) tells.1 ∙ ap (λ (x : List HeadEvent). Stop f.fault ∷ x) (nothing_left limits (given_behind longer xs)))))
+      (split ∙ (ap (λ (x : List HeadEvent). x ++ rest (progress_by longer (heads_of limits longer))) emits.0
+      ∙ (ap (λ (x : HeadProgress). Stop f.fault ∷ rest x) emits.1 ∙ ap (λ (x : List HeadEvent). Stop f.fault ∷ x) (nothing_left limits (inputs_behind longer xs)))))
       ∙ (ap (λ (x : List Finding). map (λ f. Found f) x ++ Stop f.fault ∷ []) (sym g) ∙ ap (λ (x : Result Heads HeadFault). events_of_heads (held ++ c ∷ xs) x) (sym all))
 
-  -- what the second `%` tells of whole headers
-  pub whole_tells : (heads : Heads) (more : List Finding) → heads_of limits longer ≡ Ok heads → heads.findings ≡ (collected_of held es).findings ++ more
-      → (events_at limits held c ≡ map (λ f. Found f) more ++ heads_told heads.book ∷ []) × (progress_by longer (heads_of limits longer) ≡ behind heads.book)
-  whole_tells heads more now g = (
+  -- what the second `%` emits of whole headers
+  pub whole_emits : (heads : Heads) (more : List Finding) → heads_of limits longer ≡ Ok heads → heads.findings ≡ (collected_of held es).findings ++ more
+      → (events_at limits held c ≡ map (λ f. Found f) more ++ event_of_book heads.book ∷ []) × (progress_by longer (heads_of limits longer) ≡ behind heads.book)
+  whole_emits heads more now g = (
     ap (λ (x : Result Heads HeadFault). events_by (new_findings limits held longer) x) now
-        ∙ ap (λ (x : List Finding). map (λ f. Found f) x ++ heads_told heads.book ∷ []) (new_is more (Ok heads) now g),
+        ∙ ap (λ (x : List Finding). map (λ f. Found f) x ++ event_of_book heads.book ∷ []) (new_is more (Ok heads) now g),
     ap (λ (x : Result Heads HeadFault). progress_by longer x) now,
   )
 
   whole_makes : (heads : Heads) (more : List Finding) → heads_of limits longer ≡ Ok heads → heads_of limits (held ++ c ∷ xs) ≡ Ok heads → heads.findings ≡ (collected_of held es).findings ++ more → Makes limits held es (c ∷ xs)
   whole_makes heads more now all g =
-      let tells = whole_tells heads more now g in
+      let emits = whole_emits heads more now g in
       let head_items : rest (behind heads.book) ≡ map (λ c. Body c) (placed_characters_behind longer xs) ++ End ∷ [] = body_given limits heads.book (placed_characters_behind longer xs) in
       let body : body_characters (held ++ c ∷ xs) ≡ placed_characters_behind longer xs = subst (λ (x : List ℕ). body_characters x ≡ placed_characters_behind longer xs) whole_is (body_is limits held c heads now o.fault o.heads xs) in
       ap (λ (x : List HeadEvent). map (λ f. Found f) (collected_of held es).findings ++ x)
-      (split ∙ (ap (λ (x : List HeadEvent). x ++ rest (progress_by longer (heads_of limits longer))) tells.0
-      ∙ (ap (λ (x : HeadProgress). (map (λ f. Found f) more ++ heads_told heads.book ∷ []) ++ rest x) tells.1
-      ∙ (append_assoc (map (λ f. Found f) more) (heads_told heads.book ∷ []) (rest (behind heads.book))
-      ∙ ap (λ (x : List HeadEvent). map (λ f. Found f) more ++ heads_told heads.book ∷ x) head_items))))
-      ∙ (moved (collected_of held es).findings more heads.findings (heads_told heads.book ∷ (map (λ c. Body c) (placed_characters_behind longer xs) ++ End ∷ [])) (sym g)
-      ∙ (ap (λ (x : List Char). map (λ f. Found f) heads.findings ++ heads_told heads.book ∷ (map (λ c. Body c) x ++ End ∷ [])) (sym body)
+      (split ∙ (ap (λ (x : List HeadEvent). x ++ rest (progress_by longer (heads_of limits longer))) emits.0
+      ∙ (ap (λ (x : HeadProgress). (map (λ f. Found f) more ++ event_of_book heads.book ∷ []) ++ rest x) emits.1
+      ∙ (append_assoc (map (λ f. Found f) more) (event_of_book heads.book ∷ []) (rest (behind heads.book))
+      ∙ ap (λ (x : List HeadEvent). map (λ f. Found f) more ++ event_of_book heads.book ∷ x) head_items))))
+      ∙ (moved (collected_of held es).findings more heads.findings (event_of_book heads.book ∷ (map (λ c. Body c) (placed_characters_behind longer xs) ++ End ∷ [])) (sym g)
+      ∙ (ap (λ (x : List Char). map (λ f. Found f) heads.findings ++ event_of_book heads.book ∷ (map (λ c. Body c) x ++ End ∷ [])) (sym body)
       ∙ ap (λ (x : Result Heads HeadFault). events_of_heads (held ++ c ∷ xs) x) (sym all)))
 
   pub ends_here : (end : HeaderEnding) → IsNoText (Ended end) → push_one r c ≡ (new, Ended end) → Makes limits held es (c ∷ xs)
@@ -329,5 +329,5 @@ makes limits (c ∷ xs) held r es u h = makes_step limits held xs c r es u h
     (λ new more k. makes limits xs (held ++ c ∷ []) new more (subst (λ (x : List ℕ). scalars x ≡ true) (sym (append_assoc held (c ∷ []) xs)) u) k)
 
 -- Emitted character by character, the headers of a text are what they are as a whole.
-pub events_make_heads : (limits : Limits) (t : List ℕ) → scalars t ≡ true → concat_of (events_left limits (reading []) (given_behind [] t)) ≡ events_of_heads t (heads_of limits t)
+pub events_make_heads : (limits : Limits) (t : List ℕ) → scalars t ≡ true → concat_of (events_left limits (reading []) (inputs_behind [] t)) ≡ events_of_heads t (heads_of limits t)
 events_make_heads limits t u = makes limits t [] (fresh_machine limits.header) [] u (begin_read limits.header)

@@ -16,11 +16,11 @@ use Rattle.gabc_headers.specs.declared.header_machine.HeaderStep.TheVariants.{Re
 use Rattle.gabc_headers.specs.declared.heads.Heads.{Heads}
 use Rattle.gabc_headers.specs.declared.heads.HeadFault.{HeadFault}
 use Rattle.gabc_headers.specs.Heads.{heads_of}
-use Rattle.gabc_headers.specs.HeadEvents.{HeadProgress, reading, behind, over, heads_told, progress_by, progress_after, events_of_input, events_of_end, events_at_end, events_left, given_behind, body_characters, events_of_heads, events_of_broken, events_of_stopped, emitted_by}
+use Rattle.gabc_headers.specs.HeadEvents.{HeadProgress, reading, behind, over, event_of_book, progress_by, progress_after, events_of_input, events_of_end, events_at_end, events_left, inputs_behind, body_characters, events_of_heads, events_of_broken, events_of_stopped, emitted_by}
 use Rattle.gabc_headers.specs.machine.HeaderMachine.{push_one, fresh_machine}
 use Rattle.gabc_headers.specs.machine.Events.{with_event}
 use Rattle.gabc_headers.proofs.collecting.HeadsFollowFromEvents.{collected_of}
-use Rattle.gabc_headers.proofs.prefixes.EventsMakeHeads.{IsNoText, no_text_push, concat-cons, EndsWith, stopped, whole, ends_with, open_progress, closed_progress, whole_is, read_tells, now_is, same_heads, events_make_heads}
+use Rattle.gabc_headers.proofs.prefixes.EventsMakeHeads.{IsNoText, no_text_push, concat-cons, EndsWith, stopped, whole, ends_with, open_progress, closed_progress, whole_is, read_emits, now_is, same_heads, events_make_heads}
 use Rattle.gabc_headers.proofs.prefixes.HeadsSoFar.{HasRead, begin_read, read_more, heads_at, open_so_far}
 
 -- ---- where a stage stands behind inputs
@@ -39,7 +39,7 @@ stays_behind limits book (c ∷ cs) = stays_behind limits book cs
 
 -- behind a text it stands where the headers of the text say
 abbrev StandsPast : Limits → List ℕ → List ℕ → Type 0
-StandsPast limits held xs = progress_past limits (reading held) (given_behind held xs) ≡ progress_by (held ++ xs) (heads_of limits (held ++ xs))
+StandsPast limits held xs = progress_past limits (reading held) (inputs_behind held xs) ≡ progress_by (held ++ xs) (heads_of limits (held ++ xs))
 
 stands_at_end : (limits : Limits) (held : List ℕ) (r : HeaderMachine) (es : List HeaderEvent) → scalars held ≡ true → HasRead limits.header held r es → StandsPast limits held []
 stands_at_end limits held r es u h =
@@ -54,18 +54,18 @@ stands_step limits held xs c r es u h next = by (push_one r c) refl
         → StandsPast limits held (c ∷ xs)
     by_end found result (stopped f e d g) now same =
         let closed : (t : List ℕ) → progress_by t (heads_of limits (held ++ c ∷ [])) ≡ over = λ t. ap (progress_by t) (sym now ∙ e) ∙ closed_progress t f d in
-        ap (λ (p : HeadProgress). progress_past limits p (given_behind (held ++ c ∷ []) xs)) (closed (held ++ c ∷ []))
-        ∙ (stays_over limits (given_behind (held ++ c ∷ []) xs)
+        ap (λ (p : HeadProgress). progress_past limits p (inputs_behind (held ++ c ∷ []) xs)) (closed (held ++ c ∷ []))
+        ∙ (stays_over limits (inputs_behind (held ++ c ∷ []) xs)
         ∙ sym (ap (progress_by (held ++ c ∷ xs)) same ∙ closed (held ++ c ∷ xs)))
     by_end found result (whole heads more e g) now same =
         let behind_is : (t : List ℕ) → progress_by t (heads_of limits (held ++ c ∷ [])) ≡ behind heads.book = λ t. ap (progress_by t) (sym now ∙ e) in
-        ap (λ (p : HeadProgress). progress_past limits p (given_behind (held ++ c ∷ []) xs)) (behind_is (held ++ c ∷ []))
+        ap (λ (p : HeadProgress). progress_past limits p (inputs_behind (held ++ c ∷ []) xs)) (behind_is (held ++ c ∷ []))
         ∙ (stays_behind limits heads.book (placed_characters_behind (held ++ c ∷ []) xs)
         ∙ sym (ap (progress_by (held ++ c ∷ xs)) same ∙ behind_is (held ++ c ∷ xs)))
 
     by : (p : HeaderMachine × HeaderStep) → push_one r c ≡ p → StandsPast limits held (c ∷ xs)
     by (new, Read e) p =
-        ap (λ (p : HeadProgress). progress_past limits p (given_behind (held ++ c ∷ []) xs)) (read_tells limits held xs c r new es u h e p).1
+        ap (λ (p : HeadProgress). progress_past limits p (inputs_behind (held ++ c ∷ []) xs)) (read_emits limits held xs c r new es u h e p).1
         ∙ (next new (with_event es e) (read_more limits.header held r new es c e h p)
         ∙ ap (λ (t : List ℕ). progress_by t (heads_of limits t)) (whole_is limits held xs c r new es u h))
     by (new, Ended end) p =
@@ -122,8 +122,8 @@ broken_by : (limits : Limits) (t : List ℕ) (head_items : List HeadEvent) (r : 
     → head_items ≡ events_of_broken t r
 broken_by limits t head_items (Ok heads) e h =
     let found = map (λ f. Found f) heads.findings in
-    append_cancel_right head_items (found ++ heads_told heads.book ∷ map (λ c. Body c) (body_characters t)) (End ∷ [])
-    (h ∙ sym (append_assoc found (heads_told heads.book ∷ map (λ c. Body c) (body_characters t)) (End ∷ [])))
+    append_cancel_right head_items (found ++ event_of_book heads.book ∷ map (λ c. Body c) (body_characters t)) (End ∷ [])
+    (h ∙ sym (append_assoc found (event_of_book heads.book ∷ map (λ c. Body c) (body_characters t)) (End ∷ [])))
 broken_by limits t head_items (Err stop) e h = by stop.at_end h
   where
     by : (at_end : Bool) → head_items ++ events_of_end limits (if at_end then reading t else over) ≡ map (λ f. Found f) stop.findings ++ Stop stop.fault ∷ []
@@ -134,7 +134,7 @@ broken_by limits t head_items (Err stop) e h = by stop.at_end h
     by false k = sym (append-nil head_items) ∙ k
 
 stopped_by : (limits : Limits) (t : List ℕ) (fault : Fault) (r : Result Heads HeadFault) → events_of_broken t r ++ events_of_input limits (progress_by t r) (Err fault) ≡ events_of_stopped fault t r
-stopped_by limits t fault (Ok heads) = append_assoc (map (λ f. Found f) heads.findings) (heads_told heads.book ∷ map (λ c. Body c) (body_characters t)) (Stop fault ∷ [])
+stopped_by limits t fault (Ok heads) = append_assoc (map (λ f. Found f) heads.findings) (event_of_book heads.book ∷ map (λ c. Body c) (body_characters t)) (Stop fault ∷ [])
 stopped_by limits t fault (Err stop) = by stop.at_end
   where
     by : (at_end : Bool) → (map (λ f. Found f) stop.findings ++ (if at_end then [] else Stop stop.fault ∷ [])) ++ events_of_input limits (if at_end then reading t else over) (Err fault)
@@ -144,7 +144,7 @@ stopped_by limits t fault (Err stop) = by stop.at_end
 
 module _ (limits : Limits) (t : List ℕ) (u : scalars t ≡ true) where
   abbrev head_items : List (Result Char Fault)
-  head_items = given_behind [] t
+  head_items = inputs_behind [] t
 
   pub standing : progress_past limits (reading []) head_items ≡ progress_by t (heads_of limits t)
   standing = stands limits t [] (fresh_machine limits.header) [] u (begin_read limits.header)

@@ -52,7 +52,7 @@ read_all limit t r es h = ends t limit r es (subst (λ (x : List ℕ). Following
 
 -- its events are kept as it grows
 pub kept_so_far : (limit : ℕ) (t xs : List ℕ) (r : HeaderMachine) (es : List HeaderEvent) → scalars (t ++ xs) ≡ true → HasRead limit t r es → collected_of (t ++ xs) es ≡ collected_of t es
-kept_so_far limit t xs r es u h = grown t xs es (read_all limit t r es h).emitted none u (read_all limit t r es h).tell
+kept_so_far limit t xs r es u h = grown t xs es (read_all limit t r es h).emitted none u (read_all limit t r es h).are_events_of
 
 -- what stands at an end of the headers, by what is collected
 abbrev pub heads_at : Limits → List ℕ → Collected → HeaderEnding → Result Heads HeadFault

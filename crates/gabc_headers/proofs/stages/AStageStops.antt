@@ -13,7 +13,7 @@ use Rattle.gabc_headers.specs.declared.heads.HeadFault.{HeadFault}
 use Rattle.gabc_headers.specs.declared.head_event.HeadEvent.{HeadEvent}
 use Rattle.gabc_headers.specs.declared.head_event.HeadEvent.TheVariants.{Found, Stop, Body, End}
 use Rattle.gabc_headers.specs.Heads.{heads_of}
-use Rattle.gabc_headers.specs.HeadEvents.{HeadProgress, reading, behind, over, IsBehind, events_by, progress_by, events_of_input, progress_after, events_of_end, events_at_end, events_left, heads_told, new_findings, is_last_event}
+use Rattle.gabc_headers.specs.HeadEvents.{HeadProgress, reading, behind, over, IsBehind, events_by, progress_by, events_of_input, progress_after, events_of_end, events_at_end, events_left, event_of_book, new_findings, is_last_event}
 use Rattle.gabc_headers.proofs.prefixes.EventsMakeHeads.{nothing_left}
 
 pub over_is_silent : (limits : Limits) → EmitsNothing (events_left limits over)
@@ -44,7 +44,7 @@ found_are_none : (fs : List Finding) → list_any is_last_event (map (λ f. Foun
 found_are_none [] = refl
 found_are_none (f ∷ fs) = found_are_none fs
 
-heads_are_none : (fs : List Finding) (book : List (List ℕ × List ℕ)) → list_any is_last_event (map (λ f. Found f) fs ++ heads_told book ∷ []) ≡ false
+heads_are_none : (fs : List Finding) (book : List (List ℕ × List ℕ)) → list_any is_last_event (map (λ f. Found f) fs ++ event_of_book book ∷ []) ≡ false
 heads_are_none [] book = refl
 heads_are_none (f ∷ fs) book = heads_are_none fs book
 

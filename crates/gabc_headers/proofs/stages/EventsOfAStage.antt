@@ -27,7 +27,7 @@ use Rattle.gabc_headers.specs.Book.{has_header, is_kept}
 use Rattle.gabc_headers.specs.BookText.{text_at}
 use Rattle.gabc_headers.specs.EntryMap.{put_entry}
 use Rattle.gabc_headers.specs.Heads.{heads_of}
-use Rattle.gabc_headers.specs.HeadEvents.{HeadProgress, reading, behind, over, events_at, events_at_end, progress_with, heads_told}
+use Rattle.gabc_headers.specs.HeadEvents.{HeadProgress, reading, behind, over, events_at, events_at_end, progress_with, event_of_book}
 use Rattle.gabc_headers.specs.Lines.{bytes_len}
 use Rattle.gabc_headers.specs.machine.Collected.{Collected, IsGoodEvent, AreGoodEvents, collected_with, collected_with_all, of_headers, none, name_found, len_at_score, end_fault, finding_at}
 use Rattle.gabc_headers.specs.machine.EntryMap.{spelled_entries, AreWithin, comes_again}
@@ -38,7 +38,7 @@ use Rattle.gabc_headers.proofs.collecting.HeadsFollowFromEvents.{collected_of, r
 use Rattle.gabc_headers.proofs.collecting.HeadsWithinLimits.{by_len, heads_by_len, at_text_end}
 use Rattle.gabc_headers.proofs.entries.TextsAsBytes.{bytes_len-append, bytes_len-chars}
 use Rattle.gabc_headers.proofs.prefixes.EventsGrow.{with_last, spelled_longer}
-use Rattle.gabc_headers.proofs.prefixes.EventsMakeHeads.{IsNoText, no_text_push, read_tells, stopped_tells, whole_tells, now_is}
+use Rattle.gabc_headers.proofs.prefixes.EventsMakeHeads.{IsNoText, no_text_push, read_emits, stopped_emits, whole_emits, now_is}
 use Rattle.gabc_headers.proofs.prefixes.HeadsSoFar.{HasRead, read_all, kept_so_far, heads_at, heads_at_end, found_at}
 use Rattle.gabc_headers.proofs.stages.HeadersTakeThreeBytes.{room_for_one}
 use Rattle.gabc_headers.proofs.stages.MachineTakesText.{takes_more, has_read, counted, seen_bytes}
@@ -97,7 +97,7 @@ pub record ReadsOn (limits : Limits) (text : List ℕ) (space : ℕ) (new : Head
       → IsReading limits (text ++ encode c) more new now
 
 -- what a character emits that ends the headers
-pub record Tells (limits : Limits) (text : List ℕ) (c : ℕ) (events : List HeadEvent) (progress : HeadProgress) : Type 0 where
+pub record EndsHeaders (limits : Limits) (text : List ℕ) (c : ℕ) (events : List HeadEvent) (progress : HeadProgress) : Type 0 where
   pub events_are : events_at limits (chars text) c ≡ events
   pub progress_is : progress_with limits (chars text) c ≡ progress
 
@@ -141,7 +141,7 @@ module _ (limits : Limits) (text : List ℕ) (space : ℕ) (machine new : Header
 
   pub reads_on : (e : Option HeaderEvent) → IsBounded new → push_one machine c ≡ (new, Read e) → ReadsOn limits text space new headers c e
   reads_on e bounded p =
-      let tells = read_tells limits t [] c machine new h.events scalars_more read e p in
+      let emits = read_emits limits t [] c machine new h.events scalars_more read e p in
       let taken = takes_more (fresh_machine limits.header) machine new [] h.events t c e h.taken p in
       let here = counted limits.header longer new (with_event h.events e) taken in
       record {
@@ -149,9 +149,9 @@ module _ (limits : Limits) (text : List ℕ) (space : ℕ) (machine new : Header
         good = good_last more h.events e (subst (λ (x : List ℕ). AreGoodEvents x (with_event h.events e)) bytes_more
             (read_good limits longer (with_event h.events e) (end_here new) scalars_more (read_all limits.header longer new (with_event h.events e) (has_read limits.header longer new (with_event h.events e) taken))));
         room = room_is;
-        events = tells.0 ∙ ap (λ (x : List Finding). map (λ f. Found f) x) (ap (λ (x : List ℕ). found_at x e (collected_of t h.events)) bytes_more ∙ (found_alone more e (collected_of t h.events)
+        events = emits.0 ∙ ap (λ (x : List Finding). map (λ f. Found f) x) (ap (λ (x : List ℕ). found_at x e (collected_of t h.events)) bytes_more ∙ (found_alone more e (collected_of t h.events)
             ∙ ap (λ (x : List (List ℕ × Span)). found_at more e (of_headers x)) (sym items_are)));
-        progress = tells.1 ∙ ap (λ (x : List ℕ). reading x) (sym chars_more);
+        progress = emits.1 ∙ ap (λ (x : List ℕ). reading x) (sym chars_more);
         next = λ now wide w items limit. record {
           events = with_event h.events e;
           taken = subst (λ (x : List ℕ). Takes (fresh_machine limits.header) [] x new (with_event h.events e)) (sym chars_more) taken;
@@ -184,10 +184,10 @@ module _ (limits : Limits) (text : List ℕ) (space : ℕ) (machine new : Header
           omega (arith, r, i, l)
 
   -- the text is too long
-  pub tells_limit : (place : Place) → push_one machine c ≡ (new, Ended (Limit place)) → Tells limits text c (Stop (record { place = place; code = F4 }) ∷ []) over
-  tells_limit place p =
+  pub emits_limit : (place : Place) → push_one machine c ≡ (new, Ended (Limit place)) → EndsHeaders limits text c (Stop (record { place = place; code = F4 }) ∷ []) over
+  emits_limit place p =
       let now = now_is limits t [] c machine new h.events scalars_more read (Limit place) p in
-      let k = stopped_tells limits t [] c machine new h.events scalars_more read _ (sym now) refl in
+      let k = stopped_emits limits t [] c machine new h.events scalars_more read _ (sym now) refl in
       record { events_are = k.0; progress_is = k.1 }
 
   -- ---- the line `%%`
@@ -209,18 +209,18 @@ module _ (limits : Limits) (text : List ℕ) (space : ℕ) (machine new : Header
       ∙ (by_len limits place body line (spelled_entries (encodes longer) (collected_of t h.events).headers) (collected_of t h.events).findings
       ∙ ap (λ (x : List (List ℕ × List ℕ)). heads_by_len place body x (collected_of t h.events).findings (len_at_score limits place line x)) book_is)
 
-  pub tells_stop : (place : Place) (body : ℕ) (line : Option ℕ) (fault : Fault) → push_one machine c ≡ (new, Ended (Score place body line)) → len_at_score limits place line book ≡ Err fault
-      → Tells limits text c (Stop fault ∷ []) over
-  tells_stop place body line fault p e =
+  pub emits_stop : (place : Place) (body : ℕ) (line : Option ℕ) (fault : Fault) → push_one machine c ≡ (new, Ended (Score place body line)) → len_at_score limits place line book ≡ Err fault
+      → EndsHeaders limits text c (Stop fault ∷ []) over
+  emits_stop place body line fault p e =
       let now = heads_are place body line p ∙ ap (λ (x : Result ℕ Fault). heads_by_len place body book (collected_of t h.events).findings x) e in
-      let k = stopped_tells limits t [] c machine new h.events scalars_more read _ now refl in
+      let k = stopped_emits limits t [] c machine new h.events scalars_more read _ now refl in
       record { events_are = k.0; progress_is = k.1 }
 
-  pub tells_whole : (place : Place) (body : ℕ) (line : Option ℕ) (size : ℕ) → push_one machine c ≡ (new, Ended (Score place body line)) → len_at_score limits place line book ≡ Ok size
-      → Tells limits text c (map (λ f. Found f) (name_found place book) ++ heads_told book ∷ []) (behind book)
-  tells_whole place body line size p e =
+  pub emits_whole : (place : Place) (body : ℕ) (line : Option ℕ) (size : ℕ) → push_one machine c ≡ (new, Ended (Score place body line)) → len_at_score limits place line book ≡ Ok size
+      → EndsHeaders limits text c (map (λ f. Found f) (name_found place book) ++ event_of_book book ∷ []) (behind book)
+  emits_whole place body line size p e =
       let now = heads_are place body line p ∙ ap (λ (x : Result ℕ Fault). heads_by_len place body book (collected_of t h.events).findings x) e in
-      let k = whole_tells limits t [] c machine new h.events scalars_more read _ (name_found place book) now (more_found (has_header (codes "name") book)) in
+      let k = whole_emits limits t [] c machine new h.events scalars_more read _ (name_found place book) now (more_found (has_header (codes "name") book)) in
       record { events_are = k.0; progress_is = k.1 }
     where
       more_found : (b : Bool) → cond b (collected_of t h.events).findings ((collected_of t h.events).findings ++ record { place = place; code = W1 } ∷ []) ≡ (collected_of t h.events).findings ++ cond b [] (record { place = place; code = W1 } ∷ [])
@@ -228,14 +228,14 @@ module _ (limits : Limits) (text : List ℕ) (space : ℕ) (machine new : Header
       more_found false = refl
 
   -- a character does not end the text
-  pub tells_no_end : (place : Place) (line : Option ℕ) → push_one machine c ≡ (new, Ended (Text place line)) → ⊥
-  tells_no_end place line p = subst (λ (x : HeaderMachine × HeaderStep). IsNoText x.1) p (no_text_push machine c)
+  pub emits_no_end : (place : Place) (line : Option ℕ) → push_one machine c ≡ (new, Ended (Text place line)) → ⊥
+  emits_no_end place line p = subst (λ (x : HeaderMachine × HeaderStep). IsNoText x.1) p (no_text_push machine c)
 
 -- ---- the end of the text
 
-pub tells_end : (limits : Limits) (text : List ℕ) (space : ℕ) (machine : HeaderMachine) (headers : BoundedList (List ℕ × Span)) → IsUtf8 text → IsReading limits text space machine headers
+pub emits_end : (limits : Limits) (text : List ℕ) (space : ℕ) (machine : HeaderMachine) (headers : BoundedList (List ℕ × Span)) → IsUtf8 text → IsReading limits text space machine headers
     → (place : Place) (line : Option ℕ) → Text place line ≡ end_here machine → events_at_end (heads_of limits (chars text)) ≡ Stop (end_fault place line) ∷ []
-tells_end limits text space machine headers u h place line e =
+emits_end limits text space machine headers u h place line e =
     let read = has_read limits.header (chars text) machine h.events h.taken in
     let now = heads_at_end limits (chars text) h.events (end_here machine) (scalars-chars text u) (read_all limits.header (chars text) machine h.events read) in
     ap (λ (x : Result Heads HeadFault). events_at_end x) (sym now ∙ (ap (λ (x : HeaderEnding). heads_at limits (chars text) (collected_of (chars text) h.events) x) (sym e)

@@ -34,15 +34,15 @@ nameless_none t p h = by (has_score (lines t) && not (has_header (codes "name") 
     by true = known_none p (head_len t + 1) _ h
     by false = refl
 
-found_told : (t : List ℕ) (p : ℕ) (events rest : List HeaderPart) → head_parts t ≡ events ++ rest → AreEarly p events → AreLate p rest
+found_emitted : (t : List ℕ) (p : ℕ) (events rest : List HeaderPart) → head_parts t ≡ events ++ rest → AreEarly p events → AreLate p rest
     → findings_before p (head_findings t) ≡ all_known (findings_behind [] events) ++ findings_before p (name_findings t)
-found_told t p events rest e a b =
+found_emitted t p events rest e a b =
     known-append p (findings_behind [] (head_parts t)) (name_findings t)
     ∙ ap (λ (x : List Finding). x ++ findings_before p (name_findings t)) (ap (λ (x : List HeaderPart). findings_before p (findings_behind [] x)) e ∙ early_all [] p events rest a b)
 
 before : (t : List ℕ) (p : ℕ) (events rest : List HeaderPart) → head_parts t ≡ events ++ rest → AreEarly p events → AreLate p rest → p ≤ head_len t + 1
     → findings_before p (head_findings t) ≡ all_known (findings_behind [] events)
-before t p events rest e a b l = found_told t p events rest e a b ∙ (ap (λ (x : List Finding). all_known (findings_behind [] events) ++ x) (nameless_none t p l) ∙ append-nil (all_known (findings_behind [] events)))
+before t p events rest e a b l = found_emitted t p events rest e a b ∙ (ap (λ (x : List Finding). all_known (findings_behind [] events) ++ x) (nameless_none t p l) ∙ append-nil (all_known (findings_behind [] events)))
 
 -- ---- the cases
 
@@ -142,7 +142,7 @@ sizes_first p b false false = refl
 found_all : (t : List ℕ) (events : List HeaderPart) → head_parts t ≡ events → AreEarly (head_len t + 1) events → has_score (lines t) ≡ true
     → findings_before (length t + 1) (head_findings t) ≡ cond (has_header (codes "name") (book_of (head_parts t))) (all_known (findings_behind [] events)) (all_known (findings_behind [] events) ++ record { place = place_after (take (head_len t) t); code = W1 } ∷ [])
 found_all t events e a s =
-    found_told t (length t + 1) events [] (e ∙ sym (append-nil events)) (still_early (head_len t + 1) (length t + 1) events (let w = score_within t s in omega arith) a) tt
+    found_emitted t (length t + 1) events [] (e ∙ sym (append-nil events)) (still_early (head_len t + 1) (length t + 1) events (let w = score_within t s in omega arith) a) tt
     ∙ (ap (λ (x : List Finding). all_known (findings_behind [] events) ++ x) (by (has_score (lines t)) (has_header (codes "name") (book_of (head_parts t))) s) ∙ joined (has_header (codes "name") (book_of (head_parts t))))
   where
     by : (a b : Bool) → a ≡ true → findings_before (length t + 1) (cond (a && not b) (known_at (head_len t + 1) (place_after (take (head_len t) t)) W1 ∷ []) []) ≡ cond b [] (record { place = place_after (take (head_len t) t); code = W1 } ∷ [])

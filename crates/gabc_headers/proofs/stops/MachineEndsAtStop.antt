@@ -27,7 +27,7 @@ use Rattle.gabc_headers.proofs.machines.EventsAreEarlyParts.{earlies_weak, open_
 use Rattle.gabc_headers.proofs.machines.MachineOverText.{MachineReads, head_drop, char_step, stands_next}
 
 module _ (t : List ℕ) (limit : ℕ) (done : List ℕ) (r : HeaderMachine) (es : List HeaderEvent) where
-  -- the reader's open line is that of its part reader over characters
+  -- the machine's open line is that of its part machine over characters
   open_is : (rest : List ℕ) (h : MachineReads t limit done rest r es) → open_in r.parts.state r.parts.header ≡ open_in h.rd.state h.rd.header
   open_is rest h = ap (λ (p : PartMachine). open_in p.state p.header) h.parts
 
@@ -46,7 +46,7 @@ module _ (t : List ℕ) (limit : ℕ) (done : List ℕ) (r : HeaderMachine) (es 
         rest = a.rest;
         stop = length done;
         all = a.whole;
-        tell = h.tell;
+        are_events_of = h.are_events_of;
         early = h.early;
         late = a.late;
         ends = stops_here limit t done rest c r.at_line h.scan.text h.begins (head_text (c == 10) rest) (h.scan.head ∙ ap (λ (x : List ℕ). done ++ x) n) h.fits l q
@@ -55,14 +55,14 @@ module _ (t : List ℕ) (limit : ℕ) (done : List ℕ) (r : HeaderMachine) (es 
 
   -- ---- behind a `%` that begins a line, and is no start of the line `%%`
 
-  -- the part reader there
+  -- the part machine there
   pub record Past (rest : List ℕ) (events : List HeaderPart) (rd : PartMachine) : Type 0 where
     pub new : PartMachine
     pub stands : StandsIn (head_parts t) (head_text true t) new.state (head_text false rest) (length done + 1) new events
     pub near : Near (length done + 1) new
     pub same : open_in rd.state rd.header ≡ open_in new.state new.header
 
-  -- the part reader behind such a `%`: nothing is emitted there, and no value opens or ends
+  -- the part machine behind such a `%`: nothing is emitted there, and no value opens or ends
   past : (rest : List ℕ) (h : MachineReads t limit done (37 ∷ rest) r es) → r.at_line ≡ true → (r.at_line && is_score_line (37 ∷ rest)) ≡ false → Past rest h.emitted h.rd
   past rest h a e =
       let s = char_step t limit done rest r es 37 h e in
@@ -91,7 +91,7 @@ module _ (t : List ℕ) (limit : ℕ) (done : List ℕ) (r : HeaderMachine) (es 
         rest = z.rest;
         stop = length done + 1;
         all = z.whole;
-        tell = h.tell;
+        are_events_of = h.are_events_of;
         early = earlies_weak (length done) h.emitted h.early;
         late = z.late;
         ends = stops_held limit t done (c ∷ rest) 37 r.at_line h.scan.text h.begins (head_text false (c ∷ rest)) (h.scan.head ∙ ap (λ (x : List ℕ). done ++ x) n) h.fits l a
@@ -117,7 +117,7 @@ module _ (t : List ℕ) (limit : ℕ) (done : List ℕ) (r : HeaderMachine) (es 
         rest = open_part line;
         stop = length done + 1;
         all = whole;
-        tell = h.tell;
+        are_events_of = h.are_events_of;
         early = earlies_weak (length done) h.emitted h.early;
         late = open_late (length done + 1) line;
         ends = (
@@ -156,7 +156,7 @@ module _ (t : List ℕ) (limit : ℕ) (done : List ℕ) (r : HeaderMachine) (es 
         rest = seen (head_text true t) event ++ open_part line;
         stop = length done;
         all = whole;
-        tell = h.tell;
+        are_events_of = h.are_events_of;
         early = h.early;
         late = late_seen (head_text true t) (length done) event (open_part line) (near_last h.rd (length done) h.near) (open_late (length done) line);
         ends = (
@@ -184,7 +184,7 @@ module _ (t : List ℕ) (limit : ℕ) (done : List ℕ) (r : HeaderMachine) (es 
         rest = seen (head_text true t) event ++ open_part line;
         stop = length done + 1;
         all = whole;
-        tell = h.tell;
+        are_events_of = h.are_events_of;
         early = earlies_weak (length done) h.emitted h.early;
         late = late_seen (head_text true t) (length done + 1) event (open_part line) (near_last p.new (length done + 1) p.near) (open_late (length done + 1) line);
         ends = (

@@ -1,4 +1,4 @@
--- What the reader's events and its end stand for.
+-- What the machine's events and its end stand for.
 use Rattle.std.specs.Prelude.{◌≡◌, ℕ, ◌+◌, ◌<◌, ◌≤◌, List, [], ◌∷◌, ◌++◌, true, false, length, take, Option, Some, None}
 use Rattle.gabc_places.specs.declared.place.Span.{Span}
 use Rattle.gabc_places.specs.declared.code.Code.TheVariants.{F4}
@@ -68,13 +68,13 @@ EndsAs limit t rest stop (Limit place) = text_stops limit t ≡ stop_at stop pla
 EndsAs limit t rest stop (Text place line) =
     (has_score (lines t) ≡ false) × (text_stops limit t ≡ []) × (stop ≡ length t) × (place ≡ place_after t) × (line ≡ open_line (head_parts t))
 
--- The events tell the parts of the text that become known before its headers end, and the end is theirs.
+-- The events are the parts of the text that become known before its headers end, and the end is theirs.
 pub record AreHeaderEvents (limit : ℕ) (t : List ℕ) (events : List HeaderEvent) (end : HeaderEnding) : Type 0 where
   pub emitted : List HeaderPart
   pub rest : List HeaderPart
   pub stop : ℕ
   pub all : head_parts t ≡ emitted ++ rest
-  pub tell : AreEventsOf t events emitted
+  pub are_events_of : AreEventsOf t events emitted
   pub early : AreEarly stop emitted
   pub late : AreLate stop rest
   pub ends : EndsAs limit t rest stop end

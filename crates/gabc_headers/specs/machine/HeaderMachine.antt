@@ -1,4 +1,4 @@
--- The reader's pushes, as the code has them. The contract of `read_parts` does not rest on them: they are proved to do what it says.
+-- The machine's pushes, as the code has them. The contract of `events_of_headers` does not rest on them: they are proved to do what it says.
 use Rattle.std.specs.Prelude.{ℕ, ◌+◌, ◌<◌, ◌≤◌, ◌^◌, ◌==◌, true, false, ◌&&◌, cond, nat_lt, Option, None}
 use Rattle.std.specs.Char.{len_utf8}
 use Rattle.gabc_places.specs.Place.{next_place}

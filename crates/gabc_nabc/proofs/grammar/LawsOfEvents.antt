@@ -244,11 +244,11 @@ no_end t x e f = rw (e, f) (by (is_character t x.c))
     by false = refl
 
 -- the end that is emitted of these characters behind the text
-abbrev end_told : List ℕ → List ℕ → List ℕ → List (NoteEnd × ℕ)
-end_told t prefix rest = (end_before rest, bytes_in (kept_before (t ++ prefix) rest)) ∷ []
+abbrev end_emitted : List ℕ → List ℕ → List ℕ → List (NoteEnd × ℕ)
+end_emitted t prefix rest = (end_before rest, bytes_in (kept_before (t ++ prefix) rest)) ∷ []
 
 ends_from : (xs : List Char) (t : List ℕ) → has_end t ≡ false
-    → ends_of (concat_of (nabc_events_behind t xs)) ≡ end_told t (before_end_behind t (map (λ (x : Char). x.c) xs)) (drop (length (before_end_behind t (map (λ (x : Char). x.c) xs))) (map (λ (x : Char). x.c) xs))
+    → ends_of (concat_of (nabc_events_behind t xs)) ≡ end_emitted t (before_end_behind t (map (λ (x : Char). x.c) xs)) (drop (length (before_end_behind t (map (λ (x : Char). x.c) xs))) (map (λ (x : Char). x.c) xs))
 ends_from [] t e = rw e (ap (λ (u : List ℕ). (ending.Cut (record { line = 0; column = 0 }), bytes_in (kept_of u)) ∷ []) (sym (append-nil t)))
 ends_from (x ∷ xs) t e = go (is_end t x.c) refl (ends_from xs (t ++ x.c ∷ []))
   where
@@ -262,8 +262,8 @@ ends_from (x ∷ xs) t e = go (is_end t x.c) refl (ends_from xs (t ++ x.c ∷ []
     prefix b = cond b [] (x.c ∷ before_end_behind (t ++ x.c ∷ []) cs)
 
     go : (b : Bool) → is_end t x.c ≡ b
-        → (has_end (t ++ x.c ∷ []) ≡ false → ends_of later ≡ end_told (t ++ x.c ∷ []) (before_end_behind (t ++ x.c ∷ []) cs) (drop (length (before_end_behind (t ++ x.c ∷ []) cs)) cs))
-        → ends_of (events_at t x ++ later) ≡ end_told t (prefix b) (drop (length (prefix b)) (x.c ∷ cs))
+        → (has_end (t ++ x.c ∷ []) ≡ false → ends_of later ≡ end_emitted (t ++ x.c ∷ []) (before_end_behind (t ++ x.c ∷ []) cs) (drop (length (before_end_behind (t ++ x.c ∷ []) cs)) cs))
+        → ends_of (events_at t x ++ later) ≡ end_emitted t (prefix b) (drop (length (prefix b)) (x.c ∷ cs))
     go true f more =
         ends_append (events_at t x) later
         ∙ (ap (λ (l : List (NoteEnd × ℕ)). l ++ ends_of later) (one_end t x e f)

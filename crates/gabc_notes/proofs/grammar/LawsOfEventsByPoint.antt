@@ -140,10 +140,10 @@ emitted_kept split macros (x ∷ xs) back o = go (is_emitted split macros back x
         ∙ (append-nil (kept_of (events_at split macros (point back x))) ∙ (ap kept_of n.1 ∙ (end_plain (point back x) None).0))))
         ∙ (append-nil (kept back) ∙ ap (λ (s : SnippetStop). kept s.back) (sym (stop_here split back xs x n.0)))
 
-pub told_end : (split : Bool) (macros : ℕ) (xs back : List Char) → is_over split back ≡ false
+pub emitted_end : (split : Bool) (macros : ℕ) (xs back : List Char) → is_over split back ≡ false
     → ends_of (concat_of (note_events_behind split macros back xs)) ≡ (end_by (stop_after split back xs).mark (stop_after split back xs).back, bytes_of (kept_by (stop_after split back xs).mark (stop_after split back xs).back)) ∷ []
-told_end split macros [] back o = ap (λ (l : List NoteEvent). ends_of (l ++ [])) (cut_outs split back o)
-told_end split macros (x ∷ xs) back o = go (is_emitted split macros back x o) (told_end split macros xs (x ∷ back))
+emitted_end split macros [] back o = ap (λ (l : List NoteEvent). ends_of (l ++ [])) (cut_outs split back o)
+emitted_end split macros (x ∷ xs) back o = go (is_emitted split macros back x o) (emitted_end split macros xs (x ∷ back))
   where
     go : (is_end split (point back x) ≡ false) ⊎ ((is_end split (point back x) ≡ true) × (events_at split macros (point back x) ≡ at_end (point back x)))
         → (is_over split (x ∷ back) ≡ false → ends_of (concat_of (note_events_behind split macros (x ∷ back) xs)) ≡ (end_by (stop_after split (x ∷ back) xs).mark (stop_after split (x ∷ back) xs).back, bytes_of (kept_by (stop_after split (x ∷ back) xs).mark (stop_after split (x ∷ back) xs).back)) ∷ [])

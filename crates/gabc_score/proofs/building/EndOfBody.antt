@@ -11,7 +11,7 @@ use Rattle.gabc_score.specs.Canonical.{canonicals, canonical_bytes}
 use Rattle.gabc_score.specs.Body.{is_longer, is_none, code_by, cut_of, has_last, last_syllable, all_units, fault_at, fault_of_end}
 use Rattle.gabc_score.specs.machine.Gatherer.{Gathered, with_syllable, with_no_notes, with_last}
 use Rattle.gabc_score.specs.machine.BodyBuilder.{code_in, end_fault_by, end_fault}
-use Rattle.gabc_score.proofs.building.GathererHoldsDefinition.{gathered, over_by, any_push, made_is}
+use Rattle.gabc_score.proofs.building.BuilderHoldsDefinition.{gathered, over_by, any_push, made_is}
 use Rattle.gabc_score.proofs.building.EventsOfOnePoint.{code_is, lt_total}
 
 -- a kept text that is a syllable's counts there

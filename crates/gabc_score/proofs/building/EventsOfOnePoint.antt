@@ -15,7 +15,7 @@ use Rattle.gabc_score.specs.Body.{is_longer, is_none, events_onto, code_at, find
 use Rattle.gabc_score.specs.machine.Gatherer.{Gathered, with_event}
 use Rattle.gabc_score.specs.machine.BodyBuilder.{with_all, with_found, code_in}
 use Rattle.gabc_score.proofs.order.FindingsOfScore.{onto_append}
-use Rattle.gabc_score.proofs.building.GathererHoldsDefinition.{gathered, gathered_step, over_by}
+use Rattle.gabc_score.proofs.building.BuilderHoldsDefinition.{gathered, gathered_step, over_by}
 
 -- ---- lists
 
@@ -24,11 +24,11 @@ with_all_append g [] ys = refl
 with_all_append g (x ∷ xs) ys = with_all_append (with_event g x) xs ys
 
 -- The events of a part are gathered one after the other, each in other words.
-pub with_all_more : {O : Type 0} (tell : O → BodyEvent) (first now new : Gathered) (ts : List O) (i : ℕ) (d : O) → i < length ts
-    → now ≡ with_all first (map tell (take i ts)) → new ≡ with_event now (tell (get_or ts i d)) → new ≡ with_all first (map tell (take (i + 1) ts))
-with_all_more tell first now new ts i d h f g =
-    g ∙ ap (λ (s : Gathered). with_event s (tell (get_or ts i d))) f ∙ sym (with_all_append first (map tell (take i ts)) (tell (get_or ts i d) ∷ []))
-    ∙ ap (with_all first) (sym (map-append tell (take i ts) (get_or ts i d ∷ []))) ∙ ap (λ os. with_all first (map tell os)) (sym (take_more ts i d h))
+pub with_all_more : {O : Type 0} (event_of : O → BodyEvent) (first now new : Gathered) (ts : List O) (i : ℕ) (d : O) → i < length ts
+    → now ≡ with_all first (map event_of (take i ts)) → new ≡ with_event now (event_of (get_or ts i d)) → new ≡ with_all first (map event_of (take (i + 1) ts))
+with_all_more event_of first now new ts i d h f g =
+    g ∙ ap (λ (s : Gathered). with_event s (event_of (get_or ts i d))) f ∙ sym (with_all_append first (map event_of (take i ts)) (event_of (get_or ts i d) ∷ []))
+    ∙ ap (with_all first) (sym (map-append event_of (take i ts) (get_or ts i d ∷ []))) ∙ ap (λ os. with_all first (map event_of os)) (sym (take_more ts i d h))
 
 -- ---- a point
 
@@ -59,13 +59,13 @@ found_on before (t ∷ now) =
 found_then : (xs : List BodyEvent) (t : BodyEvent) → findings_of (events_onto xs []) ++ findings_of (t ∷ []) ≡ findings_of (events_onto (xs ++ t ∷ []) [])
 found_then xs t = sym (found_on (events_onto xs []) (t ∷ [])) ∙ ap findings_of (sym (onto_append xs (t ∷ []) []))
 
-pub with_found_more : {O : Type 0} (tell : O → BodyEvent) (first now new : BoundedList Finding) (ts : List O) (i : ℕ) (d : O) → i < length ts
-    → now ≡ with_found first (map tell (take i ts)) → new ≡ with_found now (tell (get_or ts i d) ∷ []) → new ≡ with_found first (map tell (take (i + 1) ts))
-with_found_more tell first now new ts i d h f g =
-    g ∙ ap (λ (r : BoundedList Finding). with_found r (tell (get_or ts i d) ∷ [])) f
-    ∙ ap (λ fs. record first { items = fs }) (append_assoc first.items (findings_of (events_onto (map tell (take i ts)) [])) (findings_of (tell (get_or ts i d) ∷ [])))
-    ∙ ap (λ fs. record first { items = first.items ++ fs }) (found_then (map tell (take i ts)) (tell (get_or ts i d)))
-    ∙ ap (with_found first) (sym (map-append tell (take i ts) (get_or ts i d ∷ []))) ∙ ap (λ os. with_found first (map tell os)) (sym (take_more ts i d h))
+pub with_found_more : {O : Type 0} (event_of : O → BodyEvent) (first now new : BoundedList Finding) (ts : List O) (i : ℕ) (d : O) → i < length ts
+    → now ≡ with_found first (map event_of (take i ts)) → new ≡ with_found now (event_of (get_or ts i d) ∷ []) → new ≡ with_found first (map event_of (take (i + 1) ts))
+with_found_more event_of first now new ts i d h f g =
+    g ∙ ap (λ (r : BoundedList Finding). with_found r (event_of (get_or ts i d) ∷ [])) f
+    ∙ ap (λ fs. record first { items = fs }) (append_assoc first.items (findings_of (events_onto (map event_of (take i ts)) [])) (findings_of (event_of (get_or ts i d) ∷ [])))
+    ∙ ap (λ fs. record first { items = first.items ++ fs }) (found_then (map event_of (take i ts)) (event_of (get_or ts i d)))
+    ∙ ap (with_found first) (sym (map-append event_of (take i ts) (get_or ts i d ∷ []))) ∙ ap (λ os. with_found first (map event_of os)) (sym (take_more ts i d h))
 
 pub lt_total : (limit n m : ℕ) → limit < m → nat_lt limit (min n m + 1) ≡ nat_lt limit (n + 1)
 lt_total limit n m h = grind arith

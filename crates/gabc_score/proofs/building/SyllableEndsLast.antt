@@ -35,10 +35,10 @@ only_is : {O : Type 0} (e x : O) → Some e ≡ Some x → e ≡ x
 only_is e x k = cc
 
 -- so the last event tells whether one ends a part so
-pub last_tells : {O : Type 0} (ends : O → Bool) (es : List O) (x : O) → EndsLast ends es → slice_get es (length es - 1) ≡ Some x → list_any ends es ≡ ends x
-last_tells ends [] x h k = absurd (cc)
-last_tells ends (e ∷ []) x h k = or_false (ends e) ∙ ap ends (only_is e x k)
-last_tells ends (e ∷ f ∷ es) x h k = go (ends e) refl (last_tells ends (f ∷ es) x h.1 (simp unary_clauses (simp unary_clauses at k)))
+pub last_emits_so : {O : Type 0} (ends : O → Bool) (es : List O) (x : O) → EndsLast ends es → slice_get es (length es - 1) ≡ Some x → list_any ends es ≡ ends x
+last_emits_so ends [] x h k = absurd (cc)
+last_emits_so ends (e ∷ []) x h k = or_false (ends e) ∙ ap ends (only_is e x k)
+last_emits_so ends (e ∷ f ∷ es) x h k = go (ends e) refl (last_emits_so ends (f ∷ es) x h.1 (simp unary_clauses (simp unary_clauses at k)))
   where
     go : (b : Bool) → ends e ≡ b → list_any ends (f ∷ es) ≡ ends x → list_any ends (e ∷ f ∷ es) ≡ ends x
     go true g t = absurd (let none = h.0 g in cc (none))

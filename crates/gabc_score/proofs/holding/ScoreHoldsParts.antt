@@ -159,7 +159,7 @@ size_behind n t =
     let all : size t ≡ size (take n t) + size (drop n t) = ap size (sym (take-append-drop n t)) ∙ size_append (take n t) (drop n t) in
     omega arith
 
-module _ (ends : (at : Place) (t : List ℕ) → EndsOnce at t) (tells : (at : Place) (t : List ℕ) → with_events empty_text (concat_of (events_by_point at t)) ≡ text_built_at at t) (spans : (t : List ℕ) → StandsForView (kept t) (view_in t) t) (limits : Limits) (ending : InputEnding) (t : List ℕ) (short : size t < 2 ^ 63) where
+module _ (ends : (at : Place) (t : List ℕ) → EndsOnce at t) (emits : (at : Place) (t : List ℕ) → with_events empty_text (concat_of (events_by_point at t)) ≡ text_built_at at t) (spans : (t : List ℕ) → StandsForView (kept t) (view_in t) t) (limits : Limits) (ending : InputEnding) (t : List ℕ) (short : size t < 2 ^ 63) where
   pub behind_short : size (codes_of (placed_characters_behind (heads_text t) (behind_heads t))) < 2 ^ 63
   behind_short =
       let less : size (behind_heads t) ≤ size t = size_behind (head_len t + 2) t in
@@ -178,7 +178,7 @@ module _ (ends : (at : Place) (t : List ℕ) → EndsOnce at t) (tells : (at : P
       let lines = nabc_lines_of heads.book in
       let macros = macros_of heads.book in
       let xs = placed_characters_behind (heads_text t) (behind_heads t) in
-      let holds = body_holds ends tells spans t lines macros xs behind_back behind_short in
+      let holds = body_holds ends emits spans t lines macros xs behind_back behind_short in
       body_hold (HoldsWithNotes t lines) (Holds HoldsNoNotes t) limits (bytes_len (canonical_heads heads.book)) heads.findings (place_after t) ending xs (body_events lines macros xs) holds.made holds.last
 
   pub score_holds : (let score = score_of limits ending t in All (λ (s : PlacedSyllable). HoldsParts t (lines_of score) s.made) score.syllables)

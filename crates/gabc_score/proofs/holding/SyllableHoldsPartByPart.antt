@@ -58,7 +58,7 @@ text_gathered t how emitted g before h =
     ∙ ap (λ v. record (sum_of []) { part = encodes (kept t); view = v }) g.view_is
 
 text_onto : (t : List ℕ) (how : TextEnd) (emitted : List BodyEvent) (g : TextEmitted t how emitted) (before : List BodyEvent) → events_onto emitted before ≡ Text (text.Ended how) ∷ events_onto (text_emitted g.mids) before
-text_onto t how emitted g before = ap (λ ts. events_onto ts before) g.told_are ∙ onto_append (text_emitted g.mids) (Text (text.Ended how) ∷ []) before
+text_onto t how emitted g before = ap (λ ts. events_onto ts before) g.emitted_are ∙ onto_append (text_emitted g.mids) (Text (text.Ended how) ∷ []) before
 
 -- these characters stand in the input from some place on
 abbrev pub IsBack : List ℕ → List ℕ → Type 0
@@ -162,7 +162,7 @@ module _ (input : List ℕ) (lines line : ℕ) (opened_at : Place) (from : List 
   before_end = events_onto (map (note_event line opened_at) l.mids) before
 
   line_onto : events_onto emitted before ≡ Notes line (note.Ended l.how (size l.kept)) ∷ before_end
-  line_onto = ap (λ ts. events_onto ts before) l.told_are ∙ onto_append (map (note_event line opened_at) l.mids) (Notes line (note.Ended l.how (size l.kept)) ∷ []) before
+  line_onto = ap (λ ts. events_onto ts before) l.emitted_are ∙ onto_append (map (note_event line opened_at) l.mids) (Notes line (note.Ended l.how (size l.kept)) ∷ []) before
 
   -- before the mark
   gathered : sum_of (since_close before_end) ≡ record { view = view_in far.text; ended = encodes prefix; part = encodes (l.kept ++ l.rest); snippets = map (λ (s : ReadSnippet). s.snippet) far.earlier }
@@ -344,5 +344,5 @@ pub cut_is : (line : ℕ) (opened_at : Place) (emitted : List BodyEvent) (t : Cu
     → (cut_of (events_onto emitted before) ≡ Some t.place) × (all_syllables (events_onto emitted before) ≡ all_syllables before)
 cut_is line opened_at emitted t before =
     let all : events_onto emitted before ≡ Notes line (note.Ended (note_end.Cut t.place) t.count) ∷ events_onto (map (note_event line opened_at) t.mids) before =
-    ap (λ ts. events_onto ts before) t.told_are ∙ onto_append (map (note_event line opened_at) t.mids) (Notes line (note.Ended (note_end.Cut t.place) t.count) ∷ []) before in
+    ap (λ ts. events_onto ts before) t.emitted_are ∙ onto_append (map (note_event line opened_at) t.mids) (Notes line (note.Ended (note_end.Cut t.place) t.count) ∷ []) before in
     (ap cut_of all, ap all_syllables all ∙ (notes_within line opened_at t.mids before t.silent).made)

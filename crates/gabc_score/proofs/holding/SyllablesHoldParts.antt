@@ -25,7 +25,7 @@ use Rattle.gabc_text.specs.ViewFacts.{StandsForView}
 use Rattle.gabc_text.specs.View.{kept}
 use Rattle.gabc_text.specs.TextRead.{view_in}
 use Rattle.gabc_score.proofs.holding.SyllableHoldsPartByPart.{IsBack, SoFar, text_opens, last_text, close_made, next_far, next_made, cut_is}
-use Rattle.gabc_score.proofs.units.BodyHasOneCutting.{one, body_tells}
+use Rattle.gabc_score.proofs.units.BodyHasOneCutting.{one, body_emits_all}
 
 abbrev pub nothing_of : Char → List BodyEvent
 nothing_of x = []
@@ -48,7 +48,7 @@ back_behind input xs ys b = (b.0 ++ codes_of xs, b.1 ∙ ap (λ cs. b.0 ++ cs) (
 
 -- ---- parts
 
-module _ (ends : (at : Place) (t : List ℕ) → EndsOnce at t) (tells : (at : Place) (t : List ℕ) → with_events empty_text (concat_of (events_by_point at t)) ≡ text_built_at at t) (spans : (t : List ℕ) → StandsForView (kept t) (view_in t) t) (input : List ℕ) (lines macros : ℕ) where
+module _ (ends : (at : Place) (t : List ℕ) → EndsOnce at t) (emits : (at : Place) (t : List ℕ) → with_events empty_text (concat_of (events_by_point at t)) ≡ text_built_at at t) (spans : (t : List ℕ) → StandsForView (kept t) (view_in t) t) (input : List ℕ) (lines macros : ℕ) where
   abbrev pub AllHold : List BodyEvent → Type 0
   AllHold before = All (HoldsWithNotes input lines) (all_syllables before)
 
@@ -72,8 +72,8 @@ module _ (ends : (at : Place) (t : List ℕ) → EndsOnce at t) (tells : (at : P
       → EndsBehind lines (InText (texts_by_definition at (prefix ++ end ∷ rest))) prefix mark → AllHold before → Follows mark end rest (through (InText (texts_by_definition at (prefix ++ end ∷ rest))) prefix before)
   text_follows at prefix end rest mark before b since h k =
       let part = InText (texts_by_definition at (prefix ++ end ∷ rest)) in
-      let e = text_ended ends tells lines at prefix end rest mark h in
-      let o = text_opens input lines prefix end rest (concat_of (events_through part prefix)) b (text_mark ends tells lines at prefix end rest mark h) e.0 before since in
+      let e = text_ended ends emits lines at prefix end rest mark h in
+      let o = text_opens input lines prefix end rest (concat_of (events_through part prefix)) b (text_mark ends emits lines at prefix end rest mark h) e.0 before since in
       subst (λ m. Follows m end rest (through part prefix before)) (sym e.1) ((refl, o.0), same_made before (through part prefix before) o.1 k)
 
   notes_follow : (line : ℕ) (opened : Place) (prefix : List Char) (end : Char) (rest : List Char) (mark : Mark) (before : List BodyEvent) → SoFar input lines line (prefix ++ end ∷ rest) (since_close before) → size (codes_of prefix) < 2 ^ 63
@@ -115,7 +115,7 @@ module _ (ends : (at : Place) (t : List ℕ) → EndsOnce at t) (tells : (at : P
   text_at_end : (at : Place) (last : List Char) (before : List BodyEvent) → IsBack input (codes_of last) → since_close before ≡ [] → Endless lines (InText (texts_by_definition at last)) last → AllHold before → AtEnd (through (InText (texts_by_definition at last)) last before)
   text_at_end at last before b since h k =
       let part = InText (texts_by_definition at last) in
-      let e = text_endless ends tells lines at last h in
+      let e = text_endless ends emits lines at last h in
       let o = last_text input (codes_of last) e.0 (concat_of (events_through part last)) b (spans (codes_of last)) e.2 e.1 before since in
       record { made = same_made before (through part last before) o.1 k; last = λ none has. o.0 }
 
@@ -175,7 +175,7 @@ module _ (ends : (at : Place) (t : List ℕ) → EndsOnce at t) (tells : (at : P
       let c = one texts_by_definition lines macros xs in
       let o = option_map (cutting_of lines) c.0.units in
       subst (λ ts. AtEnd (events_onto ts []))
-      (sym (ap concat_of (body_tells texts_by_definition lines macros xs c.0 c.1)
+      (sym (ap concat_of (body_emits_all texts_by_definition lines macros xs c.0 c.1)
       ∙ flat_map-append (λ (ts : List BodyEvent). ts) (map nothing_of c.0.comment) (events_of_parts texts_by_definition lines macros o)
       ∙ ap (λ ts. ts ++ concat_of (events_of_parts texts_by_definition lines macros o)) (comment_emits c.0.comment)))
       (cut_holds xs c.0.comment o back fits c.1)

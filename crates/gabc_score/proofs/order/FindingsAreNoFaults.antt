@@ -233,18 +233,18 @@ PartFinds InComment = Unit {0}
 PartFinds (InText lists) = NoneTextEach lists
 PartFinds (InNotes line opened lists) = NoneNotedEach lists
 
-text_tells : (emitted : List TextEvent) → NoFaults (found_in emitted) → NoFaults (found (map (λ (o : TextEvent). event.Text o) emitted))
-text_tells [] h = tt
-text_tells (text.Kept x ∷ emitted) h = text_tells emitted h
-text_tells (text.Part p ∷ emitted) h = text_tells emitted h
-text_tells (text.Found f ∷ emitted) h = (h.0, text_tells emitted h.1)
-text_tells (text.Ended e ∷ emitted) h = text_tells emitted h
+text_emits_so : (emitted : List TextEvent) → NoFaults (found_in emitted) → NoFaults (found (map (λ (o : TextEvent). event.Text o) emitted))
+text_emits_so [] h = tt
+text_emits_so (text.Kept x ∷ emitted) h = text_emits_so emitted h
+text_emits_so (text.Part p ∷ emitted) h = text_emits_so emitted h
+text_emits_so (text.Found f ∷ emitted) h = (h.0, text_emits_so emitted h.1)
+text_emits_so (text.Ended e ∷ emitted) h = text_emits_so emitted h
 
-notes_tell : (line : ℕ) (opened : Place) (emitted : List NoteEvent) → NoneNoted emitted → NoFaults (found (map (note_event line opened) emitted))
-notes_tell line opened [] h = tt
-notes_tell line opened (note.Kept x ∷ emitted) h = notes_tell line opened emitted h
-notes_tell line opened (note.Found f ∷ emitted) h = (h.0, notes_tell line opened emitted h.1)
-notes_tell line opened (note.Ended how n ∷ emitted) h = notes_tell line opened emitted h
+notes_emit : (line : ℕ) (opened : Place) (emitted : List NoteEvent) → NoneNoted emitted → NoFaults (found (map (note_event line opened) emitted))
+notes_emit line opened [] h = tt
+notes_emit line opened (note.Kept x ∷ emitted) h = notes_emit line opened emitted h
+notes_emit line opened (note.Found f ∷ emitted) h = (h.0, notes_emit line opened emitted h.1)
+notes_emit line opened (note.Ended how n ∷ emitted) h = notes_emit line opened emitted h
 
 text_first : (lists : List (List TextEvent)) → NoneTextEach lists → NoFaults (found_in (first_list lists)) × NoneTextEach (other_lists lists)
 text_first [] h = (tt, tt)
@@ -256,8 +256,8 @@ notes_first (emitted ∷ lists) h = (h.0, h.1)
 
 part_emits : (part : PartAhead) → PartFinds part → NoFaults (found (events_in part))
 part_emits InComment h = tt
-part_emits (InText lists) h = text_tells (first_list lists) (text_first lists h).0
-part_emits (InNotes line opened lists) h = notes_tell line opened (first_list lists) (notes_first lists h).0
+part_emits (InText lists) h = text_emits_so (first_list lists) (text_first lists h).0
+part_emits (InNotes line opened lists) h = notes_emit line opened (first_list lists) (notes_first lists h).0
 
 end_emits : (part : PartAhead) → PartFinds part → NoFaults (found (events_at_end part))
 end_emits InComment h = tt

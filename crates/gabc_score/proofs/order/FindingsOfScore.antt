@@ -25,7 +25,7 @@ use Rattle.gabc_score.specs.Events.{texts_by_definition, text_from, snippet_from
 use Rattle.gabc_score.specs.Units.{Closes, Cutting, IsCutFrom, EndsBehind, whole, cutting_of, events_of_parts, first_text, BeginsWithLf, events_of_cutting}
 use Rattle.gabc_score.specs.Body.{events_onto, findings_of, EventsToStop, events_to_stop, stopped_events, code_at, result_by, result_at_end, result_by_fault, result_whole, result_stopped, found_at_end, has_last, fault_of_end, cut_of}
 use Rattle.gabc_score.specs.Score.{heads_text, behind_heads, macros_of, score_of, score_by}
-use Rattle.gabc_score.proofs.units.BodyHasOneCutting.{one, body_tells}
+use Rattle.gabc_score.proofs.units.BodyHasOneCutting.{one, body_emits_all}
 use Rattle.gabc_places.proofs.PlacesOfAText.{placed_behind, behind_after}
 use Rattle.gabc_score.proofs.order.FindingsOneAfterAnother.{IsBefore, AllFrom, AllUpTo, AllBefore, past_up_to, past_append, next_behind, before_then, from_earlier, from_prefix, before_append, order_append, order_then, order_prefix, all_before, lie_up_to, no_notes}
 use Rattle.gabc_score.proofs.order.FindingsOfParts.{found, found_append, found_onto, TextsLie, SnippetsLie, LieLast}
@@ -81,7 +81,7 @@ module _ (texts : TextsLie)
   body_lies : (lines macros : ℕ) (p : Place) (cs : List ℕ) → Short p cs → LieLast p (place_past p cs) (found (concat_of (body_events lines macros (placed_characters_from p cs))))
   body_lies lines macros p cs short =
       let o = one texts_by_definition lines macros (placed_characters_from p cs) in
-      subst (λ ls. LieLast p (place_past p cs) (found (concat_of ls))) (sym (body_tells texts_by_definition lines macros (placed_characters_from p cs) o.0 o.1))
+      subst (λ ls. LieLast p (place_past p cs) (found (concat_of ls))) (sym (body_emits_all texts_by_definition lines macros (placed_characters_from p cs) o.0 o.1))
       (parts_lie lines macros p cs o.0.comment (option_map (cutting_of lines) o.0.units) short o.1)
 
 -- ---- the stop

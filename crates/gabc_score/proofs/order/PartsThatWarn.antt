@@ -30,7 +30,7 @@ use Rattle.gabc_score.proofs.order.FindingsOfParts.{found, found_append, joined_
 use Rattle.gabc_score.proofs.order.FindingsOfReading.{all_first, read_finds}
 use Rattle.gabc_score.proofs.order.FindingsOfScore.{reached_prefix}
 use Rattle.gabc_score.proofs.syllables_of_units.UnitsGiveSyllables.{snippets_whole, unit_whole, units_whole}
-use Rattle.gabc_score.proofs.units.BodyHasOneCutting.{body_tells}
+use Rattle.gabc_score.proofs.units.BodyHasOneCutting.{body_emits_all}
 use Rattle.gabc_score.proofs.units.UnitsEndAtMarks.{first_is}
 
 abbrev Warn : List Finding → Type 0
@@ -106,7 +106,7 @@ module _ (all : (at : Place) (t : List ℕ) → found_in (concat_of (events_by_p
   body_warns : (xs : List Char) (cut : BodyCutting) (units : List BodyUnit) (last : List Char) → IsCut texts_by_definition lines macros xs cut → cut.units ≡ Some (record { closed = units; last = JustText last })
       → UnitsWarn lines macros units (JustText last) → TextWarns (codes_of last) → Warn (found (concat_of (body_events lines macros xs)))
   body_warns xs cut units last h e w k =
-      subst (λ ls. Warn (found (concat_of ls))) (sym (body_tells texts_by_definition lines macros xs cut h))
+      subst (λ ls. Warn (found (concat_of ls))) (sym (body_emits_all texts_by_definition lines macros xs cut h))
       (comment_warns cut.comment (events_of_parts texts_by_definition lines macros (option_map (cutting_of lines) cut.units))
       (subst (λ o. Warn (found (concat_of (events_of_parts texts_by_definition lines macros (option_map (cutting_of lines) o))))) (sym e)
       (by (subst (λ o. IsCutFrom texts_by_definition lines macros xs cut.comment (option_map (cutting_of lines) o)) e h))))

@@ -21,7 +21,7 @@ use Rattle.gabc_score.specs.Syllable.{UnplacedSyllable, all_syllables}
 use Rattle.gabc_score.specs.machine.BodyBuilder.{with_all, code_in, end_fault_by, end_fault, end_findings}
 use Rattle.gabc_score.specs.machine.Gatherer.{Gathered, with_last}
 use Rattle.gabc_score.specs.machine.ScoreStage.{HeldScore, placed_behind, held_outputs, stop_outputs, point_outputs, with_held, score_past, end_outputs_by, end_outputs, left_by, body_left, begun_score, score_left}
-use Rattle.gabc_score.proofs.building.GathererHoldsDefinition.{gathered}
+use Rattle.gabc_score.proofs.building.BuilderHoldsDefinition.{gathered}
 use Rattle.gabc_score.proofs.building.EventsOfOnePoint.{gathered_all, code_is, made_after}
 use Rattle.gabc_score.proofs.building.EndOfBody.{made_by_last, open_by_last, fault_is}
 use Rattle.gabc_score.proofs.score_events.HeldSyllables.{without, MayGo, all_without, all_go, last_without, last_goes, code_without, but_last_goes, placed_rest, placed_now, held_then, given_then_is}

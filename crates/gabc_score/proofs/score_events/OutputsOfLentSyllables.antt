@@ -8,7 +8,7 @@ use Rattle.gabc_score.specs.declared.score_event.LentSyllable.TheVariants.{First
 use Rattle.gabc_score.specs.declared.score_event.ScoreEvent.{ScoreEvent}
 use Rattle.gabc_score.specs.declared.score_event.ScoreEvent.TheVariants as event
 use Rattle.gabc_score.specs.ScoreEvents.{ScoreOutput, Found, Syllable, outputs_of, syllables_in}
-use Rattle.gabc_score.specs.ScoreStage.{events_lent, events_of, Tells}
+use Rattle.gabc_score.specs.ScoreStage.{events_lent, events_of, GivesOutputs}
 use Rattle.gabc_score.specs.Syllable.{PlacedSyllable}
 use Rattle.gabc_score.specs.machine.SlotPair.{lent_of}
 
@@ -61,9 +61,9 @@ module _ (fs : List Finding) (tail : List ScoreOutput) (last : List ScoreEvent) 
   all_events n h = ap events_of (assoc n) ∙ found_lent First fs _ ∙ ap (λ es. found_events fs ++ es) (lent_are n h)
 
   pub emitted : (n : ℕ) (ss : List PlacedSyllable) → take n (first ∷ second ∷ []) ≡ ss → n ≤ 2 → length fs ≤ 10 → length last ≤ 1 → (old new : BoundedList ScoreEvent)
-      → new ≡ extended_by old (found_events fs ++ (lent_of n ++ last)) → Tells (outputs_of fs ss ++ tail) old new first second
+      → new ≡ extended_by old (found_events fs ++ (lent_of n ++ last)) → GivesOutputs (outputs_of fs ss ++ tail) old new first second
   emitted n ss e h few one old new k =
-      subst (λ ss. Tells (outputs_of fs ss ++ tail) old new first second) e (record {
+      subst (λ ss. GivesOutputs (outputs_of fs ss ++ tail) old new first second) e (record {
         events = k ∙ ap (extended_by old) (sym (all_events n h));
         few = let l = length-append (found_events fs) (lent_of n ++ last) in
             let m = length-append (lent_of n) last in
@@ -74,10 +74,10 @@ module _ (fs : List Finding) (tail : List ScoreOutput) (last : List ScoreEvent) 
       })
 
 -- without anything behind the syllables
-pub told_now : (fs : List Finding) (first second : PlacedSyllable) (n : ℕ) (ss : List PlacedSyllable) → take n (first ∷ second ∷ []) ≡ ss → n ≤ 2 → length fs ≤ 10 → (old new : BoundedList ScoreEvent)
-    → new ≡ extended_by old (found_events fs ++ lent_of n) → Tells (outputs_of fs ss) old new first second
-told_now fs first second n ss e h few old new k =
-    subst (λ outputs. Tells outputs old new first second) (append-nil (outputs_of fs ss))
+pub now_emitted : (fs : List Finding) (first second : PlacedSyllable) (n : ℕ) (ss : List PlacedSyllable) → take n (first ∷ second ∷ []) ≡ ss → n ≤ 2 → length fs ≤ 10 → (old new : BoundedList ScoreEvent)
+    → new ≡ extended_by old (found_events fs ++ lent_of n) → GivesOutputs (outputs_of fs ss) old new first second
+now_emitted fs first second n ss e h few old new k =
+    subst (λ outputs. GivesOutputs outputs old new first second) (append-nil (outputs_of fs ss))
     (emitted fs [] [] refl (λ l. refl) first second n ss e h few (omega arith) old new (k ∙ ap (λ es. extended_by old (found_events fs ++ es)) (sym (append-nil (lent_of n)))))
 
 -- ---- a room that is extended step by step

@@ -15,7 +15,7 @@ use Rattle.gabc_headers.specs.declared.head_event.HeadEvent.{HeadEvent}
 use Rattle.gabc_headers.specs.declared.head_event.HeadEvent.TheVariants as head_event
 use Rattle.gabc_headers.specs.Book.{nabc_lines_of, has_header, macro_name}
 use Rattle.gabc_headers.specs.Canonical.{canonical_heads}
-use Rattle.gabc_headers.specs.HeadEvents.{heads_told, macros_of as macros_told}
+use Rattle.gabc_headers.specs.HeadEvents.{event_of_book, macros_of as macros_emitted}
 use Rattle.gabc_headers.specs.Heads.{heads_of, head_len}
 use Rattle.gabc_headers.specs.Lines.{bytes_len}
 use Rattle.gabc_score.specs.declared.body_result.BodyResult.{BodyResult}
@@ -49,7 +49,7 @@ found_heads texts limits (f ∷ fs) xs = ap (λ outputs. Found f ∷ outputs) (f
 either_side : (a b c d e f g h i j : ℕ) → a + (b + (c + (d + (e + (f + (g + (h + (i + (j + 0))))))))) ≡ 0 + a + b + c + d + e + f + g + h + i + j
 either_side a b c d e f g h i j = omega arith
 
-pub macros_are : (book : List (List ℕ × List ℕ)) → macros_told book ≡ macros_of book
+pub macros_are : (book : List (List ℕ × List ℕ)) → macros_emitted book ≡ macros_of book
 macros_are book =
     let bit : ℕ → ℕ = λ d. cond (has_header (macro_name d) book) (2 ^ d) 0 in
     either_side (bit 0) (bit 1) (bit 2) (bit 3) (bit 4) (bit 5) (bit 6) (bit 7) (bit 8) (bit 9)
@@ -122,9 +122,9 @@ module _ (limits : Limits) (ending : InputEnding) (t : List ℕ) (h : Heads) whe
 
   behind_says : said_by (concat_of (score_outputs texts_by_definition limits (head_events_by ending t (Ok h)))) ≡ said_of_score ending (score_by limits ending t (Ok h))
   behind_says =
-      ap said_by (found_heads texts_by_definition limits h.findings (heads_told h.book ∷ to_come))
-      ∙ found_first h.findings (body_from (characters_in to_come) (macros_told h.book))
-      ∙ ap (λ ys. said_before h.findings [] (said_by (body_from ys (macros_told h.book)))) (characters_are ending xs)
+      ap said_by (found_heads texts_by_definition limits h.findings (event_of_book h.book ∷ to_come))
+      ∙ found_first h.findings (body_from (characters_in to_come) (macros_emitted h.book))
+      ∙ ap (λ ys. said_before h.findings [] (said_by (body_from ys (macros_emitted h.book)))) (characters_are ending xs)
       ∙ ap (λ m. said_before h.findings [] (said_by (body_from xs m))) (macros_are h.book)
       ∙ by (body_says limits size h.findings ending first_place [] xs (body_events (nabc_lines_of h.book) (macros_of h.book) xs) (events_each texts_by_definition (nabc_lines_of h.book) (macros_of h.book) InComment xs))
       ∙ ap (said_of_body ending) (at_the_end limits size (nabc_lines_of h.book) (macros_of h.book) h.findings ending (heads_text t) (behind_heads t) xs refl first_place)

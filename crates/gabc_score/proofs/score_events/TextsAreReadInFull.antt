@@ -13,7 +13,7 @@ use Rattle.gabc_headers.specs.declared.head_event.HeadEvent.{HeadEvent}
 use Rattle.gabc_headers.specs.declared.head_event.HeadEvent.TheVariants as head_event
 use Rattle.gabc_headers.specs.Book.{nabc_lines_of}
 use Rattle.gabc_headers.specs.Canonical.{header_lines, canonical_heads}
-use Rattle.gabc_headers.specs.HeadEvents.{heads_told, macros_of}
+use Rattle.gabc_headers.specs.HeadEvents.{event_of_book, macros_of}
 use Rattle.gabc_headers.specs.Heads.{heads_of}
 use Rattle.gabc_headers.specs.Lines.{bytes_len}
 use Rattle.gabc_text.specs.Events.{CountsFit, events_by_point}
@@ -30,7 +30,7 @@ use Rattle.gabc_score.specs.SyllablesOfUnits.{body_characters}
 use Rattle.gabc_score.specs.machine.Collected.{to_come}
 use Rattle.gabc_score.proofs.score_events.BodyIsCollected.{counts_below}
 use Rattle.gabc_score.proofs.score_events.ScoreOutputs.{characters_are}
-use Rattle.gabc_score.proofs.texts_of_body.StageAndDefinitionAgree.{body_fits, same_told}
+use Rattle.gabc_score.proofs.texts_of_body.StageAndDefinitionAgree.{body_fits, same_emitted}
 
 -- ---- what is found in the headers, and what stops them
 
@@ -71,7 +71,7 @@ module _ (limits : Limits) (ending : InputEnding) (t : List ℕ) (few : length (
       → AreCountsBelow (head_events_by ending t r)
   below_by short (Ok heads) e =
       let most = limits.in_range.input_most in
-      found_below heads.findings (heads_told heads.book ∷ to_come ending (body_characters t)) (omega (arith, short heads e, most), body_below)
+      found_below heads.findings (event_of_book heads.book ∷ to_come ending (body_characters t)) (omega (arith, short heads e, most), body_below)
   below_by short (Err stop) e = found_below stop.findings (stop_events (head_fault_by ending stop.at_end stop.fault)) (stop_below (head_fault_by ending stop.at_end stop.fault))
 
   pub text_below : ((limits : Limits) (t : List ℕ) (heads : Heads) → heads_of limits t ≡ Ok heads → (bytes_len (header_lines heads.book) ≤ limits.header) × (bytes_len (canonical_heads heads.book) + 1 ≤ limits.input))
@@ -82,9 +82,9 @@ module _ (limits : Limits) (ending : InputEnding) (t : List ℕ) (few : length (
     body_alike : (lines macros : ℕ) → events_from texts_by_stage lines macros InComment (body_characters t) ≡ events_from texts_by_definition lines macros InComment (body_characters t)
     body_alike lines macros =
         subst (λ xs. events_from texts_by_stage lines macros InComment xs ≡ events_from texts_by_definition lines macros InComment xs) placed
-        (same_told step lines macros (place_after (heads_text t)) (behind_heads t) InComment fits)
+        (same_emitted step lines macros (place_after (heads_text t)) (behind_heads t) InComment fits)
 
-    heads_alike : (book : List (List ℕ × List ℕ)) → let xs = heads_told book ∷ to_come ending (body_characters t) in score_outputs texts_by_stage limits xs ≡ score_outputs texts_by_definition limits xs
+    heads_alike : (book : List (List ℕ × List ℕ)) → let xs = event_of_book book ∷ to_come ending (body_characters t) in score_outputs texts_by_stage limits xs ≡ score_outputs texts_by_definition limits xs
     heads_alike book =
         let xs = to_come ending (body_characters t) in
         let head = bytes_len (canonical_heads book) in
@@ -95,7 +95,7 @@ module _ (limits : Limits) (ending : InputEnding) (t : List ℕ) (few : length (
         ∙ sym (ap (events_from texts_by_definition (nabc_lines_of book) (macros_of book) InComment) all)))
 
     alike_by : (r : Result Heads HeadFault) → score_outputs texts_by_stage limits (head_events_by ending t r) ≡ score_outputs texts_by_definition limits (head_events_by ending t r)
-    alike_by (Ok heads) = found_alike texts_by_stage texts_by_definition limits heads.findings (heads_told heads.book ∷ to_come ending (body_characters t)) (heads_alike heads.book)
+    alike_by (Ok heads) = found_alike texts_by_stage texts_by_definition limits heads.findings (event_of_book heads.book ∷ to_come ending (body_characters t)) (heads_alike heads.book)
     alike_by (Err stop) = found_alike texts_by_stage texts_by_definition limits stop.findings _ (stop_alike texts_by_stage texts_by_definition limits (head_fault_by ending stop.at_end stop.fault))
 
     pub text_alike : score_outputs texts_by_stage limits (head_events limits ending t) ≡ score_outputs texts_by_definition limits (head_events limits ending t)

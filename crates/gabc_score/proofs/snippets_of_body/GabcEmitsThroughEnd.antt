@@ -1,4 +1,4 @@
--- What a snippet of GABC tells through its end.
+-- What a snippet of GABC emits through its end.
 use Rattle.std.proofs.Common.{append_assoc, reverse, eqb-true, ◌≡◌, ◌⊎◌, inl, inr, ℕ, ◌==◌, ◌&&◌, ◌||◌, not, Bool, true, false, cond, if◌then◌else◌, List, [], ◌∷◌, ◌++◌, refl, sym, ap, ◌∙◌, arith, append-nil}
 use Rattle.std.proofs.lemmas.Grind.{reverse_onto}
 use Rattle.gabc_places.specs.declared.place.Char.{Char}

@@ -1,4 +1,4 @@
--- What a snippet of NABC tells through its end.
+-- What a snippet of NABC emits through its end.
 use Rattle.std.proofs.Common.{not, eqb-true, ◌≡◌, ◌⊎◌, inl, inr, ℕ, ◌==◌, ◌||◌, Bool, true, false, cond, if◌then◌else◌, List, [], ◌∷◌, ◌++◌, refl, sym, ap, ◌∙◌, arith, append_assoc, append-nil}
 use Rattle.gabc_places.specs.declared.place.Char.{Char}
 use Rattle.gabc_places.specs.declared.code.Code.TheVariants.{E3, E6, W7}

@@ -1,4 +1,4 @@
--- What a snippet of either grammar tells through its end.
+-- What a snippet of either grammar emits through its end.
 use Rattle.std.proofs.Common.{reverse, append-nil, ◌≡◌, ℕ, zero, suc, ◌+◌, ◌-◌, ◌<◌, ◌≤◌, ◌^◌, min, nat_lt, Bool, false, ◌==◌, if◌then◌else◌, List, [], ◌∷◌, ◌++◌, map, refl, sym, ap, subst, ◌∙◌, arith}
 use Rattle.gabc_places.specs.StageLaw.{concat_of}
 use Rattle.gabc_places.specs.declared.place.Place.{Place}
@@ -14,7 +14,7 @@ use Rattle.gabc_notes.specs.declared.stage.NoteEvent.TheVariants as note
 use Rattle.gabc_notes.specs.SnippetRead.{kept_of, ends_of}
 use Rattle.gabc_notes.specs.Events.{kept as gabc_kept, bytes_of, note_events}
 use Rattle.gabc_nabc.specs.Table.{nabc}
-use Rattle.gabc_nabc.specs.Events.{kept_of as nabc_kept, bytes_in, nabc_events as nabc_told}
+use Rattle.gabc_nabc.specs.Events.{kept_of as nabc_kept, bytes_in, nabc_events as nabc_emitted}
 use Rattle.gabc_score.specs.declared.events.BodyEvent.{BodyEvent}
 use Rattle.gabc_score.specs.declared.events.BodyEvent.TheVariants.{Notes}
 use Rattle.gabc_score.specs.Events.{InNotes, note_event, snippet_from}
@@ -25,13 +25,13 @@ use Rattle.gabc_score.proofs.snippets_of_body.SnippetsEndAlike.{IsMark, run, Gra
 use Rattle.gabc_score.proofs.snippets_of_body.GabcEmitsThroughEnd.{run_gabc, gabc_grammar, emits_lists}
 use Rattle.gabc_score.proofs.snippets_of_body.NabcEmitsThroughEnd.{run_nabc, nabc_grammar, events_lists}
 
--- what a snippet of a line tells through its end: it keeps a snippet of that line, and perhaps what is cut at its end
+-- what a snippet of a line emits through its end: it keeps a snippet of that line, and perhaps what is cut at its end
 pub record LineEmitted (lines line : ℕ) (opened : Place) (prefix : List Char) (end : Char) (mark : Mark) (events : List BodyEvent) : Type 0 where
   pub mids : List NoteEvent
   pub how : NoteEnd
   pub kept : List ℕ
   pub rest : List ℕ
-  pub told_are : events ≡ map (note_event line opened) mids ++ Notes line (note.Ended how (size kept)) ∷ []
+  pub emitted_are : events ≡ map (note_event line opened) mids ++ Notes line (note.Ended how (size kept)) ∷ []
   pub silent : ends_of mids ≡ []
   pub kept_is : kept_of mids ≡ kept ++ rest
   pub few : size (kept_of mids) ≤ size (codes_of prefix)
@@ -71,7 +71,7 @@ module _ {K : Type 0} (table : Table K) (lines line : ℕ) (opened : Place) {S :
         how = e.how;
         kept = trim table all;
         rest = t.0;
-        told_are = e.told_are ∙ ap (λ n. map (note_event line opened) e.mids ++ Notes line (note.Ended e.how n) ∷ [])
+        emitted_are = e.emitted_are ∙ ap (λ n. map (note_event line opened) e.mids ++ Notes line (note.Ended e.how n) ∷ [])
             (ap (λ ks. g.count (ks ++ all)) none ∙ counts all (prefix_fits all (trim table all) t.0 (size (codes_of prefix)) t.1 e.few fits));
         silent = e.silent;
         kept_is = t.1;
@@ -104,7 +104,7 @@ module _ (lines macros : ℕ) (opened : Place) where
 
   nabc_part : (line : ℕ) (xs : List Char) → snippet_from lines macros (suc line) opened xs ≡ InNotes (suc line) opened (lists nabc_grammar [] xs)
   nabc_part line xs =
-      ap (λ b. InNotes (suc line) opened (if b then note_events split macros xs else nabc_told xs)) (not_zero line)
+      ap (λ b. InNotes (suc line) opened (if b then note_events split macros xs else nabc_emitted xs)) (not_zero line)
       ∙ ap (InNotes (suc line) opened) (events_lists [] xs)
 
   -- a snippet that ends at a mark

@@ -104,23 +104,23 @@ Marks lines line opened how Opens = ⊥
 Marks lines line opened how (Next l o) = (how ≡ note_end.Next) × (l ≡ next_line lines line) × (o ≡ opened)
 Marks lines line opened how Closes = how ≡ note_end.Close
 
--- what a snippet tells through its end: before the end what is kept, then the end
+-- what a snippet emits through its end: before the end what is kept, then the end
 pub record EndEmitted {S : Type 0} (g : Grammar S) (lines line : ℕ) (opened : Place) (s : S) (prefix : List Char) (end : Char) (mark : Mark) (events : List BodyEvent) : Type 0 where
   pub mids : List NoteEvent
   pub how : NoteEnd
-  pub told_are : events ≡ map (note_event line opened) mids ++ Notes line (note.Ended how (g.count (g.kept s ++ kept_of mids))) ∷ []
+  pub emitted_are : events ≡ map (note_event line opened) mids ++ Notes line (note.Ended how (g.count (g.kept s ++ kept_of mids))) ∷ []
   pub silent : ends_of mids ≡ []
   pub few : size (kept_of mids) ≤ size (codes_of prefix)
   pub marks : Marks lines line opened how mark
   pub kept_is : g.kept s ++ kept_of mids ≡ g.kept (run g s prefix)
   pub is_mark : IsMark end.c how
 
--- what a snippet tells that the end of the input cuts
+-- what a snippet emits that the end of the input cuts
 pub record CutEmitted (line : ℕ) (opened : Place) (events : List BodyEvent) : Type 0 where
   pub mids : List NoteEvent
   pub place : Place
   pub count : ℕ
-  pub told_are : events ≡ map (note_event line opened) mids ++ Notes line (note.Ended (note_end.Cut place) count) ∷ []
+  pub emitted_are : events ≡ map (note_event line opened) mids ++ Notes line (note.Ended (note_end.Cut place) count) ∷ []
   pub silent : ends_of mids ≡ []
 
 module _ (lines line : ℕ) (opened : Place) where
@@ -204,7 +204,7 @@ module _ (lines line : ℕ) (opened : Place) where
     ended_here s end rest mark h (inr st) = record {
       mids = st.mids;
       how = st.how;
-      told_are = append-nil (map (note_event line opened) (g.emitted_at s end)) ∙ stop_emitted (g.count (g.kept s)) end.c (g.emitted_at s end) st
+      emitted_are = append-nil (map (note_event line opened) (g.emitted_at s end)) ∙ stop_emitted (g.count (g.kept s)) end.c (g.emitted_at s end) st
           ∙ ap (λ ks. map (note_event line opened) st.mids ++ Notes line (note.Ended st.how (g.count ks)) ∷ []) (sym (append-nil (g.kept s)) ∙ ap (λ ks. g.kept s ++ ks) (sym st.none));
       silent = st.silent;
       few = few_none st.mids st.none;
@@ -223,7 +223,7 @@ module _ (lines line : ℕ) (opened : Place) where
     ended_on s x prefix end rest mark h (inl go) later = let on = later go.runs in record {
       mids = g.emitted_at s x ++ on.mids;
       how = on.how;
-      told_are = events_on s x on.mids (concat_of (events_through (part_at (g.next s x) (prefix ++ end ∷ rest)) prefix)) (Notes line (note.Ended on.how (g.count (g.kept (g.next s x) ++ kept_of on.mids)))) on.told_are
+      emitted_are = events_on s x on.mids (concat_of (events_through (part_at (g.next s x) (prefix ++ end ∷ rest)) prefix)) (Notes line (note.Ended on.how (g.count (g.kept (g.next s x) ++ kept_of on.mids)))) on.emitted_are
           ∙ ap (λ ks. map (note_event line opened) (g.emitted_at s x ++ on.mids) ++ Notes line (note.Ended on.how (g.count ks)) ∷ []) (kept_on s x on.mids go.kept_is);
       silent = ends_append (g.emitted_at s x) on.mids go.silent ∙ on.silent;
       few = few_on s x on.mids prefix go.few on.few;
@@ -245,7 +245,7 @@ module _ (lines line : ℕ) (opened : Place) where
       mids = [];
       place = if c.place.line == 0 then opened else c.place;
       count = c.count;
-      told_are = ap (λ emitted. map (note_event line opened) emitted ++ []) c.events_are;
+      emitted_are = ap (λ emitted. map (note_event line opened) emitted ++ []) c.events_are;
       silent = refl;
     }
 
@@ -257,7 +257,7 @@ module _ (lines line : ℕ) (opened : Place) where
       mids = g.emitted_at s x ++ on.mids;
       place = on.place;
       count = on.count;
-      told_are = events_on s x on.mids (concat_of (events_through (part_at (g.next s x) last) last)) (Notes line (note.Ended (note_end.Cut on.place) on.count)) on.told_are;
+      emitted_are = events_on s x on.mids (concat_of (events_through (part_at (g.next s x) last) last)) (Notes line (note.Ended (note_end.Cut on.place) on.count)) on.emitted_are;
       silent = ends_append (g.emitted_at s x) on.mids go.silent ∙ on.silent;
     }
     cut_on s x last h (inr st) later = absurd (no_stop s x h st)

@@ -140,12 +140,12 @@ pieces_within n [] = 0
 pieces_within n (p ∷ pieces) =
     if nat_lt (length p.characters) n then mark_count p.mark + pieces_within (n - suc (length p.characters)) pieces else 0
 
--- what a snippet tells through its end closes a unit as its mark does
+-- what a snippet emits through its end closes a unit as its mark does
 line_count : (lines line : ℕ) (opened : Place) (prefix : List Char) (end : Char) (mark : Mark) (events : List BodyEvent) → LineEmitted lines line opened prefix end mark events → close_count events ≡ mark_count mark
 line_count lines line opened prefix end mark events l =
     let mids = map (note_event line opened) l.mids in
     let last = Notes line (note.Ended l.how (size l.kept)) in
-    let all : close_count events ≡ close_count mids + close_count (last ∷ []) = ap close_count l.told_are ∙ count_append mids (last ∷ []) in
+    let all : close_count events ≡ close_count mids + close_count (last ∷ []) = ap close_count l.emitted_are ∙ count_append mids (last ∷ []) in
     let silent : close_count mids ≡ 0 = silent_count line opened l.mids l.silent in
     let one : close_count (last ∷ []) ≡ close_of last + close_count [] = count_one last [] in
     let ends : close_of last ≡ mark_count mark = by mark l.marks in

@@ -198,7 +198,7 @@ module _ (fresh_is : (at : Place) (t : List ℕ) → CountsFit at t → events_l
   abbrev pub end_events : List (List BodyEvent)
   end_events = (Text (text_out.Ended text_end.Finished) ∷ []) ∷ []
 
-  -- these parts, before nothing, are cut as those parts are before what follows them, and tell the same and the end
+  -- these parts, before nothing, are cut as those parts are before what follows them, and emit the same and the end
   pub record FrontOf (part other : PartAhead) (pieces others : List CutPart) (last : List Char) : Type 0 where
     pub cuts : Cuts texts_by_definition lines macros other others []
     pub events : events_of_cutting texts_by_definition lines macros other others [] ≡ take (length (whole others [])) (events_of_cutting texts_by_definition lines macros part pieces last) ++ end_events

@@ -100,7 +100,7 @@ none_before_stop : (limits : Limits) (head : ℕ) (xs : List Char) (lists : List
 none_before_stop limits head xs lists n (inl h) i few = h.0.none i (omega (arith, h.1))
 none_before_stop limits head xs lists n (inr h) i few = h.0.none_earlier i (omega (arith, h.1))
 
-module _ (ends : (at : Place) (t : List ℕ) → EndsOnce at t) (tells : (at : Place) (t : List ℕ) → with_events empty_text (concat_of (events_by_point at t)) ≡ text_built_at at t)
+module _ (ends : (at : Place) (t : List ℕ) → EndsOnce at t) (emits : (at : Place) (t : List ℕ) → with_events empty_text (concat_of (events_by_point at t)) ≡ text_built_at at t)
     (spans : (t : List ℕ) → StandsForView (kept t) (view_in t) t) (in_order : (at : Place) (t : List ℕ) → concat_of (events_by_point at t) ≡ events_of at t)
     (fresh_is : (at : Place) (t : List ℕ) → CountsFit at t → events_left (fresh_stage at) t ≡ events_by_point at t)
     (so_far : (s : TextStage) (t u v : List ℕ) → take (length t) (events_left s (t ++ u)) ≡ take (length t) (events_left s (t ++ v)))
@@ -127,8 +127,8 @@ module _ (ends : (at : Place) (t : List ℕ) → EndsOnce at t) (tells : (at : P
       let head = bytes_len (canonical_heads heads.book) in
       let xs = body_characters t in
       let lists = body_events lines macros xs in
-      let fits = behind_short ends tells spans limits ending t short in
-      let w = prefix_is ends tells spans in_order fresh_is so_far notes_so_far nabc_so_far lines macros xs cut n h (body_small t short) fits in
+      let fits = behind_short ends emits spans limits ending t short in
+      let w = prefix_is ends emits spans in_order fresh_is so_far notes_so_far nabc_so_far lines macros xs cut n h (body_small t short) fits in
       let p = stop_reached limits head xs lists n s in
       let len = same_len limits t (codes_of through) heads ok in
       let o = same_book limits t (codes_of through) heads ok in
@@ -144,11 +144,11 @@ module _ (ends : (at : Place) (t : List ℕ) → EndsOnce at t) (tells : (at : P
       body_of limits (bytes_len (canonical_heads b)) o.0.findings (place_after again) Whole ys (body_events (nabc_lines_of b) (macros_of b) ys) in
       let read : body o.0.book (body_characters again) ≡ body heads.book through = ap (λ b. body b (body_characters again)) o.2 ∙ ap (body heads.book) characters in
       let other : score_of limits Whole again ≡ with_body o.0 (body o.0.book (body_characters again)) = ap (score_by limits Whole again) o.1 in
-      let f = prefix_read ends tells spans in_order fresh_is so_far notes_so_far nabc_so_far lines macros limits head o.0.findings (place_after again) xs through n (whole_count n cut) w p.0 (none_before_stop limits head xs lists n s) in
-      let g = point_emits ends tells spans in_order lines macros xs cut n h fits p.0 in
+      let f = prefix_read ends emits spans in_order fresh_is so_far notes_so_far nabc_so_far lines macros limits head o.0.findings (place_after again) xs through n (whole_count n cut) w p.0 (none_before_stop limits head xs lists n s) in
+      let g = point_emits ends emits spans in_order lines macros xs cut n h fits p.0 in
       let us = units_within (n - length cut.comment) cut.units in
       let count : length (all_syllables (events_in_points [] lists n)) ≡ whole_count n cut = ap length g.1.0 ∙ as_many lines false false us g.0 g.1.1 ∙ within_count (n - length cut.comment) cut.units in
-      let made = prefix_count ends tells spans in_order fresh_is so_far notes_so_far nabc_so_far lines macros (whole_count n cut) xs through n w p.0 count in
+      let made = prefix_count ends emits spans in_order fresh_is so_far notes_so_far nabc_so_far lines macros (whole_count n cut) xs through n w p.0 count in
       let r = events_to_stop limits head [] xs lists in
       let first = stopped_read limits head heads.findings (place_after t) ending r.before r.last r.fault stopped ∙ ap (λ a. with_positions (all_syllables a)) p.1 in (
         ap (λ (x : Score). x.book) other ∙ ap (λ b. Some b) o.2,

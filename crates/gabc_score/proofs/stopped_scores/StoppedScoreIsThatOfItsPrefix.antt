@@ -40,7 +40,7 @@ use Rattle.gabc_score.proofs.order.FindingsOfParts.{joined_append}
 use Rattle.gabc_score.proofs.building.EventsOfOnePoint.{made_before}
 use Rattle.gabc_score.proofs.building.StopIsFirst.{stop_is_first}
 use Rattle.gabc_score.proofs.building.OneListEachCharacter.{events_each}
-use Rattle.gabc_score.proofs.units.BodyHasOneCutting.{body_tells}
+use Rattle.gabc_score.proofs.units.BodyHasOneCutting.{body_emits_all}
 use Rattle.gabc_score.proofs.stopped_scores.NothingIsKeptAtTheEnd.{none_at_first}
 use Rattle.gabc_score.proofs.holding.SyllablesHoldParts.{nothing_of, fits_back, fits_prefix}
 use Rattle.gabc_score.proofs.syllables_of_units.UnitsGiveSyllables.{units_whole, units_give}
@@ -131,7 +131,7 @@ prefix_of_prefix i n xs ys h k =
     ∙ sym (take-append-le i (take n xs) (drop n xs) few)
     ∙ ap (take i) (take-append-drop n xs)
 
-module _ (ends : (at : Place) (t : List ℕ) → EndsOnce at t) (tells : (at : Place) (t : List ℕ) → with_events empty_text (concat_of (events_by_point at t)) ≡ text_built_at at t)
+module _ (ends : (at : Place) (t : List ℕ) → EndsOnce at t) (emits : (at : Place) (t : List ℕ) → with_events empty_text (concat_of (events_by_point at t)) ≡ text_built_at at t)
     (spans : (t : List ℕ) → StandsForView (kept t) (view_in t) t) (in_order : (at : Place) (t : List ℕ) → concat_of (events_by_point at t) ≡ events_of at t)
     (fresh_is : (at : Place) (t : List ℕ) → CountsFit at t → events_left (fresh_stage at) t ≡ events_by_point at t)
     (so_far : (s : TextStage) (t u v : List ℕ) → take (length t) (events_left s (t ++ u)) ≡ take (length t) (events_left s (t ++ v)))
@@ -266,21 +266,21 @@ module _ (ends : (at : Place) (t : List ℕ) → EndsOnce at t) (tells : (at : P
       let lists = events_of_cutting texts_by_definition lines macros (text_from texts_by_definition a.at ys) pieces last in
       let end = (finished ∷ []) ∷ [] in
       let whole_cut : BodyCutting = record { comment = comment; units = Some u } in
-      let all_lists : events_here xs ≡ nothing ++ lists = body_tells texts_by_definition lines macros xs whole_cut h ∙ ap (λ part. nothing ++ events_of_cutting texts_by_definition lines macros part pieces last) first_is in
+      let all_lists : events_here xs ≡ nothing ++ lists = body_emits_all texts_by_definition lines macros xs whole_cut h ∙ ap (λ part. nothing ++ events_of_cutting texts_by_definition lines macros part pieces last) first_is in
       let counts : length prefix ≡ length nothing + length zs = omega (arith, length-map comment nothing_of) in
       let taken : take (length prefix) (events_here xs) ≡ nothing ++ take (length zs) lists =
       ap (take (length prefix)) all_lists ∙ ap (λ i. take i (nothing ++ lists)) counts ∙ take-append-add nothing lists (length zs) in
       let events : events_here prefix ≡ take (length prefix) (events_here xs) ++ end =
-      body_tells texts_by_definition lines macros prefix cut is_cut
+      body_emits_all texts_by_definition lines macros prefix cut is_cut
       ∙ ap (λ part. nothing ++ events_of_cutting texts_by_definition lines macros part fronts []) a.some
       ∙ ap (λ ls. nothing ++ ls) f.events
       ∙ sym (append_assoc nothing (take (length zs) lists) end)
       ∙ ap (λ ls. ls ++ end) (sym taken) in
       let fits_zs : size (codes_of zs) < 2 ^ 63 = fits_prefix zs tail (subst (λ cs. size (codes_of cs) < 2 ^ 63) split fits_ys) in
-      let g = units_give ends tells spans in_order lines macros us (JustText []) a.at [] refl fits_zs f.cuts in
+      let g = units_give ends emits spans in_order lines macros us (JustText []) a.at [] refl fits_zs f.cuts in
       let r = events_in_points [] (events_here xs) (length prefix) in
       let by_units : events_onto (concat_of (events_here prefix)) [] ≡ finished ∷ g.mid =
-      body_all ends tells spans in_order lines macros prefix cut is_cut
+      body_all ends emits spans in_order lines macros prefix cut is_cut
       ∙ ap (λ part. events_onto (concat_of (events_of_cutting texts_by_definition lines macros part fronts [])) []) a.some ∙ g.events_are in
       let by_prefix : events_onto (concat_of (events_here prefix)) [] ≡ finished ∷ r =
       ap (λ ls. events_onto (concat_of ls) []) events

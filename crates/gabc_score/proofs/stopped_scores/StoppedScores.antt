@@ -37,7 +37,7 @@ use Rattle.gabc_score.proofs.order.FindingsOfParts.{joined_append}
 use Rattle.gabc_score.proofs.building.EventsOfOnePoint.{made_before, made_after}
 use Rattle.gabc_score.proofs.building.StopIsFirst.{stop_is_first}
 use Rattle.gabc_score.proofs.building.OneListEachCharacter.{events_each}
-use Rattle.gabc_score.proofs.units.BodyHasOneCutting.{body_tells}
+use Rattle.gabc_score.proofs.units.BodyHasOneCutting.{body_emits_all}
 use Rattle.gabc_score.proofs.holding.ScoreHoldsParts.{behind_short}
 use Rattle.gabc_score.proofs.holding.SyllablesHoldParts.{nothing_of, fits_back}
 use Rattle.gabc_score.proofs.syllables_of_units.UnitsGiveSyllables.{eu_behind, nlba_behind, AreMade, units_give, all_events}
@@ -94,7 +94,7 @@ take_comment (suc n) (x ∷ comment) lists = take_comment n comment lists ∙ ap
 
 -- ---- a body
 
-module _ (ends : (at : Place) (t : List ℕ) → EndsOnce at t) (tells : (at : Place) (t : List ℕ) → with_events empty_text (concat_of (events_by_point at t)) ≡ text_built_at at t)
+module _ (ends : (at : Place) (t : List ℕ) → EndsOnce at t) (emits : (at : Place) (t : List ℕ) → with_events empty_text (concat_of (events_by_point at t)) ≡ text_built_at at t)
     (spans : (t : List ℕ) → StandsForView (kept t) (view_in t) t) (in_order : (at : Place) (t : List ℕ) → concat_of (events_by_point at t) ≡ events_of at t) (lines macros : ℕ) where
   abbrev pub PointGives : List ScoreUnit → List BodyEvent → Type 0
   PointGives us before = (made : List UnplacedSyllable) × ((all_syllables before ≡ made) × AreMade lines false false us made)
@@ -128,7 +128,7 @@ module _ (ends : (at : Place) (t : List ℕ) → EndsOnce at t) (tells : (at : P
       let end = last_characters u.last in
       let part = text_from texts_by_definition at (whole pieces end) in
       let lists = events_of_cutting texts_by_definition lines macros part pieces end in
-      let g = units_give ends tells spans in_order lines macros u.closed u.last at [] refl fits h in
+      let g = units_give ends emits spans in_order lines macros u.closed u.last at [] refl fits h in
       let more = made_after (concat_of (events_of_cutting texts_by_definition lines macros (text_from texts_by_definition g.at (whole (last_pieces lines u.last) end)) (last_pieces lines u.last) end)) g.mid in
       let us = closed_units u.closed u.last in
       let count : close_count (concat_of (take n lists)) ≡ count_within n u.closed = pieces_count lines macros part pieces end tt fits h n few ∙ units_within_are lines u.closed u.last n in
@@ -142,7 +142,7 @@ module _ (ends : (at : Place) (t : List ℕ) → EndsOnce at t) (tells : (at : P
       let o = option_map (cutting_of lines) cut.units in
       let lists = events_of_parts texts_by_definition lines macros o in
       let here : concat_of (take n (body_events lines macros xs)) ≡ concat_of (take (n - length cut.comment) lists) =
-      ap (λ ls. concat_of (take n ls)) (body_tells texts_by_definition lines macros xs cut h) ∙ take_comment n cut.comment lists in
+      ap (λ ls. concat_of (take n ls)) (body_emits_all texts_by_definition lines macros xs cut h) ∙ take_comment n cut.comment lists in
       subst (λ ts. PointGives (units_within (n - length cut.comment) cut.units) (events_onto ts [])) (sym here) (by cut.units h)
     where
       none_at : (m : ℕ) → PointGives [] (events_onto (concat_of (take m (events_of_parts texts_by_definition lines macros None))) [])
@@ -175,7 +175,7 @@ stop_reached limits head xs lists n (inr h) =
     let all : length xs ≡ length s.prefix + suc (length s.rest) = ap length s.all ∙ length-append s.prefix (s.here ∷ s.rest) in
     (omega (arith, h.1), s.before ∙ ap (events_in_points [] lists) (sym h.1))
 
-module _ (ends : (at : Place) (t : List ℕ) → EndsOnce at t) (tells : (at : Place) (t : List ℕ) → with_events empty_text (concat_of (events_by_point at t)) ≡ text_built_at at t)
+module _ (ends : (at : Place) (t : List ℕ) → EndsOnce at t) (emits : (at : Place) (t : List ℕ) → with_events empty_text (concat_of (events_by_point at t)) ≡ text_built_at at t)
     (spans : (t : List ℕ) → StandsForView (kept t) (view_in t) t) (in_order : (at : Place) (t : List ℕ) → concat_of (events_by_point at t) ≡ events_of at t)
     (limits : Limits) (ending : InputEnding) (t : List ℕ) (book : List (List ℕ × List ℕ)) (cut : BodyCutting) (n : ℕ) (short : size t < 2 ^ 63) where
   stopped_by_heads : (r : Result Heads HeadFault) → (score_by limits ending t r).book ≡ Some book → IsBodyCut book t cut → StandBeforeBodyStop limits book t n
@@ -191,7 +191,7 @@ module _ (ends : (at : Place) (t : List ℕ) → EndsOnce at t) (tells : (at : P
       let r = events_to_stop limits head [] xs lists in
       let p = stop_reached limits head xs lists n (subst (λ c. StandBeforeBodyStop limits c t n) (sym same) s) in
       let us = units_within (n - length cut.comment) cut.units in
-      let g = point_emits ends tells spans in_order lines macros xs cut n (subst (λ c. IsBodyCut c t cut) (sym same) h) (behind_short ends tells spans limits ending t short) p.0 in
+      let g = point_emits ends emits spans in_order lines macros xs cut n (subst (λ c. IsBodyCut c t cut) (sym same) h) (behind_short ends emits spans limits ending t short) p.0 in
       subst (λ c. AreSyllablesOf (nabc_lines_of c) us (score_by limits ending t (Ok heads)).syllables) same
       (subst (AreSyllablesOf lines us) (sym (stopped_read limits head heads.findings (place_after t) ending r.before r.last r.fault k ∙ ap (λ a. with_positions (all_syllables a)) p.1 ∙ ap with_positions g.1.0))
       (placed_are lines us g.0 g.1.1))

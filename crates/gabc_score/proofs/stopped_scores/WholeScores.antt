@@ -61,7 +61,7 @@ module _ (limits : Limits) (head : ℕ) (found : List Finding) (at : Place) wher
 
 -- ---- the score
 
-module _ (ends : (at : Place) (t : List ℕ) → EndsOnce at t) (tells : (at : Place) (t : List ℕ) → with_events empty_text (concat_of (events_by_point at t)) ≡ text_built_at at t)
+module _ (ends : (at : Place) (t : List ℕ) → EndsOnce at t) (emits : (at : Place) (t : List ℕ) → with_events empty_text (concat_of (events_by_point at t)) ≡ text_built_at at t)
     (spans : (t : List ℕ) → StandsForView (kept t) (view_in t) t) (in_order : (at : Place) (t : List ℕ) → concat_of (events_by_point at t) ≡ events_of at t)
     (limits : Limits) (t : List ℕ) (book : List (List ℕ × List ℕ)) (cut : BodyCutting) (short : size t < 2 ^ 63) where
   by_heads : (r : Result Heads HeadFault) → (score_by limits Whole t r).book ≡ Some book → IsBodyCut book t cut → (score_by limits Whole t r).fault ≡ None
@@ -77,7 +77,7 @@ module _ (ends : (at : Place) (t : List ℕ) → EndsOnce at t) (tells : (at : P
       let r = events_to_stop limits head [] xs lists in
       let w = whole_read limits head heads.findings (place_after t) r.before r.last r.fault k in
       let all = (reached_prefix limits head [] xs lists).last w.goes_on in
-      let g = body_emits ends tells spans in_order lines macros xs cut (subst (λ c. IsBodyCut c t cut) (sym same) h) (behind_short ends tells spans limits Whole t short) (ap cut_of (sym all) ∙ w.none_cut) in
+      let g = body_emits ends emits spans in_order lines macros xs cut (subst (λ c. IsBodyCut c t cut) (sym same) h) (behind_short ends emits spans limits Whole t short) (ap cut_of (sym all) ∙ w.none_cut) in
       subst (λ c. AreSyllablesOf (nabc_lines_of c) (score_units cut.units) (score_by limits Whole t (Ok heads)).syllables) same
       (subst (AreSyllablesOf lines (score_units cut.units)) (sym (w.syllables_are ∙ ap (λ a. with_positions (all_units a)) all ∙ ap with_positions g.1.0)) (placed_are lines (score_units cut.units) g.0 g.1.1))
 

@@ -197,8 +197,8 @@ module _ (opening closing : List ℕ) where
       let after = events_onto (text_emitted (parts_events (parts_by bs k o))) ts in
       (kept_at_point after ≡ kept_at_point ts) × (open_at after ≡ behind_tags (open_at ts) (tags_of (piece_of bs k o)))
 
-  parts_tell : (bs : List Token) (k : Token) (ts : List BodyEvent) → kept_at_point ts ≡ encodes (kept_before (k ∷ bs)) → PartsStep bs k ts (events_onto (text_emitted (parts_events (parts_at bs k))) ts)
-  parts_tell bs k ts h = by (kind_of k) refl
+  parts_emit : (bs : List Token) (k : Token) (ts : List BodyEvent) → kept_at_point ts ≡ encodes (kept_before (k ∷ bs)) → PartsStep bs k ts (events_onto (text_emitted (parts_events (parts_at bs k))) ts)
+  parts_emit bs k ts h = by (kind_of k) refl
     where
       blank : (b : Bool) → tags_of (cond b (record { kind = piece.Blank; styles = open_styles bs; text = [] } ∷ []) []) ≡ []
       blank true = refl
@@ -250,8 +250,8 @@ module _ (opening closing : List ℕ) where
     kept : kept_at_point after ≡ encodes (kept_before (k ∷ bs))
     span : open_at after ≡ behind_tags (open_at before) (tags_of (pieces_at bs k))
 
-  token_told : (at : Place) (bs : List Token) (k : Token) (ts : List BodyEvent) → kept_at_point ts ≡ encodes (kept_before bs) → TokenStep bs k ts (events_onto (text_emitted (events_at at bs k)) ts)
-  token_told at bs k ts h =
+  token_emits : (at : Place) (bs : List Token) (k : Token) (ts : List BodyEvent) → kept_at_point ts ≡ encodes (kept_before bs) → TokenStep bs k ts (events_onto (text_emitted (events_at at bs k)) ts)
+  token_emits at bs k ts h =
       let early = early_events at bs k.kind in
       let chars = map (λ (c : Char). text.Kept c) (chars_at at bs k) in
       let parts = parts_events (parts_at bs k) in
@@ -266,7 +266,7 @@ module _ (opening closing : List ℕ) where
       let g = chars_keep (chars_at at bs k) a in
       let here : kept_at_point b ≡ encodes (kept_before (k ∷ bs)) =
       g.kept ∙ ap (λ ks. ks ++ encodes (codes_of (chars_at at bs k))) (f.kept ∙ h) ∙ ap (λ ks. encodes (kept_before bs) ++ encodes ks) (chars_kept at bs k) ∙ sym (encodes-append (kept_before bs) (kept_at bs k)) in
-      let p = parts_tell bs k b here in
+      let p = parts_emit bs k b here in
       let l = found_still at bs (late_codes bs k.kind (effect k)) c in
       record {
         kept = ap kept_at_point all ∙ l.kept ∙ p.kept ∙ here;
@@ -277,7 +277,7 @@ module _ (opening closing : List ℕ) where
       → open_at (events_onto (text_emitted (along (events_at at) bs ks)) ts) ≡ behind_tags (open_at ts) (tags_of (along pieces_at bs ks))
   tokens_emitted at bs [] ts h = refl
   tokens_emitted at bs (k ∷ ks) ts h =
-      let r = token_told at bs k ts h in
+      let r = token_emits at bs k ts h in
       ap open_at (events_append (events_at at bs k) (along (events_at at) (k ∷ bs) ks) ts)
       ∙ tokens_emitted at (k ∷ bs) ks (events_onto (text_emitted (events_at at bs k)) ts) r.kept
       ∙ ap (λ was. behind_tags was (tags_of (along pieces_at (k ∷ bs) ks))) r.span

@@ -23,7 +23,7 @@ use Rattle.gabc_score.proofs.texts_of_body.SeamsOfCharacters.{size}
 use Rattle.gabc_score.proofs.building.EventsOfSyllableParts.{Sum, sum_of, text_emitted}
 use Rattle.gabc_score.proofs.texts_of_body.TextEmitsThroughEnd.{text_endless, endless_emits}
 use Rattle.gabc_score.proofs.snippets_of_body.SnippetEmitsThroughEnd.{line_cut}
-use Rattle.gabc_score.proofs.units.BodyHasOneCutting.{body_tells}
+use Rattle.gabc_score.proofs.units.BodyHasOneCutting.{body_emits_all}
 use Rattle.gabc_score.proofs.units.UnitsEndAtMarks.{first_is}
 use Rattle.gabc_score.proofs.holding.SyllableHoldsPartByPart.{IsBack, last_text, last_text_sum, text_sum, cut_is}
 use Rattle.gabc_score.proofs.holding.SyllablesHoldParts.{nothing_of, comment_emits, fits_back}
@@ -164,7 +164,7 @@ module _ (lines : ℕ) where
 
 -- ---- a body
 
-module _ (ends : (at : Place) (t : List ℕ) → EndsOnce at t) (tells : (at : Place) (t : List ℕ) → with_events empty_text (concat_of (events_by_point at t)) ≡ text_built_at at t)
+module _ (ends : (at : Place) (t : List ℕ) → EndsOnce at t) (emits : (at : Place) (t : List ℕ) → with_events empty_text (concat_of (events_by_point at t)) ≡ text_built_at at t)
     (spans : (t : List ℕ) → StandsForView (kept t) (view_in t) t) (in_order : (at : Place) (t : List ℕ) → concat_of (events_by_point at t) ≡ events_of at t) (lines macros : ℕ) where
   -- notes that never end are cut
   notes_cut : (nexts : List EndedPart) (line : ℕ) (opened_at : Place) (xs : List Char) (before : List BodyEvent)
@@ -188,9 +188,9 @@ module _ (ends : (at : Place) (t : List ℕ) → EndsOnce at t) (tells : (at : P
       let t = codes_of xs in
       let events = concat_of (events_through (InText (texts_by_definition at xs)) xs) in
       let all = events_onto events before in
-      let e = text_endless ends tells lines at xs h in
+      let e = text_endless ends emits lines at xs h in
       let back : IsBack (codes_of xs) (codes_of xs) = ([], refl) in
-      let by_outputs : events ≡ text_emitted (events_of at t) = endless_emits ends tells lines at xs h ∙ ap text_emitted (in_order at t) in
+      let by_outputs : events ≡ text_emitted (events_of at t) = endless_emits ends emits lines at xs h ∙ ap text_emitted (in_order at t) in
       text_emits lines t before all (last_text t t e.0 events back (spans t) e.2 e.1 before since).1 (last_text_sum t e.0 events e.2 e.1 before since) (spans t)
       (ap (λ ts. is_eu (events_onto ts before)) by_outputs ∙ text_opens_span (codes "<eu>") (codes "</eu>") at t before since)
       (ap (λ ts. is_nlba (events_onto ts before)) by_outputs ∙ text_opens_span (codes "<nlba>") (codes "</nlba>") at t before since)
@@ -210,7 +210,7 @@ module _ (ends : (at : Place) (t : List ℕ) → EndsOnce at t) (tells : (at : P
       size (codes_of (whole pieces end)) < 2 ^ 63 → Cuts texts_by_definition lines macros part pieces end → cut_of (all_events lines macros part pieces end []) ≡ None
       → BodyGives (score_units (Some u)) (all_events lines macros part pieces end []))
   units_body u at fits h none =
-      let g = units_give ends tells spans in_order lines macros u.closed u.last at [] refl fits h in
+      let g = units_give ends emits spans in_order lines macros u.closed u.last at [] refl fits h in
       let l = last_emits u.last g.at g.mid g.step.since g.cuts (ap cut_of (sym g.events_are) ∙ none) in
       let us = closed_units u.closed u.last in (
         g.step.made ++ l.0,
@@ -226,9 +226,9 @@ module _ (ends : (at : Place) (t : List ℕ) → EndsOnce at t) (tells : (at : P
   body_all xs cut h =
       let o = option_map (cutting_of lines) cut.units in
       ap (λ ts. events_onto ts [])
-      (ap concat_of (body_tells texts_by_definition lines macros xs cut h)
+      (ap concat_of (body_emits_all texts_by_definition lines macros xs cut h)
       ∙ flat_map-append (λ (ts : List BodyEvent). ts) (map nothing_of cut.comment) (events_of_parts texts_by_definition lines macros o)
-      ∙ ap (λ ts. ts ++ concat_of (events_of_parts texts_by_definition lines macros o)) (comment_emits ends tells spans [] lines macros cut.comment))
+      ∙ ap (λ ts. ts ++ concat_of (events_of_parts texts_by_definition lines macros o)) (comment_emits ends emits spans [] lines macros cut.comment))
 
   pub body_emits : (xs : List Char) (cut : BodyCutting) → IsCut texts_by_definition lines macros xs cut → size (codes_of xs) < 2 ^ 63 → (let all = events_onto (concat_of (body_events lines macros xs)) [] in
       cut_of all ≡ None → BodyGives (score_units cut.units) all)

@@ -30,7 +30,7 @@ use Rattle.gabc_score.specs.Holding.{ReadSnippet, bracket_with}
 use Rattle.gabc_score.specs.SyllablesOfUnits.{with_ends, snippets_in, characters_in, last_in, characters_from, unit_characters, ScoreUnit, score_unit, closed_units, span_tags, tags_in, HoldsUnit}
 use Rattle.gabc_score.proofs.texts_of_body.SeamsOfCharacters.{size}
 use Rattle.gabc_score.proofs.building.EventsOfSyllableParts.{onto_append, text_emitted}
-use Rattle.gabc_score.proofs.texts_of_body.TextEmitsThroughEnd.{TextEmitted, codes_append, text_mark, text_ended, ended_tells}
+use Rattle.gabc_score.proofs.texts_of_body.TextEmitsThroughEnd.{TextEmitted, codes_append, text_mark, text_ended, ended_emits}
 use Rattle.gabc_score.proofs.snippets_of_body.SnippetsEndAlike.{IsMark}
 use Rattle.gabc_score.proofs.snippets_of_body.SnippetEmitsThroughEnd.{LineEmitted, line_emitted}
 use Rattle.gabc_score.proofs.holding.SyllableHoldsPartByPart.{IsBack, codes_in, SoFar, text_opens, text_opens_is, new, close_unit, next_far, next_far_is, next_made}
@@ -100,7 +100,7 @@ module _ (opening closing : List ℕ) where
   line_still : (lines line : ℕ) (opened_at : Place) (prefix : List Char) (end : Char) (mark : Mark) (events : List BodyEvent) (l : LineEmitted lines line opened_at prefix end mark events) (before : List BodyEvent)
       → is_open opening closing (events_onto events before) ≡ is_open opening closing before
   line_still lines line opened_at prefix end mark events l before =
-      ap (λ ts. is_open opening closing (events_onto ts before)) l.told_are
+      ap (λ ts. is_open opening closing (events_onto ts before)) l.emitted_are
       ∙ ap (is_open opening closing) (onto_append (map (note_event line opened_at) l.mids) (Notes line (note.Ended l.how (size l.kept)) ∷ []) before)
       ∙ notes_still line opened_at l.mids before
 
@@ -114,7 +114,7 @@ notes_uncut line opened_at (note.Ended how n ∷ os) before h = absurd (cc)
 line_uncut : (lines line : ℕ) (opened_at : Place) (prefix : List Char) (end : Char) (mark : Mark) (events : List BodyEvent) (l : LineEmitted lines line opened_at prefix end mark events) (before : List BodyEvent)
     → cut_of (events_onto events before) ≡ cut_of before
 line_uncut lines line opened_at prefix end mark events l before =
-    ap (λ ts. cut_of (events_onto ts before)) l.told_are
+    ap (λ ts. cut_of (events_onto ts before)) l.emitted_are
     ∙ ap cut_of (onto_append (map (note_event line opened_at) l.mids) (Notes line (note.Ended l.how (size l.kept)) ∷ []) before)
     ∙ by l.how l.is_mark
     ∙ notes_uncut line opened_at l.mids before l.silent
@@ -133,13 +133,13 @@ text_uncut (text_out.Ended how ∷ os) before h = absurd (cc)
 
 opened_uncut : (t : List ℕ) (events : List BodyEvent) (g : TextEmitted t text_end.Notes events) (before : List BodyEvent) → cut_of (events_onto events before) ≡ cut_of before
 opened_uncut t events g before =
-    ap (λ ts. cut_of (events_onto ts before)) g.told_are
+    ap (λ ts. cut_of (events_onto ts before)) g.emitted_are
     ∙ ap cut_of (onto_append (text_emitted g.mids) (Text (text_out.Ended text_end.Notes) ∷ []) before)
     ∙ text_uncut g.mids before g.silent
 
 -- ---- a unit
 
--- from `before` on, what is events gives one syllable, which holds the unit, and these tags
+-- from `before` on, what is emitted gives one syllable, which holds the unit, and these tags
 pub record UnitGives (lines : ℕ) (u : ScoreUnit) (tags : List (List ℕ)) (before after : List BodyEvent) : Type 0 where
   pub made : UnplacedSyllable
   pub made_is : all_syllables after ≡ all_syllables before ++ made ∷ []
@@ -199,7 +199,7 @@ module _ (lines macros : ℕ) where
 
 -- ---- the parts of units
 
-module _ (ends : (at : Place) (t : List ℕ) → EndsOnce at t) (tells : (at : Place) (t : List ℕ) → with_events empty_text (concat_of (events_by_point at t)) ≡ text_built_at at t)
+module _ (ends : (at : Place) (t : List ℕ) → EndsOnce at t) (emits : (at : Place) (t : List ℕ) → with_events empty_text (concat_of (events_by_point at t)) ≡ text_built_at at t)
     (spans : (t : List ℕ) → StandsForView (kept t) (view_in t) t) (in_order : (at : Place) (t : List ℕ) → concat_of (events_by_point at t) ≡ events_of at t) (lines macros : ℕ) where
   notes_give : (u : ScoreUnit) (o : Char) (text : List ℕ) (done nexts : List EndedPart) (final : EndedPart) (more : List CutPart) (last : List Char) (line : ℕ) (opened_at : Place) (before : List BodyEvent)
       → (let pieces = snippets_with lines line opened_at nexts (cut_part final Closes ∷ more) in let xs = whole pieces last in let part = snippet_from lines macros line opened_at xs in
@@ -299,7 +299,7 @@ module _ (ends : (at : Place) (t : List ℕ) → EndsOnce at t) (tells : (at : P
         → is_open opening closing (events_onto (concat_of (events_through part prefix)) before) ≡ behind_tags opening closing (is_open opening closing before) (span_tags (codes_of xs)))
     text_spans at prefix end rest mark before since h =
         let xs = prefix ++ end ∷ rest in
-        ap (λ ts. is_open opening closing (events_onto ts before)) (ended_tells ends tells lines at prefix end rest mark h ∙ ap text_emitted (in_order at (codes_of xs)))
+        ap (λ ts. is_open opening closing (events_onto ts before)) (ended_emits ends emits lines at prefix end rest mark h ∙ ap text_emitted (in_order at (codes_of xs)))
         ∙ text_opens_span opening closing at (codes_of xs) before since
 
   -- a unit
@@ -319,8 +319,8 @@ module _ (ends : (at : Place) (t : List ℕ) → EndsOnce at t) (tells : (at : P
       let after = events_onto events before in
       let v = score_unit u (whole more last) in
       let text_is : v.text ≡ codes_of xs = ap codes_of (sym (unit_whole lines u more last)) in
-      let e = text_ended ends tells lines at prefix end rest Opens h.0 in
-      let bracket = text_mark ends tells lines at prefix end rest Opens h.0 in
+      let e = text_ended ends emits lines at prefix end rest Opens h.0 in
+      let bracket = text_mark ends emits lines at prefix end rest Opens h.0 in
       let back : IsBack (codes_of xs) (codes_of xs) = ([], refl) in
       let o = text_opens (codes_of xs) lines prefix end rest events back bracket e.0 before since in
       let is = text_opens_is (codes_of xs) lines prefix end rest events back bracket e.0 before since in

@@ -86,13 +86,13 @@ module _ (step : (at : Place) (t : List ℕ) → CountsFit at t → events_left 
       InNotes line opened (other_lists lists))
       (same_texts (behind_mark at) (next_place at c) t (fits_behind at c t f))
 
-  pub same_told : (at : Place) (t : List ℕ) (part : PartAhead) → CountsFit at t
+  pub same_emitted : (at : Place) (t : List ℕ) (part : PartAhead) → CountsFit at t
       → events_from texts_by_stage lines macros part (placed_characters_from at t) ≡ events_from texts_by_definition lines macros part (placed_characters_from at t)
-  same_told at [] part f = refl
-  same_told at (c ∷ t) part f =
+  same_emitted at [] part f = refl
+  same_emitted at (c ∷ t) part f =
       let x : Char = record { c = c; place = at } in
       let xs = placed_characters_from (next_place at c) t in
       let here = part_at texts_by_definition part x xs in
       ap (λ (p : PartAhead). events_in p ∷ events_from texts_by_stage lines macros (part_behind texts_by_stage lines macros p x xs) xs) (same_standing at c t part f)
       ∙ ap (λ (p : PartAhead). events_in here ∷ events_from texts_by_stage lines macros p xs) (same_behind at c t here f)
-      ∙ ap (λ (lists : List (List BodyEvent)). events_in here ∷ lists) (same_told (next_place at c) t (part_behind texts_by_definition lines macros here x xs) (fits_next at c t f))
+      ∙ ap (λ (lists : List (List BodyEvent)). events_in here ∷ lists) (same_emitted (next_place at c) t (part_behind texts_by_definition lines macros here x xs) (fits_next at c t f))

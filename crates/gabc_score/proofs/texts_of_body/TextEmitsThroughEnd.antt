@@ -154,12 +154,12 @@ codes_append (x ∷ xs) ys = ap (λ cs. x.c ∷ cs) (codes_append xs ys)
 -- what a text emits through its end: what is emitted before the end gathers to its kept text and its view
 pub record TextEmitted (t : List ℕ) (how : TextEnd) (events : List BodyEvent) : Type 0 where
   pub mids : List TextEvent
-  pub told_are : events ≡ text_emitted mids ++ Text (text.Ended how) ∷ []
+  pub emitted_are : events ≡ text_emitted mids ++ Text (text.Ended how) ∷ []
   pub silent : ends_in mids ≡ []
   pub kept_is : (with_events empty_text mids).kept ≡ encodes (kept t)
   pub view_is : (with_events empty_text mids).view ≡ view_in t
 
-module _ (ends : (at : Place) (t : List ℕ) → EndsOnce at t) (tells : (at : Place) (t : List ℕ) → with_events empty_text (concat_of (events_by_point at t)) ≡ text_built_at at t) (lines : ℕ) (at : Place) where
+module _ (ends : (at : Place) (t : List ℕ) → EndsOnce at t) (emits : (at : Place) (t : List ℕ) → with_events empty_text (concat_of (events_by_point at t)) ≡ text_built_at at t) (lines : ℕ) (at : Place) where
   joined_all : (before : List (List TextEvent)) (last : List TextEvent) (how : TextEnd) (rest : List ℕ) → concat_of (all_lists lines before last how rest) ≡ (concat_of before ++ last) ++ text.Ended how ∷ []
   joined_all before last how rest =
       flat_map-append (λ (xs : List TextEvent). xs) before ((last ++ text.Ended how ∷ []) ∷ no_events_each rest)
@@ -169,7 +169,7 @@ module _ (ends : (at : Place) (t : List ℕ) → EndsOnce at t) (tells : (at : P
 
   gathered : (t : List ℕ) → (let e = ends at t in with_events empty_text ((concat_of e.before ++ e.last) ++ text.Ended e.how ∷ []) ≡ text_built_at at t)
   gathered t = let e = ends at t in
-      ap (with_events empty_text) (sym (joined_all e.before e.last e.how e.rest) ∙ ap concat_of (sym e.events_are)) ∙ tells at t
+      ap (with_events empty_text) (sym (joined_all e.before e.last e.how e.rest) ∙ ap concat_of (sym e.events_are)) ∙ emits at t
 
   with_end : (mids : List TextEvent) (how : TextEnd) → with_events empty_text (mids ++ text.Ended how ∷ []) ≡ with_event (with_events empty_text mids) (text.Ended how)
   with_end mids how = gathers_on empty_text mids (text.Ended how ∷ [])
@@ -177,7 +177,7 @@ module _ (ends : (at : Place) (t : List ℕ) → EndsOnce at t) (tells : (at : P
   text_emitted_by : (t : List ℕ) (events : List BodyEvent) → (let e = ends at t in events ≡ through lines e.before e.last e.how) → TextEmitted t (ends at t).how events
   text_emitted_by t events h = let e = ends at t in record {
     mids = concat_of e.before ++ e.last;
-    told_are = h;
+    emitted_are = h;
     silent = ends_append (concat_of e.before) e.last e.none_before ∙ e.none_in_last;
     kept_is = ap (λ (g : Gathered). g.kept) (sym (with_end (concat_of e.before ++ e.last) e.how) ∙ gathered t);
     view_is = ap (λ (g : Gathered). g.view) (sym (with_end (concat_of e.before ++ e.last) e.how) ∙ gathered t);
@@ -241,9 +241,9 @@ module _ (ends : (at : Place) (t : List ℕ) → EndsOnce at t) (tells : (at : P
       sym (map-append (λ (o : TextEvent). Text o) (concat_of e.before ++ e.last) (text.Ended e.how ∷ []))
       ∙ ap text_emitted (sym (joined_all e.before e.last e.how e.rest) ∙ ap concat_of (sym e.events_are))
 
-  pub ended_tells : (prefix : List Char) (end : Char) (rest : List Char) (mark : Mark) → (let xs = prefix ++ end ∷ rest in
+  pub ended_emits : (prefix : List Char) (end : Char) (rest : List Char) (mark : Mark) → (let xs = prefix ++ end ∷ rest in
       EndsBehind lines (InText (texts_by_definition at xs)) prefix mark → concat_of (events_through (InText (texts_by_definition at xs)) prefix) ≡ text_emitted (concat_of (events_by_point at (codes_of xs))))
-  ended_tells prefix end rest mark h =
+  ended_emits prefix end rest mark h =
       let xs = prefix ++ end ∷ rest in
       let e = ends at (codes_of xs) in
       ap (λ ls. concat_of (events_through (InText ls) prefix)) e.events_are

@@ -149,7 +149,7 @@ module _ (texts : Texts) (lines macros : ℕ) where
   body_is_cut [] = (refl, tt)
   body_is_cut (x ∷ xs) = body_is_by x xs (x.c == 10) refl (body_cut xs) (body_is_cut xs)
 
--- ---- what the parts tell
+-- ---- what the parts emit
 
 abbrev IsPastComment : PartAhead → Type 0
 IsPastComment InComment = ⊥
@@ -161,10 +161,10 @@ onward_read InComment h = h
 onward_read (InText lists) h = tt
 onward_read (InNotes line opened lists) h = tt
 
-end_told : (part : PartAhead) → IsPastComment part → events_at_end part ≡ events_in part
-end_told InComment h = elim h [ ]
-end_told (InText lists) h = refl
-end_told (InNotes line opened lists) h = refl
+end_emitted : (part : PartAhead) → IsPastComment part → events_at_end part ≡ events_in part
+end_emitted InComment h = elim h [ ]
+end_emitted (InText lists) h = refl
+end_emitted (InNotes line opened lists) h = refl
 
 module _ (texts : Texts) (lines macros : ℕ) where
   follows_read : (mark : Mark) (x : Char) (xs : List Char) → IsPastComment (part_following texts lines macros mark x xs)
@@ -176,37 +176,37 @@ module _ (texts : Texts) (lines macros : ℕ) where
   behind_by None part x xs = part_onward part
   behind_by (Some mark) part x xs = part_following texts lines macros mark x xs
 
-  abbrev told_by : PartAhead → Char → List Char → Option Mark → List (List BodyEvent)
-  told_by part x xs o = events_in part ∷ events_from texts lines macros (behind_by o part x xs) xs
+  abbrev by_events : PartAhead → Char → List Char → Option Mark → List (List BodyEvent)
+  by_events part x xs o = events_in part ∷ events_from texts lines macros (behind_by o part x xs) xs
 
-  point_emitted : (part : PartAhead) → IsPastComment part → (x : Char) (xs : List Char) → events_from texts lines macros part (x ∷ xs) ≡ told_by part x xs (mark_in lines part)
+  point_emitted : (part : PartAhead) → IsPastComment part → (x : Char) (xs : List Char) → events_from texts lines macros part (x ∷ xs) ≡ by_events part x xs (mark_in lines part)
   point_emitted InComment h x xs = elim h [ ]
   point_emitted (InText lists) h x xs = by (list_any is_text_end (first_list lists))
     where
       by : (b : Bool) → events_in (InText lists) ∷ events_from texts lines macros (if b then snippet_from lines macros 0 x.place xs else InText (other_lists lists)) xs
-          ≡ told_by (InText lists) x xs (if b then Some Opens else None)
+          ≡ by_events (InText lists) x xs (if b then Some Opens else None)
       by true = refl
       by false = refl
   point_emitted (InNotes line opened lists) h x xs = by (list_any is_next (first_list lists)) (list_any is_close (first_list lists))
     where
       by : (b d : Bool) → events_in (InNotes line opened lists) ∷ events_from texts lines macros
           (if b then snippet_from lines macros (next_line lines line) opened xs else if d then text_from texts (behind_mark x.place) xs else InNotes line opened (other_lists lists)) xs
-          ≡ told_by (InNotes line opened lists) x xs (if b then Some (Next (next_line lines line) opened) else if d then Some Closes else None)
+          ≡ by_events (InNotes line opened lists) x xs (if b then Some (Next (next_line lines line) opened) else if d then Some Closes else None)
       by true d = refl
       by false true = refl
       by false false = refl
 
   endless_emitted : (part : PartAhead) (last : List Char) → IsPastComment part → Endless lines part last → events_from texts lines macros part last ≡ events_through part last
-  endless_emitted part [] k h = ap (λ ts. ts ∷ []) (end_told part k)
+  endless_emitted part [] k h = ap (λ ts. ts ∷ []) (end_emitted part k)
   endless_emitted part (x ∷ xs) k h =
-      point_emitted part k x xs ∙ ap (told_by part x xs) h.0
+      point_emitted part k x xs ∙ ap (by_events part x xs) h.0
       ∙ ap (λ ls. events_in part ∷ ls) (endless_emitted (part_onward part) xs (onward_read part k) h.1)
 
   ends_emitted : (part : PartAhead) (prefix : List Char) (mark : Mark) (end : Char) (rest : List Char) → IsPastComment part → EndsBehind lines part prefix mark
       → events_from texts lines macros part (prefix ++ end ∷ rest) ≡ events_through part prefix ++ events_from texts lines macros (part_following texts lines macros mark end rest) rest
-  ends_emitted part [] mark end rest k h = point_emitted part k end rest ∙ ap (told_by part end rest) h
+  ends_emitted part [] mark end rest k h = point_emitted part k end rest ∙ ap (by_events part end rest) h
   ends_emitted part (x ∷ prefix) mark end rest k h =
-      point_emitted part k x (prefix ++ end ∷ rest) ∙ ap (told_by part x (prefix ++ end ∷ rest)) h.0
+      point_emitted part k x (prefix ++ end ∷ rest) ∙ ap (by_events part x (prefix ++ end ∷ rest)) h.0
       ∙ ap (λ ls. events_in part ∷ ls) (ends_emitted (part_onward part) prefix mark end rest (onward_read part k) h.1)
 
   cuts_emitted : (part : PartAhead) (pieces : List CutPart) (last : List Char) → IsPastComment part → Cuts texts lines macros part pieces last
@@ -244,8 +244,8 @@ module _ (texts : Texts) (lines macros : ℕ) where
       ∙ ap (λ ls. map (λ (x : Char). []) comment ++ ls)
       (cuts_emitted (first_text texts (all_of d)) d.pieces d.last (first_read (all_of d) k.1.1.0) k.1.1.1)
 
-  pub body_tells : (xs : List Char) (c : BodyCutting) → IsCut texts lines macros xs c → events_from texts lines macros InComment xs ≡ events_of_body_cutting texts lines macros c
-  body_tells xs c h = body_emits_by xs c.comment (option_map (cutting_of lines) c.units) h
+  pub body_emits_all : (xs : List Char) (c : BodyCutting) → IsCut texts lines macros xs c → events_from texts lines macros InComment xs ≡ events_of_body_cutting texts lines macros c
+  body_emits_all xs c h = body_emits_by xs c.comment (option_map (cutting_of lines) c.units) h
 
 -- ---- units
 

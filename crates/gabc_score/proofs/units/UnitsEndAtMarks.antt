@@ -78,7 +78,7 @@ close_mark split c events (inr w) h = by w.how w.mark
     by note_end.Close m e = m
     by (note_end.Cut p) m e = elim m [ ]
 
--- each of the characters has a list that tells an end at most at its mark
+-- each of the characters has a list with an end at most at its mark
 abbrev Marked : Bool → List (List NoteEvent) → List Char → Type 0
 Marked split lists [] = Unit {0}
 Marked split [] (x ∷ xs) = ⊥

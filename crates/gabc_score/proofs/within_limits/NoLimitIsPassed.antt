@@ -59,11 +59,11 @@ lf_keeps at = refl
 lf_uncut : (at : Place) (before : List BodyEvent) → cut_of (events_onto (text_emitted (concat_of (events_by_point at (10 ∷ [])))) before) ≡ cut_of before
 lf_uncut at before = refl
 
-module _ (ends : (at : Place) (t : List ℕ) → EndsOnce at t) (tells : (at : Place) (t : List ℕ) → with_events empty_text (concat_of (events_by_point at t)) ≡ text_built_at at t)
+module _ (ends : (at : Place) (t : List ℕ) → EndsOnce at t) (emits : (at : Place) (t : List ℕ) → with_events empty_text (concat_of (events_by_point at t)) ≡ text_built_at at t)
     (spans : (t : List ℕ) → StandsForView (kept t) (view_in t) t) (in_order : (at : Place) (t : List ℕ) → concat_of (events_by_point at t) ≡ events_of at t) (lines macros : ℕ) where
   last_events : (at : Place) (last : List Char) → codes_of last ≡ 10 ∷ [] → Endless lines (InText (texts_by_definition at last)) last
       → concat_of (events_through (InText (texts_by_definition at last)) last) ≡ text_emitted (concat_of (events_by_point at (10 ∷ [])))
-  last_events at last e h = endless_emits ends tells lines at last h ∙ ap (λ t. text_emitted (concat_of (events_by_point at t))) e
+  last_events at last e h = endless_emits ends emits lines at last h ∙ ap (λ t. text_emitted (concat_of (events_by_point at t))) e
 
   -- ---- a body
 
@@ -80,8 +80,8 @@ module _ (ends : (at : Place) (t : List ℕ) → EndsOnce at t) (tells : (at : P
     units_read at fits h =
         let pieces = units_pieces lines units (JustText last) in
         let part = text_from texts_by_definition at (whole pieces last) in
-        let s = units_stay ends tells lines macros limit units (JustText last) at [] refl fits h tt few in
-        let g = units_give ends tells spans in_order lines macros units (JustText last) at [] refl fits h in
+        let s = units_stay ends emits lines macros limit units (JustText last) at [] refl fits h tt few in
+        let g = units_give ends emits spans in_order lines macros units (JustText last) at [] refl fits h in
         let none : all_kept (since_close s.mid) ≡ 0 = ap all_kept s.since in
         let lf_is : all_kept (text_emitted (concat_of (events_by_point s.at (10 ∷ [])))) ≡ 1 = lf_keeps s.at in
         let here : all_events lines macros part pieces last [] ≡ events_onto (text_emitted (concat_of (events_by_point s.at (10 ∷ [])))) s.mid =
@@ -96,7 +96,7 @@ module _ (ends : (at : Place) (t : List ℕ) → EndsOnce at t) (tells : (at : P
     body_read : (xs : List Char) (cut : BodyCutting) → IsCut texts_by_definition lines macros xs cut → cut.units ≡ Some u → size (codes_of xs) < 2 ^ 63
         → IsQuietRead limit (events_onto (concat_of (body_events lines macros xs)) [])
     body_read xs cut h e fits =
-        subst (IsQuietRead limit) (sym (body_all ends tells spans in_order lines macros xs cut h))
+        subst (IsQuietRead limit) (sym (body_all ends emits spans in_order lines macros xs cut h))
         (subst (λ o. IsQuietRead limit (events_onto (concat_of (events_of_parts texts_by_definition lines macros (option_map (cutting_of lines) o))) [])) (sym e)
         (by (subst (λ o. IsCutFrom texts_by_definition lines macros xs cut.comment (option_map (cutting_of lines) o)) e h)))
       where
@@ -133,7 +133,7 @@ module _ (ends : (at : Place) (t : List ℕ) → EndsOnce at t) (tells : (at : P
 
     pass_none : PassNone limits head (all_units all) (kept_of (since_close all))
     pass_none =
-        let g = body_emits ends tells spans in_order lines macros xs cut h fits q.uncut in
+        let g = body_emits ends emits spans in_order lines macros xs cut h fits q.uncut in
         by_within limits head (all_units all) (kept_of (since_close all)) (kept_within limits.syllable all q.stays) (units_kept limits.syllable all q.stays)
         (within (with_positions (all_units all)) (subst (λ ms. AreSyllablesOf lines (score_units cut.units) (with_positions ms)) (sym g.1.0) (placed_are lines (score_units cut.units) g.0 g.1.1)))
 
@@ -174,7 +174,7 @@ module _ (ends : (at : Place) (t : List ℕ) → EndsOnce at t) (tells : (at : P
 
 -- ---- the score
 
-module _ (ends : (at : Place) (t : List ℕ) → EndsOnce at t) (tells : (at : Place) (t : List ℕ) → with_events empty_text (concat_of (events_by_point at t)) ≡ text_built_at at t)
+module _ (ends : (at : Place) (t : List ℕ) → EndsOnce at t) (emits : (at : Place) (t : List ℕ) → with_events empty_text (concat_of (events_by_point at t)) ≡ text_built_at at t)
     (spans : (t : List ℕ) → StandsForView (kept t) (view_in t) t) (in_order : (at : Place) (t : List ℕ) → concat_of (events_by_point at t) ≡ events_of at t)
     (limits : Limits) (t : List ℕ) (book : List (List ℕ × List ℕ)) (cut : BodyCutting) (units : List BodyUnit) (last : List Char) (short : size t < 2 ^ 63) where
   by_heads : (r : Result Heads HeadFault) → (score_by limits Whole t r).book ≡ Some book → IsBodyCut book t cut → cut.units ≡ Some (record { closed = units; last = JustText last }) → codes_of last ≡ 10 ∷ []
@@ -188,10 +188,10 @@ module _ (ends : (at : Place) (t : List ℕ) → EndsOnce at t) (tells : (at : P
       let macros = macros_of heads.book in
       let xs = body_characters t in
       let k : IsCut texts_by_definition lines macros xs cut = subst (λ c. IsBodyCut c t cut) same h in
-      let fits = behind_short ends tells spans limits Whole t short in
+      let fits = behind_short ends emits spans limits Whole t short in
       let w = subst (λ c. (syllables : List PlacedSyllable) → AreSyllablesOf (nabc_lines_of c) (score_units cut.units) syllables → CanonicalWithin limits (bytes_len (canonical_heads c)) syllables) same within in
-      no_fault ends tells spans in_order lines macros limits (bytes_len (canonical_heads heads.book)) xs cut k fits w
-      (body_read ends tells spans in_order lines macros limits.syllable (omega (arith, limits.in_range.syllable_least)) units last lf few xs cut k e fits) heads.findings (place_after t)
+      no_fault ends emits spans in_order lines macros limits (bytes_len (canonical_heads heads.book)) xs cut k fits w
+      (body_read ends emits spans in_order lines macros limits.syllable (omega (arith, limits.in_range.syllable_least)) units last lf few xs cut k e fits) heads.findings (place_after t)
 
   pub no_limit_is_passed : (score_of limits Whole t).book ≡ Some book → IsBodyCut book t cut → cut.units ≡ Some (record { closed = units; last = JustText last }) → codes_of last ≡ 10 ∷ []
       → All (KeepsWithin limits.syllable) (closed_units units (JustText last))

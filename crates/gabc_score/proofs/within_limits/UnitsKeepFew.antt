@@ -58,7 +58,7 @@ end_keeps (text_end.Cut place) = omega arith
 -- a text keeps its kept text, and its `(` if it has one
 pub text_few : (t : List ℕ) (how : TextEnd) (events : List BodyEvent) → TextEmitted t how events → all_kept events ≤ size (kept t) + 1
 text_few t how events e =
-    let all : all_kept events ≡ all_kept (text_emitted e.mids) + all_kept (Text (text.Ended how) ∷ []) = ap all_kept e.told_are ∙ kept_append (text_emitted e.mids) (Text (text.Ended how) ∷ []) in
+    let all : all_kept events ≡ all_kept (text_emitted e.mids) + all_kept (Text (text.Ended how) ∷ []) = ap all_kept e.emitted_are ∙ kept_append (text_emitted e.mids) (Text (text.Ended how) ∷ []) in
     let mids : 0 + all_kept (text_emitted e.mids) ≡ length (with_events empty_text e.mids).kept = text_keeps e.mids empty_text e.silent in
     let kept_is : length (with_events empty_text e.mids).kept ≡ size (kept t) = ap length e.kept_is in
     let last : bytes_kept (Text (text.Ended how)) ≤ 1 = end_keeps how in
@@ -86,7 +86,7 @@ line_few : (lines line : ℕ) (opened : Place) (prefix : List Char) (end : Char)
     → all_kept events ≤ size (codes_of prefix) + 1
 line_few lines line opened prefix end mark events l =
     let last = Notes line (note.Ended l.how (size l.kept)) in
-    let all : all_kept events ≡ all_kept (map (note_event line opened) l.mids) + all_kept (last ∷ []) = ap all_kept l.told_are ∙ kept_append (map (note_event line opened) l.mids) (last ∷ []) in
+    let all : all_kept events ≡ all_kept (map (note_event line opened) l.mids) + all_kept (last ∷ []) = ap all_kept l.emitted_are ∙ kept_append (map (note_event line opened) l.mids) (last ∷ []) in
     let mids : all_kept (map (note_event line opened) l.mids) ≡ size (kept_in_notes l.mids) = notes_keep line opened l.mids l.silent in
     let one : bytes_kept last ≤ 1 = mark_keeps line (size l.kept) l.how in
     let few = l.few in
@@ -95,7 +95,7 @@ line_few lines line opened prefix end mark events l =
 -- behind a `)` nothing is kept
 closed_since : (lines line : ℕ) (opened : Place) (prefix : List Char) (end : Char) (events before : List BodyEvent) → LineEmitted lines line opened prefix end Closes events → since_close (events_onto events before) ≡ []
 closed_since lines line opened prefix end events before l =
-    ap (λ ts. since_close (events_onto ts before)) l.told_are
+    ap (λ ts. since_close (events_onto ts before)) l.emitted_are
     ∙ ap since_close (onto_append (map (note_event line opened) l.mids) (Notes line (note.Ended l.how (size l.kept)) ∷ []) before)
     ∙ ap (λ how. since_close (Notes line (note.Ended how (size l.kept)) ∷ events_onto (map (note_event line opened) l.mids) before)) l.marks
 
@@ -120,7 +120,7 @@ record StaysOn (lines macros limit : ℕ) (all : List BodyEvent) (more : List Cu
   events_are : all ≡ all_events lines macros (text_from texts_by_definition at (whole more last)) more last mid
   cuts : Cuts texts_by_definition lines macros (text_from texts_by_definition at (whole more last)) more last
 
-module _ (ends : (at : Place) (t : List ℕ) → EndsOnce at t) (tells : (at : Place) (t : List ℕ) → with_events empty_text (concat_of (events_by_point at t)) ≡ text_built_at at t) (lines macros limit : ℕ) where
+module _ (ends : (at : Place) (t : List ℕ) → EndsOnce at t) (emits : (at : Place) (t : List ℕ) → with_events empty_text (concat_of (events_by_point at t)) ≡ text_built_at at t) (lines macros limit : ℕ) where
   notes_stay : (nexts : List EndedPart) (final : EndedPart) (more : List CutPart) (last : List Char) (line : ℕ) (opened_at : Place) (before : List BodyEvent)
       → (let pieces = snippets_with lines line opened_at nexts (cut_part final Closes ∷ more) in let xs = whole pieces last in let part = snippet_from lines macros line opened_at xs in
       size (codes_of xs) < 2 ^ 63 → Cuts texts_by_definition lines macros part pieces last → StaysWithin limit before
@@ -175,7 +175,7 @@ module _ (ends : (at : Place) (t : List ℕ) → EndsOnce at t) (tells : (at : P
       let events = concat_of (events_through part prefix) in
       let v = score_unit u (whole more last) in
       let text_is : v.text ≡ codes_of xs = ap codes_of (sym (unit_whole lines u more last)) in
-      let e = text_ended ends tells lines at prefix end rest Opens h.0 in
+      let e = text_ended ends emits lines at prefix end rest Opens h.0 in
       let few_now : all_kept events ≤ size (kept (codes_of xs)) + 1 = text_few (codes_of xs) text_end.Notes events e.0 in
       let same : size (kept v.text) ≡ size (kept (codes_of xs)) = ap (λ t. size (kept t)) text_is in
       let notes_are : size (codes_of []) + 1 + size (codes_of (with_ends (snippets_in u))) ≤ size v.notes = size_with_end [] end (with_ends (snippets_in u)) in

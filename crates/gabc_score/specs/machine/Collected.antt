@@ -12,7 +12,7 @@ use Rattle.gabc_places.specs.BoundedList.{BoundedList}
 use Rattle.gabc_places.specs.StageLaw.{concat_of}
 use Rattle.gabc_score.specs.declared.ending.InputEnding.{InputEnding}
 use Rattle.gabc_score.specs.ScoreEvents.{ScoreOutput, findings_in, syllables_in, fault_in, ending_events}
-use Rattle.gabc_score.specs.ScoreStage.{ScoreStageState, Tells, left_of}
+use Rattle.gabc_score.specs.ScoreStage.{ScoreStageState, GivesOutputs, left_of}
 use Rattle.gabc_score.specs.Syllable.{PlacedSyllable}
 
 -- the first fault counts
@@ -41,7 +41,7 @@ module _ (first second : PlacedSyllable) where
 pub record EndsAs (before : ScoreStageState) (ending : InputEnding) (old new : BoundedList ScoreEvent) (first second : PlacedSyllable) : Type 0 where
   pub outputs : List ScoreOutput
   pub law : concat_of (left_of before (ending_events ending)) ≡ outputs
-  pub emitted : Tells outputs old new first second
+  pub emitted : GivesOutputs outputs old new first second
 
 -- these characters, and how they cease
 abbrev pub to_come : InputEnding → List Char → List HeadEvent

@@ -94,8 +94,8 @@ events_pieces (k ∷ before) = emitted_by before k (kind_of k) (events_pieces be
 abbrev view_at : List Token → ViewContent
 view_at before = record { word_start = starts_word before; pieces = events_pieces before; centre = None; translation = translation_of before }
 
-abbrev told_at : Place → List Token → BuiltText
-told_at at before = record { kept = encodes (kept_of before); view = view_at before; findings = so_far (findings_at at) before; end = ending.Finished }
+abbrev emitted_at : Place → List Token → BuiltText
+emitted_at at before = record { kept = encodes (kept_of before); view = view_at before; findings = so_far (findings_at at) before; end = ending.Finished }
 
 module _ (before : List Token) (k : Token) where
   abbrev parts_here : TokenKind → Option PieceKind → List TextPart
@@ -146,14 +146,14 @@ module _ (at : Place) where
   map_more p [] ys = refl
   map_more p (x ∷ xs) ys = ap (λ (zs : List Finding). found_at p x ∷ zs) (map_more p xs ys)
 
-  events_token : (before : List Token) (k : Token) → with_events (told_at at before) (events_at at before k) ≡ told_at at (k ∷ before)
+  events_token : (before : List Token) (k : Token) → with_events (emitted_at at before) (events_at at before k) ≡ emitted_at at (k ∷ before)
   events_token before k =
       let es = early_codes before k.kind in
       let cs = chars_at at before k in
       let ps = parts_at before k in
       let ls = late_codes before k.kind (effect k) in
-      events_append (told_at at before) (finding_events at before es) _
-      ∙ ap (λ (x : BuiltText). with_events x (map (λ (c : Char). out.Kept c) cs ++ (map (λ (p : TextPart). out.Part p) ps ++ finding_events at before ls))) (events_found at before (told_at at before) es)
+      events_append (emitted_at at before) (finding_events at before es) _
+      ∙ ap (λ (x : BuiltText). with_events x (map (λ (c : Char). out.Kept c) cs ++ (map (λ (p : TextPart). out.Part p) ps ++ finding_events at before ls))) (events_found at before (emitted_at at before) es)
       ∙ events_append _ (map (λ (c : Char). out.Kept c) cs) _
       ∙ ap (λ (x : BuiltText). with_events x (map (λ (p : TextPart). out.Part p) ps ++ finding_events at before ls)) (emitted_kept _ cs)
       ∙ events_append _ (map (λ (p : TextPart). out.Part p) ps) _
@@ -163,17 +163,17 @@ module _ (at : Place) where
       let fs : (so_far (findings_at at) before ++ map (found_at (place_of at before)) es) ++ map (found_at (place_of at before)) ls ≡ so_far (findings_at at) (k ∷ before) =
       append_assoc (so_far (findings_at at) before) _ _ ∙ ap (λ (x : List Finding). so_far (findings_at at) before ++ x) (sym (map_more (place_of at before) es ls)) in
       let vs : parts_after (view_at before) ps ≡ view_at (k ∷ before) = parts_give before k k.kind (effect k) in
-      ap (λ (x : List ℕ). told_by x (parts_after (view_at before) ps) ((so_far (findings_at at) before ++ map (found_at (place_of at before)) es) ++ map (found_at (place_of at before)) ls)) kt
-      ∙ ap (λ (x : ViewContent). told_by (encodes (kept_of (k ∷ before))) x ((so_far (findings_at at) before ++ map (found_at (place_of at before)) es) ++ map (found_at (place_of at before)) ls)) vs
-      ∙ ap (λ (x : List Finding). told_by (encodes (kept_of (k ∷ before))) (view_at (k ∷ before)) x) fs)
+      ap (λ (x : List ℕ). by_events x (parts_after (view_at before) ps) ((so_far (findings_at at) before ++ map (found_at (place_of at before)) es) ++ map (found_at (place_of at before)) ls)) kt
+      ∙ ap (λ (x : ViewContent). by_events (encodes (kept_of (k ∷ before))) x ((so_far (findings_at at) before ++ map (found_at (place_of at before)) es) ++ map (found_at (place_of at before)) ls)) vs
+      ∙ ap (λ (x : List Finding). by_events (encodes (kept_of (k ∷ before))) (view_at (k ∷ before)) x) fs)
     where
-      told_by : List ℕ → ViewContent → List Finding → BuiltText
-      told_by x v f = record { kept = x; view = v; findings = f; end = ending.Finished }
+      by_events : List ℕ → ViewContent → List Finding → BuiltText
+      by_events x v f = record { kept = x; view = v; findings = f; end = ending.Finished }
 
-  events_along : (ks before : List Token) → with_events (told_at at before) (along (events_at at) before ks) ≡ told_at at (onto ks before)
+  events_along : (ks before : List Token) → with_events (emitted_at at before) (along (events_at at) before ks) ≡ emitted_at at (onto ks before)
   events_along [] before = refl
   events_along (k ∷ ks) before =
-      events_append (told_at at before) (events_at at before k) (along (events_at at) (k ∷ before) ks)
+      events_append (emitted_at at before) (events_at at before k) (along (events_at at) (k ∷ before) ks)
       ∙ ap (λ (x : BuiltText). with_events x (along (events_at at) (k ∷ before) ks)) (events_token before k)
       ∙ events_along ks (k ∷ before)
 
@@ -306,21 +306,21 @@ module _ (at : Place) (t : List ℕ) where
       let bs = onto (tokens t) [] in
       events_append empty_text (along (events_at at) [] (tokens t)) (end_events at (reverse (tokens t)) (after_tokens t))
       ∙ ap (λ (x : BuiltText). with_events x (end_events at bs (after_tokens t))) (events_along at (tokens t) [])
-      ∙ events_append (told_at at bs) (map out.Found (findings_at_end at bs)) _
-      ∙ ap (λ (x : BuiltText). with_events x (map (λ (y : Span). out.Part (part.Centre y)) (option_list_of (centre_of bs)) ++ out.Ended (end_after at bs (after_tokens t)) ∷ [])) (events_findings (told_at at bs) (findings_at_end at bs))
+      ∙ events_append (emitted_at at bs) (map out.Found (findings_at_end at bs)) _
+      ∙ ap (λ (x : BuiltText). with_events x (map (λ (y : Span). out.Part (part.Centre y)) (option_list_of (centre_of bs)) ++ out.Ended (end_after at bs (after_tokens t)) ∷ [])) (events_findings (emitted_at at bs) (findings_at_end at bs))
       ∙ events_append _ (map (λ (y : Span). out.Part (part.Centre y)) (option_list_of (centre_of bs))) _
       ∙ ap (λ (x : BuiltText). with_events x (out.Ended (end_after at bs (after_tokens t)) ∷ [])) (events_centre _ (centre_of bs) refl)
       ∙ (let kt : kept_of bs ≡ kept t = kept_so bs ∙ along_onto kept_at (tokens t) [] in
       let fs : so_far (findings_at at) bs ≡ along (findings_at at) [] (tokens t) = along_onto (findings_at at) (tokens t) [] in
       let ps : events_pieces bs ≡ pieces_in t = sym (pieces_emitted bs) ∙ ap but_last_blank (along_onto all_pieces_at (tokens t) []) in
       let ce : centre_of bs ≡ centre_by (length (pieces_in t)) (begin_of bs) (end_of bs) = centre_emitted bs ∙ ap (λ (x : List Piece). centre_by (length x) (begin_of bs) (end_of bs)) ps in
-      ap (λ (x : List ℕ). told_by (encodes x) (events_pieces bs) (centre_of bs) (so_far (findings_at at) bs)) kt
-      ∙ ap (λ (x : List Piece). told_by (encodes (kept t)) x (centre_of bs) (so_far (findings_at at) bs)) ps
-      ∙ ap (λ (x : Option Span). told_by (encodes (kept t)) (pieces_in t) x (so_far (findings_at at) bs)) ce
-      ∙ ap (λ (x : List Finding). told_by (encodes (kept t)) (pieces_in t) (centre_by (length (pieces_in t)) (begin_of bs) (end_of bs)) x) fs)
+      ap (λ (x : List ℕ). by_events (encodes x) (events_pieces bs) (centre_of bs) (so_far (findings_at at) bs)) kt
+      ∙ ap (λ (x : List Piece). by_events (encodes (kept t)) x (centre_of bs) (so_far (findings_at at) bs)) ps
+      ∙ ap (λ (x : Option Span). by_events (encodes (kept t)) (pieces_in t) x (so_far (findings_at at) bs)) ce
+      ∙ ap (λ (x : List Finding). by_events (encodes (kept t)) (pieces_in t) (centre_by (length (pieces_in t)) (begin_of bs) (end_of bs)) x) fs)
     where
-      told_by : List ℕ → List Piece → Option Span → List Finding → BuiltText
-      told_by x p c f = record {
+      by_events : List ℕ → List Piece → Option Span → List Finding → BuiltText
+      by_events x p c f = record {
         kept = x;
         view = record { word_start = starts_word (onto (tokens t) []); pieces = p; centre = c; translation = translation_of (onto (tokens t) []) };
         findings = f ++ findings_at_end at (onto (tokens t) []);

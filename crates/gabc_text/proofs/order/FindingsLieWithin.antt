@@ -165,7 +165,7 @@ module _ (at : Place) where
       ∙ many_first (owed_events at before ++ early_events at before k.kind) (kept_lists_by at before k.kind (spelling k))
       ∙ many_base before k g.blank
 
-  -- ---- what a token tells
+  -- ---- what a token emits
 
   from_here : (before : List Token) → IsUpTo at (place_of at before)
   from_here before = up_past at (text_of before)

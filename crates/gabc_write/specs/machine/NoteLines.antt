@@ -25,8 +25,8 @@ line_of_next note [] = []
 line_of_next note (g ∷ glyphs) = if g.first == note then line_of_glyph g else []
 
 -- an item is the note with which the first of the glyphs begins
-abbrev pub tells_glyph : ItemKind → ℕ → List Glyph → Bool
-tells_glyph kind note glyphs = is_note kind && begins_at note glyphs
+abbrev pub begins_glyph : ItemKind → ℕ → List Glyph → Bool
+begins_glyph kind note glyphs = is_note kind && begins_at note glyphs
 
 -- the lines of an item at a place, with the glyphs that have not been written
 abbrev pub lines_at : List ℕ → ItemPlace → List Glyph → Item → List ℕ
@@ -49,4 +49,4 @@ place_after place i in_element with_glyph = record {
 
 -- the place behind an item with these glyphs
 abbrev pub place_behind : List ℕ → ItemPlace → List Glyph → Item → ItemPlace
-place_behind kept place glyphs i = place_after place i (is_in_element kept i) (tells_glyph i.kind place.notes glyphs)
+place_behind kept place glyphs i = place_after place i (is_in_element kept i) (begins_glyph i.kind place.notes glyphs)

@@ -14,7 +14,7 @@ use Rattle.gregorio.specs.declared.run_part.RunPart.{RunPart}
 use Rattle.gregorio.specs.declared.run_part.RunPart.TheVariants as part
 use Rattle.gregorio.specs.declared.source_bytes.SourceEnding.{SourceEnding}
 use Rattle.gregorio.specs.declared.source_bytes.SourceEnding.TheVariants.{Whole as Ended, Broken}
-use Rattle.gregorio.specs.Engine.{EngineState, Streams, Written, NothingWaits, behind_bytes, book_behind, given_left, has_errors, items_left, is_running, is_running_in, streams_given, streams_left, with_waiting}
+use Rattle.gregorio.specs.Engine.{EngineState, Streams, Written, NothingWaits, behind_bytes, book_behind, head_events_left, has_errors, items_left, is_running, is_running_in, streams_by_part, streams_left, with_waiting}
 use Rattle.gregorio.specs.Outcome.{is_whole, status_by}
 use Rattle.gregorio.specs.machine.RunWriter.{heads_room, syllable_room, line_room}
 use Rattle.gregorio.specs.machine.ScoreWriter.{ScoreWriterState, IsReserved, IsSteady}
@@ -79,7 +79,7 @@ takes_none s waits = λ bytes ending. sym (none_wait s waits (streams_left s end
 
 -- an engine that is over takes a piece, and nothing follows
 over_takes : (p : RunPart) (score : ScoreStageState) (w : Written) → is_running_in p ≡ false → (book other : List (List ℕ × List ℕ)) (from_heads more : List HeadEvent)
-    → streams_given p score w book from_heads ≡ streams_given p score w other more
+    → streams_by_part p score w book from_heads ≡ streams_by_part p score w other more
 over_takes part.Heads score w h book other from_heads more = absurd (cc h)
 over_takes part.Body score w h book other from_heads more = absurd (cc h)
 over_takes (part.Over status) score w h book other from_heads more = refl
@@ -88,7 +88,7 @@ pub stopped_takes : (s : EngineState) → is_running s ≡ false → NothingWait
 stopped_takes s stopped waits piece = λ bytes ending.
     let before = items_left s ending (piece ++ bytes) in
     let after = items_left s ending bytes in
-    over_takes s.part s.score s.written stopped (book_behind s.heads before) (book_behind s.heads after) (given_left s.heads ending before) (given_left s.heads ending after)
+    over_takes s.part s.score s.written stopped (book_behind s.heads before) (book_behind s.heads after) (head_events_left s.heads ending before) (head_events_left s.heads ending after)
     ∙ sym (none_wait s waits (streams_left s ending bytes))
 
 pub begun_by : (n : ℕ) (A : Type 0) → (0 < n) ⊎ A → (A → ⊥) → 0 < n
@@ -98,7 +98,7 @@ begun_by n A (inr a) none = absurd (none a)
 -- ---- an input that breaks off
 
 status_where : (score : ScoreStageState) (w : Written) (book : List (List ℕ × List ℕ)) (p : RunPart) → fault_in (concat_of (left_of score [])) ≡ None → has_end (concat_of (left_of score [])) ≡ false
-    → is_running_in p ≡ true → (streams_given p score w book []).status ≡ ReadFault
+    → is_running_in p ≡ true → (streams_by_part p score w book []).status ≡ ReadFault
 status_where score w book part.Heads stop end h = refl
 status_where score w book part.Body stop end h =
     let outputs = concat_of (left_of score []) in

@@ -18,7 +18,7 @@ use Rattle.gregorio.specs.declared.run_part.RunPart.{RunPart}
 use Rattle.gregorio.specs.declared.run_part.RunPart.TheVariants as part
 use Rattle.gregorio.specs.declared.source_bytes.SourceEnding.{SourceEnding}
 use Rattle.gregorio.specs.declared.source_bytes.SourceEnding.TheVariants.{Whole as Ended, Broken}
-use Rattle.gregorio.specs.Engine.{EngineState, NothingWaits, book_behind, given_left, streams_given, streams_in, streams_left, with_waiting}
+use Rattle.gregorio.specs.Engine.{EngineState, NothingWaits, book_behind, head_events_left, streams_by_part, streams_in, streams_left, with_waiting}
 use Rattle.gregorio.specs.Outcome.{is_whole}
 use Rattle.gregorio.specs.machine.RunWriter.{RunWriterState}
 use Rattle.gregorio.specs.machine.ScoreWriter.{ScoreWriterState, IsSteady, WritesNothing, streams_of}
@@ -41,10 +41,10 @@ nothing_is_given w at bytes score body a = record {
   limits = a.limits;
   writer = refl;
   law = λ book from_heads.
-      ap (λ (p : RunPart). streams_given p w.score w.writer.written book (body_inputs at bytes ++ from_heads)) body
+      ap (λ (p : RunPart). streams_by_part p w.score w.writer.written book (body_inputs at bytes ++ from_heads)) body
       ∙ (ap (λ (outputs : List ScoreOutput). streams_in w.writer.written [] true outputs)
       (ap (λ (lists : List (List ScoreOutput)). concat_of lists) (a.law from_heads) ∙ nothing_joined bytes (left_of score from_heads))
-      ∙ ap (λ (p : RunPart). streams_given p score w.writer.written book from_heads) (sym body));
+      ∙ ap (λ (p : RunPart). streams_by_part p score w.writer.written book from_heads) (sym body));
 }
 
 pub none_is_given : (w : ScoreWriterState) (at : Place) → WritesNothing w at [] w
@@ -68,12 +68,12 @@ items_skipped at (byte ∷ bytes) more rest Broken =
 
 -- ---- what a stage of headers passes on
 
-given_behind : (limits : Limits) (book : List (List ℕ × List ℕ)) (cs : List Char) (ending : SourceEnding) (more : List (Result Char Fault))
+inputs_behind : (limits : Limits) (book : List (List ℕ × List ℕ)) (cs : List Char) (ending : SourceEnding) (more : List (Result Char Fault))
     → (let h : HeaderStageState = record { limits = limits; progress = behind book; book = book } in
-    given_left h ending (map (λ (c : Char). Ok c) cs ++ more) ≡ map (λ (c : Char). head_event.Body c) cs ++ given_left h ending more)
-given_behind limits book [] ending more = refl
-given_behind limits book (c ∷ cs) Ended more = ap (λ (events : List HeadEvent). head_event.Body c ∷ events) (given_behind limits book cs Ended more)
-given_behind limits book (c ∷ cs) Broken more = ap (λ (events : List HeadEvent). head_event.Body c ∷ events) (given_behind limits book cs Broken more)
+    head_events_left h ending (map (λ (c : Char). Ok c) cs ++ more) ≡ map (λ (c : Char). head_event.Body c) cs ++ head_events_left h ending more)
+inputs_behind limits book [] ending more = refl
+inputs_behind limits book (c ∷ cs) Ended more = ap (λ (events : List HeadEvent). head_event.Body c ∷ events) (inputs_behind limits book cs Ended more)
+inputs_behind limits book (c ∷ cs) Broken more = ap (λ (events : List HeadEvent). head_event.Body c ∷ events) (inputs_behind limits book cs Broken more)
 
 -- ---- what both write
 
@@ -108,8 +108,8 @@ module _ (w new : ScoreWriterState) (at : Place) (bytes : List ℕ) (a : WritesN
       → streams_of_items h w ending (characters at bytes ++ more) ≡ streams_of_items h new ending more
   front_settled h settled ending more =
       let all = characters at bytes ++ more in
-      settled (book_behind h all) (book_behind h more) (given_left h ending all) (body_inputs at bytes ++ given_left h ending more)
-      ∙ a.law (book_behind h more) (given_left h ending more)
+      settled (book_behind h all) (book_behind h more) (head_events_left h ending all) (body_inputs at bytes ++ head_events_left h ending more)
+      ∙ a.law (book_behind h more) (head_events_left h ending more)
 
   front_behind : (limits : Limits) (book : List (List ℕ × List ℕ)) (ending : SourceEnding) (more : List (Result Char Fault))
       → (let h : HeaderStageState = record { limits = limits; progress = behind book; book = book } in
@@ -117,9 +117,9 @@ module _ (w new : ScoreWriterState) (at : Place) (bytes : List ℕ) (a : WritesN
   front_behind limits book ending more =
       let h : HeaderStageState = record { limits = limits; progress = behind book; book = book } in
       let all = characters at bytes ++ more in
-      ap (λ (b : List (List ℕ × List ℕ)). streams_of w b (given_left h ending all)) (past_behind limits book all ∙ sym (past_behind limits book more))
-      ∙ (ap (λ (from_heads : List HeadEvent). streams_of w (book_behind h more) from_heads) (given_behind limits book (characters_at at bytes) ending more)
-      ∙ a.law (book_behind h more) (given_left h ending more))
+      ap (λ (b : List (List ℕ × List ℕ)). streams_of w b (head_events_left h ending all)) (past_behind limits book all ∙ sym (past_behind limits book more))
+      ∙ (ap (λ (from_heads : List HeadEvent). streams_of w (book_behind h more) from_heads) (inputs_behind limits book (characters_at at bytes) ending more)
+      ∙ a.law (book_behind h more) (head_events_left h ending more))
 
   front_in_body : (limits : Limits) (progress : HeadProgress) (book : List (List ℕ × List ℕ)) (ending : SourceEnding) (more : List (Result Char Fault)) → IsBehind progress
       → (let h : HeaderStageState = record { limits = limits; progress = progress; book = book } in
@@ -141,7 +141,7 @@ module _ (w new : ScoreWriterState) (at : Place) (bytes : List ℕ) (a : WritesN
 
 pub items_of_a_front : (w new : ScoreWriterState) (at : Place) (bytes : List ℕ) → WritesNothing w at bytes new → (h : HeaderStageState) → GoTogether h w
     → (ending : SourceEnding) (more : List (Result Char Fault)) → streams_of_items h w ending (characters at bytes ++ more) ≡ streams_of_items h new ending more
-items_of_a_front w new at [] a h together ending more = a.law (book_behind h more) (given_left h ending more)
+items_of_a_front w new at [] a h together ending more = a.law (book_behind h more) (head_events_left h ending more)
 items_of_a_front w new at (byte ∷ bytes) a h together ending more =
     front_of_items w new at (byte ∷ bytes) a h (a.body (omega arith)) together ending more
 

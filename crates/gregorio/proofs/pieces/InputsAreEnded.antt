@@ -16,7 +16,7 @@ use Rattle.gregorio.specs.declared.run_part.RunPart.{RunPart}
 use Rattle.gregorio.specs.declared.run_part.RunPart.TheVariants as part
 use Rattle.gregorio.specs.declared.source_bytes.SourceEnding.{SourceEnding}
 use Rattle.gregorio.specs.declared.source_bytes.SourceEnding.TheVariants.{Whole as Ended}
-use Rattle.gregorio.specs.Engine.{Streams, behind_bytes, book_behind, ended_with, given_left, is_running_in, streams_given}
+use Rattle.gregorio.specs.Engine.{Streams, behind_bytes, book_behind, ended_with, head_events_left, is_running_in, streams_by_part}
 use Rattle.gregorio.specs.Outcome.{is_whole}
 use Rattle.gregorio.specs.machine.ScoreWriter.{ScoreWriterState, FitsEvents, IsReserved, IsShortBook, WritesLast, streams_of}
 use Rattle.gregorio.specs.machine.Engine.{AreBooksAt, GoTogether, IsEmpty, IsSettled, WritesAll, WritesItems, streams_of_items}
@@ -57,10 +57,10 @@ pub over_is_last : (d : DecoderState) (h : HeaderStageState) (w : ScoreWriterSta
     → streams_of_items h w ending (emitted_by (is_whole ending) bytes (decoder.events_left d bytes)) ≡ ended_with status
 over_is_last d h w status over_now bytes ending =
     let items = emitted_by (is_whole ending) bytes (decoder.events_left d bytes) in
-    ap (λ (p : RunPart). streams_given p w.score w.writer.written (book_behind h items) (given_left h ending items)) over_now
+    ap (λ (p : RunPart). streams_by_part p w.score w.writer.written (book_behind h items) (head_events_left h ending items)) over_now
 
 settled_part : (p : RunPart) (w : ScoreWriterState) → is_running_in p ≡ false → (book other : List (List ℕ × List ℕ)) (from_heads more : List HeadEvent)
-    → streams_given p w.score w.writer.written book from_heads ≡ streams_given p w.score w.writer.written other more
+    → streams_by_part p w.score w.writer.written book from_heads ≡ streams_by_part p w.score w.writer.written other more
 settled_part part.Heads w h book other from_heads more = absurd (cc h)
 settled_part part.Body w h book other from_heads more = absurd (cc h)
 settled_part (part.Over status) w h book other from_heads more = refl

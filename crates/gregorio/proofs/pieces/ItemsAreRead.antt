@@ -10,14 +10,14 @@ use Rattle.gabc_headers.specs.declared.heads.HeadFault.{HeadFault}
 use Rattle.gabc_headers.specs.declared.head_event.HeadEvent.{HeadEvent}
 use Rattle.gabc_headers.specs.declared.head_event.HeadEvent.TheVariants as head_event
 use Rattle.gabc_headers.specs.Heads.{heads_of}
-use Rattle.gabc_headers.specs.HeadEvents.{HeaderStageState, HeadProgress, reading, behind, over, IsBehind, book_at, events_by, events_of_input, heads_told, new_findings, progress_after, progress_by, stage_after, stage_past}
+use Rattle.gabc_headers.specs.HeadEvents.{HeaderStageState, HeadProgress, reading, behind, over, IsBehind, book_at, events_by, events_of_input, event_of_book, new_findings, progress_after, progress_by, stage_after, stage_past}
 use Rattle.gabc_score.specs.ScoreStage.{ScoreStageState, left_of}
 use Rattle.gabc_score.specs.ScoreEvents.{ScoreOutput}
 use Rattle.gregorio.specs.declared.run_part.RunPart.{RunPart}
 use Rattle.gregorio.specs.declared.run_part.RunPart.TheVariants as part
 use Rattle.gregorio.specs.declared.source_bytes.SourceEnding.{SourceEnding}
 use Rattle.gregorio.specs.declared.source_bytes.SourceEnding.TheVariants.{Whole as Ended, Broken}
-use Rattle.gregorio.specs.Engine.{Streams, behind_bytes, book_behind, given_left, streams_given, streams_in}
+use Rattle.gregorio.specs.Engine.{Streams, behind_bytes, book_behind, head_events_left, streams_by_part, streams_in}
 use Rattle.gregorio.specs.machine.ScoreWriter.{ScoreWriterState, IsBookAt, IsShortBook, IsSteady, WritesAt, streams_of}
 use Rattle.gregorio.specs.machine.Engine.{AreBooksAt, GoTogether, HasMark, IsBodyPast, IsBookRead, IsSettled, WritesAll, WritesItems, event_of_item}
 use Rattle.gregorio.proofs.pieces.BytesAreJoined.{behind_same, extended_by_none}
@@ -25,7 +25,7 @@ use Rattle.gregorio.proofs.pieces.BytesAreJoined.{behind_same, extended_by_none}
 -- ---- the stage of headers
 
 given_next : (h : HeaderStageState) (ending : SourceEnding) (item : Result Char Fault) (items : List (Result Char Fault))
-    → given_left h ending (item ∷ items) ≡ events_of_input h.limits h.progress item ++ given_left (stage_after h item) ending items
+    → head_events_left h ending (item ∷ items) ≡ events_of_input h.limits h.progress item ++ head_events_left (stage_after h item) ending items
 given_next h Ended item items = refl
 given_next h Broken item items = refl
 
@@ -48,7 +48,7 @@ just_found_books (f ∷ fs) book read = (tt, just_found_books fs book read)
 
 books_by : (limits : Limits) (t : List ℕ) (old : List (List ℕ × List ℕ)) (found : List Finding) (r : Result Heads HeadFault) (items : List (Result Char Fault))
     → AreBooksAt (events_by found r) (stage_past (record { limits = limits; progress = progress_by t r; book = book_at (progress_by t r) old }) items).book (book_at (progress_by t r) old)
-books_by limits t old found (Ok heads) items = found_books found (heads_told heads.book ∷ []) _ heads.book (past_behind limits heads.book items, tt)
+books_by limits t old found (Ok heads) items = found_books found (event_of_book heads.book ∷ []) _ heads.book (past_behind limits heads.book items, tt)
 books_by limits t old found (Err stopped) items = by stopped.at_end
   where
     by : (at_end : Bool) → AreBooksAt (cond at_end (map (λ f. head_event.Found f) found) (head_event.Stop stopped.fault ∷ []))
@@ -75,7 +75,7 @@ items_by_heads h w new item a = record {
   messages = a.messages;
   law = λ ending more.
       ap (λ (from_heads : List HeadEvent). streams_of w (book_behind (stage_after h item) more) from_heads) (given_next h ending item more)
-      ∙ a.law (book_behind (stage_after h item) more) (given_left (stage_after h item) ending more) (books_are_kept h.limits h.progress h.book item more);
+      ∙ a.law (book_behind (stage_after h item) more) (head_events_left (stage_after h item) ending more) (books_are_kept h.limits h.progress h.book item more);
 }
 
 -- ---- what holds of it then
@@ -152,9 +152,9 @@ IsStopLast = (s : ScoreStageState) (fault : Fault) (from_heads : List HeadEvent)
 stop_in_body : IsStopLast → (w : ScoreWriterState) → w.part ≡ part.Body → (fault : Fault) (book other : List (List ℕ × List ℕ)) (from_heads more : List HeadEvent)
     → streams_of w book (head_event.Stop fault ∷ from_heads) ≡ streams_of w other (head_event.Stop fault ∷ more)
 stop_in_body last w body fault book other from_heads more =
-    ap (λ (p : RunPart). streams_given p w.score w.writer.written book (head_event.Stop fault ∷ from_heads)) body
+    ap (λ (p : RunPart). streams_by_part p w.score w.writer.written book (head_event.Stop fault ∷ from_heads)) body
     ∙ (ap (λ (outputs : List ScoreOutput). streams_in w.writer.written [] true outputs) (last w.score fault from_heads ∙ sym (last w.score fault more))
-    ∙ ap (λ (p : RunPart). streams_given p w.score w.writer.written other (head_event.Stop fault ∷ more)) (sym body))
+    ∙ ap (λ (p : RunPart). streams_by_part p w.score w.writer.written other (head_event.Stop fault ∷ more)) (sym body))
 
 -- an item of the body has no book
 no_book : (item : Result Char Fault) (book read : List (List ℕ × List ℕ)) → IsBookAt (event_of_item item) book read
@@ -183,9 +183,9 @@ module _ (w new : ScoreWriterState) (item : Result Char Fault) (a : WritesAt w (
           out = a.out;
           messages = a.messages;
           law = λ ending more.
-              settled (book_behind h (item ∷ more)) [] (given_left h ending (item ∷ more)) (event_of_item item ∷ [])
+              settled (book_behind h (item ∷ more)) [] (head_events_left h ending (item ∷ more)) (event_of_item item ∷ [])
               ∙ (a.law [] [] (no_book item [] [])
-              ∙ ap (λ (s : Streams). behind_bytes a.output a.lines s) (after [] (book_behind h more) [] (given_left h ending more)));
+              ∙ ap (λ (s : Streams). behind_bytes a.output a.lines s) (after [] (book_behind h more) [] (head_events_left h ending more)));
         };
         together = record { limits = together.limits ∙ sym steady.limits; body = λ e. inr after; book = together.book; short = together.short };
       }
@@ -201,7 +201,7 @@ character_read limits book w new c a =
       messages = a.messages;
       law = λ ending more.
           ap (λ (from_heads : List HeadEvent). streams_of w (book_behind h more) from_heads) (given_next h ending (Ok c) more)
-          ∙ a.law (book_behind h more) (given_left h ending more) tt;
+          ∙ a.law (book_behind h more) (head_events_left h ending more) tt;
     }
 
 stop_read : IsStopLast → (h : HeaderStageState) (book : List (List ℕ × List ℕ)) (w new : ScoreWriterState) (fault : Fault) → h.progress ≡ behind book → w.part ≡ part.Body → WritesAt w (head_event.Stop fault) [] new
@@ -212,11 +212,11 @@ stop_read last h book w new fault progress body a settled = record {
   out = a.out;
   messages = a.messages;
   law = λ ending more.
-      let rest = given_left (stage_after h (Err fault)) ending more in
+      let rest = head_events_left (stage_after h (Err fault)) ending more in
       ap (λ (from_heads : List HeadEvent). streams_of w (book_behind h (Err fault ∷ more)) from_heads)
       (given_next h ending (Err fault) more ∙ ap (λ (p : HeadProgress). events_of_input h.limits p (Err fault) ++ rest) progress)
       ∙ (a.law (book_behind h (Err fault ∷ more)) rest tt
-      ∙ ap (λ (s : Streams). behind_bytes a.output a.lines s) (settled (book_behind h (Err fault ∷ more)) (book_behind h more) rest (given_left h ending more)));
+      ∙ ap (λ (s : Streams). behind_bytes a.output a.lines s) (settled (book_behind h (Err fault ∷ more)) (book_behind h more) rest (head_events_left h ending more)));
 }
 
 module _ (last : IsStopLast) (limits : Limits) (w new : ScoreWriterState) (body : w.part ≡ part.Body) (steady : IsSteady w new) where

@@ -10,7 +10,7 @@ use Rattle.gabc_headers.specs.declared.heads.HeadFault.{HeadFault}
 use Rattle.gabc_headers.specs.declared.head_event.HeadEvent.{HeadEvent}
 use Rattle.gabc_headers.specs.declared.head_event.HeadEvent.TheVariants as head_event
 use Rattle.gabc_headers.specs.Heads.{heads_of}
-use Rattle.gabc_headers.specs.HeadEvents.{HeadProgress, reading, behind, over, events_by, events_at_end, events_of_end, events_of_input, heads_told, new_findings}
+use Rattle.gabc_headers.specs.HeadEvents.{HeadProgress, reading, behind, over, events_by, events_at_end, events_of_end, events_of_input, event_of_book, new_findings}
 use Rattle.gregorio.specs.declared.run_part.RunPart.{RunPart}
 use Rattle.gregorio.specs.declared.run_part.RunPart.TheVariants as part
 use Rattle.gregorio.specs.machine.RunWriter.{heads_room, line_room, syllable_room}
@@ -109,12 +109,12 @@ found_are_few format limit fs few =
     let room = found_room format limit fs (head_event.End ∷ []) in
     record { count = few; room = omega (arith, few, n, same, room) }
 
-heads_are_few : (format : Format) (limit : ℕ) (fs : List Finding) (book : List (List ℕ × List ℕ)) → length (map (λ f. head_event.Found f) fs ++ heads_told book ∷ []) ≤ 2
-    → AreFew format limit (map (λ f. head_event.Found f) fs ++ heads_told book ∷ [])
+heads_are_few : (format : Format) (limit : ℕ) (fs : List Finding) (book : List (List ℕ × List ℕ)) → length (map (λ f. head_event.Found f) fs ++ event_of_book book ∷ []) ≤ 2
+    → AreFew format limit (map (λ f. head_event.Found f) fs ++ event_of_book book ∷ [])
 heads_are_few format limit fs book few =
-    let n = found_count fs (heads_told book ∷ []) in
-    let room = found_room format limit fs (heads_told book ∷ head_event.End ∷ []) in
-    let same = ap (λ (xs : List HeadEvent). events_room format limit xs) (append_assoc (map (λ f. head_event.Found f) fs) (heads_told book ∷ []) (head_event.End ∷ [])) in
+    let n = found_count fs (event_of_book book ∷ []) in
+    let room = found_room format limit fs (event_of_book book ∷ head_event.End ∷ []) in
+    let same = ap (λ (xs : List HeadEvent). events_room format limit xs) (append_assoc (map (λ f. head_event.Found f) fs) (event_of_book book ∷ []) (head_event.End ∷ [])) in
     record { count = few; room = omega (arith, few, n, same, room) }
 
 by_heads : (format : Format) (limit : ℕ) (found : List Finding) (r : Result Heads HeadFault) → length (events_by found r) ≤ 2 → AreFew format limit (events_by found r)

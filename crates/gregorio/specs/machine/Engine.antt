@@ -9,7 +9,7 @@ use Rattle.gabc_headers.specs.HeadEvents.{HeaderStageState, HeadProgress, readin
 use Rattle.gregorio.specs.declared.run_part.RunPart.{RunPart}
 use Rattle.gregorio.specs.declared.run_part.RunPart.TheVariants as part
 use Rattle.gregorio.specs.declared.source_bytes.SourceEnding.{SourceEnding}
-use Rattle.gregorio.specs.Engine.{Streams, behind_bytes, book_behind, given_left}
+use Rattle.gregorio.specs.Engine.{Streams, behind_bytes, book_behind, head_events_left}
 use Rattle.gregorio.specs.machine.ScoreWriter.{ScoreWriterState, streams_of, IsBookAt, IsShortBook, IsReserved}
 
 -- ---- events of the headers, one after the other
@@ -46,7 +46,7 @@ IsBodyPast (part.Over status) events = HasMark events
 
 -- what will still be written of these items
 abbrev pub streams_of_items : HeaderStageState → ScoreWriterState → SourceEnding → List (Result Char Fault) → Streams
-streams_of_items h w ending items = streams_of w (book_behind h items) (given_left h ending items)
+streams_of_items h w ending items = streams_of w (book_behind h items) (head_events_left h ending items)
 
 -- what the body gets for an item
 abbrev pub event_of_item : Result Char Fault → HeadEvent

@@ -15,7 +15,7 @@ use Rattle.gregorio.specs.declared.run_part.RunPart.TheVariants as part
 use Rattle.gregorio.specs.Outcome.{input_name, status_by}
 use Rattle.gregorio_jobs.specs.declared.job.Status.TheVariants.{Fatal as FatalFault}
 use Rattle.gregorio_jobs.specs.declared.job.Job.{Job}
-use Rattle.gregorio.specs.Engine.{Streams, Written, behind_bytes, ended_with, streams_given}
+use Rattle.gregorio.specs.Engine.{Streams, Written, behind_bytes, ended_with, streams_by_part}
 use Rattle.gregorio.specs.machine.RunWriter.{RunWriterState, with_found, with_fault, with_syllable, with_last, line_room, syllable_room, heads_room, last_room}
 use Rattle.gregorio_jobs.specs.declared.job.Format.{Format}
 use Rattle.gregorio_jobs.specs.declared.job.Status.{Status}
@@ -26,32 +26,32 @@ pub record ScoreWriterState : Type 0 where
   pub writer : RunWriterState
 
 -- what an event says, where this stage lends its syllable
-abbrev pub output_told : ScoreStageState → ScoreEvent → ScoreOutput
-output_told s (event.Found f) = Found f
-output_told s (event.Stop fault) = Stop fault
-output_told s (event.Syllable lent) = Syllable (lent_in lent s)
-output_told s event.End = End
+abbrev pub output_of_event : ScoreStageState → ScoreEvent → ScoreOutput
+output_of_event s (event.Found f) = Found f
+output_of_event s (event.Stop fault) = Stop fault
+output_of_event s (event.Syllable lent) = Syllable (lent_in lent s)
+output_of_event s event.End = End
 
 -- What it writes of an output: a stop or the end ends the run.
-abbrev pub with_told : ScoreWriterState → ScoreOutput → ScoreWriterState
-with_told s (Found f) = record s { writer = with_found s.writer f }
-with_told s (Stop fault) = record s { part = part.Over FatalFault; writer = with_last (with_fault s.writer fault) false }
-with_told s (Syllable x) = record s { writer = with_syllable s.writer x }
-with_told s End = record s { part = part.Over (status_by None false s.writer.written.errors); writer = with_last s.writer true }
+abbrev pub past_output : ScoreWriterState → ScoreOutput → ScoreWriterState
+past_output s (Found f) = record s { writer = with_found s.writer f }
+past_output s (Stop fault) = record s { part = part.Over FatalFault; writer = with_last (with_fault s.writer fault) false }
+past_output s (Syllable x) = record s { writer = with_syllable s.writer x }
+past_output s End = record s { part = part.Over (status_by None false s.writer.written.errors); writer = with_last s.writer true }
 
-abbrev pub with_all_told : ScoreWriterState → List ScoreOutput → ScoreWriterState
-with_all_told s [] = s
-with_all_told s (o ∷ outputs) = with_all_told (with_told s o) outputs
+abbrev pub past_outputs : ScoreWriterState → List ScoreOutput → ScoreWriterState
+past_outputs s [] = s
+past_outputs s (o ∷ outputs) = past_outputs (past_output s o) outputs
 
 abbrev pub writer_at : ScoreStageState → RunPart → RunWriterState → ScoreWriterState
 writer_at score at writer = record { score = score; part = at; writer = writer }
 
-abbrev pub told_by : ScoreStageState → List ScoreEvent → List ScoreOutput
-told_by s events = map (output_told s) events
+abbrev pub outputs_of_events : ScoreStageState → List ScoreEvent → List ScoreOutput
+outputs_of_events s events = map (output_of_event s) events
 
 -- what it will still write, where these come and the headers are this book
 abbrev pub streams_of : ScoreWriterState → List (List ℕ × List ℕ) → List HeadEvent → Streams
-streams_of s book from_heads = streams_given s.part s.score s.writer.written book from_heads
+streams_of s book from_heads = streams_by_part s.part s.score s.writer.written book from_heads
 
 -- ---- a call
 

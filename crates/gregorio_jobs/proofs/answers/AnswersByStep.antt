@@ -9,10 +9,10 @@ use Rattle.gregorio_jobs.specs.declared.job.Output.{Output}
 use Rattle.gregorio_jobs.specs.declared.job.Plan.TheVariants.{Run}
 use Rattle.gregorio_jobs.specs.declared.refusal.Refusal.{Refusal}
 use Rattle.gregorio_jobs.specs.declared.refusal.Refusal.TheVariants.{O3}
-use Rattle.gregorio_jobs.specs.Wants.{Said, answer, format_named}
+use Rattle.gregorio_jobs.specs.Wants.{ArgumentValues, answer, format_named}
 use Rattle.gregorio_jobs.specs.machine.Plan.{format_by, input_by, output_by}
 
-abbrev matched : Bool → Option Text → Bool → Option Text → Option Text → Bool → Option Text → Bool → Said
+abbrev matched : Bool → Option Text → Bool → Option Text → Option Text → Bool → Option Text → Bool → ArgumentValues
 matched help format stdin file output stdout messages all_warnings = record {
   help = help;
   format = format;
@@ -107,17 +107,17 @@ runs messages all_warnings f x y false (Some name) stdin file output stdout h e 
 
 -- ---- the same of what was said
 
-pub stops_at_format : (s : Said) (r : Refusal) → s.help ≡ false → format_by s.format ≡ Err r → answer s ≡ Err r
+pub stops_at_format : (s : ArgumentValues) (r : Refusal) → s.help ≡ false → format_by s.format ≡ Err r → answer s ≡ Err r
 stops_at_format s r h e = format_fails s.stdin s.file s.output s.stdout s.messages s.all_warnings r s.help s.format h e
 
-pub stops_at_input : (s : Said) (f : Format) (r : Refusal) → s.help ≡ false → format_by s.format ≡ Ok f → input_by s.stdin s.file ≡ Err r → answer s ≡ Err r
+pub stops_at_input : (s : ArgumentValues) (f : Format) (r : Refusal) → s.help ≡ false → format_by s.format ≡ Ok f → input_by s.stdin s.file ≡ Err r → answer s ≡ Err r
 stops_at_input s f r h e i = input_fails s.output s.stdout s.messages s.all_warnings f r s.help s.format s.stdin s.file h e i
 
-pub stops_at_output : (s : Said) (f : Format) (x : Input) (r : Refusal) → s.help ≡ false → format_by s.format ≡ Ok f → input_by s.stdin s.file ≡ Ok x
+pub stops_at_output : (s : ArgumentValues) (f : Format) (x : Input) (r : Refusal) → s.help ≡ false → format_by s.format ≡ Ok f → input_by s.stdin s.file ≡ Ok x
     → output_by s.output s.stdout (is_some s.file) ≡ Err r → answer s ≡ Err r
 stops_at_output s f x r h e i o = output_fails s.messages s.all_warnings f x r s.help s.format s.stdin s.file s.output s.stdout h e i o
 
-pub runs_a_job : (s : Said) (f : Format) (x : Input) (y : Output) (m : Option Text) (w : Bool)
+pub runs_a_job : (s : ArgumentValues) (f : Format) (x : Input) (y : Output) (m : Option Text) (w : Bool)
     → s.help ≡ false → format_by s.format ≡ Ok f → input_by s.stdin s.file ≡ Ok x
     → output_by s.output s.stdout (is_some s.file) ≡ Ok y → s.messages ≡ m → s.all_warnings ≡ w
     → answer s ≡ Ok (Run (record { format = f; input = x; output = y; messages = m; all_warnings = w }))

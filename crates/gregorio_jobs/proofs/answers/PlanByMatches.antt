@@ -7,7 +7,7 @@ use Rattle.clap.proofs.OnLiterals.{clap_on_literals}
 use Rattle.gregorio_jobs.specs.declared.refusal.Refusal.{Refusal}
 use Rattle.gregorio_jobs.specs.declared.refusal.Refusal.TheVariants.{O0, O1}
 use Rattle.gregorio_jobs.specs.Arguments.{gregorio_command}
-use Rattle.gregorio_jobs.specs.Wants.{answer, answer_unless, said_by, wants}
+use Rattle.gregorio_jobs.specs.Wants.{answer, answer_unless, argument_values, wants}
 use Rattle.gregorio_jobs.specs.machine.Plan.{refused_by}
 
 is_taken : is_simple_and_free gregorio_command ≡ true
@@ -21,14 +21,14 @@ is_plain = refl
 -- the command takes the words
 pub taken : (a : App) (ws words : List Text) (rows : List Row) → a ≡ gregorio_command → ws ≡ words
     → (is_simple_and_free a ≡ true → fault_of a ws ≡ []) → (is_simple a ≡ true → rows ≡ matches_of a ws)
-    → answer (said_by rows) ≡ wants words
+    → answer (argument_values rows) ≡ wants words
 taken a ws words rows app same faults matches =
     let none : fault_of gregorio_command words ≡ [] = subst (λ (x : List Text). fault_of gregorio_command x ≡ []) same
     (subst (λ (x : App). is_simple_and_free x ≡ true → fault_of x ws ≡ []) app faults is_taken) in
     let all : rows ≡ matches_of gregorio_command words = subst (λ (x : List Text). rows ≡ matches_of gregorio_command x) same
     (subst (λ (x : App). is_simple x ≡ true → rows ≡ matches_of x ws) app matches is_plain) in
-    ap (λ (r : List Row). answer (said_by r)) all
-    ∙ sym (ap (λ (k : Kinds). answer_unless k (said_by (matches_of gregorio_command words))) none)
+    ap (λ (r : List Row). answer (argument_values r)) all
+    ∙ sym (ap (λ (k : Kinds). answer_unless k (argument_values (matches_of gregorio_command words))) none)
 
 refusal_by_kind : (k : ErrorKind) → (refused_by k ≡ O0) ⊎ (refused_by k ≡ O1)
 refusal_by_kind OutOfMemory = inl refl
@@ -50,6 +50,6 @@ refused a ws words k r app same faults is h =
       ]
     ]
   where
-    go : (kinds : Kinds) → IsAmong k kinds → r ≡ O1 → Err r ≡ answer_unless kinds (said_by (matches_of gregorio_command words))
+    go : (kinds : Kinds) → IsAmong k kinds → r ≡ O1 → Err r ≡ answer_unless kinds (argument_values (matches_of gregorio_command words))
     go [] among one = absurd among
     go (x ∷ xs) among one = ap Err one

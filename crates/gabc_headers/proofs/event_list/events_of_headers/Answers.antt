@@ -12,16 +12,16 @@ loop-c-init c =
     let rest : chars_rest c.into_iter-c-iterator.result ≡ c.as_str.result.now = ap chars_rest c.into_iter-c-iterator.ensures.into_iter_gives ∙ c.chars-c-items.ensures.rest in
     let utf8 = subst IsUtf8 (sym rest) c.as_str.utf8 in (
       utf8,
-      c.new-reader.ensures.bounds,
-      begin_at c.args.text.now c.args.limit (chars_rest c.into_iter-c-iterator.result) c.new-reader.result c.new-events.result.items utf8
-          (sym c.as_str.ensures.bytes ∙ sym rest) c.new-reader.ensures.starts c.new-events.ensures.items,
+      c.new-machine.ensures.bounds,
+      begin_at c.args.text.now c.args.limit (chars_rest c.into_iter-c-iterator.result) c.new-machine.result c.new-events.result.items utf8
+          (sym c.as_str.ensures.bytes ∙ sym rest) c.new-machine.ensures.starts c.new-events.ensures.items,
     )
 
 pub loop-c-preserved-in-Continue-1 : goal.loop-c-preserved-in-Continue-1
 loop-c-preserved-in-Continue-1 c =
     let i = c.loop-c.invariant in
     let step = c.in-Some.ensures.steps.0 in
-    let next = pushed c.args.text.now c.args.limit (chars_rest c.loop-c.c-iterator) (chars_rest c.next.new.self) c.loop-c.reader c.push.new.self c.loop-c.events.items c.in-Some.c _ i.0 step c.in-Read-Some.ensures.pushes i.2 in (
+    let next = pushed c.args.text.now c.args.limit (chars_rest c.loop-c.c-iterator) (chars_rest c.next.new.self) c.loop-c.machine c.push.new.self c.loop-c.events.items c.in-Some.c _ i.0 step c.in-Read-Some.ensures.pushes i.2 in (
       IsUtf8-past_char (chars_rest c.loop-c.c-iterator) (chars_rest c.next.new.self) c.in-Some.c i.0 step,
       c.push.ensures.bounds,
       subst (λ (x : List HeaderEvent). Following c.args.text.now c.args.limit (chars (chars_rest c.next.new.self)) c.push.new.self x) (ap (with_event c.loop-c.events.items) c.in-Read-Some.field-0-is ∙ sym c.in_ok-push-in-Read-Some.ensures.items) next,
@@ -31,7 +31,7 @@ pub loop-c-preserved : goal.loop-c-preserved
 loop-c-preserved c =
     let i = c.loop-c.invariant in
     let step = c.in-Some.ensures.steps.0 in
-    let next = pushed c.args.text.now c.args.limit (chars_rest c.loop-c.c-iterator) (chars_rest c.next.new.self) c.loop-c.reader c.push.new.self c.loop-c.events.items c.in-Some.c _ i.0 step c.in-Read-None.ensures.pushes i.2 in (
+    let next = pushed c.args.text.now c.args.limit (chars_rest c.loop-c.c-iterator) (chars_rest c.next.new.self) c.loop-c.machine c.push.new.self c.loop-c.events.items c.in-Some.c _ i.0 step c.in-Read-None.ensures.pushes i.2 in (
       IsUtf8-past_char (chars_rest c.loop-c.c-iterator) (chars_rest c.next.new.self) c.in-Some.c i.0 step,
       c.push.ensures.bounds,
       subst (λ (x : List HeaderEvent). Following c.args.text.now c.args.limit (chars (chars_rest c.next.new.self)) c.push.new.self x) (ap (with_event c.loop-c.events.items) c.in-Read-None.field-0-is) next,
@@ -40,9 +40,9 @@ loop-c-preserved c =
 pub returns-in-Ended : goal.returns-in-Ended
 returns-in-Ended c =
     let i = c.loop-c.invariant in
-    pushed c.args.text.now c.args.limit (chars_rest c.loop-c.c-iterator) (chars_rest c.next.new.self) c.loop-c.reader c.push.new.self c.loop-c.events.items c.in-Some.c _ i.0 c.in-Some.ensures.steps.0 c.in-Ended.ensures.pushes i.2
+    pushed c.args.text.now c.args.limit (chars_rest c.loop-c.c-iterator) (chars_rest c.next.new.self) c.loop-c.machine c.push.new.self c.loop-c.events.items c.in-Some.c _ i.0 c.in-Some.ensures.steps.0 c.in-Ended.ensures.pushes i.2
 
 pub returns : goal.returns
 returns c =
     let i = c.loop-c.invariant in
-    ended c.args.text.now c.args.limit (chars_rest c.loop-c.c-iterator) c.loop-c.reader c.loop-c.events.items c.end.result c.in-None.ensures.steps.0.0 c.end.ensures i.2
+    ended c.args.text.now c.args.limit (chars_rest c.loop-c.c-iterator) c.loop-c.machine c.loop-c.events.items c.end.result c.in-None.ensures.steps.0.0 c.end.ensures i.2

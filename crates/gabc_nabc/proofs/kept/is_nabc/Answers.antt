@@ -6,7 +6,7 @@ use Rattle.gabc_nabc.specs.CharClass.{class_of_character}
 use Rattle.gabc_nabc.specs.DescriptorMachine.{next_state}
 use Rattle.gabc_nabc.proofs.machine.MachineReadsTable.{machine, snippets_read}
 use Rattle.gabc_patterns.proofs.TextIsReadByCharacter.{one_read, one_next, all_read}
-use Rattle.gabc_patterns.proofs.SnippetsByState.{stuck, told_by}
+use Rattle.gabc_patterns.proofs.SnippetsByState.{stuck, emitted_by}
 use Rattle.gabc_patterns.proofs.StatesAfterTexts.{stands_first, stands_next}
 use Rattle.gabc_nabc.proofs.kept.is_nabc.Goals as goal
 
@@ -36,4 +36,4 @@ returns-in-None-next_state c =
 pub returns : goal.returns
 returns c =
     let i = c.loop-c.invariant in
-    rw c.is_whole.ensures (told_by nabc machine snippets_read c.loop-c.state c.loop-c.yielded _ i.stands (all_read _ _ _ c.in-None.ensures.steps.0.0 i.whole))
+    rw c.is_whole.ensures (emitted_by nabc machine snippets_read c.loop-c.state c.loop-c.yielded _ i.stands (all_read _ _ _ c.in-None.ensures.steps.0.0 i.whole))

@@ -6,7 +6,7 @@ use Rattle.gabc_notes.specs.machine.CharClass.{class_of_character}
 use Rattle.gabc_notes.specs.machine.ItemMachine.{next_state}
 use Rattle.gabc_notes.proofs.machine.MachineReadsTable.{machine, snippets_read}
 use Rattle.gabc_patterns.proofs.TextIsReadByCharacter.{one_read, one_next, all_read}
-use Rattle.gabc_patterns.proofs.SnippetsByState.{stuck, told_by}
+use Rattle.gabc_patterns.proofs.SnippetsByState.{stuck, emitted_by}
 use Rattle.gabc_patterns.proofs.StatesAfterTexts.{stands_first, stands_next}
 use Rattle.gabc_notes.proofs.kept.is_snippet.Goals as goal
 
@@ -36,4 +36,4 @@ returns-in-None-next_state c =
 pub returns : goal.returns
 returns c =
     let i = c.loop-c.invariant in
-    rw c.is_whole.ensures (told_by gabc machine snippets_read c.loop-c.state c.loop-c.yielded _ i.stands (all_read _ _ _ c.in-None.ensures.steps.0.0 i.whole))
+    rw c.is_whole.ensures (emitted_by gabc machine snippets_read c.loop-c.state c.loop-c.yielded _ i.stands (all_read _ _ _ c.in-None.ensures.steps.0.0 i.whole))

@@ -7,12 +7,12 @@ use Rattle.gabc_score.specs.declared.score_event.ScoreEvent.TheVariants.{Found}
 use Rattle.gabc_places.specs.declared.code.Code.TheVariants.{E1}
 use Rattle.gabc_places.specs.declared.limits.Limits.{Limits}
 use Rattle.gregorio.specs.machine.RunWriter.{RunWriterState, HasRoomFor, IsInRoom, IsSteadyWriter}
-use Rattle.gregorio.specs.machine.ScoreWriter.{ScoreWriterState, output_told, told_by, with_all_told, writer_at}
+use Rattle.gregorio.specs.machine.ScoreWriter.{ScoreWriterState, output_of_event, outputs_of_events, past_outputs, writer_at}
 use Rattle.gregorio.proofs.WritingStaysInRoom.{first_in_room, steady_both}
 use Rattle.gregorio.proofs.score_writer.write_events.Goals as goal
 
-next_told : (score : ScoreStageState) (events : List ScoreEvent) (i : ℕ) (d : ScoreEvent) → i < length events → told_by score (drop i events) ≡ output_told score (slice_index_or events i d) ∷ told_by score (drop (i + 1) events)
-next_told score events i d h = at_drop_more (told_by score) events i d h
+next_emitted : (score : ScoreStageState) (events : List ScoreEvent) (i : ℕ) (d : ScoreEvent) → i < length events → outputs_of_events score (drop i events) ≡ output_of_event score (slice_index_or events i d) ∷ outputs_of_events score (drop (i + 1) events)
+next_emitted score events i d h = at_drop_more (outputs_of_events score) events i d h
 
 -- any event stands behind the last
 abbrev no_event : ScoreEvent
@@ -30,20 +30,20 @@ write_event-requires c =
     let score = c.args.score.now in
     let l = c.loop-event in
     let w = c.args.writer.now in
-    let rest = told_by score (drop (l.event-index + 1) c.args.events.now) in
+    let rest = outputs_of_events score (drop (l.event-index + 1) c.args.events.now) in
     let room = l.invariant.1 w.messages.limit w.out.limit c.requires in
-    let next = next_told score c.args.events.now l.event-index no_event c.loop-event-test.true in
-    next_has_room score.limits w l.writer (output_told score (slice_index_or c.args.events.now l.event-index no_event)) rest l.invariant.2
+    let next = next_emitted score c.args.events.now l.event-index no_event c.loop-event-test.true in
+    next_has_room score.limits w l.writer (output_of_event score (slice_index_or c.args.events.now l.event-index no_event)) rest l.invariant.2
     (subst (IsInRoom score.limits w.messages.limit w.out.limit l.writer) next room)
 
 pub loop-event-preserved : goal.loop-event-preserved
 loop-event-preserved c =
     let score = c.args.score.now in
     let l = c.loop-event in
-    let rest = told_by score (drop (l.event-index + 1) c.args.events.now) in
-    let next = next_told score c.args.events.now l.event-index no_event c.loop-event-test.true in (
-      ap (λ (s : ScoreWriterState). with_all_told s rest) c.write_event.ensures.writes
-          ∙ (ap (with_all_told (writer_at score l.part l.writer)) (sym next) ∙ l.invariant.0),
+    let rest = outputs_of_events score (drop (l.event-index + 1) c.args.events.now) in
+    let next = next_emitted score c.args.events.now l.event-index no_event c.loop-event-test.true in (
+      ap (λ (s : ScoreWriterState). past_outputs s rest) c.write_event.ensures.writes
+          ∙ (ap (past_outputs (writer_at score l.part l.writer)) (sym next) ∙ l.invariant.0),
       λ lines texts h. c.write_event.ensures.room lines texts rest (subst (IsInRoom score.limits lines texts l.writer) next (l.invariant.1 lines texts h)),
       steady_both c.args.writer.now l.writer c.write_event.new.writer l.invariant.2 c.write_event.ensures.steady,
     )

@@ -14,8 +14,8 @@ returns-clause-step c =
     record {
       outputs = outputs;
       lends = subst (λ (outputs : List ScoreOutput). Lends limits 1 outputs) (append-nil outputs)
-          (held_lends limits 1 c.args.self.now.has_lent held c.args.self.now.pair.gathered.made [] refl c.free.ensures.held rests.short c.tell_broken.ensures.few (omega arith));
+          (held_lends limits 1 c.args.self.now.has_lent held c.args.self.now.pair.gathered.made [] refl c.free.ensures.held rests.short c.give_broken.ensures.few (omega arith));
       limits = refl;
       law = search rules;
-      emitted = c.tell_broken.ensures.emitted;
+      emitted = c.give_broken.ensures.emitted;
     }

@@ -9,8 +9,8 @@ use Rattle.gabc_score.proofs.score_events.EventsStayWithinBounds.{few_found}
 use Rattle.gabc_score.proofs.score_events.FewAndShortAreLent.{short_at_end, held_lends, lends_these, no_code, placed_within}
 use Rattle.gabc_score.proofs.score_machine.ScoreMachine.end.Goals as goal
 
-pub tell_end-requires-clause-few : goal.tell_end-requires-clause-few
-tell_end-requires-clause-few c = rw (c.slice-found.ensures) (few_found c.args.self.now.found c.hold.new.found c.close.new.self.events c.requires.rests.rests.none c.hold.ensures.found c.close.ensures.events.few)
+pub give_end-requires-clause-few : goal.give_end-requires-clause-few
+give_end-requires-clause-few c = rw (c.slice-found.ensures) (few_found c.args.self.now.found c.hold.new.found c.close.new.self.events c.requires.rests.rests.none c.hold.ensures.found c.close.ensures.events.few)
 
 pub returns-in-Some-clause-step : goal.returns-in-Some-clause-step
 returns-in-Some-clause-step c =
@@ -41,8 +41,8 @@ returns-in-None-clause-step c =
     let short : All (IsShort limits.syllable) p.gathered.made = subst (λ (k : Gathered). All (IsShort limits.syllable) k.made) (sym is) (short_at_end limits old now rests.limit rests.over rests.short none) in
     record {
       outputs = outputs_of found lent ++ End ∷ [];
-      lends = lends_these c.args.self.now.limits 2 found lent (End ∷ []) refl c.tell_end.ensures.few (placed_within c.args.self.now.limits _ p.gathered.made short);
+      lends = lends_these c.args.self.now.limits 2 found lent (End ∷ []) refl c.give_end.ensures.few (placed_within c.args.self.now.limits _ p.gathered.made short);
       limits = refl;
       law = search rules;
-      emitted = rw (sym c.slice-found.ensures) c.tell_end.ensures.emitted;
+      emitted = rw (sym c.slice-found.ensures) c.give_end.ensures.emitted;
     }

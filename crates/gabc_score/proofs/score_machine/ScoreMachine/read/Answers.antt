@@ -15,8 +15,8 @@ use Rattle.gabc_score.specs.machine.PartCounts.{CountsHold}
 use Rattle.gabc_score.proofs.score_events.EventsStayWithinBounds.{few_found, limit_stays, within}
 use Rattle.gabc_score.proofs.score_machine.ScoreMachine.read.Goals as goal
 
-pub tell_point-gave-requires-clause-few : goal.tell_point-gave-requires-clause-few
-tell_point-gave-requires-clause-few c = few_found c.args.self.now.found c.hold.new.found c.take.new.self.events c.requires.rests.rests.none c.hold.ensures.found c.take.ensures.events.few
+pub give_point-gave-requires-clause-few : goal.give_point-gave-requires-clause-few
+give_point-gave-requires-clause-few c = few_found c.args.self.now.found c.hold.new.found c.take.new.self.events c.requires.rests.rests.none c.hold.ensures.found c.take.ensures.events.few
 
 pub returns-in-Some-clause-step : goal.returns-in-Some-clause-step
 returns-in-Some-clause-step c =
@@ -47,16 +47,16 @@ returns-after-self-clause-step c =
     let within : All (IsWithin limits) lent = All-take (IsWithin limits) (length made - 1) (placed_behind c.args.self.now.has_lent made) (placed_within limits (not c.args.self.now.has_lent) made short) in
     record {
       outputs = outputs_of fs lent;
-      lends = subst (λ (outputs : List ScoreOutput). Lends limits 1 outputs) (append-nil (outputs_of fs lent)) (lends_these limits 1 fs lent [] refl c.tell_point-gave.ensures.few within);
+      lends = subst (λ (outputs : List ScoreOutput). Lends limits 1 outputs) (append-nil (outputs_of fs lent)) (lends_these limits 1 fs lent [] refl c.give_point-gave.ensures.few within);
       limits = refl;
       law = search rules;
-      emitted = c.tell_point-gave.ensures.emitted;
+      emitted = c.give_point-gave.ensures.emitted;
     }
 
 pub returns-after-self-clause-rests : goal.returns-after-self-clause-rests
 returns-after-self-clause-rests c =
     let old = c.requires.rests in
-    let t = c.tell_point-gave.ensures in
+    let t = c.give_point-gave.ensures in
     let h = c.hold.ensures in
     let g = c.hold.new.pair.gathered in
     let now = c.take.new.self.events in

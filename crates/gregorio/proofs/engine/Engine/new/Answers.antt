@@ -4,7 +4,7 @@ use Rattle.gabc_places.specs.DecoderMachine as decoder
 use Rattle.gabc_headers.specs.HeadEvents.{HeaderStageState, emitted_by, fresh_stage, stage_past}
 use Rattle.gregorio.specs.declared.run_part.RunPart.{RunPart}
 use Rattle.gregorio.specs.declared.run_part.RunPart.TheVariants as part
-use Rattle.gregorio.specs.Engine.{Written, given_left, streams_given}
+use Rattle.gregorio.specs.Engine.{Written, head_events_left, streams_by_part}
 use Rattle.gregorio.specs.Outcome.{is_whole}
 use Rattle.gregorio.specs.machine.ScoreWriter.{fresh_writer}
 use Rattle.gregorio.specs.machine.Engine.{GoTogether, IsBookRead}
@@ -19,9 +19,9 @@ returns-in-Ok-clause-all c bytes ending =
       scalars = c.texts_are_scalars_within_the_limit.ensures.scalars;
       short = c.texts_are_scalars_within_the_limit.ensures.short;
       book = c.the_book_is_read.ensures;
-      whole = c.a_stage_of_headers_gives_the_events.ensures.whole;
-      broken = c.a_stage_of_headers_gives_the_events.ensures.broken;
-      stopped = c.a_stage_of_headers_gives_the_events.ensures.stopped;
+      whole = c.a_stage_of_headers_emits_the_events.ensures.whole;
+      broken = c.a_stage_of_headers_emits_the_events.ensures.broken;
+      stopped = c.a_stage_of_headers_emits_the_events.ensures.stopped;
       counts = c.texts_are_read_in_full.ensures.counts;
       outputs = c.texts_are_read_in_full.ensures.outputs;
       findings = c.a_score_says_what_it_emits.ensures.findings;
@@ -33,9 +33,9 @@ returns-in-Ok-clause-all c bytes ending =
     let w = c.in-Ok.writer in
     let heads = c.in_ok-heads.heads in
     let items = emitted_by (is_whole ending) bytes (decoder.events_left c.new.result bytes) in
-    ap (λ (part : RunPart). streams_given part w.score w.writer.written (stage_past heads items).book (given_left heads ending items)) c.in-Ok.ensures.part
-    ∙ (ap (λ (written : Written). streams_given part.Heads w.score written (stage_past heads items).book (given_left heads ending items)) c.in-Ok.ensures.fresh
-    ∙ (ap (λ (h : HeaderStageState). streams_given part.Heads w.score (fresh_writer c.args.job.now) (stage_past h items).book (given_left h ending items)) c.in_ok-heads.ensures
+    ap (λ (part : RunPart). streams_by_part part w.score w.writer.written (stage_past heads items).book (head_events_left heads ending items)) c.in-Ok.ensures.part
+    ∙ (ap (λ (written : Written). streams_by_part part.Heads w.score written (stage_past heads items).book (head_events_left heads ending items)) c.in-Ok.ensures.fresh
+    ∙ (ap (λ (h : HeaderStageState). streams_by_part part.Heads w.score (fresh_writer c.args.job.now) (stage_past h items).book (head_events_left h ending items)) c.in_ok-heads.ensures
     ∙ streams_are below c.args.job.now c.args.limits c.new.result w.score c.new.ensures.known c.new.ensures.at_end c.in-Ok.ensures.score bytes ending))
 
 pub invariant_of-result : goal.invariant_of-result

@@ -2,7 +2,7 @@ use Rattle.std.proofs.Common.{[], ◌∷◌, List, sym, ap, ◌∙◌, subst}
 use Rattle.gabc_places.specs.BoundedList.{BoundedList}
 use Rattle.gabc_score.specs.declared.score_event.ScoreEvent.{ScoreEvent}
 use Rattle.gregorio.specs.machine.RunWriter.{HasRoomFor, IsInRoom}
-use Rattle.gregorio.specs.machine.ScoreWriter.{ScoreWriterState, FitsEvents, IsSteady, WritesAt, told_by, with_all_told, writer_at}
+use Rattle.gregorio.specs.machine.ScoreWriter.{ScoreWriterState, FitsEvents, IsSteady, WritesAt, outputs_of_events, past_outputs, writer_at}
 use Rattle.gregorio.proofs.AnEventIsWritten.{event_keeps_room, event_writes, room_for_event}
 use Rattle.gregorio.proofs.score_writer.ScoreWriter.push_in_body.Goals as goal
 
@@ -14,7 +14,7 @@ write_events-requires c =
     let body = ap (λ (s : ScoreWriterState). s.part) c.self.view_is ∙ c.requires.body in
     let empty = ap (λ (r : BoundedList ScoreEvent). r.items) c.clear.ensures in
     let room = subst (λ (s : ScoreWriterState). FitsEvents s (c.args.event ∷ [])) (sym c.self.view_is) c.requires.room in
-    subst (λ (events : List ScoreEvent). HasRoomFor mid.limits i.writer (told_by mid events)) (sym c.slice.ensures)
+    subst (λ (events : List ScoreEvent). HasRoomFor mid.limits i.writer (outputs_of_events mid events)) (sym c.slice.ensures)
     (room_for_event old c.args.event mid c.clear.new.self c.push.new.out body empty c.push.ensures.step c.push.ensures.end room)
 
 pub returns-clause-writes : goal.returns-clause-writes
@@ -25,7 +25,7 @@ returns-clause-writes c =
     let new = writer_at mid c.write_events.new.part c.write_events.new.writer in
     let body = ap (λ (s : ScoreWriterState). s.part) c.self.view_is ∙ c.requires.body in
     let empty = ap (λ (r : BoundedList ScoreEvent). r.items) c.clear.ensures in
-    let writes = c.write_events.ensures.writes ∙ ap (λ (events : List ScoreEvent). with_all_told (writer_at mid i.part i.writer) (told_by mid events)) c.slice.ensures in
+    let writes = c.write_events.ensures.writes ∙ ap (λ (events : List ScoreEvent). past_outputs (writer_at mid i.part i.writer) (outputs_of_events mid events)) c.slice.ensures in
     subst (λ (s : ScoreWriterState). WritesAt s c.args.event [] new) c.self.view_is
     (event_writes old c.args.event mid c.clear.new.self c.push.new.out body empty c.push.ensures.step c.push.ensures.end new writes [])
 
@@ -37,7 +37,7 @@ returns-clause-any_book c = λ read.
     let new = writer_at mid c.write_events.new.part c.write_events.new.writer in
     let body = ap (λ (s : ScoreWriterState). s.part) c.self.view_is ∙ c.requires.body in
     let empty = ap (λ (r : BoundedList ScoreEvent). r.items) c.clear.ensures in
-    let writes = c.write_events.ensures.writes ∙ ap (λ (events : List ScoreEvent). with_all_told (writer_at mid i.part i.writer) (told_by mid events)) c.slice.ensures in
+    let writes = c.write_events.ensures.writes ∙ ap (λ (events : List ScoreEvent). past_outputs (writer_at mid i.part i.writer) (outputs_of_events mid events)) c.slice.ensures in
     subst (λ (s : ScoreWriterState). WritesAt s c.args.event read new) c.self.view_is
     (event_writes old c.args.event mid c.clear.new.self c.push.new.out body empty c.push.ensures.step c.push.ensures.end new writes read)
 
@@ -49,9 +49,9 @@ returns-clause-room c = λ events h.
     let new = writer_at mid c.write_events.new.part c.write_events.new.writer in
     let body = ap (λ (s : ScoreWriterState). s.part) c.self.view_is ∙ c.requires.body in
     let empty = ap (λ (r : BoundedList ScoreEvent). r.items) c.clear.ensures in
-    let writes = c.write_events.ensures.writes ∙ ap (λ (events : List ScoreEvent). with_all_told (writer_at mid i.part i.writer) (told_by mid events)) c.slice.ensures in
+    let writes = c.write_events.ensures.writes ∙ ap (λ (events : List ScoreEvent). past_outputs (writer_at mid i.part i.writer) (outputs_of_events mid events)) c.slice.ensures in
     let w = c.write_events.ensures.steady in
     let steady : IsSteady old new = record { limits = c.push.ensures.step.limits; format = w.format; name = w.name; out = w.out; messages = w.messages; scratch = w.scratch } in
     event_keeps_room old c.args.event mid c.clear.new.self c.push.new.out body empty c.push.ensures.step c.push.ensures.end new writes steady
-    (λ lines texts r. c.write_events.ensures.room lines texts (subst (λ (events : List ScoreEvent). IsInRoom mid.limits lines texts i.writer (told_by mid events)) (sym c.slice.ensures) r))
+    (λ lines texts r. c.write_events.ensures.room lines texts (subst (λ (events : List ScoreEvent). IsInRoom mid.limits lines texts i.writer (outputs_of_events mid events)) (sym c.slice.ensures) r))
     events (subst (λ (s : ScoreWriterState). FitsEvents s (c.args.event ∷ events)) (sym c.self.view_is) h)

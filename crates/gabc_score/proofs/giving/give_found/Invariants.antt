@@ -1,7 +1,7 @@
 use Rattle.std.proofs.Common.{◌≡◌, ◌-◌, map, take, length}
 use Rattle.gabc_places.specs.BoundedList.{Fits, extended_by}
 use Rattle.gabc_score.specs.declared.score_event.ScoreEvent.TheVariants as event
-use Rattle.gabc_score.proofs.telling.tell_found.Given as goal
+use Rattle.gabc_score.proofs.giving.give_found.Given as goal
 
 abbrev pub invariant-loop-finding : goal.invariant-loop-finding
 invariant-loop-finding l = record {

@@ -1,7 +1,7 @@
 use Rattle.std.proofs.Common.{sym, ◌∙◌}
 use Rattle.gabc_score.specs.declared.ending.InputEnding.TheVariants.{Whole, Broken, At}
-use Rattle.gabc_score.proofs.score_events.GivenByHeaders.{given_is}
-use Rattle.gabc_score.proofs.laws.a_stage_of_headers_gives_the_events.Goals as goal
+use Rattle.gabc_score.proofs.score_events.EmittedByHeaders.{given_is}
+use Rattle.gabc_score.proofs.laws.a_stage_of_headers_emits_the_events.Goals as goal
 
 pub returns-clause-whole : goal.returns-clause-whole
 returns-clause-whole c limits t scalar = given_is limits Whole t ∙ sym (c.events_make_the_headers.ensures limits t scalar)

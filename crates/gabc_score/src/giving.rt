@@ -3,7 +3,7 @@
 ghost use Rattle.std.specs.Prelude.{◌≡◌, ◌≢◌, ◌+◌, ◌-◌, ◌≤◌, ◌||◌, nat_lt, [], ◌∷◌, ◌++◌, map, take, length, cond, false};
 ghost use Rattle.gabc_places.specs.BoundedList.{Fits, extended_by};
 ghost use Rattle.gabc_score.specs.ScoreEvents.{outputs_of, Stop, End};
-ghost use Rattle.gabc_score.specs.ScoreStage.{Tells};
+ghost use Rattle.gabc_score.specs.ScoreStage.{GivesOutputs};
 ghost use Rattle.gabc_score.specs.machine.BodyBuilder.{end_findings};
 ghost use Rattle.gabc_score.specs.machine.ScoreStage.{placed_behind, with_held};
 ghost use Rattle.gabc_score.specs.machine.SlotPair.{is_made, lent_of};
@@ -13,7 +13,7 @@ use crate::slot_pair::{SlotPair, SlotUse};
 use gabc_places::{Code, Fault, Finding, Place, Room};
 
 /// Gives what is found.
-fn tell_found(found: &[Finding], out: &mut Room<ScoreEvent>)
+fn give_found(found: &[Finding], out: &mut Room<ScoreEvent>)
     requires { Fits out.old (length found.now) }
     ensures { out.new ≡ extended_by out.old (map (λ f. ScoreEvent.Found f) found.now) }
 {
@@ -23,7 +23,7 @@ fn tell_found(found: &[Finding], out: &mut Room<ScoreEvent>)
 }
 
 /// Gives the finding of this code, if it is found.
-fn tell_code(is_found: bool, place: Place, code: Code, out: &mut Room<ScoreEvent>)
+fn give_code(is_found: bool, place: Place, code: Code, out: &mut Room<ScoreEvent>)
     requires { Fits out.old 1 }
     ensures { out.new ≡ extended_by out.old
         (map (λ f. ScoreEvent.Found f)
@@ -35,7 +35,7 @@ fn tell_code(is_found: bool, place: Place, code: Code, out: &mut Room<ScoreEvent
 }
 
 /// Gives so many of the syllables that are lent.
-fn tell_lent(count: usize, out: &mut Room<ScoreEvent>)
+fn give_lent(count: usize, out: &mut Room<ScoreEvent>)
     requires most { count ≤ 2 }
     requires fits { Fits out.old count }
     ensures { out.new ≡ extended_by out.old (lent_of count) }
@@ -49,8 +49,8 @@ fn tell_lent(count: usize, out: &mut Room<ScoreEvent>)
 }
 
 /// Gives what was found at a point, and the held syllable if another is whole, which is held then. `has_lent` tells whether one was
-/// lent before. Tells whether it gave one.
-pub(crate) fn tell_point(
+/// lent before. Returns whether it gave one.
+pub(crate) fn give_point(
     pair: &mut SlotPair,
     has_lent: bool,
     found: &mut Room<Finding>,
@@ -62,21 +62,21 @@ pub(crate) fn tell_point(
     ensures used { is_made pair.new.used ≡ false }
     ensures gave { result ≡ nat_lt 1 (length pair.old.gathered.made) }
     ensures emitted { let made = pair.old.gathered.made in
-        Tells (outputs_of found.old.items (take (length made - 1) (placed_behind has_lent made)))
+        GivesOutputs (outputs_of found.old.items (take (length made - 1) (placed_behind has_lent made)))
         out.old out.new pair.new.first pair.new.second }
     ensures few { length (take (length pair.old.gathered.made - 1)
         (placed_behind has_lent pair.old.gathered.made)) ≤ 1 }
     ensures found { found.new ≡ record found.old { items = [] } }
 {
-    tell_found(found.slice(), out);
+    give_found(found.slice(), out);
     found.clear();
     let count = pair.turn(has_lent);
-    tell_lent(count, out);
+    give_lent(count, out);
     count > 0
 }
 
 /// Gives the held syllable as the last one, and the fault that stops the score.
-pub(crate) fn tell_stop(
+pub(crate) fn give_stop(
     pair: &mut SlotPair,
     has_lent: bool,
     fault: Fault,
@@ -84,30 +84,30 @@ pub(crate) fn tell_stop(
 )
     requires used { pair.old.used ≢ SlotUse.Lent }
     requires fits { Fits out.old 16 }
-    ensures emitted { Tells (outputs_of [] (placed_behind has_lent pair.old.held) ++ Stop fault ∷ [])
+    ensures emitted { GivesOutputs (outputs_of [] (placed_behind has_lent pair.old.held) ++ Stop fault ∷ [])
         out.old out.new pair.new.first pair.new.second }
     ensures few { length (placed_behind has_lent pair.old.held) ≤ 1 }
 {
     let count = pair.give_held(has_lent);
-    tell_lent(count, out);
+    give_lent(count, out);
     out.push(ScoreEvent::Stop(fault));
 }
 
 /// Gives the held syllable as the last one, where the source has failed.
-pub(crate) fn tell_broken(pair: &mut SlotPair, has_lent: bool, out: &mut Room<ScoreEvent>)
+pub(crate) fn give_broken(pair: &mut SlotPair, has_lent: bool, out: &mut Room<ScoreEvent>)
     requires used { pair.old.used ≢ SlotUse.Lent }
     requires fits { Fits out.old 16 }
-    ensures emitted { Tells (outputs_of [] (placed_behind has_lent pair.old.held))
+    ensures emitted { GivesOutputs (outputs_of [] (placed_behind has_lent pair.old.held))
         out.old out.new pair.new.first pair.new.second }
     ensures few { length (placed_behind has_lent pair.old.held) ≤ 1 }
 {
     let count = pair.give_held(has_lent);
-    tell_lent(count, out);
+    give_lent(count, out);
 }
 
 /// Gives what was found at the end, which is at this place, the syllables that are left, and the end. `has_last` tells
 /// whether a last text is a syllable.
-pub(crate) fn tell_end(
+pub(crate) fn give_end(
     pair: &mut SlotPair,
     has_lent: bool,
     has_last: bool,
@@ -119,14 +119,14 @@ pub(crate) fn tell_end(
     requires few { length found.now ≤ 8 }
     requires fits { Fits out.old 16 }
     ensures emitted { let g = pair.old.gathered in
-        Tells (outputs_of (found.now ++ end_findings at has_last (g.eu || g.nlba)) (placed_behind has_lent g.made) ++ End ∷ [])
+        GivesOutputs (outputs_of (found.now ++ end_findings at has_last (g.eu || g.nlba)) (placed_behind has_lent g.made) ++ End ∷ [])
         out.old out.new pair.new.first pair.new.second }
     ensures few { length (placed_behind has_lent pair.old.gathered.made) ≤ 2 }
 {
-    tell_found(found, out);
-    tell_code(has_last, at, Code::W9, out);
-    tell_code(pair.has_open(), at, Code::W11, out);
+    give_found(found, out);
+    give_code(has_last, at, Code::W9, out);
+    give_code(pair.has_open(), at, Code::W11, out);
     let count = pair.give_all(has_lent);
-    tell_lent(count, out);
+    give_lent(count, out);
     out.push(ScoreEvent::End);
 }

@@ -8,7 +8,7 @@ use Rattle.gabc_headers.specs.declared.heads.HeadFault.{HeadFault}
 use Rattle.gabc_headers.specs.declared.head_event.HeadEvent.TheVariants as head_event
 use Rattle.gabc_headers.specs.Heads.{heads_of, head_len}
 use Rattle.gabc_headers.specs.declared.head_event.HeadEvent.{HeadEvent}
-use Rattle.gabc_headers.specs.HeadEvents.{heads_told, events_of_heads, events_of_broken, events_of_stopped, body_characters as characters_behind}
+use Rattle.gabc_headers.specs.HeadEvents.{event_of_book, events_of_heads, events_of_broken, events_of_stopped, body_characters as characters_behind}
 use Rattle.gabc_score.specs.declared.ending.InputEnding.{InputEnding}
 use Rattle.gabc_score.specs.declared.ending.InputEnding.TheVariants.{Whole, Broken, At}
 use Rattle.gabc_score.specs.Score.{head_fault_by}
@@ -34,12 +34,12 @@ module _ (t : List ℕ) where
 
   heads_given : (ending : InputEnding) (heads : Heads) → head_events_by ending t (Ok heads) ≡ given_of ending t (Ok heads)
   heads_given Whole heads =
-      ap (λ (xs : List Char). map (λ f. head_event.Found f) heads.findings ++ heads_told heads.book ∷ (map (λ x. head_event.Body x) xs ++ head_event.End ∷ [])) same_body
+      ap (λ (xs : List Char). map (λ f. head_event.Found f) heads.findings ++ event_of_book heads.book ∷ (map (λ x. head_event.Body x) xs ++ head_event.End ∷ [])) same_body
   heads_given Broken heads =
-      ap (λ (xs : List HeadEvent). map (λ f. head_event.Found f) heads.findings ++ heads_told heads.book ∷ xs)
+      ap (λ (xs : List HeadEvent). map (λ f. head_event.Found f) heads.findings ++ event_of_book heads.book ∷ xs)
       (append-nil (map (λ x. head_event.Body x) (body_characters t)) ∙ ap (λ (xs : List Char). map (λ x. head_event.Body x) xs) same_body)
   heads_given (At fault) heads =
-      ap (λ (xs : List Char). map (λ f. head_event.Found f) heads.findings ++ heads_told heads.book ∷ (map (λ x. head_event.Body x) xs ++ head_event.Stop fault ∷ [])) same_body
+      ap (λ (xs : List Char). map (λ f. head_event.Found f) heads.findings ++ event_of_book heads.book ∷ (map (λ x. head_event.Body x) xs ++ head_event.Stop fault ∷ [])) same_body
 
   stop_given : (ending : InputEnding) (stop : HeadFault) (at_end : Bool)
       → map (λ f. head_event.Found f) stop.findings ++ stop_events (head_fault_by ending at_end stop.fault) ≡ given_of ending t (Err (record stop { at_end = at_end }))
