@@ -1,5 +1,5 @@
 -- The book of header parts.
-use Rattle.std.specs.Prelude.{ℕ, ◌+◌, List, [], ◌∷◌, ◌++◌, Bool, true, false, ◌||◌, ◌&&◌, not, cond, bytes_eq, codes, Option, Some, None, is_some}
+use Rattle.std.specs.Prelude.{ℕ, zero, suc, ◌+◌, ◌^◌, if◌then◌else◌, List, [], ◌∷◌, ◌++◌, Bool, true, false, ◌||◌, ◌&&◌, not, cond, bytes_eq, codes, Option, Some, None, is_some}
 use Rattle.gabc_headers.specs.Parts.{HeaderPart, left_out, header, unended}
 
 -- the value of `nabc-lines` is a number that is known
@@ -60,3 +60,15 @@ nabc_lines_of book = lines_by (value_named (codes "nabc-lines") book)
 -- the name of a macro's header: `def-m` and the digit
 abbrev pub macro_name : ℕ → List ℕ
 macro_name digit = codes "def-m" ++ (48 + digit) ∷ []
+
+-- the bit of the macro of a digit, if it has a header
+abbrev pub macro_bit : List (List ℕ × List ℕ) → ℕ → ℕ
+macro_bit book digit = if has_header (macro_name digit) book then 2 ^ digit else 0
+
+abbrev pub macros_below : List (List ℕ × List ℕ) → ℕ → ℕ
+macros_below book zero = 0
+macros_below book (suc digit) = macros_below book digit + macro_bit book digit
+
+-- the macros that have a header: the sum of their bits
+abbrev pub macros_of : List (List ℕ × List ℕ) → ℕ
+macros_of book = macros_below book 10

@@ -1,5 +1,5 @@
 -- What a header stage emits: for each character what the text with it has more than the text before it.
-use Rattle.std.specs.Prelude.{ℕ, ◌+◌, ◌*◌, List, [], ◌∷◌, ◌++◌, Bool, true, false, if◌then◌else◌, length, take, drop, map, Result, Ok, Err, zero, suc}
+use Rattle.std.specs.Prelude.{ℕ, ◌+◌, List, [], ◌∷◌, ◌++◌, Bool, true, false, if◌then◌else◌, length, take, drop, map, Result, Ok, Err}
 use Rattle.gabc_places.specs.declared.place.Char.{Char}
 use Rattle.gabc_places.specs.declared.code.Fault.{Fault}
 use Rattle.gabc_places.specs.declared.code.Finding.{Finding}
@@ -8,7 +8,7 @@ use Rattle.gabc_headers.specs.declared.heads.Heads.{Heads}
 use Rattle.gabc_headers.specs.declared.heads.HeadFault.{HeadFault}
 use Rattle.gabc_headers.specs.declared.head_event.HeadEvent.{HeadEvent}
 use Rattle.gabc_headers.specs.declared.head_event.HeadEvent.TheVariants.{Found, Stop, Heads as heads_event, Body, End}
-use Rattle.gabc_headers.specs.Book.{nabc_lines_of, has_header, macro_name}
+use Rattle.gabc_headers.specs.Book.{nabc_lines_of, macros_of}
 use Rattle.gabc_headers.specs.Canonical.{canonical_heads}
 use Rattle.gabc_headers.specs.Heads.{heads_of, findings_of, head_len}
 use Rattle.gabc_places.specs.Place.{placed_characters, placed_characters_behind}
@@ -23,15 +23,6 @@ pub data HeadProgress : Type 0 where
   behind : List (List ℕ × List ℕ) → HeadProgress
   -- behind its last event
   over : HeadProgress
-
--- the macros of the digits from d on, the first of these as the bit of this value
-abbrev pub macros_from : ℕ → ℕ → ℕ → List (List ℕ × List ℕ) → ℕ
-macros_from zero d bit book = 0
-macros_from (suc count) d bit book = (if has_header (macro_name d) book then bit else 0) + macros_from count (d + 1) (2 * bit) book
-
--- the bit d tells that the macro of the digit d is defined
-abbrev pub macros_of : List (List ℕ × List ℕ) → ℕ
-macros_of book = macros_from 10 0 1 book
 
 -- what the line `%%` gives
 abbrev pub event_of_book : List (List ℕ × List ℕ) → HeadEvent

@@ -2,11 +2,10 @@
 
 ghost use Rattle.std.specs.Prelude.{◌≡◌, ◌<◌, ◌==◌, [], None, Some, length, slice_get, MatchOption, IsSomeAnd, encode_utf8_all, string_bytes};
 ghost use Rattle.std.specs.Str.{chars};
-ghost use Rattle.gabc_headers.specs.Book.{lines_by, value_named, has_header, macro_name, nabc_lines_of};
+ghost use Rattle.gabc_headers.specs.Book.{lines_by, value_named, has_header, macro_name, nabc_lines_of, macros_of};
 ghost use Rattle.gabc_headers.specs.Canonical.{canonical_heads};
 ghost use Rattle.gabc_headers.specs.Lines.{bytes_len};
 ghost use Rattle.gabc_headers.specs.BookText.{shown_entries, IsBook};
-ghost use Rattle.gabc_headers.specs.HeadEvents.{macros_of};
 
 use crate::book_room::{BookRoom, Entry};
 use crate::canonical::canon_header;

@@ -5,6 +5,7 @@ use gabc_places::{Char, Fault, Finding};
 /// What a header stage emits: of the headers of a text, and of what stands behind them.
 #[derive(Clone, Copy, Debug, PartialEq, Eq)]
 pub enum HeadEvent {
+    /// An error or a warning.
     Found(Finding),
     /// The text is stopped here. Nothing follows.
     Stop(Fault),

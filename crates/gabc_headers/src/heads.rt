@@ -11,16 +11,20 @@ use std::fmt;
 /// The headers of a text that has a line `%%` behind them, and what was found in them.
 #[derive(Debug, Drop)]
 pub struct Heads {
+    /// The headers that count.
     pub book: HeaderBook,
     /// The byte of the text, from 0, at which its body begins: the one behind the `%%`.
     pub body: usize,
+    /// What was found, in the order of places.
     pub findings: Findings,
 }
 
 /// What stopped the headers of a text, and what was found before.
 #[derive(Debug, Drop)]
 pub struct HeadFault {
+    /// What stopped them, and where.
     pub fault: Fault,
+    /// What was found before, in the order of places.
     pub findings: Findings,
     /// Whether the fault comes of the end of the text.
     pub at_end: bool,

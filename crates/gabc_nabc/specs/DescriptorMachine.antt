@@ -1,6 +1,7 @@
 -- The machine that reads parts a character at a time. It is no promise: that it reads the table is proved.
-use Rattle.std.specs.Prelude.{ℕ, ◌+◌, ◌-◌, ◌^◌, min, List, [], ◌∷◌, ◌++◌, Bool, true, false, not, ◌&&◌, ◌||◌, ◌==◌, Option, Some, None, is_some, option_to_list, if◌then◌else◌}
-use Rattle.std.specs.Char.{len_utf8}
+use Rattle.std.specs.Prelude.{ℕ, List, [], ◌∷◌, ◌++◌, Bool, true, false, not, ◌&&◌, ◌||◌, ◌==◌, Option, Some, None, is_some, option_to_list, if◌then◌else◌}
+use Rattle.std.specs.Option.{option_or}
+use Rattle.gabc_notes.specs.StageEvents.{count_plus}
 use Rattle.gabc_places.specs.declared.code.Code.TheVariants.{E3, E6, W7}
 use Rattle.gabc_places.specs.declared.place.Char.{Char}
 use Rattle.gabc_patterns.specs.Pattern.{is_in}
@@ -8,7 +9,8 @@ use Rattle.gabc_notes.specs.declared.stage.NoteEnd.TheVariants.{Cut}
 use Rattle.gabc_notes.specs.declared.stage.NoteEvent.{NoteEvent}
 use Rattle.gabc_notes.specs.declared.stage.NoteEvent.TheVariants.{Kept, Ended}
 use Rattle.gabc_nabc.specs.CharClass.{class_of_character}
-use Rattle.gabc_nabc.specs.Events.{is_missing, finding_event, end_by_mark}
+use Rattle.gabc_nabc.specs.Events.{is_missing}
+use Rattle.gabc_notes.specs.Events.{finding_event, end_by_mark}
 use Rattle.gabc_nabc.specs.declared.stage.NabcEvents.{NabcEvents}
 use Rattle.gabc_nabc.specs.declared.stage.NabcStage.{NabcStage}
 use Rattle.gabc_nabc.specs.declared.stage.NabcRole.{NabcRole}
@@ -124,17 +126,13 @@ falling_back TailP = Some CodeP
 falling_back TailS = Some CodeS
 falling_back _ = None
 
-abbrev pub or_else : Option DescriptorState → Option DescriptorState → Option DescriptorState
-or_else (Some s) o = Some s
-or_else None o = o
-
 abbrev pub on_at : Option DescriptorState → NabcClass → Option DescriptorState
 on_at (Some s) k = going_on s k
 on_at None k = None
 
 -- the part goes on, or it ended at its longest and the reading goes on from there
 abbrev pub next_state : DescriptorState → NabcClass → Option DescriptorState
-next_state s k = or_else (going_on s k) (on_at (falling_back s) k)
+next_state s k = option_or (going_on s k) (on_at (falling_back s) k)
 
 -- what was read is an NABC snippet
 abbrev pub whole_at : DescriptorState → Bool
@@ -186,9 +184,6 @@ events_in LeaveOut e w x = record { first = Some (finding_event x.place E3); sec
 
 abbrev pub event_list : NabcEvents → List NoteEvent
 event_list g = option_to_list g.first ++ option_to_list g.second
-
-abbrev pub count_plus : ℕ → ℕ → ℕ
-count_plus n c = min (n + len_utf8 c) (2 ^ 64 - 1)
 
 abbrev pub comment_in : Bool → ℕ → Bool
 comment_in b c = (c == 37) || (b && not (c == 10))

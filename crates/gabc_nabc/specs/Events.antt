@@ -1,18 +1,16 @@
 -- What is emitted of an NABC snippet, character by character: each by what stands before it.
 use Rattle.std.specs.Prelude.{ℕ, ◌-◌, ◌^◌, min, List, [], ◌∷◌, ◌++◌, Bool, false, not, ◌&&◌, ◌||◌, ◌==◌, nat_le, if◌then◌else◌, Option, Some, None, length, take, drop, encode_utf8_all}
-use Rattle.gabc_places.specs.declared.code.Code.{Code}
+use Rattle.gabc_notes.specs.Events.{finding_event, end_by_mark}
 use Rattle.gabc_places.specs.declared.code.Code.TheVariants.{E3, E6, W7}
 use Rattle.gabc_places.specs.declared.place.Char.{Char}
-use Rattle.gabc_places.specs.declared.place.Place.{Place}
 use Rattle.gabc_patterns.specs.Pattern.{is_in}
 use Rattle.gabc_patterns.specs.Derivative.{is_snippet, is_viable}
 use Rattle.gabc_patterns.specs.Function.{keep, trim}
 use Rattle.gabc_nabc.specs.Table.{nabc}
 use Rattle.gabc_nabc.specs.Names.{is_known}
-use Rattle.gabc_notes.specs.declared.stage.NoteEnd.{NoteEnd}
-use Rattle.gabc_notes.specs.declared.stage.NoteEnd.TheVariants.{Next, Close, Cut}
+use Rattle.gabc_notes.specs.declared.stage.NoteEnd.TheVariants.{Cut}
 use Rattle.gabc_notes.specs.declared.stage.NoteEvent.{NoteEvent}
-use Rattle.gabc_notes.specs.declared.stage.NoteEvent.TheVariants.{Kept, Found, Ended}
+use Rattle.gabc_notes.specs.declared.stage.NoteEvent.TheVariants.{Kept, Ended}
 
 -- ---- the characters of a snippet
 
@@ -92,12 +90,6 @@ is_missing None c = false
 is_missing (Some a) c = is_code a c && not (is_known a c)
 
 -- ---- what is emitted
-
-abbrev pub finding_event : Place → Code → NoteEvent
-finding_event place code = Found (record { place = place; code = code })
-
-abbrev pub end_by_mark : ℕ → NoteEnd
-end_by_mark c = if c == 124 then Next else Close
 
 -- the bytes of a kept text. A count does not pass 2^64 - 1.
 abbrev pub bytes_in : List ℕ → ℕ

@@ -6,7 +6,8 @@ use Rattle.gabc_places.specs.Place.{placed_characters_from}
 use Rattle.gabc_places.specs.StageLaw.{concat_of}
 use Rattle.gabc_notes.specs.SnippetRead.{findings_of, ends_of}
 use Rattle.gabc_notes.specs.ReadAgain.{IsWarning}
-use Rattle.gabc_nabc.specs.Events.{end_by_mark, bytes_in, nabc_events}
+use Rattle.gabc_nabc.specs.Events.{bytes_in, nabc_events}
+use Rattle.gabc_notes.specs.Events.{end_by_mark}
 use Rattle.gabc_nabc.specs.SnippetRead.{before_end, from_end, kept_before, kept_chars_in}
 
 -- The text t begins at that place, and behind it stand the mark and the rest. The snippet is all of t and ends at the mark; its

@@ -14,7 +14,8 @@ use Rattle.gabc_notes.specs.declared.stage.NoteEnd.TheVariants as end
 use Rattle.gabc_notes.specs.SnippetRead.{findings_of, kept_chars_of}
 use Rattle.gabc_places.specs.Place.{placed_characters_from}
 use Rattle.gabc_nabc.specs.Table.{nabc}
-use Rattle.gabc_nabc.specs.Events.{is_end, kept_of, end_by_mark, nabc_events}
+use Rattle.gabc_nabc.specs.Events.{is_end, kept_of, nabc_events}
+use Rattle.gabc_notes.specs.Events.{end_by_mark}
 
 -- no finding, or one at that place
 abbrev pub AreAtMostOne : Place → List Finding → Type 0

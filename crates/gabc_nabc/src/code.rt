@@ -3,7 +3,9 @@
 /// The two letters that say which neume a glyph is.
 #[derive(Clone, Copy, Debug, PartialEq, Eq)]
 pub struct GlyphCode {
+    /// The first letter.
     pub first: char,
+    /// The second letter.
     pub second: char,
 }
 

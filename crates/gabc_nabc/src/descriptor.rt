@@ -8,6 +8,7 @@ use gabc_places::{Sequence, Span};
 pub struct Descriptor {
     /// Whether it is a space and no descriptor.
     pub space: bool,
+    /// Its bytes in the kept text.
     pub span: Span,
 }
 

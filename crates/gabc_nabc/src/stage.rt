@@ -8,7 +8,7 @@ ghost use Rattle.gabc_notes.specs.declared.stage.NoteEvent.{NoteEvent};
 ghost use Rattle.gabc_notes.specs.declared.stage.NoteEvent.TheVariants.{Kept};
 ghost use Rattle.gabc_notes.specs.TakenAtOnce.{TakesNext};
 ghost use Rattle.gabc_nabc.specs.TakenAtOnce.{StandsBeforeNext};
-ghost use Rattle.gabc_nabc.specs.Events.{is_code, is_missing, end_by_mark, nabc_events};
+ghost use Rattle.gabc_nabc.specs.Events.{is_code, is_missing, nabc_events};
 ghost use Rattle.gabc_nabc.specs.DescriptorMachine.{first_at, facts_by_states, role_in, events_in, event_list, stage_kept, stage_moved_on, stage_events_at, stage_after, events_of_cut, events_left};
 
 use crate::class::class_of;
@@ -114,17 +114,6 @@ fn role_of(comment: bool, viable: bool, c: char) -> NabcRole
     }
 }
 
-/// Returns how a character ends the snippet.
-fn end_of(c: char) -> NoteEnd
-    ensures { result ≡ end_by_mark c }
-{
-    if c == '|' {
-        NoteEnd::Next
-    } else {
-        NoteEnd::Close
-    }
-}
-
 /// Returns what is emitted at a character. The longest prefix of the kept text that is an NABC snippet has `whole` bytes.
 fn events_by(role: NabcRole, facts: NabcFacts, whole: usize, x: Char) -> NabcEvents
     ensures { result ≡ events_in role facts whole x }
@@ -147,7 +136,7 @@ fn events_by(role: NabcRole, facts: NabcFacts, whole: usize, x: Char) -> NabcEve
         NabcRole::Ends => NabcEvents {
             first: if facts.whole { None } else { found(Code::E6) },
             second: Some(NoteEvent::Ended {
-                how: end_of(x.c),
+                how: NoteEnd::of_mark(x.c),
                 kept: whole,
             }),
         },
@@ -159,7 +148,7 @@ fn events_by(role: NabcRole, facts: NabcFacts, whole: usize, x: Char) -> NabcEve
 }
 
 /// Adds what is emitted.
-fn send(events: NabcEvents, out: &mut Room<NoteEvent>)
+fn emit(events: NabcEvents, out: &mut Room<NoteEvent>)
     requires { Fits out.old 3 }
     ensures { out.new ≡ extended_by out.old (event_list events) }
 {
@@ -277,7 +266,7 @@ impl NabcStage {
         let next = next_state(self.state, class_of(x.c));
         let facts = look(self.state, next, self.letter, x.c);
         let role = role_of(self.comment, facts.viable, x.c);
-        send(events_by(role, facts, self.whole, x), out);
+        emit(events_by(role, facts, self.whole, x), out);
         self.advance(role, facts, next, x.c);
     }
 

@@ -4,7 +4,7 @@ ghost use Rattle.std.specs.Prelude.{◌≡◌, ◌+◌, ◌^◌, ◌<◌, ◌≤
 ghost use Rattle.std.specs.Str.{chars, IsCharBoundary};
 ghost use Rattle.gabc_nabc.specs.DescriptorMachine.{stage_events_at, stage_after, events_of_cut};
 ghost use Rattle.gabc_nabc.specs.SnippetRead.{IsNabcRead};
-ghost use Rattle.gabc_nabc.specs.machine.BuiltNabc.{built_nabc_of, with_event, with_events, no_nabc, ending_of};
+ghost use Rattle.gabc_nabc.specs.machine.BuiltNabc.{built_nabc_of, with_event, with_events, no_nabc};
 
 use crate::stage::NabcStage;
 use gabc_notes::{NoteEnd, NoteEvent, SnippetEnding, SnippetRead};
@@ -121,17 +121,6 @@ impl NabcBuilder {
     }
 }
 
-/// Returns how a snippet ends at the byte `index`, by what the stage emitted.
-fn ending_of(end: NoteEnd, index: usize) -> SnippetEnding
-    ensures { result ≡ ending_of end index }
-{
-    match end {
-        NoteEnd::Next => SnippetEnding::Next(index),
-        NoteEnd::Close => SnippetEnding::Close(index),
-        NoteEnd::Cut(place) => SnippetEnding::Cut(place),
-    }
-}
-
 /// Reads the NABC snippet with which `body` begins, up to its `)` or `|`, or the end of `body`. The first character of `body` stands
 /// at `at`, a line and a column from 1, as `gabc_places` counts them in a `Text`. Each number of `at` and the bytes of `body` together have to
 /// be below 2^64. It fails only for want of memory.
@@ -149,7 +138,7 @@ pub fn nabc_whole(alloc: Global, body: &str, at: Place) -> Result<SnippetRead, A
         builder.feed(&mut stage, Char { c, place }, &mut room)?;
         if let Some((end, kept)) = builder.emitted_end() {
             builder.cut(kept);
-            return Ok(builder.into_read(ending_of(end, index)));
+            return Ok(builder.into_read(SnippetEnding::at(end, index)));
         }
         place = place.after(c);
         index += c.len_utf8();

@@ -75,6 +75,12 @@ abbrev pub end_by : Option ℕ → List Char → NoteEnd
 end_by None back = end.Cut (if in_raw (kept back) then opener back else record { line = 0; column = 0 })
 end_by (Some c) back = end_by_mark c
 
+-- how a snippet ends whose stage emitted this end at that byte
+abbrev pub ending_at : NoteEnd → ℕ → SnippetEnding
+ending_at end.Next index = Next index
+ending_at end.Close index = Close index
+ending_at (end.Cut place) index = Cut place
+
 -- what is read of a text that begins at this place
 pub record IsSnippetRead (at : Place) (split : Bool) (macros : ℕ) (text : List ℕ) (read : SnippetRead) : Type 0 where
   pub kept_is : string_bytes read.kept ≡ encode_utf8_all (let s = stop_after split [] (placed_characters_from at text) in kept_by s.mark s.back)

@@ -11,22 +11,39 @@ use gabc_places::Span;
 /// The shape of a note.
 #[derive(Clone, Copy, Debug, PartialEq, Eq)]
 pub enum Shape {
+    /// A pitch alone.
     Punctum,
+    /// A capital.
     Inclinatum,
+    /// `v`.
     Virga,
+    /// `vv`.
     Bivirga,
+    /// `vvv`.
     Trivirga,
+    /// `V`.
     VirgaReversa,
+    /// `s`.
     Stropha,
+    /// `ss`.
     Distropha,
+    /// `sss`.
     Tristropha,
+    /// `o`.
     Oriscus,
+    /// `O`.
     OriscusScapus,
+    /// `w`.
     Quilisma,
+    /// `W`.
     QuilismaQuadratum,
+    /// `q`.
     Quadratum,
+    /// `r`.
     Cavum,
+    /// `R`.
     Lined,
+    /// `=`.
     Linea,
 }
 
@@ -34,9 +51,13 @@ pub enum Shape {
 /// item, in bytes of the kept text.
 #[derive(Clone, Copy, Debug, PartialEq, Eq)]
 pub struct Note {
+    /// Its height: 0 for `a` to 13 for `n`, and 14 for `p`.
     pub height: u8,
+    /// Its shape.
     pub shape: Shape,
+    /// Whether it is initio debilis.
     pub debilis: bool,
+    /// The bytes of its item in the kept text.
     pub span: Span,
 }
 

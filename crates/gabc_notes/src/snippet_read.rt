@@ -1,5 +1,9 @@
 //! What a snippet says.
 
+ghost use Rattle.std.specs.Prelude.{◌≡◌};
+ghost use Rattle.gabc_notes.specs.SnippetRead.{ending_at};
+
+use crate::stage::NoteEnd;
 use gabc_places::{Findings, Place};
 
 /// How a snippet ends. A byte is one of the body that was read, from 0.
@@ -13,6 +17,19 @@ pub enum SnippetEnding {
     Cut(Place),
 }
 
+impl SnippetEnding {
+    /// Returns how a snippet ends whose stage emitted `end` with the character at the byte `index` of the body.
+    pub fn at(end: NoteEnd, index: usize) -> SnippetEnding
+        ensures { result ≡ ending_at end index }
+    {
+        match end {
+            NoteEnd::Next => SnippetEnding::Next(index),
+            NoteEnd::Close => SnippetEnding::Close(index),
+            NoteEnd::Cut(place) => SnippetEnding::Cut(place),
+        }
+    }
+}
+
 /// What a snippet says: what is kept of it, what was found, and how it ended.
 #[derive(Debug, Drop)]
 pub struct SnippetRead {
@@ -21,5 +38,6 @@ pub struct SnippetRead {
     pub kept: String,
     /// What was found, each at its line and column in the source.
     pub findings: Findings,
+    /// How it ended, and where.
     pub how: SnippetEnding,
 }

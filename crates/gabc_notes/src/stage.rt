@@ -28,6 +28,19 @@ pub enum NoteEnd {
     Cut(Place),
 }
 
+impl NoteEnd {
+    /// Returns how `mark` ends a snippet: a `|` as `Next`, and any other as `Close`.
+    pub fn of_mark(mark: char) -> NoteEnd
+        ensures { result ≡ end_by_mark mark }
+    {
+        if mark == '|' {
+            NoteEnd::Next
+        } else {
+            NoteEnd::Close
+        }
+    }
+}
+
 /// An event: what a stage emits of a snippet.
 #[derive(Clone, Copy, Debug, PartialEq, Eq)]
 pub enum NoteEvent {
@@ -201,17 +214,6 @@ impl Before {
     }
 }
 
-/// Returns how a character ends the snippet.
-fn end_of(c: char) -> NoteEnd
-    ensures { result ≡ end_by_mark c }
-{
-    if c == '|' {
-        NoteEnd::Next
-    } else {
-        NoteEnd::Close
-    }
-}
-
 /// Returns the finding of this code at a character.
 fn found(x: Char, code: Code) -> NoteEvent
     ensures { result ≡ finding_event x.place code }
@@ -235,7 +237,7 @@ fn emit_end(before: Before, whole: bool, x: Char, out: &mut Room<NoteEvent>)
         out.push(found(x, Code::W10));
     }
     out.push(NoteEvent::Ended {
-        how: end_of(x.c),
+        how: NoteEnd::of_mark(x.c),
         kept: before.whole,
     });
 }

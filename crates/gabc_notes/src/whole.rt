@@ -3,7 +3,7 @@
 ghost use Rattle.std.specs.Prelude.{◌≡◌, ◌+◌, ◌^◌, ◌<◌, [], length, take, IfOk, OnOk, string_bytes};
 ghost use Rattle.std.specs.Str.{chars};
 ghost use Rattle.std.specs.String.Boundary.{IsSplitPoint};
-ghost use Rattle.gabc_notes.specs.machine.BuiltSnippet.{built_snippet_of, with_event, with_events, no_snippet, ending_of, PushIsAdded, EndIsAdded};
+ghost use Rattle.gabc_notes.specs.machine.BuiltSnippet.{built_snippet_of, with_event, with_events, no_snippet, PushIsAdded, EndIsAdded};
 ghost use Rattle.gabc_notes.specs.SnippetRead.{IsSnippetRead};
 
 use crate::snippet_read::{SnippetEnding, SnippetRead};
@@ -105,17 +105,6 @@ impl SnippetBuilder {
     }
 }
 
-/// Returns how a snippet ends at the byte `index`, by what the machine emitted.
-fn ending_of(end: NoteEnd, index: usize) -> SnippetEnding
-    ensures { result ≡ ending_of end index }
-{
-    match end {
-        NoteEnd::Next => SnippetEnding::Next(index),
-        NoteEnd::Close => SnippetEnding::Close(index),
-        NoteEnd::Cut(place) => SnippetEnding::Cut(place),
-    }
-}
-
 /// Reads the snippet of notes with which `body` begins, up to the mark that ends it or the end of `body` (GregorioRef, "Notation — Note
 /// Syntax"). Each number of `at` and the bytes of `body` together have to be below 2^64. The first character of
 /// `body` stands at `at`, a line and a column from 1, as `gabc_places` counts them in a `Text`. With `split` a `|` ends the snippet
@@ -139,7 +128,7 @@ pub fn snippet_whole(
     for c in body.chars() {
         builder.feed(&mut stage, Char { c, place }, &mut room)?;
         if let Some((end, bytes)) = builder.end {
-            return Ok(builder.into_read(ending_of(end, index), bytes));
+            return Ok(builder.into_read(SnippetEnding::at(end, index), bytes));
         }
         place = place.after(c);
         index += c.len_utf8();
@@ -147,5 +136,5 @@ pub fn snippet_whole(
     builder.close(&mut stage, &mut room)?;
     // At the latest this call emitted an end, so the default is never taken.
     let (end, bytes) = builder.end.unwrap_or((NoteEnd::Close, 0));
-    Ok(builder.into_read(ending_of(end, index), bytes))
+    Ok(builder.into_read(SnippetEnding::at(end, index), bytes))
 }

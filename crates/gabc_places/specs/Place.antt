@@ -1,5 +1,5 @@
 -- The place of a character is a function of the text before it.
-use Rattle.std.specs.Prelude.{ℕ, ◌+◌, ◌==◌, List, [], ◌∷◌, ◌++◌, length, count_by, Bool, if◌then◌else◌}
+use Rattle.std.specs.Prelude.{ℕ, ◌+◌, ◌-◌, ◌^◌, min, ◌==◌, List, [], ◌∷◌, ◌++◌, length, count_by, Bool, if◌then◌else◌}
 use Rattle.std.specs.List.{after_last}
 use Rattle.gabc_places.specs.declared.place.Place.{Place}
 use Rattle.gabc_places.specs.declared.place.Char.{Char}
@@ -14,6 +14,11 @@ place_after text = record { line = 1 + count_by is_line_feed text; column = 1 + 
 -- the place behind a character that stands at p
 abbrev pub next_place : Place → ℕ → Place
 next_place p c = if is_line_feed c then record { line = p.line + 1; column = 1 } else record { line = p.line; column = p.column + 1 }
+
+-- the same, where a count that has reached its last value stays there
+abbrev pub saturating_next_place : Place → ℕ → Place
+saturating_next_place p c =
+    if is_line_feed c then record { line = min (p.line + 1) (2 ^ 64 - 1); column = 1 } else record { line = p.line; column = min (p.column + 1) (2 ^ 64 - 1) }
 
 -- the characters that follow this prefix, each with its place
 abbrev pub placed_characters_behind : List ℕ → List ℕ → List Char

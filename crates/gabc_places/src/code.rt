@@ -89,13 +89,17 @@ impl Code {
 /// An error or a warning, and where it stands.
 #[derive(Clone, Copy, Debug, PartialEq, Eq)]
 pub struct Finding {
+    /// Where it stands.
     pub place: Place,
+    /// What it is: an error or a warning.
     pub code: Code,
 }
 
 /// What stopped a run, and where.
 #[derive(Clone, Copy, Debug, PartialEq, Eq)]
 pub struct Fault {
+    /// Where it stands.
     pub place: Place,
+    /// What it is.
     pub code: Code,
 }

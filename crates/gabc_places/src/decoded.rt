@@ -14,6 +14,8 @@ pub(crate) enum Tail {
 /// The text of an input, and what stopped it.
 #[derive(Debug, Drop)]
 pub struct Decoded {
+    /// The text up to the fault, or to the end.
     pub text: Text,
+    /// What stopped it, if something did.
     pub fault: Option<Fault>,
 }

@@ -6,8 +6,11 @@ ghost use Rattle.gabc_places.specs.Limits.{AreLimits, AreUsual};
 /// How many bytes the headers, a syllable and the whole input may have.
 #[derive(Clone, Copy, Debug, PartialEq, Eq)]
 pub struct Limits {
+    /// How many bytes the headers may have.
     pub header: u32,
+    /// How many bytes a syllable may have.
     pub syllable: u32,
+    /// How many bytes the input may have.
     pub input: u32,
     pub ghost in_range: { AreLimits header syllable input },
 }

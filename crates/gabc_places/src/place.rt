@@ -5,12 +5,14 @@ ghost use Rattle.std.specs.Prelude.{◌≡◌, ◌+◌, ◌^◌, ◌<◌, ℕ, L
 /// The place of a character in a text: its line and its column in characters, both from 1.
 #[derive(Clone, Copy, Debug, PartialEq, Eq)]
 pub struct Place {
+    /// The line, from 1.
     pub line: u64,
+    /// The column in characters, from 1.
     pub column: u64,
 }
 
 impl Place {
-    ghost use Rattle.gabc_places.specs.Place.{next_place, place_after};
+    ghost use Rattle.gabc_places.specs.Place.{next_place, place_after, saturating_next_place};
 
     /// The place of the first character of a text.
     pub const START: Place = Place { line: 1, column: 1 };
@@ -36,18 +38,40 @@ impl Place {
             }
         }
     }
+
+    /// Returns the place behind `c`, which stands here. A count that has reached the last value of a `u64` stays there.
+    #[inline(always)]
+    pub fn saturating_after(self, c: char) -> Place
+        ensures { result ≡ saturating_next_place self c }
+    {
+        if c == '\n' {
+            Place {
+                line: self.line.saturating_add(1),
+                column: 1,
+            }
+        } else {
+            Place {
+                line: self.line,
+                column: self.column.saturating_add(1),
+            }
+        }
+    }
 }
 
 /// A character of a text, with its place.
 #[derive(Clone, Copy, Debug, PartialEq, Eq)]
 pub struct Char {
+    /// The character.
     pub c: char,
+    /// Where it stands.
     pub place: Place,
 }
 
 /// A part of a text: its bytes from `from` up to before `to`, counted from 0; of elements and segments, a part of the items.
 #[derive(Clone, Copy, Debug, PartialEq, Eq)]
 pub struct Span {
+    /// The first byte, from 0.
     pub from: usize,
+    /// The byte behind the last one.
     pub to: usize,
 }

@@ -1,11 +1,11 @@
 -- What a text says as a score.
-use Rattle.std.specs.Prelude.{ℕ, zero, suc, ◌+◌, ◌^◌, List, [], Bool, true, false, cond, take, drop, Option, Some, None, Result, Ok, Err}
+use Rattle.std.specs.Prelude.{ℕ, ◌+◌, List, [], Bool, true, false, take, drop, Option, Some, None, Result, Ok, Err}
 use Rattle.gabc_places.specs.declared.code.Fault.{Fault}
 use Rattle.gabc_places.specs.declared.limits.Limits.{Limits}
 use Rattle.gabc_places.specs.Place.{place_after, placed_characters_behind}
 use Rattle.gabc_headers.specs.declared.heads.Heads.{Heads}
 use Rattle.gabc_headers.specs.declared.heads.HeadFault.{HeadFault}
-use Rattle.gabc_headers.specs.Book.{nabc_lines_of, has_header, macro_name}
+use Rattle.gabc_headers.specs.Book.{nabc_lines_of, macros_of}
 use Rattle.gabc_headers.specs.Canonical.{canonical_heads}
 use Rattle.gabc_headers.specs.Lines.{bytes_len}
 use Rattle.gabc_headers.specs.Heads.{head_len, heads_of}
@@ -22,17 +22,6 @@ heads_text t = take (head_len t + 2) t
 
 abbrev pub behind_heads : List ℕ → List ℕ
 behind_heads t = drop (head_len t + 2) t
-
--- the macros that have a header: the bit of each digit
-abbrev pub macro_bit : List (List ℕ × List ℕ) → ℕ → ℕ
-macro_bit book digit = cond (has_header (macro_name digit) book) (2 ^ digit) 0
-
-abbrev pub macros_below : List (List ℕ × List ℕ) → ℕ → ℕ
-macros_below book zero = 0
-macros_below book (suc digit) = macros_below book digit + macro_bit book digit
-
-abbrev pub macros_of : List (List ℕ × List ℕ) → ℕ
-macros_of book = macros_below book 10
 
 -- the body of a text with these headers, which ended so
 abbrev pub body_in : Limits → InputEnding → List ℕ → Heads → BodyResult

@@ -1,6 +1,6 @@
 -- What a score says of a syllable, by what was emitted of its characters. In these definitions `before` is what was emitted so far,
 -- the nearest first, and `events` is what was emitted of one syllable, the nearest first.
-use Rattle.std.specs.Prelude.{ℕ, ◌+◌, ◌-◌, ◌||◌, ◌&&◌, nat_lt, nat_le, List, [], ◌∷◌, ◌++◌, Bool, true, false, cond, length, take, drop, None, codes, string_bytes, encode_utf8, bytes_eq}
+use Rattle.std.specs.Prelude.{ℕ, ◌+◌, ◌-◌, ◌||◌, ◌&&◌, nat_lt, nat_le, List, [], ◌∷◌, ◌++◌, Bool, true, false, cond, length, take, drop, codes, string_bytes, encode_utf8, bytes_eq}
 use Rattle.gabc_places.specs.declared.place.Span.{Span}
 use Rattle.gabc_text.specs.declared.view.PieceKind.{PieceKind}
 use Rattle.gabc_text.specs.declared.view.PieceKind.TheVariants.{Mark}
@@ -8,7 +8,7 @@ use Rattle.gabc_text.specs.TextView.{ViewContent, content_of}
 use Rattle.gabc_text.specs.declared.text_event.TextPart.TheVariants as part
 use Rattle.gabc_text.specs.declared.text_event.TextEnd.TheVariants.{Notes}
 use Rattle.gabc_text.specs.declared.text_event.TextEvent.TheVariants as text
-use Rattle.gabc_text.specs.BuiltText.{with_part}
+use Rattle.gabc_text.specs.BuiltText.{with_part, empty_view}
 use Rattle.gabc_notes.specs.declared.stage.NoteEnd.TheVariants.{Next, Close}
 use Rattle.gabc_notes.specs.declared.stage.NoteEvent.TheVariants as note
 use Rattle.gabc_score.specs.declared.events.BodyEvent.{BodyEvent}
@@ -106,9 +106,6 @@ snippets_of [] = []
 snippets_of (t ∷ events) = snippets_with (snippets_of events) (ended_parts_of events) (part_of events) t
 
 -- ---- the view of the text
-
-abbrev pub empty_view : ViewContent
-empty_view = record { word_start = false; pieces = []; centre = None; translation = None }
 
 abbrev pub view_with : ViewContent → BodyEvent → ViewContent
 view_with view (event.Text (text.Part p)) = with_part view p

@@ -12,14 +12,14 @@ use Rattle.gabc_score.specs.Canonical.{position_by}
 use Rattle.gabc_score.specs.Holding.{HoldsNotes, HoldsNoNotes}
 use Rattle.gabc_score.specs.Syllable.{UnplacedSyllable, PlacedSyllable, is_mark}
 use Rattle.gabc_places.specs.Place.{placed_characters_behind}
-use Rattle.gabc_headers.specs.Book.{nabc_lines_of}
+use Rattle.gabc_headers.specs.Book.{nabc_lines_of, macros_of}
 use Rattle.gabc_score.specs.Events.{texts_by_definition, body_events}
 use Rattle.gabc_headers.specs.Canonical.{canonical_heads}
 use Rattle.gabc_headers.specs.Lines.{bytes_len}
 use Rattle.gabc_places.specs.declared.limits.Limits.{Limits}
 use Rattle.gabc_score.specs.declared.events.BodyEvent.{BodyEvent}
 use Rattle.gabc_score.specs.Stops.{StopsAt, NeverStops}
-use Rattle.gabc_score.specs.Score.{heads_text, behind_heads, macros_of}
+use Rattle.gabc_score.specs.Score.{heads_text, behind_heads}
 use Rattle.gabc_score.specs.Units.{EndedPart, BodyUnit, LastUnit, JustText, OpenNotes, Units, BodyCutting, IsCut}
 
 -- ---- the units of a score

@@ -19,6 +19,7 @@ ghost use Rattle.gabc_places.specs.Place.{placed_characters_from};
 ghost use Rattle.gabc_score.specs.BodyStage.{part_with, events_left, running_events_left, texts_by_stage};
 
 use crate::BodyEvent;
+use crate::part_ends::{ends_at_close, ends_at_next, ends_text};
 use crate::part_events::{emit_notes, emit_text, hold_notes, hold_text};
 use crate::part_pushes::{finish_part, push_notes, push_text};
 use crate::slot_pair::{SlotPair, SlotUse};
@@ -94,23 +95,13 @@ fn next_line(lines: u8, line: u8) -> u8
     if line < lines { line + 1 } else { 0 }
 }
 
-/// The place behind a mark.
-fn place_behind(place: Place) -> Place
-    ensures { result ≡ behind_mark place }
-{
-    Place {
-        line: place.line,
-        column: place.column.saturating_add(1),
-    }
-}
-
-/// The text behind a mark.
+/// The text behind the `)` that stands at `mark`.
 fn text_behind(mark: Place) -> BodyPart
     ensures part { (xs : List Char) → part_with result xs
         ≡ text_from texts_by_stage (behind_mark mark) xs }
     ensures counts { CountsHold result nothing_open }
 {
-    BodyPart::Text(TextStage::new(place_behind(mark)))
+    BodyPart::Text(TextStage::new(mark.saturating_after(')')))
 }
 
 impl BodyStage {
@@ -202,7 +193,8 @@ impl BodyStage {
         match &mut self.part {
             BodyPart::Comment => self.emitter = Emitter::Nothing,
             BodyPart::Text(stage) => {
-                let ended = push_text(stage, x, &mut self.texts);
+                push_text(stage, x, &mut self.texts);
+                let ended = ends_text(self.texts.slice());
                 self.emitter = Emitter::Text;
                 if ended {
                     self.part = self.snippet(0, x.place);
@@ -210,7 +202,9 @@ impl BodyStage {
             }
             BodyPart::Notes { opened, stage } => {
                 let opened = *opened;
-                let (next, close) = push_notes(stage, x, &mut self.notes);
+                push_notes(stage, x, &mut self.notes);
+                let next = ends_at_next(self.notes.slice());
+                let close = ends_at_close(self.notes.slice());
                 self.emitter = Emitter::Notes { line: 0, opened };
                 if next {
                     self.part = self.next_snippet(0, opened);
@@ -224,7 +218,9 @@ impl BodyStage {
                 stage,
             } => {
                 let (line, opened) = (*line, *opened);
-                let (next, close) = push_notes(stage, x, &mut self.notes);
+                push_notes(stage, x, &mut self.notes);
+                let next = ends_at_next(self.notes.slice());
+                let close = ends_at_close(self.notes.slice());
                 self.emitter = Emitter::Notes { line, opened };
                 if next {
                     self.part = self.next_snippet(line, opened);

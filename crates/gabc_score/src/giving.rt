@@ -84,7 +84,8 @@ pub(crate) fn give_stop(
 )
     requires used { pair.old.used ≢ SlotUse.Lent }
     requires fits { Fits out.old 16 }
-    ensures emitted { GivesOutputs (outputs_of [] (placed_behind has_lent pair.old.held) ++ Stop fault ∷ [])
+    ensures emitted { GivesOutputs
+        (outputs_of [] (placed_behind has_lent pair.old.held) ++ Stop fault ∷ [])
         out.old out.new pair.new.first pair.new.second }
     ensures few { length (placed_behind has_lent pair.old.held) ≤ 1 }
 {

@@ -18,6 +18,7 @@ fn is_text_end(out: TextEvent) -> bool
     }
 }
 
+/// Whether a snippet ended at its `|`.
 fn is_next(out: NoteEvent) -> bool
     ensures { result ≡ note_next out }
 {
@@ -30,6 +31,7 @@ fn is_next(out: NoteEvent) -> bool
     }
 }
 
+/// Whether a snippet ended at its `)`.
 fn is_close(out: NoteEvent) -> bool
     ensures { result ≡ note_close out }
 {

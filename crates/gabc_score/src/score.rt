@@ -8,9 +8,12 @@ use gabc_places::{Fault, Findings};
 /// stopped the reading.
 #[derive(Debug, Drop)]
 pub struct Score {
+    /// The headers that count; none where a fault lies in the headers.
     pub book: Option<HeaderBook>,
+    /// The whole syllables.
     pub syllables: Syllables,
     /// What was found before the stop, in the order of places.
     pub findings: Findings,
+    /// What stopped the reading, if something did.
     pub fault: Option<Fault>,
 }

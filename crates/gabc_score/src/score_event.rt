@@ -5,13 +5,16 @@ use gabc_places::{Fault, Finding};
 /// Which of the syllables that a stage gave with one call.
 #[derive(Clone, Copy, Debug, PartialEq, Eq)]
 pub enum LentSyllable {
+    /// The first of them.
     First,
+    /// The one behind it.
     Second,
 }
 
 /// What is given of a score.
 #[derive(Clone, Copy, Debug, PartialEq, Eq)]
 pub enum ScoreEvent {
+    /// An error or a warning.
     Found(Finding),
     /// The score is stopped here. Nothing follows.
     Stop(Fault),

@@ -7,7 +7,6 @@ ghost use Rattle.gabc_headers.specs.declared.head_event.HeadEvent.{HeadEvent as 
 ghost use Rattle.gabc_score.specs.declared.body_stage.BodyPart.{BodyPart};
 ghost use Rattle.gabc_score.specs.BodyStage.{running_events_left};
 ghost use Rattle.gabc_places.specs.BoundedList.{Fits};
-ghost use Rattle.gabc_text.specs.TextStage.{place_after_char};
 ghost use Rattle.gabc_score.specs.ScoreEvents.{outputs_of, Stop, characters_in};
 ghost use Rattle.gabc_score.specs.ScoreStage.{GivesOutputs, GivesAt, GivesLast, GivesNothing, left_of};
 ghost use Rattle.gabc_score.specs.machine.ScoreStage.{placed_behind, begun_score, body_left};
@@ -43,23 +42,6 @@ pub(crate) struct ScoreMachine {
     pub(crate) next: Place,
     /// Whether a syllable was lent.
     pub(crate) has_lent: bool,
-}
-
-/// Returns the place behind a character. A count that has reached its last value stays there.
-fn place_behind(x: Char) -> Place
-    ensures { result ≡ place_after_char x.place x.c }
-{
-    if x.c == '\n' {
-        Place {
-            line: x.place.line.saturating_add(1),
-            column: 1,
-        }
-    } else {
-        Place {
-            line: x.place.line,
-            column: x.place.column.saturating_add(1),
-        }
-    }
 }
 
 /// Returns how many of `count` columns, the first of which is `column`, fit a `u64` with the one behind them.
@@ -140,7 +122,7 @@ impl ScoreMachine {
             None => {
                 let gave = give_point(&mut self.pair, self.has_lent, &mut self.found, out);
                 self.has_lent = self.has_lent || gave;
-                self.next = place_behind(x);
+                self.next = x.place.saturating_after(x.c);
             }
         }
     }
@@ -254,7 +236,7 @@ impl ScoreMachine {
         }
         let taken = self.body.take_quietly(x, &mut self.pair);
         if taken {
-            self.next = place_behind(x);
+            self.next = x.place.saturating_after(x.c);
         }
         taken
     }

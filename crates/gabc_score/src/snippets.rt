@@ -6,7 +6,9 @@ use gabc_places::{Growing, Span};
 /// `nabc-lines`). The span counts bytes of the kept text.
 #[derive(Clone, Copy, Debug, PartialEq, Eq)]
 pub struct Snippet {
+    /// 0 for GABC, 1 for NABC.
     pub line: u8,
+    /// Its bytes in the kept text.
     pub span: Span,
 }
 

@@ -13,8 +13,11 @@ use std::alloc::{AllocError, Global};
 pub enum Position {
     /// It is the whole word.
     One,
+    /// It begins a word of several syllables.
     Beginning,
+    /// It stands between the first and the last syllable of its word.
     Middle,
+    /// It ends a word of several syllables.
     End,
 }
 
@@ -36,10 +39,13 @@ impl Position {
 /// A text with its notes in parentheses (GregorioRef, "Syllable Text Syntax").
 #[derive(Debug, Drop)]
 pub struct Syllable {
+    /// What its text says.
     pub text: TextView,
     /// The text from the blanks before it to its `)`, without comments and what was left out. Spans count its bytes.
     pub kept: String,
+    /// Its snippets, in order.
     pub snippets: Snippets,
+    /// Where in its word it stands.
     pub position: Position,
     /// Whether the span that `<eu>` opens is open at the end of its text, and that of `<nlba>` (GregorioRef, "Syllable Text Syntax").
     pub eu: bool,

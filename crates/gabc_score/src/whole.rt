@@ -4,7 +4,7 @@ ghost use Rattle.std.specs.Prelude.{◌≡◌, ◌+◌, ◌<◌, ◌≤◌, ◌^
 ghost use Rattle.std.specs.Str.{chars};
 ghost use Rattle.gabc_headers.specs.Heads.{body_byte};
 ghost use Rattle.gabc_places.specs.Place.{place_past};
-ghost use Rattle.gabc_score.specs.Score.{macros_of, body_in, with_body, head_fault_by, score_of};
+ghost use Rattle.gabc_score.specs.Score.{body_in, with_body, head_fault_by, score_of};
 
 use crate::body_result::BodyResult;
 use crate::body_stage::BodyStage;
@@ -13,7 +13,7 @@ use crate::context::BodyContext;
 use crate::ending::InputEnding;
 use crate::score::Score;
 use crate::syllables::Syllables;
-use gabc_headers::{HeadFault, HeaderBook, Heads, headers_whole};
+use gabc_headers::{HeadFault, Heads, headers_whole};
 use gabc_places::{Fault, Limits, Place, Text};
 use std::alloc::{AllocError, Global};
 
@@ -88,7 +88,7 @@ fn score_behind(
         findings,
     } = heads;
     let (prefix, behind) = text.as_str().split_at(body);
-    let stage = BodyStage::new(alloc, book.nabc_lines(), macros_in(&book))?;
+    let stage = BodyStage::new(alloc, book.nabc_lines(), book.macros())?;
     let start = BodyContext {
         at: place_past(prefix),
         head: book.canonical_len(),
@@ -105,21 +105,6 @@ fn score_behind(
         findings,
         fault,
     })
-}
-
-/// The macros that have a header: the bit of each digit.
-fn macros_in(book: &HeaderBook) -> u16
-    ensures { result ≡ macros_of book.now }
-{
-    let mut macros: u16 = 0;
-    let mut bit: u16 = 1;
-    for digit in 0..10u8 {
-        if book.is_macro(digit) {
-            macros += bit;
-        }
-        bit *= 2;
-    }
-    macros
 }
 
 /// The place behind a text.

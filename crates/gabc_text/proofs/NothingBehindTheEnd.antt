@@ -42,7 +42,7 @@ joined_nothing (c ∷ t) = joined_nothing t
 
 pub done_emits_nothing : (s : TextStage) → s.done ≡ true → EmitsNothing (λ (cs : List Char). events_left s (codes_of cs))
 done_emits_nothing s e cs =
-    ap concat_of (rest_by s (codes_of cs) ∙ ap (λ (b : Bool). cond b ([] ∷ no_events_each (codes_of cs)) (lists_ahead (stands_for s.mode) s (stands_for s.mode ++ codes_of cs))) e)
+    ap concat_of (rest_by s (codes_of cs) ∙ ap (λ (b : Bool). cond b ([] ∷ no_events_each (codes_of cs)) (lists_ahead (stands_for s.state) s (stands_for s.state ++ codes_of cs))) e)
     ∙ joined_nothing (codes_of cs)
 
 -- ---- which events are no end
@@ -74,13 +74,13 @@ settle_endless t None = record { none = refl }
 settle_endless t (Some k) = token_endless t.facts t.progress k Other t.progress.start
 
 went_endless : (t : TextStage) (w : Step) (last : ℕ) → Endless (events_of_step t w last)
-went_endless t (Stays mode) last = record { none = refl }
+went_endless t (Stays state) last = record { none = refl }
 went_endless t (Ends k s) last = token_endless t.facts t.progress k s last
 
 read_endless : (t : TextStage) (c : ℕ) → Endless (events_of_reading t c)
 read_endless t c =
-    endless-append _ _ (found_endless t.progress.place (option_list_of (early_at t.facts t.mode c)))
-    (endless-append _ _ (char_endless t.progress.next (keep t.facts t.mode c)) (went_endless (stage_past_char t c) (next_step t.mode c) t.progress.kept))
+    endless-append _ _ (found_endless t.progress.place (option_list_of (early_at t.facts t.state c)))
+    (endless-append _ _ (char_endless t.progress.next (keep t.facts t.state c)) (went_endless (stage_past_char t c) (next_step t.state c) t.progress.kept))
 
 -- ---- the end comes last
 
@@ -125,14 +125,14 @@ push_stops t c next old new = by t.done
         → StopsAtEnd is_end (λ (cs : List Char). events_left next (codes_of cs)) old new
     settled true e o =
         last_stops next _ old new (ap (λ (x : TextStage). x.done) e) o
-        (behind _ _ (settle_endless t (settled_kind t.mode c)) (end_last (settle_stage t c).facts (settle_stage t c).progress text_ending.Notes))
+        (behind _ _ (settle_endless t (settled_kind t.state c)) (end_last (settle_stage t c).facts (settle_stage t c).progress text_ending.Notes))
     settled false e o =
-        endless_stops next _ old new o (endless-append _ _ (settle_endless t (settled_kind t.mode c)) (read_endless (settle_stage t c) c))
+        endless_stops next _ old new o (endless-append _ _ (settle_endless t (settled_kind t.state c)) (read_endless (settle_stage t c) c))
 
     by : (d : Bool) → next ≡ cond d t (settled_push_stage (settle_stage t c) c) → new ≡ extended_by old (cond d [] (events_of_settling t c ++ events_of_settled_push (settle_stage t c) c))
         → StopsAtEnd is_end (λ (cs : List Char). events_left next (codes_of cs)) old new
     by true e o = endless_stops next [] old new o (record { none = refl })
-    by false e o = settled (c == 40 && is_plain (settle_stage t c).mode) e o
+    by false e o = settled (c == 40 && is_plain (settle_stage t c).state) e o
 
 is_done : (t : TextStage) → (finish_stage t).done ≡ true
 is_done t = by t.done refl
@@ -141,9 +141,9 @@ is_done t = by t.done refl
     ended None = refl
     ended (Some k) = refl
 
-    by : (b : Bool) → t.done ≡ b → (cond b t (finish_stage_by t (kind_at_end t.mode))).done ≡ true
+    by : (b : Bool) → t.done ≡ b → (cond b t (finish_stage_by t (kind_at_end t.state))).done ≡ true
     by true e = e
-    by false e = ended (kind_at_end t.mode)
+    by false e = ended (kind_at_end t.state)
 
 pub finish_is_over : (t next : TextStage) → next ≡ finish_stage t → EmitsNothing (λ (cs : List Char). events_left next (codes_of cs))
 finish_is_over t next e = done_emits_nothing next (ap (λ (x : TextStage). x.done) e ∙ is_done t)
@@ -158,6 +158,6 @@ finish_stops t next old new n = by t.done
         last_stops next _ old new (ap (λ (x : TextStage). x.done) n ∙ is_done t) o
         (behind _ _ (token_endless t.facts t.progress k Other t.progress.start) (end_last (facts_after t.facts k Other) (progress_after t.facts t.progress k Other t.progress.next) (end_by k t.progress.place)))
 
-    by : (d : Bool) → new ≡ extended_by old (cond d [] (events_of_finish_by t (kind_at_end t.mode))) → StopsAtEnd is_end (λ (cs : List Char). events_left next (codes_of cs)) old new
+    by : (d : Bool) → new ≡ extended_by old (cond d [] (events_of_finish_by t (kind_at_end t.state))) → StopsAtEnd is_end (λ (cs : List Char). events_left next (codes_of cs)) old new
     by true o = endless_stops next [] old new o (record { none = refl })
-    by false o = ended (kind_at_end t.mode) o
+    by false o = ended (kind_at_end t.state) o

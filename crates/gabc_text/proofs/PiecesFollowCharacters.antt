@@ -15,7 +15,7 @@ use Rattle.gabc_text.specs.declared.token.TagEffect.{TagEffect}
 use Rattle.gabc_text.specs.declared.token.TagEffect.TheVariants as tag
 use Rattle.gabc_text.specs.declared.token.RawKind.{RawKind}
 use Rattle.gabc_text.specs.declared.token_state.TokenState.{TokenState}
-use Rattle.gabc_text.specs.declared.token_state.TokenState.TheVariants as state
+use Rattle.gabc_text.specs.declared.token_state.TokenState.TheVariants as token_state
 use Rattle.gabc_text.specs.declared.token_state.Step.{Step}
 use Rattle.gabc_text.specs.declared.token_state.Step.TheVariants.{Stays, Ends}
 use Rattle.gabc_text.specs.declared.text_facts.TextFacts.{TextFacts}
@@ -184,34 +184,34 @@ module _ (facts : TextFacts) (c : ℕ) where
       by kind.OpenTag = omega arith
       by kind.OpenTranslation = omega arith
 
-  first_pays : StepPays facts state.Plain c (first_step c)
+  first_pays : StepPays facts token_state.Plain c (first_step c)
   first_pays = dollar (c == 36) refl
     where
-      rest : (c == 37) ≡ false → (a b : Bool) → StepPays facts state.Plain c (cond a (Stays (state.Tag [])) (cond b (Stays state.Translation) (Ends (single c) tag.Other)))
+      rest : (c == 37) ≡ false → (a b : Bool) → StepPays facts token_state.Plain c (cond a (Stays (token_state.Tag [])) (cond b (Stays token_state.Translation) (Ends (single c) tag.Other)))
       rest n true b = omega arith
       rest n false true = omega arith
       rest n false false = single_pays (single c) n
 
-      comment : (b : Bool) → (c == 37) ≡ b → StepPays facts state.Plain c (cond b (Stays state.Comment) (cond (c == 60) (Stays (state.Tag [])) (cond (c == 91) (Stays state.Translation) (Ends (single c) tag.Other))))
+      comment : (b : Bool) → (c == 37) ≡ b → StepPays facts token_state.Plain c (cond b (Stays token_state.Comment) (cond (c == 60) (Stays (token_state.Tag [])) (cond (c == 91) (Stays token_state.Translation) (Ends (single c) tag.Other))))
       comment true e = omega arith
       comment false e = rest e (c == 60) (c == 91)
 
       kept_dollar : (d : ℕ) → d ≡ 36 → 1 ≤ 0 + one_if (is_some (keep_first facts d (single d)))
       kept_dollar d e = rw e (omega arith)
 
-      dollar : (b : Bool) → (c == 36) ≡ b → StepPays facts state.Plain c (cond b (Stays state.Dollar) (cond (c == 37) (Stays state.Comment) (cond (c == 60) (Stays (state.Tag [])) (cond (c == 91) (Stays state.Translation) (Ends (single c) tag.Other)))))
+      dollar : (b : Bool) → (c == 36) ≡ b → StepPays facts token_state.Plain c (cond b (Stays token_state.Dollar) (cond (c == 37) (Stays token_state.Comment) (cond (c == 60) (Stays (token_state.Tag [])) (cond (c == 91) (Stays token_state.Translation) (Ends (single c) tag.Other)))))
       dollar true e = kept_dollar c (eqb-true c 36 e)
       dollar false e = comment (c == 37) refl
 
-  tag_pays : (name : List ℕ) (e : TagEffect) → StepPays facts (state.Tag name) c (step_at_tag_end e)
+  tag_pays : (name : List ℕ) (e : TagEffect) → StepPays facts (token_state.Tag name) c (step_at_tag_end e)
   tag_pays name (tag.Opens s) = omega arith
   tag_pays name (tag.Closes s) = omega arith
   tag_pays name tag.Mark = omega arith
   tag_pays name (tag.Begins r) = omega arith
   tag_pays name tag.Other = omega arith
 
-  raw_pays : (raw : RawKind) (m : ℕ) (a b d f : Bool) → StepPays facts (state.Raw raw m) c
-      (cond a (cond b (Ends kind.Raw tag.Other) (cond d (Stays (state.Raw raw (m + 1))) (Stays (state.Raw raw 0)))) (cond f (Stays (state.Raw raw 1)) (Stays (state.Raw raw 0))))
+  raw_pays : (raw : RawKind) (m : ℕ) (a b d f : Bool) → StepPays facts (token_state.Raw raw m) c
+      (cond a (cond b (Ends kind.Raw tag.Other) (cond d (Stays (token_state.Raw raw (m + 1))) (Stays (token_state.Raw raw 0)))) (cond f (Stays (token_state.Raw raw 1)) (Stays (token_state.Raw raw 0))))
   raw_pays raw m true true d f = omega arith
   raw_pays raw m true false true f = omega arith
   raw_pays raw m true false false f = omega arith
@@ -219,30 +219,30 @@ module _ (facts : TextFacts) (c : ℕ) where
   raw_pays raw m false b d false = omega arith
 
   step_pays : (m : TokenState) → StepPays facts m c (next_step m c)
-  step_pays state.Plain = first_pays
-  step_pays state.Dollar = omega arith
-  step_pays state.Comment = omega arith
-  step_pays (state.Tag name) = by (c == 62)
+  step_pays token_state.Plain = first_pays
+  step_pays token_state.Dollar = omega arith
+  step_pays token_state.Comment = omega arith
+  step_pays (token_state.Tag name) = by (c == 62)
     where
-      by : (b : Bool) → StepPays facts (state.Tag name) c (cond b (step_at_tag_end (effect_of (60 ∷ name ++ 62 ∷ []))) (Stays (state.Tag (next_name name c))))
+      by : (b : Bool) → StepPays facts (token_state.Tag name) c (cond b (step_at_tag_end (effect_of (60 ∷ name ++ 62 ∷ []))) (Stays (token_state.Tag (next_name name c))))
       by true = tag_pays name (effect_of (60 ∷ name ++ 62 ∷ []))
       by false = omega arith
-  step_pays (state.Raw raw m) = raw_pays raw m (c == wanted_char raw m) (c == 62) (nat_lt m 5) (c == 60)
-  step_pays state.Translation = by (c == 93)
+  step_pays (token_state.Raw raw m) = raw_pays raw m (c == wanted_char raw m) (c == 62) (nat_lt m 5) (c == 60)
+  step_pays token_state.Translation = by (c == 93)
     where
-      by : (b : Bool) → StepPays facts state.Translation c (cond b (Ends kind.Translation tag.Other) (Stays state.Translation))
+      by : (b : Bool) → StepPays facts token_state.Translation c (cond b (Ends kind.Translation tag.Other) (Stays token_state.Translation))
       by true = omega arith
       by false = omega arith
 
-went_pays : (t : TextStage) (c : ℕ) (w : Step) (last : ℕ) → StepPays t.facts t.mode c w
-    → Pays (pieces_owed t + one_if (is_some (keep t.facts t.mode c))) (events_of_step (stage_past_char t c) w last) (pieces_owed (stage_after_step (stage_past_char t c) w))
+went_pays : (t : TextStage) (c : ℕ) (w : Step) (last : ℕ) → StepPays t.facts t.state c w
+    → Pays (pieces_owed t + one_if (is_some (keep t.facts t.state c))) (events_of_step (stage_past_char t c) w last) (pieces_owed (stage_after_step (stage_past_char t c) w))
 went_pays t c (Stays next) last h = record { paid = omega (arith, h) }
 went_pays t c (Ends k e) last h = record { paid = let p = (token_pays (stage_past_char t c) k e t.progress.next last).paid in omega (arith, h, p) }
 
 read_pays : (t : TextStage) (c : ℕ) → Pays (pieces_owed t) (events_of_reading t c) (pieces_owed (read_stage t c))
 read_pays t c =
-    both _ _ (none_found (pieces_owed t) t.progress.place (option_list_of (early_at t.facts t.mode c)))
-    (both _ _ (char_pays (pieces_owed t) t.progress.next (keep t.facts t.mode c)) (went_pays t c (next_step t.mode c) t.progress.kept (step_pays t.facts c t.mode)))
+    both _ _ (none_found (pieces_owed t) t.progress.place (option_list_of (early_at t.facts t.state c)))
+    (both _ _ (char_pays (pieces_owed t) t.progress.next (keep t.facts t.state c)) (went_pays t c (next_step t.state c) t.progress.kept (step_pays t.facts c t.state)))
 
 -- ---- a push, and the end
 
@@ -252,30 +252,30 @@ IsPaid m None = Unit {0}
 IsPaid m (Some k) = (facts : TextFacts) → price facts k tag.Other ≤ one_if (is_dollar m)
 
 settled_is_paid : (m : TokenState) (c : ℕ) → IsPaid m (settled_kind m c)
-settled_is_paid state.Plain c = tt
-settled_is_paid state.Dollar c = by (is_special c)
+settled_is_paid token_state.Plain c = tt
+settled_is_paid token_state.Dollar c = by (is_special c)
   where
-    by : (b : Bool) → IsPaid state.Dollar (cond b None (Some kind.Letter))
+    by : (b : Bool) → IsPaid token_state.Dollar (cond b None (Some kind.Letter))
     by true = tt
     by false = λ facts. omega arith
-settled_is_paid state.Comment c = by (c == 10)
+settled_is_paid token_state.Comment c = by (c == 10)
   where
-    by : (b : Bool) → IsPaid state.Comment (cond b (Some kind.Comment) None)
+    by : (b : Bool) → IsPaid token_state.Comment (cond b (Some kind.Comment) None)
     by true = λ facts. omega arith
     by false = tt
-settled_is_paid (state.Tag name) c = tt
-settled_is_paid (state.Raw raw m) c = tt
-settled_is_paid state.Translation c = tt
+settled_is_paid (token_state.Tag name) c = tt
+settled_is_paid (token_state.Raw raw m) c = tt
+settled_is_paid token_state.Translation c = tt
 
 end_is_paid : (m : TokenState) → IsPaid m (kind_at_end m)
-end_is_paid state.Plain = tt
-end_is_paid state.Dollar = λ facts. omega arith
-end_is_paid state.Comment = λ facts. omega arith
-end_is_paid (state.Tag name) = λ facts. omega arith
-end_is_paid (state.Raw raw m) = λ facts. omega arith
-end_is_paid state.Translation = λ facts. omega arith
+end_is_paid token_state.Plain = tt
+end_is_paid token_state.Dollar = λ facts. omega arith
+end_is_paid token_state.Comment = λ facts. omega arith
+end_is_paid (token_state.Tag name) = λ facts. omega arith
+end_is_paid (token_state.Raw raw m) = λ facts. omega arith
+end_is_paid token_state.Translation = λ facts. omega arith
 
-settle_pays : (t : TextStage) (o : Option TokenKind) → IsPaid t.mode o → Pays (pieces_owed t) (events_of_settling_by t o) (pieces_owed (settle_stage_by t o))
+settle_pays : (t : TextStage) (o : Option TokenKind) → IsPaid t.state o → Pays (pieces_owed t) (events_of_settling_by t o) (pieces_owed (settle_stage_by t o))
 settle_pays t None h = record { paid = omega arith }
 settle_pays t (Some k) h = record { paid = let p = (token_pays t k tag.Other t.progress.next t.progress.start).paid in let q = h t.facts in omega (arith, p, q) }
 
@@ -288,20 +288,20 @@ push_pays t c = by t.done
 
     by : (b : Bool) → Pays (pieces_owed t) (cond b [] (events_of_settling t c ++ events_of_settled_push (settle_stage t c) c)) (pieces_owed (cond b t (settled_push_stage (settle_stage t c) c)))
     by true = record { paid = omega arith }
-    by false = both _ _ (settle_pays t (settled_kind t.mode c) (settled_is_paid t.mode c)) (at_end (settle_stage t c) (c == 40 && is_plain (settle_stage t c).mode))
+    by false = both _ _ (settle_pays t (settled_kind t.state c) (settled_is_paid t.state c)) (at_end (settle_stage t c) (c == 40 && is_plain (settle_stage t c).state))
 
 finish_pays : (t : TextStage) → Pays (pieces_owed t) (events_of_finish t) 0
 finish_pays t = by t.done
   where
-    ended : (o : Option TokenKind) → IsPaid t.mode o → Pays (pieces_owed t) (events_of_finish_by t o) 0
+    ended : (o : Option TokenKind) → IsPaid t.state o → Pays (pieces_owed t) (events_of_finish_by t o) 0
     ended None h = record { paid = let p = (end_pays (pieces_owed t) t.facts t.progress text_ending.Finished).paid in omega (arith, p) }
     ended (Some k) h =
         both _ _ (settle_pays t (Some k) h)
         (record { paid = let p = (end_pays (pieces_owed (settle_stage_by t (Some k))) (facts_after t.facts k tag.Other) (progress_after t.facts t.progress k tag.Other t.progress.next) (end_by k t.progress.place)).paid in omega (arith, p) })
 
-    by : (b : Bool) → Pays (pieces_owed t) (cond b [] (events_of_finish_by t (kind_at_end t.mode))) 0
+    by : (b : Bool) → Pays (pieces_owed t) (cond b [] (events_of_finish_by t (kind_at_end t.state))) 0
     by true = record { paid = omega arith }
-    by false = ended (kind_at_end t.mode) (end_is_paid t.mode)
+    by false = ended (kind_at_end t.state) (end_is_paid t.state)
 
 -- ---- the events in a room
 

@@ -25,7 +25,8 @@ use Rattle.gabc_text.specs.View.{along, effect, piece_kind, is_space, is_begin, 
 use Rattle.gabc_text.specs.Events.{no_events_each, kept_lists_as, is_lone, is_whole_translation, with_first, with_last, option_list_of, count_by, end_by_rest, after_tokens}
 use Rattle.gabc_text.specs.ViewFacts.{but_end}
 use Rattle.gabc_text.specs.TextFacts.{has_style}
-use Rattle.gabc_text.specs.TextStage.{count_plus, place_after_char}
+use Rattle.gabc_text.specs.TextStage.{count_plus}
+use Rattle.gabc_places.specs.Place.{saturating_next_place}
 use Rattle.gabc_text.specs.ExampleTexts.{stands_for}
 use Rattle.gabc_text.specs.FactsPast.{facts_past, leaves_out, past, bytes_past}
 
@@ -38,7 +39,7 @@ kept_by facts k cs = kept_as (leaves_out facts k) facts.space k [] (32 ∷ []) c
 -- each character with its place, the first at this one
 abbrev pub each_kept : Place → List ℕ → List (List TextEvent)
 each_kept p [] = []
-each_kept p (c ∷ cs) = (out.Kept (record { c = c; place = p }) ∷ []) ∷ each_kept (place_after_char p c) cs
+each_kept p (c ∷ cs) = (out.Kept (record { c = c; place = p }) ∷ []) ∷ each_kept (saturating_next_place p c) cs
 
 -- what is kept of each, the first of which stands at this place
 abbrev pub lists_kept : TextFacts → Place → TokenKind → List ℕ → List (List TextEvent)
@@ -246,8 +247,8 @@ module _ (read : List ℕ) (s : TextStage) where
 
 -- what a stage will still emit for these characters and then the end: a list for each of them, and one for the end
 unfoldable pub events_left : TextStage → List ℕ → List (List TextEvent)
-events_left s t = cond s.done ([] ∷ no_events_each t) (lists_ahead (stands_for s.mode) s (stands_for s.mode ++ t))
+events_left s t = cond s.done ([] ∷ no_events_each t) (lists_ahead (stands_for s.state) s (stands_for s.state ++ t))
 
 -- the characters that a stage does not read, from the `(` on
 unfoldable pub characters_left : TextStage → List ℕ → List ℕ
-characters_left s t = cond s.done t (after_tokens (stands_for s.mode ++ t))
+characters_left s t = cond s.done t (after_tokens (stands_for s.state ++ t))

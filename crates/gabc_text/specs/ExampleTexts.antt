@@ -16,7 +16,7 @@ beginning_of raw.Alt = codes "<alt>"
 abbrev pub name_so_far : List ℕ → List ℕ
 name_so_far name = if is_one_of name 62 then codes "x" else name
 
--- a text whose reading leads into the mode: nothing between tokens, else a prefix of a token
+-- a text whose reading leads into the state: nothing between tokens, else a prefix of a token
 abbrev pub stands_for : TokenState → List ℕ
 stands_for Plain = []
 stands_for Dollar = codes "$"

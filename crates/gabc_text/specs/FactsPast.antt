@@ -10,7 +10,8 @@ use Rattle.gabc_text.specs.declared.token.TokenKind.{TokenKind}
 use Rattle.gabc_text.specs.declared.text_facts.TextFacts.{TextFacts}
 use Rattle.gabc_text.specs.Token.{Token}
 use Rattle.gabc_text.specs.View.{effect, kind_of, is_open_after, is_space, has_word, is_end, has_begin, has_translation, is_left_out_by}
-use Rattle.gabc_text.specs.TextStage.{count_plus, place_after_char}
+use Rattle.gabc_text.specs.TextStage.{count_plus}
+use Rattle.gabc_places.specs.Place.{saturating_next_place}
 
 -- the nearest tag of the style opens it, or it was open
 abbrev pub is_open_past : Style → Bool → List Token → Bool
@@ -76,7 +77,7 @@ facts_past facts before = record {
 -- the place behind these characters
 abbrev pub past : Place → List ℕ → Place
 past p [] = p
-past p (c ∷ cs) = past (place_after_char p c) cs
+past p (c ∷ cs) = past (saturating_next_place p c) cs
 
 -- how many bytes are kept with these
 abbrev pub bytes_past : ℕ → List ℕ → ℕ

@@ -20,12 +20,12 @@ one_if false = 0
 
 abbrev pub is_dollar : TokenState → Bool
 is_dollar Dollar = true
-is_dollar state = false
+is_dollar stage_is = false
 
 -- The pieces that a stage may still emit for characters that it kept: a blank that waits, and a `$`. A blank that is not kept, since one
 -- was kept before it, may wait as well where a piece came between.
 abbrev pub pieces_owed : TextStage → ℕ
-pieces_owed s = one_if (is_some s.progress.blank) + (one_if (is_dollar s.mode) + one_if (s.facts.space && not s.facts.blank))
+pieces_owed s = one_if (is_some s.progress.blank) + (one_if (is_dollar s.state) + one_if (s.facts.space && not s.facts.blank))
 
 -- with these events the stage has emitted no more pieces than it owed, and as many as it kept characters
 abbrev pub PiecesArePaid : TextStage → List TextEvent → TextStage → Type 0

@@ -59,7 +59,7 @@ letter_piece s c = record {
 -- the stage stands between tokens, and no blank waits, before a letter of ASCII
 pub record StandsBeforeLetter (s : TextStage) (c : ℕ) : Type 0 where
   pub goes_on : s.done ≡ false
-  pub between : s.mode ≡ Plain
+  pub between : s.state ≡ Plain
   pub none_waits : s.progress.blank ≡ None
   pub letter : is_ascii_alphabetic c ≡ true
 
@@ -70,13 +70,13 @@ is_silent_end s = not (list_any (has_style s.facts.styles) all_styles) && (not (
 -- the stage stands between tokens, where the text may end so
 pub record StandsBeforeSilentEnd (s : TextStage) : Type 0 where
   pub goes_on : s.done ≡ false
-  pub between : s.mode ≡ Plain
+  pub between : s.state ≡ Plain
   pub silent : is_silent_end s ≡ true
 
 -- the stage stands between tokens, before a blank, and no piece and no blank came before it
 pub record StandsBeforeFirstBlank (s : TextStage) (c : ℕ) : Type 0 where
   pub goes_on : s.done ≡ false
-  pub between : s.mode ≡ Plain
+  pub between : s.state ≡ Plain
   pub no_word : s.facts.word ≡ false
   pub no_start : s.facts.starts ≡ false
   pub no_space : s.facts.space ≡ false
@@ -92,4 +92,4 @@ stays_within _ c = false
 -- the stage stands before such a character
 pub record StandsWithin (s : TextStage) (c : ℕ) : Type 0 where
   pub goes_on : s.done ≡ false
-  pub within : stays_within s.mode c ≡ true
+  pub within : stays_within s.state c ≡ true

@@ -1,5 +1,5 @@
 -- What the machine does at a character and at the end.
-use Rattle.std.specs.Prelude.{ℕ, ◌+◌, ◌-◌, ◌^◌, min, ◌==◌, false, cond, None}
+use Rattle.std.specs.Prelude.{ℕ, ◌+◌, ◌-◌, ◌^◌, min, false, None}
 use Rattle.gabc_places.specs.declared.place.Place.{Place}
 use Rattle.gabc_text.specs.declared.token_state.TokenState.TheVariants.{Plain}
 use Rattle.gabc_text.specs.declared.stage.TextStage.{TextStage}
@@ -9,13 +9,10 @@ use Rattle.gabc_text.specs.TextFacts.{no_facts}
 abbrev pub count_plus : ℕ → ℕ → ℕ
 count_plus n more = min (n + more) (2 ^ 64 - 1)
 
-abbrev pub place_after_char : Place → ℕ → Place
-place_after_char p c = cond (c == 10) (record { line = count_plus p.line 1; column = 1 }) (record { line = p.line; column = count_plus p.column 1 })
-
 -- a machine that has read nothing
 abbrev pub fresh_stage : Place → TextStage
 fresh_stage at = record {
-  mode = Plain;
+  state = Plain;
   facts = no_facts;
   progress = record { place = at; start = 0; next = at; kept = 0; pieces = 0; blank = None; begin = None; end = None };
   done = false;

@@ -1,7 +1,7 @@
 //! Where in a text the machine stands, and what it has counted.
 
 ghost use Rattle.std.specs.Prelude.{◌≡◌, None, ℕ};
-ghost use Rattle.gabc_text.specs.TextStage.{count_plus, place_after_char};
+ghost use Rattle.gabc_text.specs.TextStage.{count_plus};
 ghost use Rattle.gabc_text.specs.View.{centre_by};
 ghost use Rattle.gabc_text.specs.Events.{count_by, option_list_of};
 ghost use Rattle.gabc_text.specs.EventsLeft.{parts_by, piece_by, piece_there, waiting_behind};
@@ -36,24 +36,6 @@ pub(crate) fn plus(n: usize, more: usize) -> usize
     ensures { result ≡ count_plus n more }
 {
     n.saturating_add(more)
-}
-
-/// The place behind a character that stands here.
-#[inline(always)]
-fn after_place(place: Place, c: char) -> Place
-    ensures { result ≡ place_after_char place c }
-{
-    if c == '\n' {
-        Place {
-            line: place.line.saturating_add(1),
-            column: 1,
-        }
-    } else {
-        Place {
-            line: place.line,
-            column: place.column.saturating_add(1),
-        }
-    }
 }
 
 /// The piece of this kind that a token is: of a character without its `$`. Before its last character, `last` bytes were kept.
@@ -192,6 +174,6 @@ impl Progress {
         if let Some(kept) = kept {
             self.kept = plus(self.kept, kept.len_utf8());
         }
-        self.next = after_place(self.next, c);
+        self.next = self.next.saturating_after(c);
     }
 }

@@ -30,7 +30,7 @@ use gabc_places::{Char, Place, Room, Stage};
 /// makes known is emitted with it; after the `(` nothing is emitted. It asks for no memory.
 #[derive(Clone, Copy)]
 pub struct TextStage {
-    mode: TokenState,
+    state: TokenState,
     facts: TextFacts,
     progress: Progress,
     done: bool,
@@ -55,7 +55,7 @@ impl TextStage {
             events_left result t ≡ events_by_point at t }
     {
         TextStage {
-            mode: TokenState::Plain,
+            state: TokenState::Plain,
             facts: no_facts(),
             progress: Progress {
                 place: at,
@@ -78,7 +78,7 @@ impl TextStage {
         ensures taken { TakesLetter self.old x result self.new }
         ensures takes { StandsBeforeLetter self.old x.c → IsSome result }
     {
-        match self.mode {
+        match self.state {
             TokenState::Plain
                 if !self.done && self.progress.blank.is_none() && is_plain_letter(x.c) => {
                 Some(self.pass_letter(x.c))
@@ -96,7 +96,7 @@ impl TextStage {
         ensures takes { StandsBeforeFirstBlank self.old x.c → IsTrue result }
     {
         let facts = self.facts;
-        match self.mode {
+        match self.state {
             TokenState::Plain
                 if x.c == ' ' && !self.done && !(facts.word || facts.starts || facts.space) => {
                 self.pass_blank();
@@ -117,10 +117,10 @@ impl TextStage {
         if self.done || !self.keeps_alone(x.c) {
             return false;
         }
-        match next_step(self.mode, x.c) {
-            Step::Stays(mode) => {
+        match next_step(self.state, x.c) {
+            Step::Stays(state) => {
                 self.progress.pass(x.c, Some(x.c));
-                self.mode = mode;
+                self.state = state;
                 true
             }
             Step::Ends { kind, effect } => {
@@ -140,7 +140,7 @@ impl TextStage {
         ensures taken { TakesEnd self.old result self.new }
         ensures takes { StandsBeforeSilentEnd self.old → IsTrue result }
     {
-        match self.mode {
+        match self.state {
             TokenState::Plain if !self.done && self.ends_silently() => {
                 self.done = true;
                 true
@@ -200,7 +200,7 @@ impl TextStage {
         self.emit_parts(kind, effect, last, out);
         let code = code_at(self.facts, kind, effect);
         emit_code(out, self.progress.place, code);
-        self.mode = TokenState::Plain;
+        self.state = TokenState::Plain;
         self.progress.pass_token(self.facts, kind, effect, place);
         self.facts.pass(kind, effect);
     }
@@ -212,7 +212,7 @@ impl TextStage {
         ensures out { out.new ≡ extended_by out.old (events_of_settling self.old c) }
         ensures few { length out.new.items ≤ length out.old.items + 3 }
     {
-        if let Some(kind) = settled_kind(self.mode, c) {
+        if let Some(kind) = settled_kind(self.state, c) {
             self.token(
                 kind,
                 TagEffect::Other,
@@ -230,14 +230,14 @@ impl TextStage {
         ensures out { out.new ≡ extended_by out.old (events_of_reading self.old c) }
         ensures few { length out.new.items ≤ length out.old.items + 5 }
     {
-        let kept = keep(self.facts, self.mode, c);
+        let kept = keep(self.facts, self.state, c);
         let last = self.progress.kept;
-        let early = early_at(self.facts, self.mode, c);
+        let early = early_at(self.facts, self.state, c);
         emit_code(out, self.progress.place, early);
         emit_char(out, self.progress.next, kept);
         self.progress.pass(c, kept);
-        match next_step(self.mode, c) {
-            Step::Stays(mode) => self.mode = mode,
+        match next_step(self.state, c) {
+            Step::Stays(state) => self.state = state,
             Step::Ends { kind, effect } => {
                 self.token(kind, effect, self.progress.next, last, out);
             }
@@ -248,7 +248,7 @@ impl TextStage {
     /// does, without its tests.
     #[inline(always)]
     fn pass_letter(&mut self, c: char) -> Piece
-        requires between { self.old.mode ≡ TokenState.Plain }
+        requires between { self.old.state ≡ TokenState.Plain }
         requires letter { IsLetterBetween c }
         ensures stage { self.new ≡ read_stage self.old c }
         ensures piece { result ≡ letter_piece self.old c }
@@ -266,7 +266,7 @@ impl TextStage {
     /// Goes past a blank between tokens that begins a word. This does with the stage what `read` does, without its tests.
     #[inline(always)]
     fn pass_blank(&mut self)
-        requires between { self.old.mode ≡ TokenState.Plain }
+        requires between { self.old.state ≡ TokenState.Plain }
         requires space { self.old.facts.space ≡ false }
         ensures { self.new ≡ read_stage self.old 32 }
     {
@@ -280,7 +280,7 @@ impl TextStage {
         ensures { self.new ≡ token_stage self.old kind effect self.old.progress.next }
     {
         let place = self.progress.next;
-        self.mode = TokenState::Plain;
+        self.state = TokenState::Plain;
         self.progress.pass_token(self.facts, kind, effect, place);
         self.facts.pass(kind, effect);
     }
@@ -305,19 +305,19 @@ impl TextStage {
     #[inline(always)]
     fn keeps_alone(&self, c: char) -> bool
         ensures alone { IsTrue result → IsKeptAlone self.now c }
-        ensures within { stays_within self.now.mode c ≡ true → IsTrue result }
+        ensures within { stays_within self.now.state c ≡ true → IsTrue result }
     {
-        !(is_plain(self.mode) && is_plain_letter(c))
-            && settled_kind(self.mode, c).is_none()
-            && !(c == '(' && is_plain(self.mode))
-            && early_at(self.facts, self.mode, c).is_none()
-            && keep(self.facts, self.mode, c) == Some(c)
+        !(is_plain(self.state) && is_plain_letter(c))
+            && settled_kind(self.state, c).is_none()
+            && !(c == '(' && is_plain(self.state))
+            && early_at(self.facts, self.state, c).is_none()
+            && keep(self.facts, self.state, c) == Some(c)
     }
 
     /// The character, which is a letter between tokens. This does what `read` does, without its tests.
     fn letter(&mut self, c: char, out: &mut Room<TextEvent>)
         requires fits { Fits out.old 5 }
-        requires between { self.old.mode ≡ TokenState.Plain }
+        requires between { self.old.state ≡ TokenState.Plain }
         requires letter { IsLetterBetween c }
         ensures stage { self.new ≡ read_stage self.old c }
         ensures out { out.new ≡ extended_by out.old (events_of_reading self.old c) }
@@ -357,11 +357,11 @@ impl TextStage {
         if self.done {
             return;
         }
-        match self.mode {
+        match self.state {
             TokenState::Plain if is_plain_letter(c) => self.letter(c, out),
             _ => {
                 self.settle(c, out);
-                if c == '(' && is_plain(self.mode) {
+                if c == '(' && is_plain(self.state) {
                     self.end(TextEnd::Notes, out);
                 } else {
                     self.read(c, out);
@@ -374,7 +374,7 @@ impl TextStage {
     pub(crate) fn is_in_raw(&self) -> bool
         ensures { result ≡ is_in_raw self.now }
     {
-        !self.done && is_unmatched(self.mode)
+        !self.done && is_unmatched(self.state)
     }
 
     /// Takes the characters of a text in a raw part. None of them begins the ending, so that each is kept, and no more is
@@ -405,7 +405,7 @@ impl TextStage {
     {
         if !self.done {
             let from = self.progress.place;
-            match kind_at_end(self.mode) {
+            match kind_at_end(self.state) {
                 Some(kind) => {
                     self.token(
                         kind,

@@ -7,12 +7,19 @@ ghost use Rattle.gabc_text.specs.machine.TextFacts.{with_style};
 /// The styles of a text, in the order in which they are printed (GregorioRef, "Syllable Text Syntax").
 #[derive(Clone, Copy, Debug, PartialEq, Eq)]
 pub enum Style {
+    /// `<b>`, bold.
     B,
+    /// `<c>`, coloured.
     C,
+    /// `<e>`, elision.
     E,
+    /// `<i>`, italic.
     I,
+    /// `<sc>`, small capitals.
     Sc,
+    /// `<tt>`, typewriter.
     Tt,
+    /// `<ul>`, underlined.
     Ul,
 }
 

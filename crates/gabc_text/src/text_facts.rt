@@ -93,10 +93,10 @@ pub(crate) fn piece_at(facts: TextFacts, kind: TokenKind, effect: TagEffect) -> 
 }
 
 /// The finding where a second translation begins.
-pub(crate) fn early_at(facts: TextFacts, mode: TokenState, c: char) -> Option<Code>
-    ensures { result ≡ early_at facts mode c }
+pub(crate) fn early_at(facts: TextFacts, state: TokenState, c: char) -> Option<Code>
+    ensures { result ≡ early_at facts state c }
 {
-    match mode {
+    match state {
         TokenState::Plain if c == '[' && facts.translated => Some(Code::W5),
         _ => None,
     }
@@ -235,10 +235,10 @@ pub(crate) fn keep_first(facts: TextFacts, c: char, kind: TokenKind) -> Option<c
 }
 
 /// What is kept of a character.
-pub(crate) fn keep(facts: TextFacts, mode: TokenState, c: char) -> Option<char>
-    ensures { result ≡ keep facts mode c }
+pub(crate) fn keep(facts: TextFacts, state: TokenState, c: char) -> Option<char>
+    ensures { result ≡ keep facts state c }
 {
-    match mode {
+    match state {
         TokenState::Plain => keep_first(facts, c, single(c)),
         TokenState::Comment => None,
         _ => Some(c),

@@ -31,10 +31,10 @@ pub enum Step {
 }
 
 /// The token that ends before the character, if one does.
-pub(crate) fn settled_kind(mode: TokenState, c: char) -> Option<TokenKind>
-    ensures { result ≡ settled_kind mode c }
+pub(crate) fn settled_kind(state: TokenState, c: char) -> Option<TokenKind>
+    ensures { result ≡ settled_kind state c }
 {
-    match mode {
+    match state {
         TokenState::Dollar => {
             if is_special(c) {
                 None
@@ -157,10 +157,10 @@ pub(crate) fn is_plain_letter(c: char) -> bool
 }
 
 /// What a character does in this state.
-pub(crate) fn next_step(mode: TokenState, c: char) -> Step
-    ensures { result ≡ next_step mode c }
+pub(crate) fn next_step(state: TokenState, c: char) -> Step
+    ensures { result ≡ next_step state c }
 {
-    match mode {
+    match state {
         TokenState::Plain => first_step(c),
         TokenState::Dollar => ends(TokenKind::Letter),
         TokenState::Comment => Step::Stays(TokenState::Comment),
@@ -183,10 +183,10 @@ pub(crate) fn next_step(mode: TokenState, c: char) -> Step
 }
 
 /// The token that the end of the text ends.
-pub(crate) fn kind_at_end(mode: TokenState) -> Option<TokenKind>
-    ensures { result ≡ kind_at_end mode }
+pub(crate) fn kind_at_end(state: TokenState) -> Option<TokenKind>
+    ensures { result ≡ kind_at_end state }
 {
-    match mode {
+    match state {
         TokenState::Plain => None,
         TokenState::Dollar => Some(TokenKind::Letter),
         TokenState::Comment => Some(TokenKind::Comment),
@@ -196,20 +196,20 @@ pub(crate) fn kind_at_end(mode: TokenState) -> Option<TokenKind>
 }
 
 /// Whether it stands between tokens.
-pub(crate) fn is_plain(mode: TokenState) -> bool
-    ensures { result ≡ is_plain mode }
+pub(crate) fn is_plain(state: TokenState) -> bool
+    ensures { result ≡ is_plain state }
 {
-    match mode {
+    match state {
         TokenState::Plain => true,
         _ => false,
     }
 }
 
 /// Whether it stands in a raw part, with no character of its ending read.
-pub(crate) fn is_unmatched(mode: TokenState) -> bool
-    ensures { result ≡ is_unmatched mode }
+pub(crate) fn is_unmatched(state: TokenState) -> bool
+    ensures { result ≡ is_unmatched state }
 {
-    match mode {
+    match state {
         TokenState::Raw { matched, .. } => matched == 0,
         _ => false,
     }

@@ -28,8 +28,11 @@ pub enum PieceKind {
 /// A piece of a text. Its span counts bytes of the kept text; that of a character is without the `$` before it.
 #[derive(Clone, Copy, Debug, PartialEq, Eq)]
 pub struct Piece {
+    /// What it is.
     pub kind: PieceKind,
+    /// The styles that are open at it.
     pub styles: Styles,
+    /// Its bytes in the kept text.
     pub span: Span,
 }
 
@@ -69,6 +72,7 @@ pub type Pieces = Growing<Piece>;
 pub struct TextView {
     /// Whether the syllable begins a word.
     pub word_start: bool,
+    /// The pieces, in order.
     pub pieces: Pieces,
     /// The centre: from and to how many pieces (GregorioRef, "Lyric Centering").
     pub centre: Option<Span>,

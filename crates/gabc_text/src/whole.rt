@@ -19,10 +19,13 @@ use std::alloc::{AllocError, Global};
 /// What a text says.
 #[derive(Debug, Drop)]
 pub struct TextRead {
+    /// What it says.
     pub view: TextView,
     /// The text without comments and what was left out, each run of blanks as one U+0020. Spans count its bytes.
     pub kept: String,
+    /// What was found, in the order of places.
     pub findings: Findings,
+    /// How it ends.
     pub how: TextEnding,
 }
 

@@ -1,12 +1,11 @@
 -- A canonical file, read again as its headers and its units.
 use Rattle.std.specs.Prelude.{◌≡◌, ℕ, List, [], ◌∷◌, ◌++◌, Some, Ok}
 use Rattle.gabc_places.specs.declared.limits.Limits.{Limits}
-use Rattle.gabc_headers.specs.Book.{nabc_lines_of}
+use Rattle.gabc_headers.specs.Book.{nabc_lines_of, macros_of}
 use Rattle.gabc_headers.specs.Canonical.{canonical_heads}
 use Rattle.gabc_headers.specs.Heads.{heads_of}
 use Rattle.gabc_headers.specs.HeadsAgain.{heads_again}
 use Rattle.gabc_text.specs.Events.{codes_of}
-use Rattle.gabc_score.specs.Score.{macros_of}
 use Rattle.gabc_score.specs.Units.{BodyUnit, JustText}
 use Rattle.gabc_score.specs.SyllablesOfUnits.{last_units, IsBodyCut}
 use Rattle.gabc_places.specs.declared.place.Char.{Char}

@@ -31,15 +31,6 @@ fn put_position<S: Put>(position: Position, out: &mut S)
     }
 }
 
-/// Puts `text`, if it is wanted.
-fn put_if<S: Put>(wanted: bool, text: &str, out: &mut S)
-    ensures { out.new ≡ S.taken out.old (if wanted then text.now else []) }
-{
-    if wanted {
-        out.put(text.as_bytes());
-    }
-}
-
 /// Puts the first line of `syllable`, with its `number`: `syllable NUMBER POSITION`, then the spans that are open.
 fn put_first_line<S: Put>(number: u64, syllable: &Syllable, out: &mut S)
     ensures { out.new ≡ S.taken out.old (first_line number (placed_of syllable.now)) }
@@ -47,8 +38,8 @@ fn put_first_line<S: Put>(number: u64, syllable: &Syllable, out: &mut S)
     out.put(b"syllable ");
     out.put(Buffer::new().format(number).as_bytes());
     put_position(syllable.position, out);
-    put_if(syllable.eu, " eu", out);
-    put_if(syllable.nlba, " nlba", out);
+    out.put(if syllable.eu { " eu" } else { "" }.as_bytes());
+    out.put(if syllable.nlba { " nlba" } else { "" }.as_bytes());
     out.put(b"\n");
 }
 

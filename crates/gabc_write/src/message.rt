@@ -47,7 +47,7 @@ fn put_code<S: Put>(code: Code, out: &mut S)
 }
 
 /// Puts `KIND: CODE: TEXT` and LF.
-fn put_words<S: Put>(code: Code, out: &mut S)
+fn put_kind<S: Put>(code: Code, out: &mut S)
     ensures put { out.new ≡ S.taken out.old (code_text code ++ codes "\n") }
     ensures short { length (code_text code) ≤ 78 }
 {
@@ -63,7 +63,7 @@ pub fn message_line<S: Put>(name: &str, place: Place, code: Code, out: &mut S)
 {
     put_both(name, ":", out);
     put_place(place, out);
-    put_words(code, out);
+    put_kind(code, out);
 }
 
 /// Returns the number of bytes of the line that tells `code` at `place` of the input `name`, with its LF. It is at most the

@@ -13,12 +13,12 @@ use Rattle.gabc_score.specs.Canonical.{canonical_in_place}
 use Rattle.gabc_score.specs.declared.ending.InputEnding.{InputEnding}
 use Rattle.gabc_score.specs.declared.ending.InputEnding.TheVariants as score_ending
 use Rattle.gabc_score.specs.declared.score.Score.{Score}
-use Rattle.gabc_headers.specs.Book.{nabc_lines_of}
+use Rattle.gabc_headers.specs.Book.{nabc_lines_of, macros_of}
 use Rattle.gabc_headers.specs.Lines.{bytes_len}
 use Rattle.gabc_places.specs.Place.{place_after, placed_characters_behind}
 use Rattle.gabc_places.specs.declared.place.Char.{Char}
 use Rattle.gabc_score.specs.Events.{body_events}
-use Rattle.gabc_score.specs.Score.{score_by, head_fault_by, macros_of, behind_heads, heads_text as heads_text_of}
+use Rattle.gabc_score.specs.Score.{score_by, head_fault_by, behind_heads, heads_text as heads_text_of}
 use Rattle.gabc_score.specs.Body.{body_of, events_to_stop, result_by}
 use Rattle.gabc_score.specs.declared.events.BodyEvent.{BodyEvent}
 use Rattle.gabc_places.specs.declared.place.Place.{Place}

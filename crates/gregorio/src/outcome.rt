@@ -14,7 +14,9 @@ use std::alloc::{AllocError, Global};
 /// What a run makes of its input: the score, and whether it was cut short since the source failed.
 #[derive(Drop)]
 pub struct Outcome {
+    /// The score as far as it was read.
     pub score: Score,
+    /// Whether the source failed.
     pub broken: bool,
 }
 

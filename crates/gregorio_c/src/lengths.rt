@@ -4,6 +4,8 @@
 #[repr(C)]
 #[derive(Debug, Drop)]
 pub struct Lengths {
+    /// The bytes of the output.
     pub output: usize,
+    /// The bytes of the messages.
     pub messages: usize,
 }

@@ -14,9 +14,13 @@ use std::alloc::{AllocError, Global};
 #[repr(C)]
 #[derive(Clone, Copy, Debug, PartialEq, Eq)]
 pub struct Message {
+    /// The line, from 1.
     pub line: u64,
+    /// The column in characters, from 1.
     pub column: u64,
+    /// 0 for a warning, 1 for an error, 2 for a fatal fault.
     pub severity: u32,
+    /// The number of its code, from 1.
     pub code: u32,
 }
 

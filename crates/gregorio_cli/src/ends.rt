@@ -26,26 +26,26 @@ impl Read for InputStream {
 
 /// Where output or messages go.
 #[derive(Drop)]
-pub(crate) enum Writer {
+pub(crate) enum OutputStream {
     Stdout(Stdout),
     Stderr(Stderr),
     File(File),
 }
 
-impl Write for Writer {
+impl Write for OutputStream {
     fn write(&mut self, buf: &[u8]) -> io::Result<usize> {
         match self {
-            Writer::Stdout(stdout) => stdout.write(buf),
-            Writer::Stderr(stderr) => stderr.write(buf),
-            Writer::File(file) => file.write(buf),
+            OutputStream::Stdout(stdout) => stdout.write(buf),
+            OutputStream::Stderr(stderr) => stderr.write(buf),
+            OutputStream::File(file) => file.write(buf),
         }
     }
 
     fn flush(&mut self) -> io::Result<()> {
         match self {
-            Writer::Stdout(stdout) => stdout.flush(),
-            Writer::Stderr(stderr) => stderr.flush(),
-            Writer::File(file) => file.flush(),
+            OutputStream::Stdout(stdout) => stdout.flush(),
+            OutputStream::Stderr(stderr) => stderr.flush(),
+            OutputStream::File(file) => file.flush(),
         }
     }
 }

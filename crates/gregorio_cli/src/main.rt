@@ -4,7 +4,7 @@
 
 mod ends;
 
-use ends::{InputStream, Writer, closed_streams};
+use ends::{InputStream, OutputStream, closed_streams};
 use gabc_places::{FromReader, Limits, ToWriter};
 use gregorio::{Input, Job, Name, Output, Plan, Refusal, Status, Words, compile, plan};
 use std::process::ExitCode;
@@ -28,7 +28,7 @@ fn words_of(rt: &HostRuntime) -> Result<Words, Refusal> {
 }
 
 /// What the words behind the program's name want.
-fn planned(rt: &HostRuntime) -> Result<Plan, Refusal> {
+fn plan_of(rt: &HostRuntime) -> Result<Plan, Refusal> {
     plan(rt.alloc(), &words_of(rt)?)
 }
 
@@ -65,12 +65,12 @@ fn run<'j>(rt: &HostRuntime, job: &'j Job) -> Result<Status, Unopened<'j>> {
         Input::File(name) => InputStream::File(open(rt, name)?),
     };
     let output = match &job.output {
-        Output::Stdout => Writer::Stdout(rt.stdout()),
-        Output::File(name) => Writer::File(create(rt, name)?),
+        Output::Stdout => OutputStream::Stdout(rt.stdout()),
+        Output::File(name) => OutputStream::File(create(rt, name)?),
     };
     let messages = match &job.messages {
-        None => Writer::Stderr(rt.stderr()),
-        Some(name) => Writer::File(create(rt, name)?),
+        None => OutputStream::Stderr(rt.stderr()),
+        Some(name) => OutputStream::File(create(rt, name)?),
     };
     Ok(compile(
         rt.alloc(),
@@ -120,7 +120,7 @@ fn refuse(rt: &HostRuntime, refusal: Refusal) -> ExitCode {
 }
 
 fn main(rt: HostRuntime) -> ExitCode {
-    match planned(&rt) {
+    match plan_of(&rt) {
         Ok(Plan::Help) => help(&rt),
         Ok(Plan::Run(job)) => run_and_finish(&rt, &job),
         Err(refusal) => refuse(&rt, refusal),

@@ -16,14 +16,18 @@ pub enum Format {
 /// Where the score comes from.
 #[derive(Debug, Drop)]
 pub enum Input {
+    /// Standard input.
     Stdin,
+    /// The file of this name.
     File(Name),
 }
 
 /// Where the output goes.
 #[derive(Debug, Drop)]
 pub enum Output {
+    /// Standard output.
     Stdout,
+    /// The file of this name.
     File(Name),
 }
 
@@ -31,17 +35,24 @@ pub enum Output {
 /// warnings are written too.
 #[derive(Debug, Drop)]
 pub struct Job {
+    /// The format of the output.
     pub format: Format,
+    /// Where the score comes from.
     pub input: Input,
+    /// Where the output goes.
     pub output: Output,
+    /// The file for messages; standard error if there is none.
     pub messages: Option<Name>,
+    /// Whether warnings are written too.
     pub all_warnings: bool,
 }
 
 /// What the words of a command line want: the help line, or a run.
 #[derive(Debug, Drop)]
 pub enum Plan {
+    /// The help line.
     Help,
+    /// A run.
     Run(Job),
 }
 

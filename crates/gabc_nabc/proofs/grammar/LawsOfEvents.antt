@@ -19,7 +19,8 @@ use Rattle.gabc_notes.specs.declared.stage.NoteEnd.TheVariants as ending
 use Rattle.gabc_notes.specs.declared.stage.NoteEvent.{NoteEvent}
 use Rattle.gabc_notes.specs.declared.stage.NoteEvent.TheVariants.{Kept, Found, Ended}
 use Rattle.gabc_nabc.specs.Table.{nabc}
-use Rattle.gabc_nabc.specs.Events.{is_character, is_end, has_end, kept_of, first_of, is_missing, finding_event, events_at, nabc_events_behind, nabc_events, end_by_mark, bytes_in}
+use Rattle.gabc_nabc.specs.Events.{is_character, is_end, has_end, kept_of, first_of, is_missing, events_at, nabc_events_behind, nabc_events, bytes_in}
+use Rattle.gabc_notes.specs.Events.{finding_event, end_by_mark}
 use Rattle.gabc_notes.specs.SnippetRead.{ends_of, kept_of as kept_in}
 use Rattle.gabc_nabc.specs.SnippetRead.{before_end_behind, before_end, from_end, kept_before, end_before}
 use Rattle.gabc_nabc.specs.declared.state.DescriptorState.{DescriptorState}

@@ -25,7 +25,8 @@ use Rattle.gabc_notes.specs.declared.stage.NoteEvent.TheVariants.{Kept, Found, E
 use Rattle.gabc_nabc.specs.Table.{nabc}
 use Rattle.gabc_nabc.specs.CharClass.{class_of_character}
 use Rattle.gabc_nabc.specs.DescriptorMachine.{next_state}
-use Rattle.gabc_nabc.specs.Events.{in_comment, is_character, is_end, has_end, kept_of, first_of, is_missing, finding_event, end_by_mark, bytes_in, end_events, events_at, nabc_events_behind, nabc_events}
+use Rattle.gabc_nabc.specs.Events.{in_comment, is_character, is_end, has_end, kept_of, first_of, is_missing, bytes_in, end_events, events_at, nabc_events_behind, nabc_events}
+use Rattle.gabc_notes.specs.Events.{finding_event, end_by_mark}
 use Rattle.gabc_nabc.specs.SnippetRead.{before_end_behind, before_end, from_end, kept_before}
 use Rattle.gabc_nabc.specs.ReadAgain.{IsNabcReadAgain}
 use Rattle.gabc_nabc.specs.declared.class.NabcClass.TheVariants.{Other}

@@ -22,11 +22,12 @@ use Rattle.gabc_patterns.specs.Derivative.{is_viable}
 use Rattle.gabc_patterns.specs.Function.{trim, keep_from}
 use Rattle.gabc_patterns.proofs.FunctionsMeetRelations.{trim_trims}
 use Rattle.gabc_nabc.specs.Table.{nabc}
-use Rattle.gabc_nabc.specs.Events.{is_character, is_end, has_end, characters_behind, kept_of, bytes_in, end_by_mark, events_at, nabc_events_behind, cut_events, nabc_events}
-use Rattle.gabc_notes.specs.SnippetRead.{findings_of}
+use Rattle.gabc_nabc.specs.Events.{is_character, is_end, has_end, characters_behind, kept_of, bytes_in, events_at, nabc_events_behind, cut_events, nabc_events}
+use Rattle.gabc_notes.specs.Events.{end_by_mark}
+use Rattle.gabc_notes.specs.SnippetRead.{findings_of, ending_at}
 use Rattle.gabc_nabc.specs.SnippetRead.{before_end_behind, before_end, from_end, kept_before, ending_behind}
 use Rattle.gabc_nabc.specs.DescriptorMachine.{stage_events_at, stage_after, events_left, events_of_cut}
-use Rattle.gabc_nabc.specs.machine.BuiltNabc.{BuiltNabc, with_events, ending_of}
+use Rattle.gabc_nabc.specs.machine.BuiltNabc.{BuiltNabc, with_events}
 use Rattle.gabc_nabc.specs.declared.stage.NabcStage.{NabcStage}
 use Rattle.gabc_nabc.proofs.machine.TextWithACharacterMore.{end_more}
 use Rattle.gabc_nabc.proofs.machine.EventsBuildSnippet.{findings_append, gathers_end, gathers_on}
@@ -211,7 +212,7 @@ trimmed u bytes len e good l small =
 pub ends : (at : Place) (t done cs : List ℕ) (place : Place) (c : ℕ) (st : NabcStage) (g now : BuiltNabc) (index len : ℕ) (end : NoteEnd)
     → Reaches at t done (c ∷ cs) place st g index → now ≡ with_events g (stage_events_at st (record { c = c; place = place })) → now.end ≡ Some (end, len)
     → IsUtf8 now.kept → length (encodes t) < 2 ^ 64
-    → IsCharBoundary now.kept len × Ends at t (take len now.kept) now.findings (ending_of end index)
+    → IsCharBoundary now.kept len × Ends at t (take len now.kept) now.findings (ending_at end index)
 ends at t done cs place c st g now index len end r f n u small = go (is_end done c) refl
   where
     x : Char
@@ -220,11 +221,11 @@ ends at t done cs place c st g now index len end r f n u small = go (is_end done
     events_now : now ≡ with_events g (events_at done x)
     events_now = f ∙ ap (with_events g) (events_here done st x r.follows)
 
-    way_same : (b : Bool) → (c == 124) ≡ b → ending_of (cond b ending.Next ending.Close) index ≡ cond b (snippet_ending.Next (length (encodes done))) (snippet_ending.Close (length (encodes done)))
+    way_same : (b : Bool) → (c == 124) ≡ b → ending_at (cond b ending.Next ending.Close) index ≡ cond b (snippet_ending.Next (length (encodes done))) (snippet_ending.Close (length (encodes done)))
     way_same true h = ap snippet_ending.Next r.counted
     way_same false h = ap snippet_ending.Close r.counted
 
-    go : (b : Bool) → is_end done c ≡ b → IsCharBoundary now.kept len × Ends at t (take len now.kept) now.findings (ending_of end index)
+    go : (b : Bool) → is_end done c ≡ b → IsCharBoundary now.kept len × Ends at t (take len now.kept) now.findings (ending_at end index)
     go false h = absurd (let k = sym r.opened ∙ (sym (ap (λ (y : BuiltNabc). y.end) (events_now ∙ gathers_on g done x r.unended h r.kept)) ∙ n) in cc)
     go true h =
         let on : now ≡ record g { findings = g.findings ++ findings_of (events_at done x); end = Some (end_by_mark c, bytes_in (trim nabc (kept_of done))) } = events_now ∙ gathers_end g done x r.unended h in
@@ -240,6 +241,6 @@ ends at t done cs place c st g now index len end r f n u small = go (is_end done
           record {
             kept_is = cut.0 ∙ rw (from, prefix) refl;
             findings_are = sym (append-nil now.findings) ∙ (ap (λ (l : List Finding). now.findings ++ l) (sym later) ∙ (findings_on g now done cs x (ap (λ (y : BuiltNabc). y.findings) on) ∙ r.findings));
-            how_is = ap (λ (w : NoteEnd). ending_of w index) (ap way_of both) ∙ (way_same (c == 124) refl ∙ rw (from, prefix) refl);
+            how_is = ap (λ (w : NoteEnd). ending_at w index) (ap way_of both) ∙ (way_same (c == 124) refl ∙ rw (from, prefix) refl);
           },
         )

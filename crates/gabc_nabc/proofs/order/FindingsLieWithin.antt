@@ -15,7 +15,8 @@ use Rattle.gabc_notes.specs.SnippetRead.{findings_of}
 use Rattle.gabc_notes.specs.declared.stage.NoteEnd.TheVariants.{Next, Close, Cut}
 use Rattle.gabc_notes.specs.declared.stage.NoteEvent.TheVariants.{Ended}
 use Rattle.gabc_nabc.specs.Table.{nabc}
-use Rattle.gabc_nabc.specs.Events.{in_comment, is_end, has_end, kept_of, bytes_in, finding_event, end_by_mark, end_events, events_at, cut_events, nabc_events_behind, nabc_events}
+use Rattle.gabc_nabc.specs.Events.{in_comment, is_end, has_end, kept_of, bytes_in, end_events, events_at, cut_events, nabc_events_behind, nabc_events}
+use Rattle.gabc_notes.specs.Events.{finding_event, end_by_mark}
 use Rattle.gabc_nabc.specs.SnippetRead.{AreAtMostOne}
 use Rattle.gabc_nabc.proofs.grammar.LawsOfEvents.{no_end}
 use Rattle.gabc_nabc.proofs.machine.EventsBuildSnippet.{findings_append}

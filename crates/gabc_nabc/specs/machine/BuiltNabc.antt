@@ -1,10 +1,7 @@
 -- What is gathered of a stage's events. It is no promise.
 use Rattle.std.specs.Prelude.{ℕ, List, [], ◌∷◌, ◌++◌, Option, Some, None, string_bytes, encode_utf8}
 use Rattle.gabc_places.specs.declared.code.Finding.{Finding}
-use Rattle.gabc_notes.specs.declared.snippet_read.SnippetEnding.{SnippetEnding}
-use Rattle.gabc_notes.specs.declared.snippet_read.SnippetEnding.TheVariants as snippet_ending
 use Rattle.gabc_notes.specs.declared.stage.NoteEnd.{NoteEnd}
-use Rattle.gabc_notes.specs.declared.stage.NoteEnd.TheVariants as ending
 use Rattle.gabc_notes.specs.declared.stage.NoteEvent.{NoteEvent}
 use Rattle.gabc_notes.specs.declared.stage.NoteEvent.TheVariants.{Kept, Found, Ended}
 use Rattle.gabc_nabc.specs.declared.whole.NabcBuilder.{NabcBuilder}
@@ -28,8 +25,3 @@ with_events g (output ∷ outputs) = with_events (with_event g output) outputs
 
 abbrev pub no_nabc : BuiltNabc
 no_nabc = record { kept = []; findings = []; end = None }
-
-abbrev pub ending_of : NoteEnd → ℕ → SnippetEnding
-ending_of ending.Next index = snippet_ending.Next index
-ending_of ending.Close index = snippet_ending.Close index
-ending_of (ending.Cut p) index = snippet_ending.Cut p

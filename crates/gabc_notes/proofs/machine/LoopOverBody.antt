@@ -19,8 +19,8 @@ use Rattle.gabc_notes.specs.Table.{gabc}
 use Rattle.gabc_notes.specs.ItemMachine.{events_left}
 use Rattle.gabc_places.proofs.PushesAreOne.{joined_silence}
 use Rattle.gabc_notes.specs.Events.{in_raw, finding_event, end_by_mark, is_missing, Point, kept, is_comment, is_end, is_over, is_fused, is_unpaired, opener, item_at, macro_of, bytes_of, warnings, at_end, events_at, cut_events, note_events, note_events_behind}
-use Rattle.gabc_notes.specs.SnippetRead.{SnippetStop, kept_of, ends_of, findings_of, stop_after, index_of, kept_by, ending_by}
-use Rattle.gabc_notes.specs.machine.BuiltSnippet.{BuiltSnippet, with_events, PushIsAdded, EndIsAdded, ending_of}
+use Rattle.gabc_notes.specs.SnippetRead.{SnippetStop, kept_of, ends_of, findings_of, stop_after, index_of, kept_by, ending_by, ending_at}
+use Rattle.gabc_notes.specs.machine.BuiltSnippet.{BuiltSnippet, with_events, PushIsAdded, EndIsAdded}
 use Rattle.gabc_notes.specs.declared.snippet_read.SnippetEnding.TheVariants as snippet
 use Rattle.gabc_notes.specs.declared.stage.NoteEnd.{NoteEnd}
 use Rattle.gabc_notes.specs.declared.stage.NoteEnd.TheVariants.{Next, Close, Cut}
@@ -258,7 +258,7 @@ pub record Stops (split : Bool) (macros : ℕ) (all : List Char) (h : BuiltSnipp
   pub splits : IsSplitPoint h.kept bytes
   pub kept_is : take bytes h.kept ≡ encodes (kept_by (stop_after split [] all).mark (stop_after split [] all).back)
   pub findings_are : h.findings ≡ findings_of (concat_of (note_events split macros all))
-  pub how_is : ending_of how index ≡ ending_by (stop_after split [] all).mark (stop_after split [] all).back
+  pub how_is : ending_at how index ≡ ending_by (stop_after split [] all).mark (stop_after split [] all).back
 
 -- at a mark
 pub stops_at : (split : Bool) (macros : ℕ) (all back xs : List Char) (x : Char) (stage next : NoteStage) (h after : BuiltSnippet) (index bytes : ℕ) (how : NoteEnd)
@@ -281,14 +281,14 @@ stops_at split macros all back xs x stage next h after index bytes how r f e l =
             ∙ ap (λ (t : List Finding). findings_of (events_at split macros (point back x)) ++ t)
             (sym (ap (λ (o : List (List NoteEvent)). findings_of (concat_of o)) (over_emits split macros xs (x ∷ back) (ap (λ (a : Bool). a || is_over split back) n.0)) ∙ ap findings_of (joined_silence xs))))
             ∙ (ap (λ (t : List Finding). h.findings ++ t) (sym (findings_append (events_at split macros (point back x)) (concat_of (note_events_behind split macros (x ∷ back) xs)))) ∙ r.findings));
-        how_is = ap (λ (w : NoteEnd). ending_of w index) ways ∙ (mark (x.c == 124) ∙ ap (λ (s : SnippetStop). ending_by s.mark s.back) (sym stop));
+        how_is = ap (λ (w : NoteEnd). ending_at w index) ways ∙ (mark (x.c == 124) ∙ ap (λ (s : SnippetStop). ending_by s.mark s.back) (sym stop));
       })
 ]
   where
     here : BuiltHere split macros back x next h after
     here = built_here split macros back x stage next h after r.rest f
 
-    mark : (b : Bool) → ending_of (cond b Next Close) index ≡ cond b (snippet.Next (index_of back)) (snippet.Close (index_of back))
+    mark : (b : Bool) → ending_at (cond b Next Close) index ≡ cond b (snippet.Next (index_of back)) (snippet.Close (index_of back))
     mark true = ap (λ (i : ℕ). snippet.Next i) r.index_is
     mark false = ap (λ (i : ℕ). snippet.Close i) r.index_is
 

@@ -3,10 +3,7 @@ use Rattle.std.specs.Prelude.{◌≡◌, ℕ, List, [], ◌∷◌, ◌++◌, Opt
 use Rattle.gabc_places.specs.declared.code.Finding.{Finding}
 use Rattle.gabc_places.specs.declared.place.Char.{Char}
 use Rattle.gabc_notes.specs.ItemMachine.{events_left}
-use Rattle.gabc_notes.specs.declared.snippet_read.SnippetEnding.{SnippetEnding}
-use Rattle.gabc_notes.specs.declared.snippet_read.SnippetEnding.TheVariants as snippet
 use Rattle.gabc_notes.specs.declared.stage.NoteEnd.{NoteEnd}
-use Rattle.gabc_notes.specs.declared.stage.NoteEnd.TheVariants.{Next, Close, Cut}
 use Rattle.gabc_notes.specs.declared.stage.NoteEvent.{NoteEvent}
 use Rattle.gabc_notes.specs.declared.stage.NoteEvent.TheVariants.{Kept, Found, Ended}
 use Rattle.gabc_notes.specs.declared.stage.NoteStage.{NoteStage}
@@ -43,8 +40,3 @@ pub record EndIsAdded (stage : NoteStage) (before after : BuiltSnippet) : Type 0
   pub events : List NoteEvent
   pub law : events_left stage [] ≡ events ∷ []
   pub built : after ≡ with_events before events
-
-abbrev pub ending_of : NoteEnd → ℕ → SnippetEnding
-ending_of Next index = snippet.Next index
-ending_of Close index = snippet.Close index
-ending_of (Cut place) index = snippet.Cut place

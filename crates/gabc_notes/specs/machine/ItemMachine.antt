@@ -1,6 +1,7 @@
 -- The machine that reads items a character at a time. It is no promise: that it reads the table is proved.
 use Rattle.std.specs.Prelude.{◌≡◌, ℕ, Bool, true, false, codes, Option, Some, None, ◌==◌, if◌then◌else◌}
 use Rattle.std.specs.Char.{len_utf8}
+use Rattle.std.specs.Option.{option_or}
 use Rattle.gabc_patterns.specs.Pattern.{is_in}
 use Rattle.gabc_notes.specs.machine.CharClass.{class_of_character}
 use Rattle.gabc_notes.specs.Notes.{is_digit}
@@ -128,13 +129,9 @@ falling_back JoinFlat = Some Pitch
 falling_back Join = Some At
 falling_back _ = Some Start
 
-abbrev pub or_else : Option ItemState → Option ItemState → Option ItemState
-or_else (Some s) o = Some s
-or_else None o = o
-
 -- the item goes on, or a new one begins
 abbrev pub next_or_begun : ItemState → CharClass → Option ItemState
-next_or_begun s k = or_else (going_on s k) (begun_item k)
+next_or_begun s k = option_or (going_on s k) (begun_item k)
 
 abbrev pub next_or_begun_at : Option ItemState → CharClass → Option ItemState
 next_or_begun_at (Some s) k = next_or_begun s k
@@ -142,7 +139,7 @@ next_or_begun_at None k = None
 
 -- the item goes on, or it ended at its longest and the reading goes on from there
 abbrev pub next_state : ItemState → CharClass → Option ItemState
-next_state s k = or_else (going_on s k) (next_or_begun_at (falling_back s) k)
+next_state s k = option_or (going_on s k) (next_or_begun_at (falling_back s) k)
 
 -- a pitch but `b` begins an item
 abbrev pub begins_item : ItemState → Bool

@@ -6,7 +6,7 @@ use Rattle.std.proofs.lemmas.List.{take-append-drop}
 use Rattle.gabc_places.specs.Place.{place_after, placed_characters_behind}
 use Rattle.gabc_headers.specs.declared.heads.Heads.{Heads}
 use Rattle.gabc_headers.specs.declared.heads.HeadFault.{HeadFault}
-use Rattle.gabc_headers.specs.Book.{nabc_lines_of}
+use Rattle.gabc_headers.specs.Book.{nabc_lines_of, macros_of}
 use Rattle.gabc_headers.specs.Canonical.{canonical_heads}
 use Rattle.gabc_headers.specs.Lines.{bytes_len}
 use Rattle.gabc_headers.specs.Heads.{head_len, heads_of}
@@ -14,7 +14,7 @@ use Rattle.gabc_text.specs.BuiltText.{with_events, empty_text, text_built_at}
 use Rattle.gabc_text.specs.Ends.{EndsOnce}
 use Rattle.gabc_text.specs.Events.{codes_of, events_by_point}
 use Rattle.gabc_score.specs.Events.{body_events}
-use Rattle.gabc_score.specs.Score.{heads_text, behind_heads, macros_of, score_by, score_of}
+use Rattle.gabc_score.specs.Score.{heads_text, behind_heads, score_by, score_of}
 use Rattle.gabc_score.specs.Holding.{HoldsNoNotes, Holds, HoldsWithNotes, HoldsParts, lines_of}
 use Rattle.gabc_score.proofs.texts_of_body.SeamsOfCharacters.{size, size_append}
 use Rattle.gabc_text.specs.ViewFacts.{StandsForView}

@@ -16,7 +16,7 @@ use Rattle.gabc_places.specs.StageLaw.{concat_of}
 use Rattle.gabc_places.specs.Place.{place_after, placed_characters_behind}
 use Rattle.gabc_headers.specs.declared.heads.Heads.{Heads}
 use Rattle.gabc_headers.specs.declared.heads.HeadFault.{HeadFault}
-use Rattle.gabc_headers.specs.Book.{nabc_lines_of, is_kept, repeats, has_header, book_of}
+use Rattle.gabc_headers.specs.Book.{nabc_lines_of, is_kept, repeats, has_header, book_of, macros_of}
 use Rattle.gabc_headers.specs.Lines.{lines, has_score}
 use Rattle.gabc_headers.specs.Parts.{HeaderPart as HeadPart, left_out, header, unended}
 use Rattle.gabc_headers.specs.Heads.{findings_behind as heads_found, findings_at, names_after, name_findings, head_findings, head_stops, heads_by, heads_of, findings_of as found_in_heads, head_parts}
@@ -35,7 +35,7 @@ use Rattle.gabc_patterns.specs.Derivative.{is_snippet, is_viable}
 use Rattle.gabc_score.specs.declared.events.BodyEvent.TheVariants as event
 use Rattle.gabc_score.specs.declared.ending.InputEnding.{InputEnding}
 use Rattle.gabc_score.specs.Events.{PartAhead, InComment, InText, InNotes, is_text_end, is_next, is_close, note_event, first_list, other_lists, events_in, events_at_end, texts_by_definition, text_from, snippet_from, next_line, behind_mark, part_at, part_behind, events_from, body_events}
-use Rattle.gabc_score.specs.Score.{macros_of, heads_text, behind_heads, score_of, score_by}
+use Rattle.gabc_score.specs.Score.{heads_text, behind_heads, score_of, score_by}
 use Rattle.gabc_score.proofs.order.FindingsOfParts.{found, found_append, text_found_append}
 use Rattle.gabc_score.proofs.order.FindingsOfReading.{read_finds}
 use Rattle.gabc_score.proofs.order.FindingsOfScore.{reached_prefix}
@@ -194,12 +194,12 @@ gabc_points split macros back (x ∷ xs) = (gabc_point split macros (record { ba
 
 nabc_end : (kept : List ℕ) (x : Char) → NoneNoted (nabc.end_events kept x)
 nabc_end kept x =
-    noted_both (if is_snippet nabc_grammar kept then [] else nabc.finding_event x.place E6 ∷ []) _ (none_if (is_snippet nabc_grammar kept) x.place E6 (λ e. cc)) tt
+    noted_both (if is_snippet nabc_grammar kept then [] else notes.finding_event x.place E6 ∷ []) _ (none_if (is_snippet nabc_grammar kept) x.place E6 (λ e. cc)) tt
 
 nabc_character : (kept : List ℕ) (x : Char) → NoneNoted (nabc.character_events kept x)
 nabc_character kept x =
     let missing = nabc.is_missing (nabc.first_of kept) x.c in
-    noted_if (is_viable nabc_grammar (kept ++ x.c ∷ [])) (note.Kept x ∷ (if missing then nabc.finding_event x.place W7 ∷ [] else [])) (nabc.finding_event x.place E3 ∷ [])
+    noted_if (is_viable nabc_grammar (kept ++ x.c ∷ [])) (note.Kept x ∷ (if missing then notes.finding_event x.place W7 ∷ [] else [])) (notes.finding_event x.place E3 ∷ [])
     (one_if missing x.place W7 (λ e. cc)) (one_found x.place E3 (λ e. cc))
 
 nabc_point : (t : List ℕ) (x : Char) → NoneNoted (nabc.events_at t x)

@@ -14,7 +14,7 @@ use Rattle.gabc_places.specs.StageLaw.{concat_of}
 use Rattle.gabc_places.specs.Place.{place_after, placed_characters_behind, next_place, place_past, placed_characters_from}
 use Rattle.gabc_headers.specs.declared.heads.Heads.{Heads}
 use Rattle.gabc_headers.specs.declared.heads.HeadFault.{HeadFault}
-use Rattle.gabc_headers.specs.Book.{nabc_lines_of}
+use Rattle.gabc_headers.specs.Book.{nabc_lines_of, macros_of}
 use Rattle.gabc_headers.specs.Heads.{head_len, heads_of, findings_of as heads_found}
 use Rattle.gabc_notes.specs.Events as notes
 use Rattle.gabc_nabc.specs.Events as nabc
@@ -24,7 +24,7 @@ use Rattle.gabc_score.specs.declared.ending.InputEnding.TheVariants.{Whole, Brok
 use Rattle.gabc_score.specs.Events.{texts_by_definition, text_from, snippet_from, body_events}
 use Rattle.gabc_score.specs.Units.{Closes, Cutting, IsCutFrom, EndsBehind, whole, cutting_of, events_of_parts, first_text, BeginsWithLf, events_of_cutting}
 use Rattle.gabc_score.specs.Body.{events_onto, findings_of, EventsToStop, events_to_stop, stopped_events, code_at, result_by, result_at_end, result_by_fault, result_whole, result_stopped, found_at_end, has_last, fault_of_end, cut_of}
-use Rattle.gabc_score.specs.Score.{heads_text, behind_heads, macros_of, score_of, score_by}
+use Rattle.gabc_score.specs.Score.{heads_text, behind_heads, score_of, score_by}
 use Rattle.gabc_score.proofs.units.BodyHasOneCutting.{one, body_emits_all}
 use Rattle.gabc_places.proofs.PlacesOfAText.{placed_behind, behind_after}
 use Rattle.gabc_score.proofs.order.FindingsOneAfterAnother.{IsBefore, AllFrom, AllUpTo, AllBefore, past_up_to, past_append, next_behind, before_then, from_earlier, from_prefix, before_append, order_append, order_then, order_prefix, all_before, lie_up_to, no_notes}

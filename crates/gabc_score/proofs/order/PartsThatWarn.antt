@@ -9,7 +9,7 @@ use Rattle.gabc_places.specs.declared.limits.Limits.{Limits}
 use Rattle.gabc_places.specs.Place.{place_after}
 use Rattle.gabc_places.specs.StageLaw.{concat_of}
 use Rattle.gabc_headers.specs.declared.heads.Heads.{Heads}
-use Rattle.gabc_headers.specs.Book.{nabc_lines_of}
+use Rattle.gabc_headers.specs.Book.{nabc_lines_of, macros_of}
 use Rattle.gabc_headers.specs.Heads.{heads_of}
 use Rattle.gabc_text.specs.declared.text_event.TextEvent.{TextEvent}
 use Rattle.gabc_text.specs.BuiltText.{found_in}
@@ -22,7 +22,7 @@ use Rattle.gabc_score.specs.declared.events.BodyEvent.{BodyEvent}
 use Rattle.gabc_score.specs.declared.ending.InputEnding.{InputEnding}
 use Rattle.gabc_score.specs.Events.{PartAhead, InText, InNotes, texts_by_definition, text_from, snippet_from, next_line, behind_mark, body_events}
 use Rattle.gabc_score.specs.FoundInParts.{snippet_events, TextWarns, SnippetsWarn, UnitsWarn}
-use Rattle.gabc_score.specs.Score.{macros_of, score_by, score_of}
+use Rattle.gabc_score.specs.Score.{score_by, score_of}
 use Rattle.gabc_score.specs.SyllablesOfUnits.{score_unit, with_ends, snippets_in, characters_from, body_characters, IsBodyCut}
 use Rattle.gabc_score.specs.Units.{Closes, CutPart, EndedPart, BodyUnit, JustText, BodyCutting, cut_part, whole, events_through, snippets_with, units_pieces, cutting_of, first_text, events_of_cutting, IsCutFrom, IsCut, events_of_parts}
 use Rattle.gabc_score.proofs.holding.SyllablesHoldParts.{nothing_of}

@@ -1,8 +1,8 @@
 -- What a stage emits that holds one whole syllable is what the definition says.
 use Rattle.std.proofs.Common.{Bool, true, false, cond, if◌then◌else◌, ◌==◌, ◌≡◌, ℕ, ◌+◌, ◌-◌, ◌<◌, ◌≤◌, ◌^◌, ◌||◌, min, nat_lt, List, [], ◌∷◌, ◌++◌, length, take, drop, Option, Some, None, option_map, refl, ap, subst, ◌∙◌, arith, length-append, length-drop}
 use Rattle.gabc_places.specs.StageLaw.{concat_of, silence}
-use Rattle.gabc_places.specs.Place.{next_place}
-use Rattle.gabc_text.specs.TextStage.{count_plus, place_after_char}
+use Rattle.gabc_places.specs.Place.{next_place, saturating_next_place}
+use Rattle.gabc_text.specs.TextStage.{count_plus}
 use Rattle.gabc_score.specs.ScoreStage.{IsPlaceBelow, AreCountsBelow}
 use Rattle.gabc_places.specs.declared.code.Code.{Code}
 use Rattle.gabc_places.specs.declared.code.Fault.{Fault}
@@ -63,16 +63,16 @@ module _ (limits : Limits) (head : ℕ) (small : limits.syllable < 2 ^ 64 - 1) (
         ap (λ (g : Gathered). outputs_of (findings_now now) (take (length g.made - 1) (placed_behind (nat_lt 1 (count_made before)) g.made))) now_is
         ∙ ap (outputs_of (findings_now now)) (placed_now (count_made before) (count_made all) (all_syllables all) refl (made_grows before now))
 
-    past_is : (at : Place) (x : Char) → score_past (holding at before) x now ≡ holding (place_after_char x.place x.c) all
+    past_is : (at : Place) (x : Char) → score_past (holding at before) x now ≡ holding (saturating_next_place x.place x.c) all
     past_is at x =
-        ap (λ (g : Gathered). record { next = place_after_char x.place x.c; gathered = with_held g; has_lent = nat_lt 1 (count_made before) || nat_lt 1 (length g.made) }) now_is
+        ap (λ (g : Gathered). record { next = saturating_next_place x.place x.c; gathered = with_held g; has_lent = nat_lt 1 (count_made before) || nat_lt 1 (length g.made) }) now_is
         ∙ ap (λ (ms : List UnplacedSyllable). record {
-          next = place_after_char x.place x.c;
+          next = saturating_next_place x.place x.c;
           gathered = record (gathered limits.syllable head all) { made = ms };
           has_lent = nat_lt 1 (count_made before) || nat_lt 1 (length (drop k (all_syllables all)));
         })
         (held_then (count_made before) (count_made all) (all_syllables all) refl (made_grows before now))
-        ∙ ap (λ b. record { next = place_after_char x.place x.c; gathered = without (count_made all - 1) (gathered limits.syllable head all); has_lent = b })
+        ∙ ap (λ b. record { next = saturating_next_place x.place x.c; gathered = without (count_made all - 1) (gathered limits.syllable head all); has_lent = b })
         (given_then_is (count_made before) (count_made all) (length (drop k (all_syllables all))) (length-drop k (all_syllables all)) (made_grows before now))
 
     abbrev last_of : Gathered → Gathered
@@ -124,7 +124,7 @@ module _ (limits : Limits) (head : ℕ) (small : limits.syllable < 2 ^ 64 - 1) (
   abbrev true_place : Char → Bool → Place
   true_place x b = if b then record { line = x.place.line + 1; column = 1 } else record { line = x.place.line; column = x.place.column + 1 }
 
-  next_is : (x : Char) → IsPlaceBelow x → place_after_char x.place x.c ≡ next_place x.place x.c
+  next_is : (x : Char) → IsPlaceBelow x → saturating_next_place x.place x.c ≡ next_place x.place x.c
   next_is x h = by (x.c == 10)
     where
       by : (b : Bool) → bounded_place x b ≡ true_place x b

@@ -1,5 +1,5 @@
 -- What a score emits says what the score says.
-use Rattle.std.proofs.Common.{◌≡◌, ℕ, ◌+◌, ◌^◌, ◌||◌, Bool, true, false, cond, List, [], ◌∷◌, ◌++◌, map, Option, Some, None, Result, Ok, Err, option_map, refl, sym, ap, ◌∙◌, ◌⊎◌, inl, inr, arith, append-nil, take-append-drop}
+use Rattle.std.proofs.Common.{◌≡◌, ℕ, ◌+◌, ◌||◌, Bool, true, false, cond, List, [], ◌∷◌, ◌++◌, map, Option, Some, None, Result, Ok, Err, option_map, refl, sym, ap, ◌∙◌, ◌⊎◌, inl, inr, append-nil, take-append-drop}
 use Rattle.gabc_places.specs.StageLaw.{concat_of}
 use Rattle.gabc_places.proofs.PlacesOfAText.{placed_behind, behind_after}
 use Rattle.gabc_places.specs.Place.{next_place, place_after, place_past, placed_characters_from, placed_characters_behind}
@@ -13,9 +13,9 @@ use Rattle.gabc_headers.specs.declared.heads.Heads.{Heads}
 use Rattle.gabc_headers.specs.declared.heads.HeadFault.{HeadFault}
 use Rattle.gabc_headers.specs.declared.head_event.HeadEvent.{HeadEvent}
 use Rattle.gabc_headers.specs.declared.head_event.HeadEvent.TheVariants as head_event
-use Rattle.gabc_headers.specs.Book.{nabc_lines_of, has_header, macro_name}
+use Rattle.gabc_headers.specs.Book.{nabc_lines_of, macros_of}
 use Rattle.gabc_headers.specs.Canonical.{canonical_heads}
-use Rattle.gabc_headers.specs.HeadEvents.{event_of_book, macros_of as macros_emitted}
+use Rattle.gabc_headers.specs.HeadEvents.{event_of_book}
 use Rattle.gabc_headers.specs.Heads.{heads_of, head_len}
 use Rattle.gabc_headers.specs.Lines.{bytes_len}
 use Rattle.gabc_score.specs.declared.body_result.BodyResult.{BodyResult}
@@ -24,7 +24,7 @@ use Rattle.gabc_score.specs.declared.ending.InputEnding.TheVariants.{Whole, Brok
 use Rattle.gabc_score.specs.declared.score.Score.{Score}
 use Rattle.gabc_score.specs.Body.{fault_at, code_by, events_to_stop, events_onto, result_by_fault, result_by}
 use Rattle.gabc_score.specs.Events.{Texts, InComment, events_from, texts_by_definition, body_events}
-use Rattle.gabc_score.specs.Score.{heads_text, behind_heads, macros_of, head_fault_by, score_by, score_of}
+use Rattle.gabc_score.specs.Score.{heads_text, behind_heads, head_fault_by, score_by, score_of}
 use Rattle.gabc_score.specs.SyllablesOfUnits.{body_characters}
 use Rattle.gabc_score.specs.ScoreEvents.{ScoreOutput, Found, Stop, characters_in, body_outputs, first_place, score_outputs, ending_events, stop_events, head_events_by, outputs_of_text, findings_in, syllables_in, fault_in, has_end, is_whole}
 use Rattle.gabc_score.proofs.building.EndOfBody.{none_longer}
@@ -44,15 +44,6 @@ found_heads : (texts : Texts) (limits : Limits) (fs : List Finding) (xs : List H
     → concat_of (score_outputs texts limits (map (λ f. head_event.Found f) fs ++ xs)) ≡ map (λ f. Found f) fs ++ concat_of (score_outputs texts limits xs)
 found_heads texts limits [] xs = refl
 found_heads texts limits (f ∷ fs) xs = ap (λ outputs. Found f ∷ outputs) (found_heads texts limits fs xs)
-
--- the macros, summed from either side
-either_side : (a b c d e f g h i j : ℕ) → a + (b + (c + (d + (e + (f + (g + (h + (i + (j + 0))))))))) ≡ 0 + a + b + c + d + e + f + g + h + i + j
-either_side a b c d e f g h i j = omega arith
-
-pub macros_are : (book : List (List ℕ × List ℕ)) → macros_emitted book ≡ macros_of book
-macros_are book =
-    let bit : ℕ → ℕ = λ d. cond (has_header (macro_name d) book) (2 ^ d) 0 in
-    either_side (bit 0) (bit 1) (bit 2) (bit 3) (bit 4) (bit 5) (bit 6) (bit 7) (bit 8) (bit 9)
 
 -- ---- the place of the end
 
@@ -117,21 +108,20 @@ module _ (limits : Limits) (ending : InputEnding) (t : List ℕ) (h : Heads) whe
   abbrev size : ℕ
   size = bytes_len (canonical_heads h.book)
 
-  abbrev body_from : List Char → ℕ → List ScoreOutput
-  body_from ys m = concat_of (body_outputs limits size first_place [] (events_from texts_by_definition (nabc_lines_of h.book) m InComment ys) to_come)
+  abbrev body_from : List Char → List ScoreOutput
+  body_from ys = concat_of (body_outputs limits size first_place [] (events_from texts_by_definition (nabc_lines_of h.book) (macros_of h.book) InComment ys) to_come)
 
   behind_says : said_by (concat_of (score_outputs texts_by_definition limits (head_events_by ending t (Ok h)))) ≡ said_of_score ending (score_by limits ending t (Ok h))
   behind_says =
       ap said_by (found_heads texts_by_definition limits h.findings (event_of_book h.book ∷ to_come))
-      ∙ found_first h.findings (body_from (characters_in to_come) (macros_emitted h.book))
-      ∙ ap (λ ys. said_before h.findings [] (said_by (body_from ys (macros_emitted h.book)))) (characters_are ending xs)
-      ∙ ap (λ m. said_before h.findings [] (said_by (body_from xs m))) (macros_are h.book)
+      ∙ found_first h.findings (body_from (characters_in to_come))
+      ∙ ap (λ ys. said_before h.findings [] (said_by (body_from ys))) (characters_are ending xs)
       ∙ by (body_says limits size h.findings ending first_place [] xs (body_events (nabc_lines_of h.book) (macros_of h.book) xs) (events_each texts_by_definition (nabc_lines_of h.book) (macros_of h.book) InComment xs))
       ∙ ap (said_of_body ending) (at_the_end limits size (nabc_lines_of h.book) (macros_of h.book) h.findings ending (heads_text t) (behind_heads t) xs refl first_place)
       ∙ ap (λ u. said_of_body ending (result_to limits size (nabc_lines_of h.book) (macros_of h.book) h.findings ending xs (place_after u))) (take-append-drop (head_len t + 2) t)
     where
-      by : {w : BodyResult} → Says (h.findings ++ []) [] ending (body_from xs (macros_of h.book)) w
-          → said_before h.findings [] (said_by (body_from xs (macros_of h.book))) ≡ said_of_body ending w
+      by : {w : BodyResult} → Says (h.findings ++ []) [] ending (body_from xs) w
+          → said_before h.findings [] (said_by (body_from xs)) ≡ said_of_body ending w
       by {w = w} s =
           ap (said_before h.findings []) s.result_is
           ∙ ap (λ ss. record { findings = h.findings ++ s.findings; syllables = ss; fault = w.fault; ended = is_whole ending w.fault }) (sym s.syllables)

@@ -7,7 +7,8 @@ use Rattle.gabc_patterns.specs.Function.{keep, trim}
 use Rattle.gabc_patterns.proofs.FunctionsMeetRelations.{keep_append}
 use Rattle.gabc_text.specs.Events.{codes_of}
 use Rattle.gabc_nabc.specs.Table.{nabc}
-use Rattle.gabc_nabc.specs.Events.{in_comment, is_character, is_end, characters_behind, has_end_behind, has_end, kept_of, finding_event, end_by_mark, bytes_in, first_of, is_missing, end_events, events_at, cut_events, nabc_events_behind}
+use Rattle.gabc_nabc.specs.Events.{in_comment, is_character, is_end, characters_behind, has_end_behind, has_end, kept_of, bytes_in, first_of, is_missing, end_events, events_at, cut_events, nabc_events_behind}
+use Rattle.gabc_notes.specs.Events.{finding_event, end_by_mark}
 use Rattle.gabc_notes.specs.declared.stage.NoteEnd.TheVariants as note_end
 use Rattle.gabc_notes.specs.declared.stage.NoteEvent.{NoteEvent}
 use Rattle.gabc_notes.specs.declared.stage.NoteEvent.TheVariants as note

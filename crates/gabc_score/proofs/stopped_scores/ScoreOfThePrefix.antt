@@ -11,7 +11,7 @@ use Rattle.gabc_places.specs.declared.place.Place.{Place}
 use Rattle.gabc_places.specs.declared.place.Char.{Char}
 use Rattle.gabc_headers.specs.declared.heads.Heads.{Heads}
 use Rattle.gabc_headers.specs.declared.heads.HeadFault.{HeadFault}
-use Rattle.gabc_headers.specs.Book.{nabc_lines_of}
+use Rattle.gabc_headers.specs.Book.{nabc_lines_of, macros_of}
 use Rattle.gabc_headers.specs.Canonical.{canonical_heads}
 use Rattle.gabc_headers.specs.Lines.{bytes_len}
 use Rattle.gabc_headers.specs.Heads.{head_len, heads_of}
@@ -34,7 +34,7 @@ use Rattle.gabc_score.specs.declared.ending.InputEnding.TheVariants.{Whole}
 use Rattle.gabc_score.specs.Body.{code_at, events_to_stop, body_of}
 use Rattle.gabc_score.specs.Canonical.{with_positions}
 use Rattle.gabc_score.specs.Events.{body_events}
-use Rattle.gabc_score.specs.Score.{heads_text, behind_heads, macros_of, with_body, score_by, score_of}
+use Rattle.gabc_score.specs.Score.{heads_text, behind_heads, with_body, score_by, score_of}
 use Rattle.gabc_score.specs.Stops.{events_in_points}
 use Rattle.gabc_score.specs.Syllable.{all_syllables}
 use Rattle.gabc_score.specs.Units.{Units, BodyCutting}

@@ -10,7 +10,7 @@ use Rattle.gabc_places.specs.declared.place.Place.{Place}
 use Rattle.gabc_places.specs.declared.place.Char.{Char}
 use Rattle.gabc_headers.specs.declared.heads.Heads.{Heads}
 use Rattle.gabc_headers.specs.declared.heads.HeadFault.{HeadFault}
-use Rattle.gabc_headers.specs.Book.{nabc_lines_of}
+use Rattle.gabc_headers.specs.Book.{nabc_lines_of, macros_of}
 use Rattle.gabc_headers.specs.Canonical.{canonical_heads}
 use Rattle.gabc_headers.specs.Lines.{bytes_len}
 use Rattle.gabc_headers.specs.Heads.{heads_of}
@@ -26,7 +26,7 @@ use Rattle.gabc_score.specs.declared.ending.InputEnding.TheVariants.{Whole, Brok
 use Rattle.gabc_score.specs.Body.{events_onto, events_to_stop, cut_of, fault_of_end, result_by_fault, result_by}
 use Rattle.gabc_score.specs.Canonical.{with_positions}
 use Rattle.gabc_score.specs.Events.{InComment, body_events, text_from, texts_by_definition}
-use Rattle.gabc_score.specs.Score.{macros_of, score_by, score_of}
+use Rattle.gabc_score.specs.Score.{score_by, score_of}
 use Rattle.gabc_score.specs.Stops.{events_in_points, StopsAt, NeverStops}
 use Rattle.gabc_score.specs.Syllable.{UnplacedSyllable, all_syllables}
 use Rattle.gabc_score.specs.Units.{BodyUnit, LastUnit, Units, BodyCutting, whole, last_pieces, units_pieces, last_characters, events_of_cutting, cutting_of, Cuts, IsCutFrom, IsCut, events_of_parts}

@@ -12,14 +12,14 @@ use Rattle.gabc_places.specs.declared.place.Char.{Char}
 use Rattle.gabc_places.specs.Place.{place_after, placed_characters_behind, place_past, placed_characters_from}
 use Rattle.gabc_headers.specs.declared.heads.Heads.{Heads}
 use Rattle.gabc_headers.specs.Lines.{bytes_len}
-use Rattle.gabc_headers.specs.Book.{nabc_lines_of}
+use Rattle.gabc_headers.specs.Book.{nabc_lines_of, macros_of}
 use Rattle.gabc_headers.specs.Canonical.{canonical_heads}
 use Rattle.gabc_headers.specs.Heads.{head_len}
 use Rattle.gabc_score.specs.declared.events.BodyEvent.{BodyEvent}
 use Rattle.gabc_score.specs.declared.ending.InputEnding.{InputEnding}
 use Rattle.gabc_score.specs.Events.{body_events}
 use Rattle.gabc_score.specs.Body.{body_of}
-use Rattle.gabc_score.specs.Score.{heads_text, behind_heads, macros_of, body_in}
+use Rattle.gabc_score.specs.Score.{heads_text, behind_heads, body_in}
 use Rattle.gabc_places.proofs.PlacesOfAText.{placed_behind, behind_after}
 
 length_encodes : (t : List ℕ) → length (encodes t) ≡ bytes_len t

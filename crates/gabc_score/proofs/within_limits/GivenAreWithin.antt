@@ -9,7 +9,7 @@ use Rattle.gabc_places.specs.declared.place.Char.{Char}
 use Rattle.gabc_places.specs.declared.place.Place.{Place}
 use Rattle.gabc_headers.specs.declared.heads.Heads.{Heads}
 use Rattle.gabc_headers.specs.declared.heads.HeadFault.{HeadFault}
-use Rattle.gabc_headers.specs.Book.{nabc_lines_of}
+use Rattle.gabc_headers.specs.Book.{nabc_lines_of, macros_of}
 use Rattle.gabc_headers.specs.Canonical.{header_lines, canonical_heads}
 use Rattle.gabc_headers.specs.Lines.{bytes_len}
 use Rattle.gabc_headers.specs.Heads.{heads_of}
@@ -20,7 +20,7 @@ use Rattle.gabc_score.specs.declared.ending.InputEnding.TheVariants.{Whole, Brok
 use Rattle.gabc_score.specs.Body.{events_onto, code_by, code_at, events_to_stop, cut_of, all_units, fault_of_end, result_by_fault, result_by}
 use Rattle.gabc_score.specs.Canonical.{with_positions}
 use Rattle.gabc_score.specs.Events.{InComment, texts_by_definition, body_events}
-use Rattle.gabc_score.specs.Score.{macros_of, score_by, score_of}
+use Rattle.gabc_score.specs.Score.{score_by, score_of}
 use Rattle.gabc_score.specs.Stops.{events_in_points, StopsAt, NeverStops}
 use Rattle.gabc_score.specs.Syllable.{all_syllables, since_close, kept_of}
 use Rattle.gabc_score.specs.SyllablesOfUnits.{body_characters}

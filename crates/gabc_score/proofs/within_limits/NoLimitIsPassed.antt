@@ -11,7 +11,7 @@ use Rattle.gabc_places.specs.declared.place.Char.{Char}
 use Rattle.gabc_places.specs.declared.place.Place.{Place}
 use Rattle.gabc_headers.specs.declared.heads.Heads.{Heads}
 use Rattle.gabc_headers.specs.declared.heads.HeadFault.{HeadFault}
-use Rattle.gabc_headers.specs.Book.{nabc_lines_of}
+use Rattle.gabc_headers.specs.Book.{nabc_lines_of, macros_of}
 use Rattle.gabc_headers.specs.Canonical.{canonical_heads}
 use Rattle.gabc_headers.specs.Lines.{bytes_len}
 use Rattle.gabc_headers.specs.Heads.{heads_of}
@@ -26,7 +26,7 @@ use Rattle.gabc_score.specs.declared.ending.InputEnding.TheVariants.{Whole}
 use Rattle.gabc_score.specs.Body.{events_onto, code_at, events_to_stop, cut_of, has_last, last_syllable, all_units, fault_at, fault_of_end, result_by_fault, result_by}
 use Rattle.gabc_score.specs.Canonical.{with_positions}
 use Rattle.gabc_score.specs.Events.{InComment, InText, texts_by_definition, text_from, body_events}
-use Rattle.gabc_score.specs.Score.{macros_of, score_by, score_of}
+use Rattle.gabc_score.specs.Score.{score_by, score_of}
 use Rattle.gabc_score.specs.Stops.{events_in_points, StopsAt, NeverStops}
 use Rattle.gabc_score.specs.Syllable.{UnplacedSyllable, PlacedSyllable, all_syllables, since_close, kept_of}
 use Rattle.gabc_score.specs.SyllablesOfUnits.{closed_units, score_units, AreSyllablesOf, body_characters, IsBodyCut}

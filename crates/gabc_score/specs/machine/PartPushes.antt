@@ -14,12 +14,6 @@ pub record EmitsLast {O : Type 0} (before : List Char → List (List O)) (most :
   pub few : length events ≤ most
   pub law : before [] ≡ events ∷ []
 
--- These are the events of x, what is emitted from then on follows them, and the answer is read off them.
-pub record PushesPart {O A : Type 0} (before after : List Char → List (List O)) (x : Char) (answer : List O → A) (most : ℕ) (events : List O) (result : A) : Type 0 where
-  pub few : length events ≤ most
-  pub law : (xs : List Char) → before (x ∷ xs) ≡ events ∷ after xs
-  pub answers : result ≡ answer events
-
 -- an event that ends a part so is the last of these
 abbrev pub EndsLast : {O : Type 0} → (O → Bool) → List O → Type 0
 EndsLast ends [] = Unit {0}
@@ -27,5 +21,4 @@ EndsLast ends (e ∷ es) = (ends e ≡ true → es ≡ []) × EndsLast ends es
 
 -- the `)` that ends a syllable is the last of these
 abbrev pub ClosesLast : List BodyEvent → Type 0
-ClosesLast [] = Unit {0}
-ClosesLast (t ∷ ts) = (closes t ≡ true → ts ≡ []) × ClosesLast ts
+ClosesLast events = EndsLast closes events

@@ -5,7 +5,7 @@ use Rattle.gabc_places.specs.declared.code.Fault.{Fault}
 use Rattle.gabc_places.specs.declared.limits.Limits.{Limits}
 use Rattle.gabc_places.specs.declared.place.Char.{Char}
 use Rattle.gabc_places.specs.declared.place.Place.{Place}
-use Rattle.gabc_text.specs.TextStage.{place_after_char}
+use Rattle.gabc_places.specs.Place.{saturating_next_place}
 use Rattle.gabc_places.specs.StageLaw.{concat_of, silence}
 use Rattle.gabc_headers.specs.declared.head_event.HeadEvent.{HeadEvent}
 use Rattle.gabc_headers.specs.declared.head_event.HeadEvent.TheVariants as head_event
@@ -51,7 +51,7 @@ with_held g = record g { made = drop (length g.made - 1) g.made }
 abbrev pub score_past : HeldScore → Char → List BodyEvent → HeldScore
 score_past s x now =
     let g = with_all s.gathered now in
-    record { next = place_after_char x.place x.c; gathered = with_held g; has_lent = s.has_lent || nat_lt 1 (length g.made) }
+    record { next = saturating_next_place x.place x.c; gathered = with_held g; has_lent = s.has_lent || nat_lt 1 (length g.made) }
 
 abbrev pub end_outputs_by : HeldScore → List BodyEvent → Option Fault → List ScoreOutput
 end_outputs_by s now (Some fault) = stop_outputs s fault

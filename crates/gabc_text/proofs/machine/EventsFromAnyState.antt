@@ -20,7 +20,7 @@ use Rattle.gabc_text.specs.View.{effect, is_open_kind, is_translation}
 use Rattle.gabc_text.specs.Events.{option_list_of, is_lone, with_first, with_last, no_events_each}
 use Rattle.gabc_text.specs.machine.TextFacts.{early_at, facts_after}
 use Rattle.gabc_text.specs.machine.TokenState.{settled_kind, next_step, keep, kind_at_end, is_plain}
-use Rattle.gabc_text.specs.TextStage.{place_after_char}
+use Rattle.gabc_places.specs.Place.{saturating_next_place}
 use Rattle.gabc_text.specs.machine.TextStage.{events_of_settling_by, settle_stage_by, settled_push_stage, events_of_settled_push, events_of_reading, read_stage, events_of_step, stage_after_step, stage_past_char, progress_past, char_event, bytes_with, token_stage, events_of_token, events_of_end, end_stage, events_of_finish_by, end_by, progress_after, is_cut_end}
 use Rattle.gabc_text.specs.FactsPast.{past, bytes_past}
 use Rattle.gabc_text.specs.EventsLeft.{findings_there, kept_by, lists_kept, early_events_by, last_by, token_events_by, lists_past, lists_last, owed_events_at, facts_at, progress_at}
@@ -54,13 +54,13 @@ but_end_is (x ∷ held) c = but_last_is x (held ++ c ∷ []) (x ∷ held) c refl
 module _ (read : List ℕ) (s : TextStage) where
   -- the machine has read this more of the first token
   abbrev pub progress_in : TokenState → List ℕ → Progress
-  progress_in mode more = record (s.progress) { next = past s.progress.next more; kept = bytes_past s.progress.kept (kept_held mode more) }
+  progress_in state more = record (s.progress) { next = past s.progress.next more; kept = bytes_past s.progress.kept (kept_held state more) }
 
   abbrev pub stage_in : TokenState → List ℕ → TextStage
-  stage_in mode more = record { mode = mode; facts = s.facts; progress = progress_in mode more; done = false }
+  stage_in state more = record { state = state; facts = s.facts; progress = progress_in state more; done = false }
 
   abbrev pub emitted_in : TokenState → List ℕ → List (List TextEvent)
-  emitted_in mode more = lists_held read s.facts s.progress.place s.progress.next mode more
+  emitted_in state more = lists_held read s.facts s.progress.place s.progress.next state more
 
   -- what is emitted of a text that begins with what was read
   abbrev pub ahead : List ℕ → List (List TextEvent)
@@ -79,7 +79,7 @@ module _ (read : List ℕ) (s : TextStage) where
 
   -- a token of this kind is what was read of it
   abbrev Closing : TokenState → List ℕ → Token → TokenKind → Type 0
-  Closing mode more k d = (kept_held mode more ≡ kept_by s.facts d more) × (in_translation mode ≡ is_translation d) × (each_held read s.facts s.progress.place s.progress.next mode more ≡ lists_kept s.facts s.progress.next d more) × Quiet k d
+  Closing state more k d = (kept_held state more ≡ kept_by s.facts d more) × (in_translation state ≡ is_translation d) × (each_held read s.facts s.progress.place s.progress.next state more ≡ lists_kept s.facts s.progress.next d more) × Quiet k d
 
   closing_letter : (held more : List ℕ) (k : Token) → held ≡ 36 ∷ [] → spelling k ≡ held → Closing Dollar more k kind.Letter
   closing_letter held more k h f =
@@ -89,7 +89,7 @@ module _ (read : List ℕ) (s : TextStage) where
   closing_comment : (more : List ℕ) (k : Token) → Closing Comment more k kind.Comment
   closing_comment more k = (refl, refl, refl, inr (λ progress last. refl))
 
-  settle_closing : (mode : TokenState) (held more : List ℕ) (c : ℕ) (k : Token) → Holds mode held → settled_kind mode c ≡ Some k.kind → spelling k ≡ held → Closing mode more k k.kind
+  settle_closing : (state : TokenState) (held more : List ℕ) (c : ℕ) (k : Token) → Holds state held → settled_kind state c ≡ Some k.kind → spelling k ≡ held → Closing state more k k.kind
   settle_closing Plain held more c k h e f = absurd (cc)
   settle_closing Dollar held more c k h e f = by (is_special c) k.kind e
     where
@@ -105,7 +105,7 @@ module _ (read : List ℕ) (s : TextStage) where
   settle_closing (Raw raw m) held more c k h e f = absurd (cc)
   settle_closing Translation held more c k h e f = absurd (cc)
 
-  end_closing : (mode : TokenState) (held more : List ℕ) (k : Token) (d : TokenKind) → Holds mode held → kind_at_end mode ≡ Some d → spelling k ≡ held → Closing mode more k d
+  end_closing : (state : TokenState) (held more : List ℕ) (k : Token) (d : TokenKind) → Holds state held → kind_at_end state ≡ Some d → spelling k ≡ held → Closing state more k d
   end_closing Plain held more k d h e f = absurd (cc)
   end_closing Dollar held more k d h e f = let same : kind.Letter ≡ d = cc in subst (Closing Dollar more k) same (closing_letter held more k h f)
   end_closing Comment held more k d h e f = let same : kind.Comment ≡ d = cc in subst (Closing Comment more k) same (closing_comment more k)
@@ -113,21 +113,21 @@ module _ (read : List ℕ) (s : TextStage) where
   end_closing (Raw raw m) held more k d h e f = let same : kind.OpenTag ≡ d = cc in subst (Closing (Raw raw m) more k) same (refl, refl, refl, inr (λ progress last. refl))
   end_closing Translation held more k d h e f = let same : kind.OpenTranslation ≡ d = cc in subst (Closing Translation more k) same (refl, refl, refl, inr (λ progress last. refl))
 
-  record Closed (mode : TokenState) (more : List ℕ) (k : Token) : Type 0 where
-    lists : emitted_in mode more ≡ lists_past read s [] k
-    owes : events_of_token s.facts (progress_in mode more) k.kind Other s.progress.start ≡ owed_events_at read s (k ∷ [])
-    state : token_stage (stage_in mode more) k.kind Other (past s.progress.next more) ≡ past_token read s k
+  record Closed (state : TokenState) (more : List ℕ) (k : Token) : Type 0 where
+    lists : emitted_in state more ≡ lists_past read s [] k
+    owes : events_of_token s.facts (progress_in state more) k.kind Other s.progress.start ≡ owed_events_at read s (k ∷ [])
+    stage_is : token_stage (stage_in state more) k.kind Other (past s.progress.next more) ≡ past_token read s k
 
-  closed : (mode : TokenState) (more : List ℕ) (k : Token) → drop (length read) (spelling k) ≡ more → effect k ≡ Other → Closing mode more k k.kind → Closed mode more k
-  closed mode more k e so h = record {
+  closed : (state : TokenState) (more : List ℕ) (k : Token) → drop (length read) (spelling k) ≡ more → effect k ≡ Other → Closing state more k k.kind → Closed state more k
+  closed state more k e so h = record {
     lists = sym (ap (λ (x : List TextEvent). with_last x (with_first (early_events_by s.facts s.progress.place read k.kind) (lists_kept s.facts s.progress.next k.kind (drop (length read) (spelling k))))) (nothing_now (is_lone k) refl h.3)
         ∙ with_none (with_first (early_events_by s.facts s.progress.place read k.kind) (lists_kept s.facts s.progress.next k.kind (drop (length read) (spelling k))))
         ∙ rw (e, early_is s.facts s.progress.place read k.kind, ← h.1, ← h.2) refl);
     owes = owes_it (is_lone k) refl h.3;
-    state = rw (e, so, h.0) refl;
+    stage_is = rw (e, so, h.0) refl;
   }
     where
-      whole_is : (last : ℕ) → events_of_token s.facts (progress_in mode more) k.kind Other last ≡ events_of_token s.facts (behind s.facts s.progress k.kind (drop (length read) (spelling k))) k.kind (effect k) last
+      whole_is : (last : ℕ) → events_of_token s.facts (progress_in state more) k.kind Other last ≡ events_of_token s.facts (behind s.facts s.progress k.kind (drop (length read) (spelling k))) k.kind (effect k) last
       whole_is last = rw (e, so, h.0) refl
 
       nothing_now : (b : Bool) → is_lone k ≡ b → Quiet k k.kind → cond (is_lone k) [] (token_events_by s.facts s.progress k (drop (length read) (spelling k))) ≡ []
@@ -142,36 +142,36 @@ module _ (read : List ℕ) (s : TextStage) where
       owed_is : (b : Bool) → is_lone k ≡ b → cond b (token_events_by s.facts s.progress k (drop (length read) (spelling k))) [] ≡ owed_events_at read s (k ∷ [])
       owed_is b f = ap (λ (b : Bool). cond b (token_events_by s.facts s.progress k (drop (length read) (spelling k))) []) (sym f)
 
-      owes_it : (b : Bool) → is_lone k ≡ b → Quiet k k.kind → events_of_token s.facts (progress_in mode more) k.kind Other s.progress.start ≡ owed_events_at read s (k ∷ [])
+      owes_it : (b : Bool) → is_lone k ≡ b → Quiet k k.kind → events_of_token s.facts (progress_in state more) k.kind Other s.progress.start ≡ owed_events_at read s (k ∷ [])
       owes_it true f q =
           whole_is s.progress.start
           ∙ ap (λ (b : Bool). events_of_token s.facts (behind s.facts s.progress k.kind (drop (length read) (spelling k))) k.kind (effect k) (cond b s.progress.start (bytes_past s.progress.kept (but_end (drop (length read) (spelling k)))))) (sym f)
           ∙ whole_same s.facts s.progress k (drop (length read) (spelling k))
           ∙ owed_is true f
       owes_it false f (inl q) = absurd (cc)
-      owes_it false f (inr q) = q (progress_in mode more) s.progress.start ∙ owed_is false f
+      owes_it false f (inr q) = q (progress_in state more) s.progress.start ∙ owed_is false f
 
   -- ---- the counts at a character that is read
 
-  next_goes : (more : List ℕ) (c : ℕ) → place_after_char (past s.progress.next more) c ≡ past s.progress.next (more ++ c ∷ [])
+  next_goes : (more : List ℕ) (c : ℕ) → saturating_next_place (past s.progress.next more) c ≡ past s.progress.next (more ++ c ∷ [])
   next_goes more c = sym (past_append s.progress.next more (c ∷ []))
 
-  bytes_goes : (mode : TokenState) (more : List ℕ) (c : ℕ) (kept : List ℕ) → kept_held mode more ++ option_list_of (keep s.facts mode c) ≡ kept
-      → bytes_with (bytes_past s.progress.kept (kept_held mode more)) (keep s.facts mode c) ≡ bytes_past s.progress.kept kept
-  bytes_goes mode more c kept e =
-      bytes_go (bytes_past s.progress.kept (kept_held mode more)) (keep s.facts mode c)
-      ∙ sym (bytes_past_append s.progress.kept (kept_held mode more) (option_list_of (keep s.facts mode c)))
+  bytes_goes : (state : TokenState) (more : List ℕ) (c : ℕ) (kept : List ℕ) → kept_held state more ++ option_list_of (keep s.facts state c) ≡ kept
+      → bytes_with (bytes_past s.progress.kept (kept_held state more)) (keep s.facts state c) ≡ bytes_past s.progress.kept kept
+  bytes_goes state more c kept e =
+      bytes_go (bytes_past s.progress.kept (kept_held state more)) (keep s.facts state c)
+      ∙ sym (bytes_past_append s.progress.kept (kept_held state more) (option_list_of (keep s.facts state c)))
       ∙ ap (bytes_past s.progress.kept) e
 
   -- ---- what is emitted from the character c on
 
   abbrev From : TokenState → List ℕ → List ℕ → ℕ → List ℕ → List TextEvent → TextStage → Type 0
-  From mode more held c t events next = (emitted_in mode more ++ (events ∷ stepwise next t) ≡ ahead (held ++ c ∷ t)) × (LeftAt next c t ≡ remaining (held ++ c ∷ t))
+  From state more held c t events next = (emitted_in state more ++ (events ∷ stepwise next t) ≡ ahead (held ++ c ∷ t)) × (LeftAt next c t ≡ remaining (held ++ c ∷ t))
 
 -- from any state on, for these characters
 abbrev pub Runs : List ℕ → Type 0
-Runs t = (read : List ℕ) (s : TextStage) (mode : TokenState) (more held : List ℕ) → held ≡ read ++ more → Holds mode held
-    → (emitted_in read s mode more ++ stepwise (stage_in read s mode more) t ≡ ahead read s (held ++ t)) × (stepwise_left (stage_in read s mode more) t ≡ remaining (held ++ t))
+Runs t = (read : List ℕ) (s : TextStage) (state : TokenState) (more held : List ℕ) → held ≡ read ++ more → Holds state held
+    → (emitted_in read s state more ++ stepwise (stage_in read s state more) t ≡ ahead read s (held ++ t)) × (stepwise_left (stage_in read s state more) t ≡ remaining (held ++ t))
 
 -- one list more
 moved : (xs : List (List TextEvent)) (ys : List TextEvent) (rest : List (List TextEvent)) → xs ++ (ys ∷ rest) ≡ (xs ++ ys ∷ []) ++ rest
@@ -181,7 +181,7 @@ moved xs ys rest = sym (append_assoc xs (ys ∷ []) rest)
 to_come : (read more : List ℕ) (k : Token) → spelling k ≡ read ++ more → drop (length read) (spelling k) ≡ more
 to_come read more k e = ap (drop (length read)) e ∙ drop_past read more
 
-more_kept : (mode : TokenState) (c : ℕ) (d : TokenKind) (so : TagEffect) (more : List ℕ) → (mode ≡ Plain → more ≡ []) → next_step mode c ≡ Ends d so → kept_held mode more ≡ more
+more_kept : (state : TokenState) (c : ℕ) (d : TokenKind) (so : TagEffect) (more : List ℕ) → (state ≡ Plain → more ≡ []) → next_step state c ≡ Ends d so → kept_held state more ≡ more
 more_kept Plain c d so more h e = sym (h refl)
 more_kept Comment c d so more h e = absurd (cc)
 more_kept _ c d so more h e = refl
@@ -194,93 +194,93 @@ notes_end s t = (
   refl,
 )
 
-module _ (c : ℕ) (t : List ℕ) (read : List ℕ) (s : TextStage) (mode : TokenState) (more held : List ℕ) (here : held ≡ read ++ more) (holds : Holds mode held) where
+module _ (c : ℕ) (t : List ℕ) (read : List ℕ) (s : TextStage) (state : TokenState) (more held : List ℕ) (here : held ≡ read ++ more) (holds : Holds state held) where
   abbrev stage : TextStage
-  stage = stage_in read s mode more
+  stage = stage_in read s state more
 
   abbrev FromStep : Step → Type 0
-  FromStep w = From read s mode more held c t
-      (findings_there s.progress.place (option_list_of (early_at s.facts mode c)) ++ (option_list_of (char_event (past s.progress.next more) (keep s.facts mode c)) ++ events_of_step (stage_past_char stage c) w (bytes_past s.progress.kept (kept_held mode more))))
+  FromStep w = From read s state more held c t
+      (findings_there s.progress.place (option_list_of (early_at s.facts state c)) ++ (option_list_of (char_event (past s.progress.next more) (keep s.facts state c)) ++ events_of_step (stage_past_char stage c) w (bytes_past s.progress.kept (kept_held state more))))
       (stage_after_step (stage_past_char stage c) w)
 
   -- what is emitted with the character of a second translation, and of itself
   abbrev events_early : List TextEvent
-  events_early = findings_there s.progress.place (option_list_of (early_at s.facts mode c))
+  events_early = findings_there s.progress.place (option_list_of (early_at s.facts state c))
 
   abbrev events_kept : List TextEvent
-  events_kept = option_list_of (char_event (past s.progress.next more) (keep s.facts mode c))
+  events_kept = option_list_of (char_event (past s.progress.next more) (keep s.facts state c))
 
-  in_read : Holds mode (read ++ more)
-  in_read = subst (Holds mode) here holds
+  in_read : Holds state (read ++ more)
+  in_read = subst (Holds state) here holds
 
-  plain_none : mode ≡ Plain → more ≡ []
-  plain_none e = (none_held mode read more e in_read).1
+  plain_none : state ≡ Plain → more ≡ []
+  plain_none e = (none_held state read more e in_read).1
 
-  events_next : ListsGo read s.facts s.progress.place s.progress.next (emitted_in read s mode more ++ events_read read s.facts s.progress.place s.progress.next mode more c ∷ []) more c (next_step mode c)
-  events_next = lists_goes read s.facts s.progress.place s.progress.next mode more c in_read
+  events_next : ListsGo read s.facts s.progress.place s.progress.next (emitted_in read s state more ++ events_read read s.facts s.progress.place s.progress.next state more c ∷ []) more c (next_step state c)
+  events_next = lists_goes read s.facts s.progress.place s.progress.next state more c in_read
 
-  kept_next : KeptGo s.facts (kept_held mode more ++ option_list_of (keep s.facts mode c)) more c (next_step mode c)
-  kept_next = kept_goes s.facts mode more c plain_none
+  kept_next : KeptGo s.facts (kept_held state more ++ option_list_of (keep s.facts state c)) more c (next_step state c)
+  kept_next = kept_goes s.facts state more c plain_none
 
   longer : held ++ c ∷ [] ≡ read ++ (more ++ c ∷ [])
   longer = ap (λ (x : List ℕ). x ++ c ∷ []) here ∙ append_assoc read more (c ∷ [])
 
-  stays : (next : TokenState) → Runs t → next_step mode c ≡ Stays next → Holds next (held ++ c ∷ []) → FromStep (Stays next)
+  stays : (next : TokenState) → Runs t → next_step state c ≡ Stays next → Holds next (held ++ c ∷ []) → FromStep (Stays next)
   stays next ih e h =
-      let kept : kept_held mode more ++ option_list_of (keep s.facts mode c) ≡ kept_held next (more ++ c ∷ []) =
-      subst (KeptGo s.facts (kept_held mode more ++ option_list_of (keep s.facts mode c)) more c) e kept_next in
-      let lists : emitted_in read s mode more ++ events_read read s.facts s.progress.place s.progress.next mode more c ∷ [] ≡ emitted_in read s next (more ++ c ∷ []) =
-      subst (ListsGo read s.facts s.progress.place s.progress.next (emitted_in read s mode more ++ events_read read s.facts s.progress.place s.progress.next mode more c ∷ []) more c) e events_next in
-      let state : stage_after_step (stage_past_char stage c) (Stays next) ≡ stage_in read s next (more ++ c ∷ []) =
-      rw (next_goes read s more c, bytes_goes read s mode more c (kept_held next (more ++ c ∷ [])) kept) refl in
+      let kept : kept_held state more ++ option_list_of (keep s.facts state c) ≡ kept_held next (more ++ c ∷ []) =
+      subst (KeptGo s.facts (kept_held state more ++ option_list_of (keep s.facts state c)) more c) e kept_next in
+      let lists : emitted_in read s state more ++ events_read read s.facts s.progress.place s.progress.next state more c ∷ [] ≡ emitted_in read s next (more ++ c ∷ []) =
+      subst (ListsGo read s.facts s.progress.place s.progress.next (emitted_in read s state more ++ events_read read s.facts s.progress.place s.progress.next state more c ∷ []) more c) e events_next in
+      let stage_is : stage_after_step (stage_past_char stage c) (Stays next) ≡ stage_in read s next (more ++ c ∷ []) =
+      rw (next_goes read s more c, bytes_goes read s state more c (kept_held next (more ++ c ∷ [])) kept) refl in
       let run = ih read s next (more ++ c ∷ []) (held ++ c ∷ []) longer h in (
-        ap (λ (x : TextStage). emitted_in read s mode more ++ ((findings_there s.progress.place (option_list_of (early_at s.facts mode c)) ++ (option_list_of (char_event (past s.progress.next more) (keep s.facts mode c)) ++ [])) ∷ stepwise x t)) state
-            ∙ ap (λ (x : List TextEvent). emitted_in read s mode more ++ ((findings_there s.progress.place (option_list_of (early_at s.facts mode c)) ++ x) ∷ stepwise (stage_in read s next (more ++ c ∷ [])) t)) (append-nil (option_list_of (char_event (past s.progress.next more) (keep s.facts mode c))))
-            ∙ moved (emitted_in read s mode more) (events_read read s.facts s.progress.place s.progress.next mode more c) (stepwise (stage_in read s next (more ++ c ∷ [])) t)
+        ap (λ (x : TextStage). emitted_in read s state more ++ ((findings_there s.progress.place (option_list_of (early_at s.facts state c)) ++ (option_list_of (char_event (past s.progress.next more) (keep s.facts state c)) ++ [])) ∷ stepwise x t)) stage_is
+            ∙ ap (λ (x : List TextEvent). emitted_in read s state more ++ ((findings_there s.progress.place (option_list_of (early_at s.facts state c)) ++ x) ∷ stepwise (stage_in read s next (more ++ c ∷ [])) t)) (append-nil (option_list_of (char_event (past s.progress.next more) (keep s.facts state c))))
+            ∙ moved (emitted_in read s state more) (events_read read s.facts s.progress.place s.progress.next state more c) (stepwise (stage_in read s next (more ++ c ∷ [])) t)
             ∙ ap (λ (x : List (List TextEvent)). x ++ stepwise (stage_in read s next (more ++ c ∷ [])) t) lists
             ∙ run.0
             ∙ ap (ahead read s) (append_assoc held (c ∷ []) t),
-        ap (λ (x : TextStage). LeftAt x c t) state ∙ run.1 ∙ ap remaining (append_assoc held (c ∷ []) t),
+        ap (λ (x : TextStage). LeftAt x c t) stage_is ∙ run.1 ∙ ap remaining (append_assoc held (c ∷ []) t),
       )
 
   -- a token that the character ends
-  module _ (so : TagEffect) (k : Token) (e : next_step mode c ≡ Ends k.kind so) (sk : effect k ≡ so) (f : spelling k ≡ held ++ c ∷ []) where
+  module _ (so : TagEffect) (k : Token) (e : next_step state c ≡ Ends k.kind so) (sk : effect k ≡ so) (f : spelling k ≡ held ++ c ∷ []) where
     come : drop (length read) (spelling k) ≡ more ++ c ∷ []
     come = to_come read (more ++ c ∷ []) k (f ∙ longer)
 
     lone : is_lone k ≡ false
-    lone = not_lone mode held c k so holds e f
+    lone = not_lone state held c k so holds e f
 
-    spot_is : progress_past (progress_in read s mode more) c (keep s.facts mode c) ≡ behind s.facts s.progress k.kind (more ++ c ∷ [])
+    spot_is : progress_past (progress_in read s state more) c (keep s.facts state c) ≡ behind s.facts s.progress k.kind (more ++ c ∷ [])
     spot_is =
-        let kept : kept_held mode more ++ option_list_of (keep s.facts mode c) ≡ kept_by s.facts k.kind (more ++ c ∷ []) =
-        subst (KeptGo s.facts (kept_held mode more ++ option_list_of (keep s.facts mode c)) more c) e kept_next in
-        rw (next_goes read s more c, bytes_goes read s mode more c (kept_by s.facts k.kind (more ++ c ∷ [])) kept) refl
+        let kept : kept_held state more ++ option_list_of (keep s.facts state c) ≡ kept_by s.facts k.kind (more ++ c ∷ []) =
+        subst (KeptGo s.facts (kept_held state more ++ option_list_of (keep s.facts state c)) more c) e kept_next in
+        rw (next_goes read s more c, bytes_goes read s state more c (kept_by s.facts k.kind (more ++ c ∷ [])) kept) refl
 
-    last_is : bytes_past s.progress.kept (kept_held mode more) ≡ last_by s.progress k (more ++ c ∷ [])
-    last_is = rw (lone, but_end_is more c) (ap (bytes_past s.progress.kept) (more_kept mode c k.kind so more plain_none e))
+    last_is : bytes_past s.progress.kept (kept_held state more) ≡ last_by s.progress k (more ++ c ∷ [])
+    last_is = rw (lone, but_end_is more c) (ap (bytes_past s.progress.kept) (more_kept state c k.kind so more plain_none e))
 
-    emitted_are : events_of_step (stage_past_char stage c) (Ends k.kind so) (bytes_past s.progress.kept (kept_held mode more)) ≡ token_events_by s.facts s.progress k (more ++ c ∷ [])
+    emitted_are : events_of_step (stage_past_char stage c) (Ends k.kind so) (bytes_past s.progress.kept (kept_held state more)) ≡ token_events_by s.facts s.progress k (more ++ c ∷ [])
     emitted_are =
-        ap (λ (x : Progress). events_of_token s.facts x k.kind so (bytes_past s.progress.kept (kept_held mode more))) spot_is
+        ap (λ (x : Progress). events_of_token s.facts x k.kind so (bytes_past s.progress.kept (kept_held state more))) spot_is
         ∙ ap (events_of_token s.facts (behind s.facts s.progress k.kind (more ++ c ∷ [])) k.kind so) last_is
         ∙ ap (λ (x : TagEffect). events_of_token s.facts (behind s.facts s.progress k.kind (more ++ c ∷ [])) k.kind x (last_by s.progress k (more ++ c ∷ []))) (sym sk)
         ∙ whole_same s.facts s.progress k (more ++ c ∷ [])
 
     state_is : stage_after_step (stage_past_char stage c) (Ends k.kind so) ≡ past_token read s k
     state_is =
-        ap (λ (x : Progress). record { mode = Plain; facts = facts_after s.facts k.kind so; progress = progress_after s.facts x k.kind so x.next; done = false }) spot_is
-        ∙ ap (λ (x : TagEffect). record { mode = Plain; facts = facts_after s.facts k.kind x; progress = progress_after s.facts (behind s.facts s.progress k.kind (more ++ c ∷ [])) k.kind x (past s.progress.next (more ++ c ∷ [])); done = false }) (sym sk)
-        ∙ ap (λ (x : List ℕ). record { mode = Plain; facts = facts_after s.facts k.kind (effect k); progress = progress_after s.facts (behind s.facts s.progress k.kind x) k.kind (effect k) (past s.progress.next x); done = false }) (sym come)
+        ap (λ (x : Progress). record { state = Plain; facts = facts_after s.facts k.kind so; progress = progress_after s.facts x k.kind so x.next; done = false }) spot_is
+        ∙ ap (λ (x : TagEffect). record { state = Plain; facts = facts_after s.facts k.kind x; progress = progress_after s.facts (behind s.facts s.progress k.kind (more ++ c ∷ [])) k.kind x (past s.progress.next (more ++ c ∷ [])); done = false }) (sym sk)
+        ∙ ap (λ (x : List ℕ). record { state = Plain; facts = facts_after s.facts k.kind (effect k); progress = progress_after s.facts (behind s.facts s.progress k.kind x) k.kind (effect k) (past s.progress.next x); done = false }) (sym come)
 
-    lists_are : emitted_in read s mode more ++ (events_early ++ (events_kept ++ token_events_by s.facts s.progress k (more ++ c ∷ []))) ∷ [] ≡ lists_past read s [] k
+    lists_are : emitted_in read s state more ++ (events_early ++ (events_kept ++ token_events_by s.facts s.progress k (more ++ c ∷ []))) ∷ [] ≡ lists_past read s [] k
     lists_are =
         let whole = token_events_by s.facts s.progress k (more ++ c ∷ []) in
-        let lists : emitted_in read s mode more ++ (events_early ++ events_kept) ∷ [] ≡ with_first (early_events_by s.facts s.progress.place read k.kind) (lists_kept s.facts s.progress.next k.kind (more ++ c ∷ [])) =
-        subst (ListsGo read s.facts s.progress.place s.progress.next (emitted_in read s mode more ++ (events_early ++ events_kept) ∷ []) more c) e events_next in
+        let lists : emitted_in read s state more ++ (events_early ++ events_kept) ∷ [] ≡ with_first (early_events_by s.facts s.progress.place read k.kind) (lists_kept s.facts s.progress.next k.kind (more ++ c ∷ [])) =
+        subst (ListsGo read s.facts s.progress.place s.progress.next (emitted_in read s state more ++ (events_early ++ events_kept) ∷ []) more c) e events_next in
         let now : cond (is_lone k) [] whole ≡ whole = ap (λ (b : Bool). cond b [] whole) lone in
-        ap (λ (x : List TextEvent). emitted_in read s mode more ++ x ∷ []) (sym (append_assoc events_early events_kept whole))
-        ∙ sym (with_more whole (emitted_in read s mode more) (events_early ++ events_kept))
+        ap (λ (x : List TextEvent). emitted_in read s state more ++ x ∷ []) (sym (append_assoc events_early events_kept whole))
+        ∙ sym (with_more whole (emitted_in read s state more) (events_early ++ events_kept))
         ∙ ap (with_last whole) lists
         ∙ ap (λ (x : List TextEvent). with_last x (with_first (early_events_by s.facts s.progress.place read k.kind) (lists_kept s.facts s.progress.next k.kind (more ++ c ∷ [])))) (sym now)
         ∙ ap (λ (x : List ℕ). with_last (cond (is_lone k) [] (token_events_by s.facts s.progress k x)) (with_first (early_events_by s.facts s.progress.place read k.kind) (lists_kept s.facts s.progress.next k.kind x))) (sym come)
@@ -292,84 +292,84 @@ module _ (c : ℕ) (t : List ℕ) (read : List ℕ) (s : TextStage) (mode : Toke
     ends_token ih cuts =
         let spelled : held ++ c ∷ t ≡ spelling k ++ t = sym (append_assoc held (c ∷ []) t) ∙ ap (λ (x : List ℕ). x ++ t) (sym f) in
         let run = ih [] (past_token read s k) Plain [] [] refl refl in (
-          ap (λ (x : List TextEvent). emitted_in read s mode more ++ ((events_early ++ (events_kept ++ x)) ∷ stepwise (stage_after_step (stage_past_char stage c) (Ends k.kind so)) t)) emitted_are
-              ∙ moved (emitted_in read s mode more) (events_early ++ (events_kept ++ token_events_by s.facts s.progress k (more ++ c ∷ []))) (stepwise (stage_after_step (stage_past_char stage c) (Ends k.kind so)) t)
+          ap (λ (x : List TextEvent). emitted_in read s state more ++ ((events_early ++ (events_kept ++ x)) ∷ stepwise (stage_after_step (stage_past_char stage c) (Ends k.kind so)) t)) emitted_are
+              ∙ moved (emitted_in read s state more) (events_early ++ (events_kept ++ token_events_by s.facts s.progress k (more ++ c ∷ []))) (stepwise (stage_after_step (stage_past_char stage c) (Ends k.kind so)) t)
               ∙ ap (λ (x : List (List TextEvent)). x ++ stepwise (stage_after_step (stage_past_char stage c) (Ends k.kind so)) t) lists_are
               ∙ ap (λ (x : TextStage). lists_past read s [] k ++ stepwise x t) state_is
               ∙ ap (λ (x : List (List TextEvent)). lists_past read s [] k ++ x) run.0
               ∙ ap (λ (x : List (List TextEvent)). lists_past read s [] k ++ x) (sym (none_first (ahead [] (past_token read s k) t)))
               ∙ ap (λ (x : List TextEvent). lists_past read s [] k ++ with_first x (ahead [] (past_token read s k) t)) (sym none_owed)
-              ∙ sym (ahead_more read s k (held ++ c ∷ t) t (cuts t) spelled (ends_uncut mode c k.kind so e)),
+              ∙ sym (ahead_more read s k (held ++ c ∷ t) t (cuts t) spelled (ends_uncut state c k.kind so e)),
           ap (λ (x : TextStage). LeftAt x c t) state_is ∙ run.1 ∙ sym (remaining_more k (held ++ c ∷ t) t (cuts t) spelled),
         )
 
-  read_emits : Runs t → (mode ≡ Plain → c == 40 ≡ false) → settled_kind mode c ≡ None → FromStep (next_step mode c)
-  read_emits ih plain e = by (next_step mode c) refl (goes mode held c holds e plain)
+  read_emits : Runs t → (state ≡ Plain → c == 40 ≡ false) → settled_kind state c ≡ None → FromStep (next_step state c)
+  read_emits ih plain e = by (next_step state c) refl (goes state held c holds e plain)
     where
-      by : (w : Step) → next_step mode c ≡ w → WentBy w held c → FromStep w
+      by : (w : Step) → next_step state c ≡ w → WentBy w held c → FromStep w
       by (Stays next) f h = stays next ih f h
       by (Ends d so) f h =
           subst (λ (x : TokenKind). FromStep (Ends x so)) h.kind_is (ends_token so h.token (f ∙ ap (λ (x : TokenKind). Ends x so) (sym h.kind_is)) h.sort_is h.spelled ih h.cuts)
 
   -- a character before which no token ends
-  settled_emits : Runs t → settled_kind mode c ≡ None → From read s mode more held c t (events_of_settled_push stage c) (settled_push_stage stage c)
-  settled_emits ih e = by (c == 40) (is_plain mode) refl refl
+  settled_emits : Runs t → settled_kind state c ≡ None → From read s state more held c t (events_of_settled_push stage c) (settled_push_stage stage c)
+  settled_emits ih e = by (c == 40) (is_plain state) refl refl
     where
       plain : (m : TokenState) → is_plain m ≡ true → m ≡ Plain
       plain Plain f = refl
       plain _ f = absurd (cc)
 
-      notes : c ≡ 40 → mode ≡ Plain → From read s mode more held c t (events_of_end s.facts (progress_in read s mode more) ending.Notes) (end_stage stage)
+      notes : c ≡ 40 → state ≡ Plain → From read s state more held c t (events_of_end s.facts (progress_in read s state more) ending.Notes) (end_stage stage)
       notes f g =
-          let none = none_held mode read more g in_read in
+          let none = none_held state read more g in_read in
           let empty : held ≡ [] = subst (λ (m : TokenState). Holds m held) g holds in
           rw (f, g, none.0, none.1, empty) (notes_end s t)
 
-      by : (b x : Bool) → c == 40 ≡ b → is_plain mode ≡ x
-          → From read s mode more held c t (cond (b && x) (events_of_end s.facts (progress_in read s mode more) ending.Notes) (events_of_reading stage c)) (cond (b && x) (end_stage stage) (read_stage stage c))
-      by true true f g = notes (eqb-true c 40 f) (plain mode g)
+      by : (b x : Bool) → c == 40 ≡ b → is_plain state ≡ x
+          → From read s state more held c t (cond (b && x) (events_of_end s.facts (progress_in read s state more) ending.Notes) (events_of_reading stage c)) (cond (b && x) (end_stage stage) (read_stage stage c))
+      by true true f g = notes (eqb-true c 40 f) (plain state g)
       by true false f g = read_emits ih (λ h. absurd (let z : true ≡ false = sym (ap is_plain h) ∙ g in cc)) e
       by false x f g = read_emits ih (λ h. f) e
 
 -- ---- a token that ends before the character
 
-settle_emits : (c : ℕ) (t : List ℕ) (read : List ℕ) (s : TextStage) (mode : TokenState) (more held : List ℕ) (k : Token) → Runs t → held ≡ read ++ more → Holds mode held
-    → settled_kind mode c ≡ Some k.kind → spelling k ≡ held → ((u : List ℕ) → tokens (held ++ c ∷ u) ≡ k ∷ tokens (c ∷ u))
-    → From read s mode more held c t (events_of_settling_by (stage_in read s mode more) (Some k.kind) ++ events_of_settled_push (settle_stage_by (stage_in read s mode more) (Some k.kind)) c)
-    (settled_push_stage (settle_stage_by (stage_in read s mode more) (Some k.kind)) c)
-settle_emits c t read s mode more held k ih here holds e f cuts =
-    let cl = closed read s mode more k (to_come read more k (f ∙ here)) (sort_settled mode c k e) (settle_closing read s mode held more c k holds e f) in
+settle_emits : (c : ℕ) (t : List ℕ) (read : List ℕ) (s : TextStage) (state : TokenState) (more held : List ℕ) (k : Token) → Runs t → held ≡ read ++ more → Holds state held
+    → settled_kind state c ≡ Some k.kind → spelling k ≡ held → ((u : List ℕ) → tokens (held ++ c ∷ u) ≡ k ∷ tokens (c ∷ u))
+    → From read s state more held c t (events_of_settling_by (stage_in read s state more) (Some k.kind) ++ events_of_settled_push (settle_stage_by (stage_in read s state more) (Some k.kind)) c)
+    (settled_push_stage (settle_stage_by (stage_in read s state more) (Some k.kind)) c)
+settle_emits c t read s state more held k ih here holds e f cuts =
+    let cl = closed read s state more k (to_come read more k (f ∙ here)) (sort_settled state c k e) (settle_closing read s state held more c k holds e f) in
     let next = settled_emits c t [] (past_token read s k) Plain [] [] refl refl ih refl in
-    let owes = events_of_token s.facts (progress_in read s mode more) k.kind Other s.progress.start in
+    let owes = events_of_token s.facts (progress_in read s state more) k.kind Other s.progress.start in
     let spelled : held ++ c ∷ t ≡ spelling k ++ c ∷ t = ap (λ (x : List ℕ). x ++ c ∷ t) (sym f) in (
-      ap (λ (x : TextStage). emitted_in read s mode more ++ ((owes ++ events_of_settled_push x c) ∷ stepwise (settled_push_stage x c) t)) cl.state
-          ∙ ap (λ (x : List TextEvent). emitted_in read s mode more ++ ((x ++ events_of_settled_push (past_token read s k) c) ∷ stepwise (settled_push_stage (past_token read s k) c) t)) cl.owes
+      ap (λ (x : TextStage). emitted_in read s state more ++ ((owes ++ events_of_settled_push x c) ∷ stepwise (settled_push_stage x c) t)) cl.stage_is
+          ∙ ap (λ (x : List TextEvent). emitted_in read s state more ++ ((x ++ events_of_settled_push (past_token read s k) c) ∷ stepwise (settled_push_stage (past_token read s k) c) t)) cl.owes
           ∙ ap (λ (x : List (List TextEvent)). x ++ ((owed_events_at read s (k ∷ []) ++ events_of_settled_push (past_token read s k) c) ∷ stepwise (settled_push_stage (past_token read s k) c) t)) cl.lists
           ∙ ap (λ (x : List (List TextEvent)). lists_past read s [] k ++ with_first (owed_events_at read s (k ∷ [])) x) next.0
-          ∙ sym (ahead_more read s k (held ++ c ∷ t) (c ∷ t) (cuts t) spelled (settled_uncut mode c k.kind e)),
-      ap (λ (x : TextStage). LeftAt (settled_push_stage x c) c t) cl.state ∙ next.1 ∙ sym (remaining_more k (held ++ c ∷ t) (c ∷ t) (cuts t) spelled),
+          ∙ sym (ahead_more read s k (held ++ c ∷ t) (c ∷ t) (cuts t) spelled (settled_uncut state c k.kind e)),
+      ap (λ (x : TextStage). LeftAt (settled_push_stage x c) c t) cl.stage_is ∙ next.1 ∙ sym (remaining_more k (held ++ c ∷ t) (c ∷ t) (cuts t) spelled),
     )
 
 step : (c : ℕ) (t : List ℕ) → Runs t → Runs (c ∷ t)
-step c t ih read s mode more held here holds = by (settled_kind mode c) refl
+step c t ih read s state more held here holds = by (settled_kind state c) refl
   where
-    by : (o : Option TokenKind) → settled_kind mode c ≡ o
-        → From read s mode more held c t (events_of_settling_by (stage_in read s mode more) o ++ events_of_settled_push (settle_stage_by (stage_in read s mode more) o) c) (settled_push_stage (settle_stage_by (stage_in read s mode more) o) c)
-    by None e = settled_emits c t read s mode more held here holds ih e
-    by (Some d) e = go (settles mode held c d holds e)
+    by : (o : Option TokenKind) → settled_kind state c ≡ o
+        → From read s state more held c t (events_of_settling_by (stage_in read s state more) o ++ events_of_settled_push (settle_stage_by (stage_in read s state more) o) c) (settled_push_stage (settle_stage_by (stage_in read s state more) o) c)
+    by None e = settled_emits c t read s state more held here holds ih e
+    by (Some d) e = go (settles state held c d holds e)
       where
-        go : Settles held c d → From read s mode more held c t (events_of_settling_by (stage_in read s mode more) (Some d) ++ events_of_settled_push (settle_stage_by (stage_in read s mode more) (Some d)) c) (settled_push_stage (settle_stage_by (stage_in read s mode more) (Some d)) c)
+        go : Settles held c d → From read s state more held c t (events_of_settling_by (stage_in read s state more) (Some d) ++ events_of_settled_push (settle_stage_by (stage_in read s state more) (Some d)) c) (settled_push_stage (settle_stage_by (stage_in read s state more) (Some d)) c)
         go h =
-            subst (λ (d : TokenKind). From read s mode more held c t (events_of_settling_by (stage_in read s mode more) (Some d) ++ events_of_settled_push (settle_stage_by (stage_in read s mode more) (Some d)) c) (settled_push_stage (settle_stage_by (stage_in read s mode more) (Some d)) c)) h.kind_is
-            (settle_emits c t read s mode more held h.token ih here holds (e ∙ ap Some (sym h.kind_is)) h.spelled h.cuts)
+            subst (λ (d : TokenKind). From read s state more held c t (events_of_settling_by (stage_in read s state more) (Some d) ++ events_of_settled_push (settle_stage_by (stage_in read s state more) (Some d)) c) (settled_push_stage (settle_stage_by (stage_in read s state more) (Some d)) c)) h.kind_is
+            (settle_emits c t read s state more held h.token ih here holds (e ∙ ap Some (sym h.kind_is)) h.spelled h.cuts)
 
 -- ---- the end
 
 abbrev EndingOf : List ℕ → TextStage → TokenState → List ℕ → List ℕ → Option TokenKind → Type 0
-EndingOf read s mode more held o = (emitted_in read s mode more ++ events_of_finish_by (stage_in read s mode more) o ∷ [] ≡ ahead read s (held ++ [])) × ([] ≡ remaining (held ++ []))
+EndingOf read s state more held o = (emitted_in read s state more ++ events_of_finish_by (stage_in read s state more) o ∷ [] ≡ ahead read s (held ++ [])) × ([] ≡ remaining (held ++ []))
 
 finish : Runs []
-finish read s mode more held here holds = by (kind_at_end mode) refl (ends mode held holds)
+finish read s state more held here holds = by (kind_at_end state) refl (ends state held holds)
   where
     plain : (m : TokenState) → kind_at_end m ≡ None → m ≡ Plain
     plain Plain e = refl
@@ -382,17 +382,17 @@ finish read s mode more held here holds = by (kind_at_end mode) refl (ends mode 
     at_plain : (s : TextStage) → EndingOf [] s Plain [] [] None
     at_plain s = (ap (λ (x : List TextEvent). x ∷ []) (end_same s.facts s.progress ending.Finished false refl), refl)
 
-    none : mode ≡ Plain → EndingOf read s mode more held None
+    none : state ≡ Plain → EndingOf read s state more held None
     none g =
-        let n = none_held mode read more g (subst (Holds mode) here holds) in
+        let n = none_held state read more g (subst (Holds state) here holds) in
         let empty : held ≡ [] = subst (λ (m : TokenState). Holds m held) g holds in
         rw (g, n.0, n.1, empty) (at_plain s)
 
-    token : (k : Token) → kind_at_end mode ≡ Some k.kind → spelling k ≡ held → tokens held ≡ k ∷ [] → EndingOf read s mode more held (Some k.kind)
+    token : (k : Token) → kind_at_end state ≡ Some k.kind → spelling k ≡ held → tokens held ≡ k ∷ [] → EndingOf read s state more held (Some k.kind)
     token k e f g =
-        let so : effect k ≡ Other = end_other mode k k.kind e refl in
-        let cl = closed read s mode more k (to_come read more k (f ∙ here)) so (end_closing read s mode held more k k.kind holds e f) in
-        let owes = events_of_token s.facts (progress_in read s mode more) k.kind Other s.progress.start in
+        let so : effect k ≡ Other = end_other state k k.kind e refl in
+        let cl = closed read s state more k (to_come read more k (f ∙ here)) so (end_closing read s state held more k k.kind holds e f) in
+        let owes = events_of_token s.facts (progress_in read s state more) k.kind Other s.progress.start in
         let cut : tokens (held ++ []) ≡ k ∷ [] = ap tokens (append-nil held) ∙ g in
         let spelled : held ++ [] ≡ spelling k ++ [] = ap (λ (x : List ℕ). x ++ []) (sym f) in
         let none_left : remaining (held ++ []) ≡ [] = remaining_more k (held ++ []) [] cut spelled in
@@ -400,8 +400,8 @@ finish read s mode more held here holds = by (kind_at_end mode) refl (ends mode 
         let progress : progress_at read s (k ∷ []) ≡ (past_token read s k).progress = progress_on read s k [] in
         let whole : ahead read s (held ++ []) ≡ lists_past read s [] k ++ lists_last read s (k ∷ []) [] =
         rw (none_left, cut) (ap (λ (x : List (List TextEvent)). x ++ lists_last read s (k ∷ []) []) (append-nil (lists_past read s [] k))) in (
-          ap (λ (x : TextStage). emitted_in read s mode more ++ (owes ++ events_of_end x.facts x.progress (end_by k.kind s.progress.place)) ∷ []) cl.state
-              ∙ ap (λ (x : List TextEvent). emitted_in read s mode more ++ (x ++ events_of_end (past_token read s k).facts (past_token read s k).progress (end_by k.kind s.progress.place)) ∷ []) cl.owes
+          ap (λ (x : TextStage). emitted_in read s state more ++ (owes ++ events_of_end x.facts x.progress (end_by k.kind s.progress.place)) ∷ []) cl.stage_is
+              ∙ ap (λ (x : List TextEvent). emitted_in read s state more ++ (x ++ events_of_end (past_token read s k).facts (past_token read s k).progress (end_by k.kind s.progress.place)) ∷ []) cl.owes
               ∙ ap (λ (x : List (List TextEvent)). x ++ (owed_events_at read s (k ∷ []) ++ events_of_end (past_token read s k).facts (past_token read s k).progress (end_by k.kind s.progress.place)) ∷ []) cl.lists
               ∙ ap (λ (x : TextFacts). lists_past read s [] k ++ (owed_events_at read s (k ∷ []) ++ events_of_end x (past_token read s k).progress (end_by k.kind s.progress.place)) ∷ []) (sym there)
               ∙ ap (λ (x : Progress). lists_past read s [] k ++ (owed_events_at read s (k ∷ []) ++ events_of_end (facts_at read s (k ∷ [])) x (end_by k.kind s.progress.place)) ∷ []) (sym progress)
@@ -410,9 +410,9 @@ finish read s mode more held here holds = by (kind_at_end mode) refl (ends mode 
           sym none_left,
         )
 
-    by : (o : Option TokenKind) → kind_at_end mode ≡ o → EndsAs o held → EndingOf read s mode more held o
-    by None e h = none (plain mode e)
-    by (Some d) e (k, kd, sp, tk) = subst (λ (x : TokenKind). EndingOf read s mode more held (Some x)) kd (token k (e ∙ ap Some (sym kd)) sp tk)
+    by : (o : Option TokenKind) → kind_at_end state ≡ o → EndsAs o held → EndingOf read s state more held o
+    by None e h = none (plain state e)
+    by (Some d) e (k, kd, sp, tk) = subst (λ (x : TokenKind). EndingOf read s state more held (Some x)) kd (token k (e ∙ ap Some (sym kd)) sp tk)
 
 pub runs : (t : List ℕ) → Runs t
 runs [] = finish

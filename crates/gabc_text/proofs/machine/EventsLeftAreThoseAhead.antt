@@ -21,7 +21,7 @@ use Rattle.gabc_text.proofs.machine.TokensOneAfterAnother.{after_is, rest_done}
 use Rattle.gabc_text.proofs.machine.ExampleTextIsRead.{least, holds_least, least_emitted}
 use Rattle.gabc_text.proofs.machine.EventsFromAnyState.{emitted_in, stage_in, runs}
 
-kept_none : (mode : TokenState) → kept_held mode [] ≡ []
+kept_none : (state : TokenState) → kept_held state [] ≡ []
 kept_none Plain = refl
 kept_none Dollar = refl
 kept_none Comment = refl
@@ -29,7 +29,7 @@ kept_none (Tag name) = refl
 kept_none (Raw raw m) = refl
 kept_none Translation = refl
 
-events_none : (read : List ℕ) (s : TextStage) (mode : TokenState) → emitted_in read s mode [] ≡ []
+events_none : (read : List ℕ) (s : TextStage) (state : TokenState) → emitted_in read s state [] ≡ []
 events_none read s Plain = refl
 events_none read s Dollar = refl
 events_none read s Comment = refl
@@ -38,31 +38,31 @@ events_none read s (Raw raw m) = refl
 events_none read s Translation = refl
 
 -- what a stage that goes on gives
-goes_on : (mode : TokenState) (facts : TextFacts) (progress : Progress) (t : List ℕ)
-    → (lists_ahead (stands_for mode) (record { mode = mode; facts = facts; progress = progress; done = false }) (stands_for mode ++ t) ≡ stepwise (record { mode = mode; facts = facts; progress = progress; done = false }) t)
-    × (after_tokens (stands_for mode ++ t) ≡ stepwise_left (record { mode = mode; facts = facts; progress = progress; done = false }) t)
-goes_on mode facts progress t =
-    let s : TextStage = record { mode = mode; facts = facts; progress = progress; done = false } in
-    let run = runs t (stands_for mode) s (least mode) [] (stands_for mode) (sym (append-nil (stands_for mode))) (holds_least mode) in
-    let same = least_emitted mode facts progress t in
-    let state : stage_in (stands_for mode) s (least mode) [] ≡ record { mode = least mode; facts = facts; progress = progress; done = false } = rw (kept_none (least mode)) refl in (
-      ap (λ (x : List ℕ). along (lists_past (stands_for mode) s) [] (tokens (stands_for mode ++ t)) ++ lists_last (stands_for mode) s (reverse (tokens (stands_for mode ++ t))) x) (after_is (stands_for mode ++ t))
+goes_on : (state : TokenState) (facts : TextFacts) (progress : Progress) (t : List ℕ)
+    → (lists_ahead (stands_for state) (record { state = state; facts = facts; progress = progress; done = false }) (stands_for state ++ t) ≡ stepwise (record { state = state; facts = facts; progress = progress; done = false }) t)
+    × (after_tokens (stands_for state ++ t) ≡ stepwise_left (record { state = state; facts = facts; progress = progress; done = false }) t)
+goes_on state facts progress t =
+    let s : TextStage = record { state = state; facts = facts; progress = progress; done = false } in
+    let run = runs t (stands_for state) s (least state) [] (stands_for state) (sym (append-nil (stands_for state))) (holds_least state) in
+    let same = least_emitted state facts progress t in
+    let stage_is : stage_in (stands_for state) s (least state) [] ≡ record { state = least state; facts = facts; progress = progress; done = false } = rw (kept_none (least state)) refl in (
+      ap (λ (x : List ℕ). along (lists_past (stands_for state) s) [] (tokens (stands_for state ++ t)) ++ lists_last (stands_for state) s (reverse (tokens (stands_for state ++ t))) x) (after_is (stands_for state ++ t))
           ∙ sym run.0
-          ∙ ap (λ (x : List (List TextEvent)). x ++ stepwise (stage_in (stands_for mode) s (least mode) []) t) (events_none (stands_for mode) s (least mode))
-          ∙ ap (λ (x : TextStage). stepwise x t) state
+          ∙ ap (λ (x : List (List TextEvent)). x ++ stepwise (stage_in (stands_for state) s (least state) []) t) (events_none (stands_for state) s (least state))
+          ∙ ap (λ (x : TextStage). stepwise x t) stage_is
           ∙ sym same.0,
-      after_is (stands_for mode ++ t) ∙ sym run.1 ∙ ap (λ (x : TextStage). stepwise_left x t) state ∙ sym same.1,
+      after_is (stands_for state ++ t) ∙ sym run.1 ∙ ap (λ (x : TextStage). stepwise_left x t) stage_is ∙ sym same.1,
     )
 
 left_done : (s : TextStage) (t : List ℕ) → s.done ≡ true → stepwise_left s t ≡ t
 left_done s [] e = refl
 left_done s (c ∷ t) e = rw e refl
 
-pub rest_by : (s : TextStage) (t : List ℕ) → events_left s t ≡ cond s.done ([] ∷ no_events_each t) (lists_ahead (stands_for s.mode) s (stands_for s.mode ++ t))
+pub rest_by : (s : TextStage) (t : List ℕ) → events_left s t ≡ cond s.done ([] ∷ no_events_each t) (lists_ahead (stands_for s.state) s (stands_for s.state ++ t))
 unfolding events_left
 rest_by s t = refl
 
-pub left_by : (s : TextStage) (t : List ℕ) → characters_left s t ≡ cond s.done t (after_tokens (stands_for s.mode ++ t))
+pub left_by : (s : TextStage) (t : List ℕ) → characters_left s t ≡ cond s.done t (after_tokens (stands_for s.state ++ t))
 unfolding characters_left
 left_by s t = refl
 
@@ -70,16 +70,16 @@ left_by s t = refl
 pub rest_is : (s : TextStage) (t : List ℕ) → events_left s t ≡ stepwise s t
 rest_is s t = rest_by s t ∙ by s.done refl
   where
-    by : (b : Bool) → s.done ≡ b → cond b ([] ∷ no_events_each t) (lists_ahead (stands_for s.mode) s (stands_for s.mode ++ t)) ≡ stepwise s t
+    by : (b : Bool) → s.done ≡ b → cond b ([] ∷ no_events_each t) (lists_ahead (stands_for s.state) s (stands_for s.state ++ t)) ≡ stepwise s t
     by true e = sym (rest_done s t e)
-    by false e = rw e ((goes_on s.mode s.facts s.progress t).0)
+    by false e = rw e ((goes_on s.state s.facts s.progress t).0)
 
 pub left_is : (s : TextStage) (t : List ℕ) → characters_left s t ≡ stepwise_left s t
 left_is s t = left_by s t ∙ by s.done refl
   where
-    by : (b : Bool) → s.done ≡ b → cond b t (after_tokens (stands_for s.mode ++ t)) ≡ stepwise_left s t
+    by : (b : Bool) → s.done ≡ b → cond b t (after_tokens (stands_for s.state ++ t)) ≡ stepwise_left s t
     by true e = sym (left_done s t e)
-    by false e = rw e ((goes_on s.mode s.facts s.progress t).1)
+    by false e = rw e ((goes_on s.state s.facts s.progress t).1)
 
 -- ---- the calls of a stage
 

@@ -19,7 +19,7 @@ use Rattle.gabc_text.specs.Events.{option_list_of, no_events_each, with_first, b
 use Rattle.gabc_text.specs.machine.TextFacts.{early_at}
 use Rattle.gabc_text.specs.machine.TokenState.{is_plain, next_step, first_step, keep, keep_first, step_at_tag_end, wanted_char}
 use Rattle.gabc_text.specs.machine.TextStage.{char_event, bytes_with}
-use Rattle.gabc_text.specs.TextStage.{place_after_char}
+use Rattle.gabc_places.specs.Place.{saturating_next_place}
 use Rattle.gabc_text.specs.FactsPast.{leaves_out, past, bytes_past}
 use Rattle.gabc_text.specs.EventsLeft.{findings_there, kept_by, each_kept, lists_kept, early_events_by}
 use Rattle.gabc_text.proofs.tokens.CasesOfCharacters.{by_case, single_kind}
@@ -27,7 +27,7 @@ use Rattle.gabc_text.proofs.machine.KeptOfOpenToken.{kept_held, is_within, is_ke
 use Rattle.gabc_text.proofs.machine.TokenStateByCharacter.{Holds}
 
 -- a token of which something was read has a first character
-pub held_some : (mode : TokenState) (held : List ℕ) → Holds mode held → is_plain mode ≡ false → (c : ℕ) × (s : List ℕ) × (held ≡ c ∷ s)
+pub held_some : (state : TokenState) (held : List ℕ) → Holds state held → is_plain state ≡ false → (c : ℕ) × (s : List ℕ) × (held ≡ c ∷ s)
 held_some Plain held h e = absurd (cc)
 held_some Dollar held h e = (36, [], h)
 held_some Comment held h e = (37, h.s, h.held_is)
@@ -58,7 +58,7 @@ tag_emitted (Closes r) = refl
 tag_emitted Mark = refl
 tag_emitted Other = refl
 
-pub events_goes : (mode : TokenState) (c : ℕ) → is_plain mode ≡ false → SameEmitted (in_translation mode) (next_step mode c)
+pub events_goes : (state : TokenState) (c : ℕ) → is_plain state ≡ false → SameEmitted (in_translation state) (next_step state c)
 events_goes Plain c e = absurd (cc)
 events_goes Dollar c e = refl
 events_goes Comment c e = refl
@@ -71,7 +71,7 @@ events_goes Translation c e = either_emitted true (c == 93) _ _ refl refl
 
 each_more : (p : Place) (more : List ℕ) (c : ℕ) → each_kept p more ++ (out.Kept (record { c = c; place = past p more }) ∷ []) ∷ [] ≡ each_kept p (more ++ c ∷ [])
 each_more p [] c = refl
-each_more p (x ∷ more) c = ap (λ (xs : List (List TextEvent)). (out.Kept (record { c = x; place = p }) ∷ []) ∷ xs) (each_more (place_after_char p x) more c)
+each_more p (x ∷ more) c = ap (λ (xs : List (List TextEvent)). (out.Kept (record { c = x; place = p }) ∷ []) ∷ xs) (each_more (saturating_next_place p x) more c)
 
 nothing_more : (more : List ℕ) (c : ℕ) → no_events_each more ++ [] ∷ [] ≡ no_events_each (more ++ c ∷ [])
 nothing_more [] c = refl
@@ -124,10 +124,10 @@ module _ (facts : TextFacts) where
       rw (e36, e37, e60, e91) (rw e37 at f)))))
 
   -- what is kept with a character more
-  pub kept_goes : (mode : TokenState) (more : List ℕ) (c : ℕ) → (mode ≡ Plain → more ≡ []) → KeptGo (kept_held mode more ++ option_list_of (keep facts mode c)) more c (next_step mode c)
+  pub kept_goes : (state : TokenState) (more : List ℕ) (c : ℕ) → (state ≡ Plain → more ≡ []) → KeptGo (kept_held state more ++ option_list_of (keep facts state c)) more c (next_step state c)
   kept_goes Plain more c h = rw (h refl) (kept_begin c)
   kept_goes Comment more c h = refl
-  kept_goes mode more c h = within mode refl
+  kept_goes state more c h = within state refl
     where
       within : (m : TokenState) → is_within m ≡ true → KeptGo (kept_held m more ++ option_list_of (keep facts m c)) more c (next_step m c)
       within m w = rw (keep_within facts m c w, held_within m more w) (kept_on (next_step m c) more c (within_kept m c w))
@@ -154,7 +154,7 @@ module _ (read : List ℕ) (facts : TextFacts) (place next : Place) where
   each_held _ more = each_kept next more
 
   abbrev pub lists_held : TokenState → List ℕ → List (List TextEvent)
-  lists_held mode more = with_first (emitted_early facts place read (in_translation mode)) (each_held mode more)
+  lists_held state more = with_first (emitted_early facts place read (in_translation state)) (each_held state more)
 
   abbrev EachGo : List (List TextEvent) → List ℕ → ℕ → Step → Type 0
   EachGo xs more c (Stays m) = xs ≡ each_held m (more ++ c ∷ [])
@@ -167,7 +167,7 @@ module _ (read : List ℕ) (facts : TextFacts) (place next : Place) where
   whole_each kind.Translation cs e = refl
   whole_each _ cs e = absurd (cc)
 
-  pub each_within : (mode : TokenState) (more : List ℕ) → is_within mode ≡ true → each_held mode more ≡ each_kept next more
+  pub each_within : (state : TokenState) (more : List ℕ) → is_within state ≡ true → each_held state more ≡ each_kept next more
   each_within Plain more e = absurd (cc)
   each_within Comment more e = absurd (cc)
   each_within _ more e = refl
@@ -189,10 +189,10 @@ module _ (read : List ℕ) (facts : TextFacts) (place next : Place) where
       by false kind.Blank = blank facts.space
       by false _ = refl
 
-  each_goes : (mode : TokenState) (more : List ℕ) (c : ℕ) → is_plain mode ≡ false → EachGo (each_held mode more ++ option_list_of (char_event (past next more) (keep facts mode c)) ∷ []) more c (next_step mode c)
+  each_goes : (state : TokenState) (more : List ℕ) (c : ℕ) → is_plain state ≡ false → EachGo (each_held state more ++ option_list_of (char_event (past next more) (keep facts state c)) ∷ []) more c (next_step state c)
   each_goes Plain more c e = absurd (cc)
   each_goes Comment more c e = nothing_more more c
-  each_goes mode more c e = within mode refl
+  each_goes state more c e = within state refl
     where
       within : (m : TokenState) → is_within m ≡ true → EachGo (each_held m more ++ option_list_of (char_event (past next more) (keep facts m c)) ∷ []) more c (next_step m c)
       within m w =
@@ -210,9 +210,9 @@ module _ (read : List ℕ) (facts : TextFacts) (place next : Place) where
   lists_both (Ends d s) b xs more c e f = rw (early_is facts place read d, e, f) refl
 
   -- the characters so far, and one more
-  lists_more : (mode : TokenState) (more : List ℕ) (ks : List TextEvent) → is_plain mode ≡ false → Holds mode (read ++ more)
-      → lists_held mode more ++ ks ∷ [] ≡ with_first (emitted_early facts place read (in_translation mode)) (each_held mode more ++ ks ∷ [])
-  lists_more mode more ks e h = by mode read more e h
+  lists_more : (state : TokenState) (more : List ℕ) (ks : List TextEvent) → is_plain state ≡ false → Holds state (read ++ more)
+      → lists_held state more ++ ks ∷ [] ≡ with_first (emitted_early facts place read (in_translation state)) (each_held state more ++ ks ∷ [])
+  lists_more state more ks e h = by state read more e h
     where
       by : (m : TokenState) (r more : List ℕ) → is_plain m ≡ false → Holds m (r ++ more)
           → with_first (emitted_early facts place r (in_translation m)) (each_held m more) ++ ks ∷ [] ≡ with_first (emitted_early facts place r (in_translation m)) (each_held m more ++ ks ∷ [])
@@ -244,8 +244,8 @@ module _ (facts : TextFacts) (place next : Place) where
       second false = refl
 
 -- between tokens nothing is held
-pub none_held : (mode : TokenState) (read more : List ℕ) → mode ≡ Plain → Holds mode (read ++ more) → (read ≡ []) × (more ≡ [])
-none_held mode read more e h = by read more (subst (λ (m : TokenState). Holds m (read ++ more)) e h)
+pub none_held : (state : TokenState) (read more : List ℕ) → state ≡ Plain → Holds state (read ++ more) → (read ≡ []) × (more ≡ [])
+none_held state read more e h = by read more (subst (λ (m : TokenState). Holds m (read ++ more)) e h)
   where
     by : (r more : List ℕ) → r ++ more ≡ [] → (r ≡ []) × (more ≡ [])
     by [] more f = (refl, f)
@@ -253,14 +253,14 @@ none_held mode read more e h = by read more (subst (λ (m : TokenState). Holds m
 
 module _ (read : List ℕ) (facts : TextFacts) (place next : Place) where
   abbrev pub events_read : TokenState → List ℕ → ℕ → List TextEvent
-  events_read mode more c = findings_there place (option_list_of (early_at facts mode c)) ++ option_list_of (char_event (past next more) (keep facts mode c))
+  events_read state more c = findings_there place (option_list_of (early_at facts state c)) ++ option_list_of (char_event (past next more) (keep facts state c))
 
   -- a character more
-  pub lists_goes : (mode : TokenState) (more : List ℕ) (c : ℕ) → Holds mode (read ++ more) → ListsGo read facts place next (lists_held read facts place next mode more ++ events_read mode more c ∷ []) more c (next_step mode c)
+  pub lists_goes : (state : TokenState) (more : List ℕ) (c : ℕ) → Holds state (read ++ more) → ListsGo read facts place next (lists_held read facts place next state more ++ events_read state more c ∷ []) more c (next_step state c)
   lists_goes Plain more c h =
       let n = none_held Plain read more refl h in
       rw (n.0, n.1) (lists_begin facts place next c)
-  lists_goes mode more c h = other mode refl h
+  lists_goes state more c h = other state refl h
     where
       none_early : (m : TokenState) → is_plain m ≡ false → early_at facts m c ≡ None
       none_early Plain e = absurd (cc)
@@ -284,13 +284,13 @@ but_last_is x (y ∷ ys) (h ∷ hs) c e =
     let g = but_last_is y ys hs c f in cc
 
 -- a token that its last character ends is no `$` by itself
-pub not_lone : (mode : TokenState) (held : List ℕ) (c : ℕ) (k : Token) (so : TagEffect) → Holds mode held → next_step mode c ≡ Ends k.kind so → spelling k ≡ held ++ c ∷ [] → is_lone k ≡ false
+pub not_lone : (state : TokenState) (held : List ℕ) (c : ℕ) (k : Token) (so : TagEffect) → Holds state held → next_step state c ≡ Ends k.kind so → spelling k ≡ held ++ c ∷ [] → is_lone k ≡ false
 not_lone Plain held c k so h e f = by (c == 36) refl e
   where
     by : (b : Bool) → c == 36 ≡ b → cond b (Stays Dollar) (cond (c == 37) (Stays Comment) (cond (c == 60) (Stays (Tag [])) (cond (c == 91) (Stays Translation) (Ends (single c) Other)))) ≡ Ends k.kind so → is_lone k ≡ false
     by true g i = absurd (cc)
     by false g i = ap (is_text (codes "$")) (f ∙ ap (λ (x : List ℕ). x ++ c ∷ []) h) ∙ rw g refl
-not_lone mode held c k so h e f = other mode refl h
+not_lone state held c k so h e f = other state refl h
   where
     longer : (x : ℕ) (s : List ℕ) → is_text (codes "$") (x ∷ (s ++ c ∷ [])) ≡ false
     longer x [] = no (x == 36)

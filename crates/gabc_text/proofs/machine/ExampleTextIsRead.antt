@@ -1,4 +1,4 @@
--- The text that a mode stands for is what was read of a token, in that mode.
+-- The text that a state stands for is what was read of a token, in that state.
 use Rattle.std.proofs.Common.{◌≡◌, ℕ, ◌-◌, ◌<◌, ◌≤◌, ◌==◌, nat_lt, List, [], ◌∷◌, ◌++◌, Bool, true, false, cond, refl, ap, ◌∙◌, ne_eqb, length, min, take, Some, arith, codes}
 use Rattle.std.proofs.lemmas.Bool.{ltb-true, ltb-false}
 use Rattle.std.proofs.Math.Bool.{and-false}
@@ -62,12 +62,12 @@ holds_raw Alt m = record {
   matched = record { q = []; split = refl; goes = λ t. prefix_none _ };
 }
 
--- the same mode, which counts no more of an ending than it has
+-- the same state, which counts no more of an ending than it has
 abbrev pub least : TokenState → TokenState
 least (Raw raw m) = Raw raw (within_ending raw m)
-least mode = mode
+least state = state
 
-pub holds_least : (mode : TokenState) → Holds (least mode) (stands_for mode)
+pub holds_least : (state : TokenState) → Holds (least state) (stands_for state)
 holds_least Plain = refl
 holds_least Dollar = refl
 holds_least Comment = record { s = []; held_is = refl; open_still = refl }
@@ -94,10 +94,10 @@ raw_same raw m c = by (nat_lt m (length (ending_of raw) - 1)) refl
         let f = ltb-false m (length (ending_of raw) - 1) e in
         rw (wanted_last raw m f, wanted_last raw (within_ending raw m) (omega (arith, f))) (last_twice (c == 62) _ _ _ _)
 
--- ---- a stage with the same mode gives the same
+-- ---- a stage with the same state gives the same
 
 abbrev staged : TokenState → TextFacts → Progress → TextStage
-staged mode facts progress = record { mode = mode; facts = facts; progress = progress; done = false }
+staged state facts progress = record { state = state; facts = facts; progress = progress; done = false }
 
 module _ (facts : TextFacts) (progress : Progress) (raw : RawKind) (m n : ℕ) (same : (c : ℕ) → step_in_raw raw m c ≡ step_in_raw raw n c) where
   same_outs : (c : ℕ) → events_of_push (staged (Raw raw m) facts progress) c ≡ events_of_push (staged (Raw raw n) facts progress) c
@@ -122,8 +122,8 @@ module _ (facts : TextFacts) (progress : Progress) (raw : RawKind) (m n : ℕ) (
     ap (λ (x : TextStage). cond x.done (c ∷ t) (stepwise_left x t)) (same_stage c),
   )
 
-pub least_emitted : (mode : TokenState) (facts : TextFacts) (progress : Progress) (t : List ℕ)
-    → (stepwise (staged mode facts progress) t ≡ stepwise (staged (least mode) facts progress) t) × (stepwise_left (staged mode facts progress) t ≡ stepwise_left (staged (least mode) facts progress) t)
+pub least_emitted : (state : TokenState) (facts : TextFacts) (progress : Progress) (t : List ℕ)
+    → (stepwise (staged state facts progress) t ≡ stepwise (staged (least state) facts progress) t) × (stepwise_left (staged state facts progress) t ≡ stepwise_left (staged (least state) facts progress) t)
 least_emitted (Raw raw m) facts progress t = same_emitted facts progress raw m (within_ending raw m) (raw_same raw m) t
 least_emitted Plain facts progress t = (refl, refl)
 least_emitted Dollar facts progress t = (refl, refl)

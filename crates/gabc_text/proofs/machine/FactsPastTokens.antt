@@ -14,7 +14,8 @@ use Rattle.gabc_text.specs.declared.stage.TextStage.{TextStage}
 use Rattle.gabc_text.specs.Token.{Token, spelling, effect_of}
 use Rattle.gabc_text.specs.View.{effect, effect_as, is_open_after, has_word, has_begin, has_translation, piece_kind, is_word_kind, is_space, is_begin, is_end, is_translation}
 use Rattle.gabc_text.specs.machine.TextFacts.{facts_after, after_tag}
-use Rattle.gabc_text.specs.TextStage.{count_plus, place_after_char}
+use Rattle.gabc_text.specs.TextStage.{count_plus}
+use Rattle.gabc_places.specs.Place.{saturating_next_place}
 use Rattle.gabc_text.specs.machine.TextStage.{progress_after}
 use Rattle.gabc_text.specs.FactsPast.{is_open_past, blank_past, begun_past, ended_past, space_past, starts_past, facts_past, past, bytes_past, leaves_out}
 use Rattle.gabc_text.specs.EventsLeft.{kept_by, kept_behind, facts_at, read_at, ahead_at, text_since, kept_since, progress_at}
@@ -91,7 +92,7 @@ facts_on facts k (j ∷ before) =
 
 pub past_append : (p : Place) (s t : List ℕ) → past p (s ++ t) ≡ past (past p s) t
 past_append p [] t = refl
-past_append p (c ∷ s) t = past_append (place_after_char p c) s t
+past_append p (c ∷ s) t = past_append (saturating_next_place p c) s t
 
 pub bytes_past_append : (n : ℕ) (s t : List ℕ) → bytes_past n (s ++ t) ≡ bytes_past (bytes_past n s) t
 bytes_past_append n [] t = refl
@@ -116,7 +117,7 @@ module _ (read : List ℕ) (s : TextStage) where
   -- the state past a token
   abbrev pub past_token : Token → TextStage
   past_token k = record {
-    mode = Plain;
+    state = Plain;
     facts = facts_after s.facts k.kind (effect k);
     progress = spot_after s.facts s.progress k (drop (length read) (spelling k));
     done = false;

@@ -20,7 +20,7 @@ kept_held Plain held = []
 kept_held Comment held = []
 kept_held _ held = held
 
-pub sort_settled : (mode : TokenState) (c : ℕ) (k : Token) → settled_kind mode c ≡ Some k.kind → effect k ≡ Other
+pub sort_settled : (state : TokenState) (c : ℕ) (k : Token) → settled_kind state c ≡ Some k.kind → effect k ≡ Other
 sort_settled Plain c k e = absurd (cc)
 sort_settled Dollar c k e = by (is_special c) k.kind e
   where
@@ -36,7 +36,7 @@ sort_settled (Tag name) c k e = absurd (cc)
 sort_settled (Raw raw m) c k e = absurd (cc)
 sort_settled Translation c k e = absurd (cc)
 
-pub settled_uncut : (mode : TokenState) (c : ℕ) (k : TokenKind) → settled_kind mode c ≡ Some k → is_open_kind k ≡ false
+pub settled_uncut : (state : TokenState) (c : ℕ) (k : TokenKind) → settled_kind state c ≡ Some k → is_open_kind k ≡ false
 settled_uncut Plain c k e = absurd (cc)
 settled_uncut Dollar c k e = by (is_special c) e
   where
@@ -65,14 +65,14 @@ is_within Plain = false
 is_within Comment = false
 is_within _ = true
 
-pub held_within : (mode : TokenState) (held : List ℕ) → is_within mode ≡ true → kept_held mode held ≡ held
+pub held_within : (state : TokenState) (held : List ℕ) → is_within state ≡ true → kept_held state held ≡ held
 held_within Plain held e = absurd (cc)
 held_within Comment held e = absurd (cc)
 held_within _ held e = refl
 
 -- a token goes on that is kept, or one ends
 abbrev pub IsKept : Step → Type 0
-IsKept (Stays mode) = is_within mode ≡ true
+IsKept (Stays state) = is_within state ≡ true
 IsKept (Ends k s) = is_kept_whole k ≡ true
 
 either_kept : (b : Bool) (x y : Step) → IsKept x → IsKept y → IsKept (cond b x y)
@@ -86,7 +86,7 @@ tag_kept (Closes r) = refl
 tag_kept Mark = refl
 tag_kept Other = refl
 
-pub within_kept : (mode : TokenState) (c : ℕ) → is_within mode ≡ true → IsKept (next_step mode c)
+pub within_kept : (state : TokenState) (c : ℕ) → is_within state ≡ true → IsKept (next_step state c)
 within_kept Plain c e = absurd (cc)
 within_kept Dollar c e = refl
 within_kept Comment c e = absurd (cc)
@@ -97,7 +97,7 @@ within_kept (Raw raw m) c e =
     (either_kept (c == 60) _ _ refl refl)
 within_kept Translation c e = either_kept (c == 93) _ _ refl refl
 
-pub keep_within : (facts : TextFacts) (mode : TokenState) (c : ℕ) → is_within mode ≡ true → keep facts mode c ≡ Some c
+pub keep_within : (facts : TextFacts) (state : TokenState) (c : ℕ) → is_within state ≡ true → keep facts state c ≡ Some c
 keep_within facts Plain c e = absurd (cc)
 keep_within facts Comment c e = absurd (cc)
 keep_within facts _ c e = refl
@@ -121,10 +121,10 @@ whole_uncut kind.OpenTag e = absurd (cc)
 whole_uncut kind.OpenTranslation e = absurd (cc)
 whole_uncut _ e = refl
 
-pub ends_uncut : (mode : TokenState) (c : ℕ) (k : TokenKind) (so : TagEffect) → next_step mode c ≡ Ends k so → is_open_kind k ≡ false
+pub ends_uncut : (state : TokenState) (c : ℕ) (k : TokenKind) (so : TagEffect) → next_step state c ≡ Ends k so → is_open_kind k ≡ false
 ends_uncut Plain c k so e = ap is_open_kind (begin_ends c k so e).0 ∙ single_uncut c
 ends_uncut Comment c k so e = absurd (cc)
-ends_uncut mode c k so e = within mode refl e
+ends_uncut state c k so e = within state refl e
   where
     within : (m : TokenState) → is_within m ≡ true → next_step m c ≡ Ends k so → is_open_kind k ≡ false
     within m w e = whole_uncut k (subst IsKept e (within_kept m c w))

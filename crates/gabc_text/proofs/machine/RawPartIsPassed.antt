@@ -28,17 +28,17 @@ and_false false = refl
 abbrev PassesOver : TextStage → ℕ → Type 0
 PassesOver s c = (push_stage s c ≡ record s { progress = progress_past s.progress c (Some c) }) × (events_of_push s c ≡ out.Kept (record { c = c; place = s.progress.next }) ∷ [])
 
-pass_at : (raw : RawKind) (facts : TextFacts) (progress : Progress) (c : ℕ) → c == 60 ≡ false → PassesOver (record { mode = Raw raw 0; facts = facts; progress = progress; done = false }) c
+pass_at : (raw : RawKind) (facts : TextFacts) (progress : Progress) (c : ℕ) → c == 60 ≡ false → PassesOver (record { state = Raw raw 0; facts = facts; progress = progress; done = false }) c
 pass_at V facts progress c e = (rw (and_false (c == 40), e) refl, rw (and_false (c == 40), e) refl)
 pass_at Sp facts progress c e = (rw (and_false (c == 40), e) refl, rw (and_false (c == 40), e) refl)
 pass_at Alt facts progress c e = (rw (and_false (c == 40), e) refl, rw (and_false (c == 40), e) refl)
 
 pub passes : (s : TextStage) (c : ℕ) → is_in_raw s ≡ true → c == 60 ≡ false → PassesOver s c
-passes s c h e = by s.mode s.done h
+passes s c h e = by s.state s.done h
   where
-    by : (mode : TokenState) (done : Bool) → (not done && is_unmatched mode) ≡ true → PassesOver (record { mode = mode; facts = s.facts; progress = s.progress; done = done }) c
-    by mode true h = absurd (cc)
-    by (Raw raw m) false h = subst (λ (n : ℕ). PassesOver (record { mode = Raw raw n; facts = s.facts; progress = s.progress; done = false }) c) (sym (eqb-true m 0 h)) (pass_at raw s.facts s.progress c e)
+    by : (state : TokenState) (done : Bool) → (not done && is_unmatched state) ≡ true → PassesOver (record { state = state; facts = s.facts; progress = s.progress; done = done }) c
+    by state true h = absurd (cc)
+    by (Raw raw m) false h = subst (λ (n : ℕ). PassesOver (record { state = Raw raw n; facts = s.facts; progress = s.progress; done = false }) c) (sym (eqb-true m 0 h)) (pass_at raw s.facts s.progress c e)
     by _ false h = absurd (cc)
 
 -- a character more
@@ -56,7 +56,7 @@ raw_step s c h e = ap is_in_raw (passes s c h e).0 ∙ h
 running : (s : TextStage) → is_in_raw s ≡ true → s.done ≡ false
 running s h = by s.done h
   where
-    by : (b : Bool) → (not b && is_unmatched s.mode) ≡ true → b ≡ false
+    by : (b : Bool) → (not b && is_unmatched s.state) ≡ true → b ≡ false
     by true g = absurd (cc)
     by false g = refl
 

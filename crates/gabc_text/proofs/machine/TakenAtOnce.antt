@@ -51,7 +51,7 @@ silent_end t e = record {
     no_centre false true (Some n) count end e = absurd (cc)
     no_centre true b (Some n) count end e = absurd (cc)
 
-module _ (t : TextStage) (goes_on : t.done ≡ false) (plain : t.mode ≡ Plain) where
+module _ (t : TextStage) (goes_on : t.done ≡ false) (plain : t.state ≡ Plain) where
   -- a letter with no blank that waits
   pub letter_taken : (c : ℕ) (next : TextStage) → IsLetterBetween c → t.progress.blank ≡ None → next ≡ read_stage t c
       → Takes t c (letter_events t c (letter_piece t c)) next

@@ -1,4 +1,4 @@
--- What was read of a token, by the mode, and what a character more does.
+-- What was read of a token, by the state, and what a character more does.
 use Rattle.std.proofs.Common.{◌≡◌, ℕ, zero, suc, ◌+◌, ◌<◌, ◌==◌, nat_lt, List, [], ◌∷◌, ◌++◌, Bool, true, false, cond, refl, sym, ap, ◌∙◌, subst, ne_eqb, append_assoc, append-nil, length, length-take, take, drop, Option, Some, None, arith, codes}
 use Rattle.std.proofs.lemmas.Bool.{eqb-true, eqb-false}
 use Rattle.gabc_text.specs.declared.token.TokenKind.{TokenKind}
@@ -68,7 +68,7 @@ pub record Settles (held : List ℕ) (c : ℕ) (k : TokenKind) : Type 0 where
   pub cuts : (t : List ℕ) → tokens (held ++ c ∷ t) ≡ token ∷ tokens (c ∷ t)
 
 abbrev pub WentBy : Step → List ℕ → ℕ → Type 0
-WentBy (Stays mode) held c = Holds mode (held ++ c ∷ [])
+WentBy (Stays state) held c = Holds state (held ++ c ∷ [])
 WentBy (Ends k s) held c = Completes held c k s
 
 pub turned : (x c : ℕ) → c == x ≡ false → x == c ≡ false
@@ -325,10 +325,10 @@ raw_goes raw m held c h =
         none_yet Sp = omega arith
         none_yet Alt = omega arith
 
--- ---- any mode
+-- ---- any state
 
 -- a character that goes on with a token, or begins one
-pub goes : (mode : TokenState) (held : List ℕ) (c : ℕ) → Holds mode held → settled_kind mode c ≡ None → (mode ≡ Plain → c == 40 ≡ false) → WentBy (next_step mode c) held c
+pub goes : (state : TokenState) (held : List ℕ) (c : ℕ) → Holds state held → settled_kind state c ≡ None → (state ≡ Plain → c == 40 ≡ false) → WentBy (next_step state c) held c
 goes Plain held c h s p = subst (λ (u : List ℕ). WentBy (first_step c) u c) (sym h) (begins_token c (p refl))
 goes Dollar held c h s p = subst (λ (u : List ℕ). Completes u c kind.Letter Other) (sym h) (escaped c (is_kept (is_special c) s))
   where
@@ -351,7 +351,7 @@ goes Translation held c h s p =
     (λ e. more_lacking 91 93 held c h (turned 93 c e))
 
 -- a character before which the token ends
-pub settles : (mode : TokenState) (held : List ℕ) (c : ℕ) (k : TokenKind) → Holds mode held → settled_kind mode c ≡ Some k → Settles held c k
+pub settles : (state : TokenState) (held : List ℕ) (c : ℕ) (k : TokenKind) → Holds state held → settled_kind state c ≡ Some k → Settles held c k
 settles Plain held c k h e = absurd (cc)
 settles Dollar held c k h e = by (is_special c) refl e
   where
@@ -381,7 +381,7 @@ one_token k held e ne f =
 ends_lacking : (k : Token) (held : List ℕ) → spelling k ≡ held → k.first == 40 ≡ false → token_at k.first k.more ≡ k → (token : Token) × (token.kind ≡ k.kind) × (spelling token ≡ held) × (tokens held ≡ token ∷ [])
 ends_lacking k held e ne f = (k, refl, e, one_token k held e ne f)
 
-pub ends : (mode : TokenState) (held : List ℕ) → Holds mode held → EndsAs (kind_at_end mode) held
+pub ends : (state : TokenState) (held : List ℕ) → Holds state held → EndsAs (kind_at_end state) held
 ends Plain held h = ap tokens h
 ends Dollar held h = ends_lacking (record { kind = kind.Letter; first = 36; more = [] }) held (sym h) refl refl
 ends Comment held h = ends_lacking (record { kind = kind.Comment; first = 37; more = h.s }) held (sym h.held_is) refl (rw (before_all 10 h.s h.open_still) refl)

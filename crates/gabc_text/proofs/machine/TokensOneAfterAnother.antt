@@ -56,7 +56,7 @@ with_more zs (ys ∷ ws ∷ lists) xs = ap (λ (x : List (List TextEvent)). ys �
 
 -- ---- a token that the end of the text ends
 
-pub end_other : (mode : TokenState) (k : Token) (d : TokenKind) → kind_at_end mode ≡ Some d → k.kind ≡ d → effect k ≡ Other
+pub end_other : (state : TokenState) (k : Token) (d : TokenKind) → kind_at_end state ≡ Some d → k.kind ≡ d → effect k ≡ Other
 end_other Plain k d e f = absurd (cc)
 end_other Dollar k d e f = let same : kind.Letter ≡ k.kind = cc in subst (λ (x : TokenKind). effect_as x (spelling k) ≡ Other) same refl
 end_other Comment k d e f = let same : kind.Comment ≡ k.kind = cc in subst (λ (x : TokenKind). effect_as x (spelling k) ≡ Other) same refl

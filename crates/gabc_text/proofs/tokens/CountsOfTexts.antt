@@ -1,14 +1,14 @@
 -- Counts and places of a text that grows.
 use Rattle.std.proofs.Common.{◌≡◌, ℕ, ◌+◌, ◌<◌, ◌≤◌, ◌^◌, ◌==◌, ◌&&◌, not, List, [], ◌∷◌, ◌++◌, Bool, true, false, cond, refl, ap, map, length, length-append, Option, Some, None, arith, nat_lt}
 use Rattle.std.specs.Char.{len_utf8}
-use Rattle.gabc_places.specs.Place.{next_place, place_past, placed_characters_from}
+use Rattle.gabc_places.specs.Place.{next_place, place_past, placed_characters_from, saturating_next_place}
 use Rattle.gabc_places.specs.declared.place.Place.{Place}
 use Rattle.gabc_places.specs.declared.place.Char.{Char}
 use Rattle.gabc_text.specs.declared.view.PieceKind.{PieceKind}
 use Rattle.gabc_text.specs.Token.{Token, spelling}
 use Rattle.gabc_text.specs.View.{text_of, place_of, bytes_of, kept_at, is_left_out, is_space, follows_space, count_pieces, pieces_at, piece_of, PieceFacts, kind_of, has_word, follows_blank}
 use Rattle.gabc_text.specs.Events.{kept_of, chars_at}
-use Rattle.gabc_text.specs.TextStage.{count_plus, place_after_char}
+use Rattle.gabc_text.specs.TextStage.{count_plus}
 
 -- the bytes of two texts
 pub bytes_append : (s t : List ℕ) → bytes_of (s ++ t) ≡ bytes_of s + bytes_of t
@@ -40,7 +40,7 @@ pub up_is : (n m : ℕ) → n + m < 2 ^ 64 → count_plus n m ≡ n + m
 up_is n m h = omega arith
 
 -- the place to come, where no count reaches its last value
-pub later_is : (p : Place) (c : ℕ) → p.line + 1 < 2 ^ 64 → p.column + 1 < 2 ^ 64 → place_after_char p c ≡ next_place p c
+pub later_is : (p : Place) (c : ℕ) → p.line + 1 < 2 ^ 64 → p.column + 1 < 2 ^ 64 → saturating_next_place p c ≡ next_place p c
 later_is p c h g = rw (up_is p.line 1 h, up_is p.column 1 g) refl
 
 abbrev next_by : Bool → Place → Place

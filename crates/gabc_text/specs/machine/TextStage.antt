@@ -21,7 +21,8 @@ use Rattle.gabc_text.specs.Events.{option_list_of}
 use Rattle.gabc_text.specs.EventsLeft.{piece_by, piece_there, findings_there, whole_events_by, end_events_by, count_behind, waiting_behind, begin_behind, end_behind}
 use Rattle.gabc_text.specs.machine.TextFacts.{facts_after, early_at}
 use Rattle.gabc_text.specs.machine.TokenState.{settled_kind, next_step, keep, kind_at_end, is_plain}
-use Rattle.gabc_text.specs.TextStage.{count_plus, place_after_char}
+use Rattle.gabc_text.specs.TextStage.{count_plus}
+use Rattle.gabc_places.specs.Place.{saturating_next_place}
 
 abbrev pub progress_after : TextFacts → Progress → TokenKind → TagEffect → Place → Progress
 progress_after facts progress k s place = record {
@@ -41,7 +42,7 @@ char_event place None = None
 
 -- after a token, which ends before this place
 abbrev pub token_stage : TextStage → TokenKind → TagEffect → Place → TextStage
-token_stage t k s place = record t { mode = Plain; facts = facts_after t.facts k s; progress = progress_after t.facts t.progress k s place }
+token_stage t k s place = record t { state = Plain; facts = facts_after t.facts k s; progress = progress_after t.facts t.progress k s place }
 
 abbrev pub events_of_token : TextFacts → Progress → TokenKind → TagEffect → ℕ → List TextEvent
 events_of_token facts progress k s last = whole_events_by facts progress k s last progress.kept
@@ -51,42 +52,42 @@ settle_stage_by t None = t
 settle_stage_by t (Some k) = token_stage t k Other t.progress.next
 
 abbrev pub settle_stage : TextStage → ℕ → TextStage
-settle_stage t c = settle_stage_by t (settled_kind t.mode c)
+settle_stage t c = settle_stage_by t (settled_kind t.state c)
 
 abbrev pub events_of_settling_by : TextStage → Option TokenKind → List TextEvent
 events_of_settling_by t None = []
 events_of_settling_by t (Some k) = events_of_token t.facts t.progress k Other t.progress.start
 
 abbrev pub events_of_settling : TextStage → ℕ → List TextEvent
-events_of_settling t c = events_of_settling_by t (settled_kind t.mode c)
+events_of_settling t c = events_of_settling_by t (settled_kind t.state c)
 
 abbrev pub bytes_with : ℕ → Option ℕ → ℕ
 bytes_with n (Some c) = count_plus n (len_utf8 c)
 bytes_with n None = n
 
 abbrev pub progress_past : Progress → ℕ → Option ℕ → Progress
-progress_past progress c kept = record progress { next = place_after_char progress.next c; kept = bytes_with progress.kept kept }
+progress_past progress c kept = record progress { next = saturating_next_place progress.next c; kept = bytes_with progress.kept kept }
 
 abbrev pub stage_after_step : TextStage → Step → TextStage
-stage_after_step t (Stays mode) = record t { mode = mode }
+stage_after_step t (Stays state) = record t { state = state }
 stage_after_step t (Ends k s) = token_stage t k s t.progress.next
 
 abbrev pub events_of_step : TextStage → Step → ℕ → List TextEvent
-events_of_step t (Stays mode) last = []
+events_of_step t (Stays state) last = []
 events_of_step t (Ends k s) last = events_of_token t.facts t.progress k s last
 
 -- the machine has kept what is kept of the character
 abbrev pub stage_past_char : TextStage → ℕ → TextStage
-stage_past_char t c = record t { progress = progress_past t.progress c (keep t.facts t.mode c) }
+stage_past_char t c = record t { progress = progress_past t.progress c (keep t.facts t.state c) }
 
 abbrev pub read_stage : TextStage → ℕ → TextStage
-read_stage t c = stage_after_step (stage_past_char t c) (next_step t.mode c)
+read_stage t c = stage_after_step (stage_past_char t c) (next_step t.state c)
 
 abbrev pub events_of_reading : TextStage → ℕ → List TextEvent
 events_of_reading t c =
-    findings_there t.progress.place (option_list_of (early_at t.facts t.mode c))
-    ++ (option_list_of (char_event t.progress.next (keep t.facts t.mode c))
-    ++ events_of_step (stage_past_char t c) (next_step t.mode c) t.progress.kept)
+    findings_there t.progress.place (option_list_of (early_at t.facts t.state c))
+    ++ (option_list_of (char_event t.progress.next (keep t.facts t.state c))
+    ++ events_of_step (stage_past_char t c) (next_step t.state c) t.progress.kept)
 
 abbrev pub is_cut_end : TextEnd → Bool
 is_cut_end (text_ending.Cut p) = true
@@ -99,10 +100,10 @@ abbrev pub end_stage : TextStage → TextStage
 end_stage t = record t { done = true }
 
 abbrev pub settled_push_stage : TextStage → ℕ → TextStage
-settled_push_stage t c = cond (c == 40 && is_plain t.mode) (end_stage t) (read_stage t c)
+settled_push_stage t c = cond (c == 40 && is_plain t.state) (end_stage t) (read_stage t c)
 
 abbrev pub events_of_settled_push : TextStage → ℕ → List TextEvent
-events_of_settled_push t c = cond (c == 40 && is_plain t.mode) (events_of_end t.facts t.progress text_ending.Notes) (events_of_reading t c)
+events_of_settled_push t c = cond (c == 40 && is_plain t.state) (events_of_end t.facts t.progress text_ending.Notes) (events_of_reading t c)
 
 abbrev pub push_stage : TextStage → ℕ → TextStage
 push_stage t c = cond t.done t (settled_push_stage (settle_stage t c) c)
@@ -118,7 +119,7 @@ finish_stage_by t None = end_stage t
 finish_stage_by t (Some k) = end_stage (token_stage t k Other t.progress.next)
 
 abbrev pub finish_stage : TextStage → TextStage
-finish_stage t = cond t.done t (finish_stage_by t (kind_at_end t.mode))
+finish_stage t = cond t.done t (finish_stage_by t (kind_at_end t.state))
 
 abbrev pub events_of_finish_by : TextStage → Option TokenKind → List TextEvent
 events_of_finish_by t None = events_of_end t.facts t.progress text_ending.Finished
@@ -127,7 +128,7 @@ events_of_finish_by t (Some k) =
     ++ events_of_end (facts_after t.facts k Other) (progress_after t.facts t.progress k Other t.progress.next) (end_by k t.progress.place)
 
 abbrev pub events_of_finish : TextStage → List TextEvent
-events_of_finish t = cond t.done [] (events_of_finish_by t (kind_at_end t.mode))
+events_of_finish t = cond t.done [] (events_of_finish_by t (kind_at_end t.state))
 
 -- a token of this kind emits nothing as a whole, wherever it stands
 abbrev pub IsSilentToken : TextFacts → TokenKind → TagEffect → Type 0
@@ -135,7 +136,7 @@ IsSilentToken facts k s = (progress : Progress) (last : ℕ) → events_of_token
 
 -- the character is kept as it is, no token and no text ends before it, and nothing is found where its token begins
 pub record IsKeptAlone (t : TextStage) (c : ℕ) : Type 0 where
-  pub settles_none : settled_kind t.mode c ≡ None
-  pub begins_no_notes : (c == 40 && is_plain t.mode) ≡ false
-  pub finds_none : early_at t.facts t.mode c ≡ None
-  pub kept : keep t.facts t.mode c ≡ Some c
+  pub settles_none : settled_kind t.state c ≡ None
+  pub begins_no_notes : (c == 40 && is_plain t.state) ≡ false
+  pub finds_none : early_at t.facts t.state c ≡ None
+  pub kept : keep t.facts t.state c ≡ Some c

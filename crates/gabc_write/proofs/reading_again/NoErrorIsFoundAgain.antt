@@ -6,7 +6,7 @@ use Rattle.gabc_places.specs.declared.limits.Limits.{Limits}
 use Rattle.gabc_places.specs.declared.place.Place.{Place}
 use Rattle.gabc_places.specs.declared.place.Char.{Char}
 use Rattle.gabc_headers.specs.declared.heads.Heads.{Heads}
-use Rattle.gabc_headers.specs.Book.{nabc_lines_of, has_header}
+use Rattle.gabc_headers.specs.Book.{nabc_lines_of, has_header, macros_of}
 use Rattle.gabc_headers.specs.Heads.{heads_of}
 use Rattle.gabc_headers.specs.HeadsAgain.{nameless, heads_again}
 use Rattle.gabc_text.specs.Events.{codes_of}
@@ -17,7 +17,7 @@ use Rattle.gabc_score.specs.declared.ending.InputEnding.{InputEnding}
 use Rattle.gabc_score.specs.declared.ending.InputEnding.TheVariants.{Whole}
 use Rattle.gabc_score.specs.Events.{next_line}
 use Rattle.gabc_score.specs.FoundInParts.{TextWarns, SnippetsWarn, UnitsWarn}
-use Rattle.gabc_score.specs.Score.{macros_of, score_of}
+use Rattle.gabc_score.specs.Score.{score_of}
 use Rattle.gabc_score.specs.SyllablesOfUnits.{snippets_in, characters_from, score_unit, IsBodyCut}
 use Rattle.gabc_score.specs.Units.{EndedPart, BodyUnit, LastUnit, JustText, BodyCutting}
 use Rattle.gabc_write.specs.SyllableAgain.{AreSnippetsAgain}

@@ -7,7 +7,7 @@ use lib.Utf8.{encode, encodes}
 use Rattle.gabc_places.specs.declared.limits.Limits.{Limits}
 use Rattle.gabc_places.specs.LargerLimits.{AreNoLess}
 use Rattle.gabc_places.specs.declared.place.Char.{Char}
-use Rattle.gabc_headers.specs.Book.{nabc_lines_of}
+use Rattle.gabc_headers.specs.Book.{nabc_lines_of, macros_of}
 use Rattle.gabc_headers.specs.Canonical.{canonical_heads}
 use Rattle.gabc_text.specs.Events.{codes_of}
 use Rattle.gabc_text.specs.Printed.{print, text_tokens, translation_tokens, text_of_tokens}
@@ -16,7 +16,7 @@ use Rattle.gabc_text.specs.ViewFacts.{ViewFacts}
 use Rattle.gabc_score.specs.declared.ending.InputEnding.TheVariants.{Whole}
 use Rattle.gabc_score.specs.Canonical.{canonical_in_place}
 use Rattle.gabc_score.specs.Events.{texts_by_definition}
-use Rattle.gabc_score.specs.Score.{macros_of, score_by, score_of}
+use Rattle.gabc_score.specs.Score.{score_by, score_of}
 use Rattle.gabc_score.specs.Syllable.{PlacedSyllable}
 use Rattle.gabc_score.specs.Units.{BodyUnit, LastUnit, JustText, BodyCutting, IsCut}
 use Rattle.gabc_score.specs.SyllablesOfUnits.{ScoreUnit, score_unit, characters_from, closed_units, score_units, AreSyllablesOf, body_characters, IsBodyCut}

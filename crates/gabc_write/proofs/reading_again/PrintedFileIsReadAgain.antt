@@ -5,12 +5,11 @@ use Rattle.gabc_places.specs.declared.limits.Limits.{Limits}
 use Rattle.gabc_places.specs.declared.place.Char.{Char}
 use Rattle.gabc_places.specs.Place.{place_after, placed_characters_behind, placed_characters_from}
 use Rattle.gabc_places.proofs.PlacesOfAText.{placed_behind}
-use Rattle.gabc_headers.specs.Book.{nabc_lines_of}
+use Rattle.gabc_headers.specs.Book.{nabc_lines_of, macros_of}
 use Rattle.gabc_headers.specs.Canonical.{header_lines, canonical_heads}
 use Rattle.gabc_headers.specs.Heads.{head_len, heads_of}
 use Rattle.gabc_headers.specs.HeadsAgain.{heads_again}
 use Rattle.gabc_score.specs.Events.{texts_by_definition}
-use Rattle.gabc_score.specs.Score.{macros_of}
 use Rattle.gabc_score.specs.Units.{JustText, IsCut}
 use Rattle.gabc_score.specs.SyllablesOfUnits.{body_characters}
 use Rattle.gabc_write.specs.BodyAgain.{SyllableFacts, printed_body, IsBodyAgain}

@@ -5,12 +5,12 @@ use Rattle.std.proofs.lemmas.Str.{encodes-append}
 use lib.Utf8.{encodes}
 use Rattle.gabc_places.specs.declared.limits.Limits.{Limits}
 use Rattle.gabc_places.specs.declared.place.Char.{Char}
-use Rattle.gabc_headers.specs.Book.{nabc_lines_of}
+use Rattle.gabc_headers.specs.Book.{nabc_lines_of, macros_of}
 use Rattle.gabc_headers.specs.Canonical.{canonical_heads}
 use Rattle.gabc_score.specs.declared.ending.InputEnding.TheVariants.{Whole}
 use Rattle.gabc_score.specs.declared.score.Score.{Score}
 use Rattle.gabc_score.specs.Events.{texts_by_definition, next_line}
-use Rattle.gabc_score.specs.Score.{macros_of, score_by, score_of}
+use Rattle.gabc_score.specs.Score.{score_by, score_of}
 use Rattle.gabc_score.specs.Syllable.{PlacedSyllable}
 use Rattle.gabc_score.specs.Units.{EndedPart, BodyUnit, LastUnit, JustText, BodyCutting, IsCut}
 use Rattle.gabc_score.specs.SyllablesOfUnits.{ScoreUnit, snippets_in, characters_from, closed_units, score_units, AreSyllablesOf, body_characters, IsBodyCut}

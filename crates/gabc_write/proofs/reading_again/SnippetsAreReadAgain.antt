@@ -90,8 +90,7 @@ record ReadAgain (lines macros line : ℕ) (p : Place) (s : List ℕ) (mark : �
 -- a mark with the end that is emitted of it
 record Marks (split : Bool) (mark : ℕ) (how : NoteEnd) : Type 0 where
   is_mark : IsMarkOf split how mark
-  of_notes : notes.end_by_mark mark ≡ how
-  of_nabc : nabc.end_by_mark mark ≡ how
+  end_is : notes.end_by_mark mark ≡ how
 
 one_more : (n : ℕ) → n + 1 ≡ suc n
 one_more n = omega arith
@@ -113,7 +112,7 @@ module _ (gabc_again : (split : Bool) (macros : ℕ) (at : Place) (how : NoteEnd
         bytes = notes.bytes_of s;
         unended = r.unended;
         ended = ap (λ (n : ℕ). ends_of (concat_of (take n (notes.note_events (nat_lt 0 lines) macros (placed_characters_from p (s ++ mark ∷ rest)))))) (sym (one_more (length s)))
-            ∙ r.ended ∙ ap (λ (x : NoteEnd). (x, notes.bytes_of s) ∷ []) m.of_notes;
+            ∙ r.ended ∙ ap (λ (x : NoteEnd). (x, notes.bytes_of s) ∷ []) m.end_is;
         kept = r.kept;
         warnings = r.warnings;
       }
@@ -126,7 +125,7 @@ module _ (gabc_again : (split : Bool) (macros : ℕ) (at : Place) (how : NoteEnd
         unended = subst (λ (ls : List (List NoteEvent)). ends_of (concat_of (take (length s) ls)) ≡ []) lists r.unended;
         ended = subst (λ (ls : List (List NoteEvent)). ends_of (concat_of (take (suc (length s)) ls)) ≡ (how, nabc.bytes_in s) ∷ []) lists
             (ap (λ (n : ℕ). ends_of (concat_of (take n (nabc.nabc_events xs)))) (sym (one_more (length s)))
-            ∙ r.ended ∙ ap (λ (x : NoteEnd). (x, nabc.bytes_in s) ∷ []) m.of_nabc);
+            ∙ r.ended ∙ ap (λ (x : NoteEnd). (x, nabc.bytes_in s) ∷ []) m.end_is);
         kept = ap (λ (t : List ℕ). kept_before t (mark ∷ rest)) (codes_placed p s) ∙ r.kept;
         warnings = subst (λ (ls : List (List NoteEvent)). All IsWarning (findings_of (concat_of ls))) lists r.warnings;
       }
@@ -158,10 +157,10 @@ module _ (gabc_again : (split : Bool) (macros : ℕ) (at : Place) (how : NoteEnd
   -- ---- all snippets
 
   closing : Marks (nat_lt 0 lines) 41 Close
-  closing = record { is_mark = refl; of_notes = refl; of_nabc = refl }
+  closing = record { is_mark = refl; end_is = refl }
 
   dividing : nat_lt 0 lines ≡ true → Marks (nat_lt 0 lines) 124 Next
-  dividing e = record { is_mark = (refl, e); of_notes = refl; of_nabc = refl }
+  dividing e = record { is_mark = (refl, e); end_is = refl }
 
   -- several of them only with NABC lines
   abbrev pub Several : List (List ℕ) → Type 0

@@ -28,7 +28,7 @@ returns-in-Some-emitted_end c =
     record {
       kept_is = c.into_read.ensures.kept ∙ (c.cut.ensures.kept ∙ e.kept_is);
       findings_are = c.into_read.ensures.findings ∙ (c.cut.ensures.findings ∙ e.findings_are);
-      how_is = c.into_read.ensures.how ∙ (c.ending_of.ensures ∙ e.how_is);
+      how_is = c.into_read.ensures.how ∙ (c.at.ensures ∙ e.how_is);
     }
 
 pub overflow_add-index : goal.overflow_add-index

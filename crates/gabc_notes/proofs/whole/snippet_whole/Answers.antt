@@ -91,7 +91,7 @@ returns-in-Some-end c =
     record {
       kept_is = c.into_read.ensures.kept ∙ s.kept_is;
       findings_are = c.into_read.ensures.findings ∙ s.findings_are;
-      how_is = c.into_read.ensures.how ∙ (c.ending_of.ensures ∙ s.how_is);
+      how_is = c.into_read.ensures.how ∙ (c.at.ensures ∙ s.how_is);
     }
 
 pub into_read-requires-2 : goal.into_read-requires-2
@@ -108,5 +108,5 @@ returns c =
     record {
       kept_is = c.into_read-2.ensures.kept ∙ s.kept_is;
       findings_are = c.into_read-2.ensures.findings ∙ s.findings_are;
-      how_is = c.into_read-2.ensures.how ∙ (c.ending_of-2.ensures ∙ s.how_is);
+      how_is = c.into_read-2.ensures.how ∙ (c.at-2.ensures ∙ s.how_is);
     }

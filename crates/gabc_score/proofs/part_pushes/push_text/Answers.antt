@@ -3,7 +3,7 @@ use Rattle.gabc_score.specs.Events.{is_text_end}
 use Rattle.gabc_score.proofs.building.SyllableEndsLast.{text_end_ends, pushed_last}
 use Rattle.gabc_score.proofs.part_pushes.push_text.Goals as goal
 
-pub ends_text-requires : goal.ends_text-requires
-ends_text-requires c =
-    rw (c.slice.ensures) (pushed_last is_text_end _ text_end_ends c.clear.new.self c.push.new.out (ap (λ r. r.items) c.clear.ensures)
-    (ap (λ r. r.limit) c.push.ensures.events.out) c.push.ensures.end)
+pub returns-clause-once : goal.returns-clause-once
+returns-clause-once c =
+    pushed_last is_text_end _ text_end_ends c.clear.new.self c.push.new.out (ap (λ r. r.items) c.clear.ensures)
+    (ap (λ r. r.limit) c.push.ensures.events.out) c.push.ensures.end

@@ -18,5 +18,5 @@ returns c =
     let behind = ap chars c.split_at.ensures.back ∙ chars_behind t c.as_str.result.now c.as_str.ensures.bytes c.as_str.utf8 n c.args.heads.body c.requires in
     let utf8 = subst IsUtf8 (sym c.split_at.ensures.back) (utf8_here t c.as_str.result.now c.as_str.ensures.bytes c.as_str.utf8 n c.args.heads.body c.requires) in
     let fits = fits_behind_prefix c.place_past.result c.split_at.result.0.now c.split_at.result.1.now utf8 c.place_past.ensures.line c.place_past.ensures.column (omega (arith, c.split_at.ensures.front_len, c.split_at.ensures.back_len, c.as_str.ensures.short)) in
-    ap (with_body c.args.heads) (c.in_ok-syllables.ensures ∙ body_is c.args.limits c.args.ending t c.args.heads (running_events_left c.in_ok-stage.stage) c.nabc_lines.result c.macros_in.result c.canonical_len.result c.place_past.result
-    (chars c.split_at.result.0.now) (chars c.split_at.result.1.now) (rw (c.in_ok-stage.ensures.open) at (c.in_ok-stage.ensures.facts c.place_past.result (chars c.split_at.result.1.now) fits)) c.nabc_lines.ensures c.macros_in.ensures c.canonical_len.ensures.len c.place_past.ensures.place prefix behind)
+    ap (with_body c.args.heads) (c.in_ok-syllables.ensures ∙ body_is c.args.limits c.args.ending t c.args.heads (running_events_left c.in_ok-stage.stage) c.nabc_lines.result c.macros.result c.canonical_len.result c.place_past.result
+    (chars c.split_at.result.0.now) (chars c.split_at.result.1.now) (rw (c.in_ok-stage.ensures.open) at (c.in_ok-stage.ensures.facts c.place_past.result (chars c.split_at.result.1.now) fits)) c.nabc_lines.ensures c.macros.ensures c.canonical_len.ensures.len c.place_past.ensures.place prefix behind)

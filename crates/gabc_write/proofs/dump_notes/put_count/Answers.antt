@@ -1,5 +1,4 @@
-use Rattle.std.proofs.Common.{rules, ◌≡◌, ◌∷◌, ◌++◌, [], List, ℕ, ap, sym, ◌∙◌, arith, ◌<◌}
-use Rattle.std.specs.Fmt.{decimal}
+use Rattle.std.proofs.Common.{rules, arith, ◌<◌}
 use Rattle.std.proofs.lemmas.Fmt.{decimal_digit}
 use Rattle.gabc_write.proofs.dump_notes.put_count.Goals as goal
 

@@ -1,8 +1,7 @@
 use Rattle.gabc_write.proofs.reading_again.PrintedFileIsReadAgain.{file_is}
-use Rattle.gabc_headers.specs.Book.{nabc_lines_of}
+use Rattle.gabc_headers.specs.Book.{nabc_lines_of, macros_of}
 use Rattle.gabc_headers.specs.Canonical.{canonical_heads}
 use Rattle.gabc_places.specs.Place.{place_after}
-use Rattle.gabc_score.specs.Score.{macros_of}
 use Rattle.gabc_write.specs.BodyAgain.{printed_body}
 use Rattle.gabc_write.proofs.laws.file_again.Goals as goal
 

@@ -11,75 +11,75 @@ use Rattle.gabc_score.proofs.building.SyllableEndsLast.{notes_close_last, texts_
 use Rattle.gabc_score.proofs.body_stage.BodyStage.push_part.Goals as goal
 
 pub returns-then-ended-clause-once : goal.returns-then-ended-clause-once
-returns-then-ended-clause-once c = texts_close_last c.push_text-ended.new.events.items
+returns-then-ended-clause-once c = texts_close_last c.push_text.new.events.items
 
 pub returns-else-ended-clause-once : goal.returns-else-ended-clause-once
-returns-else-ended-clause-once c = texts_close_last c.push_text-ended.new.events.items
+returns-else-ended-clause-once c = texts_close_last c.push_text.new.events.items
 
 pub returns-then-next-clause-once : goal.returns-then-next-clause-once
-returns-then-next-clause-once c = notes_close_last 0 c.in-Notes.opened c.push_notes-next.new.events.items c.push_notes-next.ensures.once
+returns-then-next-clause-once c = notes_close_last 0 c.in-Notes.opened c.push_notes.new.events.items c.push_notes.ensures.once
 
 pub returns-then-close-clause-once : goal.returns-then-close-clause-once
-returns-then-close-clause-once c = notes_close_last 0 c.in-Notes.opened c.push_notes-next.new.events.items c.push_notes-next.ensures.once
+returns-then-close-clause-once c = notes_close_last 0 c.in-Notes.opened c.push_notes.new.events.items c.push_notes.ensures.once
 
 pub returns-else-close-clause-once : goal.returns-else-close-clause-once
-returns-else-close-clause-once c = notes_close_last 0 c.in-Notes.opened c.push_notes-next.new.events.items c.push_notes-next.ensures.once
+returns-else-close-clause-once c = notes_close_last 0 c.in-Notes.opened c.push_notes.new.events.items c.push_notes.ensures.once
 
 pub returns-then-next-2-clause-once : goal.returns-then-next-2-clause-once
-returns-then-next-2-clause-once c = notes_close_last c.in-Nabc.line c.in-Nabc.opened c.push_notes-next-in-Nabc.new.events.items c.push_notes-next-in-Nabc.ensures.once
+returns-then-next-2-clause-once c = notes_close_last c.in-Nabc.line c.in-Nabc.opened c.push_notes-in-Nabc.new.events.items c.push_notes-in-Nabc.ensures.once
 
 pub returns-then-close-2-clause-once : goal.returns-then-close-2-clause-once
-returns-then-close-2-clause-once c = notes_close_last c.in-Nabc.line c.in-Nabc.opened c.push_notes-next-in-Nabc.new.events.items c.push_notes-next-in-Nabc.ensures.once
+returns-then-close-2-clause-once c = notes_close_last c.in-Nabc.line c.in-Nabc.opened c.push_notes-in-Nabc.new.events.items c.push_notes-in-Nabc.ensures.once
 
 pub returns-else-close-2-clause-once : goal.returns-else-close-2-clause-once
-returns-else-close-2-clause-once c = notes_close_last c.in-Nabc.line c.in-Nabc.opened c.push_notes-next-in-Nabc.new.events.items c.push_notes-next-in-Nabc.ensures.once
+returns-else-close-2-clause-once c = notes_close_last c.in-Nabc.line c.in-Nabc.opened c.push_notes-in-Nabc.new.events.items c.push_notes-in-Nabc.ensures.once
 
 -- ---- the counts
 
 pub returns-then-ended-clause-bounds : goal.returns-then-ended-clause-bounds
 returns-then-ended-clause-bounds c =
     rw (← c.self.view_is, c.in-Text.is)
-    (text_ends c.in-Text.stage c.push_text-ended.new.stage c.push_text-ended.new.events.items c.push_text-ended.ensures.pushes.few c.push_text-ended.ensures.pieces
+    (text_ends c.in-Text.stage c.push_text.new.stage c.push_text.new.events.items c.push_text.ensures.pushes.few c.push_text.ensures.pieces
     c.snippet-self-inside.result c.snippet-self-inside.ensures.counts)
 
 pub returns-else-ended-clause-bounds : goal.returns-else-ended-clause-bounds
 returns-else-ended-clause-bounds c =
     rw (← c.self.view_is, c.in-Text.is)
-    (text_goes c.in-Text.stage c.push_text-ended.new.stage c.push_text-ended.new.events.items c.push_text-ended.ensures.pushes.few c.push_text-ended.ensures.pieces)
+    (text_goes c.in-Text.stage c.push_text.new.stage c.push_text.new.events.items c.push_text.ensures.pushes.few c.push_text.ensures.pieces)
 
 pub returns-then-next-clause-bounds : goal.returns-then-next-clause-bounds
 returns-then-next-clause-bounds c =
     rw (← c.self.view_is, c.in-Notes.is)
-    (notes_go 0 c.in-Notes.opened _ c.push_notes-next.new.events.items c.push_notes-next.ensures.pushes.few (λ o h. h)
+    (notes_go 0 c.in-Notes.opened _ c.push_notes.new.events.items c.push_notes.ensures.pushes.few (λ o h. h)
     c.next_snippet-self-inside.result c.next_snippet-self-inside.ensures.counts)
 
 pub returns-then-close-clause-bounds : goal.returns-then-close-clause-bounds
 returns-then-close-clause-bounds c =
     rw (← c.self.view_is, c.in-Notes.is)
-    (notes_close 0 c.in-Notes.opened _ c.push_notes-next.new.events.items c.push_notes-next.ensures.pushes.few (λ o h. h)
-    c.text_behind-self-inside.result c.text_behind-self-inside.ensures.counts c.push_notes-next.ensures.once (sym (ap (λ p. p.1) c.push_notes-next.ensures.pushes.answers) ∙ c.if-close.true))
+    (notes_close 0 c.in-Notes.opened _ c.push_notes.new.events.items c.push_notes.ensures.pushes.few (λ o h. h)
+    c.text_behind-self-inside.result c.text_behind-self-inside.ensures.counts c.push_notes.ensures.once (sym (c.ends_at_close-close.ensures ∙ ap (list_any is_close) c.slice-in-Notes-2.ensures) ∙ c.if-close.true))
 
 pub returns-else-close-clause-bounds : goal.returns-else-close-clause-bounds
 returns-else-close-clause-bounds c =
     rw (← c.self.view_is, c.in-Notes.is)
-    (notes_go 0 c.in-Notes.opened _ c.push_notes-next.new.events.items c.push_notes-next.ensures.pushes.few (λ o h. h) _ (λ o h. h))
+    (notes_go 0 c.in-Notes.opened _ c.push_notes.new.events.items c.push_notes.ensures.pushes.few (λ o h. h) _ (λ o h. h))
 
 pub returns-then-next-2-clause-bounds : goal.returns-then-next-2-clause-bounds
 returns-then-next-2-clause-bounds c =
     rw (← c.self.view_is, c.in-Nabc.is)
-    (notes_go c.in-Nabc.line c.in-Nabc.opened _ c.push_notes-next-in-Nabc.new.events.items c.push_notes-next-in-Nabc.ensures.pushes.few (λ o h. h)
+    (notes_go c.in-Nabc.line c.in-Nabc.opened _ c.push_notes-in-Nabc.new.events.items c.push_notes-in-Nabc.ensures.pushes.few (λ o h. h)
     c.next_snippet-self-inside-then-next-2.result c.next_snippet-self-inside-then-next-2.ensures.counts)
 
 pub returns-then-close-2-clause-bounds : goal.returns-then-close-2-clause-bounds
 returns-then-close-2-clause-bounds c =
     rw (← c.self.view_is, c.in-Nabc.is)
-    (notes_close c.in-Nabc.line c.in-Nabc.opened _ c.push_notes-next-in-Nabc.new.events.items c.push_notes-next-in-Nabc.ensures.pushes.few (λ o h. h)
-    c.text_behind-self-inside-then-close-2.result c.text_behind-self-inside-then-close-2.ensures.counts c.push_notes-next-in-Nabc.ensures.once (sym (ap (λ p. p.1) c.push_notes-next-in-Nabc.ensures.pushes.answers) ∙ c.if-close-2.true))
+    (notes_close c.in-Nabc.line c.in-Nabc.opened _ c.push_notes-in-Nabc.new.events.items c.push_notes-in-Nabc.ensures.pushes.few (λ o h. h)
+    c.text_behind-self-inside-then-close-2.result c.text_behind-self-inside-then-close-2.ensures.counts c.push_notes-in-Nabc.ensures.once (sym (c.ends_at_close-close-in-Nabc.ensures ∙ ap (list_any is_close) c.slice-in-Nabc-2.ensures) ∙ c.if-close-2.true))
 
 pub returns-else-close-2-clause-bounds : goal.returns-else-close-2-clause-bounds
 returns-else-close-2-clause-bounds c =
     rw (← c.self.view_is, c.in-Nabc.is)
-    (notes_go c.in-Nabc.line c.in-Nabc.opened _ c.push_notes-next-in-Nabc.new.events.items c.push_notes-next-in-Nabc.ensures.pushes.few (λ o h. h) _ (λ o h. h))
+    (notes_go c.in-Nabc.line c.in-Nabc.opened _ c.push_notes-in-Nabc.new.events.items c.push_notes-in-Nabc.ensures.pushes.few (λ o h. h) _ (λ o h. h))
 
 -- ---- the events
 
@@ -88,32 +88,32 @@ few es line opened h = rw (length-map es (note_event line opened)) (omega (arith
 
 pub returns-then-next-clause-events : goal.returns-then-next-clause-events
 returns-then-next-clause-events c =
-    let p = c.push_notes-next.ensures.pushes in
-    let es = c.push_notes-next.new.events.items in
-    let next : list_any is_next es ≡ true = sym (ap (λ p. p.0) p.answers) ∙ c.if-next.true in
+    let p = c.push_notes.ensures.pushes in
+    let es = c.push_notes.new.events.items in
+    let next : list_any is_next es ≡ true = sym (c.ends_at_next-next.ensures ∙ ap (list_any is_next) c.slice-in-Notes.ensures) ∙ c.if-next.true in
     rw (← c.self.view_is, c.in-Notes.is) (record {
       few = few es 0 c.in-Notes.opened p.few;
-      law = snippet_emits c.self.inside.nabc_lines c.self.inside.macros 0 c.in-Notes.opened c.args.x es (notes.events_left c.in-Notes.stage) (notes.events_left c.push_notes-next.new.stage) p.law _ (λ xs. rw next (c.next_snippet-self-inside.ensures.part xs));
+      law = snippet_emits c.self.inside.nabc_lines c.self.inside.macros 0 c.in-Notes.opened c.args.x es (notes.events_left c.in-Notes.stage) (notes.events_left c.push_notes.new.stage) p.law _ (λ xs. rw next (c.next_snippet-self-inside.ensures.part xs));
     })
 
 pub returns-then-close-clause-events : goal.returns-then-close-clause-events
 returns-then-close-clause-events c =
-    let p = c.push_notes-next.ensures.pushes in
-    let es = c.push_notes-next.new.events.items in
-    let next : list_any is_next es ≡ false = sym (ap (λ p. p.0) p.answers) ∙ c.if-next.false in
-    let close : list_any is_close es ≡ true = sym (ap (λ p. p.1) p.answers) ∙ c.if-close.true in
+    let p = c.push_notes.ensures.pushes in
+    let es = c.push_notes.new.events.items in
+    let next : list_any is_next es ≡ false = sym (c.ends_at_next-next.ensures ∙ ap (list_any is_next) c.slice-in-Notes.ensures) ∙ c.if-next.false in
+    let close : list_any is_close es ≡ true = sym (c.ends_at_close-close.ensures ∙ ap (list_any is_close) c.slice-in-Notes-2.ensures) ∙ c.if-close.true in
     rw (← c.self.view_is, c.in-Notes.is) (record {
       few = few es 0 c.in-Notes.opened p.few;
-      law = snippet_emits c.self.inside.nabc_lines c.self.inside.macros 0 c.in-Notes.opened c.args.x es (notes.events_left c.in-Notes.stage) (notes.events_left c.push_notes-next.new.stage) p.law _ (λ xs. rw (next, close) (c.text_behind-self-inside.ensures.part xs));
+      law = snippet_emits c.self.inside.nabc_lines c.self.inside.macros 0 c.in-Notes.opened c.args.x es (notes.events_left c.in-Notes.stage) (notes.events_left c.push_notes.new.stage) p.law _ (λ xs. rw (next, close) (c.text_behind-self-inside.ensures.part xs));
     })
 
 pub returns-else-close-clause-events : goal.returns-else-close-clause-events
 returns-else-close-clause-events c =
-    let p = c.push_notes-next.ensures.pushes in
-    let es = c.push_notes-next.new.events.items in
-    let next : list_any is_next es ≡ false = sym (ap (λ p. p.0) p.answers) ∙ c.if-next.false in
-    let close : list_any is_close es ≡ false = sym (ap (λ p. p.1) p.answers) ∙ c.if-close.false in
+    let p = c.push_notes.ensures.pushes in
+    let es = c.push_notes.new.events.items in
+    let next : list_any is_next es ≡ false = sym (c.ends_at_next-next.ensures ∙ ap (list_any is_next) c.slice-in-Notes.ensures) ∙ c.if-next.false in
+    let close : list_any is_close es ≡ false = sym (c.ends_at_close-close.ensures ∙ ap (list_any is_close) c.slice-in-Notes-2.ensures) ∙ c.if-close.false in
     rw (← c.self.view_is, c.in-Notes.is) (record {
       few = few es 0 c.in-Notes.opened p.few;
-      law = snippet_emits c.self.inside.nabc_lines c.self.inside.macros 0 c.in-Notes.opened c.args.x es (notes.events_left c.in-Notes.stage) (notes.events_left c.push_notes-next.new.stage) p.law _ (λ xs. rw (next, close) refl);
+      law = snippet_emits c.self.inside.nabc_lines c.self.inside.macros 0 c.in-Notes.opened c.args.x es (notes.events_left c.in-Notes.stage) (notes.events_left c.push_notes.new.stage) p.law _ (λ xs. rw (next, close) refl);
     })

@@ -9,8 +9,8 @@ returns-in-Stays-clause-taken c = λ _.
     let s = c.args.self.now in
     let goes_on : s.done ≡ false = search rules in
     let alone : IsKeptAlone s c.args.x.c = search rules in
-    stays_taken s goes_on c.args.x.c _ c.in-Stays.mode alone (sym c.next_step.ensures ∙ c.in-Stays.is)
-    (ap (λ (p : Progress). record s { mode = c.in-Stays.mode; progress = p }) c.pass.ensures)
+    stays_taken s goes_on c.args.x.c _ c.in-Stays.state alone (sym c.next_step.ensures ∙ c.in-Stays.is)
+    (ap (λ (p : Progress). record s { state = c.in-Stays.state; progress = p }) c.pass.ensures)
 
 pub returns-then-silent-clause-taken : goal.returns-then-silent-clause-taken
 returns-then-silent-clause-taken c = λ _.

@@ -1,6 +1,0 @@
-use Rattle.std.proofs.Common.{arith}
-use Rattle.std.proofs.lemmas.Nat.{pow_below}
-use Rattle.gabc_score.proofs.whole.macros_in.Goals as goal
-
-pub overflow_mul-bit : goal.overflow_mul-bit
-overflow_mul-bit c = omega (arith, c.loop-digit.invariant.bit, pow_below c.loop-digit.digit 10 c.loop-digit-test.true)
