@@ -1,5 +1,6 @@
 //! Rows of calls.
 
+use crate::printed::Printed;
 use crate::row::{limits_of, unescaped};
 use crate::{nabc, neumes, notes, scores, texts, writes};
 use gabc_places::{Code, Fault, Limits, Place};
@@ -55,7 +56,7 @@ fn answer_with(
     first: &str,
     second: &str,
     input: &str,
-    out: &mut String,
+    out: &mut Printed,
 ) -> Result<bool, AllocError> {
     if let (Some(code), Some(place)) = (code_of(first), place_of(second)) {
         writes::answer_message(alloc, code, place, input, out)?;
@@ -77,7 +78,7 @@ fn answer(
     first: &str,
     second: &str,
     input: &str,
-    out: &mut String,
+    out: &mut Printed,
 ) -> Result<bool, AllocError> {
     Ok(
         texts::answer(alloc, call, input, out)?
@@ -106,7 +107,7 @@ pub(crate) fn is_answered(alloc: Global, line: &str) -> Result<bool, AllocError>
     let call = words.next().unwrap_or("");
     let first = words.next().unwrap_or("");
     let second = words.next().unwrap_or("");
-    let mut printed = String::new(alloc);
+    let mut printed = Printed::new(alloc);
     let is_call = answer(alloc, call, first, second, input.as_str(), &mut printed)?;
-    Ok(is_call && printed.as_bytes() == wanted.as_slice())
+    Ok(is_call && printed.is(wanted.as_slice()))
 }

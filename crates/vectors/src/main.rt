@@ -9,6 +9,7 @@ mod nabc;
 mod neumes;
 mod notes;
 mod pieces;
+mod printed;
 mod row;
 mod run;
 mod scores;

@@ -2,48 +2,48 @@
 
 ghost use Rattle.gabc_notes.specs.Items.{AreWithin};
 
-use crate::show::{show, show_span};
+use crate::printed::Printed;
+use crate::show::show_span;
 use gabc_neumes::{Glyph, cut, elements, kind_of, notes_into, segments};
 use gabc_notes::{Item, Note, is_snippet, items_whole};
 use gabc_places::{Room, Span};
 use std::alloc::{AllocError, Global};
 
 /// Prints the number of the spans and the spans.
-fn show_spans(spans: &[Span], out: &mut String) -> Result<(), AllocError> {
-    show(&spans.len(), out)?;
+fn show_spans(spans: &[Span], out: &mut Printed) {
+    out.show(&spans.len());
     for span in spans {
-        out.push('\t')?;
-        show_span(*span, out)?;
+        out.put("\t");
+        show_span(*span, out);
     }
-    Ok(())
 }
 
 /// Prints the kind of the notes, or `none`.
-fn show_kind(notes: &[Note], out: &mut String) -> Result<(), AllocError> {
+fn show_kind(notes: &[Note], out: &mut Printed) {
     match kind_of(notes) {
-        Some(kind) => show(&kind, out),
-        None => out.push_str("none"),
+        Some(kind) => out.show(&kind),
+        None => out.put("none"),
     }
 }
 
 /// Prints glyphs: `KIND COUNT` of each, split by `, `.
-fn show_cut(glyphs: &[Glyph], out: &mut String) -> Result<(), AllocError> {
+fn show_cut(glyphs: &[Glyph], out: &mut Printed) {
     for glyph in glyphs {
         if glyph.first > 0 {
-            out.push_str(", ")?;
+            out.put(", ");
         }
-        show(&glyph.kind, out)?;
-        out.push(' ')?;
-        show(&glyph.count, out)?;
+        out.show(&glyph.kind);
+        out.put(" ");
+        out.show(&glyph.count);
     }
-    Ok(())
 }
 
 /// Prints the glyphs of a segment with these notes.
-fn show_glyphs(alloc: Global, notes: &[Note], out: &mut String) -> Result<(), AllocError> {
+fn show_glyphs(alloc: Global, notes: &[Note], out: &mut Printed) -> Result<(), AllocError> {
     let mut glyphs = Room::with_limit(alloc, notes.len())?;
     cut(notes, &mut glyphs);
-    show_cut(glyphs.slice(), out)
+    show_cut(glyphs.slice(), out);
+    Ok(())
 }
 
 /// Prints the glyphs of the segment that has these items.
@@ -51,7 +51,7 @@ fn show_segment(
     alloc: Global,
     kept: &str,
     part: &[Item],
-    out: &mut String,
+    out: &mut Printed,
 ) -> Result<(), AllocError>
     requires { AreWithin kept.now part.now }
 {
@@ -66,13 +66,13 @@ fn show_segments(
     kept: &str,
     items: &[Item],
     spans: &[Span],
-    out: &mut String,
+    out: &mut Printed,
 ) -> Result<(), AllocError>
     requires { AreWithin kept.now items.now }
 {
-    show(&spans.len(), out)?;
+    out.show(&spans.len());
     for span in spans {
-        out.push('\t')?;
+        out.put("\t");
         if let Some(part) = items.get(span.from..span.to) {
             show_segment(alloc, kept, part, out)?;
         }
@@ -86,7 +86,7 @@ fn answer_items(
     call: &str,
     kept: &str,
     items: &[Item],
-    out: &mut String,
+    out: &mut Printed,
 ) -> Result<(), AllocError>
     requires { AreWithin kept.now items.now }
 {
@@ -94,22 +94,23 @@ fn answer_items(
     match call {
         "elements" => {
             elements(kept, items, &mut spans);
-            show_spans(spans.slice(), out)
+            show_spans(spans.slice(), out);
         }
         "segments" => {
             segments(kept, items, &mut spans);
-            show_spans(spans.slice(), out)
+            show_spans(spans.slice(), out);
         }
         "glyphs" => {
             segments(kept, items, &mut spans);
-            show_segments(alloc, kept, items, spans.slice(), out)
+            show_segments(alloc, kept, items, spans.slice(), out)?;
         }
         _ => {
             let mut notes = Room::with_limit(alloc, items.len())?;
             notes_into(kept, items, &mut notes);
-            show_kind(notes.slice(), out)
+            show_kind(notes.slice(), out);
         }
     }
+    Ok(())
 }
 
 /// Prints the answer of a call on a snippet of notes, and returns whether there is such a call.
@@ -117,7 +118,7 @@ pub(crate) fn answer(
     alloc: Global,
     call: &str,
     input: &str,
-    out: &mut String,
+    out: &mut Printed,
 ) -> Result<bool, AllocError> {
     match call {
         "elements" | "segments" | "glyphs" | "kind_of" => {}

@@ -1,8 +1,7 @@
 //! Rows of snippets of notes.
 
-use crate::show::{
-    show, show_debug, show_findings, show_note_event, show_snippet_how, show_span, show_spelled,
-};
+use crate::printed::Printed;
+use crate::show::{show_findings, show_note_event, show_snippet_how, show_span, show_spelled};
 use gabc_notes::{
     Item, ItemKind, NoteEvent, NoteStage, SnippetRead, is_snippet, items_into, items_whole,
     note_of, snippet_whole,
@@ -11,61 +10,63 @@ use gabc_places::{Place, Room, Span, Stage, outputs_of};
 use std::alloc::{AllocError, Global};
 
 /// Prints the number of the items of a snippet, and the items.
-fn show_items(kept: &str, items: &[Item], out: &mut String) -> Result<(), AllocError> {
-    show(&items.len(), out)?;
+fn show_items(kept: &str, items: &[Item], out: &mut Printed) {
+    out.show(&items.len());
     for item in items {
-        out.push('\t')?;
-        show_debug(&item.kind, out)?;
-        out.push(' ')?;
-        show_spelled(kept, item.span, out)?;
+        out.put("\t");
+        out.show_debug(&item.kind);
+        out.put(" ");
+        show_spelled(kept, item.span, out);
     }
-    Ok(())
 }
 
 /// Prints the number of the items and the items, which both calls have to give; or that the text is no snippet.
-fn answer_items(alloc: Global, input: &str, out: &mut String) -> Result<(), AllocError> {
+fn answer_items(alloc: Global, input: &str, out: &mut Printed) -> Result<(), AllocError> {
     if !is_snippet(input) {
-        return out.push_str("no snippet");
+        out.put("no snippet");
+        return Ok(());
     }
     let items = items_whole(alloc, input)?;
     let mut room = Room::with_limit(alloc, input.len())?;
     items_into(input, &mut room);
     if room.slice() != items.as_slice() {
-        return out.push_str("the calls differ");
+        out.put("the calls differ");
+        return Ok(());
     }
-    show_items(input, items.as_slice(), out)
+    show_items(input, items.as_slice(), out);
+    Ok(())
 }
 
 /// Prints the note of an item of this kind that is the whole text: its height, shape, whether it is initio debilis, and its span.
-fn answer_note(kind: ItemKind, input: &str, out: &mut String) -> Result<(), AllocError> {
+fn answer_note(kind: ItemKind, input: &str, out: &mut Printed) {
     let span = Span {
         from: 0,
         to: input.len(),
     };
     let Some(note) = note_of(input, Item { kind, span }) else {
-        return out.push_str("none");
+        return out.put("none");
     };
     let debilis = if note.debilis {
         "initio debilis"
     } else {
         "none"
     };
-    show(&note.height, out)?;
-    out.push('\t')?;
-    show_debug(&note.shape, out)?;
-    out.push('\t')?;
-    out.push_str(debilis)?;
-    out.push('\t')?;
-    show_span(note.span, out)
+    out.show(&note.height);
+    out.put("\t");
+    out.show_debug(&note.shape);
+    out.put("\t");
+    out.put(debilis);
+    out.put("\t");
+    show_span(note.span, out);
 }
 
 /// Prints the kept text, the end and the findings of a snippet.
-pub(crate) fn show_snippet(read: &SnippetRead, out: &mut String) -> Result<(), AllocError> {
-    out.push_str(read.kept.as_str())?;
-    out.push('\t')?;
-    show_snippet_how(read.how, out)?;
-    out.push('\t')?;
-    show_findings(read.findings.as_slice(), out)
+pub(crate) fn show_snippet(read: &SnippetRead, out: &mut Printed) {
+    out.put(read.kept.as_str());
+    out.put("\t");
+    show_snippet_how(read.how, out);
+    out.put("\t");
+    show_findings(read.findings.as_slice(), out);
 }
 
 /// Prints the kept text, the end and the findings of a snippet.
@@ -74,24 +75,20 @@ fn answer_snippet(
     split: bool,
     macros: u16,
     input: &str,
-    out: &mut String,
+    out: &mut Printed,
 ) -> Result<(), AllocError> {
     let read = snippet_whole(alloc, input, Place::START, split, macros)?;
-    show_snippet(&read, out)
+    show_snippet(&read, out);
+    Ok(())
 }
 
 /// Prints how many events a stage gives for a character at most, and these events.
-pub(crate) fn show_events(
-    most: usize,
-    events: &[NoteEvent],
-    out: &mut String,
-) -> Result<(), AllocError> {
-    show(&most, out)?;
+pub(crate) fn show_events(most: usize, events: &[NoteEvent], out: &mut Printed) {
+    out.show(&most);
     for event in events {
-        out.push('\t')?;
-        show_note_event(*event, out)?;
+        out.put("\t");
+        show_note_event(*event, out);
     }
-    Ok(())
 }
 
 /// Prints how many events a stage gives for a character at most, and those that it gives of the snippet.
@@ -100,11 +97,12 @@ fn answer_events(
     split: bool,
     macros: u16,
     input: &str,
-    out: &mut String,
+    out: &mut Printed,
 ) -> Result<(), AllocError> {
     let mut stage = NoteStage::new(split, macros);
     let events = outputs_of(alloc, &mut stage, input, Place::START)?;
-    show_events(stage.most(), events.as_slice(), out)
+    show_events(stage.most(), events.as_slice(), out);
+    Ok(())
 }
 
 /// Prints the answer of a call on a snippet, and returns whether there is such a call.
@@ -114,14 +112,14 @@ pub(crate) fn answer(
     first: &str,
     second: &str,
     input: &str,
-    out: &mut String,
+    out: &mut Printed,
 ) -> Result<bool, AllocError> {
     let split = first == "split";
     let macros = second.parse::<u16>().unwrap_or(0);
     match call {
         "items" => answer_items(alloc, input, out)?,
-        "note_of" if first == "Custos" => answer_note(ItemKind::Custos, input, out)?,
-        "note_of" => answer_note(ItemKind::Note, input, out)?,
+        "note_of" if first == "Custos" => answer_note(ItemKind::Custos, input, out),
+        "note_of" => answer_note(ItemKind::Note, input, out),
         "snippet" => answer_snippet(alloc, split, macros, input, out)?,
         "note_events" => answer_events(alloc, split, macros, input, out)?,
         _ => return Ok(false),

@@ -2,7 +2,8 @@
 
 ghost use Rattle.std.specs.Prelude.{◌≤◌, length, string_bytes};
 
-use crate::show::{show, show_bytes};
+use crate::printed::Printed;
+use crate::show::show_bytes;
 use gabc_headers::{HeaderBook, headers_whole};
 use gabc_places::{Code, Limits, Place, Room, Text};
 use gabc_score::{InputEnding, Syllable, score_whole};
@@ -18,27 +19,29 @@ pub(crate) fn answer_message(
     code: Code,
     place: Place,
     name: &str,
-    out: &mut String,
+    out: &mut Printed,
 ) -> Result<(), AllocError> {
     let len = message_len(name, place, code);
     let mut room = Room::with_limit(alloc, len)?;
     message_line(name, place, code, &mut room);
-    show(&len, out)?;
-    out.push('\t')?;
-    show_bytes(room.slice(), out)
+    out.show(&len);
+    out.put("\t");
+    show_bytes(room.slice(), out);
+    Ok(())
 }
 
 /// Prints the bytes of the canonical headers of a book, and these.
-fn show_header(alloc: Global, book: &HeaderBook, out: &mut String) -> Result<(), AllocError> {
+fn show_header(alloc: Global, book: &HeaderBook, out: &mut Printed) -> Result<(), AllocError> {
     let len = book.canonical_len();
     if len == usize::MAX {
         return Err(AllocError);
     }
     let mut room = Room::with_limit(alloc, len)?;
     canon_header(book, &mut room);
-    show(&len, out)?;
-    out.push('\t')?;
-    show_bytes(room.slice(), out)
+    out.show(&len);
+    out.put("\t");
+    show_bytes(room.slice(), out);
+    Ok(())
 }
 
 /// Prints the bytes of the canonical headers of a text, and these; or that there are none.
@@ -46,41 +49,45 @@ fn answer_header(
     alloc: Global,
     limits: Limits,
     input: &str,
-    out: &mut String,
+    out: &mut Printed,
 ) -> Result<(), AllocError> {
     let text = Text::from_str(alloc, input)?;
     match headers_whole(alloc, &text, limits)? {
         Ok(heads) => show_header(alloc, &heads.book, out),
-        Err(_) => out.push_str("no headers"),
+        Err(_) => {
+            out.put("no headers");
+            Ok(())
+        }
     }
 }
 
 /// Prints a length and the text that has it.
-fn show_counted(len: usize, text: &[u8], out: &mut String) -> Result<(), AllocError> {
-    show(&len, out)?;
-    out.push(' ')?;
-    show_bytes(text, out)
+fn show_counted(len: usize, text: &[u8], out: &mut Printed) {
+    out.show(&len);
+    out.put(" ");
+    show_bytes(text, out);
 }
 
 /// Prints the bytes of the canonical text of a syllable, and this text.
-fn show_syllable(alloc: Global, syllable: &Syllable, out: &mut String) -> Result<(), AllocError> {
+fn show_syllable(alloc: Global, syllable: &Syllable, out: &mut Printed) -> Result<(), AllocError> {
     let len = canon_len(syllable);
     if len == usize::MAX {
         return Err(AllocError);
     }
     let mut room = Room::with_limit(alloc, len)?;
     canon_syllable(syllable, &mut room);
-    out.push('\t')?;
-    show_counted(len, room.slice(), out)
+    out.put("\t");
+    show_counted(len, room.slice(), out);
+    Ok(())
 }
 
 /// Prints the number of syllables, and their canonical texts.
 fn show_syllables(
     alloc: Global,
     syllables: &[Syllable],
-    out: &mut String,
+    out: &mut Printed,
 ) -> Result<(), AllocError> {
-    show(&syllables.len(), out)?;
+    out.show(&syllables.len());
     for syllable in syllables {
         show_syllable(alloc, syllable, out)?;
     }
@@ -92,7 +99,7 @@ fn answer_syllables(
     alloc: Global,
     limits: Limits,
     input: &str,
-    out: &mut String,
+    out: &mut Printed,
 ) -> Result<(), AllocError> {
     let text = Text::from_str(alloc, input)?;
     let score = score_whole(alloc, &text, InputEnding::Whole, limits)?;
@@ -105,7 +112,7 @@ fn show_lines(
     number: u64,
     syllable: &Syllable,
     scratch: &mut Scratch,
-    out: &mut String,
+    out: &mut Printed,
 ) -> Result<(), AllocError>
     requires { length (string_bytes syllable.now.kept) ≤ scratch.old }
 {
@@ -115,8 +122,9 @@ fn show_lines(
     }
     let mut room = Room::with_limit(alloc, len)?;
     dump_syllable(number, syllable, scratch, &mut room);
-    out.push('\t')?;
-    show_counted(len, room.slice(), out)
+    out.put("\t");
+    show_counted(len, room.slice(), out);
+    Ok(())
 }
 
 /// Reserves what a dump of a syllable needs, and prints its lines.
@@ -124,7 +132,7 @@ fn show_dump(
     alloc: Global,
     number: u64,
     syllable: &Syllable,
-    out: &mut String,
+    out: &mut Printed,
 ) -> Result<(), AllocError> {
     let mut scratch = Scratch::with_limit(alloc, syllable.kept.len())?;
     let shown = show_lines(alloc, number, syllable, &mut scratch, out);
@@ -134,8 +142,8 @@ fn show_dump(
 }
 
 /// Prints the number of syllables, and the lines of each in a dump. The first one has the number 4294967295.
-fn show_dumps(alloc: Global, syllables: &[Syllable], out: &mut String) -> Result<(), AllocError> {
-    show(&syllables.len(), out)?;
+fn show_dumps(alloc: Global, syllables: &[Syllable], out: &mut Printed) -> Result<(), AllocError> {
+    out.show(&syllables.len());
     for (index, syllable) in syllables.iter().enumerate() {
         let number = (index as u64).saturating_add(4294967295);
         show_dump(alloc, number, syllable, out)?;
@@ -148,7 +156,7 @@ fn answer_dump(
     alloc: Global,
     limits: Limits,
     input: &str,
-    out: &mut String,
+    out: &mut Printed,
 ) -> Result<(), AllocError> {
     let text = Text::from_str(alloc, input)?;
     let score = score_whole(alloc, &text, InputEnding::Whole, limits)?;
@@ -163,7 +171,7 @@ pub(crate) fn answer_within(
     call: &str,
     limits: Limits,
     input: &str,
-    out: &mut String,
+    out: &mut Printed,
 ) -> Result<bool, AllocError> {
     match call {
         "header" => answer_header(alloc, limits, input, out)?,

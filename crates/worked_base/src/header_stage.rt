@@ -7,31 +7,22 @@ use gabc_headers::stage_laws::{
 };
 use gabc_headers::{HeadEvent, HeaderStage};
 use gabc_places::{Char, Code, Fault, Limits, Place, Room, Stage};
+use std::alloc::AllocError;
 use std::test::Fail;
 
 /// Adds an event to a text: findings and faults as their messages, a character of the body as it is.
-fn show(rt: &HostRuntime, event: HeadEvent, shown: &mut String) -> Result<(), Fail> {
+fn show(event: HeadEvent, shown: &mut String) -> Result<(), AllocError> {
     match event {
-        HeadEvent::Found(finding) => {
-            let line = format!(in rt.alloc(); "{finding}|")?;
-            shown.push_str(line.as_str())?;
-        }
-        HeadEvent::Stop(fault) => {
-            let line = format!(in rt.alloc(); "{fault}")?;
-            shown.push_str(line.as_str())?;
-        }
+        HeadEvent::Found(finding) => write!(shown, "{finding}|"),
+        HeadEvent::Stop(fault) => write!(shown, "{fault}"),
         HeadEvent::Heads {
             nabc_lines,
             macros,
             canonical,
-        } => {
-            let line = format!(in rt.alloc(); "heads {nabc_lines} {macros} {canonical}|")?;
-            shown.push_str(line.as_str())?;
-        }
-        HeadEvent::Body(c) => shown.push(c.c)?,
-        HeadEvent::End => shown.push_str("|end")?,
+        } => write!(shown, "heads {nabc_lines} {macros} {canonical}|"),
+        HeadEvent::Body(c) => shown.push(c.c),
+        HeadEvent::End => shown.push_str("|end"),
     }
-    Ok(())
 }
 
 /// What a fresh decoder and a fresh stage of headers give of these bytes.
@@ -44,81 +35,60 @@ fn events_of(rt: &HostRuntime, bytes: &[u8]) -> Result<String, Fail>
     a_fresh_stage_reads_bytes(rt.alloc(), Limits::DEFAULT, inputs, &mut out)?;
     let mut shown = String::new(rt.alloc());
     for event in out.slice() {
-        show(rt, *event, &mut shown)?;
+        show(*event, &mut shown)?;
     }
     Ok(shown)
 }
 
+/// Bytes, and the events that they give as `show` prints them.
+const ROWS: [(&[u8], &str); 11] = [
+    (
+        b"\xEF\xBB\xBFname:X;\r\ncommentary:;\r\n%%\r\n(c3) A(g)",
+        "heads 0 0 24|\n(c3) A(g)|end",
+    ),
+    (
+        b"user-notes: \n %%x\ntwo;;\n%%\n",
+        "4:1: warning: W1: no name header|heads 0 0 25|\n|end",
+    ),
+    (b"name:\na; % x;;\n%%\n", "heads 0 0 18|\n|end"),
+    (b"name: a; % x;\n%%\n", "heads 0 0 11|\n|end"),
+    (
+        b"%%\nA(f) b(g)\xFF",
+        "1:1: warning: W1: no name header|heads 0 0 2|\nA(f) b(g)2:10: fatal: F1: not UTF-8",
+    ),
+    (
+        b"mode:1;\nname:A;\nmode:2;\n%%",
+        "3:1: warning: W2: header given again|heads 0 0 20||end",
+    ),
+    (
+        b"nabc-lines: 9;\n%%",
+        "1:1: error: E5: nabc-lines out of range left out|2:1: warning: W1: no name header|heads 0 0 2||end",
+    ),
+    (
+        b"words\n%%",
+        "1:1: error: E4: header without a usable name left out|2:1: warning: W1: no name header|heads 0 0 2||end",
+    ),
+    (b"name: x\n%%\n", "1:1: fatal: F3: header value not ended"),
+    (
+        b"a\r\nb",
+        "1:1: error: E4: header without a usable name left out|2:2: fatal: F2: no %% line",
+    ),
+    (
+        b"name:;\nnabc-lines:1;\ndef-m0:x;\ndef-m9:y;\n%%",
+        "heads 1 513 46||end",
+    ),
+];
+
+/// Returns whether these bytes, fewer than 1000, give these events.
+fn are_events(rt: &HostRuntime, bytes: &[u8], events: &str) -> Result<bool, Fail> {
+    Ok(bytes.len() < 1000 && events_of(rt, bytes)?.as_str() == events)
+}
+
 #[test]
 fn bytes_are_headers_and_body(rt: HostRuntime) -> Result<(), Fail> {
-    let shown = events_of(
-        &rt,
-        b"\xEF\xBB\xBFname:X;\r\ncommentary:;\r\n%%\r\n(c3) A(g)",
-    )?;
-    assert_eq!(rt; shown.as_str(), "heads 0 0 24|\n(c3) A(g)|end");
-    Ok(())
-}
-
-#[test]
-fn a_value_has_lines(rt: HostRuntime) -> Result<(), Fail> {
-    let shown = events_of(&rt, b"user-notes: \n %%x\ntwo;;\n%%\n")?;
-    assert_eq!(rt;
-        shown.as_str(),
-        "4:1: warning: W1: no name header|heads 0 0 25|\n|end"
-    );
-    let shown = events_of(&rt, b"name:\na; % x;;\n%%\n")?;
-    assert_eq!(rt; shown.as_str(), "heads 0 0 18|\n|end");
-    let shown = events_of(&rt, b"name: a; % x;\n%%\n")?;
-    assert_eq!(rt; shown.as_str(), "heads 0 0 11|\n|end");
-    Ok(())
-}
-
-#[test]
-fn a_fault_behind_the_headers_stops(rt: HostRuntime) -> Result<(), Fail> {
-    let shown = events_of(&rt, b"%%\nA(f) b(g)\xFF")?;
-    assert_eq!(rt;
-        shown.as_str(),
-        "1:1: warning: W1: no name header|heads 0 0 2|\nA(f) b(g)2:10: fatal: F1: not UTF-8"
-    );
-    Ok(())
-}
-
-#[test]
-fn headers_come_again_or_are_left_out(rt: HostRuntime) -> Result<(), Fail> {
-    let shown = events_of(&rt, b"mode:1;\nname:A;\nmode:2;\n%%")?;
-    assert_eq!(rt;
-        shown.as_str(),
-        "3:1: warning: W2: header given again|heads 0 0 20||end"
-    );
-    let shown = events_of(&rt, b"nabc-lines: 9;\n%%")?;
-    assert_eq!(rt;
-        shown.as_str(),
-        "1:1: error: E5: nabc-lines out of range left out|2:1: warning: W1: no name header|heads 0 0 2||end"
-    );
-    let shown = events_of(&rt, b"words\n%%")?;
-    assert_eq!(rt;
-        shown.as_str(),
-        "1:1: error: E4: header without a usable name left out|2:1: warning: W1: no name header|heads 0 0 2||end"
-    );
-    let shown = events_of(&rt, b"name: x\n%%\n")?;
-    assert_eq!(rt; shown.as_str(), "1:1: fatal: F3: header value not ended");
-    Ok(())
-}
-
-#[test]
-fn a_text_without_its_mark_is_stopped_at_its_end(rt: HostRuntime) -> Result<(), Fail> {
-    let shown = events_of(&rt, b"a\r\nb")?;
-    assert_eq!(rt;
-        shown.as_str(),
-        "1:1: error: E4: header without a usable name left out|2:2: fatal: F2: no %% line"
-    );
-    Ok(())
-}
-
-#[test]
-fn macros_and_lines_are_emitted(rt: HostRuntime) -> Result<(), Fail> {
-    let shown = events_of(&rt, b"name:;\nnabc-lines:1;\ndef-m0:x;\ndef-m9:y;\n%%")?;
-    assert_eq!(rt; shown.as_str(), "heads 1 513 46||end");
+    for (bytes, events) in ROWS {
+        assert!(rt; are_events(&rt, bytes, events)?, "of {bytes:?}");
+    }
     Ok(())
 }
 
@@ -140,13 +110,11 @@ fn push_all(stage: &mut HeaderStage, text: &str, out: &mut Room<HeadEvent>)
 }
 
 /// Adds to a text what the stage lends: the text of the headers, how many headers are in its book, the mode and the macros.
-fn show_lent(rt: &HostRuntime, stage: &HeaderStage, shown: &mut String) -> Result<(), Fail> {
+fn show_lent(stage: &HeaderStage, shown: &mut String) -> Result<(), AllocError> {
     let (text, book) = (stage.text(), stage.book());
     let (count, macros) = (book.len(), book.macros());
     let mode = book.get("mode").unwrap_or("none");
-    let line = format!(in rt.alloc(); "{text}|{count} {mode} {macros}|")?;
-    shown.push_str(line.as_str())?;
-    Ok(())
+    write!(shown, "{text}|{count} {mode} {macros}|")
 }
 
 /// What a stage lends before the second `%` of its line, and behind it.
@@ -159,9 +127,9 @@ fn lent_around_the_line(
 {
     let mut shown = String::new(rt.alloc());
     push_all(stage, "mode:1;\nmode:2;\n%", out);
-    show_lent(rt, stage, &mut shown)?;
+    show_lent(stage, &mut shown)?;
     push_all(stage, "%\n(f)", out);
-    show_lent(rt, stage, &mut shown)?;
+    show_lent(stage, &mut shown)?;
     Ok(shown)
 }
 

@@ -52,9 +52,11 @@ fn sends_byte_by_byte(rt: HostRuntime) {
 #[test]
 fn writes_to_a_writer(rt: HostRuntime) {
     let mut sink = ToWriter::new(Vec::new(rt.alloc()));
-    assert_eq!(rt; sink.write(b""), Ok(0));
-    assert_eq!(rt; send_all(&mut sink, b"Gloria "), Ok(()));
-    assert_eq!(rt; send_all(&mut sink, b"in excelsis"), Ok(()));
+    let sent = [
+        send_all(&mut sink, b"Gloria "),
+        send_all(&mut sink, b"in excelsis"),
+    ];
+    assert_eq!(rt; sent, [Ok(()), Ok(())]);
     assert_eq!(rt; sink.inner().as_slice(), b"Gloria in excelsis".as_slice());
 }
 
@@ -75,8 +77,10 @@ impl Write for Full {
 #[test]
 fn takes_a_write_of_none_for_a_failure(rt: HostRuntime) {
     let mut sink = ToWriter::new(Full);
-    assert_eq!(rt; sink.write(b"x"), Err(SinkFault));
-    assert_eq!(rt; sink.write(b""), Ok(0));
+    assert_eq!(rt;
+        [sink.write(b"x"), sink.write(b"")],
+        [Err(SinkFault), Ok(0)]
+    );
     assert_eq!(rt; send_all(&mut sink, b"x"), Err(Unsent { sent: 0 }));
 }
 
@@ -103,11 +107,8 @@ impl Write for Counting {
 #[test]
 fn writes_once_for_each_call(rt: HostRuntime) {
     let mut sink = ToWriter::new(Counting { calls: 0 });
-    assert_eq!(rt; sink.write(b"ab"), Ok(1));
-    assert_eq!(rt; sink.inner().calls, 1);
-    assert_eq!(rt; sink.write(b"b"), Err(SinkFault));
-    assert_eq!(rt; sink.inner().calls, 2);
-    assert_eq!(rt; sink.write(b"b"), Ok(1));
+    let taken = [sink.write(b"ab"), sink.write(b"b"), sink.write(b"b")];
+    assert_eq!(rt; taken, [Ok(1), Err(SinkFault), Ok(1)]);
     assert_eq!(rt; sink.inner().calls, 3);
 }
 

@@ -165,8 +165,7 @@ fn codes_have_kinds_and_names(rt: HostRuntime) {
         (Code::F1, Severity::Fatal, "F1"),
         (Code::F7, Severity::Fatal, "F7"),
     ] {
-        assert_eq!(rt; code.severity(), kind);
-        assert_eq!(rt; code.name(), name);
+        assert_eq!(rt; (code.severity(), code.name()), (kind, name));
     }
 }
 
@@ -174,9 +173,19 @@ fn codes_have_kinds_and_names(rt: HostRuntime) {
 fn keeps_texts_and_findings(rt: HostRuntime) -> Result<(), Fail> {
     let text = Text::from_str(rt.alloc(), "\u{C9}\r\n\u{FEFF}x")?;
     assert_eq!(rt; text.as_str(), "\u{C9}\r\n\u{FEFF}x");
-    assert_eq!(rt; text.end(), Place { line: 2, column: 3 });
-    assert_eq!(rt; Text::new(rt.alloc()).end(), Place::START);
-    assert_eq!(rt; Place::START.after('a'), Place { line: 1, column: 2 });
+    let places = [
+        text.end(),
+        Text::new(rt.alloc()).end(),
+        Place::START.after('a'),
+    ];
+    assert_eq!(rt;
+        places,
+        [
+            Place { line: 2, column: 3 },
+            Place::START,
+            Place { line: 1, column: 2 }
+        ]
+    );
     let mut findings = Findings::new(rt.alloc());
     let finding = Finding {
         place: text.end(),
