@@ -55,7 +55,7 @@ def try_case(columns: list[str]) -> None:
 
 
 def try_calls() -> None:
-    """Tries what the tables don't say: texts, formats, long answers, threads."""
+    """Tries what the tables do not say: texts, formats, long answers, threads."""
     result = gregorio_chant.compile("%%\nA(f)é(/./)", "gabc")
     check(result.canonical == "%%\nA(f)é(//)\n" and result.status is Status.ERRORS, "a str")
     check(list(result)[-1] == Message(2, 8, Kind.ERROR, "E1", "character left out of the notes"), "a message")

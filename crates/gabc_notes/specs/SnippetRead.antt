@@ -65,12 +65,7 @@ kept_chars_in split macros xs = let s = stop_after split [] xs in take (length (
 abbrev pub index_of : List Char → ℕ
 index_of back = sum_by (λ (x : Char). len_utf8 x.c) back
 
--- how it ends: at the byte of the mark; cut with the place of the bracket that is open
-abbrev pub ending_by : Option ℕ → List Char → SnippetEnding
-ending_by None back = Cut (if in_raw (kept back) then opener back else record { line = 0; column = 0 })
-ending_by (Some c) back = if c == 124 then Next (index_of back) else Close (index_of back)
-
--- the same, as a stage emits it
+-- how it ends, as a stage emits it: at a mark; cut with the place of the bracket that is open
 abbrev pub end_by : Option ℕ → List Char → NoteEnd
 end_by None back = end.Cut (if in_raw (kept back) then opener back else record { line = 0; column = 0 })
 end_by (Some c) back = end_by_mark c
@@ -80,6 +75,10 @@ abbrev pub ending_at : NoteEnd → ℕ → SnippetEnding
 ending_at end.Next index = Next index
 ending_at end.Close index = Close index
 ending_at (end.Cut place) index = Cut place
+
+-- how it ends: at the byte of the mark, or cut
+abbrev pub ending_by : Option ℕ → List Char → SnippetEnding
+ending_by mark back = ending_at (end_by mark back) (index_of back)
 
 -- what is read of a text that begins at this place
 pub record IsSnippetRead (at : Place) (split : Bool) (macros : ℕ) (text : List ℕ) (read : SnippetRead) : Type 0 where

@@ -84,7 +84,7 @@ end_to (many p) h = refl
 
 -- ---- a character more
 
--- the first part of a sequence of parts that isn't empty
+-- the first part of a sequence of parts that is not empty
 pub first_part : (P : List ℕ → Type 0) (c : ℕ) (t : List ℕ) (parts : List (List ℕ)) → Each P parts → c ∷ t ≡ concat parts
     → (a : List ℕ) × (rest : List (List ℕ)) × P (c ∷ a) × Each P rest × (t ≡ a ++ concat rest)
 first_part P c t [] h e = absurd (cc)

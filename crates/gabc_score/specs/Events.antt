@@ -7,6 +7,7 @@
 -- In these definitions `texts` is how a text is read. What a body emits, `body_events`, takes the definition of texts for it.
 use Rattle.std.specs.Prelude.{ℕ, ◌+◌, ◌-◌, ◌^◌, min, nat_lt, List, [], ◌∷◌, map, Bool, true, false, ◌==◌, if◌then◌else◌}
 use Rattle.std.specs.List.{list_any}
+use Rattle.gabc_places.specs.Place.{saturating_next_place}
 use Rattle.gabc_places.specs.declared.place.Place.{Place}
 use Rattle.gabc_places.specs.declared.place.Char.{Char}
 use Rattle.gabc_text.specs.declared.text_event.TextEnd.TheVariants as text_end
@@ -87,9 +88,9 @@ snippet_from lines macros line opened xs =
 abbrev pub next_line : ℕ → ℕ → ℕ
 next_line lines line = if nat_lt line lines then line + 1 else 0
 
--- the place behind a mark; a column that has reached its last value stays there
+-- the place behind a `)`
 abbrev pub behind_mark : Place → Place
-behind_mark place = record { line = place.line; column = min (place.column + 1) (2 ^ 64 - 1) }
+behind_mark place = saturating_next_place place 41
 
 -- the LF that ends the comment is the first character of a text
 abbrev pub part_at : Texts → PartAhead → Char → List Char → PartAhead

@@ -47,8 +47,9 @@ pub struct Syllable {
     pub snippets: Snippets,
     /// Where in its word it stands.
     pub position: Position,
-    /// Whether the span that `<eu>` opens is open at the end of its text, and that of `<nlba>` (GregorioRef, "Syllable Text Syntax").
+    /// Whether the span that `<eu>` opens is open at the end of its text (GregorioRef, "Syllable Text Syntax").
     pub eu: bool,
+    /// Whether the span that `<nlba>` opens is open at the end of its text (GregorioRef, "Syllable Text Syntax").
     pub nlba: bool,
 }
 

@@ -48,7 +48,7 @@ ended_past facts (k ∷ before) = (is_end k.kind && begun_past facts before) || 
 abbrev pub leaves_out : TextFacts → TokenKind → Bool
 leaves_out facts k = is_left_out_by facts.begun facts.ended k
 
--- the nearest token that isn't left out is a blank
+-- the nearest token that is not left out is a blank
 abbrev pub space_past : TextFacts → List Token → Bool
 space_past facts [] = facts.space
 space_past facts (k ∷ before) =

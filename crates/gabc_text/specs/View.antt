@@ -178,7 +178,7 @@ abbrev pub end_of : List Token → Option ℕ
 end_of [] = None
 end_of (k ∷ before) = cond (is_end k.kind && (has_begin before && not (has_end before))) (Some (count_pieces before)) (end_of before)
 
--- a centre that isn't ended goes to the end; no position is past the pieces
+-- a centre that is not ended goes to the end; no position is past the pieces
 abbrev pub centre_by : ℕ → Option ℕ → Option ℕ → Option Span
 centre_by count (Some from) (Some to) = Some (record { from = min from count; to = min to count })
 centre_by count (Some from) None = Some (record { from = min from count; to = count })
@@ -208,7 +208,7 @@ is_left_out_by begun ended _ = false
 abbrev pub is_left_out : List Token → TokenKind → Bool
 is_left_out before k = is_left_out_by (has_begin before) (has_end before) k
 
--- the nearest token that isn't left out is a blank
+-- the nearest token that is not left out is a blank
 abbrev pub follows_space : List Token → Bool
 follows_space [] = false
 follows_space (k ∷ before) = is_space k.kind || (is_left_out before k.kind && follows_space before)

@@ -26,12 +26,19 @@ pub enum Style {
 /// A set of styles: which of the seven are open.
 #[derive(Clone, Copy, Debug, PartialEq, Eq)]
 pub struct Styles {
+    /// Whether `<b>` is open.
     pub b: bool,
+    /// Whether `<c>` is open.
     pub c: bool,
+    /// Whether `<e>` is open.
     pub e: bool,
+    /// Whether `<i>` is open.
     pub i: bool,
+    /// Whether `<sc>` is open.
     pub sc: bool,
+    /// Whether `<tt>` is open.
     pub tt: bool,
+    /// Whether `<ul>` is open.
     pub ul: bool,
 }
 

@@ -25,7 +25,7 @@ pub struct TextFacts {
     pub word: bool,
     /// Of blanks and pieces, a blank was last.
     pub blank: bool,
-    /// Of what isn't left out, a blank was last.
+    /// Of what is not left out, a blank was last.
     pub space: bool,
     /// There was a `{`, and a `}` after it.
     pub begun: bool,

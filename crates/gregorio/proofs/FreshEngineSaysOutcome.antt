@@ -26,8 +26,8 @@ use Rattle.gabc_score.specs.ScoreEvents.{ScoreOutput, findings_in, syllables_in,
 use Rattle.gabc_score.specs.ScoreStage.{ScoreStageState, AreCountsBelow, left_of}
 use Rattle.gregorio_jobs.specs.declared.job.Job.{Job}
 use Rattle.gregorio.specs.declared.run_part.RunPart.TheVariants as part
-use Rattle.gregorio.specs.declared.source_bytes.SourceEnding.{SourceEnding}
-use Rattle.gregorio.specs.declared.source_bytes.SourceEnding.TheVariants.{Whole as Ended, Broken}
+use Rattle.gregorio.specs.declared.source_ending.SourceEnding.{SourceEnding}
+use Rattle.gregorio.specs.declared.source_ending.SourceEnding.TheVariants.{Whole as Ended, Broken}
 use Rattle.gregorio.specs.Outcome.{is_whole, is_cut_short, ending_by, outcome_of}
 use Rattle.gregorio.specs.Engine.{head_events_left, has_heads, outputs_from_heads, streams_by_part, streams_of_outcome}
 use Rattle.gregorio.specs.machine.ScoreWriter.{fresh_writer}

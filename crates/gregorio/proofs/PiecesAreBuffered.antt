@@ -1,7 +1,7 @@
 -- What an engine writes of a piece of an input is gathered until the piece is read.
 use Rattle.std.proofs.Common.{◌≡◌, ℕ, ◌+◌, ◌≤◌, List, [], ◌++◌, take, drop, length, take-add, take_all, take-append-drop, append_assoc, append-nil, Option, refl, sym, ap, ◌∙◌, subst}
 use Rattle.std.proofs.KnownBytes.{Appends-nil}
-use Rattle.gregorio.specs.declared.source_bytes.SourceEnding.{SourceEnding}
+use Rattle.gregorio.specs.declared.source_ending.SourceEnding.{SourceEnding}
 use Rattle.gregorio.specs.Engine.{EngineState, Streams, behind_bytes, streams_left}
 use Rattle.gregorio.specs.machine.Compile.{used, AreSent, AreCut, StreamsAreCut, IsFed}
 use Rattle.gregorio.specs.machine.Buffers.{BufferedBytes, nothing_buffered, AreBuffered, IsTakenOver, IsFedBut}

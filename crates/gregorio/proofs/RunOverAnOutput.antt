@@ -7,8 +7,8 @@ use Rattle.gregorio_jobs.specs.declared.job.Format.TheVariants.{Gabc}
 use Rattle.gregorio_jobs.specs.declared.job.Job.{Job}
 use Rattle.gregorio_jobs.specs.declared.job.Status.{Status}
 use Rattle.gregorio_jobs.specs.declared.job.Status.TheVariants.{Whole}
-use Rattle.gregorio.specs.declared.source_bytes.SourceEnding.{SourceEnding}
-use Rattle.gregorio.specs.declared.source_bytes.SourceEnding.TheVariants.{Whole as Ended, Broken}
+use Rattle.gregorio.specs.declared.source_ending.SourceEnding.{SourceEnding}
+use Rattle.gregorio.specs.declared.source_ending.SourceEnding.TheVariants.{Whole as Ended, Broken}
 use Rattle.gregorio.specs.CanonicalAgain.{IsOutcomeAgain}
 use Rattle.gregorio.specs.Outcome.{outcome_of, output_of, status_of}
 use Rattle.gregorio.specs.Run.{Use, Done}

@@ -10,8 +10,8 @@ use Rattle.gabc_places.specs.Text.{decoded_of}
 use Rattle.gabc_score.specs.declared.ending.InputEnding as score
 use Rattle.gabc_score.specs.declared.score.Score.{Score}
 use Rattle.gabc_score.specs.Score.{score_of}
-use Rattle.gregorio.specs.declared.source_bytes.SourceEnding.{SourceEnding}
-use Rattle.gregorio.specs.declared.source_bytes.SourceEnding.TheVariants.{Whole as Ended, Broken}
+use Rattle.gregorio.specs.declared.source_ending.SourceEnding.{SourceEnding}
+use Rattle.gregorio.specs.declared.source_ending.SourceEnding.TheVariants.{Whole as Ended, Broken}
 use Rattle.gregorio_jobs.specs.declared.job.Job.{Job}
 use Rattle.gregorio_jobs.specs.declared.job.Status.{Status}
 use Rattle.gregorio_jobs.specs.declared.job.Status.TheVariants.{NoMemory, ReadFault, WriteFault}

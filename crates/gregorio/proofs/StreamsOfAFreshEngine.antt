@@ -28,8 +28,8 @@ use Rattle.gabc_write.specs.DumpOfSyllables.{lines_of_syllable, lines_of_syllabl
 use Rattle.gregorio_jobs.specs.declared.job.Format.{Format}
 use Rattle.gregorio_jobs.specs.declared.job.Format.TheVariants.{Gabc, Dump}
 use Rattle.gregorio_jobs.specs.declared.job.Status.{Status}
-use Rattle.gregorio.specs.declared.source_bytes.SourceEnding.{SourceEnding}
-use Rattle.gregorio.specs.declared.source_bytes.SourceEnding.TheVariants.{Whole as Ended, Broken}
+use Rattle.gregorio.specs.declared.source_ending.SourceEnding.{SourceEnding}
+use Rattle.gregorio.specs.declared.source_ending.SourceEnding.TheVariants.{Whole as Ended, Broken}
 use Rattle.gregorio.specs.Outcome.{ending_by, is_cut_short, text_in, output_by, fault_line, shown_line, lines_of, status_by, status_with}
 use Rattle.gregorio.specs.Engine.{Streams, Written, heads_text, last_text, next_number, texts_behind, count_behind, has_errors, status_in, streams_in}
 

@@ -20,7 +20,7 @@ use Rattle.gabc_write.specs.DumpLines.{dump_heads, end_line}
 use Rattle.gabc_write.specs.DumpOfSyllables.{lines_of_syllable}
 use Rattle.gregorio.specs.declared.run_part.RunPart.{RunPart}
 use Rattle.gregorio.specs.declared.run_part.RunPart.TheVariants as part
-use Rattle.gregorio.specs.declared.source_bytes.SourceEnding.{SourceEnding}
+use Rattle.gregorio.specs.declared.source_ending.SourceEnding.{SourceEnding}
 use Rattle.gregorio.specs.declared.outcome.Outcome.{Outcome}
 use Rattle.gregorio.specs.Outcome.{is_whole, shown_line, fault_line, is_error_finding, status_by, output_of, messages_of, status_of}
 use Rattle.gregorio_jobs.specs.declared.job.Format.{Format}

@@ -1,8 +1,8 @@
 -- What was read of a source.
 use Rattle.std.specs.Prelude.{◌≡◌, ℕ, ◌+◌, ◌<◌, ◌≤◌, List, length, Option}
 use Rattle.std.specs.Io.KnownBytes.{Consumes, IsAtEnd}
-use Rattle.gregorio.specs.declared.source_bytes.SourceEnding.{SourceEnding}
-use Rattle.gregorio.specs.declared.source_bytes.SourceEnding.TheVariants.{Whole, Broken}
+use Rattle.gregorio.specs.declared.source_ending.SourceEnding.{SourceEnding}
+use Rattle.gregorio.specs.declared.source_ending.SourceEnding.TheVariants.{Whole, Broken}
 
 -- The source gave these bytes, at most one more than the limit, and stopped so: where it ended no read of it failed. `old` and `new` are the bytes that it has
 -- before and after, where they are known, and `failed_old` and `failed_new` the number of its failures.

@@ -3,8 +3,8 @@
 ghost use Rattle.std.specs.Prelude.{◌≡◌, ◌<◌, ◌≤◌, List, [], ◌∷◌, ◌++◌, length, take, true, false, ℕ, IfOk, option_to_list};
 ghost use Rattle.gabc_headers.specs.declared.head_event.HeadEvent.{HeadEvent as HeadItem};
 ghost use Rattle.gabc_headers.specs.declared.head_event.HeadEvent.TheVariants.{End};
-ghost use Rattle.gregorio.specs.declared.source_bytes.SourceEnding.{SourceEnding as EndOfSource};
-ghost use Rattle.gregorio.specs.declared.source_bytes.SourceEnding.TheVariants.{Whole, Broken};
+ghost use Rattle.gregorio.specs.declared.source_ending.SourceEnding.{SourceEnding as EndOfSource};
+ghost use Rattle.gregorio.specs.declared.source_ending.SourceEnding.TheVariants.{Whole, Broken};
 ghost use Rattle.gregorio_jobs.specs.declared.job.Status.TheVariants.{ReadFault};
 ghost use Rattle.gregorio.specs.Outcome.{outcome_of};
 ghost use Rattle.gregorio.specs.Engine.{NothingWaits, is_running, streams_left, streams_of_outcome, with_waiting, ended_with};

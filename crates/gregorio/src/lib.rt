@@ -25,11 +25,11 @@ mod run;
 mod run_part;
 mod run_writer;
 mod score_writer;
-mod source_bytes;
+mod source_ending;
 
 pub use engine::Engine;
 pub use findings::is_shown;
 pub use gregorio_jobs::{Format, Input, Job, Name, Output, Plan, Refusal, Status, Words, plan};
 pub use outcome::Outcome;
 pub use run::compile;
-pub use source_bytes::SourceEnding;
+pub use source_ending::SourceEnding;

@@ -5,7 +5,7 @@ ghost use Rattle.gregorio.specs.Outcome.{outcome_of, ending_by, is_cut_short as 
 
 use crate::findings::{put_messages, status_by};
 use crate::output::{output_room, room_for};
-use crate::source_bytes::SourceEnding;
+use crate::source_ending::SourceEnding;
 use gabc_places::{ByteCounter, Fault, Limits, Room, text_of};
 use gabc_score::{Score, score_whole};
 use gregorio_jobs::{Format, Status};

@@ -2,7 +2,7 @@
 
 ghost use Rattle.std.specs.Prelude.{◌≡◌, ◌≢◌, ◌<◌, ◌⊎◌, ◌++◌, ℕ, List, [], IfOk, OnOk, OnErr};
 ghost use Rattle.gregorio_jobs.specs.declared.job.Status.TheVariants.{ReadFault, WriteFault};
-ghost use Rattle.gregorio.specs.declared.source_bytes.SourceEnding.{SourceEnding as EndOfSource};
+ghost use Rattle.gregorio.specs.declared.source_ending.SourceEnding.{SourceEnding as EndOfSource};
 ghost use Rattle.gregorio.specs.Engine.{NothingWaits, ended_with, streams_left, with_waiting};
 ghost use Rattle.gregorio.specs.Run.{Compiles};
 ghost use Rattle.gregorio.specs.machine.Buffers.{AreBuffered, nothing_buffered};
@@ -10,7 +10,7 @@ ghost use Rattle.gregorio.specs.machine.Compile.{AreCut, AreSent, IsFed, IsFedAl
 
 use crate::buffers::{Buffers, send_both};
 use crate::engine::Engine;
-use crate::source_bytes::SourceEnding;
+use crate::source_ending::SourceEnding;
 use gabc_places::{Limits, Sink, Source, Unsent};
 use gregorio_jobs::{Job, Status};
 use std::alloc::Global;

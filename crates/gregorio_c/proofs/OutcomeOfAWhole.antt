@@ -3,7 +3,7 @@ use Rattle.std.proofs.Common.{◌≡◌, ℕ, List, IfOk, Result, Ok, Err}
 use Rattle.gabc_places.specs.declared.limits.Limits.{Limits}
 use Rattle.gabc_places.specs.Limits.{AreUsual}
 use Rattle.gregorio.specs.declared.outcome.Outcome.{Outcome}
-use Rattle.gregorio.specs.declared.source_bytes.SourceEnding.TheVariants.{Whole}
+use Rattle.gregorio.specs.declared.source_ending.SourceEnding.TheVariants.{Whole}
 use Rattle.gregorio.specs.Outcome.{outcome_of}
 use Rattle.gregorio_c.specs.Answers.{IsOutcomeOf}
 

@@ -4,7 +4,7 @@ use Rattle.gabc_places.specs.declared.limits.Limits.{Limits}
 use Rattle.gabc_places.specs.Limits.{AreUsual}
 use Rattle.gregorio_jobs.specs.Status.{code_of}
 use Rattle.gregorio.specs.declared.outcome.Outcome.{Outcome}
-use Rattle.gregorio.specs.declared.source_bytes.SourceEnding.TheVariants.{Whole}
+use Rattle.gregorio.specs.declared.source_ending.SourceEnding.TheVariants.{Whole}
 use Rattle.gregorio.specs.Outcome.{outcome_of, output_of, lines_of, status_of}
 use Rattle.gregorio_c.specs.Messages.{messages_by}
 use Rattle.gregorio_c.specs.declared.lengths.Lengths.{Lengths}

@@ -2,7 +2,7 @@
 use Rattle.std.proofs.Common.{◌≡◌, ℕ, ◌-◌, suc, zero, List, [], ◌∷◌, ◌++◌, length, take, drop, Bool, true, false, cond, ◌&&◌, refl, sym, ap, ◌∙◌, arith, zero-le, take_all}
 use Rattle.gabc_headers.specs.Lines.{trim_start, trim_end, unless_last}
 
--- whether all pass, and how many pass before the first that doesn't
+-- whether all pass, and how many pass before the first that does not
 abbrev pub all_out : (ℕ → Bool) → List ℕ → Bool
 all_out out [] = true
 all_out out (c ∷ l) = out c && all_out out l
@@ -11,7 +11,7 @@ abbrev pub lead_len : (ℕ → Bool) → List ℕ → ℕ
 lead_len out [] = 0
 lead_len out (c ∷ l) = cond (out c) (suc (lead_len out l)) 0
 
--- one more than the place of the last that doesn't pass
+-- one more than the place of the last that does not pass
 abbrev pub kept_len : (ℕ → Bool) → List ℕ → ℕ
 kept_len out l = length (trim_end out l)
 

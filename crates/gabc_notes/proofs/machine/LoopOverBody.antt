@@ -281,16 +281,12 @@ stops_at split macros all back xs x stage next h after index bytes how r f e l =
             ∙ ap (λ (t : List Finding). findings_of (events_at split macros (point back x)) ++ t)
             (sym (ap (λ (o : List (List NoteEvent)). findings_of (concat_of o)) (over_emits split macros xs (x ∷ back) (ap (λ (a : Bool). a || is_over split back) n.0)) ∙ ap findings_of (joined_silence xs))))
             ∙ (ap (λ (t : List Finding). h.findings ++ t) (sym (findings_append (events_at split macros (point back x)) (concat_of (note_events_behind split macros (x ∷ back) xs)))) ∙ r.findings));
-        how_is = ap (λ (w : NoteEnd). ending_at w index) ways ∙ (mark (x.c == 124) ∙ ap (λ (s : SnippetStop). ending_by s.mark s.back) (sym stop));
+        how_is = ap (λ (w : NoteEnd). ending_at w index) ways ∙ (ap (λ (i : ℕ). ending_at (end_by_mark x.c) i) r.index_is ∙ ap (λ (s : SnippetStop). ending_by s.mark s.back) (sym stop));
       })
 ]
   where
     here : BuiltHere split macros back x next h after
     here = built_here split macros back x stage next h after r.rest f
-
-    mark : (b : Bool) → ending_at (cond b Next Close) index ≡ cond b (snippet.Next (index_of back)) (snippet.Close (index_of back))
-    mark true = ap (λ (i : ℕ). snippet.Next i) r.index_is
-    mark false = ap (λ (i : ℕ). snippet.Close i) r.index_is
 
 -- at the end of the characters
 pub stops_cut : (split : Bool) (macros : ℕ) (all back : List Char) (stage : NoteStage) (h after : BuiltSnippet) (index : ℕ)

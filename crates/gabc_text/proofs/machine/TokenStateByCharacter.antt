@@ -37,7 +37,7 @@ pub record InRaw (raw : RawKind) (m : ℕ) (held : List ℕ) : Type 0 where
   pub below : m < length (ending_of raw)
   pub matched : Matching (ending_of raw) r (take m (ending_of raw))
 
--- after a character and s, in which x isn't
+-- after a character and s, in which x is not
 pub record Lacking (first x : ℕ) (held : List ℕ) : Type 0 where
   pub s : List ℕ
   pub held_is : held ≡ first ∷ s
@@ -147,7 +147,7 @@ translation_ends held h = record {
 
 -- ---- a tag
 
--- what a tag is that doesn't begin a raw part
+-- what a tag is that does not begin a raw part
 abbrev is_no_raw : TagEffect → Type 0
 is_no_raw (Begins raw) = ⊥
 is_no_raw s = Unit {0}

@@ -108,7 +108,7 @@ letter_emits c w b = by (is_special c)
     by true = (refl, refl, refl)
     by false = (refl, refl, refl)
 
--- a token's piece, if it isn't a blank
+-- a token's piece, if it is not a blank
 abbrev GoodFrom : List Token → Token → Bool → Bool → PieceKind → Type 0
 GoodFrom before k w b p = Good (record { kind = p; styles = open_styles before; text = text_of_piece p k }) w b
 

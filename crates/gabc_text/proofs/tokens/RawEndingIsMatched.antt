@@ -19,7 +19,7 @@ prefix_cons c q None = refl
 prefix_cons c q (Some s) = refl
 
 module _ (x : ℕ) (e : List ℕ) where
-  -- no ending begins where x doesn't stand
+  -- no ending begins where x does not stand
   pub skip : (r t : List ℕ) → lacks x r ≡ true → through (x ∷ e) (r ++ t) ≡ after_prefix r (through (x ∷ e) t)
   skip [] t h = prefix_none (through (x ∷ e) t)
   skip (c ∷ r) t h =

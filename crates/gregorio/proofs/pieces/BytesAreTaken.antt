@@ -12,8 +12,8 @@ use Rattle.gabc_score.specs.ScoreEvents.{fault_in, has_end}
 use Rattle.gabc_score.specs.ScoreStage.{ScoreStageState, left_of}
 use Rattle.gregorio.specs.declared.run_part.RunPart.{RunPart}
 use Rattle.gregorio.specs.declared.run_part.RunPart.TheVariants as part
-use Rattle.gregorio.specs.declared.source_bytes.SourceEnding.{SourceEnding}
-use Rattle.gregorio.specs.declared.source_bytes.SourceEnding.TheVariants.{Whole as Ended, Broken}
+use Rattle.gregorio.specs.declared.source_ending.SourceEnding.{SourceEnding}
+use Rattle.gregorio.specs.declared.source_ending.SourceEnding.TheVariants.{Whole as Ended, Broken}
 use Rattle.gregorio.specs.Engine.{EngineState, Streams, Written, NothingWaits, behind_bytes, book_behind, head_events_left, has_errors, items_left, is_running, is_running_in, streams_by_part, streams_left, with_waiting}
 use Rattle.gregorio.specs.Outcome.{is_whole, status_by}
 use Rattle.gregorio.specs.machine.RunWriter.{heads_room, syllable_room, line_room}

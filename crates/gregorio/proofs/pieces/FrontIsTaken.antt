@@ -16,8 +16,8 @@ use Rattle.gabc_score.specs.ScoreStage.{ScoreStageState, GivesNothing, body_inpu
 use Rattle.gabc_score.specs.ScoreEvents.{ScoreOutput}
 use Rattle.gregorio.specs.declared.run_part.RunPart.{RunPart}
 use Rattle.gregorio.specs.declared.run_part.RunPart.TheVariants as part
-use Rattle.gregorio.specs.declared.source_bytes.SourceEnding.{SourceEnding}
-use Rattle.gregorio.specs.declared.source_bytes.SourceEnding.TheVariants.{Whole as Ended, Broken}
+use Rattle.gregorio.specs.declared.source_ending.SourceEnding.{SourceEnding}
+use Rattle.gregorio.specs.declared.source_ending.SourceEnding.TheVariants.{Whole as Ended, Broken}
 use Rattle.gregorio.specs.Engine.{EngineState, NothingWaits, book_behind, head_events_left, streams_by_part, streams_in, streams_left, with_waiting}
 use Rattle.gregorio.specs.Outcome.{is_whole}
 use Rattle.gregorio.specs.machine.RunWriter.{RunWriterState}

@@ -14,8 +14,8 @@ use Rattle.gabc_headers.specs.declared.head_event.HeadEvent.{HeadEvent}
 use Rattle.gabc_headers.specs.HeadEvents.{HeaderStageState, HeadProgress, reading, behind, over, emitted_by, events_at_end, events_of_end, stage_at}
 use Rattle.gregorio.specs.declared.run_part.RunPart.{RunPart}
 use Rattle.gregorio.specs.declared.run_part.RunPart.TheVariants as part
-use Rattle.gregorio.specs.declared.source_bytes.SourceEnding.{SourceEnding}
-use Rattle.gregorio.specs.declared.source_bytes.SourceEnding.TheVariants.{Whole as Ended}
+use Rattle.gregorio.specs.declared.source_ending.SourceEnding.{SourceEnding}
+use Rattle.gregorio.specs.declared.source_ending.SourceEnding.TheVariants.{Whole as Ended}
 use Rattle.gregorio.specs.Engine.{Streams, behind_bytes, book_behind, ended_with, head_events_left, is_running_in, streams_by_part}
 use Rattle.gregorio.specs.Outcome.{is_whole}
 use Rattle.gregorio.specs.machine.ScoreWriter.{ScoreWriterState, FitsEvents, IsReserved, IsShortBook, WritesLast, streams_of}

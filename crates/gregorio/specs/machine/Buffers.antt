@@ -1,7 +1,7 @@
 -- What is gathered between an engine and the sinks.
 use Rattle.std.specs.Prelude.{◌≡◌, ℕ, List, [], ◌++◌}
 use Rattle.gregorio.specs.Engine.{EngineState, behind_bytes, streams_left}
-use Rattle.gregorio.specs.declared.source_bytes.SourceEnding.{SourceEnding}
+use Rattle.gregorio.specs.declared.source_ending.SourceEnding.{SourceEnding}
 use Rattle.gregorio.specs.machine.Compile.{AreSent}
 use Rattle.gregorio.specs.Run.{Use}
 

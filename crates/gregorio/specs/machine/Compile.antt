@@ -2,8 +2,8 @@
 use Rattle.std.specs.Prelude.{◌≡◌, ◌≢◌, ℕ, ◌+◌, ◌<◌, ◌≤◌, List, ◌++◌, length, take, Option, ◌⊎◌}
 use Rattle.std.specs.Io.KnownBytes.{Appends, Consumes}
 use Rattle.gabc_places.specs.declared.limits.Limits.{Limits}
-use Rattle.gregorio.specs.declared.source_bytes.SourceEnding.{SourceEnding}
-use Rattle.gregorio.specs.declared.source_bytes.SourceEnding.TheVariants.{Broken}
+use Rattle.gregorio.specs.declared.source_ending.SourceEnding.{SourceEnding}
+use Rattle.gregorio.specs.declared.source_ending.SourceEnding.TheVariants.{Broken}
 use Rattle.gregorio.specs.Engine.{EngineState, Streams, behind_bytes, streams_left, streams_of_outcome}
 use Rattle.gregorio.specs.Outcome.{outcome_of}
 use Rattle.gregorio.specs.Run.{Compiles, Use}

@@ -1,5 +1,5 @@
 use Rattle.std.proofs.Common.{ℕ, List, take, drop, length, length-drop, ap, subst, arith, rules}
-use Rattle.gregorio.specs.declared.source_bytes.SourceEnding.{SourceEnding}
+use Rattle.gregorio.specs.declared.source_ending.SourceEnding.{SourceEnding}
 use Rattle.gregorio.specs.Engine.{streams_left}
 use Rattle.gregorio.specs.machine.Compile.{StreamsAreCut, used}
 use Rattle.gregorio.proofs.PiecesAreSent.{IsTaken, all_behind, nothing_waits_behind}

@@ -1,7 +1,7 @@
 use Rattle.std.proofs.Common.{List, [], option_to_list, ap, sym, subst, ◌∙◌, append-nil}
 use Rattle.gabc_headers.specs.declared.head_event.HeadEvent.{HeadEvent as HeadItem}
 use Rattle.gregorio.specs.declared.engine.Engine.TheInside.{Inside}
-use Rattle.gregorio.specs.declared.source_bytes.SourceEnding.TheVariants.{Whole}
+use Rattle.gregorio.specs.declared.source_ending.SourceEnding.TheVariants.{Whole}
 use Rattle.gregorio.specs.Engine.{EngineState, is_running, streams_left}
 use Rattle.gregorio.specs.machine.Engine.{IsEmpty, streams_of_items}
 use Rattle.gregorio.specs.machine.ScoreWriter.{FitsEvents, WritesLast}
