@@ -3,7 +3,7 @@
  * What the calls answer is proved for every score. What stands under "The caller" below is the caller's to keep; nothing checks it.
  *
  * The caller
- *   - Each pointer points to as many bytes, or messages, as the count behind it says. A pointer may be null where its count is 0.
+ *   - Each pointer points to as many bytes, words of a key, or messages, as the count behind it says. A pointer may be null where its count is 0.
  *   - A buffer that is written overlaps no other buffer, not the score, and not the lengths or the count.
  *   - Stack: 64 KiB are enough (less is tried by the tests). Memory comes from `malloc` and `realloc` and goes back to `free`: all of it
  *     has been given back when a call returns.
@@ -53,14 +53,17 @@ struct gregorio_message {
 
 /* Compiles the score: puts its output into `output`, the lines of its messages into `messages`, and their exact lengths into `lengths`.
  * Messages call the score `<stdin>`. A text that is longer than its buffer is left out whole, and the buffer stays as it was: call again
- * with buffers of the lengths told. At GREGORIO_REFUSED and GREGORIO_NO_MEMORY buffers and lengths stay as they were. */
-uint32_t gregorio_compile(const uint8_t *score, size_t score_length, uint32_t format, uint32_t flags, uint8_t *output,
-                          size_t output_capacity, uint8_t *messages, size_t messages_capacity, struct gregorio_lengths *lengths);
+ * with buffers of the lengths told. At GREGORIO_REFUSED and GREGORIO_NO_MEMORY buffers and lengths stay as they were.
+ * `key` is for the table of the headers' names: two random words (of `getrandom`, say) where strangers write the scores, since without a key
+ * names can be chosen that are slow to read; else null, with a length of 0. No answer depends on it. */
+uint32_t gregorio_compile(const uint8_t *score, size_t score_length, uint32_t format, uint32_t flags, const uint64_t *key,
+                          size_t key_length, uint8_t *output, size_t output_capacity, uint8_t *messages, size_t messages_capacity,
+                          struct gregorio_lengths *lengths);
 
 /* Reads the score, and puts its messages into `messages` and their number into `count`. Where there are more of them than
  * `messages` takes, that stays as it was. At GREGORIO_REFUSED and GREGORIO_NO_MEMORY both stay as they were. */
-uint32_t gregorio_messages(const uint8_t *score, size_t score_length, uint32_t flags, struct gregorio_message *messages,
-                           size_t messages_capacity, size_t *count);
+uint32_t gregorio_messages(const uint8_t *score, size_t score_length, uint32_t flags, const uint64_t *key, size_t key_length,
+                           struct gregorio_message *messages, size_t messages_capacity, size_t *count);
 
 #ifdef __cplusplus
 }

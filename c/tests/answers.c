@@ -9,6 +9,9 @@
 
 enum { UNTOUCHED = 0xA5 };
 
+/* A key, of which a case has the first words: none, one or both, by its number. */
+static const uint64_t KEY[] = {0x0123456789abcdef, 0xfedcba9876543210};
+
 static bool is_text(const struct text *wanted, const uint8_t *bytes, size_t length) {
   return length == wanted->length && memcmp(bytes, wanted->bytes, length) == 0;
 }
@@ -19,8 +22,8 @@ static void try_rooms(const struct test_case *it, size_t number, size_t output_r
   memset(output, UNTOUCHED, output_room + 1);
   memset(messages, UNTOUCHED, messages_room + 1);
   struct gregorio_lengths lengths = {0, 0};
-  uint32_t status = gregorio_compile(it->input.bytes, it->input.length, it->format, it->flags, output, output_room, messages,
-                                     messages_room, &lengths);
+  uint32_t status = gregorio_compile(it->input.bytes, it->input.length, it->format, it->flags, KEY, number % 3, output, output_room,
+                                     messages, messages_room, &lengths);
   check(status == it->status, "status", number);
   check(lengths.output == it->output.length && lengths.messages == it->messages.length, "lengths", number);
   if (output_room >= it->output.length) {
@@ -46,9 +49,9 @@ static const char *const KINDS[] = {"warning", "error", "fatal"};
 /* Compares messages as records with the lines of the text. */
 static void try_records(const struct test_case *it, size_t number) {
   size_t room = 0, count = 0;
-  check(gregorio_messages(it->input.bytes, it->input.length, it->flags, NULL, 0, &room) == it->status, "status of records", number);
+  check(gregorio_messages(it->input.bytes, it->input.length, it->flags, NULL, 0, NULL, 0, &room) == it->status, "status of records", number);
   struct gregorio_message *list = malloc((room + 1) * sizeof *list);
-  gregorio_messages(it->input.bytes, it->input.length, it->flags, list, room, &count);
+  gregorio_messages(it->input.bytes, it->input.length, it->flags, KEY, 2, list, room, &count);
   check(count == room, "number of records", number);
   const char *at = (const char *)it->messages.bytes, *end = at + it->messages.length;
   for (size_t i = 0; i < count; i++) {
@@ -69,9 +72,9 @@ static void try_refusals(void) {
   memset(output, UNTOUCHED, sizeof output);
   struct gregorio_lengths lengths = {77, 78};
   size_t count = 79;
-  check(gregorio_compile(NULL, 0, 2, 0, output, 4, messages, 4, &lengths) == GREGORIO_REFUSED, "another format", 0);
-  check(gregorio_compile(NULL, 0, 0, 2, output, 4, messages, 4, &lengths) == GREGORIO_REFUSED, "another flag", 0);
-  check(gregorio_messages(NULL, 0, 4, NULL, 0, &count) == GREGORIO_REFUSED, "another flag of messages", 0);
+  check(gregorio_compile(NULL, 0, 2, 0, NULL, 0, output, 4, messages, 4, &lengths) == GREGORIO_REFUSED, "another format", 0);
+  check(gregorio_compile(NULL, 0, 0, 2, NULL, 0, output, 4, messages, 4, &lengths) == GREGORIO_REFUSED, "another flag", 0);
+  check(gregorio_messages(NULL, 0, 4, NULL, 0, NULL, 0, &count) == GREGORIO_REFUSED, "another flag of messages", 0);
   check(lengths.output == 77 && lengths.messages == 78 && count == 79 && output[0] == UNTOUCHED, "nothing written", 0);
 }
 

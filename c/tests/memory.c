@@ -46,8 +46,8 @@ static uint32_t call(const struct test_case *it, size_t failing, struct gregorio
   held = 0;
   fails_at = failing;
   is_counting = true;
-  uint32_t status = gregorio_compile(it->input.bytes, it->input.length, it->format, it->flags, output, sizeof output, messages,
-                                     sizeof messages, lengths);
+  uint32_t status = gregorio_compile(it->input.bytes, it->input.length, it->format, it->flags, NULL, 0, output, sizeof output,
+                                     messages, sizeof messages, lengths);
   is_counting = false;
   return status;
 }

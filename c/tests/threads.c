@@ -16,7 +16,7 @@ static size_t case_count;
 static bool is_answered(const struct test_case *it, uint8_t *output, uint8_t *messages) {
   struct gregorio_lengths lengths;
   uint32_t status =
-      gregorio_compile(it->input.bytes, it->input.length, it->format, it->flags, output, ROOM, messages, ROOM, &lengths);
+      gregorio_compile(it->input.bytes, it->input.length, it->format, it->flags, NULL, 0, output, ROOM, messages, ROOM, &lengths);
   return status == it->status && lengths.output == it->output.length && lengths.messages == it->messages.length &&
          memcmp(output, it->output.bytes, lengths.output) == 0 && memcmp(messages, it->messages.bytes, lengths.messages) == 0;
 }

@@ -16,6 +16,7 @@ from __future__ import annotations
 
 import ctypes
 import enum
+import os
 import re
 from collections.abc import Iterator
 from dataclasses import dataclass
@@ -102,9 +103,11 @@ _NO_MEMORY = 5
 _compile = ctypes.CDLL(str(Path(__file__).with_name("libgregorio.so"))).gregorio_compile
 _compile.restype = ctypes.c_uint32
 _compile.argtypes = [
-    ctypes.c_char_p, ctypes.c_size_t, ctypes.c_uint32, ctypes.c_uint32, ctypes.c_char_p, ctypes.c_size_t,
-    ctypes.c_char_p, ctypes.c_size_t, ctypes.POINTER(_Lengths),
+    ctypes.c_char_p, ctypes.c_size_t, ctypes.c_uint32, ctypes.c_uint32, ctypes.POINTER(ctypes.c_uint64), ctypes.c_size_t,
+    ctypes.c_char_p, ctypes.c_size_t, ctypes.c_char_p, ctypes.c_size_t, ctypes.POINTER(_Lengths),
 ]
+# A key for the names of headers, so that nobody can choose names that are slow to read.
+_Key = ctypes.c_uint64 * 2
 
 
 def compile(score: str | bytes, format: str | Format = Format.GABC, *, all_warnings: bool = True) -> Result:
@@ -120,12 +123,13 @@ def compile(score: str | bytes, format: str | Format = Format.GABC, *, all_warni
     wanted = Format(format)
     data = score.encode("utf-8", "surrogatepass") if isinstance(score, str) else bytes(score)
     rooms = _Lengths(2 * len(data) + 4096, 2 * len(data) + 4096)
+    key = _Key.from_buffer_copy(os.urandom(ctypes.sizeof(_Key)))
     while True:
         output, messages = ctypes.create_string_buffer(rooms.output), ctypes.create_string_buffer(rooms.messages)
         lengths = _Lengths()
         status = _compile(
-            data, len(data), _NUMBERS[wanted], int(all_warnings), output, rooms.output, messages, rooms.messages,
-            ctypes.byref(lengths),
+            data, len(data), _NUMBERS[wanted], int(all_warnings), key, len(key),
+            output, rooms.output, messages, rooms.messages, ctypes.byref(lengths),
         )
         if status == _NO_MEMORY:
             raise MemoryError("not enough memory to compile the score")

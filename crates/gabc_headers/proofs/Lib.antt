@@ -4,7 +4,6 @@ pub mod entries
 pub mod groups
 pub mod machines
 pub mod marks_of_lines
-pub mod names
 pub mod order
 pub mod prefixes
 pub mod printing

@@ -6,5 +6,4 @@ pub mod NextEntryIsFirstAhead
 pub mod PushedEntryIsShown
 pub mod RoomIsFilled
 pub mod PutEntriesStand
-pub mod PutIsFound
 pub mod TextsAsBytes

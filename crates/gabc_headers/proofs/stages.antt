@@ -3,4 +3,5 @@ pub mod BytesThroughADecoder
 pub mod CharactersOfAStage
 pub mod EventsOfAStage
 pub mod HeadersTakeThreeBytes
+pub mod HeldTextIsHeldAgain
 pub mod MachineTakesText

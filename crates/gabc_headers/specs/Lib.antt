@@ -1,4 +1,5 @@
 pub mod machine
+pub mod witness
 pub mod Book
 pub mod BookText
 pub mod Canonical
@@ -7,6 +8,7 @@ pub mod Groups
 pub mod HeadEvents
 pub mod Heads
 pub mod HeadsAgain
+pub mod HeldText
 pub mod Lines
-pub mod Parts
 pub mod NextHeader
+pub mod Parts

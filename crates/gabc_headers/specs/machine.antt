@@ -7,6 +7,5 @@ pub mod Groups
 pub mod HeaderMachine
 pub mod HeaderStage
 pub mod HeaderText
-pub mod NameTree
 pub mod PartMachine
 pub mod Shown

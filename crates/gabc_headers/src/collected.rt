@@ -12,6 +12,7 @@ use crate::entry_map::EntryMap;
 use crate::events::HeaderEvent;
 use gabc_places::{Code, Finding, Findings, Place};
 use std::alloc::{AllocError, Global};
+use std::hash::DefaultHasher;
 
 /// The headers so far that count, and what was found.
 #[derive(Drop)]
@@ -85,18 +86,19 @@ impl Collected {
     }
 }
 
-/// What the events say of the text.
+/// Returns what `events` say of `text`, whose names are hashed from `hasher` on.
 pub(crate) fn collect(
     alloc: Global,
     text: &str,
     events: &[HeaderEvent],
+    hasher: DefaultHasher,
 ) -> Result<Collected, AllocError>
     requires { AreGoodEvents text.now events.now }
     ensures { IfOk result (λ collected. shown collected
         ≡ collected_with_all text.now events.now (record { headers = []; findings = [] })) }
 {
     let mut collected = Collected {
-        headers: EntryMap::with_limit(alloc, events.len())?,
+        headers: EntryMap::with_limit(alloc, events.len(), hasher)?,
         findings: Findings::new(alloc),
     };
     for event in events {

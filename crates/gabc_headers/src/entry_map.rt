@@ -4,7 +4,7 @@ ghost use Rattle.std.specs.Prelude.{◌≡◌, ◌≤◌, ◌<◌, ◌-◌, ◌^
 ghost use Rattle.gabc_places.specs.BoundedList.{Fits};
 ghost use Rattle.std.specs.Str.{chars};
 ghost use Rattle.gabc_headers.specs.Canonical.{header_lines, canonical_heads};
-ghost use Rattle.gabc_headers.specs.machine.EntryMap.{comes_again, spelled_entries, AreWithin};
+ghost use Rattle.gabc_headers.specs.machine.EntryMap.{key_name, IsKeyOf, comes_again, spelled_entries, AreWithin};
 ghost use Rattle.gabc_headers.specs.EntryMap.{put_entry};
 ghost use Rattle.gabc_headers.specs.Lines.{bytes_len};
 ghost use Rattle.gabc_headers.specs.BookText.{AreEntries, shown_entries};
@@ -13,46 +13,81 @@ ghost use Rattle.gabc_headers.specs.machine.HeaderStage.{HasRoomFor};
 use crate::book::HeaderBook;
 use crate::book_room::BookRoom;
 use crate::canonical::put_header;
-use crate::name_tree::NameTree;
-use crate::named_value::NamedValue;
+use crate::name_hashers::NameHashers;
 use arrayvec::ArrayString;
 use gabc_places::{ByteCounter, Span};
+use indexmap::IndexMap;
 use std::alloc::{AllocError, Global};
+use std::hash::DefaultHasher;
 use std::marker::Model;
+
+/// What a header is found by: its name; or, since each annotation stands at its own place, the number of headers before it.
+#[derive(Clone, Copy, PartialEq, Eq, Hash)]
+pub(crate) enum Key {
+    Name(ArrayString<64>),
+    Annotation(usize),
+}
+
+impl Key {
+    /// Returns the key of a header of this `name`, before which there are so many.
+    fn of(name: &str, before: usize) -> Key
+        requires { length name.now ≤ 64 }
+        ensures { IsKeyOf name.now before result }
+    {
+        if name == "annotation" {
+            return Key::Annotation(before);
+        }
+        let Ok(text) = ArrayString::from(name) else {
+            unreachable!()
+        };
+        Key::Name(text)
+    }
+
+    /// Returns the name that it stands for.
+    fn name(&self) -> &str
+        ensures { chars result.now ≡ key_name self.now }
+    {
+        match self {
+            Key::Name(name) => name.as_str(),
+            Key::Annotation(_) => "annotation",
+        }
+    }
+}
 
 /// Headers with the spans of their values, each name at the place of its first and with the value of its last;
 /// annotations stand by themselves.
 #[derive(Drop)]
 pub(crate) struct EntryMap {
-    headers: Vec<NamedValue>,
-    tree: NameTree,
+    map: IndexMap<Key, Span, NameHashers>,
     limit: usize,
 }
 
 impl Model for EntryMap {
-    ghost use Rattle.std.specs.Prelude.{ℕ, List, vec_capacity};
+    ghost use Rattle.std.specs.Prelude.{ℕ, List};
     ghost use Rattle.gabc_places.specs.declared.place.Span.{Span};
     ghost use Rattle.gabc_places.specs.BoundedList.{BoundedList};
+    ghost use Rattle.indexmap.specs.IndexMap.{spare};
 
     ghost Value = { BoundedList (List ℕ × Span) };
 
     ghost use Rattle.gabc_headers.specs.machine.EntryMap.{named_entries, IsEntryRoom};
 
-    ghost view = { λ g. record { items = named_entries g.headers.items; limit = g.limit } };
+    ghost view = { λ g. record { items = named_entries g.map.entries; limit = g.limit } };
 
-    ghost invariant = { λ g. IsEntryRoom g.limit (vec_capacity g.headers)
-        (vec_capacity g.tree.nodes)
-        g.tree.nodes.items g.headers.items };
+    ghost invariant = { λ g. IsEntryRoom g.limit (spare g.map) g.map.entries };
 }
 
 impl EntryMap {
-    /// No headers, with room for so many.
-    pub(crate) fn with_limit(alloc: Global, limit: usize) -> Result<EntryMap, AllocError>
+    /// Returns a map of no headers, with room for `limit` of them, whose names are hashed from `hasher` on.
+    pub(crate) fn with_limit(
+        alloc: Global,
+        limit: usize,
+        hasher: DefaultHasher,
+    ) -> Result<EntryMap, AllocError>
         ensures { IfOk result (λ map. map ≡ record { items = []; limit = limit }) }
     {
         Ok(EntryMap {
-            headers: Vec::with_capacity(alloc, limit)?,
-            tree: NameTree::with_limit(alloc, limit)?,
+            map: IndexMap::with_capacity_and_hasher(alloc, limit, NameHashers { first: hasher })?,
             limit,
         })
     }
@@ -66,20 +101,14 @@ impl EntryMap {
         } }
         ensures again { result ≡ comes_again self.old.items (chars name.now) }
     {
-        let Ok(text) = ArrayString::from(name) else {
+        let key = Key::of(name, self.map.len());
+        if let Some(index) = self.map.get_index_of(&key) {
+            self.map[index] = value;
+            return true;
+        }
+        let Ok(_) = self.map.insert(key, value) else {
             unreachable!()
         };
-        let header = NamedValue { name: text, value };
-        if name != "annotation" {
-            match self.tree.find(&self.headers, name) {
-                Ok(index) => {
-                    self.headers[index].value = value;
-                    return true;
-                }
-                Err(spot) => self.tree.put(spot, self.headers.len()),
-            }
-        }
-        self.headers.push_reserved(header);
         false
     }
 
@@ -87,7 +116,7 @@ impl EntryMap {
     fn len(&self) -> usize
         ensures { result ≡ length self.now.items }
     {
-        self.headers.len()
+        self.map.len()
     }
 
     /// The name of a header, by its index.
@@ -95,7 +124,10 @@ impl EntryMap {
         requires { index < length self.now.items }
         ensures { IsSomeAnd (slice_get self.now.items index) (λ entry. chars result.now ≡ entry.0) }
     {
-        self.headers[index].name.as_str()
+        match self.map.get_index(index) {
+            Some((key, _)) => key.name(),
+            None => "",
+        }
     }
 
     /// The value of a header, by its index.
@@ -103,7 +135,7 @@ impl EntryMap {
         requires { index < length self.now.items }
         ensures { IsSomeAnd (slice_get self.now.items index) (λ entry. entry.1 ≡ result) }
     {
-        self.headers[index].value
+        self.map[index]
     }
 
     /// The number of bytes of the canonical lines of these headers of a text, or the largest number if there are more.

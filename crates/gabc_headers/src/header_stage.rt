@@ -1,14 +1,15 @@
 //! A stage from the characters of a text to its headers and the characters behind them.
 
-ghost use Rattle.std.specs.Prelude.{◌≡◌, ◌<◌, ◌≤◌, ◌^◌, [], ◌∷◌, ◌++◌, length, map, IfOk};
+ghost use Rattle.std.specs.Prelude.{◌≡◌, ◌↔◌, IsSome, IfSome, ◌<◌, ◌≤◌, ◌^◌, [], ◌∷◌, ◌++◌, length, map, IfOk};
 ghost use Rattle.std.specs.Str.{chars};
 ghost use Rattle.gabc_places.specs.BoundedList.{Fits, extended_by};
 ghost use Rattle.gabc_headers.specs.declared.head_event.HeadEvent.TheVariants.{Found, Stop};
 ghost use Rattle.gabc_headers.specs.Canonical.{header_lines};
-ghost use Rattle.gabc_headers.specs.HeadEvents.{over, fresh_stage, stage_at, stage_after, progress_with, events_at, events_of_input, events_of_end, event_of_book, text_held};
+ghost use Rattle.gabc_headers.specs.HeadEvents.{event_of_book};
+ghost use Rattle.gabc_headers.specs.witness.HeadEvents.{IsInHeaders, reading, over, fresh_stage, stage_at, stage_after, progress_with, events_at, events_of_input, events_of_end, text_held};
+ghost use Rattle.gabc_headers.specs.HeldText.{IsHeld};
 ghost use Rattle.gabc_headers.specs.Lines.{bytes_len};
 ghost use Rattle.gabc_headers.specs.machine.Collected.{found_list, name_found};
-ghost use Rattle.gabc_headers.specs.machine.HeaderStage.{IsInHeaders};
 
 use crate::book::HeaderBook;
 use crate::book_room::BookRoom;
@@ -20,6 +21,7 @@ use crate::header_machine::{HeaderMachine, HeaderStep};
 use crate::score_line::{end_fault, score_len};
 use gabc_places::{Char, Code, Fault, Finding, Limits, Place, Room, Stage};
 use std::alloc::{AllocError, Global};
+use std::hash::DefaultHasher;
 use std::marker::Model;
 
 /// Where a stage stands: in the headers, behind their `%%`, or behind its last event.
@@ -48,7 +50,7 @@ impl Model for HeaderStage {
     ghost use Rattle.std.specs.Prelude.{string_bytes};
     ghost use Rattle.std.specs.String.{string_capacity};
     ghost use Rattle.std.specs.Str.{chars};
-    ghost use Rattle.gabc_headers.specs.HeadEvents.{HeaderStageState};
+    ghost use Rattle.gabc_headers.specs.witness.HeadEvents.{HeaderStageState};
     ghost use Rattle.gabc_headers.specs.machine.HeaderStage.{progress_in, IsStageIn};
 
     ghost Value = { HeaderStageState };
@@ -96,8 +98,20 @@ fn emit_heads(book: &HeaderBook, place: Place, size: usize, out: &mut Room<HeadE
 
 impl HeaderStage {
     /// Returns a stage under `limits` before the first character of a text, and reserves all the memory that it takes. It fails only for want
-    /// of memory.
+    /// of memory. Names are hashed with a fixed key: where strangers write the text and `limits.header` is large, take `with_hasher`.
     pub fn with_limits(alloc: Global, limits: Limits) -> Result<HeaderStage, AllocError>
+        ensures { IfOk result (λ stage. stage ≡ fresh_stage limits) }
+    {
+        HeaderStage::with_hasher(alloc, limits, DefaultHasher::new())
+    }
+
+    /// Returns a stage as `with_limits` does, which hashes names from `hasher` on, such as `RandomState::new(&rt)?.build_hasher()`. What the stage
+    /// emits does not depend on it, but who does not know how it begins cannot choose names that make the reading slow.
+    pub fn with_hasher(
+        alloc: Global,
+        limits: Limits,
+        hasher: DefaultHasher,
+    ) -> Result<HeaderStage, AllocError>
         ensures { IfOk result (λ stage. stage ≡ fresh_stage limits) }
     {
         let bytes = limits.header as usize;
@@ -107,7 +121,7 @@ impl HeaderStage {
             part: HeadPart::InHeaders,
             machine: HeaderMachine::new(limits.header),
             text: String::with_capacity(alloc, bytes + 1)?,
-            headers: EntryMap::with_limit(alloc, headers)?,
+            headers: EntryMap::with_limit(alloc, headers, hasher)?,
             room: BookRoom::with_limits(alloc, bytes, headers)?,
             book: HeaderBook::new(alloc),
         })
@@ -218,14 +232,17 @@ impl HeaderStage {
         self.part = HeadPart::Over;
     }
 
-    /// Returns the text of the headers as far as it is read, while the stage is in the headers. Behind them it returns the empty text.
-    pub fn text(&self) -> &str
-        ensures { chars result.now ≡ text_held self.now.progress }
+    /// Returns the text of the headers as far as it is read, with its comments. From the headers' end on it returns `None`. Pushed into a fresh
+    /// stage under the same limits, wherever its characters are said to stand, the text sets the stage down again.
+    pub fn text(&self) -> Option<&str>
+        ensures in_headers { IsSome result ↔ IsInHeaders self.now.progress }
+        ensures text { IfSome result (λ t. self.now.progress ≡ reading (chars t.now)) }
+        ensures held { IfSome result (λ t. IsHeld self.now.limits (chars t.now)) }
     {
         match self.part {
-            HeadPart::InHeaders => self.text.as_str(),
-            HeadPart::Behind => "",
-            HeadPart::Over => "",
+            HeadPart::InHeaders => Some(self.text.as_str()),
+            HeadPart::Behind => None,
+            HeadPart::Over => None,
         }
     }
 
@@ -245,7 +262,8 @@ impl Stage for HeaderStage {
     ghost use Rattle.std.specs.Prelude.{◌≡◌};
     ghost use Rattle.gabc_places.specs.BoundedList.{Fits};
     ghost use Rattle.gabc_places.specs.StageLaw.{Pushes, Finishes, EmitsNothing, StopsAtEnd};
-    ghost use Rattle.gabc_headers.specs.HeadEvents.{over, stage_at, stage_after, events_left, is_last_event};
+    ghost use Rattle.gabc_headers.specs.HeadEvents.{is_last_event};
+    ghost use Rattle.gabc_headers.specs.witness.HeadEvents.{over, stage_at, stage_after, events_left};
 
     ghost rest = { λ s xs. events_left s.limits s.progress xs };
 

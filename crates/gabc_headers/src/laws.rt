@@ -17,7 +17,8 @@ ghost use Rattle.gabc_headers.specs.Lines.{bytes_len};
 ghost use Rattle.gabc_headers.specs.HeadsAgain.{heads_again};
 ghost use Rattle.gabc_headers.specs.EntryMap.{put_all};
 ghost use Rattle.gabc_headers.specs.Groups.{Group, AreGroups, parts_of_groups};
-ghost use Rattle.gabc_headers.specs.HeadEvents.{emitted_by, events_left, events_of_broken, events_of_heads, events_of_stopped, fresh_stage, inputs_behind, reading, stage_past};
+ghost use Rattle.gabc_headers.specs.HeadEvents.{emitted_by, events_of_broken, events_of_heads, events_of_stopped, inputs_behind};
+ghost use Rattle.gabc_headers.specs.witness.HeadEvents.{events_left, fresh_stage, reading, stage_past};
 ghost use Rattle.gabc_places.specs.Decoder.{fault_items};
 ghost use Rattle.gabc_headers.specs.Parts.{outside, parts};
 

@@ -1,15 +1,19 @@
 //! Laws of a stage of headers. Each function's contract is a law. Its body drives a stage, gives it one input, calls other laws, or does nothing.
 
-ghost use Rattle.std.specs.Prelude.{◌≡◌, ◌+◌, ◌*◌, ◌≤◌, List, [], ◌∷◌, true, length, None, OnOk, Result};
+ghost use Rattle.std.specs.Prelude.{◌≡◌, ◌+◌, ◌*◌, ◌≤◌, List, [], ◌∷◌, true, false, length, map, None, OnOk, Result};
+ghost use Rattle.std.specs.Char.{IsScalar};
+ghost use Rattle.std.specs.List.{All};
 ghost use Rattle.gabc_places.specs.declared.place.Char.{Char};
 ghost use Rattle.gabc_places.specs.declared.code.Fault.{Fault};
 ghost use Rattle.gabc_places.specs.BoundedList.{Fits, extended_by};
 ghost use Rattle.gabc_places.specs.Decoder.{known_at_end};
 ghost use Rattle.gabc_places.specs.StageLaw.{concat_of};
 ghost use Rattle.gabc_places.specs.Text.{decoded_of};
-ghost use Rattle.gabc_headers.specs.declared.head_event.HeadEvent.TheVariants.{Body};
+ghost use Rattle.gabc_headers.specs.declared.head_event.HeadEvent.TheVariants.{Body, Found};
 ghost use Rattle.gabc_headers.specs.Heads.{heads_of};
-ghost use Rattle.gabc_headers.specs.HeadEvents.{reading, over, IsBehind, events_left, events_of_input, events_of_end, events_of_heads, stage_after, stage_at, text_held};
+ghost use Rattle.gabc_headers.specs.HeldText.{IsHeld, findings_held, holding, inputs_of, text_in};
+ghost use Rattle.gabc_headers.specs.HeadEvents.{emitted_by, events_of_heads};
+ghost use Rattle.gabc_headers.specs.witness.HeadEvents.{reading, over, IsBehind, fresh_stage, stage_past, events_left, events_of_input, events_of_end, stage_after, stage_at, text_held};
 
 use crate::head_event::HeadEvent;
 use crate::header_stage::HeaderStage;
@@ -98,6 +102,18 @@ pub fn stages_of_one_text_agree(one: &HeaderStage, other: &HeaderStage)
     requires text { text_held one.now.progress ≡ text_held other.now.progress }
     ensures { (xs : List (Result Char Fault)) → events_left one.now.limits one.now.progress xs
         ≡ events_left other.now.limits other.now.progress xs }
+{}
+
+/// The text that a stage holds sets it down again: pushed into a fresh stage, wherever its characters are said to stand, it leaves a stage that
+/// holds this text. What that emits are the findings of the text.
+pub fn a_held_text_is_held_again()
+    ensures state { (limits : Limits) (xs : List Char) → All IsScalar (text_in xs) →
+        IsHeld limits (text_in xs) →
+        stage_past (fresh_stage limits) (inputs_of xs) ≡ holding limits (text_in xs) }
+    ensures found { (limits : Limits) (xs : List Char) → All IsScalar (text_in xs) →
+        IsHeld limits (text_in xs) →
+        emitted_by false (inputs_of xs) (events_left limits (reading []) (inputs_of xs))
+        ≡ map (λ f. Found f) (findings_held limits (text_in xs)) }
 {}
 
 /// Two stages behind their headers emit the same of whatever follows, whatever the headers were.

@@ -13,10 +13,12 @@ use crate::heads::{HeadFault, Heads};
 use crate::score_line::{end_fault, score_len};
 use gabc_places::{Code, Fault, Finding, Findings, Limits, Place, Text};
 use std::alloc::{AllocError, Global};
+use std::hash::DefaultHasher;
 
 /// Reads the headers of `text`, whose end is the input's end (GregorioRef, "Headers"). Returns the headers and where the body
 /// begins, or what stopped them: no line `%%` (F2), a value that is not ended (F3), more bytes than `limits.header`, as read or in
-/// canonical form (F4), or with `%%` and an LF more canonical bytes than `limits.input` (F7). It fails only for want of memory.
+/// canonical form (F4), or with `%%` and an LF more canonical bytes than `limits.input` (F7). It fails only for want of memory. Names are hashed with
+/// a fixed key: where strangers write the text and `limits.header` is large, take `headers_whole_with_hasher`.
 pub fn headers_whole(
     alloc: Global,
     text: &Text,
@@ -25,9 +27,23 @@ pub fn headers_whole(
     ensures exact { IfOk result (λ read. read ≡ heads_of limits text.now) }
     ensures order { IfOk result (λ read. AreInOrder (findings_of read)) }
 {
+    headers_whole_with_hasher(alloc, text, limits, DefaultHasher::new())
+}
+
+/// Reads the headers of `text` as `headers_whole` does, and hashes their names from `hasher` on. What it returns does not depend on `hasher`, but
+/// who does not know how it begins cannot choose names that make the reading slow.
+pub fn headers_whole_with_hasher(
+    alloc: Global,
+    text: &Text,
+    limits: Limits,
+    hasher: DefaultHasher,
+) -> Result<Result<Heads, HeadFault>, AllocError>
+    ensures exact { IfOk result (λ read. read ≡ heads_of limits text.now) }
+    ensures order { IfOk result (λ read. AreInOrder (findings_of read)) }
+{
     let read = events_of_headers(alloc, text, limits.header)?;
     let written = text.as_str();
-    let collected = collect(alloc, written, &read.events)?;
+    let collected = collect(alloc, written, &read.events, hasher)?;
     match read.end {
         HeaderEnding::Score {
             place,

@@ -1,7 +1,7 @@
 pub mod machine
+pub mod witness
 pub mod CharClass
 pub mod Codes
-pub mod DescriptorMachine
 pub mod Events
 pub mod Names
 pub mod Parts

@@ -1,6 +1,6 @@
 -- Where a stage takes a `|` without a room for its events: it ends a snippet with nothing else to emit.
 use Rattle.std.specs.Prelude.{◌≡◌, true, false}
-use Rattle.gabc_nabc.specs.DescriptorMachine.{whole_at}
+use Rattle.gabc_nabc.specs.witness.DescriptorMachine.{whole_at}
 use Rattle.gabc_nabc.specs.declared.stage.NabcStage.{NabcStage}
 
 -- no comment is open, and the kept text is an NABC snippet

@@ -1,7 +1,7 @@
 //! Laws of the definitions that contracts speak of. Each function is there for its clauses: all but one do nothing, and that one
 //! drives a fresh stage.
 
-ghost use Rattle.std.specs.Prelude.{◌≡◌, ◌≤◌, ◌+◌, ◌*◌, ℕ, List, [], ◌∷◌, ◌++◌, Bool, length, take, map, true, Some, encode_utf8_all, IsTrue, ◌↔◌};
+ghost use Rattle.std.specs.Prelude.{◌≡◌, ◌≤◌, ◌+◌, ◌*◌, ℕ, List, [], ◌∷◌, ◌++◌, Bool, length, take, drop, map, true, Some, encode_utf8_all, IsTrue, ◌↔◌};
 ghost use Rattle.gabc_places.specs.Findings.{AreInOrder, LieBetween};
 ghost use Rattle.gabc_places.specs.BoundedList.{Fits, extended_by};
 ghost use Rattle.gabc_places.specs.StageLaw.{concat_of};
@@ -19,6 +19,9 @@ ghost use Rattle.gabc_notes.specs.SnippetRead.{ends_of, findings_of, kept_of as 
 ghost use Rattle.gabc_notes.specs.Ends.{IsMarkOf, EndAtMost, AreCutAtMost};
 ghost use Rattle.gabc_notes.specs.declared.stage.NoteEnd.{NoteEnd};
 ghost use Rattle.gabc_places.specs.Place.{place_past, placed_characters_from};
+ghost use Rattle.gabc_notes.specs.witness.Keeps.{set_down};
+ghost use Rattle.gabc_nabc.specs.witness.DescriptorMachine.{events_left};
+ghost use Rattle.gabc_nabc.specs.witness.Keeps.{comment_of, IsKeptAgain, Keeps};
 ghost use Rattle.gabc_nabc.specs.ReadAgain.{IsNabcReadAgain};
 ghost use Rattle.gabc_nabc.specs.SnippetRead.{before_end, from_end, kept_before, end_before, AreAtMostOne};
 
@@ -137,4 +140,21 @@ pub fn kept_again()
         IsSnippet nabc t → IsMarkOf true how mark → IsNabcReadAgain at t mark rest }
     ensures kept { (prefix : List ℕ) (mark : ℕ) (rest : List ℕ) →
         IsSnippet nabc (kept_before prefix (mark ∷ rest)) }
+{}
+
+/// Two stages behind one kept text emit the same of whatever follows, if both tell the same of whether a comment is open.
+pub fn stages_behind_one_text_agree(one: &NabcStage, other: &NabcStage)
+    requires { comment_of one.now ≡ comment_of other.now }
+    ensures { (k : List ℕ) → Keeps one.now k → Keeps other.now k →
+        (xs : List Char) → events_left one.now xs ≡ events_left other.now xs }
+{}
+
+/// A kept text gives the stage back. A fresh stage keeps it again whole, and behind it, and a `%` where a comment is open, placed anywhere,
+/// it emits the same of whatever follows.
+pub fn a_kept_text_gives_the_stage_back(stage: &NabcStage)
+    ensures whole { (k more : List ℕ) (c : ℕ) →
+        Keeps stage.now (k ++ c ∷ more) → IsKeptAgain k c }
+    ensures back { (k : List ℕ) (at : Place) → Keeps stage.now k →
+        (xs : List Char) → let down = set_down at k (comment_of stage.now) in
+        drop (length down) (nabc_events (down ++ xs)) ≡ events_left stage.now xs }
 {}

@@ -10,7 +10,8 @@
 //! - `is_nabc` tells whether a text is an NABC snippet. `descriptors_whole` and `descriptors_into` read its descriptors and spaces,
 //!   and `codes_into` the codes of one of them. Spans count its bytes. `name_of` names a code.
 //! - `NabcStage` reads the characters of a snippet one at a time. Its `take_kept` is a short way for a character that is kept and
-//!   brings no finding: it needs no room for events.
+//!   brings no finding: it needs no room for events. `NabcStage::in_comment` tells what matters of a stage beside the text that it kept
+//!   (`specs/Keeps.antt`).
 //! - `laws` has what follows of the definitions.
 //!
 //! Texts and places come from `gabc_places`: lines and columns from 1, a column a character. An NABC snippet of a score begins behind

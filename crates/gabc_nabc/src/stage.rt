@@ -5,11 +5,13 @@ ghost use Rattle.gabc_places.specs.declared.place.Char.{Char};
 ghost use Rattle.gabc_places.specs.BoundedList.{Fits, extended_by};
 ghost use Rattle.gabc_notes.specs.Ends.{is_ended};
 ghost use Rattle.gabc_notes.specs.declared.stage.NoteEvent.{NoteEvent};
-ghost use Rattle.gabc_notes.specs.declared.stage.NoteEvent.TheVariants.{Kept};
+ghost use Rattle.gabc_notes.specs.declared.stage.NoteEnd.{NoteEnd};
+ghost use Rattle.gabc_notes.specs.declared.stage.NoteEvent.TheVariants.{Kept, Ended};
 ghost use Rattle.gabc_notes.specs.TakenAtOnce.{TakesNext};
+ghost use Rattle.gabc_nabc.specs.witness.Keeps.{comment_of, Keeps, KeepsOn};
 ghost use Rattle.gabc_nabc.specs.TakenAtOnce.{StandsBeforeNext};
 ghost use Rattle.gabc_nabc.specs.Events.{is_code, is_missing, nabc_events};
-ghost use Rattle.gabc_nabc.specs.DescriptorMachine.{first_at, facts_by_states, role_in, events_in, event_list, stage_kept, stage_moved_on, stage_events_at, stage_after, events_of_cut, events_left};
+ghost use Rattle.gabc_nabc.specs.witness.DescriptorMachine.{first_at, facts_by_states, role_in, events_in, event_list, stage_kept, stage_moved_on, stage_events_at, stage_after, events_of_cut, events_left};
 
 use crate::class::class_of;
 use crate::name::is_named;
@@ -178,7 +180,9 @@ pub struct NabcStage {
 impl NabcStage {
     /// Returns a stage before the first character of a snippet.
     pub fn new() -> NabcStage
-        ensures { (xs : List Char) → events_left result xs ≡ nabc_events xs }
+        ensures events { (xs : List Char) → events_left result xs ≡ nabc_events xs }
+        ensures keeps { Keeps result [] }
+        ensures tells { comment_of result ≡ false }
     {
         NabcStage {
             state: DescriptorState::Start,
@@ -221,6 +225,7 @@ impl NabcStage {
     pub fn take_kept(&mut self, x: Char) -> bool
         ensures taken { result ≡ true → (xs : List Char)
             → events_left self.old (x ∷ xs) ≡ (Kept x ∷ []) ∷ events_left self.new xs }
+        ensures keeps { result ≡ true → KeepsOn self.old x (Kept x ∷ []) self.new }
         ensures same { result ≡ false → self.new ≡ self.old }
         ensures left { result ≡ false → (xs : List Char) (rest : List (List NoteEvent))
             → events_left self.old (x ∷ xs) ≢ (Kept x ∷ []) ∷ rest }
@@ -244,6 +249,8 @@ impl NabcStage {
     pub fn take_next(&mut self) -> Option<usize>
         ensures taken { IfSome result (λ kept.
             TakesNext (events_left self.old) (events_left self.new) kept) }
+        ensures keeps { IfSome result (λ kept. (x : Char) → x.c ≡ 124
+            → KeepsOn self.old x (Ended NoteEnd.Next kept ∷ []) self.new) }
         ensures same { result ≡ None → self.new ≡ self.old }
         ensures takes { StandsBeforeNext self.old → IsSome result }
     {
@@ -252,6 +259,13 @@ impl NabcStage {
         }
         self.ended = true;
         Some(self.whole)
+    }
+
+    /// Returns whether a comment is open.
+    pub fn in_comment(&self) -> bool
+        ensures { result ≡ comment_of self.now }
+    {
+        self.comment
     }
 
     /// Takes a character, and adds what is emitted at it.
@@ -290,6 +304,9 @@ impl Stage for NabcStage {
 
     type Output = NoteEvent;
 
+    ghost use Rattle.std.specs.Prelude.{drop, length};
+    ghost use Rattle.gabc_places.specs.StageLaw.{Pushes, StopsAtEnd};
+
     ghost rest = { events_left };
 
     ghost most_of = { λ _. 3 };
@@ -300,7 +317,12 @@ impl Stage for NabcStage {
         3
     }
 
-    fn push(&mut self, x: Char, out: &mut Room<NoteEvent>) {
+    fn push(&mut self, x: Char, out: &mut Room<NoteEvent>)
+        requires { Fits out.old 3 }
+        ensures events { Pushes (events_left self.old) (events_left self.new) x 3 out.old out.new }
+        ensures end { StopsAtEnd is_ended (events_left self.new) out.old out.new }
+        ensures keeps { KeepsOn self.old x (drop (length out.old.items) out.new.items) self.new }
+    {
         self.take(x, out);
     }
 

@@ -1,7 +1,7 @@
 //! A machine that reads spaces and descriptors a character at a time.
 
 ghost use Rattle.std.specs.Prelude.{◌≡◌};
-ghost use Rattle.gabc_nabc.specs.DescriptorMachine.{is_a_letter, is_a_pitch, part_begun, code_begun, in_tail, going_on, falling_back, next_state, whole_at};
+ghost use Rattle.gabc_nabc.specs.witness.DescriptorMachine.{is_a_letter, is_a_pitch, part_begun, code_begun, in_tail, going_on, falling_back, next_state, whole_at};
 ghost use Rattle.gabc_nabc.specs.machine.DescriptorMachine.{is_space_at_end};
 
 use crate::class::NabcClass;

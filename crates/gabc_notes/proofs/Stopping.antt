@@ -11,11 +11,11 @@ use Rattle.gabc_places.specs.StageLaw.{EmitsNothing, StopsAtEnd}
 use Rattle.gabc_places.proofs.PushesAreOne.{joined_silence}
 use Rattle.gabc_notes.specs.Ends.{is_ended}
 use Rattle.gabc_notes.specs.machine.ItemMachine.{stage_after}
-use Rattle.gabc_notes.specs.ItemMachine.{events_left}
+use Rattle.gabc_notes.specs.witness.ItemMachine.{events_left}
 use Rattle.gabc_notes.specs.Events.{finding_event, end_by_mark, is_missing}
-use Rattle.gabc_notes.specs.StageEvents.{events_in, event_list}
+use Rattle.gabc_notes.specs.witness.StageEvents.{events_in, event_list}
 use Rattle.gabc_notes.specs.declared.stage.Before.{Before}
-use Rattle.gabc_notes.specs.StageEvents.{CharEvents}
+use Rattle.gabc_notes.specs.witness.StageEvents.{CharEvents}
 use Rattle.gabc_notes.specs.declared.stage.NoteEvent.{NoteEvent}
 use Rattle.gabc_notes.specs.declared.stage.NoteEvent.TheVariants.{Ended}
 use Rattle.gabc_notes.specs.declared.stage.NoteStage.{NoteStage}

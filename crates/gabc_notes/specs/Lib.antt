@@ -1,12 +1,12 @@
 pub mod machine
+pub mod witness
 pub mod Ends
 pub mod Events
-pub mod ItemMachine
 pub mod Items
 pub mod Notes
 pub mod Raw
 pub mod ReadAgain
 pub mod SnippetRead
-pub mod StageEvents
+pub mod StageTells
 pub mod Table
 pub mod TakenAtOnce

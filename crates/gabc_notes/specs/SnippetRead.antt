@@ -1,5 +1,5 @@
 -- What a snippet says as a whole.
-use Rattle.std.specs.Prelude.{◌≡◌, ℕ, sum_by, List, [], ◌∷◌, length, take, Bool, ◌==◌, if◌then◌else◌, Option, Some, None, string_bytes, encode_utf8_all}
+use Rattle.std.specs.Prelude.{◌≡◌, ℕ, sum_by, List, [], ◌∷◌, length, take, Bool, if◌then◌else◌, Option, Some, None, string_bytes, encode_utf8_all}
 use Rattle.std.specs.Char.{len_utf8}
 use Rattle.gabc_places.specs.declared.code.Finding.{Finding}
 use Rattle.gabc_places.specs.declared.place.Char.{Char}

@@ -4,7 +4,7 @@ use Rattle.gabc_places.specs.StageLaw.{EmitsNothing}
 use Rattle.gabc_places.specs.declared.place.Char.{Char}
 use Rattle.gabc_patterns.specs.Derivative.{is_snippet}
 use Rattle.gabc_notes.specs.Table.{gabc}
-use Rattle.gabc_notes.specs.ItemMachine.{example, events_left}
+use Rattle.gabc_notes.specs.witness.ItemMachine.{example, events_left}
 use Rattle.gabc_notes.specs.declared.stage.NoteEnd.TheVariants.{Next}
 use Rattle.gabc_notes.specs.declared.stage.NoteEvent.{NoteEvent}
 use Rattle.gabc_notes.specs.declared.stage.NoteEvent.TheVariants.{Kept, Ended}

@@ -3,4 +3,5 @@ pub mod CharClass
 pub mod ItemMachine
 pub mod Items
 pub mod Notes
+pub mod StageBehind
 pub mod StageEvents

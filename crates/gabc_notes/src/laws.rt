@@ -1,7 +1,7 @@
 //! Laws of the definitions that contracts speak of. Each function is there for its clauses: all but one do nothing, and that one
 //! drives a fresh stage.
 
-ghost use Rattle.std.specs.Prelude.{◌≡◌, ◌≤◌, ◌+◌, ◌*◌, ℕ, List, [], ◌∷◌, ◌++◌, Bool, true, length, take, map, sum_by, codes, Some, Decides};
+ghost use Rattle.std.specs.Prelude.{◌≡◌, ◌≤◌, ◌+◌, ◌*◌, ℕ, List, [], ◌∷◌, ◌++◌, Bool, true, length, take, drop, map, sum_by, codes, false, Some, is_some, Decides};
 ghost use Rattle.std.specs.Char.{len_utf8};
 ghost use Rattle.std.specs.Str.{IsUtf8};
 ghost use Rattle.gabc_places.specs.declared.place.Char.{Char};
@@ -21,6 +21,9 @@ ghost use Rattle.gabc_notes.specs.ReadAgain.{IsReadAgain};
 ghost use Rattle.gabc_notes.specs.declared.item.ItemKind.{ItemKind};
 ghost use Rattle.gabc_notes.specs.declared.stage.NoteEnd.{NoteEnd};
 ghost use Rattle.gabc_notes.specs.declared.stage.NoteEvent.{NoteEvent};
+ghost use Rattle.gabc_notes.specs.witness.ItemMachine.{events_left};
+ghost use Rattle.gabc_notes.specs.witness.Keeps.{Keeps, set_down, OpensAt, IsKeptAgain};
+ghost use Rattle.gabc_notes.specs.StageTells.{opener_of, comment_of, told};
 
 use crate::stage::{NoteEvent, NoteStage};
 use gabc_places::{Char, Room, drive};
@@ -145,4 +148,39 @@ pub fn kept_again()
         (mark : ℕ) → IsSnippet gabc t → IsMarkOf split how mark →
         IsReadAgain split macros at t mark rest }
     ensures kept { (mark : ℕ) (back : List Char) → IsSnippet gabc (kept_by (Some mark) back) }
+{}
+
+/// Two stages emit the same of whatever follows, if they stand alike, but for a place outside raw.
+pub fn stages_that_tell_the_same_agree(one: &NoteStage, other: &NoteStage)
+    requires { told one.now ≡ told other.now }
+    ensures { (xs : List Char) → events_left one.now xs ≡ events_left other.now xs }
+{}
+
+/// Two stages behind one kept text that tell the same emit the same of whatever follows: the place of the bracket that is open, and whether a
+/// comment is open.
+pub fn stages_behind_one_text_agree(one: &NoteStage, other: &NoteStage)
+    requires opener { opener_of one.now ≡ opener_of other.now }
+    requires comment { comment_of one.now ≡ comment_of other.now }
+    ensures { (split : Bool) (macros : ℕ) (k : List ℕ) → Keeps split macros one.now k →
+        Keeps split macros other.now k →
+        (xs : List Char) → events_left one.now xs ≡ events_left other.now xs }
+{}
+
+/// A stage that keeps a text tells an opener exactly if that text lies inside raw, and there no comment is open.
+pub fn an_opener_is_told_inside_raw(stage: &NoteStage)
+    ensures opener { (split : Bool) (macros : ℕ) (k : List ℕ) → Keeps split macros stage.now k →
+        is_some (opener_of stage.now) ≡ in_raw k }
+    ensures comment { (split : Bool) (macros : ℕ) (k : List ℕ) → Keeps split macros stage.now k →
+        comment_of stage.now ≡ true → in_raw k ≡ false }
+{}
+
+/// A kept text gives the stage back. A fresh stage keeps it again whole, and behind it, each character placed at the bracket that is open,
+/// and a `%` where a comment is open, it emits the same of whatever follows.
+pub fn a_kept_text_gives_the_stage_back(stage: &NoteStage)
+    ensures whole { (split : Bool) (macros : ℕ) (k more : List ℕ) (c : ℕ) →
+        Keeps split macros stage.now (k ++ c ∷ more) → IsKeptAgain split k c }
+    ensures back { (split : Bool) (macros : ℕ) (k : List ℕ) (at : Place) →
+        Keeps split macros stage.now k → OpensAt at stage.now →
+        (xs : List Char) → let down = set_down at k (comment_of stage.now) in
+        drop (length down) (note_events split macros (down ++ xs)) ≡ events_left stage.now xs }
 {}

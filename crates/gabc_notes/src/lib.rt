@@ -11,7 +11,8 @@
 //! - `NoteStage` reads the characters of a snippet one at a time: it emits those that are kept, the findings, and the end. What it
 //!   emits is `note_events` of `specs/Events.antt`, a definition without states: what is emitted of a character depends on it and
 //!   on the characters before it. `NoteStage::take_kept` takes a character of which nothing but itself is emitted (no `)` and no
-//!   `|`, and none while a comment is open), and else leaves the stage as it was.
+//!   `|`, and none while a comment is open), and else leaves the stage as it was. `NoteStage::opener` and `NoteStage::in_comment` tell what matters
+//!   of a stage beside the text that it kept (`specs/Keeps.antt`).
 //! - `laws` has what follows of the definitions.
 //!
 //! Texts and places come from `gabc_places`: lines and columns from 1, a column a character. A snippet of a score begins behind

@@ -1,6 +1,7 @@
 //! What an open bracket holds, as far as the name of a macro goes.
 
 ghost use Rattle.std.specs.Prelude.{◌≡◌};
+ghost use Rattle.gabc_notes.specs.Events.{is_defined};
 ghost use Rattle.gabc_notes.specs.machine.ItemMachine.{digit_of_prefix, prefix_with};
 
 /// What an open bracket holds so far, as far as a macro's name is concerned.
@@ -39,4 +40,11 @@ pub(crate) fn prefix_with(name: MacroPrefix, c: char) -> MacroPrefix
         MacroPrefix::Named => MacroPrefix::Last(c),
         _ => MacroPrefix::Other,
     }
+}
+
+/// Returns whether the bit of the digit of a macro is set.
+pub(crate) fn defines(macros: u16, digit: u8) -> bool
+    ensures { result ≡ is_defined macros digit }
+{
+    digit < 16 && (macros >> digit) % 2 == 1
 }

@@ -1,20 +1,23 @@
 //! A machine that reads a snippet a character at a time.
 
-ghost use Rattle.std.specs.Prelude.{◌≡◌, ℕ, List, [], ◌∷◌, true, false, None, IfSome, IsSome, IsTrue};
+ghost use Rattle.std.specs.Prelude.{◌≡◌, ◌≢◌, ℕ, List, [], ◌∷◌, true, false, None, IfSome, IsSome, IsTrue};
 ghost use Rattle.gabc_places.specs.declared.place.Char.{Char};
 ghost use Rattle.gabc_places.specs.BoundedList.{Fits, extended_by};
 ghost use Rattle.gabc_places.specs.StageLaw.{Pushes, StopsAtEnd};
 ghost use Rattle.gabc_notes.specs.declared.stage.CharFacts.{CharFacts};
-ghost use Rattle.gabc_notes.specs.machine.ItemMachine.{IsShortStep, raw_state, attribute_state, facts_by_states, prefix_after, stage_after, stage_kept};
-ghost use Rattle.gabc_notes.specs.ItemMachine.{events_left};
+ghost use Rattle.gabc_notes.specs.machine.ItemMachine.{IsShortStep, raw_state, facts_by_states, prefix_after, stage_after, stage_kept};
+ghost use Rattle.gabc_notes.specs.witness.ItemMachine.{events_left};
+ghost use Rattle.gabc_notes.specs.machine.StageBehind.{stage_behind};
+ghost use Rattle.gabc_notes.specs.StageTells.{opener_of, comment_of};
+ghost use Rattle.gabc_notes.specs.witness.Keeps.{Keeps, KeepsOn};
 ghost use Rattle.gabc_notes.specs.Ends.{is_ended};
 ghost use Rattle.gabc_notes.specs.TakenAtOnce.{TakesNext, StandsBeforeKept, StandsBeforeNext};
-ghost use Rattle.gabc_notes.specs.StageEvents.{role_in, warning_in, before_in, events_in, event_list};
-ghost use Rattle.gabc_notes.specs.Events.{is_defined, end_by_mark, finding_event, note_events};
+ghost use Rattle.gabc_notes.specs.witness.StageEvents.{role_in, warning_in, before_in, events_in, event_list};
+ghost use Rattle.gabc_notes.specs.Events.{end_by_mark, finding_event, note_events};
 
 use crate::class::class_of;
-use crate::macro_prefix::{MacroPrefix, digit_of_prefix, prefix_with};
-use crate::state::{FullItem, ItemState, is_whole, next_state, short_step};
+use crate::macro_prefix::{MacroPrefix, defines, digit_of_prefix, prefix_with};
+use crate::state::{ItemState, is_attribute, is_raw, is_whole, next_state, short_step};
 use gabc_places::{Char, Code, Finding, Place, Room, Stage};
 
 /// How a snippet ends. A place is that of the bracket that is open; line 0 and column 0 where none is.
@@ -96,26 +99,6 @@ pub(crate) enum CharRole {
     LeaveOut,
 }
 
-/// Returns whether the kept text lies inside raw.
-fn is_raw(state: ItemState) -> bool
-    ensures { result ≡ raw_state state }
-{
-    match state {
-        ItemState::Raw | ItemState::SlashRaw => true,
-        _ => false,
-    }
-}
-
-/// Returns whether the kept text ends with an attribute.
-fn is_attribute(state: ItemState) -> bool
-    ensures { result ≡ attribute_state state }
-{
-    match state {
-        ItemState::Done(FullItem::Attribute) => true,
-        _ => false,
-    }
-}
-
 /// Returns what is known of a character, by the state before it and the next one, if there is one.
 fn look(state: ItemState, next: Option<ItemState>, name: MacroPrefix) -> CharFacts
     ensures { result ≡ facts_by_states state next name }
@@ -150,13 +133,6 @@ fn role_of(split: bool, comment: bool, facts: CharFacts, c: char) -> CharRole
     } else {
         CharRole::LeaveOut
     }
-}
-
-/// Returns whether the bit of the digit of a macro is set.
-fn defines(macros: u16, digit: u8) -> bool
-    ensures { result ≡ is_defined macros digit }
-{
-    digit < 16 && (macros >> digit) % 2 == 1
 }
 
 /// Returns the warning of a character that is kept.
@@ -295,7 +271,9 @@ impl NoteStage {
     /// Returns a stage before the first character of a snippet. With `split` a `|` ends the snippet too. The bit `d` of `macros`,
     /// from 0 to 9, tells that the macro of the digit `d` is defined.
     pub fn new(split: bool, macros: u16) -> NoteStage
-        ensures { (xs : List Char) → events_left result xs ≡ note_events split macros xs }
+        ensures events { (xs : List Char) → events_left result xs ≡ note_events split macros xs }
+        ensures keeps { Keeps split macros result [] }
+        ensures tells { (opener_of result ≡ None) × (comment_of result ≡ false) }
     {
         NoteStage {
             split,
@@ -332,6 +310,7 @@ impl NoteStage {
     fn read(&mut self, x: Char, out: &mut Room<NoteEvent>)
         requires fits { Fits out.old 3 }
         requires runs { self.old.ended ≡ false }
+        ensures state { self.new ≡ stage_behind self.old x }
         ensures events { Pushes (events_left self.old) (events_left self.new) x 3 out.old out.new }
         ensures end { StopsAtEnd is_ended (events_left self.new) out.old out.new }
     {
@@ -363,6 +342,7 @@ impl NoteStage {
         requires runs { self.old.ended ≡ false }
         requires comment { self.old.before.comment ≡ false }
         requires step { IsShortStep self.old.state x.c next }
+        ensures state { self.new ≡ stage_behind self.old x }
         ensures events { Pushes (events_left self.old) (events_left self.new) x 3 out.old out.new }
         ensures end { StopsAtEnd is_ended (events_left self.new) out.old out.new }
     {
@@ -377,6 +357,7 @@ impl NoteStage {
         requires comment { self.old.before.comment ≡ false }
         requires outside { raw_state self.old.state ≡ false }
         requires close { x.c ≡ 41 }
+        ensures state { self.new ≡ stage_behind self.old x }
         ensures events { Pushes (events_left self.old) (events_left self.new) x 3 out.old out.new }
         ensures end { StopsAtEnd is_ended (events_left self.new) out.old out.new }
     {
@@ -389,6 +370,7 @@ impl NoteStage {
     #[inline(never)]
     fn take_if_kept(&mut self, x: Char) -> bool
         requires runs { self.old.ended ≡ false }
+        ensures state { result ≡ true → self.new ≡ stage_behind self.old x }
         ensures taken { result ≡ true → (xs : List Char) → events_left self.old (x ∷ xs)
             ≡ (NoteEvent.Kept x ∷ []) ∷ events_left self.new xs }
         ensures same { result ≡ false → self.new ≡ self.old }
@@ -411,6 +393,8 @@ impl NoteStage {
     pub fn take_kept(&mut self, x: Char) -> bool
         ensures taken { result ≡ true → (xs : List Char) → events_left self.old (x ∷ xs)
             ≡ (NoteEvent.Kept x ∷ []) ∷ events_left self.new xs }
+        ensures keeps { result ≡ true → KeepsOn self.old x (NoteEvent.Kept x ∷ []) self.new }
+        ensures no_mark { result ≡ true → (x.c ≢ 41) × (x.c ≢ 124) }
         ensures same { result ≡ false → self.new ≡ self.old }
         ensures takes { StandsBeforeKept self.old x → IsTrue result }
     {
@@ -433,6 +417,8 @@ impl NoteStage {
     pub fn take_next(&mut self) -> Option<usize>
         ensures taken { IfSome result (λ kept.
             TakesNext (events_left self.old) (events_left self.new) kept) }
+        ensures keeps { IfSome result (λ kept. (x : Char) → x.c ≡ 124
+            → KeepsOn self.old x (NoteEvent.Ended NoteEnd.Next kept ∷ []) self.new) }
         ensures same { result ≡ None → self.new ≡ self.old }
         ensures takes { StandsBeforeNext self.old → IsSome result }
     {
@@ -443,12 +429,32 @@ impl NoteStage {
         self.ended = true;
         Some(before.whole)
     }
+
+    /// Returns the place of the `[` that is open: inside raw one is.
+    pub fn opener(&self) -> Option<Place>
+        ensures { result ≡ opener_of self.now }
+    {
+        if is_raw(self.state) {
+            Some(self.before.place)
+        } else {
+            None
+        }
+    }
+
+    /// Returns whether a comment is open.
+    pub fn in_comment(&self) -> bool
+        ensures { result ≡ comment_of self.now }
+    {
+        self.before.comment
+    }
 }
 
 impl Stage for NoteStage {
     type Input = Char;
 
     type Output = NoteEvent;
+
+    ghost use Rattle.std.specs.Prelude.{drop, length};
 
     ghost rest = { events_left };
 
@@ -460,7 +466,12 @@ impl Stage for NoteStage {
         3
     }
 
-    fn push(&mut self, x: Char, out: &mut Room<NoteEvent>) {
+    fn push(&mut self, x: Char, out: &mut Room<NoteEvent>)
+        requires { Fits out.old 3 }
+        ensures events { Pushes (events_left self.old) (events_left self.new) x 3 out.old out.new }
+        ensures end { StopsAtEnd is_ended (events_left self.new) out.old out.new }
+        ensures keeps { KeepsOn self.old x (drop (length out.old.items) out.new.items) self.new }
+    {
         if self.ended {
             return;
         }

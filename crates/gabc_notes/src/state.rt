@@ -1,7 +1,7 @@
 //! A machine that reads items a character at a time.
 
 ghost use Rattle.std.specs.Prelude.{◌≡◌, IfSome};
-ghost use Rattle.gabc_notes.specs.machine.ItemMachine.{IsShortStep, begins_item, goes_on_note, begun_item, in_pitch, in_bar, in_break, going_on, falling_back, next_or_begun, next_state, kind_at_end, kind_of_full, whole_at};
+ghost use Rattle.gabc_notes.specs.machine.ItemMachine.{IsShortStep, begins_item, goes_on_note, begun_item, in_pitch, in_bar, in_break, going_on, falling_back, next_or_begun, next_state, kind_at_end, kind_of_full, whole_at, raw_state, attribute_state};
 
 use crate::class::CharClass;
 use crate::item::ItemKind;
@@ -287,5 +287,25 @@ pub(crate) fn is_whole(state: ItemState) -> bool
     match state {
         ItemState::Dash | ItemState::Raw | ItemState::SlashRaw => false,
         _ => true,
+    }
+}
+
+/// Returns whether a text that ends in this state lies inside raw.
+pub(crate) fn is_raw(state: ItemState) -> bool
+    ensures { result ≡ raw_state state }
+{
+    match state {
+        ItemState::Raw | ItemState::SlashRaw => true,
+        _ => false,
+    }
+}
+
+/// Returns whether a text that ends in this state ends with an attribute.
+pub(crate) fn is_attribute(state: ItemState) -> bool
+    ensures { result ≡ attribute_state state }
+{
+    match state {
+        ItemState::Done(FullItem::Attribute) => true,
+        _ => false,
     }
 }

@@ -2,6 +2,7 @@ pub mod decoding
 pub mod texts
 pub mod utf8
 pub mod AppendsAreJoined
+pub mod CallsInTime
 pub mod ChainKeepsEvents
 pub mod EarliestIsLeast
 pub mod GatheredOfAText

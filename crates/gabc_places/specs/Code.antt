@@ -3,7 +3,7 @@ use Rattle.std.specs.Prelude.{ℕ, ◌-◌, List, [], map, slice_index_or}
 use Rattle.gabc_places.specs.declared.code.Code.{Code}
 use Rattle.gabc_places.specs.declared.code.Code.TheVariants.{E1, E2, E3, E4, E5, E6, W1, W2, W3, W4, W5, W6, W7, W8, W9, W10, W11, F1, F2, F3, F4, F5, F6, F7}
 use Rattle.gabc_places.specs.declared.severity.Severity.{Severity}
-use Rattle.gabc_places.specs.declared.severity.Severity.TheVariants.{Fatal}
+use Rattle.gabc_places.specs.declared.severity.Severity.TheVariants.{Error, Warning, Fatal}
 use Rattle.gabc_places.specs.declared.codes.TheConstants.{CODES}
 
 -- E1 to E6, then W1 to W11, then F1 to F7
@@ -42,3 +42,30 @@ name_of code = slice_index_or (map (λ row. row.1.now) CODES) (rank_of code - 1)
 
 abbrev pub text_of : Code → List ℕ
 text_of code = slice_index_or (map (λ row. row.2.now) CODES) (rank_of code - 1) []
+
+-- how grave a code is, by its letter
+abbrev pub severity_by_kind : Code → Severity
+severity_by_kind E1 = Error
+severity_by_kind E2 = Error
+severity_by_kind E3 = Error
+severity_by_kind E4 = Error
+severity_by_kind E5 = Error
+severity_by_kind E6 = Error
+severity_by_kind W1 = Warning
+severity_by_kind W2 = Warning
+severity_by_kind W3 = Warning
+severity_by_kind W4 = Warning
+severity_by_kind W5 = Warning
+severity_by_kind W6 = Warning
+severity_by_kind W7 = Warning
+severity_by_kind W8 = Warning
+severity_by_kind W9 = Warning
+severity_by_kind W10 = Warning
+severity_by_kind W11 = Warning
+severity_by_kind F1 = Fatal
+severity_by_kind F2 = Fatal
+severity_by_kind F3 = Fatal
+severity_by_kind F4 = Fatal
+severity_by_kind F5 = Fatal
+severity_by_kind F6 = Fatal
+severity_by_kind F7 = Fatal

@@ -1,6 +1,7 @@
 //! The text of an input's bytes.
 
-ghost use Rattle.std.specs.Prelude.{◌≡◌, ◌≤◌, ◌==◌, length, drop, slice_index, IfOk, if◌then◌else◌};
+ghost use Rattle.std.specs.Prelude.{◌≡◌, ◌↔◌, ◌≤◌, ◌==◌, length, drop, slice_index, IfOk, IsTrue, if◌then◌else◌};
+ghost use Rattle.gabc_places.specs.DecoderMachine.{IsPartial};
 ghost use Rattle.std.specs.Str.{chars};
 ghost use Rattle.gabc_places.specs.Text.{decoded_of, utf8_prefix_of as utf8_prefix, tail_of, stop_code_of, text_of_characters};
 
@@ -53,6 +54,16 @@ pub(crate) fn prefix_and_tail(bytes: &[u8]) -> (&str, Tail)
                 Some(_) => (text, Tail::Wrong),
             }
         }
+    }
+}
+
+/// Returns whether `bytes` are none, or the beginning of one character.
+pub(crate) fn is_partial(bytes: &[u8]) -> bool
+    ensures { IsTrue result ↔ IsPartial bytes.now }
+{
+    match simdutf8::compat::from_utf8(bytes) {
+        Ok(_) => bytes.is_empty(),
+        Err(error) => error.valid_up_to() == 0 && error.error_len().is_none(),
     }
 }
 

@@ -1,16 +1,19 @@
 //! A stage from bytes to characters.
 
-ghost use Rattle.std.specs.Prelude.{◌≡◌, ◌↔◌, ℕ, ◌+◌, ◌-◌, ◌<◌, ◌≤◌, ◌^◌, List, [], ◌∷◌, ◌++◌, length, take, true, Result, IfSome, IsTrue, option_to_list};
+ghost use Rattle.std.specs.Prelude.{◌≡◌, ◌↔◌, ℕ, ◌+◌, ◌-◌, ◌<◌, ◌≤◌, ◌^◌, List, [], ◌∷◌, ◌++◌, length, take, true, Result, IfSome, IsSome, IsTrue, option_to_list};
 ghost use Rattle.std.specs.List.{All};
 ghost use Rattle.gabc_places.specs.StageLaw.{concat_of, EmitsNothing};
 ghost use Rattle.gabc_places.specs.Decoder.{known_of, known_at_end};
-ghost use Rattle.gabc_places.specs.DecoderMachine.{fresh_decoder, stop_with, take_character as taken_character, events_left, is_fault_item};
+ghost use Rattle.gabc_places.specs.DecoderMachine.{fresh_decoder, is_fault_item};
+ghost use Rattle.gabc_places.specs.witness.DecoderEvents.{stop_with, take_character as taken_character, events_left};
+ghost use Rattle.gabc_places.specs.DecoderMachine.{IsPartial, IsReached, BeginsLine};
+ghost use Rattle.gabc_places.specs.DecoderTells.{MayBeTold, is_after_cr, resumed};
 ghost use Rattle.gabc_places.specs.machine.Decoder.{take_part as taken_part};
 ghost use Rattle.gabc_places.specs.Skip.{IsPrintable, most_skipped as most_skipped_by, skipped_events};
 ghost use Rattle.gabc_places.specs.Text.{utf8_prefix_of, tail_of, is_left_out as left_out_after, read_as as read};
 
 use crate::code::{Code, Fault};
-use crate::decode::prefix_and_tail;
+use crate::decode::{is_partial, prefix_and_tail};
 use crate::decoded::Tail;
 use crate::limits::Limits;
 use crate::place::{Char, Place};
@@ -77,6 +80,37 @@ fn read_as(c: char) -> char
     if c == '\r' { '\n' } else { c }
 }
 
+/// Returns whether the next character can stand at `place` behind so many bytes, of which the last `pending` are a part of it.
+fn is_reached(place: Place, pending: usize, taken: u32) -> bool
+    requires { pending < 2 ^ 32 }
+    ensures { IsTrue result ↔ IsReached place pending taken }
+{
+    let most = taken as u64 + 1;
+    1 <= place.line
+        && place.line <= most
+        && 1 <= place.column
+        && place.column <= most
+        && place.line + place.column + pending as u64 <= most + 1
+}
+
+/// Returns whether a line other than the first begins at `place`.
+fn begins_line(place: Place) -> bool
+    ensures { IsTrue result ↔ BeginsLine place }
+{
+    place.column == 1 && 2 <= place.line
+}
+
+/// Returns whether a decoder under `limit` may tell this of where it stands.
+fn may_be_told(limit: u32, taken: u32, place: Place, pending: &[u8], after_cr: bool) -> bool
+    ensures { IsTrue result ↔ MayBeTold limit taken place pending.now after_cr }
+{
+    if !is_partial(pending) {
+        return false;
+    }
+    let behind = !after_cr || (begins_line(place) && pending.is_empty());
+    taken <= limit && behind && is_reached(place, pending.len(), taken)
+}
+
 impl Decoder {
     /// Returns a decoder before the first byte of an input, which reads at most `limits.input` bytes.
     pub fn new(limits: Limits) -> Decoder
@@ -97,6 +131,40 @@ impl Decoder {
         }
     }
 
+    /// Returns a decoder that has taken `taken` bytes under `limits`. The next character stands at `place`, `pending` are the bytes of it that
+    /// have come, and `after_cr` tells whether a CR stands directly before the next byte. Returns `None` where that cannot be: more bytes
+    /// than the limit, a place that so many bytes do not reach, bytes that are not the beginning of one character, a CR with bytes pending
+    /// or not at the end of a line.
+    pub fn resume(
+        limits: Limits,
+        taken: u32,
+        place: Place,
+        pending: &[u8],
+        after_cr: bool,
+    ) -> Option<Decoder>
+        ensures some { IsSome result ↔
+            MayBeTold limits.input taken place pending.now after_cr }
+        ensures made { IfSome result (λ decoder. decoder
+            ≡ resumed limits.input taken place pending.now after_cr) }
+        ensures cr { IfSome result (λ decoder. is_after_cr decoder ≡ after_cr) }
+    {
+        if !may_be_told(limits.input, taken, place, pending, after_cr) {
+            return None;
+        }
+        let mut kept = ArrayVec::new();
+        let Ok(()) = kept.try_extend_from_slice(pending) else {
+            unreachable!()
+        };
+        Some(Decoder {
+            limit: limits.input,
+            taken,
+            place,
+            pending: kept,
+            previous: if after_cr { '\r' } else { '\0' },
+            running: true,
+        })
+    }
+
     /// Takes `byte`, and returns the character that is whole with it, or the fault known by it. Behind a fault and behind the end it
     /// returns nothing more.
     pub fn take(&mut self, byte: u8) -> Option<Result<Char, Fault>>
@@ -104,6 +172,8 @@ impl Decoder {
             ≡ option_to_list result ∷ events_left self.new bytes }
         ensures end { IfSome result (λ item. is_fault_item item ≡ true →
             EmitsNothing (events_left self.new)) }
+        ensures place { IfSome result (λ item. is_fault_item item ≡ true →
+            self.new.place ≡ self.old.place) }
     {
         if !self.running {
             return None;
@@ -122,6 +192,7 @@ impl Decoder {
     pub fn end(&mut self) -> Option<Result<Char, Fault>>
         ensures item { events_left self.old [] ≡ option_to_list result ∷ [] }
         ensures over { EmitsNothing (events_left self.new) }
+        ensures place { self.new.place ≡ self.old.place }
     {
         if self.running && !self.pending.is_empty() {
             return self.stop(Code::F1);
@@ -132,9 +203,34 @@ impl Decoder {
 
     /// Returns the place of the next character.
     pub fn place(&self) -> Place
-        ensures { result ≡ self.now.place }
+        ensures place { result ≡ self.now.place }
+        ensures reached { IsReached result (length self.now.pending) self.now.taken }
     {
         self.place
+    }
+
+    /// Returns how many bytes it has taken.
+    pub fn taken(&self) -> u32
+        ensures taken { result ≡ self.now.taken }
+        ensures within { result ≤ self.now.limit }
+    {
+        self.taken
+    }
+
+    /// Returns the bytes of a character that is not whole yet: at most three.
+    pub fn pending(&self) -> &[u8]
+        ensures pending { result.now ≡ self.now.pending }
+        ensures partial { IsPartial result.now }
+    {
+        self.pending.as_slice()
+    }
+
+    /// Returns whether the last character is a CR directly before the next byte. An LF would be left out there.
+    pub fn after_cr(&self) -> bool
+        ensures cr { result ≡ is_after_cr self.now }
+        ensures begins { result ≡ true → BeginsLine self.now.place }
+    {
+        self.pending.is_empty() && self.previous == '\r'
     }
 
     /// Returns how many printable bytes `skip` may take now: as many as are left to the limit, or 0 where the decoder has stopped or a
@@ -180,8 +276,8 @@ impl Decoder {
 
     /// Takes a character that is whole, and returns it unless it is left out.
     fn take_character(&mut self, c: char) -> Option<Result<Char, Fault>>
-        requires line { self.old.place.line ≤ self.old.taken }
-        requires column { self.old.place.column ≤ self.old.taken }
+        requires counted { self.old.place.line + self.old.place.column
+            + length self.old.pending ≤ self.old.taken + 1 }
         ensures state { self.new ≡ (taken_character c self.old).state }
         ensures events { option_to_list result ≡ (taken_character c self.old).events }
     {
@@ -198,8 +294,8 @@ impl Decoder {
 
     /// Takes `byte`, which is counted already, as a part of a longer character.
     fn take_part(&mut self, byte: u8) -> Option<Result<Char, Fault>>
-        requires line { self.old.place.line ≤ self.old.taken }
-        requires column { self.old.place.column ≤ self.old.taken }
+        requires counted { self.old.place.line + self.old.place.column
+            + length self.old.pending ≤ self.old.taken + 1 }
         ensures state { self.new ≡ (taken_part byte self.old).state }
         ensures events { option_to_list result ≡ (taken_part byte self.old).events }
     {

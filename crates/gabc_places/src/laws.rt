@@ -1,6 +1,6 @@
 //! Laws of the definitions that contracts speak of. Each function is there for its clauses: all but two do nothing, and those run a fresh decoder.
 
-ghost use Rattle.std.specs.Prelude.{◌≡◌, ◌≢◌, ℕ, ◌<◌, List, [], ◌∷◌, ◌++◌, length, take, Bool, ◌≤◌, Some, None, IsSome, slice_index, encode_utf8_all};
+ghost use Rattle.std.specs.Prelude.{◌≡◌, ◌≢◌, ℕ, ◌<◌, List, [], ◌∷◌, ◌++◌, length, take, Bool, true, ◌≤◌, Some, None, IsSome, slice_index, encode_utf8_all};
 ghost use Rattle.std.specs.Char.{IsScalar};
 ghost use Rattle.std.specs.List.{slice_get, Contains, All};
 ghost use Rattle.gabc_places.specs.Place.{place_after, placed_characters, placed_characters_behind};
@@ -12,6 +12,11 @@ ghost use Rattle.gabc_places.specs.BoundedList.{Fits, extended_by};
 ghost use Rattle.gabc_places.specs.Decoder.{known_of, known_at_end};
 ghost use Rattle.gabc_places.specs.StageLaw.{concat_of};
 ghost use Rattle.gabc_places.specs.Chain.{chain_events};
+ghost use Rattle.gabc_places.specs.witness.DecoderEvents.{events_left};
+ghost use Rattle.gabc_places.specs.DecoderTells.{TellTheSame, MayBeTold, is_after_cr};
+ghost use Rattle.gabc_places.specs.Code.{severity_of, severity_by_kind};
+ghost use Rattle.gabc_places.specs.declared.code.Code.{Code};
+ghost use Rattle.gabc_places.specs.Limits.{AreUsual};
 
 use crate::chain::push_all;
 use crate::code::Fault;
@@ -40,6 +45,13 @@ pub fn text_again()
         All (λ c. (c ≢ 13) × (c ≢ 0xFEFF)) text →
         length (encode_utf8_all text) ≤ limits.input →
         decoded_of limits ended (encode_utf8_all text) ≡ record { text = text; fault = None } }
+{}
+
+/// Each prefix of the text of an input is the text of a prefix of its bytes, which is read without a fault.
+pub fn a_prefix_of_a_text_is_read_of_a_prefix_of_its_bytes()
+    ensures { (limits : Limits) (ended whole : Bool) (bytes : List ℕ) (n : ℕ) → (count : ℕ)
+        × (decoded_of limits whole (take count bytes)
+        ≡ record { text = take n (decoded_of limits ended bytes).text; fault = None }) }
 {}
 
 /// The first character of a text stands at line 1 and column 1.
@@ -102,4 +114,38 @@ pub fn a_decoder_emits_what_is_known(
 {
     let mut decoder = Decoder::new(limits);
     push_all(&mut decoder, bytes, out);
+}
+
+/// Two decoders that run, under one limit, and tell the same emit the same of whatever follows.
+pub fn decoders_that_tell_the_same_agree(one: &Decoder, other: &Decoder)
+    requires runs { one.now.running ≡ true }
+    requires other_runs { other.now.running ≡ true }
+    requires limit { one.now.limit ≡ other.now.limit }
+    requires told { TellTheSame one.now other.now }
+    ensures { (bytes : List ℕ) → events_left one.now bytes ≡ events_left other.now bytes }
+{
+    one.pending();
+}
+
+/// What a decoder tells may be told: a decoder can be made from it.
+pub fn what_a_decoder_tells_may_be_told(decoder: &Decoder)
+    ensures { MayBeTold decoder.now.limit decoder.now.taken decoder.now.place
+        decoder.now.pending (is_after_cr decoder.now) }
+{
+    decoder.taken();
+    decoder.place();
+    decoder.pending();
+    decoder.after_cr();
+}
+
+/// Each code is as grave as its letter says: E an error, W a warning, F a fatal fault.
+pub fn codes_are_graded_by_their_letters()
+    ensures { (code : Code) → severity_of code ≡ severity_by_kind code }
+{}
+
+/// The limits of a run that is given no others are 65,536 bytes of headers, 16,384 of a syllable and 4,294,967,295 of input.
+pub fn usual_limits() -> Limits
+    ensures { AreUsual result.header result.syllable result.input }
+{
+    Limits::DEFAULT
 }

@@ -1,11 +1,11 @@
 //! Where bytes go.
 
-ghost use Rattle.std.specs.Prelude.{◌≡◌, ℕ, ◌<◌, ◌≤◌, length, take, List, IfOk, OnOk, OnErr, IfErr, Option};
-ghost use Rattle.gabc_places.specs.Failures.{CountsFailure};
+ghost use Rattle.std.specs.Prelude.{◌≡◌, ℕ, ◌<◌, length, take, List, IfOk, OnOk, OnErr, IfErr, Option};
+ghost use Rattle.gabc_places.specs.Calls.{Calls, FailsOnce, GoesOn, IsWrite, no_calls};
 ghost use Rattle.std.specs.Io.KnownBytes.{Appends, WriteAppends};
 ghost use Rattle.std.specs.Io.{WritesAtMost};
 
-use crate::GhostCount;
+use crate::GhostCalls;
 use std::io::Write;
 use std::marker::Model;
 use thiserror::Error;
@@ -20,17 +20,15 @@ pub trait Sink {
     // the bytes taken, where they are known
     ghost written: { Self → Option (List ℕ) };
 
-    // how many writes failed
-    ghost failures: { Self → ℕ };
+    // how its writes went
+    ghost calls: { Self → Calls };
 
     /// Takes a prefix of `bytes`, and returns how many bytes it has: at least 1, if there is one. Where it fails, it took none.
     fn write(&mut self, bytes: &[u8]) -> Result<usize, SinkFault>
         ensures bound { WritesAtMost result bytes.now }
         ensures bytes { WriteAppends (written self.old) (written self.new) result bytes.now }
         ensures takes { IfOk result (λ n. 0 < length bytes.now → 0 < n) }
-        ensures fails { OnErr result (failures self.old < failures self.new) }
-        ensures steady { OnOk result (failures self.new ≡ failures self.old) }
-        ensures counts { failures self.old ≤ failures self.new };
+        ensures calls { IsWrite result (calls self.old) (calls self.new) };
 }
 
 /// A sending that failed before its last byte.
@@ -47,9 +45,8 @@ pub fn send_all<S: Sink>(sink: &mut S, bytes: &[u8]) -> Result<(), Unsent>
     ensures prefix { IfErr result (λ u. Appends (S.written sink.old) (S.written sink.new)
         (take u.sent bytes.now)) }
     ensures less { IfErr result (λ u. u.sent < length bytes.now) }
-    ensures fails { OnErr result (S.failures sink.old < S.failures sink.new) }
-    ensures steady { OnOk result (S.failures sink.new ≡ S.failures sink.old) }
-    ensures counts { S.failures sink.old ≤ S.failures sink.new }
+    ensures goes_on { OnOk result (GoesOn (S.calls sink.old) (S.calls sink.new)) }
+    ensures fails { OnErr result (FailsOnce (S.calls sink.old) (S.calls sink.new)) }
 {
     let mut sent = 0;
     while sent < bytes.len() {
@@ -65,25 +62,25 @@ pub fn send_all<S: Sink>(sink: &mut S, bytes: &[u8]) -> Result<(), Unsent>
 #[derive(Drop)]
 pub struct ToWriter<W: Write + Drop> {
     inner: W,
-    failures: GhostCount,
+    calls: GhostCalls,
 }
 
 impl<W: Write + Drop> Model for ToWriter<W> {
-    ghost use Rattle.gabc_places.specs.Failures.{WithFailures};
+    ghost use Rattle.gabc_places.specs.Calls.{WithCalls};
 
-    ghost Value = { WithFailures W };
+    ghost Value = { WithCalls W };
 
-    ghost view = { λ s. record { inner = s.inner; failures = s.failures } };
+    ghost view = { λ s. record { inner = s.inner; calls = s.calls } };
 }
 
 impl<W: Write + Drop> ToWriter<W> {
     /// Returns a sink that passes on to `inner`.
     pub fn new(inner: W) -> ToWriter<W>
-        ensures { result ≡ record { inner = inner; failures = 0 } }
+        ensures { result ≡ record { inner = inner; calls = no_calls } }
     {
         ToWriter {
             inner,
-            failures: GhostCount::zero(),
+            calls: GhostCalls::none(),
         }
     }
 
@@ -98,19 +95,22 @@ impl<W: Write + Drop> ToWriter<W> {
 impl<W: Write + Drop> Sink for ToWriter<W> {
     ghost written = { λ s. W.contents s.inner };
 
-    ghost failures = { λ s. s.failures };
+    ghost calls = { λ s. s.calls };
 
     fn write(&mut self, bytes: &[u8]) -> Result<usize, SinkFault>
         ensures bound { WritesAtMost result bytes.now }
         ensures bytes { WriteAppends (W.contents self.old.inner)
             (W.contents self.new.inner) result bytes.now }
         ensures takes { IfOk result (λ n. 0 < length bytes.now → 0 < n) }
-        ensures counted { CountsFailure result self.old.failures self.new.failures }
+        ensures calls { IsWrite result self.old.calls self.new.calls }
     {
         match self.inner.write(bytes) {
-            Ok(n) if n > 0 || bytes.is_empty() => Ok(n),
+            Ok(n) if n > 0 || bytes.is_empty() => {
+                self.calls.add_answer(false);
+                Ok(n)
+            }
             _ => {
-                self.failures.add_one();
+                self.calls.add_failure();
                 Err(SinkFault)
             }
         }

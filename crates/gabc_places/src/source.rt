@@ -1,11 +1,11 @@
 //! Where bytes come from.
 
-ghost use Rattle.std.specs.Prelude.{◌≡◌, ℕ, ◌<◌, ◌≤◌, List, OnErr, OnOk, Option};
-ghost use Rattle.gabc_places.specs.Failures.{CountsFailure};
+ghost use Rattle.std.specs.Prelude.{◌≡◌, ℕ, List, Option, length};
+ghost use Rattle.gabc_places.specs.Calls.{Calls, IsRead, no_calls};
 ghost use Rattle.std.specs.Io.KnownBytes.{ReadConsumes};
 ghost use Rattle.std.specs.Io.{ReadsAtMost};
 
-use crate::GhostCount;
+use crate::GhostCalls;
 use std::io::Read;
 use std::marker::Model;
 use thiserror::Error;
@@ -20,42 +20,40 @@ pub trait Source {
     // the bytes still to come, where they are known
     ghost remaining: { Self → Option (List ℕ) };
 
-    // how many reads failed
-    ghost failures: { Self → ℕ };
+    // how its reads went
+    ghost calls: { Self → Calls };
 
     /// Reads at most as many bytes as `buf` has, into its start, and returns how many. A read of 0 bytes into a `buf` that has some
     /// is the end.
     fn read(&mut self, buf: &mut [u8]) -> Result<usize, SourceFault>
         ensures bound { ReadsAtMost result buf.new }
         ensures bytes { ReadConsumes (remaining self.old) (remaining self.new) result buf.new }
-        ensures fails { OnErr result (failures self.old < failures self.new) }
-        ensures steady { OnOk result (failures self.new ≡ failures self.old) }
-        ensures counts { failures self.old ≤ failures self.new };
+        ensures calls { IsRead result (length buf.old) (calls self.old) (calls self.new) };
 }
 
 /// A reader as a source. Each of the reader's errors is a failure.
 #[derive(Drop)]
 pub struct FromReader<R: Read + Drop> {
     inner: R,
-    failures: GhostCount,
+    calls: GhostCalls,
 }
 
 impl<R: Read + Drop> Model for FromReader<R> {
-    ghost use Rattle.gabc_places.specs.Failures.{WithFailures};
+    ghost use Rattle.gabc_places.specs.Calls.{WithCalls};
 
-    ghost Value = { WithFailures R };
+    ghost Value = { WithCalls R };
 
-    ghost view = { λ s. record { inner = s.inner; failures = s.failures } };
+    ghost view = { λ s. record { inner = s.inner; calls = s.calls } };
 }
 
 impl<R: Read + Drop> FromReader<R> {
     /// Returns a source that gives what `inner` gives.
     pub fn new(inner: R) -> FromReader<R>
-        ensures { result ≡ record { inner = inner; failures = 0 } }
+        ensures { result ≡ record { inner = inner; calls = no_calls } }
     {
         FromReader {
             inner,
-            failures: GhostCount::zero(),
+            calls: GhostCalls::none(),
         }
     }
 
@@ -70,18 +68,21 @@ impl<R: Read + Drop> FromReader<R> {
 impl<R: Read + Drop> Source for FromReader<R> {
     ghost remaining = { λ s. R.remaining s.inner };
 
-    ghost failures = { λ s. s.failures };
+    ghost calls = { λ s. s.calls };
 
     fn read(&mut self, buf: &mut [u8]) -> Result<usize, SourceFault>
         ensures bound { ReadsAtMost result buf.new }
         ensures bytes { ReadConsumes (R.remaining self.old.inner)
             (R.remaining self.new.inner) result buf.new }
-        ensures counted { CountsFailure result self.old.failures self.new.failures }
+        ensures calls { IsRead result (length buf.old) self.old.calls self.new.calls }
     {
         match self.inner.read(buf) {
-            Ok(n) => Ok(n),
+            Ok(n) => {
+                self.calls.add_answer(n == 0 && !buf.is_empty());
+                Ok(n)
+            }
             Err(_) => {
-                self.failures.add_one();
+                self.calls.add_failure();
                 Err(SourceFault)
             }
         }

@@ -1,14 +1,14 @@
 //! A source and a sink for trials: they give and take as much as they are told, and fail where they are told.
 
-ghost use Rattle.std.specs.Prelude.{◌≡◌, ◌<◌, ◌≤◌, ◌↔◌, [], ◌++◌, length, IfOk, IsErr, OnErr, OnOk, None, Some};
+ghost use Rattle.std.specs.Prelude.{◌≡◌, ◌<◌, ◌↔◌, [], length, IfOk, IsErr, OnErr, Some};
 ghost use Rattle.std.specs.Io.{ReadsAtMost, WritesAtMost};
 ghost use Rattle.std.specs.Io.KnownBytes.{ReadConsumes, WriteAppends};
-ghost use Rattle.gabc_places.specs.Failures.{CountsFailure};
+ghost use Rattle.gabc_places.specs.Calls.{IsRead, IsWrite, no_calls};
 ghost use Rattle.gabc_places.specs.Trial.{read_count, write_count};
 ghost use Rattle.std.specs.Prelude.{◌-◌};
 ghost use Rattle.std.specs.Option.{option_map};
 
-use crate::ghost_count::GhostCount;
+use crate::ghost_calls::GhostCalls;
 use crate::room::Room;
 use crate::sink::{Sink, SinkFault};
 use crate::source::{Source, SourceFault};
@@ -21,7 +21,7 @@ pub struct TrialSource<'a> {
     rest: &'a [u8],
     most: usize,
     fails_after: Option<usize>,
-    failures: GhostCount,
+    calls: GhostCalls,
 }
 
 impl<'a> Model for TrialSource<'a> {
@@ -34,7 +34,7 @@ impl<'a> Model for TrialSource<'a> {
       rest = s.rest.now;
       most = s.most;
       fails_after = s.fails_after;
-      failures = s.failures;
+      calls = s.calls;
     } };
 
     ghost invariant = { λ s. 0 < s.most };
@@ -49,14 +49,14 @@ impl<'a> TrialSource<'a> {
           rest = bytes.now;
           most = most;
           fails_after = fails_after;
-          failures = 0;
+          calls = no_calls;
         } }
     {
         TrialSource {
             rest: bytes,
             most,
             fails_after,
-            failures: GhostCount::zero(),
+            calls: GhostCalls::none(),
         }
     }
 }
@@ -64,15 +64,12 @@ impl<'a> TrialSource<'a> {
 impl Source for TrialSource<'_> {
     ghost remaining = { λ s. Some s.rest };
 
-    ghost failures = { λ s. s.failures };
+    ghost calls = { λ s. s.calls };
 
     fn read(&mut self, buf: &mut [u8]) -> Result<usize, SourceFault>
         ensures bound { ReadsAtMost result buf.new }
         ensures bytes { ReadConsumes (Some self.old.rest) (Some self.new.rest) result buf.new }
-        ensures faults { OnErr result (self.old.failures < self.new.failures) }
-        ensures counts { self.old.failures ≤ self.new.failures }
-        ensures counted { CountsFailure result self.old.failures self.new.failures }
-        ensures steady { OnOk result (self.new.failures ≡ self.old.failures) }
+        ensures calls { IsRead result (length buf.old) self.old.calls self.new.calls }
         ensures fails { IsErr result ↔ (self.old.fails_after ≡ Some 0) }
         ensures count { IfOk result (λ n. n ≡ read_count self.old (length buf.old)) }
         ensures most { self.new.most ≡ self.old.most }
@@ -81,7 +78,7 @@ impl Source for TrialSource<'_> {
         ensures stays { OnErr result (self.new.fails_after ≡ self.old.fails_after) }
     {
         if self.fails_after == Some(0) {
-            self.failures.add_one();
+            self.calls.add_failure();
             return Err(SourceFault);
         }
         let mut count = self.rest.len().min(buf.len()).min(self.most);
@@ -92,6 +89,7 @@ impl Source for TrialSource<'_> {
         let (now, later) = self.rest.split_at(count);
         buf[..count].copy_from_slice(now);
         self.rest = later;
+        self.calls.add_answer(count == 0 && !buf.is_empty());
         Ok(count)
     }
 }
@@ -101,7 +99,7 @@ impl Source for TrialSource<'_> {
 pub struct TrialSink {
     taken: Room<u8>,
     most: usize,
-    failures: GhostCount,
+    calls: GhostCalls,
 }
 
 impl Model for TrialSink {
@@ -114,7 +112,7 @@ impl Model for TrialSink {
       held = s.taken.items;
       most = s.most;
       fails_at = s.taken.limit;
-      failures = s.failures;
+      calls = s.calls;
     } };
 
     ghost invariant = { λ s. 0 < s.most };
@@ -128,13 +126,13 @@ impl TrialSink {
           held = [];
           most = most;
           fails_at = fails_at;
-          failures = 0;
+          calls = no_calls;
         }) }
     {
         Ok(TrialSink {
             taken: Room::with_limit(alloc, fails_at)?,
             most,
-            failures: GhostCount::zero(),
+            calls: GhostCalls::none(),
         })
     }
 
@@ -149,16 +147,13 @@ impl TrialSink {
 impl Sink for TrialSink {
     ghost written = { λ s. Some s.held };
 
-    ghost failures = { λ s. s.failures };
+    ghost calls = { λ s. s.calls };
 
     fn write(&mut self, bytes: &[u8]) -> Result<usize, SinkFault>
         ensures bound { WritesAtMost result bytes.now }
         ensures bytes { WriteAppends (Some self.old.held) (Some self.new.held) result bytes.now }
         ensures takes { IfOk result (λ n. 0 < length bytes.now → 0 < n) }
-        ensures faults { OnErr result (self.old.failures < self.new.failures) }
-        ensures counts { self.old.failures ≤ self.new.failures }
-        ensures counted { CountsFailure result self.old.failures self.new.failures }
-        ensures steady { OnOk result (self.new.failures ≡ self.old.failures) }
+        ensures calls { IsWrite result self.old.calls self.new.calls }
         ensures fails { IsErr result ↔ ((length self.old.held ≡ self.old.fails_at) ×
             (0 < length bytes.now)) }
         ensures count { IfOk result (λ n. n ≡ write_count self.old (length bytes.now)) }
@@ -166,11 +161,12 @@ impl Sink for TrialSink {
         ensures fails_at { self.new.fails_at ≡ self.old.fails_at }
     {
         if self.taken.is_full() && !bytes.is_empty() {
-            self.failures.add_one();
+            self.calls.add_failure();
             return Err(SinkFault);
         }
         let count = bytes.len().min(self.taken.left()).min(self.most);
         self.taken.append(&bytes[..count]);
+        self.calls.add_answer(false);
         Ok(count)
     }
 }

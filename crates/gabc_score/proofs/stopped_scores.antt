@@ -5,3 +5,4 @@ pub mod ScoreOfThePrefix
 pub mod StoppedScoreIsThatOfItsPrefix
 pub mod StoppedScores
 pub mod WholeScores
+pub mod WholePrefixesAreFronts

@@ -1,6 +1,6 @@
 pub mod machine
+pub mod witness
 pub mod Body
-pub mod BodyStage
 pub mod Canonical
 pub mod Events
 pub mod FoundInParts

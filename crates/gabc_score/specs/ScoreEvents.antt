@@ -147,6 +147,12 @@ head_events limits ending t = head_events_by ending t (heads_of limits t)
 abbrev pub outputs_of_text : Limits → InputEnding → List ℕ → List ScoreOutput
 outputs_of_text limits ending t = concat_of (score_outputs texts_by_definition limits (head_events limits ending t))
 
+-- the end of the inputs is not among these
+abbrev pub HasNoEnd : List HeadEvent → Type 0
+HasNoEnd [] = Unit {0}
+HasNoEnd (head_event.End ∷ xs) = ⊥
+HasNoEnd (x ∷ xs) = HasNoEnd xs
+
 -- ---- what outputs say
 
 abbrev pub findings_in : List ScoreOutput → List Finding

@@ -11,27 +11,11 @@ use Rattle.gabc_score.specs.declared.score_event.LentSyllable.{LentSyllable}
 use Rattle.gabc_score.specs.declared.score_event.LentSyllable.TheVariants.{First, Second}
 use Rattle.gabc_score.specs.declared.score_event.ScoreEvent.{ScoreEvent}
 use Rattle.gabc_score.specs.declared.score_event.ScoreEvent.TheVariants as event
-use Rattle.gabc_score.specs.declared.score_machine.ScorePart.{ScorePart}
-use Rattle.gabc_score.specs.BodyStage.{BodyStageState}
-use Rattle.gabc_score.specs.machine.ScoreStage.{HeldScore, outputs_left}
 use Rattle.gabc_score.specs.ScoreEvents.{ScoreOutput, Found, Stop, Syllable, End, syllables_in}
 use Rattle.gabc_score.specs.Canonical.{canonical_in_place}
 use Rattle.gabc_score.specs.Syllable.{PlacedSyllable}
 use Rattle.std.specs.List.{All}
-
--- What a stage shows: its limits, the part of the score in which it stands, what it holds of the body and its machine, and the two
--- syllables that it may lend.
-pub record ScoreStageState : Type 0 where
-  pub limits : Limits
-  pub part : ScorePart
-  pub held : HeldScore
-  pub body : BodyStageState
-  pub first : PlacedSyllable
-  pub second : PlacedSyllable
-
--- What it will still emit for these inputs and their end. It is no promise but by the clause of the stage's maker.
-abbrev pub left_of : ScoreStageState → List HeadEvent → List (List ScoreOutput)
-left_of s xs = outputs_left s.limits s.part s.held s.body xs
+use Rattle.gabc_score.specs.witness.ScoreStage.{ScoreStageState, left_of}
 
 -- outputs as events: the first syllable of a call is lent as this one
 abbrev pub events_lent : LentSyllable → List ScoreOutput → List ScoreEvent

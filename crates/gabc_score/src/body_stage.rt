@@ -16,7 +16,7 @@ ghost use Rattle.gabc_score.specs.machine.SyllableBuilder.{OpenSyllable, nothing
 ghost use Rattle.gabc_score.specs.machine.Slot.{FitEach};
 ghost use Rattle.gabc_score.specs.machine.BodyBuilder.{with_all, with_found};
 ghost use Rattle.gabc_places.specs.Place.{placed_characters_from};
-ghost use Rattle.gabc_score.specs.BodyStage.{part_with, events_left, running_events_left, texts_by_stage};
+ghost use Rattle.gabc_score.specs.witness.BodyStage.{part_with, events_left, running_events_left, texts_by_stage};
 
 use crate::BodyEvent;
 use crate::part_ends::{ends_at_close, ends_at_next, ends_text};
@@ -73,7 +73,7 @@ pub struct BodyStage {
 
 impl Model for BodyStage {
     ghost use Rattle.std.specs.Prelude.{◌≤◌};
-    ghost use Rattle.gabc_score.specs.BodyStage.{BodyStageState, events_in_rooms};
+    ghost use Rattle.gabc_score.specs.witness.BodyStage.{BodyStageState, events_in_rooms};
 
     ghost Value = { BodyStageState };
 

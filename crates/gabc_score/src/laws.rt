@@ -1,7 +1,7 @@
 //! Laws of the definitions that contracts speak of. The functions do nothing, or call the laws below that they stand on: each is
 //! there for its clauses.
 
-ghost use Rattle.std.specs.Prelude.{◌≡◌, ◌≢◌, ◌+◌, ◌-◌, ◌*◌, ◌<◌, ◌≤◌, ◌^◌, ℕ, List, [], ◌∷◌, ◌++◌, length, ◌⊎◌, encode_utf8_all, Some, None, Err, Bool, true, false};
+ghost use Rattle.std.specs.Prelude.{◌≡◌, ◌≢◌, ◌+◌, ◌-◌, ◌*◌, ◌<◌, ◌≤◌, ◌^◌, ℕ, List, [], ◌∷◌, ◌++◌, length, take, ◌⊎◌, encode_utf8_all, Some, None, Err, Bool, true, false};
 ghost use Rattle.std.specs.Char.{IsScalar};
 ghost use Rattle.std.specs.List.{All};
 ghost use Rattle.gabc_places.specs.Findings.{AreInOrder};
@@ -35,7 +35,8 @@ ghost use Rattle.gabc_score.specs.Units.{BodyUnit, JustText, BodyCutting, IsCut,
 ghost use Rattle.gabc_score.specs.WithinLimits.{CanonicalWithin, AreWithin, KeepsWithin};
 ghost use Rattle.gabc_score.specs.ScoreEvents.{ScoreOutput, score_outputs, head_events, outputs_of_text, findings_in, syllables_in, fault_in, has_end, is_whole, is_last};
 ghost use Rattle.gabc_headers.specs.declared.head_event.HeadEvent.{HeadEvent};
-ghost use Rattle.gabc_headers.specs.HeadEvents.{emitted_by, events_left, inputs_behind, reading};
+ghost use Rattle.gabc_headers.specs.HeadEvents.{emitted_by, inputs_behind};
+ghost use Rattle.gabc_headers.specs.witness.HeadEvents.{events_left, reading};
 ghost use Rattle.gabc_places.specs.StageLaw.{concat_of};
 
 /// Each body has one cutting into a comment, units and what stands behind the last `)`, however its texts are read.
@@ -191,6 +192,14 @@ pub fn the_syllables_are_those_of_the_units()
     gabc_text::laws::events_build_the_text();
     gabc_text::laws::events_by_point_are_the_events();
     gabc_text::laws::spans_stand_for_the_view();
+}
+
+/// The prefix of a text through a unit of its body that ends at its `)`, or through the `%%`, is so many of its first characters.
+pub fn whole_prefixes_are_first_characters()
+    ensures { (book : List (List ℕ × List ℕ)) (t : List ℕ) (cut : BodyCutting) (n : ℕ)
+        → IsBodyCut book t cut → (m : ℕ) × (whole_prefix t cut n ≡ take m t) }
+{
+    the_syllables_are_those_of_the_units();
 }
 
 /// A score that is stopped behind the headers, by a fault or by a source that failed, has the book and the syllables of its

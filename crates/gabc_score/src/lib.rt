@@ -50,4 +50,4 @@ pub use score_stage::ScoreStage;
 pub use snippets::{Snippet, Snippets};
 pub use syllable::{Position, Syllable};
 pub use syllables::Syllables;
-pub use whole::score_whole;
+pub use whole::{score_whole, score_whole_with_hasher};

@@ -2,7 +2,7 @@
 
 ghost use Rattle.std.specs.Prelude.{◌≡◌, ◌≤◌, true};
 ghost use Rattle.gabc_text.specs.Events.{codes_of};
-ghost use Rattle.gabc_text.specs.EventsLeft.{events_left as text_rest};
+ghost use Rattle.gabc_text.specs.witness.EventsLeft.{events_left as text_rest};
 ghost use Rattle.gabc_text.specs.PiecesOwed.{PiecesArePaid};
 ghost use Rattle.gabc_notes.specs.declared.stage.NoteEvent.{NoteEvent};
 ghost use Rattle.gabc_score.specs.Events.{is_text_end as text_end, is_next as note_next, is_close as note_close};

@@ -5,10 +5,12 @@ ghost use Rattle.std.specs.List.{All};
 ghost use Rattle.gabc_places.specs.Skip.{IsPrintable};
 ghost use Rattle.gabc_headers.specs.declared.head_event.HeadEvent.{HeadEvent as HeadItem};
 ghost use Rattle.gabc_score.specs.declared.body_stage.BodyPart.{BodyPart};
-ghost use Rattle.gabc_score.specs.BodyStage.{running_events_left};
+ghost use Rattle.gabc_score.specs.witness.BodyStage.{running_events_left};
 ghost use Rattle.gabc_places.specs.BoundedList.{Fits};
-ghost use Rattle.gabc_score.specs.ScoreEvents.{outputs_of, Stop, characters_in};
-ghost use Rattle.gabc_score.specs.ScoreStage.{GivesOutputs, GivesAt, GivesLast, GivesNothing, left_of};
+ghost use Rattle.gabc_places.specs.StageLaw.{concat_of};
+ghost use Rattle.gabc_score.specs.ScoreEvents.{outputs_of, Stop, characters_in, syllables_in};
+ghost use Rattle.gabc_score.specs.ScoreStage.{GivesOutputs, GivesAt, GivesLast, GivesNothing};
+ghost use Rattle.gabc_score.specs.witness.ScoreStage.{left_of};
 ghost use Rattle.gabc_score.specs.machine.ScoreStage.{placed_behind, begun_score, body_left};
 ghost use Rattle.gabc_score.specs.machine.ScoreMachine.{shown, IsInBody, IsBeforeBody, IsScore, IsFreed, PassesQuietly};
 ghost use Rattle.gabc_score.specs.machine.SlotPair.{is_made};
@@ -281,6 +283,18 @@ impl ScoreMachine {
         match self.pair.code(self.limits) {
             Some(_) => 0,
             None => self.take_printable(at, bytes),
+        }
+    }
+
+    /// Does nothing. Its contract is a law: where the inputs cease, at most one syllable is given.
+    #[inline(always)]
+    pub(crate) fn at_most_one_is_held(&self)
+        requires rests { IsScore self.now }
+        ensures { length (syllables_in (concat_of (left_of (shown self.now) []))) ≤ 1 }
+    {
+        match self.part {
+            ScorePart::Body => self.pair.at_most_one_is_held(),
+            ScorePart::Heads | ScorePart::Over => {}
         }
     }
 

@@ -1,12 +1,14 @@
 //! A stage from what a stage of headers emits to the score.
 
-ghost use Rattle.std.specs.Prelude.{◌≡◌, ◌≤◌, List, length, take, IfOk};
+ghost use Rattle.std.specs.Prelude.{◌≡◌, ◌≤◌, List, [], length, take, IfOk};
 ghost use Rattle.gabc_headers.specs.declared.head_event.HeadEvent.{HeadEvent};
-ghost use Rattle.gabc_score.specs.BodyStage.{texts_by_stage};
-ghost use Rattle.gabc_score.specs.ScoreEvents.{score_outputs};
+ghost use Rattle.gabc_score.specs.witness.BodyStage.{texts_by_stage};
+ghost use Rattle.gabc_places.specs.StageLaw.{concat_of};
+ghost use Rattle.gabc_score.specs.ScoreEvents.{score_outputs, syllables_in};
 ghost use Rattle.std.specs.List.{All};
 ghost use Rattle.gabc_places.specs.Skip.{IsPrintable};
-ghost use Rattle.gabc_score.specs.ScoreStage.{AreCountsBelow, GivesNothing, left_of, lent_in};
+ghost use Rattle.gabc_score.specs.ScoreStage.{AreCountsBelow, GivesNothing, lent_in};
+ghost use Rattle.gabc_score.specs.witness.ScoreStage.{left_of};
 ghost use Rattle.gabc_score.specs.Syllable.{placed_of};
 
 use crate::body_stage::BodyStage;
@@ -27,7 +29,7 @@ pub struct ScoreStage {
 }
 
 impl Model for ScoreStage {
-    ghost use Rattle.gabc_score.specs.ScoreStage.{ScoreStageState};
+    ghost use Rattle.gabc_score.specs.witness.ScoreStage.{ScoreStageState};
     ghost use Rattle.gabc_score.specs.machine.ScoreMachine.{shown, IsScore};
 
     ghost Value = { ScoreStageState };
@@ -71,6 +73,14 @@ impl ScoreStage {
         ensures step { GivesNothing self.old at (take result bytes.now) self.new }
     {
         self.machine.take_front(at, bytes)
+    }
+
+    /// Does nothing. Its contract is a law: where the inputs cease, at most one syllable is given.
+    #[inline(always)]
+    pub(crate) fn at_most_one_is_held(&self)
+        ensures { length (syllables_in (concat_of (left_of self.now []))) ≤ 1 }
+    {
+        self.machine.at_most_one_is_held();
     }
 
     /// Returns the syllable that the last call gave as `lent`. What it returns where none was given is not said.

@@ -1,5 +1,9 @@
 //! Two slots: one for the syllable that is read, and one for the last whole one.
 
+ghost use Rattle.std.specs.Prelude.{◌<◌, ◌^◌};
+ghost use Rattle.std.specs.Prelude.{IfOk};
+ghost use Rattle.gabc_score.specs.machine.SyllableBuilder.{nothing_open};
+
 use crate::canonical::canonical_len;
 use crate::slot::Slot;
 use crate::syllable::Syllable;
@@ -27,10 +31,10 @@ pub(crate) enum SlotUse {
 pub(crate) struct SlotPair {
     /// The most bytes that a syllable may have.
     limit: usize,
-    reader: Slot,
+    reader: Box<Slot>,
     used: SlotUse,
     /// The last whole syllable, if it is held.
-    holder: Slot,
+    holder: Box<Slot>,
     held: bool,
     /// Whether the span of `<eu>` is open, and that of `<nlba>`.
     eu: bool,
@@ -43,6 +47,18 @@ pub(crate) struct SlotPair {
     cut: Option<Place>,
 }
 
+/// Returns a slot with room for a syllable of `limit` bytes, in memory of its own.
+fn boxed(alloc: Global, limit: usize) -> Result<Box<Slot>, AllocError>
+    requires { limit < 2 ^ 32 }
+    ensures reading { IfOk result (λ slot. slot.value.reading ≡ nothing_open) }
+    ensures limit { IfOk result (λ slot. slot.value.limit ≡ limit) }
+{
+    match Box::new(alloc, Slot::with_limit(alloc, limit)?) {
+        Ok(slot) => Ok(slot),
+        Err(_) => Err(AllocError),
+    }
+}
+
 impl Model for SlotPair {
     ghost use Rattle.std.specs.Prelude.{◌≡◌, ◌++◌};
     ghost use Rattle.gabc_score.specs.machine.Slot.{placed_in};
@@ -53,21 +69,21 @@ impl Model for SlotPair {
     ghost view = { λ s. record {
       gathered = record {
         limit = s.limit;
-        builder = reading_in s.used s.reader;
+        builder = reading_in s.used s.reader.value;
         eu = s.eu;
         nlba = s.nlba;
-        made = held_in s.held s.holder ++ made_last s.used s.reader;
+        made = held_in s.held s.holder.value ++ made_last s.used s.reader.value;
         total = s.total;
         over = s.over;
         cut = s.cut;
       };
-      held = held_in s.held s.holder;
+      held = held_in s.held s.holder.value;
       used = s.used;
-      first = first_in s.used s.reader s.holder;
-      second = placed_in s.reader;
+      first = first_in s.used s.reader.value s.holder.value;
+      second = placed_in s.reader.value;
     } };
 
-    ghost invariant = { λ s. (s.reader.limit ≡ s.limit) × (s.holder.limit ≡ s.limit) };
+    ghost invariant = { λ s. (s.reader.value.limit ≡ s.limit) × (s.holder.value.limit ≡ s.limit) };
 }
 
 impl SlotPair {
@@ -88,9 +104,9 @@ impl SlotPair {
     {
         Ok(SlotPair {
             limit,
-            reader: Slot::with_limit(alloc, limit)?,
+            reader: boxed(alloc, limit)?,
             used: SlotUse::Filling,
-            holder: Slot::with_limit(alloc, limit)?,
+            holder: boxed(alloc, limit)?,
             held: false,
             eu: false,
             nlba: false,
@@ -122,6 +138,15 @@ impl SlotPair {
             _ => {}
         }
         self.used = SlotUse::Filling;
+    }
+
+    /// Does nothing. Its contract is a law: where no slot holds a syllable beside the one held, at most one was gathered.
+    #[inline(always)]
+    pub(crate) fn at_most_one_is_held(&self)
+        requires { is_made self.now.used ≡ false }
+        ensures { length self.now.gathered.made ≤ 1 }
+    {
+        let _ = &self.held;
     }
 
     /// Adds what a text emits next.

@@ -1,6 +1,7 @@
 //! The snippets of a syllable.
 
-use gabc_places::{Growing, Span};
+use gabc_places::Span;
+use smallvec::SmallVec;
 
 /// A snippet of the notes: line 0 is GABC, and line 1 the NABC of the GABC snippet before it (GregorioRef, "Headers":
 /// `nabc-lines`). The span counts bytes of the kept text.
@@ -12,5 +13,19 @@ pub struct Snippet {
     pub span: Span,
 }
 
-/// The snippets of a syllable, in order.
-pub type Snippets = Growing<Snippet>;
+/// A snippet of GABC without bytes.
+impl Default for Snippet {
+    ghost use Rattle.std.specs.Prelude.{◌≡◌};
+
+    ghost is_default = { λ s. (s.line ≡ 0) × ((s.span.from ≡ 0) × (s.span.to ≡ 0)) };
+
+    fn default() -> Snippet {
+        Snippet {
+            line: 0,
+            span: Span { from: 0, to: 0 },
+        }
+    }
+}
+
+/// The snippets of a syllable, in order. One needs no memory of their own.
+pub type Snippets = SmallVec<Snippet, 1>;

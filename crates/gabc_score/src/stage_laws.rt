@@ -7,11 +7,12 @@ ghost use Rattle.gabc_places.specs.declared.code.Fault.{Fault};
 ghost use Rattle.gabc_places.specs.declared.limits.Limits.{Limits};
 ghost use Rattle.gabc_places.specs.BoundedList.{Fits, extended_by};
 ghost use Rattle.gabc_places.specs.StageLaw.{concat_of};
-ghost use Rattle.gabc_score.specs.BodyStage.{texts_by_stage};
+ghost use Rattle.gabc_score.specs.witness.BodyStage.{texts_by_stage};
 ghost use Rattle.gabc_score.specs.declared.ending.InputEnding.{InputEnding};
 ghost use Rattle.gabc_score.specs.Events.{texts_by_definition};
-ghost use Rattle.gabc_score.specs.ScoreEvents.{ScoreOutput, fault_in, has_end, head_events, outputs_of_text, score_outputs};
-ghost use Rattle.gabc_score.specs.ScoreStage.{AreCountsBelow, GivesAt, ScoreStageState, events_of, left_of};
+ghost use Rattle.gabc_score.specs.ScoreEvents.{HasNoEnd, ScoreOutput, fault_in, findings_in, has_end, head_events, outputs_of_text, score_outputs, syllables_in};
+ghost use Rattle.gabc_score.specs.ScoreStage.{AreCountsBelow, GivesAt, events_of};
+ghost use Rattle.gabc_score.specs.witness.ScoreStage.{ScoreStageState, left_of};
 
 use crate::score_event::ScoreEvent;
 use crate::score_stage::ScoreStage;
@@ -46,10 +47,24 @@ pub fn an_input_is_taken(stage: &mut ScoreStage, input: HeadEvent, out: &mut Roo
     stage.push(input, out);
 }
 
-/// Where the inputs of a stage just cease, it gives neither a stop nor the end then, whatever it has read.
+/// Where the inputs of a stage just cease, it gives no finding, no stop and no end then, whatever it has read.
 pub fn inputs_that_cease_give_no_stop()
+    ensures findings { (s : ScoreStageState) → findings_in (concat_of (left_of s [])) ≡ [] }
     ensures stop { (s : ScoreStageState) → fault_in (concat_of (left_of s [])) ≡ None }
     ensures end { (s : ScoreStageState) → has_end (concat_of (left_of s [])) ≡ false }
+{}
+
+/// Where the inputs of a stage just cease, it gives at most one syllable then, the one that it holds.
+pub fn at_most_one_syllable_is_held(stage: &ScoreStage)
+    ensures { length (syllables_in (concat_of (left_of stage.now []))) ≤ 1 }
+{
+    stage.at_most_one_is_held();
+}
+
+/// A stage gives the end only where the end is among its inputs, whatever it has read.
+pub fn the_end_comes_with_the_end()
+    ensures { (s : ScoreStageState) (xs : List HeadEvent) → HasNoEnd xs →
+        has_end (concat_of (left_of s xs)) ≡ false }
 {}
 
 /// Behind a stop a stage gives nothing, whatever it has read and whatever follows.

@@ -86,7 +86,7 @@ impl Syllable {
         Ok(Syllable {
             text: self.text.copy(alloc)?,
             kept: String::from_str(alloc, self.kept.as_str())?,
-            snippets: self.snippets.copy(alloc)?,
+            snippets: Snippets::from_slice(alloc, self.snippets.as_slice())?,
             position: self.position,
             eu: self.eu,
             nlba: self.nlba,

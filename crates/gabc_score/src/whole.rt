@@ -13,13 +13,15 @@ use crate::context::BodyContext;
 use crate::ending::InputEnding;
 use crate::score::Score;
 use crate::syllables::Syllables;
-use gabc_headers::{HeadFault, Heads, headers_whole};
+use gabc_headers::{HeadFault, Heads, headers_whole_with_hasher};
 use gabc_places::{Fault, Limits, Place, Text};
 use std::alloc::{AllocError, Global};
+use std::hash::DefaultHasher;
 
 /// Reads the score of `text`, whose input ended as `ending` tells, under `limits`: its headers, its syllables and what was found, up to the first fault (GregorioRef,
 /// "Headers" and "Syllable Text Syntax"). `gabc_places::text_of` gives the text, and the fault of an `InputEnding::At`. It fails only
-/// for want of memory.
+/// for want of memory. The names of headers are hashed with a fixed key: where strangers write the text and `limits.header` is large, take
+/// `score_whole_with_hasher`.
 pub fn score_whole(
     alloc: Global,
     text: &Text,
@@ -28,7 +30,21 @@ pub fn score_whole(
 ) -> Result<Score, AllocError>
     ensures { IfOk result (λ score. score ≡ score_of limits ending text.now) }
 {
-    match headers_whole(alloc, text, limits)? {
+    score_whole_with_hasher(alloc, text, ending, limits, DefaultHasher::new())
+}
+
+/// Reads the score of `text` as `score_whole` does, and hashes the names of its headers from `hasher` on. What it returns does not depend on
+/// `hasher`.
+pub fn score_whole_with_hasher(
+    alloc: Global,
+    text: &Text,
+    ending: InputEnding,
+    limits: Limits,
+    hasher: DefaultHasher,
+) -> Result<Score, AllocError>
+    ensures { IfOk result (λ score. score ≡ score_of limits ending text.now) }
+{
+    match headers_whole_with_hasher(alloc, text, limits, hasher)? {
         Ok(heads) => score_behind(alloc, text, ending, limits, heads),
         Err(stop) => Ok(stopped_in_heads(alloc, ending, stop)),
     }

@@ -9,7 +9,7 @@ use Rattle.gabc_text.specs.declared.text_event.TextEvent.{TextEvent}
 use Rattle.gabc_text.specs.declared.text_event.TextEvent.TheVariants as out
 use Rattle.gabc_text.specs.declared.stage.TextStage.{TextStage}
 use Rattle.gabc_text.specs.Events.{CountsFit, codes_of, events_by_point}
-use Rattle.gabc_text.specs.EventsLeft.{events_left}
+use Rattle.gabc_text.specs.witness.EventsLeft.{events_left}
 use Rattle.gabc_text.specs.BuiltText.{kept_chars_in, kept_in}
 use Rattle.gabc_text.specs.View.{kept}
 use Rattle.gabc_text.proofs.events.EventsByPointAreEvents.{points_joined}

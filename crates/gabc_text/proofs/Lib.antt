@@ -2,6 +2,7 @@ pub mod events
 pub mod machine
 pub mod order
 pub mod printing
+pub mod resuming
 pub mod spans
 pub mod tokens
 pub mod KeptCharacters

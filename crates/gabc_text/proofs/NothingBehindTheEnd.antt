@@ -29,7 +29,7 @@ use Rattle.gabc_text.specs.machine.TextFacts.{early_at}
 use Rattle.gabc_text.specs.machine.TokenState.{settled_kind, next_step, keep, kind_at_end, is_plain}
 use Rattle.gabc_text.specs.View.{centre_by, piece_kind}
 use Rattle.gabc_text.specs.Events.{codes_of, no_events_each, option_list_of, count_by}
-use Rattle.gabc_text.specs.EventsLeft.{events_left, lists_ahead, findings_there, parts_by, codes_by, codes_last}
+use Rattle.gabc_text.specs.witness.EventsLeft.{events_left, lists_ahead, findings_there, parts_by, codes_by, codes_last}
 use Rattle.gabc_text.specs.machine.TextStage.{char_event, events_of_token, events_of_settling, events_of_settling_by, settle_stage, events_of_step, stage_past_char, events_of_reading, events_of_end, end_stage, settled_push_stage, events_of_settled_push, read_stage, push_stage, events_of_push, finish_stage, finish_stage_by, events_of_finish, events_of_finish_by, progress_after, end_by, is_cut_end}
 use Rattle.gabc_text.specs.machine.TextFacts.{facts_after}
 use Rattle.gabc_text.proofs.machine.EventsLeftAreThoseAhead.{rest_by}
@@ -134,7 +134,7 @@ push_stops t c next old new = by t.done
     by true e o = endless_stops next [] old new o (record { none = refl })
     by false e o = settled (c == 40 && is_plain (settle_stage t c).state) e o
 
-is_done : (t : TextStage) → (finish_stage t).done ≡ true
+pub is_done : (t : TextStage) → (finish_stage t).done ≡ true
 is_done t = by t.done refl
   where
     ended : (o : Option TokenKind) → (finish_stage_by t o).done ≡ true

@@ -32,9 +32,9 @@ use Rattle.gabc_text.specs.PiecesOwed.{pieces_in, one_if, is_dollar, pieces_owed
 use Rattle.gabc_text.specs.Token.{single, effect_of, is_special}
 use Rattle.gabc_text.specs.View.{centre_by, piece_kind, is_space, kept_as}
 use Rattle.gabc_text.specs.machine.TagPrefix.{next_name}
-use Rattle.gabc_text.specs.FactsPast.{leaves_out}
+use Rattle.gabc_text.specs.witness.FactsPast.{leaves_out}
 use Rattle.gabc_text.specs.Events.{option_list_of, count_by, is_whole_translation}
-use Rattle.gabc_text.specs.EventsLeft.{findings_there, parts_by, codes_by, codes_last, piece_there, waiting_behind}
+use Rattle.gabc_text.specs.witness.EventsLeft.{findings_there, parts_by, codes_by, codes_last, piece_there, waiting_behind}
 use Rattle.gabc_text.specs.machine.TextFacts.{early_at, facts_after}
 use Rattle.gabc_text.specs.machine.TokenState.{settled_kind, next_step, first_step, wanted_char, step_at_tag_end, keep, keep_first, kind_at_end, is_plain}
 use Rattle.gabc_text.specs.machine.TextStage.{char_event, token_stage, events_of_token, events_of_settling, events_of_settling_by, settle_stage, settle_stage_by, stage_after_step, events_of_step, stage_past_char, events_of_reading, events_of_end, end_stage, settled_push_stage, events_of_settled_push, read_stage, push_stage, events_of_push, events_of_finish, events_of_finish_by, progress_after, end_by, is_cut_end}
@@ -305,7 +305,7 @@ finish_pays t = by t.done
 
 -- ---- the events in a room
 
-in_room : (old new : BoundedList TextEvent) (events : List TextEvent) → new ≡ extended_by old events → drop (length old.items) new.items ≡ events
+pub in_room : (old new : BoundedList TextEvent) (events : List TextEvent) → new ≡ extended_by old events → drop (length old.items) new.items ≡ events
 in_room old new events o = ap (λ (r : BoundedList TextEvent). drop (length old.items) r.items) o ∙ drop-append_seam old.items events
 
 pub push_is_paid : (t : TextStage) (c : ℕ) (next : TextStage) (old new : BoundedList TextEvent) → next ≡ push_stage t c → new ≡ extended_by old (events_of_push t c)

@@ -15,16 +15,19 @@ use Rattle.gabc_text.specs.declared.stage.TextStage.{TextStage}
 use Rattle.gabc_text.specs.declared.token_state.TokenState.{TokenState}
 use Rattle.gabc_text.specs.declared.token_state.TokenState.TheVariants.{Plain, Tag, Translation}
 use Rattle.gabc_text.specs.Events.{codes_of}
-use Rattle.gabc_text.specs.EventsLeft.{events_left}
+use Rattle.gabc_text.specs.witness.EventsLeft.{events_left}
+use Rattle.gabc_text.specs.witness.Keeps.{KeepsOn}
 use Rattle.gabc_text.specs.TextFacts.{has_style}
 use Rattle.gabc_text.specs.View.{all_styles}
 use Rattle.gabc_text.specs.PiecesOwed.{PiecesArePaid}
 use Rattle.gabc_text.specs.TextStage.{count_plus}
 
--- With the character the stage emits these events, and from then on what the stage after it emits. The pieces are paid, as at a push.
+-- With the character the stage emits these events, and from then on what the stage after it emits. The pieces are paid and what is kept
+-- is kept, as at a push.
 pub record Takes (old : TextStage) (c : ℕ) (events : List TextEvent) (new : TextStage) : Type 0 where
   pub law : (cs : List ℕ) → events_left old (c ∷ cs) ≡ events ∷ events_left new cs
   pub pieces : PiecesArePaid old events new
+  pub keeps : KeepsOn old c events new
 
 -- a character that is kept where the stage stands, and a piece
 abbrev pub letter_events : TextStage → ℕ → Piece → List TextEvent

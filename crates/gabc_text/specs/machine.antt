@@ -6,3 +6,4 @@ pub mod TagPrefix
 pub mod TextFacts
 pub mod TextStage
 pub mod TokenState
+pub mod Resuming

@@ -3,7 +3,7 @@
 ghost use Rattle.std.specs.Prelude.{◌≡◌, ◌+◌, ◌≤◌, length, map};
 ghost use Rattle.gabc_places.specs.BoundedList.{Fits, extended_by};
 ghost use Rattle.gabc_text.specs.Events.{option_list_of};
-ghost use Rattle.gabc_text.specs.EventsLeft.{findings_there};
+ghost use Rattle.gabc_text.specs.witness.EventsLeft.{findings_there};
 ghost use Rattle.gabc_text.specs.machine.TextStage.{char_event};
 
 use crate::text_event::{TextEvent, TextPart};

@@ -1,16 +1,16 @@
-//! Laws of the definitions that contracts speak of. Each function is there for its clauses: all but one do nothing, and that one drives a fresh stage.
+//! Laws of the definitions that contracts speak of. Each function is there for its clauses: all but two do nothing, and these drive a fresh stage.
 
 ghost use Rattle.std.specs.Prelude.{◌≡◌, ℕ, ◌+◌, ◌<◌, List, [], ◌∷◌, ◌++◌, length, take, true, false, cond, codes, encode_utf8_all};
 ghost use Rattle.gabc_places.specs.StageLaw.{concat_of};
 ghost use Rattle.std.specs.List.{All};
 ghost use Rattle.gabc_places.specs.Findings.{AreInOrder, LieBetween};
-ghost use Rattle.gabc_places.specs.Place.{place_past};
+ghost use Rattle.gabc_places.specs.Place.{place_past, saturating_next_place};
 ghost use Rattle.gabc_places.specs.Code.{rank_of, severity_of};
 ghost use Rattle.gabc_places.specs.declared.severity.Severity.TheVariants.{Warning};
 ghost use Rattle.gabc_places.specs.declared.code.Code.TheVariants.{W9};
 ghost use Rattle.gabc_places.specs.declared.code.Finding.{Finding};
 ghost use Rattle.gabc_text.specs.TextStage.{fresh_stage};
-ghost use Rattle.gabc_text.specs.EventsLeft.{events_left, characters_left};
+ghost use Rattle.gabc_text.specs.witness.EventsLeft.{events_left, characters_left};
 ghost use Rattle.gabc_text.specs.Events.{CountsFit, codes_of, events_of, events_by_point, after_tokens, no_events_each};
 ghost use Rattle.gabc_text.specs.View.{kept, findings};
 ghost use Rattle.gabc_text.specs.TextRead.{view_in};
@@ -21,12 +21,15 @@ ghost use Rattle.gabc_text.specs.Canonical.{span_bytes, canonical_text};
 ghost use Rattle.gabc_places.specs.declared.place.Span.{Span};
 ghost use Rattle.gabc_text.specs.BuiltText.{with_events, empty_text, text_built_at, kept_in, found_in};
 ghost use Rattle.gabc_text.specs.Ends.{EndsOnce};
-ghost use Rattle.std.specs.Prelude.{◌*◌, ◌≤◌};
+ghost use Rattle.std.specs.Prelude.{◌*◌, ◌≤◌, ◌==◌, is_some};
 ghost use Rattle.gabc_places.specs.BoundedList.{Fits, extended_by};
+ghost use Rattle.gabc_text.specs.witness.Keeps.{Keeps, is_open_behind, begins_comment, kept_with};
+ghost use Rattle.gabc_text.specs.StageTells.{opener_of, is_in_comment, next_of, moved_to, told};
 
 use crate::stage::TextStage;
-use crate::text_event::TextEvent;
-use gabc_places::{Char, Place, Room, drive};
+pub use crate::tags::tag_names_are_these;
+use crate::text_event::{TextEnd, TextEvent};
+use gabc_places::{Char, Place, Room, Stage, drive};
 
 /// A fresh machine emits what the definition says, where no count of the text reaches its last value, and what it does not
 /// read begins with the `(` that ends the text.
@@ -152,3 +155,78 @@ pub fn findings_lie_within()
 pub fn a_text_ends_once()
     ensures { (at : Place) (t : List ℕ) → EndsOnce at t }
 {}
+
+/// Two stages emit the same of whatever follows, if they are the same but for the place of a `$` or of a comment.
+pub fn stages_that_tell_the_same_agree(one: &TextStage, other: &TextStage)
+    requires { told one.now ≡ told other.now }
+    ensures { (t : List ℕ) → events_left one.now t ≡ events_left other.now t }
+{}
+
+/// Two stages that keep one text emit the same of whatever follows, if they tell the same: the place of the opener, whether a comment is
+/// open, and the place of the next character.
+pub fn stages_behind_one_text_agree(one: &TextStage, other: &TextStage)
+    requires opener { opener_of one.now ≡ opener_of other.now }
+    requires comment { is_in_comment one.now ≡ is_in_comment other.now }
+    requires next { next_of one.now ≡ next_of other.now }
+    ensures { (k : List ℕ) → Keeps one.now k → Keeps other.now k →
+        (t : List ℕ) → events_left one.now t ≡ events_left other.now t }
+{}
+
+/// Whether a stage has an opener follows from the text that it keeps. A comment is open only where a `%` begins one behind this text,
+/// and there is no opener then.
+pub fn what_is_open_follows_from_the_kept_text()
+    ensures opener { (s : TextStage) (k : List ℕ) → Keeps s k →
+        is_some (opener_of s) ≡ is_open_behind k }
+    ensures comment { (s : TextStage) (k : List ℕ) → Keeps s k →
+        is_in_comment s ≡ true → begins_comment k ≡ true }
+    ensures apart { (k : List ℕ) → begins_comment k ≡ true → is_open_behind k ≡ false }
+{}
+
+/// Of a text that a stage keeps, each character is kept again behind those before it. The `%` of a comment is not kept.
+pub fn a_kept_character_is_kept_again()
+    ensures characters { (s : TextStage) (a b : List ℕ) (c : ℕ) → Keeps s (a ++ c ∷ b) →
+        kept_with a c ≡ c ∷ [] }
+    ensures comments { (k : List ℕ) → begins_comment k ≡ true → kept_with k 37 ≡ [] }
+{}
+
+/// A stage in a comment that has kept nothing passes over the comment. The LF behind it is the first character of a text that begins there.
+pub fn a_comment_before_a_text_counts_for_nothing()
+    ensures on { (s : TextStage) (c : ℕ) (t : List ℕ) → Keeps s [] → is_in_comment s ≡ true →
+        (c == 10) ≡ false → events_left s (c ∷ t)
+        ≡ [] ∷ events_left (moved_to (saturating_next_place (next_of s) c) s) t }
+    ensures text { (s : TextStage) (t : List ℕ) → Keeps s [] → is_in_comment s ≡ true →
+        events_left s (10 ∷ t) ≡ events_left (fresh_stage (next_of s)) (10 ∷ t) }
+    ensures end { (s : TextStage) → Keeps s [] → is_in_comment s ≡ true →
+        events_left s [] ≡ (TextEvent.Ended TextEnd.Finished ∷ []) ∷ [] }
+{}
+
+/// Returns a stage that is set down as `stage` stands, by the text `kept` that it keeps and what it tells: a fresh stage reads this text
+/// again, each character at the place of the opener, then a `%` where a comment is open, and goes to the place of the next
+/// character. From then on it emits what `stage` emits.
+pub fn a_kept_text_gives_the_stage_back(
+    stage: &TextStage,
+    kept: &[char],
+    room: &mut Room<TextEvent>,
+) -> TextStage
+    requires keeps { Keeps stage.now kept.now }
+    requires room { room.old ≡ record { items = []; limit = 8 } }
+    ensures keeps { Keeps result kept.now }
+    ensures opener { opener_of result ≡ opener_of stage.now }
+    ensures comment { is_in_comment result ≡ is_in_comment stage.now }
+    ensures next { next_of result ≡ next_of stage.now }
+    ensures events { (t : List ℕ) → events_left result t ≡ events_left stage.now t }
+{
+    let place = stage.opener().unwrap_or(Place::START);
+    let mut again = TextStage::new(place);
+    for c in kept {
+        again.go_to(place);
+        again.push(Char { c: *c, place }, room);
+        room.clear();
+    }
+    if stage.in_comment() {
+        again.push(Char { c: '%', place }, room);
+        room.clear();
+    }
+    again.go_to(stage.next());
+    again
+}

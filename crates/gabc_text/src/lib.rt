@@ -19,6 +19,7 @@ mod kept;
 pub mod laws;
 mod progress;
 mod stage;
+mod stage_tells;
 mod styles;
 mod tag_name;
 mod tags;

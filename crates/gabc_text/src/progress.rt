@@ -4,7 +4,7 @@ ghost use Rattle.std.specs.Prelude.{◌≡◌, None, ℕ};
 ghost use Rattle.gabc_text.specs.TextStage.{count_plus};
 ghost use Rattle.gabc_text.specs.View.{centre_by};
 ghost use Rattle.gabc_text.specs.Events.{count_by, option_list_of};
-ghost use Rattle.gabc_text.specs.EventsLeft.{parts_by, piece_by, piece_there, waiting_behind};
+ghost use Rattle.gabc_text.specs.witness.EventsLeft.{parts_by, piece_by, piece_there, waiting_behind};
 ghost use Rattle.gabc_text.specs.machine.TextStage.{progress_after, progress_past};
 
 use crate::text_event::TextPart;

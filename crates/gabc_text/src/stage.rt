@@ -1,12 +1,13 @@
 //! The machine that reads a text, one character at a time.
 
-ghost use Rattle.std.specs.Prelude.{◌≡◌, ◌==◌, ◌&&◌, not, ℕ, ◌+◌, ◌≤◌, List, length, map, true, false, None, IsTrue, IsSome};
+ghost use Rattle.std.specs.Prelude.{◌≡◌, ◌==◌, ◌&&◌, not, ℕ, ◌+◌, ◌≤◌, List, [], length, map, true, false, None, IsTrue, IsSome};
 ghost use Rattle.std.specs.Str.{chars, NonePass};
 ghost use Rattle.gabc_places.specs.BoundedList.{Fits, extended_by};
 ghost use Rattle.gabc_text.specs.TextStage.{fresh_stage};
+ghost use Rattle.gabc_text.specs.witness.Keeps.{Keeps};
 ghost use Rattle.gabc_text.specs.machine.TextStage.{token_stage, events_of_token, settle_stage, events_of_settling, read_stage, events_of_reading, events_of_end, end_stage, push_stage, events_of_push, finish_stage, events_of_finish, is_cut_end, end_by, IsSilentToken, IsKeptAlone};
 ghost use Rattle.gabc_text.specs.View.{piece_kind};
-ghost use Rattle.gabc_text.specs.EventsLeft.{events_left, parts_by};
+ghost use Rattle.gabc_text.specs.witness.EventsLeft.{events_left, parts_by};
 ghost use Rattle.gabc_text.specs.machine.TokenState.{IsLetterBetween};
 ghost use Rattle.gabc_text.specs.machine.RawPart.{stage_past, is_in_raw};
 ghost use Rattle.gabc_text.specs.Events.{CountsFit, codes_of, events_by_point};
@@ -30,9 +31,9 @@ use gabc_places::{Char, Place, Room, Stage};
 /// makes known is emitted with it; after the `(` nothing is emitted. It asks for no memory.
 #[derive(Clone, Copy)]
 pub struct TextStage {
-    state: TokenState,
+    pub(crate) state: TokenState,
     facts: TextFacts,
-    progress: Progress,
+    pub(crate) progress: Progress,
     done: bool,
 }
 
@@ -51,6 +52,7 @@ impl TextStage {
     /// text, a centre counts pieces. Each count saturates.
     pub fn new(at: Place) -> TextStage
         ensures fresh { result ≡ fresh_stage at }
+        ensures keeps { Keeps result [] }
         ensures events { (t : List ℕ) → CountsFit at t →
             events_left result t ≡ events_by_point at t }
     {
@@ -441,6 +443,7 @@ impl Stage for TextStage {
     ghost use Rattle.gabc_places.specs.BoundedList.{Fits};
     ghost use Rattle.gabc_places.specs.StageLaw.{Pushes, Finishes, EmitsNothing, StopsAtEnd};
     ghost use Rattle.gabc_text.specs.BuiltText.{kept_in};
+    ghost use Rattle.gabc_text.specs.witness.Keeps.{KeepsOn};
     ghost use Rattle.gabc_text.specs.PiecesOwed.{pieces_in, pieces_owed, PiecesArePaid};
 
     ghost rest = { λ s cs. events_left s (codes_of cs) };
@@ -460,6 +463,7 @@ impl Stage for TextStage {
         ensures end { StopsAtEnd is_end (λ cs. events_left self.new (codes_of cs)) out.old out.new }
         ensures pieces { PiecesArePaid self.old
             (drop (length out.old.items) out.new.items) self.new }
+        ensures keeps { KeepsOn self.old input.c (drop (length out.old.items) out.new.items) self.new }
     {
         self.take(input.c, out);
     }
@@ -469,6 +473,7 @@ impl Stage for TextStage {
         ensures ends { Finishes (λ cs. events_left self.old (codes_of cs)) 8 out.old out.new }
         ensures end { StopsAtEnd is_end (λ cs. events_left self.new (codes_of cs)) out.old out.new }
         ensures over { EmitsNothing (λ cs. events_left self.new (codes_of cs)) }
+        ensures done { self.new.done ≡ true }
         ensures pieces { let events = drop (length out.old.items) out.new.items in
             pieces_in events ≤ pieces_owed self.old + length (kept_in events) }
     {

@@ -1,5 +1,9 @@
 //! The table of the tags' names. Code and definitions read this one.
 
+ghost use Rattle.std.specs.Prelude.{◌≡◌};
+ghost use Rattle.gabc_text.specs.TagNames.{known_tags};
+ghost use Rattle.gabc_text.specs.Token.{tag_names};
+
 use crate::styles::Style;
 use crate::token::{RawKind, TagEffect};
 
@@ -31,3 +35,8 @@ pub(crate) const TAGS: [(&str, TagEffect); 21] = [
 
 /// How many characters of a tag's name are kept: more than any name in the table has.
 pub(crate) const KEPT: usize = 6;
+
+/// The names in the table are these, each with what its tag does.
+pub fn tag_names_are_these()
+    ensures { tag_names ≡ known_tags }
+{}

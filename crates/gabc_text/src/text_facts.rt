@@ -4,8 +4,8 @@ ghost use Rattle.std.specs.Prelude.{◌≡◌, ◌∷◌, ◌&&◌, [], cond, no
 ghost use Rattle.std.specs.List.{list_any};
 ghost use Rattle.gabc_text.specs.machine.TextFacts.{styles_after, early_at, after_piece, after_tag, facts_after};
 ghost use Rattle.gabc_text.specs.Events.{option_list_of};
-ghost use Rattle.gabc_text.specs.FactsPast.{leaves_out};
-ghost use Rattle.gabc_text.specs.EventsLeft.{piece_by, codes_by};
+ghost use Rattle.gabc_text.specs.witness.FactsPast.{leaves_out};
+ghost use Rattle.gabc_text.specs.witness.EventsLeft.{piece_by, codes_by};
 ghost use Rattle.gabc_text.specs.TextFacts.{has_style, no_facts};
 ghost use Rattle.gabc_text.specs.machine.TokenState.{keep, keep_first};
 ghost use Rattle.gabc_text.specs.View.{all_styles, piece_kind};

@@ -1,13 +1,14 @@
 //! The pieces of a text.
 
 ghost use Rattle.std.specs.Prelude.{◌≡◌, ◌≤◌, IsOk, IfOk, OnOk, OnErr};
-ghost use Rattle.gabc_places.specs.GrowingList.{HasCapacity};
+ghost use Rattle.smallvec.specs.SmallVec.{HasRoomFor};
 ghost use Rattle.gabc_text.specs.BuiltText.{empty_view, with_part};
 ghost use Rattle.gabc_text.specs.TextView.{content_of};
 
 use crate::styles::Styles;
 use crate::text_event::TextPart;
-use gabc_places::{Growing, Place, Span};
+use gabc_places::{Place, Span};
+use smallvec::SmallVec;
 use std::alloc::{AllocError, Global};
 
 /// What a piece of a text is.
@@ -64,8 +65,8 @@ pub enum TextEnding {
     Cut(Place),
 }
 
-/// The pieces of a text, in order.
-pub type Pieces = Growing<Piece>;
+/// The pieces of a text, in order. Four of them need no memory of their own.
+pub type Pieces = SmallVec<Piece, 4>;
 
 /// What a text says.
 #[derive(Debug, Drop)]
@@ -96,7 +97,7 @@ impl TextView {
     /// Returns a view that says nothing, and reserves memory for `pieces` pieces.
     pub fn with_capacity(alloc: Global, pieces: usize) -> Result<TextView, AllocError>
         ensures content { IfOk result (λ view. content_of view ≡ empty_view) }
-        ensures capacity { IfOk result (λ view. view.pieces.capacity ≡ pieces) }
+        ensures capacity { IfOk result (λ view. pieces ≤ view.pieces.capacity) }
     {
         Ok(TextView {
             word_start: false,
@@ -111,7 +112,7 @@ impl TextView {
     pub fn add(&mut self, part: TextPart) -> Result<(), AllocError>
         ensures added { OnOk result (content_of self.new ≡ with_part (content_of self.old) part) }
         ensures capacity { self.old.pieces.capacity ≤ self.new.pieces.capacity }
-        ensures succeeds { HasCapacity self.old.pieces 1 → IsOk result }
+        ensures succeeds { HasRoomFor self.old.pieces 1 → IsOk result }
         ensures unchanged { OnErr result (content_of self.new ≡ content_of self.old) }
     {
         match part {
@@ -129,7 +130,7 @@ impl TextView {
     {
         Ok(TextView {
             word_start: self.word_start,
-            pieces: self.pieces.copy(alloc)?,
+            pieces: Pieces::from_slice(alloc, self.pieces.as_slice())?,
             centre: self.centre,
             translation: self.translation,
         })

@@ -8,7 +8,8 @@ use Rattle.gabc_headers.specs.declared.head_event.HeadEvent.{HeadEvent}
 use Rattle.gabc_score.specs.declared.score_event.LentSyllable.TheVariants.{First}
 use Rattle.gabc_score.specs.declared.score_event.ScoreEvent.{ScoreEvent}
 use Rattle.gabc_score.specs.ScoreEvents.{ScoreOutput}
-use Rattle.gabc_score.specs.ScoreStage.{ScoreStageState, GivesAt, GivesLast, events_left, is_last_event, left_of}
+use Rattle.gabc_score.specs.ScoreStage.{GivesAt, GivesLast, events_left, is_last_event}
+use Rattle.gabc_score.specs.witness.ScoreStage.{ScoreStageState, left_of}
 use Rattle.gregorio_jobs.specs.declared.job.Status.{Status}
 use Rattle.gregorio_jobs.specs.declared.job.Status.TheVariants.{ReadFault}
 use Rattle.gregorio.specs.declared.run_part.RunPart.{RunPart}

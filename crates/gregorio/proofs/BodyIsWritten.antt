@@ -6,12 +6,14 @@ use Rattle.gabc_headers.specs.declared.head_event.HeadEvent.{HeadEvent}
 use Rattle.gabc_score.specs.declared.score_event.LentSyllable.TheVariants.{First}
 use Rattle.gabc_score.specs.declared.score_event.ScoreEvent.{ScoreEvent}
 use Rattle.gabc_score.specs.ScoreEvents.{ScoreOutput, Found, Stop, Syllable, End}
-use Rattle.gabc_score.specs.ScoreStage.{ScoreStageState, GivesOutputs, events_of, events_left, is_last_event, left_of}
+use Rattle.gabc_score.specs.ScoreStage.{GivesOutputs, events_of, events_left, is_last_event}
+use Rattle.gabc_score.specs.witness.ScoreStage.{ScoreStageState, left_of}
 use Rattle.gregorio_jobs.specs.declared.job.Status.{Status}
 use Rattle.gregorio_jobs.specs.declared.job.Status.TheVariants.{ReadFault}
 use Rattle.gregorio.specs.declared.run_part.RunPart.{RunPart}
 use Rattle.gregorio.specs.declared.run_part.RunPart.TheVariants as part
-use Rattle.gregorio.specs.Engine.{Streams, Written, behind_bytes, last_text, streams_in, streams_by_part}
+use Rattle.gregorio.specs.Streams.{Streams, behind_bytes, last_text}
+use Rattle.gregorio.specs.witness.Engine.{Written, streams_in, streams_by_part}
 use Rattle.gregorio.specs.machine.RunWriter.{with_last}
 use Rattle.gregorio.specs.machine.ScoreWriter.{ScoreWriterState, WritesAt, WritesLast, streams_of, outputs_of_events, past_output, past_outputs, writer_at}
 use Rattle.gregorio.proofs.OutputsOfEvents.{ends_at_last, emitted_is}

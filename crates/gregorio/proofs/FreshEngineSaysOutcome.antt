@@ -4,7 +4,7 @@ use Rattle.std.specs.Char.{IsScalar}
 use Rattle.std.specs.List.{All}
 use Rattle.gabc_places.specs.Decoder.{fault_items, items_of, known_of, known_at_end}
 use Rattle.gabc_places.specs.DecoderMachine.{DecoderState}
-use Rattle.gabc_places.specs.DecoderMachine as decoder
+use Rattle.gabc_places.specs.witness.DecoderEvents as decoder
 use Rattle.gabc_places.specs.StageLaw.{concat_of}
 use Rattle.gabc_places.specs.Text.{decoded_of, text_of_bytes}
 use Rattle.gabc_places.specs.declared.code.Fault.{Fault}
@@ -15,21 +15,24 @@ use Rattle.gabc_headers.specs.declared.head_event.HeadEvent.{HeadEvent}
 use Rattle.gabc_headers.specs.declared.heads.Heads.{Heads}
 use Rattle.gabc_headers.specs.declared.heads.HeadFault.{HeadFault}
 use Rattle.gabc_headers.specs.Heads.{heads_of}
-use Rattle.gabc_headers.specs.HeadEvents.{emitted_by, events_left, fresh_stage, inputs_behind, reading, stage_past}
-use Rattle.gabc_score.specs.BodyStage.{texts_by_stage}
+use Rattle.gabc_headers.specs.HeadEvents.{emitted_by, inputs_behind}
+use Rattle.gabc_headers.specs.witness.HeadEvents.{events_left, fresh_stage, reading, stage_past}
+use Rattle.gabc_score.specs.witness.BodyStage.{texts_by_stage}
 use Rattle.gabc_score.specs.Events.{texts_by_definition}
 use Rattle.gabc_score.specs.declared.ending.InputEnding.{InputEnding}
 use Rattle.gabc_score.specs.declared.ending.InputEnding.TheVariants as score_ending
 use Rattle.gabc_score.specs.declared.score.Score.{Score}
 use Rattle.gabc_score.specs.Score.{score_of, score_by}
 use Rattle.gabc_score.specs.ScoreEvents.{ScoreOutput, findings_in, syllables_in, fault_in, has_end, head_events, outputs_of_text, score_outputs, is_whole as is_whole_score}
-use Rattle.gabc_score.specs.ScoreStage.{ScoreStageState, AreCountsBelow, left_of}
+use Rattle.gabc_score.specs.ScoreStage.{AreCountsBelow}
+use Rattle.gabc_score.specs.witness.ScoreStage.{ScoreStageState, left_of}
 use Rattle.gregorio_jobs.specs.declared.job.Job.{Job}
 use Rattle.gregorio.specs.declared.run_part.RunPart.TheVariants as part
 use Rattle.gregorio.specs.declared.source_ending.SourceEnding.{SourceEnding}
 use Rattle.gregorio.specs.declared.source_ending.SourceEnding.TheVariants.{Whole as Ended, Broken}
 use Rattle.gregorio.specs.Outcome.{is_whole, is_cut_short, ending_by, outcome_of}
-use Rattle.gregorio.specs.Engine.{head_events_left, has_heads, outputs_from_heads, streams_by_part, streams_of_outcome}
+use Rattle.gregorio.specs.witness.Engine.{head_events_left, has_heads, outputs_from_heads, streams_by_part}
+use Rattle.gregorio.specs.Streams.{streams_of_outcome}
 use Rattle.gregorio.specs.machine.ScoreWriter.{fresh_writer}
 use Rattle.gregorio.proofs.OutputsOfAFreshScore.{has_book, outputs_same}
 use Rattle.gregorio.proofs.StreamsOfAFreshEngine.{SaysScore, stops_at, streams_same}

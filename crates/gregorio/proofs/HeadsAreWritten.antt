@@ -7,14 +7,15 @@ use Rattle.gabc_places.specs.declared.code.Finding.{Finding}
 use Rattle.gabc_places.specs.declared.place.Char.{Char}
 use Rattle.gabc_headers.specs.declared.head_event.HeadEvent.{HeadEvent}
 use Rattle.gabc_headers.specs.declared.head_event.HeadEvent.TheVariants as head_event
-use Rattle.gabc_score.specs.ScoreStage.{left_of}
+use Rattle.gabc_score.specs.witness.ScoreStage.{left_of}
 use Rattle.gabc_write.specs.Message.{line_of}
 use Rattle.gregorio_jobs.specs.declared.job.Status.{Status}
 use Rattle.gregorio_jobs.specs.declared.job.Status.TheVariants.{Fatal, ReadFault}
 use Rattle.gregorio.specs.declared.run_part.RunPart.{RunPart}
 use Rattle.gregorio.specs.declared.run_part.RunPart.TheVariants as part
 use Rattle.gregorio.specs.Outcome.{shown_line}
-use Rattle.gregorio.specs.Engine.{Streams, behind_bytes, has_heads, head_text_in, heads_text, outputs_from_heads, streams_by_part, streams_in}
+use Rattle.gregorio.specs.Streams.{Streams, behind_bytes, heads_text}
+use Rattle.gregorio.specs.witness.Engine.{has_heads, head_text_in, outputs_from_heads, streams_by_part, streams_in}
 use Rattle.gregorio.specs.machine.RunWriter.{with_fault, with_found, with_heads}
 use Rattle.gregorio.specs.machine.ScoreWriter.{ScoreWriterState, WritesAt, WritesLast}
 use Rattle.gregorio.proofs.WhatIsEmittedIsStillToBeWritten.{extended_both, streams_at_stop, streams_behind_found}

@@ -43,7 +43,7 @@ no_errors [] h = refl
 no_errors (f ∷ fs) h = ap (λ b. b || list_any is_error_finding fs) (no_error f (All-head IsWarning f fs h)) ∙ no_errors fs (All-tail IsWarning f fs h)
 
 -- what is made of an input that ended, by its text
-abbrev made_of : Limits → Decoded → Outcome
+abbrev pub made_of : Limits → Decoded → Outcome
 made_of limits decoded =
     let score = score_of limits (ending_by Ended decoded.fault) decoded.text in
     record { score = score; broken = is_cut_short Ended score.fault }

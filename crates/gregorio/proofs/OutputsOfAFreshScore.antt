@@ -8,12 +8,13 @@ use Rattle.gabc_headers.specs.declared.heads.Heads.{Heads}
 use Rattle.gabc_headers.specs.declared.heads.HeadFault.{HeadFault}
 use Rattle.gabc_headers.specs.declared.head_event.HeadEvent.{HeadEvent}
 use Rattle.gabc_headers.specs.declared.head_event.HeadEvent.TheVariants as head_event
-use Rattle.gabc_score.specs.BodyStage.{texts_by_stage}
+use Rattle.gabc_score.specs.witness.BodyStage.{texts_by_stage}
 use Rattle.gabc_score.specs.declared.ending.InputEnding.{InputEnding}
 use Rattle.gabc_score.specs.Score.{score_by, head_fault_by}
 use Rattle.gabc_score.specs.ScoreEvents.{ScoreOutput, Found, score_outputs, stop_events, head_events_by}
-use Rattle.gabc_score.specs.ScoreStage.{ScoreStageState, AreCountsBelow, left_of}
-use Rattle.gregorio.specs.Engine.{has_heads, outputs_from_heads}
+use Rattle.gabc_score.specs.ScoreStage.{AreCountsBelow}
+use Rattle.gabc_score.specs.witness.ScoreStage.{ScoreStageState, left_of}
+use Rattle.gregorio.specs.witness.Engine.{has_heads, outputs_from_heads}
 
 abbrev found_events : List Finding → List HeadEvent
 found_events fs = map (λ f. head_event.Found f) fs

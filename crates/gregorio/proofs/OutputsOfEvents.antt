@@ -8,7 +8,8 @@ use Rattle.gabc_score.specs.declared.score_event.LentSyllable.TheVariants.{Secon
 use Rattle.gabc_score.specs.declared.score_event.ScoreEvent.{ScoreEvent}
 use Rattle.gabc_score.specs.declared.score_event.ScoreEvent.TheVariants as event
 use Rattle.gabc_score.specs.ScoreEvents.{ScoreOutput, Found, Stop, Syllable, End, syllables_in}
-use Rattle.gabc_score.specs.ScoreStage.{ScoreStageState, events_lent, events_of, is_last_event, left_of, events_left}
+use Rattle.gabc_score.specs.ScoreStage.{events_lent, events_of, is_last_event, events_left}
+use Rattle.gabc_score.specs.witness.ScoreStage.{ScoreStageState, left_of}
 use Rattle.gabc_score.specs.Syllable.{PlacedSyllable}
 use Rattle.gregorio.specs.machine.ScoreWriter.{outputs_of_events}
 use Rattle.gregorio.proofs.WhatIsEmittedIsStillToBeWritten.{EndsAtLast, no_item}

@@ -1,6 +1,7 @@
 -- A run over an output reads all of it, and writes it again.
 use Rattle.std.proofs.Common.{◌≡◌, ℕ, ◌+◌, ◌≤◌, List, ◌++◌, length, length-append, Option, Some, None, IsSome, refl, sym, ap, subst, ◌∙◌, append-nil, arith}
 use Rattle.std.specs.Io.KnownBytes.{Appends, Consumes, IsAtEnd}
+use Rattle.gabc_places.specs.Calls.{Calls}
 use Rattle.gabc_places.specs.declared.limits.Limits.{Limits}
 use Rattle.gabc_places.specs.LargerLimits.{AreNoLess}
 use Rattle.gregorio_jobs.specs.declared.job.Format.TheVariants.{Gabc}
@@ -21,24 +22,24 @@ all_read bytes rest (Some left) h =
     let size : length bytes ≡ length rest + length left = ap length h ∙ length-append rest left in
     (omega arith, λ none. sym (append-nil rest) ∙ ap (λ ys. rest ++ ys) (sym none) ∙ sym h)
 
-source_read : (limits : Limits) (bytes rest : List ℕ) (how : SourceEnding) (new : Option (List ℕ)) (failed_old failed_new : ℕ) → length bytes ≤ limits.input → failed_new ≡ failed_old
-    → ReadsSource (Some bytes) new failed_old failed_new limits.input rest how → (how ≡ Ended) × (rest ≡ bytes)
-source_read limits bytes rest Broken new failed_old failed_new short none r = absurd (omega (arith, r.broken refl, none))
-source_read limits bytes rest Ended new failed_old failed_new short none r =
+source_read : (limits : Limits) (bytes rest : List ℕ) (how : SourceEnding) (new : Option (List ℕ)) (calls_old calls_new : Calls) → length bytes ≤ limits.input → calls_new.failures ≡ calls_old.failures
+    → ReadsSource (Some bytes) new calls_old calls_new limits.input rest how → (how ≡ Ended) × (rest ≡ bytes)
+source_read limits bytes rest Broken new calls_old calls_new short none r = absurd (omega (arith, r.broken refl, none))
+source_read limits bytes rest Ended new calls_old calls_new short none r =
     let a = all_read bytes rest new r.consumed in
     (refl, a.1 (r.whole refl (omega (arith, a.0))))
 
 module _ (again : (limits larger : Limits) (ending : SourceEnding) (bytes : List ℕ) → (let first = outcome_of limits ending bytes in AreNoLess limits larger → IsSome first.score.book → IsOutcomeAgain first (outcome_of larger Ended (output_of Gabc first))))
     (short : (limits : Limits) (ending : SourceEnding) (bytes : List ℕ) → length (output_of Gabc (outcome_of limits ending bytes)) ≤ limits.input) where
   pub output_repeated : (job : Job) (limits larger : Limits) (ending : SourceEnding) (bytes : List ℕ) (source out messages : Use) (status : Status)
-      → (let first = outcome_of limits ending bytes in AreNoLess limits larger → IsSome first.score.book → job.format ≡ Gabc → source.old ≡ Some (output_of Gabc first) → source.failed_new ≡ source.failed_old
+      → (let first = outcome_of limits ending bytes in AreNoLess limits larger → IsSome first.score.book → job.format ≡ Gabc → source.old ≡ Some (output_of Gabc first) → source.calls_new.failures ≡ source.calls_old.failures
       → Done job larger source out messages status → Appends out.old out.new (output_of Gabc first) × (status ≡ Whole))
   output_repeated job limits larger ending bytes source out messages status no_less some gabc old none d =
       let first = outcome_of limits ending bytes in
       let c = output_of Gabc first in
       let i = d.input in
-      let r = source_read larger c i.bytes i.ending source.new source.failed_old source.failed_new (omega (arith, short limits ending bytes, no_less.input)) none
-      (subst (λ o. ReadsSource o source.new source.failed_old source.failed_new larger.input i.bytes i.ending) old i.reads) in
+      let r = source_read larger c i.bytes i.ending source.new source.calls_old source.calls_new (omega (arith, short limits ending bytes, no_less.input)) none
+      (subst (λ o. ReadsSource o source.new source.calls_old source.calls_new larger.input i.bytes i.ending) old i.reads) in
       let a = again limits larger ending bytes no_less some in
       let same : outcome_of larger i.ending i.bytes ≡ outcome_of larger Ended c = ap (λ how. outcome_of larger how i.bytes) r.0 ∙ ap (outcome_of larger Ended) r.1 in
       (subst (Appends out.old out.new) (ap (λ f. output_of f (outcome_of larger i.ending i.bytes)) gabc ∙ ap (output_of Gabc) same ∙ a.output) d.written, d.ends ∙ ap status_of same ∙ a.status)

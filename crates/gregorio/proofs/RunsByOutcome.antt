@@ -1,8 +1,9 @@
 -- How a run ends.
-use Rattle.std.proofs.Common.{◌≡◌, ℕ, ◌<◌, List, [], ◌++◌, append-nil, Bool, true, false, Option, Some, None, refl, sym, ap, ◌∙◌, subst}
+use Rattle.std.proofs.Common.{◌≡◌, ℕ, ◌<◌, ◌≤◌, List, [], ◌++◌, length, append-nil, Bool, true, false, Option, Some, None, ◌⊎◌, inl, inr, arith, refl, sym, ap, ◌∙◌, subst}
 use Rattle.std.specs.Io.KnownBytes.{Appends}
 use Rattle.std.proofs.KnownBytes.{Keeps-refl}
 use Rattle.std.specs.List.{list_any}
+use Rattle.gabc_places.specs.Calls.{Calls, NoneLate, GoesOn, FailsOnce}
 use Rattle.gabc_places.specs.declared.limits.Limits.{Limits}
 use Rattle.gabc_places.specs.declared.code.Fault.{Fault}
 use Rattle.gabc_places.specs.declared.decoded.Decoded.{Decoded}
@@ -16,10 +17,13 @@ use Rattle.gregorio_jobs.specs.declared.job.Job.{Job}
 use Rattle.gregorio_jobs.specs.declared.job.Status.{Status}
 use Rattle.gregorio_jobs.specs.declared.job.Status.TheVariants.{NoMemory, ReadFault, WriteFault}
 use Rattle.gregorio.specs.declared.outcome.Outcome.{Outcome}
-use Rattle.gregorio.specs.Engine.{EngineState, Streams, behind_bytes, ended_with, streams_left, streams_of_outcome, with_waiting}
-use Rattle.gregorio.specs.Run.{Use, Done, SinkCut, Compiles}
+use Rattle.gregorio.specs.Engine.{with_waiting}
+use Rattle.gregorio.specs.witness.Engine.{EngineState, streams_left}
+use Rattle.gregorio.specs.Streams.{Streams, behind_bytes, ended_with, streams_of_outcome}
+use Rattle.gregorio.specs.Run.{Use, used, Done, SinkCut, Compiles}
+use Rattle.gregorio.specs.SourceBytes.{ReadsSource}
 use Rattle.gregorio.specs.Outcome.{is_whole, ending_by, is_cut_short, outcome_of, status_by, status_of, is_error_finding}
-use Rattle.gregorio.specs.machine.Compile.{used, AreSent, AreCut, StreamsAreCut, IsFedAll, IsFedInPart, IsRun, SaysOutcomes}
+use Rattle.gregorio.specs.machine.Compile.{AreSent, AreCut, StreamsAreCut, IsFedAll, IsFedInPart, IsRun, SaysOutcomes}
 use Rattle.gregorio.proofs.PiecesAreSent.{behind_twice, sent_on, cut_by, cut_longer}
 
 done_by : (job : Job) (limits : Limits) (source out messages : Use) (o : Option Fault) (b e : Bool) → Done job limits source out messages (status_by o b e) → Compiles job limits source out messages (status_by o b e)
@@ -57,10 +61,35 @@ never_sunk None false false s = cc
 sunk_is_not_broken : WriteFault ≡ ReadFault → ⊥
 sunk_is_not_broken e = cc
 
-module _ {A B C : Type 0} (wrote : A → Option (List ℕ)) (failed : A → ℕ) (emitted : B → Option (List ℕ)) (untold : B → ℕ) (left : C → Option (List ℕ)) (broke : C → ℕ) (job : Job) (limits : Limits) where
+-- one failure more
+a_failure_more : (a b c d : Calls) → (FailsOnce a b × GoesOn c d) ⊎ (GoesOn a b × FailsOnce c d) → (a.failures < b.failures) ⊎ (c.failures < d.failures)
+a_failure_more a b c d (inl x) = inl (omega (arith, x.0.failures))
+a_failure_more a b c d (inr x) = inr (omega (arith, x.1.failures))
+
+sinks_in_time : (a b c d : Calls) → (FailsOnce a b × GoesOn c d) ⊎ (GoesOn a b × FailsOnce c d) → NoneLate a b × NoneLate c d
+sinks_in_time a b c d (inl x) = (x.0.none_late, x.1.none_late)
+sinks_in_time a b c d (inr x) = (x.0.none_late, x.1.none_late)
+
+-- a source that did not fail ended
+met_whole : (old new : Option (List ℕ)) (calls_old calls_new : Calls) (limit : ℕ) (bytes : List ℕ) (ending : SourceEnding) → ReadsSource old new calls_old calls_new limit bytes ending
+    → calls_new.failures ≡ calls_old.failures → ending ≡ Ended
+met_whole old new calls_old calls_new limit bytes Ended r same = refl
+met_whole old new calls_old calls_new limit bytes Broken r same = absurd (omega (arith, r.broken refl, same))
+
+never_stopped : true ≡ false → ⊥
+never_stopped e = cc
+
+-- one that did not stop was not read to its end
+unmet_broken : (old new : Option (List ℕ)) (calls_old calls_new : Calls) (limit : ℕ) (bytes : List ℕ) (ending : SourceEnding) → ReadsSource old new calls_old calls_new limit bytes ending
+    → calls_new.is_stopped ≡ false → length bytes ≤ limit → ending ≡ Broken
+unmet_broken old new calls_old calls_new limit bytes Broken r runs few = refl
+unmet_broken old new calls_old calls_new limit bytes Ended r runs few =
+    absurd (never_stopped (sym (r.stopped refl few) ∙ runs))
+
+module _ {A B C : Type 0} (wrote : A → Option (List ℕ)) (went : A → Calls) (emitted : B → Option (List ℕ)) (went_too : B → Calls) (left : C → Option (List ℕ)) (reads_went : C → Calls) (job : Job) (limits : Limits) where
   -- what an engine wrote of an input is its outcome's
   streams_are : (s t : C) (o p : A) (m n : B) (e f g : EngineState) (ending : SourceEnding) (status : Status) → SaysOutcomes job limits e
-      → (a : IsFedAll limits.input (used left broke s t) (used wrote failed o p) (used emitted untold m n) e f ending) → streams_left f ending [] ≡ with_waiting g (ended_with status)
+      → (a : IsFedAll limits.input (used left reads_went s t) (used wrote went o p) (used emitted went_too m n) e f ending) → streams_left f ending [] ≡ with_waiting g (ended_with status)
       → streams_of_outcome job (outcome_of limits ending a.bytes) ≡ behind_bytes (a.fed.output ++ g.output) (a.fed.lines ++ g.messages) (ended_with status)
   streams_are s t o p m n e f g ending status all a last =
       sym (all a.bytes ending) ∙ (ap (streams_left e ending) (sym (append-nil a.bytes)) ∙ (a.fed.law [] ending
@@ -68,110 +97,115 @@ module _ {A B C : Type 0} (wrote : A → Option (List ℕ)) (failed : A → ℕ)
 
   -- a run that wrote all
   runs_whole : (s t : C) (o p q : A) (m n r : B) (e f g : EngineState) (ending : SourceEnding) (status : Status) → SaysOutcomes job limits e
-      → IsFedAll limits.input (used left broke s t) (used wrote failed o p) (used emitted untold m n) e f ending → streams_left f ending [] ≡ with_waiting g (ended_with status)
-      → AreSent (used wrote failed p q) (used emitted untold n r) g.output g.messages
-      → Compiles job limits (used left broke s t) (used wrote failed o q) (used emitted untold m r) status
+      → IsFedAll limits.input (used left reads_went s t) (used wrote went o p) (used emitted went_too m n) e f ending → streams_left f ending [] ≡ with_waiting g (ended_with status)
+      → AreSent (used wrote went p q) (used emitted went_too n r) g.output g.messages
+      → Compiles job limits (used left reads_went s t) (used wrote went o q) (used emitted went_too m r) status
   runs_whole s t o p q m n r e f g ending status all a last sent =
       let made : Outcome = outcome_of limits ending a.bytes in
       let are = streams_are s t o p m n e f g ending status all a last in
-      let x = sent_on wrote failed emitted untold o p q m n r a.fed.output a.fed.lines g.output g.messages a.fed.sent sent in
-      let d : Done job limits (used left broke s t) (used wrote failed o q) (used emitted untold m r) (status_of made) = record {
+      let x = sent_on wrote went emitted went_too o p q m n r a.fed.output a.fed.lines g.output g.messages a.fed.sent sent in
+      let d : Done job limits (used left reads_went s t) (used wrote went o q) (used emitted went_too m r) (status_of made) = record {
         input = record { bytes = a.bytes; ending = ending; reads = a.reads };
         written = subst (Appends (wrote o) (wrote q)) (sym (ap (λ (y : Streams). y.output) are ∙ append-nil (a.fed.output ++ g.output))) x.written;
         messages_written = subst (Appends (emitted m) (emitted r)) (sym (ap (λ (y : Streams). y.messages) are ∙ append-nil (a.fed.lines ++ g.messages))) x.messages_written;
         ends = refl;
       } in
-      subst (λ (y : Status). Compiles job limits (used left broke s t) (used wrote failed o q) (used emitted untold m r) y) (ap (λ (y : Streams). y.status) are)
-      (done_by job limits (used left broke s t) (used wrote failed o q) (used emitted untold m r) made.score.fault made.broken (list_any is_error_finding made.score.findings) d)
+      subst (λ (y : Status). Compiles job limits (used left reads_went s t) (used wrote went o q) (used emitted went_too m r) y) (ap (λ (y : Streams). y.status) are)
+      (done_by job limits (used left reads_went s t) (used wrote went o q) (used emitted went_too m r) made.score.fault made.broken (list_any is_error_finding made.score.findings) d)
 
   -- a run whose source failed
   runs_broken : (s t : C) (o p : A) (m n : B) (e f g : EngineState) (ending : SourceEnding) (status : Status) → SaysOutcomes job limits e
-      → IsFedAll limits.input (used left broke s t) (used wrote failed o p) (used emitted untold m n) e f ending → streams_left f ending [] ≡ with_waiting g (ended_with status)
-      → status ≡ ReadFault → broke s < broke t
+      → IsFedAll limits.input (used left reads_went s t) (used wrote went o p) (used emitted went_too m n) e f ending → streams_left f ending [] ≡ with_waiting g (ended_with status)
+      → status ≡ ReadFault → (reads_went s).failures < (reads_went t).failures
   runs_broken s t o p m n e f g ending status all a last is =
       a.reads.broken (read_fault_broken limits ending a.bytes (ap (λ (y : Streams). y.status) (streams_are s t o p m n e f g ending status all a last) ∙ is))
 
   -- a run that wrote all is not one that a sink's failure cut
   runs_sunk : (s t : C) (o p : A) (m n : B) (e f g : EngineState) (ending : SourceEnding) (status : Status) → SaysOutcomes job limits e
-      → IsFedAll limits.input (used left broke s t) (used wrote failed o p) (used emitted untold m n) e f ending → streams_left f ending [] ≡ with_waiting g (ended_with status)
+      → IsFedAll limits.input (used left reads_went s t) (used wrote went o p) (used emitted went_too m n) e f ending → streams_left f ending [] ≡ with_waiting g (ended_with status)
       → status ≡ WriteFault → ⊥
   runs_sunk s t o p m n e f g ending status all a last is =
       let made : Outcome = outcome_of limits ending a.bytes in
       never_sunk made.score.fault made.broken (list_any is_error_finding made.score.findings) (ap (λ (y : Streams). y.status) (streams_are s t o p m n e f g ending status all a last) ∙ is)
 
   -- a run that a sink's failure cut while its source was read
-  runs_short : (s t : C) (o p : A) (m n : B) (e : EngineState) → SaysOutcomes job limits e → IsFedInPart limits.input (used left broke s t) (used wrote failed o p) (used emitted untold m n) e
-      → SinkCut job limits (used left broke s t) (used wrote failed o p) (used emitted untold m n)
+  runs_short : (s t : C) (o p : A) (m n : B) (e : EngineState) → SaysOutcomes job limits e → IsFedInPart limits.input (used left reads_went s t) (used wrote went o p) (used emitted went_too m n) e
+      → SinkCut job limits (used left reads_went s t) (used wrote went o p) (used emitted went_too m n)
   runs_short s t o p m n e all a =
-      let c = subst (StreamsAreCut (used wrote failed o p) (used emitted untold m n)) (all a.bytes Broken) a.cut in
+      let c = subst (StreamsAreCut (used wrote went o p) (used emitted went_too m n)) (all a.bytes Broken) a.cut in
       record {
-        input = record { bytes = a.bytes; ending = Broken; consumed = a.consumed; within = a.within; whole = λ no. cc };
+        input = record { bytes = a.bytes; ending = Broken; consumed = a.consumed; within = a.within; whole = λ no. cc; met = λ runs stopped same. absurd (never_stopped (sym stopped ∙ (a.goes_on.is_stopped ∙ runs))); unmet = λ _ _. refl };
         written_count = c.output_count;
         messages_count = c.lines_count;
         written = c.written;
         messages_written = c.messages_written;
-        failed = c.failed;
+        fails = c.fails;
       }
 
   -- a run that a sink's failure cut at its end
   runs_cut : (s t : C) (o p q : A) (m n r : B) (e f g : EngineState) (ending : SourceEnding) (status : Status) → SaysOutcomes job limits e
-      → IsFedAll limits.input (used left broke s t) (used wrote failed o p) (used emitted untold m n) e f ending → streams_left f ending [] ≡ with_waiting g (ended_with status)
-      → AreCut (used wrote failed p q) (used emitted untold n r) g.output g.messages
-      → SinkCut job limits (used left broke s t) (used wrote failed o q) (used emitted untold m r)
+      → IsFedAll limits.input (used left reads_went s t) (used wrote went o p) (used emitted went_too m n) e f ending → streams_left f ending [] ≡ with_waiting g (ended_with status)
+      → AreCut (used wrote went p q) (used emitted went_too n r) g.output g.messages
+      → SinkCut job limits (used left reads_went s t) (used wrote went o q) (used emitted went_too m r)
   runs_cut s t o p q m n r e f g ending status all a last cut =
-      let longer : StreamsAreCut (used wrote failed p q) (used emitted untold n r) (streams_left f ending []) =
-      subst (StreamsAreCut (used wrote failed p q) (used emitted untold n r)) (sym last) (cut_longer wrote failed emitted untold p q n r g.output g.messages [] [] cut) in
-      let c = subst (StreamsAreCut (used wrote failed o q) (used emitted untold m r)) (ap (streams_left e ending) (append-nil a.bytes) ∙ all a.bytes ending)
-      (cut_by wrote failed emitted untold o p q m n r e f a.bytes [] ending a.fed longer) in
+      let longer : StreamsAreCut (used wrote went p q) (used emitted went_too n r) (streams_left f ending []) =
+      subst (StreamsAreCut (used wrote went p q) (used emitted went_too n r)) (sym last) (cut_longer wrote went emitted went_too p q n r g.output g.messages [] [] cut) in
+      let c = subst (StreamsAreCut (used wrote went o q) (used emitted went_too m r)) (ap (streams_left e ending) (append-nil a.bytes) ∙ all a.bytes ending)
+      (cut_by wrote went emitted went_too o p q m n r e f a.bytes [] ending a.fed longer) in
       record {
-        input = record { bytes = a.bytes; ending = ending; consumed = a.reads.consumed; within = a.reads.within; whole = a.reads.whole };
+        input = record { bytes = a.bytes; ending = ending; consumed = a.reads.consumed; within = a.reads.within; whole = a.reads.whole; met = λ _ _ same. met_whole _ _ _ _ _ _ ending a.reads same; unmet = unmet_broken _ _ _ _ _ _ ending a.reads };
         written_count = c.output_count;
         messages_count = c.lines_count;
         written = c.written;
         messages_written = c.messages_written;
-        failed = c.failed;
+        fails = c.fails;
       }
 
   -- ---- and which ends failed
 
   pub is_run_whole : (s t : C) (o p q : A) (m n r : B) (e f g : EngineState) (ending : SourceEnding) (status : Status) → SaysOutcomes job limits e
-      → IsFedAll limits.input (used left broke s t) (used wrote failed o p) (used emitted untold m n) e f ending → streams_left f ending [] ≡ with_waiting g (ended_with status)
-      → AreSent (used wrote failed p q) (used emitted untold n r) g.output g.messages
-      → IsRun job limits (used left broke s t) (used wrote failed o q) (used emitted untold m r) status
-  is_run_whole s t o p q m n r e f g ending status all a last sent = record {
-    compiles = runs_whole s t o p q m n r e f g ending status all a last sent;
-    read_fault = runs_broken s t o p m n e f g ending status all a last;
-    write_fault = λ is. absurd (runs_sunk s t o p m n e f g ending status all a last is);
-    steady = λ is. (sent.steady ∙ a.fed.sent.steady, sent.messages_steady ∙ a.fed.sent.messages_steady);
-  }
+      → IsFedAll limits.input (used left reads_went s t) (used wrote went o p) (used emitted went_too m n) e f ending → streams_left f ending [] ≡ with_waiting g (ended_with status)
+      → AreSent (used wrote went p q) (used emitted went_too n r) g.output g.messages
+      → IsRun job limits (used left reads_went s t) (used wrote went o q) (used emitted went_too m r) status
+  is_run_whole s t o p q m n r e f g ending status all a last sent =
+      let x = sent_on wrote went emitted went_too o p q m n r a.fed.output a.fed.lines g.output g.messages a.fed.sent sent in
+      record {
+        compiles = runs_whole s t o p q m n r e f g ending status all a last sent;
+        read_fault = runs_broken s t o p m n e f g ending status all a last;
+        write_fault = λ is. absurd (runs_sunk s t o p m n e f g ending status all a last is);
+        steady = λ is. (x.goes_on.failures, x.messages_go_on.failures);
+        in_time = (a.in_time, (x.goes_on.none_late, x.messages_go_on.none_late));
+      }
 
-  is_run_cut : (source out messages : Use) → SinkCut job limits source out messages → IsRun job limits source out messages WriteFault
-  is_run_cut source out messages c = record {
+  is_run_cut : (source out messages : Use) → SinkCut job limits source out messages → NoneLate source.calls_old source.calls_new → IsRun job limits source out messages WriteFault
+  is_run_cut source out messages c in_time = record {
     compiles = c;
     read_fault = λ is. absurd (sunk_is_not_broken is);
-    write_fault = λ is. c.failed;
+    write_fault = λ is. a_failure_more _ _ _ _ c.fails;
     steady = λ is. absurd (is refl);
+    in_time = (in_time, sinks_in_time _ _ _ _ c.fails);
   }
 
-  pub is_run_cut_early : (s t : C) (o p : A) (m n : B) (e : EngineState) → SaysOutcomes job limits e → IsFedInPart limits.input (used left broke s t) (used wrote failed o p) (used emitted untold m n) e
-      → IsRun job limits (used left broke s t) (used wrote failed o p) (used emitted untold m n) WriteFault
-  is_run_cut_early s t o p m n e all a = is_run_cut (used left broke s t) (used wrote failed o p) (used emitted untold m n) (runs_short s t o p m n e all a)
+  pub is_run_cut_early : (s t : C) (o p : A) (m n : B) (e : EngineState) → SaysOutcomes job limits e → IsFedInPart limits.input (used left reads_went s t) (used wrote went o p) (used emitted went_too m n) e
+      → IsRun job limits (used left reads_went s t) (used wrote went o p) (used emitted went_too m n) WriteFault
+  is_run_cut_early s t o p m n e all a = is_run_cut (used left reads_went s t) (used wrote went o p) (used emitted went_too m n) (runs_short s t o p m n e all a) a.goes_on.none_late
 
   pub is_run_cut_late : (s t : C) (o p q : A) (m n r : B) (e f g : EngineState) (ending : SourceEnding) (status : Status) → SaysOutcomes job limits e
-      → IsFedAll limits.input (used left broke s t) (used wrote failed o p) (used emitted untold m n) e f ending → streams_left f ending [] ≡ with_waiting g (ended_with status)
-      → AreCut (used wrote failed p q) (used emitted untold n r) g.output g.messages
-      → IsRun job limits (used left broke s t) (used wrote failed o q) (used emitted untold m r) WriteFault
+      → IsFedAll limits.input (used left reads_went s t) (used wrote went o p) (used emitted went_too m n) e f ending → streams_left f ending [] ≡ with_waiting g (ended_with status)
+      → AreCut (used wrote went p q) (used emitted went_too n r) g.output g.messages
+      → IsRun job limits (used left reads_went s t) (used wrote went o q) (used emitted went_too m r) WriteFault
   is_run_cut_late s t o p q m n r e f g ending status all a last cut =
-      is_run_cut (used left broke s t) (used wrote failed o q) (used emitted untold m r) (runs_cut s t o p q m n r e f g ending status all a last cut)
+      is_run_cut (used left reads_went s t) (used wrote went o q) (used emitted went_too m r) (runs_cut s t o p q m n r e f g ending status all a last cut) a.in_time
 
   -- a run for which there was no memory
-  pub is_no_run : (s : C) (o : A) (m : B) → IsRun job limits (used left broke s s) (used wrote failed o o) (used emitted untold m m) NoMemory
+  pub is_no_run : (s : C) (o : A) (m : B) → IsRun job limits (used left reads_went s s) (used wrote went o o) (used emitted went_too m m) NoMemory
   is_no_run s o m = record {
     compiles = (
-      record { keeps = Keeps-refl (left s); steady = refl },
-      (record { keeps = Keeps-refl (wrote o); steady = refl }, record { keeps = Keeps-refl (emitted m); steady = refl }),
+      record { keeps = Keeps-refl (left s); uncalled = refl },
+      (record { keeps = Keeps-refl (wrote o); uncalled = refl }, record { keeps = Keeps-refl (emitted m); uncalled = refl }),
     );
     read_fault = λ is. cc;
     write_fault = λ is. cc;
     steady = λ is. (refl, refl);
+    in_time = (λ runs. refl, (λ runs. refl, λ runs. refl));
   }

@@ -31,7 +31,8 @@ use Rattle.gregorio_jobs.specs.declared.job.Status.{Status}
 use Rattle.gregorio.specs.declared.source_ending.SourceEnding.{SourceEnding}
 use Rattle.gregorio.specs.declared.source_ending.SourceEnding.TheVariants.{Whole as Ended, Broken}
 use Rattle.gregorio.specs.Outcome.{ending_by, is_cut_short, text_in, output_by, fault_line, shown_line, lines_of, status_by, status_with}
-use Rattle.gregorio.specs.Engine.{Streams, Written, heads_text, last_text, next_number, texts_behind, count_behind, has_errors, status_in, streams_in}
+use Rattle.gregorio.specs.Streams.{Streams, heads_text, last_text, next_number, texts_behind, count_behind}
+use Rattle.gregorio.specs.witness.Engine.{Written, has_errors, status_in, streams_in}
 
 -- ---- numbers
 

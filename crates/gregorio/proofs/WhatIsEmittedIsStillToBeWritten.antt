@@ -14,7 +14,8 @@ use Rattle.gregorio_jobs.specs.declared.job.Status.TheVariants.{Fatal}
 use Rattle.gregorio.specs.declared.run_part.RunPart.{RunPart}
 use Rattle.gregorio.specs.declared.run_part.RunPart.TheVariants as part
 use Rattle.gregorio.specs.Outcome.{shown_line, fault_line, is_error_finding, status_by}
-use Rattle.gregorio.specs.Engine.{Streams, Written, behind_bytes, ended_with, streams_in, syllable_text, last_text, last_in, next_number, texts_behind, has_errors, status_in}
+use Rattle.gregorio.specs.Streams.{Streams, behind_bytes, ended_with, syllable_text, last_text, next_number, texts_behind}
+use Rattle.gregorio.specs.witness.Engine.{Written, streams_in, last_in, has_errors, status_in}
 use Rattle.gregorio.specs.machine.ScoreWriter.{ScoreWriterState, past_output, past_outputs}
 
 abbrev streams_made : List ℕ → List ℕ → Status → Streams

@@ -13,7 +13,7 @@ use Rattle.gabc_write.specs.Message.{line_of}
 use Rattle.gregorio_jobs.specs.declared.job.Format.{Format}
 use Rattle.gregorio_jobs.specs.declared.job.Format.TheVariants.{Gabc, Dump}
 use Rattle.gregorio.specs.Outcome.{shown_line}
-use Rattle.gregorio.specs.Engine.{syllable_text, last_text, next_number}
+use Rattle.gregorio.specs.Streams.{syllable_text, last_text, next_number}
 use Rattle.gabc_score.specs.ScoreStage.{IsWithin}
 use Rattle.gregorio.specs.machine.RunWriter.{RunWriterState, with_found, with_fault, with_syllable, with_last, line_room, last_room, syllable_len, syllable_room, IsInRoom, HasRoomFor, IsSteadyWriter}
 

@@ -6,4 +6,5 @@ pub mod ItemsAreRead
 pub mod HeadersAreRead
 pub mod BytesAreTaken
 pub mod FrontIsTaken
+pub mod NothingIsKeptBack
 pub mod InputsAreEnded

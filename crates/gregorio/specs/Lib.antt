@@ -1,6 +1,9 @@
+pub mod machine
+pub mod witness
 pub mod CanonicalAgain
 pub mod Engine
+pub mod PrefixOfAStop
 pub mod Outcome
 pub mod Run
 pub mod SourceBytes
-pub mod machine
+pub mod Streams

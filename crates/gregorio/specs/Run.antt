@@ -1,27 +1,32 @@
 -- What a run does to its source and its sinks.
-use Rattle.std.specs.Prelude.{◌≡◌, ℕ, ◌<◌, ◌≤◌, ◌+◌, List, length, take, Option, ◌⊎◌}
+use Rattle.std.specs.Prelude.{◌≡◌, ℕ, ◌≤◌, ◌+◌, List, length, take, Option, ◌⊎◌, true, false}
 use Rattle.std.specs.Io.KnownBytes.{Appends, Consumes, IsAtEnd, Keeps}
+use Rattle.gabc_places.specs.Calls.{Calls, NoneLate, GoesOn, FailsOnce}
 use Rattle.gabc_places.specs.declared.limits.Limits.{Limits}
 use Rattle.gregorio.specs.declared.source_ending.SourceEnding.{SourceEnding}
-use Rattle.gregorio.specs.declared.source_ending.SourceEnding.TheVariants.{Whole}
+use Rattle.gregorio.specs.declared.source_ending.SourceEnding.TheVariants.{Whole, Broken}
 use Rattle.gregorio_jobs.specs.declared.job.Job.{Job}
 use Rattle.gregorio_jobs.specs.declared.job.Status.{Status}
 use Rattle.gregorio_jobs.specs.declared.job.Status.TheVariants.{NoMemory, WriteFault}
 use Rattle.gregorio.specs.Outcome.{outcome_of, output_of, messages_of, status_of}
 use Rattle.gregorio.specs.SourceBytes.{ReadsSource}
 
--- An end before and after a run: its bytes, where they are known, and the number of its failures.
+-- An end before and after a run: its bytes, where they are known, and how its calls went.
 pub record Use : Type 0 where
   pub old : Option (List ℕ)
   pub new : Option (List ℕ)
-  pub failed_old : ℕ
-  pub failed_new : ℕ
+  pub calls_old : Calls
+  pub calls_new : Calls
+
+-- that of an end that was `old` and is `new`
+abbrev pub used : {A : Type 0} → (A → Option (List ℕ)) → (A → Calls) → A → A → Use
+used bytes calls old new = record { old = bytes old; new = bytes new; calls_old = calls old; calls_new = calls new }
 
 -- the bytes that the source gave, and how it stopped
 pub record InputRead (limits : Limits) (source : Use) : Type 0 where
   pub bytes : List ℕ
   pub ending : SourceEnding
-  pub reads : ReadsSource source.old source.new source.failed_old source.failed_new limits.input bytes ending
+  pub reads : ReadsSource source.old source.new source.calls_old source.calls_new limits.input bytes ending
 
 -- The whole output and all messages were written, and the status is theirs.
 pub record Done (job : Job) (limits : Limits) (source out messages : Use) (status : Status) : Type 0 where
@@ -30,13 +35,19 @@ pub record Done (job : Job) (limits : Limits) (source out messages : Use) (statu
   pub messages_written : Appends messages.old messages.new (messages_of job (outcome_of limits input.ending input.bytes))
   pub ends : status ≡ status_of (outcome_of limits input.ending input.bytes)
 
--- Of the source these bytes were taken, and it stopped so: `Broken` also where it was not read to a stop.
+-- Of the source these bytes were taken, and it stopped so: `Broken` also where it was not read to a stop, and not one byte above the limit.
 pub record Taken (limits : Limits) (source : Use) : Type 0 where
   pub bytes : List ℕ
   pub ending : SourceEnding
   pub consumed : Consumes source.old source.new bytes
   pub within : length bytes ≤ limits.input + 1
   pub whole : ending ≡ Whole → length bytes ≤ limits.input → IsAtEnd source.new
+  pub met : source.calls_old.is_stopped ≡ false → source.calls_new.is_stopped ≡ true → source.calls_new.failures ≡ source.calls_old.failures → ending ≡ Whole
+  pub unmet : source.calls_new.is_stopped ≡ false → length bytes ≤ limits.input → ending ≡ Broken
+
+-- One sink failed, once, and the other did not.
+abbrev pub OneFails : Use → Use → Type 0
+OneFails out messages = (FailsOnce out.calls_old out.calls_new × GoesOn messages.calls_old messages.calls_new) ⊎ (GoesOn out.calls_old out.calls_new × FailsOnce messages.calls_old messages.calls_new)
 
 -- A sink failed: each stream holds a prefix of its text, for the bytes that were taken.
 pub record SinkCut (job : Job) (limits : Limits) (source out messages : Use) : Type 0 where
@@ -45,12 +56,16 @@ pub record SinkCut (job : Job) (limits : Limits) (source out messages : Use) : T
   pub messages_count : ℕ
   pub written : Appends out.old out.new (take written_count (output_of job.format (outcome_of limits input.ending input.bytes)))
   pub messages_written : Appends messages.old messages.new (take messages_count (messages_of job (outcome_of limits input.ending input.bytes)))
-  pub failed : (out.failed_old < out.failed_new) ⊎ (messages.failed_old < messages.failed_new)
+  pub fails : OneFails out messages
 
--- An end was not touched: it has the bytes, where they are known, and the failures that it had.
+-- An end was not touched: it has the bytes, where they are known, that it had, and was not called.
 pub record IsUntouched (end : Use) : Type 0 where
   pub keeps : Keeps end.old end.new
-  pub steady : end.failed_new ≡ end.failed_old
+  pub uncalled : end.calls_new ≡ end.calls_old
+
+-- No end that was not stopped before was called when it was.
+abbrev pub InTime : Use → Use → Use → Type 0
+InTime source out messages = NoneLate source.calls_old source.calls_new × (NoneLate out.calls_old out.calls_new × NoneLate messages.calls_old messages.calls_new)
 
 -- By how the run ended: there was no memory, and nothing was read or written; a sink failed; or all was written.
 abbrev pub Compiles : Job → Limits → Use → Use → Use → Status → Type 0

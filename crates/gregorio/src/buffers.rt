@@ -1,8 +1,9 @@
 //! Bytes that wait to be sent.
 
 ghost use Rattle.std.specs.Prelude.{◌≡◌, ◌<◌, true, false, IfOk, OnOk, OnErr};
+ghost use Rattle.gregorio.specs.Run.{used};
 ghost use Rattle.gregorio.specs.machine.Buffers.{IsTakenOver, nothing_buffered};
-ghost use Rattle.gregorio.specs.machine.Compile.{AreCut, AreSent, used};
+ghost use Rattle.gregorio.specs.machine.Compile.{AreCut, AreSent};
 
 use crate::engine::Engine;
 use gabc_places::{Room, Sink, Unsent, send_all};
@@ -58,12 +59,12 @@ impl Buffers {
         out: &mut O,
         messages: &mut M,
     ) -> Result<(), Unsent>
-        ensures all { OnOk result (AreSent (used O.written O.failures out.old out.new)
-            (used M.written M.failures messages.old messages.new)
+        ensures all { OnOk result (AreSent (used O.written O.calls out.old out.new)
+            (used M.written M.calls messages.old messages.new)
             self.old.output self.old.messages) }
         ensures forgets { OnOk result (self.new ≡ nothing_buffered) }
-        ensures cut { OnErr result (AreCut (used O.written O.failures out.old out.new)
-            (used M.written M.failures messages.old messages.new)
+        ensures cut { OnErr result (AreCut (used O.written O.calls out.old out.new)
+            (used M.written M.calls messages.old messages.new)
             self.old.output self.old.messages) }
     {
         send_both(self.out.slice(), self.messages.slice(), out, messages)?;
@@ -80,13 +81,13 @@ pub(crate) fn send_both<O: Sink, M: Sink>(
     out: &mut O,
     messages: &mut M,
 ) -> Result<(), Unsent>
-    ensures all { OnOk result (AreSent (used O.written O.failures out.old out.new)
-        (used M.written M.failures messages.old messages.new)
+    ensures all { OnOk result (AreSent (used O.written O.calls out.old out.new)
+        (used M.written M.calls messages.old messages.new)
         output.now lines.now) }
-    ensures cut { OnErr result (AreCut (used O.written O.failures out.old out.new)
-        (used M.written M.failures messages.old messages.new)
+    ensures cut { OnErr result (AreCut (used O.written O.calls out.old out.new)
+        (used M.written M.calls messages.old messages.new)
         output.now lines.now) }
-    ensures order { OnErr result (O.failures out.old < O.failures out.new →
+    ensures order { OnErr result ((O.calls out.old).failures < (O.calls out.new).failures →
         messages.new ≡ messages.old) }
 {
     send_all(out, output)?;

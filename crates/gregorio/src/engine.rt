@@ -1,13 +1,15 @@
 //! A run that takes its input in pieces.
 
-ghost use Rattle.std.specs.Prelude.{◌≡◌, ◌<◌, ◌≤◌, List, [], ◌∷◌, ◌++◌, length, take, true, false, ℕ, IfOk, option_to_list};
+ghost use Rattle.std.specs.Prelude.{◌≡◌, ◌<◌, ◌≤◌, ◌-◌, List, [], ◌∷◌, ◌++◌, length, take, true, false, ℕ, IfOk, option_to_list};
 ghost use Rattle.gabc_headers.specs.declared.head_event.HeadEvent.{HeadEvent as HeadItem};
 ghost use Rattle.gabc_headers.specs.declared.head_event.HeadEvent.TheVariants.{End};
 ghost use Rattle.gregorio.specs.declared.source_ending.SourceEnding.{SourceEnding as EndOfSource};
 ghost use Rattle.gregorio.specs.declared.source_ending.SourceEnding.TheVariants.{Whole, Broken};
 ghost use Rattle.gregorio_jobs.specs.declared.job.Status.TheVariants.{ReadFault};
 ghost use Rattle.gregorio.specs.Outcome.{outcome_of};
-ghost use Rattle.gregorio.specs.Engine.{NothingWaits, is_running, streams_left, streams_of_outcome, with_waiting, ended_with};
+ghost use Rattle.gregorio.specs.Engine.{IsPrompt, NothingWaits, is_running, with_waiting};
+ghost use Rattle.gregorio.specs.witness.Engine.{streams_left};
+ghost use Rattle.gregorio.specs.Streams.{streams_of_outcome, ended_with};
 ghost use Rattle.gregorio.specs.machine.Engine.{GoTogether, IsBodyPast, IsEmpty, WritesAll, WritesItems, event_of_item};
 ghost use Rattle.gregorio.specs.machine.ScoreWriter.{FitsEvents, IsReserved, IsShortBook, IsSteady};
 
@@ -17,6 +19,7 @@ use gabc_headers::{HeadEvent, HeaderBook, HeaderStage};
 use gabc_places::{Char, Decoder, Fault, Limits, Room, Stage};
 use gregorio_jobs::{Job, Status};
 use std::alloc::{AllocError, Global};
+use std::hash::DefaultHasher;
 use std::marker::Model;
 
 /// Compiles a score that comes in pieces. What is known of it is written before the next byte is read, and waits until it is taken. It asks
@@ -39,7 +42,7 @@ pub struct Engine {
 }
 
 impl Model for Engine {
-    ghost use Rattle.gregorio.specs.Engine.{EngineState};
+    ghost use Rattle.gregorio.specs.witness.Engine.{EngineState};
     ghost use Rattle.gregorio.specs.machine.Engine.{IsEngine};
 
     ghost Value = { EngineState };
@@ -161,7 +164,27 @@ impl Engine {
     /// Returns an engine for `job` under `limits`, before the first byte of its input, and reserves the memory that it ever takes. It fails only
     /// for want of memory. The ends that `job` names
     /// are not opened: its format, the name of its input and whether it wants warnings are all that counts.
+    ///
+    /// Names of headers are hashed with fixed keys. Where strangers choose the names, they can choose them so that the headers are read
+    /// slowly (see docs/BENCHMARKS.md): take `with_hasher` there.
     pub fn new(alloc: Global, job: &Job, limits: Limits) -> Result<Engine, AllocError>
+        ensures all { IfOk result (λ engine. (bytes : List ℕ) (ending : EndOfSource) →
+            streams_left engine ending bytes
+            ≡ streams_of_outcome job.now (outcome_of limits ending bytes)) }
+        ensures waits { IfOk result (λ engine. NothingWaits engine) }
+        ensures running { IfOk result (λ engine. is_running engine ≡ true) }
+    {
+        Engine::with_hasher(alloc, job, limits, DefaultHasher::new())
+    }
+
+    /// Returns an engine as `new` does, which hashes the names of headers from `hasher` on, as `RandomState::new(&rt)?.build_hasher()`. What
+    /// is written does not depend on it.
+    pub fn with_hasher(
+        alloc: Global,
+        job: &Job,
+        limits: Limits,
+        hasher: DefaultHasher,
+    ) -> Result<Engine, AllocError>
         ensures all { IfOk result (λ engine. (bytes : List ℕ) (ending : EndOfSource) →
             streams_left engine ending bytes
             ≡ streams_of_outcome job.now (outcome_of limits ending bytes)) }
@@ -175,7 +198,7 @@ impl Engine {
         gabc_score::laws::syllables_are_fewer_than_bytes();
         gabc_score::stage_laws::texts_are_read_in_full();
         let from_heads = Room::with_limit(alloc, 2)?;
-        let heads = HeaderStage::with_limits(alloc, limits)?;
+        let heads = HeaderStage::with_hasher(alloc, limits, hasher)?;
         match ScoreWriter::with_limits(alloc, job, limits) {
             Ok(writer) => Ok(Engine {
                 decoder: Decoder::new(limits),
@@ -191,13 +214,25 @@ impl Engine {
         }
     }
 
+    /// Does nothing. Its contract is a law: nothing is kept back but what is held.
+    #[inline(always)]
+    fn keeps_nothing_back(&self)
+        ensures { IsPrompt self.now.written.format (streams_left self.now Broken []) }
+    {
+        gabc_score::stage_laws::inputs_that_cease_give_no_stop();
+        self.writer.at_most_one_is_held();
+    }
+
     /// Takes a byte.
     fn take(&mut self, byte: u8)
         requires waits { NothingWaits self.old }
+        ensures prompt { IsPrompt self.old.written.format (streams_left self.old Broken []) }
+        ensures format { self.new.written.format ≡ self.old.written.format }
         ensures law { (bytes : List ℕ) (ending : EndOfSource)
             → streams_left self.old ending (byte ∷ bytes)
             ≡ with_waiting self.new (streams_left self.new ending bytes) }
     {
+        self.keeps_nothing_back();
         let item = self.decoder.take(byte);
         read_decoded(
             item,
@@ -216,6 +251,7 @@ impl Engine {
             → streams_left self.old ending (take result piece.now ++ bytes)
             ≡ streams_left self.new ending bytes }
         ensures part { self.new.part ≡ self.old.part }
+        ensures format { self.new.written.format ≡ self.old.written.format }
         ensures output { self.new.output ≡ self.old.output }
         ensures messages { self.new.messages ≡ self.old.messages }
     {
@@ -236,6 +272,9 @@ impl Engine {
         ensures law { (bytes : List ℕ) (ending : EndOfSource)
             → streams_left self.old ending (take result piece.now ++ bytes)
             ≡ with_waiting self.new (streams_left self.new ending bytes) }
+        ensures format { self.new.written.format ≡ self.old.written.format }
+        ensures stops { ¬ (NothingWaits self.new) → IsPrompt self.old.written.format
+            (streams_left self.old Broken (take (result - 1) piece.now)) }
     {
         let count = self.take_front(piece);
         if count == piece.len() {
@@ -245,7 +284,8 @@ impl Engine {
         count + 1
     }
 
-    /// Takes bytes of `piece` until it is used up or output or messages wait, and returns how many. Nothing may wait before. Behind a fatal
+    /// Takes bytes of `piece` until it is used up or output or messages wait, and returns how many. Nothing may wait before. What waits then
+    /// became known with the last byte that it took, and all that is known waits, but for the syllable that is held. Behind a fatal
     /// fault or the end it takes the whole piece and changes nothing.
     pub fn feed(&mut self, piece: &[u8]) -> usize
         requires waits { NothingWaits self.old }
@@ -259,8 +299,14 @@ impl Engine {
             → (result ≡ length piece.now) × (self.new ≡ self.old) }
         ensures running { is_running self.new ≡ true →
             (streams_left self.new Broken []).status ≡ ReadFault }
+        ensures prompt { IsPrompt self.new.written.format (streams_left self.new Broken []) }
+        ensures stops { ¬ (NothingWaits self.new) → IsPrompt self.old.written.format
+            (streams_left self.old Broken (take (result - 1) piece.now)) }
+        ensures fault { is_running self.old ≡ true → ¬ (NothingWaits self.new) →
+            (streams_left self.old Broken (take (result - 1) piece.now)).status ≡ ReadFault }
     {
         gabc_score::stage_laws::inputs_that_cease_give_no_stop();
+        gabc_score::stage_laws::the_end_comes_with_the_end();
         let mut count = 0;
         if !self.running() {
             return piece.len();
@@ -268,6 +314,7 @@ impl Engine {
         while count < piece.len() && self.nothing_waits() {
             count += self.take_some(&piece[count..]);
         }
+        self.keeps_nothing_back();
         count
     }
 
@@ -293,9 +340,11 @@ impl Engine {
         self.writer.messages()
     }
 
-    /// Forgets what waits, which was taken.
+    /// Forgets what waits, which was taken. What is still to be written stays.
     pub fn taken(&mut self)
-        ensures { self.new ≡ record self.old { output = []; messages = [] } }
+        ensures forgets { self.new ≡ record self.old { output = []; messages = [] } }
+        ensures left { (bytes : List ℕ) (ending : EndOfSource) →
+            streams_left self.new ending bytes ≡ streams_left self.old ending bytes }
     {
         self.writer.clear();
     }

@@ -1,6 +1,6 @@
 //! Laws of the definitions that contracts speak of. Each function's contract is a law; its body calls the laws below that it stands on.
 
-ghost use Rattle.std.specs.Prelude.{◌≡◌, ℕ, ◌≤◌, List, length, IsSome, Some};
+ghost use Rattle.std.specs.Prelude.{◌≡◌, ℕ, ◌≤◌, List, [], length, false, IsSome, None, Some};
 ghost use Rattle.std.specs.Io.KnownBytes.{Appends};
 ghost use Rattle.gabc_places.specs.declared.limits.Limits.{Limits};
 ghost use Rattle.gabc_places.specs.LargerLimits.{AreNoLess};
@@ -11,7 +11,9 @@ ghost use Rattle.gregorio.specs.declared.source_ending.SourceEnding.{SourceEndin
 ghost use Rattle.gregorio.specs.declared.source_ending.SourceEnding.TheVariants.{Whole};
 ghost use Rattle.gregorio_jobs.specs.declared.job.Format.TheVariants.{Gabc};
 ghost use Rattle.gregorio.specs.CanonicalAgain.{IsOutcomeAgain};
-ghost use Rattle.gregorio.specs.Outcome.{outcome_of, output_of};
+ghost use Rattle.gregorio.specs.PrefixOfAStop.{IsPrefixBeforeStop};
+ghost use Rattle.gregorio.specs.Outcome.{is_read_whole, outcome_of, output_of};
+ghost use Rattle.gregorio_jobs.specs.declared.job.Format.{Format};
 ghost use Rattle.gregorio.specs.Run.{Use, Done};
 
 /// A canonical output whose headers are whole, also that of a run that was stopped or broken off, is compiled again under the same
@@ -39,9 +41,31 @@ pub fn a_run_over_an_output_repeats_it()
         (source out messages : Use) (status : Status) →
         let first = outcome_of limits ending bytes in
         AreNoLess limits larger → IsSome first.score.book → job.format ≡ Gabc →
-        source.old ≡ Some (output_of Gabc first) → source.failed_new ≡ source.failed_old →
+        source.old ≡ Some (output_of Gabc first) →
+        source.calls_new.failures ≡ source.calls_old.failures →
         Done job larger source out messages status →
         Appends out.old out.new (output_of Gabc first) × (status ≡ RunWhole) }
 {
     canonical_again();
+}
+
+/// A run that is stopped behind its headers, by a fault or by a source that failed, writes what a prefix of its bytes writes when it is read
+/// as a whole: the bytes of its text through the `)` of the last whole syllable, or through the `%%`, if there is none. This prefix has no
+/// fault, the same book and the same syllables. Only its dump has one line more, the last. A run that is stopped before has no output.
+pub fn a_stopped_run_writes_what_its_prefix_writes()
+    ensures prefix { (limits : Limits) (ending : SourceEnding) (bytes : List ℕ)
+        (book : List (List ℕ × List ℕ)) →
+        let first = outcome_of limits ending bytes in
+        is_read_whole first ≡ false → first.score.book ≡ Some book →
+        (count : ℕ) × IsPrefixBeforeStop limits ending bytes book count }
+    ensures none { (limits : Limits) (ending : SourceEnding) (bytes : List ℕ) (format : Format) →
+        let first = outcome_of limits ending bytes in
+        first.score.book ≡ None → output_of format first ≡ [] }
+{
+    gabc_places::laws::a_prefix_of_a_text_is_read_of_a_prefix_of_its_bytes();
+    gabc_places::laws::texts_are_scalars_within_the_limit();
+    gabc_score::laws::a_body_has_one_cutting();
+    gabc_score::laws::whole_prefixes_are_first_characters();
+    gabc_score::laws::the_syllables_are_those_of_the_units();
+    gabc_score::laws::a_stopped_score_is_that_of_its_prefix();
 }

@@ -31,5 +31,5 @@ pub use engine::Engine;
 pub use findings::is_shown;
 pub use gregorio_jobs::{Format, Input, Job, Name, Output, Plan, Refusal, Status, Words, plan};
 pub use outcome::Outcome;
-pub use run::compile;
+pub use run::{compile, compile_with_hasher};
 pub use source_ending::SourceEnding;

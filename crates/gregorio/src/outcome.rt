@@ -7,9 +7,10 @@ use crate::findings::{put_messages, status_by};
 use crate::output::{output_room, room_for};
 use crate::source_ending::SourceEnding;
 use gabc_places::{ByteCounter, Fault, Limits, Room, text_of};
-use gabc_score::{Score, score_whole};
+use gabc_score::{Score, score_whole_with_hasher};
 use gregorio_jobs::{Format, Status};
 use std::alloc::{AllocError, Global};
+use std::hash::DefaultHasher;
 
 /// What a run makes of its input: the score, and whether it was cut short since the source failed.
 #[derive(Drop)]
@@ -43,7 +44,8 @@ fn is_cut_short(ending: SourceEnding, fault: Option<Fault>) -> bool
 
 impl Outcome {
     /// Reads the score of `bytes` under `limits`. The bytes are a whole input, or those that came before its source failed, as `ending`
-    /// tells. It fails only for want of memory.
+    /// tells. It fails only for want of memory. The names of headers are hashed with a fixed key: where strangers write the bytes and `limits.header`
+    /// is large, take `of_with_hasher`.
     pub fn of(
         alloc: Global,
         bytes: &[u8],
@@ -52,10 +54,23 @@ impl Outcome {
     ) -> Result<Outcome, AllocError>
         ensures { IfOk result (λ outcome. outcome ≡ outcome_of limits ending bytes.now) }
     {
+        Outcome::of_with_hasher(alloc, bytes, ending, limits, DefaultHasher::new())
+    }
+
+    /// Reads the score of `bytes` as `of` does, and hashes the names of its headers from `hasher` on. What it returns does not depend on `hasher`.
+    pub fn of_with_hasher(
+        alloc: Global,
+        bytes: &[u8],
+        ending: SourceEnding,
+        limits: Limits,
+        hasher: DefaultHasher,
+    ) -> Result<Outcome, AllocError>
+        ensures { IfOk result (λ outcome. outcome ≡ outcome_of limits ending bytes.now) }
+    {
         let ended = ending == SourceEnding::Whole;
         let decoded = text_of(alloc, bytes, ended, limits)?;
         let how = ending_of(ending, decoded.fault);
-        let score = score_whole(alloc, &decoded.text, how, limits)?;
+        let score = score_whole_with_hasher(alloc, &decoded.text, how, limits, hasher)?;
         let broken = is_cut_short(ending, score.fault);
         Ok(Outcome { score, broken })
     }

@@ -3,10 +3,12 @@
 ghost use Rattle.std.specs.Prelude.{◌≡◌, ◌≢◌, ◌<◌, ◌⊎◌, ◌++◌, ℕ, List, [], IfOk, OnOk, OnErr};
 ghost use Rattle.gregorio_jobs.specs.declared.job.Status.TheVariants.{ReadFault, WriteFault};
 ghost use Rattle.gregorio.specs.declared.source_ending.SourceEnding.{SourceEnding as EndOfSource};
-ghost use Rattle.gregorio.specs.Engine.{NothingWaits, ended_with, streams_left, with_waiting};
-ghost use Rattle.gregorio.specs.Run.{Compiles};
+ghost use Rattle.gregorio.specs.Engine.{NothingWaits, with_waiting};
+ghost use Rattle.gregorio.specs.Streams.{ended_with};
+ghost use Rattle.gregorio.specs.witness.Engine.{streams_left};
+ghost use Rattle.gregorio.specs.Run.{Compiles, InTime, used};
 ghost use Rattle.gregorio.specs.machine.Buffers.{AreBuffered, nothing_buffered};
-ghost use Rattle.gregorio.specs.machine.Compile.{AreCut, AreSent, IsFed, IsFedAll, IsFedInPart, IsRun, SaysOutcomes, StreamsAreCut, used};
+ghost use Rattle.gregorio.specs.machine.Compile.{AreCut, AreSent, IsFed, IsFedAll, IsFedInPart, IsRun, SaysOutcomes, StreamsAreCut};
 
 use crate::buffers::{Buffers, send_both};
 use crate::engine::Engine;
@@ -14,6 +16,7 @@ use crate::source_ending::SourceEnding;
 use gabc_places::{Limits, Sink, Source, Unsent};
 use gregorio_jobs::{Job, Status};
 use std::alloc::Global;
+use std::hash::DefaultHasher;
 
 /// How many bytes one read asks for at most.
 const PIECE: usize = 8192;
@@ -27,12 +30,12 @@ fn send_waiting<O: Sink, M: Sink>(
     out: &mut O,
     messages: &mut M,
 ) -> Result<(), Unsent>
-    ensures all { OnOk result (AreSent (used O.written O.failures out.old out.new)
-        (used M.written M.failures messages.old messages.new)
+    ensures all { OnOk result (AreSent (used O.written O.calls out.old out.new)
+        (used M.written M.calls messages.old messages.new)
         engine.old.output engine.old.messages) }
     ensures forgets { OnOk result (engine.new ≡ record engine.old { output = []; messages = [] }) }
-    ensures cut { OnErr result (AreCut (used O.written O.failures out.old out.new)
-        (used M.written M.failures messages.old messages.new)
+    ensures cut { OnErr result (AreCut (used O.written O.calls out.old out.new)
+        (used M.written M.calls messages.old messages.new)
         engine.old.output engine.old.messages) }
 {
     send_both(engine.out(), engine.messages(), out, messages)?;
@@ -47,11 +50,11 @@ fn buffer_waiting<O: Sink, M: Sink>(
     out: &mut O,
     messages: &mut M,
 ) -> Result<(), Unsent>
-    ensures buffers { OnOk result (AreBuffered (used O.written O.failures out.old out.new)
-        (used M.written M.failures messages.old messages.new)
+    ensures buffers { OnOk result (AreBuffered (used O.written O.calls out.old out.new)
+        (used M.written M.calls messages.old messages.new)
         buffers.old engine.old buffers.new engine.new) }
-    ensures cut { OnErr result (AreCut (used O.written O.failures out.old out.new)
-        (used M.written M.failures messages.old messages.new)
+    ensures cut { OnErr result (AreCut (used O.written O.calls out.old out.new)
+        (used M.written M.calls messages.old messages.new)
         (buffers.old.output ++ engine.old.output) (buffers.old.messages ++ engine.old.messages)) }
 {
     if buffers.take(engine) {
@@ -74,12 +77,12 @@ fn feed_piece<O: Sink, M: Sink>(
     requires buffers { buffers.old ≡ nothing_buffered }
     ensures waits { OnOk result (NothingWaits engine.new) }
     ensures buffers { OnOk result (buffers.new ≡ nothing_buffered) }
-    ensures fed { OnOk result (IsFed (used O.written O.failures out.old out.new)
-        (used M.written M.failures messages.old messages.new)
+    ensures fed { OnOk result (IsFed (used O.written O.calls out.old out.new)
+        (used M.written M.calls messages.old messages.new)
         engine.old engine.new piece.now) }
     ensures cut { OnErr result ((ending : EndOfSource) →
-        StreamsAreCut (used O.written O.failures out.old out.new)
-        (used M.written M.failures messages.old messages.new)
+        StreamsAreCut (used O.written O.calls out.old out.new)
+        (used M.written M.calls messages.old messages.new)
         (streams_left engine.old ending piece.now)) }
 {
     let mut count = 0;
@@ -104,14 +107,14 @@ fn feed_all<S: Source, O: Sink, M: Sink>(
     requires buffers { buffers.old ≡ nothing_buffered }
     ensures waits { OnOk result (NothingWaits engine.new) }
     ensures fed { IfOk result (λ ending.
-        IsFedAll limit (used S.remaining S.failures source.old source.new)
-        (used O.written O.failures out.old out.new)
-        (used M.written M.failures messages.old messages.new)
+        IsFedAll limit (used S.remaining S.calls source.old source.new)
+        (used O.written O.calls out.old out.new)
+        (used M.written M.calls messages.old messages.new)
         engine.old engine.new ending) }
     ensures cut { OnErr result (IsFedInPart limit
-        (used S.remaining S.failures source.old source.new)
-        (used O.written O.failures out.old out.new)
-        (used M.written M.failures messages.old messages.new)
+        (used S.remaining S.calls source.old source.new)
+        (used O.written O.calls out.old out.new)
+        (used M.written M.calls messages.old messages.new)
         engine.old) }
 {
     let most = limit as usize + 1;
@@ -156,9 +159,9 @@ fn run<S: Source, O: Sink, M: Sink>(
     requires waits { NothingWaits engine.old }
     requires buffers { buffers.old ≡ nothing_buffered }
     ensures runs { (job : Job) → SaysOutcomes job limits engine.old →
-        IsRun job limits (used S.remaining S.failures source.old source.new)
-        (used O.written O.failures out.old out.new)
-        (used M.written M.failures messages.old messages.new) result }
+        IsRun job limits (used S.remaining S.calls source.old source.new)
+        (used O.written O.calls out.old out.new)
+        (used M.written M.calls messages.old messages.new) result }
 {
     let Ok(ending) = feed_all(engine, limits.input, buffers, source, out, messages) else {
         return Status::WriteFault;
@@ -181,9 +184,9 @@ fn run_buffered<S: Source, O: Sink, M: Sink>(
 ) -> Status
     requires waits { NothingWaits engine.old }
     ensures runs { (job : Job) → SaysOutcomes job limits engine.old →
-        IsRun job limits (used S.remaining S.failures source.old source.new)
-        (used O.written O.failures out.old out.new)
-        (used M.written M.failures messages.old messages.new) result }
+        IsRun job limits (used S.remaining S.calls source.old source.new)
+        (used O.written O.calls out.old out.new)
+        (used M.written M.calls messages.old messages.new) result }
 {
     match Buffers::with_limit(alloc, BUFFERED) {
         Ok(mut buffers) => {
@@ -197,7 +200,8 @@ fn run_buffered<S: Source, O: Sink, M: Sink>(
 
 /// Reads a score from `source`, at most one byte more than `limits.input`, writes it in the format of `job` to `out`, and its messages to
 /// `messages`. Returns how it went. The ends that `job` names are not opened. At `WriteFault` each sink holds a prefix of its text; at `NoMemory` nothing was read
-/// or written.
+/// or written. Names of headers are hashed with a fixed key: where strangers write the score and `limits.header` is large, take
+/// `compile_with_hasher` (`docs/BENCHMARKS.md` has what chosen names cost).
 pub fn compile<S: Source, O: Sink, M: Sink>(
     alloc: Global,
     job: &Job,
@@ -207,32 +211,55 @@ pub fn compile<S: Source, O: Sink, M: Sink>(
     messages: &mut M,
 ) -> Status
     ensures runs { Compiles job.now limits
-        (record {
-          old = S.remaining source.old;
-          new = S.remaining source.new;
-          failed_old = S.failures source.old;
-          failed_new = S.failures source.new;
-        })
-        (record {
-          old = O.written out.old;
-          new = O.written out.new;
-          failed_old = O.failures out.old;
-          failed_new = O.failures out.new;
-        })
-        (record {
-          old = M.written messages.old;
-          new = M.written messages.new;
-          failed_old = M.failures messages.old;
-          failed_new = M.failures messages.new;
-        }) result }
-    ensures read_fault { result ≡ ReadFault → S.failures source.old < S.failures source.new }
+        (used S.remaining S.calls source.old source.new)
+        (used O.written O.calls out.old out.new)
+        (used M.written M.calls messages.old messages.new) result }
+    ensures in_time { InTime
+        (used S.remaining S.calls source.old source.new)
+        (used O.written O.calls out.old out.new)
+        (used M.written M.calls messages.old messages.new) }
+    ensures read_fault { result ≡ ReadFault →
+        (S.calls source.old).failures < (S.calls source.new).failures }
     ensures write_fault { result ≡ WriteFault →
-        (O.failures out.old < O.failures out.new)
-        ⊎ (M.failures messages.old < M.failures messages.new) }
-    ensures steady { result ≢ WriteFault → (O.failures out.new ≡ O.failures out.old) ×
-        (M.failures messages.new ≡ M.failures messages.old) }
+        ((O.calls out.old).failures < (O.calls out.new).failures)
+        ⊎ ((M.calls messages.old).failures < (M.calls messages.new).failures) }
+    ensures steady { result ≢ WriteFault →
+        ((O.calls out.new).failures ≡ (O.calls out.old).failures) ×
+        ((M.calls messages.new).failures ≡ (M.calls messages.old).failures) }
 {
-    match Engine::new(alloc, job, limits) {
+    let hasher = DefaultHasher::new();
+    compile_with_hasher(alloc, job, limits, hasher, source, out, messages)
+}
+
+/// Does what `compile` does, and hashes the names of headers from `hasher` on, such as `RandomState::new(&rt)?.build_hasher()`. What is written
+/// does not depend on it.
+pub fn compile_with_hasher<S: Source, O: Sink, M: Sink>(
+    alloc: Global,
+    job: &Job,
+    limits: Limits,
+    hasher: DefaultHasher,
+    source: &mut S,
+    out: &mut O,
+    messages: &mut M,
+) -> Status
+    ensures runs { Compiles job.now limits
+        (used S.remaining S.calls source.old source.new)
+        (used O.written O.calls out.old out.new)
+        (used M.written M.calls messages.old messages.new) result }
+    ensures in_time { InTime
+        (used S.remaining S.calls source.old source.new)
+        (used O.written O.calls out.old out.new)
+        (used M.written M.calls messages.old messages.new) }
+    ensures read_fault { result ≡ ReadFault →
+        (S.calls source.old).failures < (S.calls source.new).failures }
+    ensures write_fault { result ≡ WriteFault →
+        ((O.calls out.old).failures < (O.calls out.new).failures)
+        ⊎ ((M.calls messages.old).failures < (M.calls messages.new).failures) }
+    ensures steady { result ≢ WriteFault →
+        ((O.calls out.new).failures ≡ (O.calls out.old).failures) ×
+        ((M.calls messages.new).failures ≡ (M.calls messages.old).failures) }
+{
+    match Engine::with_hasher(alloc, job, limits, hasher) {
         Ok(mut engine) => {
             let status = run_buffered(alloc, &mut engine, limits, source, out, messages);
             // A proof follows a call faster than all that lies inside an engine.

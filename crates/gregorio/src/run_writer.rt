@@ -6,7 +6,7 @@ ghost use Rattle.gabc_score.specs.Canonical.{canonical_in_place};
 ghost use Rattle.gabc_write.specs.Message.{line_of};
 ghost use Rattle.gabc_places.specs.BoundedList.{Fits};
 ghost use Rattle.gabc_score.specs.Syllable.{placed_of};
-ghost use Rattle.gregorio.specs.Engine.{heads_text, last_text, next_number, syllable_text};
+ghost use Rattle.gregorio.specs.Streams.{heads_text, last_text, next_number, syllable_text};
 ghost use Rattle.gregorio.specs.Outcome.{shown_line, status_by};
 ghost use Rattle.gregorio.specs.machine.ScoreWriter.{fresh_writer};
 ghost use Rattle.gregorio.specs.machine.RunWriter.{syllable_len, syllable_room as room_of_syllable, heads_len, heads_room as room_of_heads, line_room, last_room, with_heads, with_found, with_fault, with_syllable, with_last};

@@ -4,9 +4,11 @@ ghost use Rattle.std.specs.Prelude.{◌≡◌, ◌≤◌, ℕ, List, [], ◌∷�
 ghost use Rattle.std.specs.List.{All};
 ghost use Rattle.gabc_places.specs.Skip.{IsPrintable};
 ghost use Rattle.gabc_headers.specs.declared.head_event.HeadEvent.{HeadEvent as HeadItem};
-ghost use Rattle.gabc_score.specs.BodyStage.{texts_by_stage};
-ghost use Rattle.gabc_score.specs.ScoreEvents.{ScoreOutput, score_outputs};
-ghost use Rattle.gabc_score.specs.ScoreStage.{AreCountsBelow, left_of};
+ghost use Rattle.gabc_score.specs.witness.BodyStage.{texts_by_stage};
+ghost use Rattle.gabc_places.specs.StageLaw.{concat_of};
+ghost use Rattle.gabc_score.specs.ScoreEvents.{ScoreOutput, score_outputs, syllables_in};
+ghost use Rattle.gabc_score.specs.ScoreStage.{AreCountsBelow};
+ghost use Rattle.gabc_score.specs.witness.ScoreStage.{left_of};
 ghost use Rattle.gregorio.specs.Engine.{is_running_in};
 ghost use Rattle.gregorio.specs.machine.RunWriter.{HasRoomFor, IsInRoom, IsSteadyWriter};
 ghost use Rattle.gregorio.specs.machine.ScoreWriter.{output_of_event, outputs_of_events, past_output, past_outputs, writer_at, IsBodyBehind, IsShortBook, emptied, fresh_writer, IsReserved, IsSteady, FitsEvents, WritesAt, WritesLast, WritesNothing};
@@ -238,6 +240,14 @@ impl ScoreWriter {
         self.writer.last(false);
         self.part = RunPart::Over(Status::ReadFault);
         Status::ReadFault
+    }
+
+    /// Does nothing. Its contract is a law: where nothing more comes, at most one syllable is written.
+    #[inline(always)]
+    pub(crate) fn at_most_one_is_held(&self)
+        ensures { length (syllables_in (concat_of (left_of self.now.score []))) ≤ 1 }
+    {
+        gabc_score::stage_laws::at_most_one_syllable_is_held(&self.score);
     }
 
     /// Returns where the run stands.

@@ -10,6 +10,7 @@ use crate::request::Request;
 use gabc_places::{Limits, Room};
 use gregorio::{Outcome, SourceEnding};
 use std::alloc::{AllocError, Global};
+use std::hash::{DefaultHasher, Hasher};
 
 /// The name that messages give the input.
 const NAME: &str = "<stdin>";
@@ -29,11 +30,31 @@ pub(crate) struct Messages {
     pub status: u32,
 }
 
-/// Reads `score`, a whole input, under the default limits. It fails only for want of memory.
-pub(crate) fn outcome_of_whole(alloc: Global, score: &[u8]) -> Result<Outcome, AllocError>
+/// Returns a hasher that has taken the words of `key`. Without one it begins as each such hasher does.
+fn hasher_of(key: &[u64]) -> DefaultHasher {
+    let mut hasher = DefaultHasher::new();
+    for word in key {
+        hasher.write_u64(*word);
+    }
+    hasher
+}
+
+/// Reads `score`, a whole input, under the default limits, and hashes the names of its headers with `key`. It fails only for want of memory.
+pub(crate) fn outcome_of_whole(
+    alloc: Global,
+    score: &[u8],
+    key: &[u64],
+) -> Result<Outcome, AllocError>
     ensures { IfOk result (λ outcome. IsOutcomeOf score.now outcome) }
 {
-    Outcome::of(alloc, score, SourceEnding::Whole, Limits::default())
+    let hasher = hasher_of(key);
+    Outcome::of_with_hasher(
+        alloc,
+        score,
+        SourceEnding::Whole,
+        Limits::default(),
+        hasher,
+    )
 }
 
 /// Returns the exit status of a run with this `outcome`.

@@ -29,7 +29,8 @@ const NO_MEMORY: u32 = 5;
 
 /// Compiles `score`: puts its output into `output`, the lines of its messages into `messages`, and their exact lengths in bytes into
 /// `lengths`. A text that is longer than its buffer is left out whole, and the buffer stays as it was. `format` is 0 for canonical
-/// GABC and 1 for the dump, and `flags` is 1 for all warnings, else 0.
+/// GABC and 1 for the dump, and `flags` is 1 for all warnings, else 0. `key` has the words of a key for the names of headers: two random
+/// ones where strangers write the score, else none. No answer depends on it.
 ///
 /// Returns the exit status that the program would have: 0, 1 or 2. It returns 3 for another format or flag, and 5 where there is no
 /// memory; buffers and lengths stay as they were then.
@@ -39,6 +40,7 @@ pub extern "C" fn gregorio_compile(
     score: &[u8],
     format: u32,
     flags: u32,
+    key: &[u64],
     output: &mut [u8],
     messages: &mut [u8],
     lengths: &mut Lengths,
@@ -52,7 +54,7 @@ pub extern "C" fn gregorio_compile(
     let Some(request) = request_of(format, flags) else {
         return REFUSED;
     };
-    let Ok(outcome) = outcome_of_whole(alloc, score) else {
+    let Ok(outcome) = outcome_of_whole(alloc, score, key) else {
         return NO_MEMORY;
     };
     let Ok(made) = write_outcome(alloc, request, &outcome) else {
@@ -68,7 +70,8 @@ pub extern "C" fn gregorio_compile(
 }
 
 /// Reads `score`, puts its messages into `messages`, those of the findings and last that of a fatal fault, and their number into
-/// `count`. Where there are more of them than `messages` takes, that stays as it was. `flags` is 1 for all warnings, else 0.
+/// `count`. Where there are more of them than `messages` takes, that stays as it was. `flags` is 1 for all warnings, else 0, and `key` as for
+/// `gregorio_compile`.
 ///
 /// Returns what `gregorio_compile` does.
 #[unsafe(no_mangle)]
@@ -76,6 +79,7 @@ pub extern "C" fn gregorio_messages(
     alloc: Global,
     score: &[u8],
     flags: u32,
+    key: &[u64],
     messages: &mut [Message],
     count: &mut usize,
 ) -> u32
@@ -87,7 +91,7 @@ pub extern "C" fn gregorio_messages(
     let Some(all_warnings) = warnings_of(flags) else {
         return REFUSED;
     };
-    let Ok(outcome) = outcome_of_whole(alloc, score) else {
+    let Ok(outcome) = outcome_of_whole(alloc, score, key) else {
         return NO_MEMORY;
     };
     let Ok(made) = messages_of(alloc, all_warnings, &outcome) else {

@@ -6,7 +6,8 @@ mod ends;
 
 use ends::{InputStream, OutputStream, closed_streams};
 use gabc_places::{FromReader, Limits, ToWriter};
-use gregorio::{Input, Job, Name, Output, Plan, Refusal, Status, Words, compile, plan};
+use gregorio::{Input, Job, Name, Output, Plan, Refusal, Status, Words, compile_with_hasher, plan};
+use std::hash::{BuildHasher, RandomState};
 use std::process::ExitCode;
 use std::{env, fs, io};
 
@@ -56,9 +57,13 @@ fn create<'j>(rt: &HostRuntime, name: &'j Name) -> Result<fs::File, Unopened<'j>
     fs::create(rt, name.as_str()).map_err(|error| why_unopened(name, &error))
 }
 
-/// Opens the ends of a job, first the input, then the output, then the messages, and runs it with
-/// the usual limits. Nothing is made where the input cannot be opened.
+/// Draws the keys for names of headers, opens the ends of a job, first the input, then the output,
+/// then the messages, and runs it with the usual limits. Where no keys can be drawn, nothing is
+/// opened: this counts as a failed read. Nothing is made where the input cannot be opened.
 fn run<'j>(rt: &HostRuntime, job: &'j Job) -> Result<Status, Unopened<'j>> {
+    let Ok(keys) = RandomState::new(rt) else {
+        return Ok(Status::ReadFault);
+    };
     let _streams = closed_streams(rt);
     let input = match &job.input {
         Input::Stdin => InputStream::Stdin(rt.stdin()),
@@ -72,10 +77,11 @@ fn run<'j>(rt: &HostRuntime, job: &'j Job) -> Result<Status, Unopened<'j>> {
         None => OutputStream::Stderr(rt.stderr()),
         Some(name) => OutputStream::File(create(rt, name)?),
     };
-    Ok(compile(
+    Ok(compile_with_hasher(
         rt.alloc(),
         job,
         Limits::DEFAULT,
+        keys.build_hasher(),
         &mut FromReader::new(input),
         &mut ToWriter::new(output),
         &mut ToWriter::new(messages),

@@ -8,6 +8,8 @@ use gabc_headers::stage_laws::{
 use gabc_headers::{HeadEvent, HeaderStage};
 use gabc_places::{Char, Code, Fault, Limits, Place, Room, Stage};
 use std::alloc::AllocError;
+use std::collections::hash_map::RandomState;
+use std::hash::BuildHasher;
 use std::test::Fail;
 
 /// Adds an event to a text: findings and faults as their messages, a character of the body as it is.
@@ -111,7 +113,7 @@ fn push_all(stage: &mut HeaderStage, text: &str, out: &mut Room<HeadEvent>)
 
 /// Adds to a text what the stage lends: the text of the headers, how many headers are in its book, the mode and the macros.
 fn show_lent(stage: &HeaderStage, shown: &mut String) -> Result<(), AllocError> {
-    let (text, book) = (stage.text(), stage.book());
+    let (text, book) = (stage.text().unwrap_or("none"), stage.book());
     let (count, macros) = (book.len(), book.macros());
     let mode = book.get("mode").unwrap_or("none");
     write!(shown, "{text}|{count} {mode} {macros}|")
@@ -141,7 +143,7 @@ fn the_text_and_then_the_book_are_lent(rt: HostRuntime) -> Result<(), Fail> {
     let shown = lent_around_the_line(&rt, &mut stage, &mut out);
     drop(stage);
     assert_eq!(rt; most, 2);
-    assert_eq!(rt; shown?.as_str(), "mode:1;\nmode:2;\n%|0 none 0||1 2 0|");
+    assert_eq!(rt; shown?.as_str(), "mode:1;\nmode:2;\n%|0 none 0|none|1 2 0|");
     Ok(())
 }
 
@@ -169,5 +171,32 @@ fn a_fresh_stage_is_driven(rt: HostRuntime) -> Result<(), Fail> {
         code: Code::F2,
     };
     assert_eq!(rt; out.slice(), [HeadEvent::Stop(fault)].as_slice());
+    Ok(())
+}
+
+/// Returns whether a stage that has read `text` holds it.
+fn is_held(rt: &HostRuntime, text: &str) -> Result<bool, Fail> {
+    let mut out = Room::with_limit(rt.alloc(), 2)?;
+    let hasher = RandomState::new(rt)?.build_hasher();
+    let mut stage = HeaderStage::with_hasher(rt.alloc(), Limits::DEFAULT, hasher)?;
+    push_all(&mut stage, text, &mut out);
+    let is_held = stage.text() == Some(text);
+    drop(stage);
+    Ok(is_held)
+}
+
+#[test]
+fn the_text_of_the_headers_is_held_up_to_their_end(rt: HostRuntime) -> Result<(), Fail> {
+    let held = [
+        "",
+        "name:X",
+        "a:\nb;c%",
+        "x\n%",
+        "annotation:1;\n% a comment\n",
+    ];
+    for text in held {
+        assert!(rt; is_held(&rt, text)?, "{text:?}");
+    }
+    assert!(rt; !is_held(&rt, "name:X;\n%%")?);
     Ok(())
 }

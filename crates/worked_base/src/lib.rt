@@ -1,5 +1,5 @@
-//! Tests of `gabc_places`, `gabc_patterns` and `gabc_headers` through their public surface: values from outside; stages, sources and
-//! sinks as other crates make them.
+//! Tests of `gabc_places`, `gabc_patterns`, `gabc_headers` and `gabc_text` through their public surface: values from outside; stages, sources
+//! and sinks as other crates make them; a stage that is set down again.
 //!
 //! They stand in a crate of their own, since a crate with tests is proved twice.
 #![tactic(auto)]
@@ -7,7 +7,7 @@
 #[cfg(test)]
 mod chain;
 #[cfg(test)]
-mod growing;
+mod decoder;
 #[cfg(test)]
 mod header_stage;
 #[cfg(test)]
@@ -22,5 +22,7 @@ mod sink;
 mod source;
 #[cfg(test)]
 mod text;
+#[cfg(test)]
+mod text_stage;
 #[cfg(test)]
 mod trial;

@@ -1,8 +1,8 @@
 //! Sinks that take little and sinks that fail.
 
-ghost use Rattle.std.specs.Prelude.{◌≡◌, ℕ, ◌+◌, ◌<◌, ◌≤◌, Some};
+ghost use Rattle.std.specs.Prelude.{Some};
 
-use gabc_places::{GhostCount, Sink, SinkFault, ToWriter, Unsent, send_all};
+use gabc_places::{GhostCalls, Sink, SinkFault, ToWriter, Unsent, send_all};
 use std::io::Write;
 use std::test::Fail;
 
@@ -11,22 +11,24 @@ use std::test::Fail;
 struct OneByOne {
     taken: Vec<u8>,
     limit: usize,
-    failures: GhostCount,
+    calls: GhostCalls,
 }
 
 impl Sink for OneByOne {
     ghost written = { λ s. Some s.taken.items };
 
-    ghost failures = { λ s. s.failures };
+    ghost calls = { λ s. s.calls };
 
     fn write(&mut self, bytes: &[u8]) -> Result<usize, SinkFault> {
         if bytes.is_empty() {
+            self.calls.add_answer(false);
             return Ok(0);
         }
         if self.taken.len() < self.limit && self.taken.push(bytes[0]).is_ok() {
+            self.calls.add_answer(false);
             return Ok(1);
         }
-        self.failures.add_one();
+        self.calls.add_failure();
         Err(SinkFault)
     }
 }
@@ -42,7 +44,7 @@ fn sends_byte_by_byte(rt: HostRuntime) {
         let mut sink = OneByOne {
             taken: Vec::new(rt.alloc()),
             limit,
-            failures: GhostCount::zero(),
+            calls: GhostCalls::none(),
         };
         assert_eq!(rt; send_all(&mut sink, b"Alleluia"), want, "at {limit}");
         assert_eq!(rt; sink.taken.as_slice(), taken.as_bytes(), "at {limit}");
@@ -84,7 +86,7 @@ fn takes_a_write_of_none_for_a_failure(rt: HostRuntime) {
     assert_eq!(rt; send_all(&mut sink, b"x"), Err(Unsent { sent: 0 }));
 }
 
-/// A writer that counts its calls. The second one fails, each other takes one byte.
+/// A writer that counts its calls. The second one, each behind the fourth and each flush fails; the others take at most one byte.
 #[derive(Drop)]
 struct Counting {
     calls: u8,
@@ -93,14 +95,15 @@ struct Counting {
 impl Write for Counting {
     fn write(&mut self, buf: &[u8]) -> std::io::Result<usize> {
         self.calls = self.calls.saturating_add(1);
-        if self.calls == 2 {
+        if self.calls == 2 || self.calls > 4 {
             return Err(std::io::Error::from(std::io::ErrorKind::BrokenPipe));
         }
         Ok(buf.len().min(1))
     }
 
     fn flush(&mut self) -> std::io::Result<()> {
-        Ok(())
+        self.calls = self.calls.saturating_add(1);
+        Err(std::io::Error::from(std::io::ErrorKind::BrokenPipe))
     }
 }
 
@@ -110,6 +113,13 @@ fn writes_once_for_each_call(rt: HostRuntime) {
     let taken = [sink.write(b"ab"), sink.write(b"b"), sink.write(b"b")];
     assert_eq!(rt; taken, [Ok(1), Err(SinkFault), Ok(1)]);
     assert_eq!(rt; sink.inner().calls, 3);
+}
+
+#[test]
+fn passes_on_writes_of_nothing(rt: HostRuntime) {
+    let mut sink = ToWriter::new(Counting { calls: 3 });
+    assert_eq!(rt; [sink.write(b""), sink.write(b"")], [Ok(0), Err(SinkFault)]);
+    assert_eq!(rt; sink.inner().calls, 5);
 }
 
 #[test]

@@ -16,7 +16,7 @@ fn reads_a_slice(rt: HostRuntime) {
     assert_eq!(rt; buf, *b"ier");
 }
 
-/// A reader of the numbers of its calls, whose second call fails.
+/// A reader that counts its calls. The first one gives a byte, the third one ends, each other fails.
 #[derive(Drop)]
 struct Stumbling {
     calls: u8,
@@ -25,19 +25,22 @@ struct Stumbling {
 impl Read for Stumbling {
     fn read(&mut self, buf: &mut [u8]) -> io::Result<usize> {
         self.calls = self.calls.saturating_add(1);
-        if self.calls == 2 {
-            return Err(io::Error::from(ErrorKind::BrokenPipe));
+        if self.calls == 3 {
+            return Ok(0);
         }
         let Some(first) = buf.first_mut() else {
-            return Ok(0);
+            return Err(io::Error::from(ErrorKind::BrokenPipe));
         };
-        *first = self.calls;
+        if self.calls != 1 {
+            return Err(io::Error::from(ErrorKind::BrokenPipe));
+        }
+        *first = b'x';
         Ok(1)
     }
 }
 
 #[test]
-fn passes_on_a_fault_in_mid_stream(rt: HostRuntime) {
+fn reads_once_for_each_call(rt: HostRuntime) {
     let mut source = FromReader::new(Stumbling { calls: 0 });
     let mut buf = [0; 3];
     let counts = [
@@ -45,6 +48,15 @@ fn passes_on_a_fault_in_mid_stream(rt: HostRuntime) {
         source.read(&mut buf),
         source.read(&mut buf),
     ];
-    assert_eq!(rt; counts, [Ok(1), Err(SourceFault), Ok(1)]);
-    assert_eq!(rt; buf, [3, 0, 0]);
+    assert_eq!(rt; counts, [Ok(1), Err(SourceFault), Ok(0)]);
+    assert_eq!(rt; buf, [b'x', 0, 0]);
+    assert_eq!(rt; source.inner().calls, 3);
+}
+
+#[test]
+fn passes_on_reads_of_nothing(rt: HostRuntime) {
+    let mut source = FromReader::new(Stumbling { calls: 2 });
+    let counts = [source.read(&mut []), source.read(&mut [])];
+    assert_eq!(rt; counts, [Ok(0), Err(SourceFault)]);
+    assert_eq!(rt; source.inner().calls, 4);
 }

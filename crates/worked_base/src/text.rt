@@ -201,6 +201,7 @@ fn laws_are_called() {
     laws::texts_are_plain();
     laws::texts_are_scalars_within_the_limit();
     laws::text_again();
+    laws::a_prefix_of_a_text_is_read_of_a_prefix_of_its_bytes();
     laws::first_place();
     laws::characters_stand_behind_the_text_before();
     laws::places_need_nothing_behind();

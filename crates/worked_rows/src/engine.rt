@@ -189,3 +189,38 @@ fn writes_what_is_known(rt: HostRuntime) {
         assert!(rt; is_kept(rt.alloc(), trial), "{:?}", trial.input);
     }
 }
+
+/// Whether an engine takes so many bytes of a piece, and what waits then is taken, and so on with the rest of the piece, to its end.
+fn takes_counts(engine: &mut Engine, piece: &[u8], counts: &[usize]) -> bool {
+    let mut rest = piece;
+    for count in counts {
+        if waits(engine) {
+            return false;
+        }
+        let taken = engine.feed(rest);
+        engine.taken();
+        if taken != *count {
+            return false;
+        }
+        rest = &rest[taken..];
+    }
+    rest.is_empty()
+}
+
+/// Whether a new engine takes so many bytes of a piece at each call.
+fn is_fed(alloc: Global, piece: &[u8], counts: &[usize]) -> bool {
+    match engine_of(alloc, Format::Gabc) {
+        Ok(mut engine) => {
+            let well = takes_counts(&mut engine, piece, counts);
+            drop(engine);
+            well
+        }
+        Err(_) => false,
+    }
+}
+
+/// It stops with the `%%`, with the `)` of the second syllable and with the byte that begins no character; the rest is taken and not read.
+#[test]
+fn stops_with_what_is_known(rt: HostRuntime) {
+    assert!(rt; is_fed(rt.alloc(), b"%%\nKy(f)ri(g)\xFFe(.)", &[2, 11, 1, 4]));
+}

@@ -220,7 +220,9 @@ fn laws_are_called() {
     gabc_score::stage_laws::texts_are_read_in_full();
     gabc_score::stage_laws::inputs_that_cease_give_no_stop();
     gabc_score::stage_laws::nothing_follows_a_stop();
+    gabc_score::stage_laws::the_end_comes_with_the_end();
     gabc_write::laws::score_again();
     gregorio::laws::canonical_again();
     gregorio::laws::a_run_over_an_output_repeats_it();
+    gregorio::laws::a_stopped_run_writes_what_its_prefix_writes();
 }

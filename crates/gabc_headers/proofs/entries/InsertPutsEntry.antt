@@ -1,95 +1,156 @@
--- What is put is the entry of its name.
-use Rattle.std.proofs.Common.{◌≡◌, ℕ, ◌<◌, suc, zero, List, [], ◌∷◌, ◌++◌, length, get_or, set, slice_get, Bool, true, false, cond, refl, sym, ap, ◌∙◌, subst, arith, bytes_eq, IsUtf8, ◌||◌, Some}
+-- What `insert` does to the names and values.
+use Rattle.std.proofs.Common.{◌≡◌, ℕ, ◌<◌, ◌≤◌, suc, List, [], ◌∷◌, ◌++◌, length, Bool, true, false, cond, nat_eq, refl, sym, ap, ◌∙◌, subst, arith, le_refl, bytes_eq, length-append, IsUtf8, ◌||◌, is_some, Option, Some, position, codes}
+use Rattle.std.proofs.lemmas.Bool.Decides.{nat_tests}
 use Rattle.std.specs.Str.{chars}
 use Rattle.std.specs.Cmp.Lexicographic.{same_text}
-use Rattle.gabc_places.specs.declared.place.Span.{Span}
-use Rattle.gabc_headers.specs.declared.named_value.NamedValue.{NamedValue}
+use Rattle.std.specs.Map.{keys_of, lookup}
+use Rattle.arrayvec.specs.ArrayString.{ArrayString}
+use Rattle.indexmap.specs.IndexMap.{insert_entry, set_value_at}
+use Rattle.indexmap.proofs.MapLemmas.{Found-position, insert_entry-first}
+use Rattle.gabc_headers.specs.declared.entry_map.Key.{Key}
+use Rattle.gabc_headers.specs.declared.entry_map.Key.TheVariants.{Name, Annotation}
+use Rattle.gabc_headers.specs.EntryMap.{is_annotation, with_value, put_entry}
+use Rattle.gabc_headers.specs.machine.EntryMap.{names, comes_again, key_name, named_entries, IsKeyBelow, IsKeyOf, AreKeysBelow}
 use Rattle.gabc_headers.specs.Book.{is_one_of}
-use Rattle.gabc_headers.specs.EntryMap.{with_value}
-use Rattle.gabc_headers.specs.machine.EntryMap.{names, named_entries, AreTexts}
-use Rattle.gabc_headers.specs.machine.NameTree.{names_in, IsNew}
-use Rattle.gabc_headers.proofs.entries.TextsAsBytes.{bytes_eq-chars, bytes_eq_self}
 
-pub named_push : (hs : List NamedValue) (h : NamedValue) → named_entries (hs ++ h ∷ []) ≡ named_entries hs ++ (chars h.name.bytes, h.value) ∷ []
-named_push [] h = refl
-named_push (g ∷ hs) h = ap (λ (l : List (List ℕ × Span)). (chars g.name.bytes, g.value) ∷ l) (named_push hs h)
+pub more_below : {X : Type 0} (n m : ℕ) (es : List (Key × X)) → n ≤ m → AreKeysBelow n es → AreKeysBelow m es
+more_below n m [] h b = tt
+more_below n m ((Name s, v) ∷ es) h b = (b.0, more_below n m es h b.1)
+more_below n m ((Annotation i, v) ∷ es) h b = ((let l : i < n = b.0 in omega arith), more_below n m es h b.1)
 
-pub names_push : (hs : List NamedValue) (h : NamedValue) → names_in (hs ++ h ∷ []) ≡ names_in hs ++ h.name.bytes ∷ []
-names_push [] h = refl
-names_push (g ∷ hs) h = ap (λ (l : List (List ℕ)). g.name.bytes ∷ l) (names_push hs h)
+pub below_push : {X : Type 0} (n : ℕ) (es : List (Key × X)) (k : Key) (v : X) → AreKeysBelow n es → IsKeyBelow n k → AreKeysBelow n (es ++ (k, v) ∷ [])
+below_push n [] k v b h = (h, tt)
+below_push n (e ∷ es) k v b h = (b.0, below_push n es k v b.1 h)
 
-pub texts_push : (hs : List NamedValue) (h : NamedValue) → AreTexts hs → IsUtf8 h.name.bytes → AreTexts (hs ++ h ∷ [])
-texts_push [] h a u = (u, tt)
-texts_push (g ∷ hs) h a u = (a.0, texts_push hs h a.1 u)
+pub named_push : {X : Type 0} (es : List (Key × X)) (k : Key) (v : X) → named_entries (es ++ (k, v) ∷ []) ≡ named_entries es ++ (key_name k, v) ∷ []
+named_push [] k v = refl
+named_push {X} (e ∷ es) k v = ap (λ (l : List (List ℕ × X)). (key_name e.0, e.1) ∷ l) (named_push es k v)
 
--- the header with another value
-abbrev pub revalued : NamedValue → Span → NamedValue
-revalued h v = record h { value = v }
+-- over the comparison of keys that the map uses
+module _ {X : Type 0} (eq : Key → Key → Bool)
+    (same : (s t : ArrayString) → IsUtf8 s.bytes → IsUtf8 t.bytes → eq (Name s) (Name t) ≡ bytes_eq (chars s.bytes) (chars t.bytes))
+    (numbers : (i j : ℕ) → eq (Annotation i) (Annotation j) ≡ nat_eq i j)
+    (name_number : (s : ArrayString) (i : ℕ) → eq (Name s) (Annotation i) ≡ false)
+    (number_name : (s : ArrayString) (i : ℕ) → eq (Annotation i) (Name s) ≡ false) where
+  step : (b : Bool) (k : Key) (e : Key × X) (v : X) (es : List (Key × X)) → eq k e.0 ≡ b
+      → insert_entry eq (e ∷ es) k v ≡ cond b ((e.0, v) ∷ es) (e ∷ insert_entry eq es k v)
+  step true k e v es h = rw h refl
+  step false k e v es h = rw h refl
 
--- another value leaves the names
-pub names_set : (hs : List NamedValue) (i : ℕ) (v : Span) (d : NamedValue) → i < length hs → names_in (set hs i (revalued (get_or hs i d) v)) ≡ names_in hs
-names_set [] i v d l = absurd (omega arith)
-names_set (h ∷ hs) zero v d l = refl
-names_set (h ∷ hs) (suc i) v d l = ap (λ (x : List (List ℕ)). h.name.bytes ∷ x) (names_set hs i v d (omega arith))
+  -- the number of the entries is a key that isn't there yet
+  pub insert_number : (n : ℕ) (v : X) (es : List (Key × X)) → AreKeysBelow n es → insert_entry eq es (Annotation n) v ≡ es ++ (Annotation n, v) ∷ []
+  insert_number n v [] b = refl
+  insert_number n v ((Name s, w) ∷ es) b = step false (Annotation n) (Name s, w) v es (number_name s n) ∙ ap (λ (l : List (Key × X)). (Name s, w) ∷ l) (insert_number n v es b.1)
+  insert_number n v ((Annotation i, w) ∷ es) b =
+      let l : i < n = b.0 in
+      let f : nat_eq n i ≡ false = grind (arith, nat_tests) in
+      step false (Annotation n) (Annotation i, w) v es (numbers n i ∙ f) ∙ ap (λ (l : List (Key × X)). (Annotation i, w) ∷ l) (insert_number n v es b.1)
 
-pub texts_set : (hs : List NamedValue) (i : ℕ) (v : Span) (d : NamedValue) → i < length hs → AreTexts hs → AreTexts (set hs i (revalued (get_or hs i d) v))
-texts_set [] i v d l a = absurd (omega arith)
-texts_set (h ∷ hs) zero v d l a = a
-texts_set (h ∷ hs) (suc i) v d l a = (a.0, texts_set hs i v d (omega arith) a.1)
+  pub put_number : (n : ℕ) (name : List ℕ) (v : X) (es : List (Key × X)) → AreKeysBelow n es → is_annotation name ≡ true → name ≡ key_name (Annotation n)
+      → named_entries (insert_entry eq es (Annotation n) v) ≡ put_entry (named_entries es) name v
+  put_number n name v es b a e = rw (insert_number n v es b, named_push es (Annotation n) v, a, e) refl
 
--- a header of another name stands first
-other : (name : List ℕ) (h : NamedValue) (b : Bool) → bytes_eq name h.name.bytes ≡ b → IsUtf8 name → IsUtf8 h.name.bytes → bytes_eq (chars name) (chars h.name.bytes) ≡ b
-other name h b e u w = bytes_eq-chars name h.name.bytes u w ∙ e
+  branch : (b : Bool) (a : List ℕ) (k : Key) (v w : X) (es r : List (Key × X)) (s : List (List ℕ × X)) → a ≡ key_name k → named_entries r ≡ s
+      → named_entries (cond b ((k, v) ∷ es) ((k, w) ∷ r)) ≡ cond b ((a, v) ∷ named_entries es) ((a, w) ∷ s)
+  branch true a k v w es r s e h = rw e refl
+  branch false a k v w es r s e h = rw (e, h) refl
 
--- behind a header of another name
-held_later : (name : List ℕ) (h : NamedValue) (hs : List NamedValue) (i : ℕ) (v : Span) (d : NamedValue) → IsUtf8 name → IsUtf8 h.name.bytes
-    → ((j : ℕ) → slice_get (names_in (h ∷ hs)) j ≡ Some name → suc i ≡ j) → with_value (named_entries hs) (chars name) v ≡ named_entries (set hs i (revalued (get_or hs i d) v))
-    → with_value (named_entries (h ∷ hs)) (chars name) v ≡ named_entries (set (h ∷ hs) (suc i) (revalued (get_or hs i d) v))
-held_later name h hs i v d u w single rest = by (bytes_eq name h.name.bytes) refl
-  where
-    by : (b : Bool) → bytes_eq name h.name.bytes ≡ b
-        → cond (bytes_eq (chars name) (chars h.name.bytes)) ((chars h.name.bytes, v) ∷ named_entries hs) ((chars h.name.bytes, h.value) ∷ with_value (named_entries hs) (chars name) v)
-        ≡ (chars h.name.bytes, h.value) ∷ named_entries (set hs i (revalued (get_or hs i d) v))
-    by true f = absurd (let g = single zero (ap Some (sym (same_text name h.name.bytes (sym f)))) in let z : suc i ≡ 0 = g in omega arith)
-    by false f = rw (other name h false f u w) (ap (λ (x : List (List ℕ × Span)). (chars h.name.bytes, h.value) ∷ x) rest)
+  pub insert_name : (n : ℕ) (s : ArrayString) (v : X) (es : List (Key × X)) → is_annotation (chars s.bytes) ≡ false → IsUtf8 s.bytes → AreKeysBelow n es
+      → named_entries (insert_entry eq es (Name s) v) ≡ with_value (named_entries es) (chars s.bytes) v
+  insert_name n s v [] a u b = refl
+  insert_name n s v ((Name t, w) ∷ es) a u b =
+      let e = chars t.bytes in
+      ap named_entries (step (bytes_eq (chars s.bytes) e) (Name s) (Name t, w) v es (same s t u b.0.1))
+      ∙ branch (bytes_eq (chars s.bytes) e) e (Name t) v w es (insert_entry eq es (Name s) v) (with_value (named_entries es) (chars s.bytes) v) refl (insert_name n s v es a u b.1)
+  insert_name n s v ((Annotation i, w) ∷ es) a u b =
+      ap named_entries (step false (Name s) (Annotation i, w) v es (name_number s i))
+      ∙ rw (a) (ap (λ (l : List (List ℕ × X)). (key_name (Annotation i), w) ∷ l) (insert_name n s v es a u b.1))
 
--- the value goes to the header of the name, where it stands once
-pub with_held : (name : List ℕ) (hs : List NamedValue) (i : ℕ) (v : Span) (d : NamedValue) → IsUtf8 name → AreTexts hs → slice_get (names_in hs) i ≡ Some name
-    → ((j : ℕ) → slice_get (names_in hs) j ≡ Some name → i ≡ j) → with_value (named_entries hs) (chars name) v ≡ named_entries (set hs i (revalued (get_or hs i d) v))
-with_held name [] i v d u a e single = absurd (cc)
-with_held name (h ∷ hs) zero v d u a e single =
-    let f : h.name.bytes ≡ name = cc in
-    let same : bytes_eq (chars name) (chars h.name.bytes) ≡ true = other name h true (subst (λ (x : List ℕ). bytes_eq name x ≡ true) (sym f) (bytes_eq_self name)) u a.0 in
-    rw same refl
-with_held name (h ∷ hs) (suc i) v d u a e single =
-    held_later name h hs i v d u a.0 single (with_held name hs i v d u a.1 e (λ j f. let g = single (suc j) f in omega arith))
+  pub put_name : (n : ℕ) (s : ArrayString) (name : List ℕ) (v : X) (es : List (Key × X)) → s.bytes ≡ name → is_annotation (chars name) ≡ false → IsUtf8 name → AreKeysBelow n es
+      → named_entries (insert_entry eq es (Name s) v) ≡ put_entry (named_entries es) (chars name) v
+  put_name n s name v es e a u b = rw (a)
+      (subst (λ (x : List ℕ). named_entries (insert_entry eq es (Name s) v) ≡ with_value (named_entries es) (chars x) v) e
+      (insert_name n s v es (ap (λ (x : List ℕ). is_annotation (chars x)) e ∙ a) (subst IsUtf8 (sym e) u) b))
 
-or_true : (b : Bool) {c : Bool} → c ≡ true → (b || c) ≡ true
-or_true true e = refl
-or_true false e = e
+  -- the number of the entries finds none
+  pub number_new : (n : ℕ) (es : List (Key × X)) → AreKeysBelow n es → is_some (lookup (eq (Annotation n)) es) ≡ false
+  number_new n [] b = refl
+  number_new n ((Name s, w) ∷ es) b = rw (number_name s n) (number_new n es b.1)
+  number_new n ((Annotation i, w) ∷ es) b =
+      let l : i < n = b.0 in
+      let f : nat_eq n i ≡ false = grind (arith, nat_tests) in
+      rw (numbers n i ∙ f) (number_new n es b.1)
 
--- it comes again
-pub again_held : (name : List ℕ) (hs : List NamedValue) (i : ℕ) → IsUtf8 name → AreTexts hs → slice_get (names_in hs) i ≡ Some name → is_one_of (chars name) (names (named_entries hs)) ≡ true
-again_held name [] i u a e = absurd (cc)
-again_held name (h ∷ hs) zero u a e =
-    let f : h.name.bytes ≡ name = cc in
-    rw (other name h true (subst (λ (x : List ℕ). bytes_eq name x ≡ true) (sym f) (bytes_eq_self name)) u a.0) refl
-again_held name (h ∷ hs) (suc i) u a e = or_true (bytes_eq (chars name) (chars h.name.bytes)) (again_held name hs i u a.1 e)
+  some_branch : (b : Bool) (w : X) (o : Option X) (c : Bool) → is_some o ≡ c → is_some (cond b (Some w) o) ≡ (b || c)
+  some_branch true w o c h = refl
+  some_branch false w o c h = h
 
--- a header of a new name
-new_first : (name : List ℕ) (h : NamedValue) (hs : List NamedValue) → IsNew (names_in (h ∷ hs)) name → bytes_eq name h.name.bytes ≡ false
-new_first name h hs new = by (bytes_eq name h.name.bytes) refl
-  where
-    by : (b : Bool) → bytes_eq name h.name.bytes ≡ b → b ≡ false
-    by true e = absurd (new zero (ap Some (sym (same_text name h.name.bytes (sym e)))))
-    by false e = refl
+  found_name : (n : ℕ) (s : ArrayString) (es : List (Key × X)) → is_annotation (chars s.bytes) ≡ false → IsUtf8 s.bytes → AreKeysBelow n es
+      → is_some (lookup (eq (Name s)) es) ≡ is_one_of (chars s.bytes) (names (named_entries es))
+  found_name n s [] a u b = refl
+  found_name n s ((Name t, w) ∷ es) a u b = rw (same s t u b.0.1)
+      (some_branch (bytes_eq (chars s.bytes) (chars t.bytes)) w (lookup (eq (Name s)) es) (is_one_of (chars s.bytes) (names (named_entries es))) (found_name n s es a u b.1))
+  found_name n s ((Annotation i, w) ∷ es) a u b = rw (name_number s i, a) (found_name n s es a u b.1)
 
-pub with_new : (name : List ℕ) (hs : List NamedValue) (v : Span) → IsUtf8 name → AreTexts hs → IsNew (names_in hs) name
-    → with_value (named_entries hs) (chars name) v ≡ named_entries hs ++ (chars name, v) ∷ []
-with_new name [] v u a new = refl
-with_new name (h ∷ hs) v u a new = rw (other name h false (new_first name h hs new) u a.0)
-    (ap (λ (x : List (List ℕ × Span)). (chars h.name.bytes, h.value) ∷ x) (with_new name hs v u a.1 (λ i e. new (suc i) e)))
+  -- a name is found exactly if it comes again
+  pub name_again : (n : ℕ) (s : ArrayString) (name : List ℕ) (es : List (Key × X)) → s.bytes ≡ name → is_annotation (chars name) ≡ false → IsUtf8 name → AreKeysBelow n es
+      → is_some (lookup (eq (Name s)) es) ≡ comes_again (named_entries es) (chars name)
+  name_again n s name es e a u b = rw (a)
+      (subst (λ (x : List ℕ). is_some (lookup (eq (Name s)) es) ≡ is_one_of (chars x) (names (named_entries es))) e
+      (found_name n s es (ap (λ (x : List ℕ). is_annotation (chars x)) e ∙ a) (subst IsUtf8 (sym e) u) b))
 
-pub again_new : (name : List ℕ) (hs : List NamedValue) → IsUtf8 name → AreTexts hs → IsNew (names_in hs) name → is_one_of (chars name) (names (named_entries hs)) ≡ false
-again_new name [] u a new = refl
-again_new name (h ∷ hs) u a new = rw (other name h false (new_first name h hs new) u a.0) (again_new name hs u a.1 (λ i e. new (suc i) e))
+  below_branch : (b : Bool) (n : ℕ) (k : Key) (v w : X) (es r : List (Key × X)) → IsKeyBelow n k → AreKeysBelow n es → AreKeysBelow n r
+      → AreKeysBelow n (cond b ((k, v) ∷ es) ((k, w) ∷ r))
+  below_branch true n k v w es r h b c = (h, b)
+  below_branch false n k v w es r h b c = (h, c)
+
+  below_name : (n : ℕ) (s : ArrayString) (v : X) (es : List (Key × X)) → is_annotation (chars s.bytes) ≡ false → IsUtf8 s.bytes → AreKeysBelow n es → AreKeysBelow n (insert_entry eq es (Name s) v)
+  below_name n s v [] a u b = ((a, u), tt)
+  below_name n s v (e ∷ es) a u b =
+      subst (AreKeysBelow n) (sym (step (eq (Name s) e.0) (Name s) e v es refl))
+      (below_branch (eq (Name s) e.0) n e.0 v e.1 es (insert_entry eq es (Name s) v) b.0 b.1 (below_name n s v es a u b.1))
+
+  longer : (b : Bool) (e f : Key × X) (es r : List (Key × X)) → length es ≤ length r → length (e ∷ es) ≤ length (cond b (f ∷ es) (e ∷ r))
+  longer true e f es r h = le_refl (suc (length es))
+  longer false e f es r h = omega (arith)
+
+  length_insert : (k : Key) (v : X) (es : List (Key × X)) → length es ≤ length (insert_entry eq es k v)
+  length_insert k v [] = omega arith
+  length_insert k v (e ∷ es) = subst (λ (l : List (Key × X)). length (e ∷ es) ≤ length l) (sym (step (eq k e.0) k e v es refl))
+      (longer (eq k e.0) e (e.0, v) es (insert_entry eq es k v) (length_insert k v es))
+
+  pub name_below : (s : ArrayString) (name : List ℕ) (v : X) (es : List (Key × X)) → s.bytes ≡ name → is_annotation (chars name) ≡ false → IsUtf8 name → AreKeysBelow (length es) es
+      → AreKeysBelow (length (insert_entry eq es (Name s) v)) (insert_entry eq es (Name s) v)
+  name_below s name v es e a u b = more_below (length es) (length (insert_entry eq es (Name s) v)) (insert_entry eq es (Name s) v)
+      (length_insert (Name s) v es) (below_name (length es) s v es (ap (λ (x : List ℕ). is_annotation (chars x)) e ∙ a) (subst IsUtf8 (sym e) u) b)
+
+  pub number_below : (v : X) (es : List (Key × X)) → AreKeysBelow (length es) es
+      → AreKeysBelow (length (insert_entry eq es (Annotation (length es)) v)) (insert_entry eq es (Annotation (length es)) v)
+  number_below v es b =
+      let m : length es ≤ length (es ++ (Annotation (length es), v) ∷ []) = omega (arith, length-append es ((Annotation (length es), v) ∷ [])) in
+      let l : length es < length (es ++ (Annotation (length es), v) ∷ []) = omega (arith, length-append es ((Annotation (length es), v) ∷ [])) in
+      subst (λ (x : List (Key × X)). AreKeysBelow (length x) x) (sym (insert_number (length es) v es b))
+      (below_push (length (es ++ (Annotation (length es), v) ∷ [])) es (Annotation (length es)) v
+      (more_below (length es) (length (es ++ (Annotation (length es), v) ∷ [])) es m b) l)
+
+  -- what putting a key does
+  pub record Puts (name : List ℕ) (v : X) (es : List (Key × X)) (k : Key) : Type 0 where
+    pub entries : named_entries (insert_entry eq es k v) ≡ put_entry (named_entries es) (chars name) v
+    pub again : is_some (lookup (eq k) es) ≡ comes_again (named_entries es) (chars name)
+    pub below : AreKeysBelow (length (insert_entry eq es k v)) (insert_entry eq es k v)
+
+  pub puts : (name : List ℕ) (v : X) (es : List (Key × X)) (k : Key) → IsUtf8 name → IsKeyOf name (length es) k → AreKeysBelow (length es) es → Puts name v es k
+  puts name v es (Name s) u h b = record {
+    entries = put_name (length es) s name v es h.0 h.1 u b;
+    again = name_again (length es) s name es h.0 h.1 u b;
+    below = name_below s name v es h.0 h.1 u b;
+  }
+  puts name v es (Annotation i) u h b = subst (λ (j : ℕ). Puts name v es (Annotation j)) (sym h.0) (record {
+    entries = put_number (length es) (chars name) v es b h.1 (same_text (chars name) (codes "annotation") (sym h.1));
+    again = rw (h.1) (number_new (length es) es b);
+    below = number_below v es b;
+  })
+
+  -- a value that is written where a key is found is put
+  pub set_found : (k : Key) (v : X) (es : List (Key × X)) (i : ℕ) → position (eq k) (keys_of es) ≡ Some i → set_value_at es i v ≡ insert_entry eq es k v
+  set_found k v es i p = sym (insert_entry-first eq k v es i (Found-position (eq k) es i p).first)

@@ -1,24 +1,31 @@
 -- Reading what is gathered entry by entry.
-use Rattle.std.proofs.Common.{◌≡◌, ℕ, ◌<◌, ◌≤◌, ◌+◌, ◌^◌, ◌-◌, suc, zero, min, List, [], ◌∷◌, ◌++◌, length, get_or, drop, arith, refl, sym, ap, ◌∙◌, codes, Some, slice_get, slice_range, IsSomeAnd, append_assoc, subst}
+use Rattle.std.proofs.Common.{◌≡◌, ℕ, ◌<◌, ◌≤◌, ◌+◌, ◌^◌, ◌-◌, suc, zero, min, List, [], ◌∷◌, ◌++◌, length, drop, arith, refl, sym, ap, ◌∙◌, codes, Option, Some, None, slice_get, slice_range, IsSomeAnd, append_assoc, subst}
+use Rattle.std.specs.Map.{values_of}
 use Rattle.std.specs.Str.{chars}
 use Rattle.gabc_places.specs.declared.place.Span.{Span}
 use Rattle.gabc_places.specs.BoundedList.{BoundedList, Fits}
-use Rattle.gabc_headers.specs.declared.named_value.NamedValue.{NamedValue}
+use Rattle.gabc_headers.specs.declared.entry_map.Key.{Key}
 use Rattle.gabc_headers.specs.Lines.{bytes_len}
 use Rattle.gabc_headers.specs.Canonical.{header_line, header_lines, canonical_heads}
-use Rattle.gabc_headers.specs.machine.EntryMap.{named_entries, spelled_entries, AreWithin}
+use Rattle.gabc_headers.specs.machine.EntryMap.{key_name, named_entries, spelled_entries, AreWithin}
 use Rattle.gabc_headers.specs.BookText.{IsWithin}
 use Rattle.gabc_headers.proofs.entries.TextsAsBytes.{bytes_len-append}
 
-pub length-named : (hs : List NamedValue) → length (named_entries hs) ≡ length hs
+pub length-named : {X : Type 0} (es : List (Key × X)) → length (named_entries es) ≡ length es
 length-named [] = refl
-length-named (h ∷ hs) = ap suc (length-named hs)
+length-named (e ∷ es) = ap suc (length-named es)
 
--- the entry of the header at an index
-pub named_get : (hs : List NamedValue) (i : ℕ) (d : NamedValue) → i < length hs → slice_get (named_entries hs) i ≡ Some (chars (get_or hs i d).name.bytes, (get_or hs i d).value)
-named_get [] i d l = absurd (omega arith)
-named_get (h ∷ hs) zero d l = refl
-named_get (h ∷ hs) (suc i) d l = named_get hs i d (omega arith)
+-- the entry of an index, with the name of its key
+pub named_get : {X : Type 0} (es : List (Key × X)) (i : ℕ) (e : Key × X) → Some e ≡ slice_get es i → slice_get (named_entries es) i ≡ Some (key_name e.0, e.1)
+named_get [] i e h = absurd (cc)
+named_get {X} (d ∷ es) zero e h = sym (ap (λ (o : Option (Key × X)). elim o [ Some p ↦ Some (key_name p.0, p.1) | None ↦ None ]) h)
+named_get (d ∷ es) (suc i) e h = named_get es i e h
+
+-- the value at an index
+pub named_value : {X : Type 0} (es : List (Key × X)) (i : ℕ) (v : X) → slice_get (values_of es) i ≡ Some v → IsSomeAnd (slice_get (named_entries es) i) (λ e. e.1 ≡ v)
+named_value [] i v h = absurd (cc)
+named_value (e ∷ es) zero v h = cc
+named_value (e ∷ es) (suc i) v h = named_value es i v h
 
 -- the span at an index lies in the text
 pub within_get : (text : List ℕ) (es : List (List ℕ × Span)) (i : ℕ) (s : Span) → AreWithin text es → IsSomeAnd (slice_get es i) (λ e. e.1 ≡ s) → IsWithin text s
@@ -60,10 +67,16 @@ first_entries es fs =
     let d = ap (λ (x : List ℕ). bytes_len x) (lines_append es fs) in
     omega (arith, a, b, c, d)
 
+-- below the length there is an entry
+pub get_none : {X : Type 0} (es : List X) (i : ℕ) → None ≡ slice_get es i → i < length es → ⊥
+get_none [] i h l = omega arith
+get_none (e ∷ es) zero h l = absurd (cc)
+get_none (e ∷ es) (suc i) h l = get_none es i h (omega arith)
+
 -- the room that is left
-pub fits_inside : (hs : List NamedValue) (limit : ℕ) (view : BoundedList (List ℕ × Span)) → record { items = named_entries hs; limit = limit } ≡ view → Fits view 1 → length hs + 1 ≤ limit
-fits_inside hs limit view e f =
+pub fits_inside : (es : List (Key × Span)) (limit : ℕ) (view : BoundedList (List ℕ × Span)) → record { items = named_entries es; limit = limit } ≡ view → Fits view 1 → length es + 1 ≤ limit
+fits_inside es limit view e f =
     let n = ap (λ (v : BoundedList (List ℕ × Span)). length v.items) e in
     let m = ap (λ (v : BoundedList (List ℕ × Span)). v.limit) e in
-    let l = length-named hs in
+    let l = length-named es in
     omega arith

@@ -7,7 +7,8 @@ use Rattle.gabc_places.specs.declared.code.Fault.{Fault}
 use Rattle.gabc_places.specs.Decoder.{fault_items}
 use Rattle.gabc_headers.specs.declared.heads.Heads.{Heads}
 use Rattle.gabc_headers.specs.Heads.{heads_of}
-use Rattle.gabc_headers.specs.HeadEvents.{HeadProgress, HeaderStageState, reading, behind, over, progress_after, progress_by, inputs_behind, stage_at, stage_after, stage_past, fresh_stage}
+use Rattle.gabc_headers.specs.HeadEvents.{inputs_behind}
+use Rattle.gabc_headers.specs.witness.HeadEvents.{HeadProgress, HeaderStageState, reading, behind, over, progress_after, progress_by, stage_at, stage_after, stage_past, fresh_stage}
 use Rattle.gabc_headers.proofs.prefixes.EventsNeedNoEnd.{progress_past, standing}
 
 -- behind the headers the book is theirs

@@ -16,7 +16,8 @@ use Rattle.gabc_headers.specs.declared.header_machine.HeaderStep.TheVariants.{Re
 use Rattle.gabc_headers.specs.declared.heads.Heads.{Heads}
 use Rattle.gabc_headers.specs.declared.heads.HeadFault.{HeadFault}
 use Rattle.gabc_headers.specs.Heads.{heads_of}
-use Rattle.gabc_headers.specs.HeadEvents.{HeadProgress, reading, behind, over, event_of_book, progress_by, progress_after, events_of_input, events_of_end, events_at_end, events_left, inputs_behind, body_characters, events_of_heads, events_of_broken, events_of_stopped, emitted_by}
+use Rattle.gabc_headers.specs.HeadEvents.{event_of_book, inputs_behind, body_characters, events_of_heads, events_of_broken, events_of_stopped, emitted_by}
+use Rattle.gabc_headers.specs.witness.HeadEvents.{HeadProgress, reading, behind, over, progress_by, progress_after, events_of_input, events_of_end, events_at_end, events_left}
 use Rattle.gabc_headers.specs.machine.HeaderMachine.{push_one, fresh_machine}
 use Rattle.gabc_headers.specs.machine.Events.{with_event}
 use Rattle.gabc_headers.proofs.collecting.HeadsFollowFromEvents.{collected_of}
@@ -29,11 +30,11 @@ abbrev pub progress_past : Limits → HeadProgress → List (Result Char Fault) 
 progress_past limits progress [] = progress
 progress_past limits progress (x ∷ xs) = progress_past limits (progress_after limits progress x) xs
 
-stays_over : (limits : Limits) (xs : List (Result Char Fault)) → progress_past limits over xs ≡ over
+pub stays_over : (limits : Limits) (xs : List (Result Char Fault)) → progress_past limits over xs ≡ over
 stays_over limits [] = refl
 stays_over limits (x ∷ xs) = stays_over limits xs
 
-stays_behind : (limits : Limits) (book : List (List ℕ × List ℕ)) (cs : List Char) → progress_past limits (behind book) (map (λ c. Ok c) cs) ≡ behind book
+pub stays_behind : (limits : Limits) (book : List (List ℕ × List ℕ)) (cs : List Char) → progress_past limits (behind book) (map (λ c. Ok c) cs) ≡ behind book
 stays_behind limits book [] = refl
 stays_behind limits book (c ∷ cs) = stays_behind limits book cs
 
@@ -73,7 +74,7 @@ stands_step limits held xs c r es u h next = by (push_one r c) refl
         by_end (collected_of held es).findings (heads_at limits (held ++ c ∷ []) (collected_of held es) end) (ends_with limits (held ++ c ∷ []) (collected_of held es) end none)
         (now_is limits held xs c r new es u h end p) (same_heads limits held xs c r new es u h end none p)
 
-stands : (limits : Limits) (xs held : List ℕ) (r : HeaderMachine) (es : List HeaderEvent) → scalars (held ++ xs) ≡ true → HasRead limits.header held r es → StandsPast limits held xs
+pub stands : (limits : Limits) (xs held : List ℕ) (r : HeaderMachine) (es : List HeaderEvent) → scalars (held ++ xs) ≡ true → HasRead limits.header held r es → StandsPast limits held xs
 stands limits [] held r es u h = stands_at_end limits held r es (subst (λ (x : List ℕ). scalars x ≡ true) (append-nil held) u) h
 stands limits (c ∷ xs) held r es u h = stands_step limits held xs c r es u h
     (λ new more k. stands limits xs (held ++ c ∷ []) new more (subst (λ (x : List ℕ). scalars x ≡ true) (sym (append_assoc held (c ∷ []) xs)) u) k)

@@ -13,7 +13,8 @@ use Rattle.gabc_headers.specs.declared.heads.HeadFault.{HeadFault}
 use Rattle.gabc_headers.specs.declared.head_event.HeadEvent.{HeadEvent}
 use Rattle.gabc_headers.specs.declared.head_event.HeadEvent.TheVariants.{Found, Stop, Body, End}
 use Rattle.gabc_headers.specs.Heads.{heads_of}
-use Rattle.gabc_headers.specs.HeadEvents.{HeadProgress, reading, behind, over, IsBehind, events_by, progress_by, events_of_input, progress_after, events_of_end, events_at_end, events_left, event_of_book, new_findings, is_last_event}
+use Rattle.gabc_headers.specs.HeadEvents.{event_of_book, is_last_event}
+use Rattle.gabc_headers.specs.witness.HeadEvents.{HeadProgress, reading, behind, over, IsBehind, events_by, progress_by, events_of_input, progress_after, events_of_end, events_at_end, events_left, new_findings}
 use Rattle.gabc_headers.proofs.prefixes.EventsMakeHeads.{nothing_left}
 
 pub over_is_silent : (limits : Limits) → EmitsNothing (events_left limits over)

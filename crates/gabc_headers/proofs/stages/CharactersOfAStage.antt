@@ -18,10 +18,10 @@ use Rattle.gabc_headers.specs.Book.{has_header}
 use Rattle.gabc_headers.specs.BookText.{IsBook, AreEntries, shown_entries}
 use Rattle.gabc_headers.specs.Canonical.{header_lines}
 use Rattle.gabc_headers.specs.Heads.{heads_of}
-use Rattle.gabc_headers.specs.HeadEvents.{reading, behind, over, HeaderStageState, stage_at, events_at, events_at_end, events_of_end, text_held, progress_with}
+use Rattle.gabc_headers.specs.witness.HeadEvents.{IsInHeaders, reading, behind, over, HeaderStageState, stage_at, events_at, events_at_end, events_of_end, text_held, progress_with}
 use Rattle.gabc_headers.specs.Lines.{bytes_len}
 use Rattle.gabc_headers.specs.machine.Collected.{found_list, name_found}
-use Rattle.gabc_headers.specs.machine.HeaderStage.{IsReading, HasRoomFor, IsStageIn, IsInHeaders, progress_in, headers_within}
+use Rattle.gabc_headers.specs.machine.HeaderStage.{IsReading, HasRoomFor, IsStageIn, progress_in, headers_within}
 use Rattle.gabc_headers.proofs.canonical_form.HeadersEndInTwoPercents.{heads_len}
 use Rattle.gabc_headers.proofs.stages.HeadersTakeThreeBytes.{room_for_one}
 use Rattle.gabc_headers.proofs.stages.MachineTakesText.{counted}

@@ -27,7 +27,8 @@ use Rattle.gabc_headers.specs.Book.{has_header, is_kept}
 use Rattle.gabc_headers.specs.BookText.{text_at}
 use Rattle.gabc_headers.specs.EntryMap.{put_entry}
 use Rattle.gabc_headers.specs.Heads.{heads_of}
-use Rattle.gabc_headers.specs.HeadEvents.{HeadProgress, reading, behind, over, events_at, events_at_end, progress_with, event_of_book}
+use Rattle.gabc_headers.specs.HeadEvents.{event_of_book}
+use Rattle.gabc_headers.specs.witness.HeadEvents.{HeadProgress, reading, behind, over, events_at, events_at_end, progress_with}
 use Rattle.gabc_headers.specs.Lines.{bytes_len}
 use Rattle.gabc_headers.specs.machine.Collected.{Collected, IsGoodEvent, AreGoodEvents, collected_with, collected_with_all, of_headers, none, name_found, len_at_score, end_fault, finding_at}
 use Rattle.gabc_headers.specs.machine.EntryMap.{spelled_entries, AreWithin, comes_again}

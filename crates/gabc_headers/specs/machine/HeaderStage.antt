@@ -11,7 +11,7 @@ use Rattle.gabc_headers.specs.declared.header_machine.HeaderMachine.{HeaderMachi
 use Rattle.gabc_headers.specs.declared.header_machine.HeaderStep.TheVariants.{Read}
 use Rattle.gabc_headers.specs.declared.header_stage.HeadPart.{HeadPart}
 use Rattle.gabc_headers.specs.declared.header_stage.HeadPart.TheVariants.{InHeaders, Behind, Over}
-use Rattle.gabc_headers.specs.HeadEvents.{HeadProgress, reading, behind, over}
+use Rattle.gabc_headers.specs.witness.HeadEvents.{HeadProgress, reading, behind, over}
 use Rattle.gabc_headers.specs.machine.Collected.{collected_with_all, none}
 use Rattle.gabc_headers.specs.machine.Events.{with_event}
 use Rattle.gabc_headers.specs.machine.HeaderMachine.{IsBounded, fresh_machine, push_one}
@@ -46,12 +46,6 @@ abbrev pub IsStageIn : HeadPart → Limits → List ℕ → ℕ → HeaderMachin
 IsStageIn InHeaders limits text space machine headers room = IsReading limits text space machine headers × HasRoomFor limits.header (headers_within limits) room
 IsStageIn Behind limits text space machine headers room = Unit {0}
 IsStageIn Over limits text space machine headers room = Unit {0}
-
--- the progress is in the headers
-abbrev pub IsInHeaders : HeadProgress → Type 0
-IsInHeaders (reading t) = Unit {0}
-IsInHeaders (behind book) = ⊥
-IsInHeaders over = ⊥
 
 abbrev pub progress_in : HeadPart → List ℕ → List (List ℕ × List ℕ) → HeadProgress
 progress_in InHeaders text book = reading (chars text)

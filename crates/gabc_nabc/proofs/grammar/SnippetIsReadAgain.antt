@@ -24,7 +24,7 @@ use Rattle.gabc_notes.specs.declared.stage.NoteEvent.{NoteEvent}
 use Rattle.gabc_notes.specs.declared.stage.NoteEvent.TheVariants.{Kept, Found, Ended}
 use Rattle.gabc_nabc.specs.Table.{nabc}
 use Rattle.gabc_nabc.specs.CharClass.{class_of_character}
-use Rattle.gabc_nabc.specs.DescriptorMachine.{next_state}
+use Rattle.gabc_nabc.specs.witness.DescriptorMachine.{next_state}
 use Rattle.gabc_nabc.specs.Events.{in_comment, is_character, is_end, has_end, kept_of, first_of, is_missing, bytes_in, end_events, events_at, nabc_events_behind, nabc_events}
 use Rattle.gabc_notes.specs.Events.{finding_event, end_by_mark}
 use Rattle.gabc_nabc.specs.SnippetRead.{before_end_behind, before_end, from_end, kept_before}

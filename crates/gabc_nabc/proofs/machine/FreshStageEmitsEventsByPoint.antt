@@ -15,8 +15,8 @@ use Rattle.gabc_nabc.specs.Table.{nabc}
 use Rattle.gabc_nabc.specs.CharClass.{class_of_character}
 use Rattle.gabc_nabc.specs.Events.{in_comment, is_character, is_end, has_end, kept_of, begins_code, joins, takes_code, first_of, first_behind, before_last, bytes_in, is_missing, end_events, events_at, nabc_events_behind}
 use Rattle.gabc_notes.specs.Events.{finding_event, end_by_mark}
-use Rattle.gabc_nabc.specs.DescriptorMachine.{next_state, whole_at, awaits, first_at, comment_in, stage_events_at, stage_after, events_left}
-use Rattle.gabc_notes.specs.StageEvents.{count_plus}
+use Rattle.gabc_nabc.specs.witness.DescriptorMachine.{next_state, whole_at, awaits, first_at, comment_in, stage_events_at, stage_after, events_left}
+use Rattle.gabc_notes.specs.witness.StageEvents.{count_plus}
 use Rattle.gabc_notes.specs.declared.stage.NoteEvent.{NoteEvent}
 use Rattle.gabc_notes.specs.declared.stage.NoteEvent.TheVariants.{Kept, Ended}
 use Rattle.gabc_nabc.specs.declared.stage.NabcStage.{NabcStage}

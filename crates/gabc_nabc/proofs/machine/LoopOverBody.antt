@@ -26,7 +26,7 @@ use Rattle.gabc_nabc.specs.Events.{is_character, is_end, has_end, characters_beh
 use Rattle.gabc_notes.specs.Events.{end_by_mark}
 use Rattle.gabc_notes.specs.SnippetRead.{findings_of, ending_at}
 use Rattle.gabc_nabc.specs.SnippetRead.{before_end_behind, before_end, from_end, kept_before, ending_behind}
-use Rattle.gabc_nabc.specs.DescriptorMachine.{stage_events_at, stage_after, events_left, events_of_cut}
+use Rattle.gabc_nabc.specs.witness.DescriptorMachine.{stage_events_at, stage_after, events_left, events_of_cut}
 use Rattle.gabc_nabc.specs.machine.BuiltNabc.{BuiltNabc, with_events}
 use Rattle.gabc_nabc.specs.declared.stage.NabcStage.{NabcStage}
 use Rattle.gabc_nabc.proofs.machine.TextWithACharacterMore.{end_more}

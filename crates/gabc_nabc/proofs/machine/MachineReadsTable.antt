@@ -3,7 +3,7 @@ use Rattle.std.proofs.Common.{◌≡◌, ℕ, ◌≤◌, Bool, true, refl, arith
 use Rattle.std.proofs.lemmas.Bool.Decides.{nat_tests}
 use Rattle.gabc_nabc.specs.Table.{nabc}
 use Rattle.gabc_nabc.specs.CharClass.{class_of_character}
-use Rattle.gabc_nabc.specs.DescriptorMachine.{going_on, next_state, whole_at}
+use Rattle.gabc_nabc.specs.witness.DescriptorMachine.{going_on, next_state, whole_at}
 use Rattle.gabc_nabc.specs.machine.DescriptorMachine.{is_space_at_end, example}
 use Rattle.gabc_nabc.specs.declared.class.NabcClass.{NabcClass}
 use Rattle.gabc_nabc.specs.declared.state.DescriptorState.{DescriptorState}

@@ -11,8 +11,8 @@ use Rattle.gabc_patterns.specs.Function.{keep, trim, trim_from}
 use Rattle.gabc_patterns.proofs.FunctionsMeetRelations.{keep_append}
 use Rattle.gabc_nabc.specs.Table.{nabc}
 use Rattle.gabc_nabc.specs.Events.{in_comment, is_character, is_end, characters_behind, has_end_behind, has_end, kept_of, last_of, before_last, bytes_in}
-use Rattle.gabc_nabc.specs.DescriptorMachine.{comment_in}
-use Rattle.gabc_notes.specs.StageEvents.{count_plus}
+use Rattle.gabc_nabc.specs.witness.DescriptorMachine.{comment_in}
+use Rattle.gabc_notes.specs.witness.StageEvents.{count_plus}
 
 comment_step : (percent feed later has opened : Bool) → (percent && not (has || (feed || false))) || (later || (opened && not feed)) ≡ later || (((percent && not has) || opened) && not feed)
 comment_step false false false false opened = refl

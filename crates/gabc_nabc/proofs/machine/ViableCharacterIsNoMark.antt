@@ -5,7 +5,7 @@ use Rattle.gabc_notes.specs.declared.stage.NoteEvent.{NoteEvent}
 use Rattle.gabc_notes.specs.declared.stage.NoteEvent.TheVariants.{Kept}
 use Rattle.gabc_nabc.specs.CharClass.{class_of_character}
 use Rattle.gabc_nabc.specs.Events.{is_missing}
-use Rattle.gabc_nabc.specs.DescriptorMachine.{next_state, whole_at, first_at, stage_kept, stage_events_at, stage_after, events_left}
+use Rattle.gabc_nabc.specs.witness.DescriptorMachine.{next_state, whole_at, first_at, stage_kept, stage_events_at, stage_after, events_left}
 use Rattle.gabc_nabc.specs.declared.class.NabcClass.TheVariants.{Other}
 use Rattle.gabc_nabc.specs.declared.stage.NabcStage.{NabcStage}
 use Rattle.gabc_nabc.specs.declared.state.DescriptorState.{DescriptorState}
@@ -53,10 +53,10 @@ module _ (st : NabcStage) (x : Char) (z : DescriptorState) (running : st.ended �
   back : (d : ℕ) → class_of_character d ≡ Other → (d == x.c) ≡ false
   back d o = ne_eqb d x.c (λ e. differs st.state z x.c d next o (sym e))
 
-  kept_events : stage_events_at st x ≡ Kept x ∷ []
+  pub kept_events : stage_events_at st x ≡ Kept x ∷ []
   kept_events = rw (running, closed, other 41 refl, other 124 refl, back 37 refl, back 32 refl, back 9 refl, back 10 refl, next, named) refl
 
-  kept_after : stage_after st x.c ≡ stage_kept st z (whole_at z) x.c
+  pub kept_after : stage_after st x.c ≡ stage_kept st z (whole_at z) x.c
   kept_after = rw (running, closed, other 41 refl, other 124 refl, back 37 refl, back 32 refl, back 9 refl, back 10 refl, next, other 37 refl) refl
 
   pub kept_alone : (xs : List Char) → events_left st (x ∷ xs) ≡ (Kept x ∷ []) ∷ events_left (stage_kept st z (whole_at z) x.c) xs

@@ -12,7 +12,7 @@ use Rattle.gabc_notes.specs.Table.{gabc}
 use Rattle.gabc_notes.specs.machine.ItemMachine.{whole_at}
 use Rattle.gabc_notes.specs.Raw.{IsOpen}
 use Rattle.gabc_notes.specs.Events.{in_raw, ItemText}
-use Rattle.gabc_notes.specs.StageEvents.{kind_at}
+use Rattle.gabc_notes.specs.witness.StageEvents.{kind_at}
 use Rattle.gabc_notes.specs.declared.item.ItemKind.TheVariants.{Fusion}
 use Rattle.gabc_notes.specs.declared.state.ItemState.{ItemState}
 use Rattle.gabc_notes.proofs.machine.MachineReadsTable.{machine, snippets_read}

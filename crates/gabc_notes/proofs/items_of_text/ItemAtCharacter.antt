@@ -8,7 +8,7 @@ use Rattle.gabc_patterns.specs.Function.{items}
 use Rattle.gabc_patterns.proofs.ItemsFunctionReads.{items_only}
 use Rattle.gabc_patterns.proofs.LongestMunchByCharacter.{snippet_to}
 use Rattle.gabc_notes.specs.Table.{gabc, bracket, fusion}
-use Rattle.gabc_notes.specs.StageEvents.{kind_at}
+use Rattle.gabc_notes.specs.witness.StageEvents.{kind_at}
 use Rattle.gabc_notes.specs.Events.{ItemText, last_of, last_item}
 use Rattle.gabc_notes.specs.declared.item.ItemKind.{ItemKind}
 use Rattle.gabc_notes.specs.declared.item.ItemKind.TheVariants.{Note, Alteration, Clef, Bar, Spacing, Custos, Break, Attribute, Fusion}

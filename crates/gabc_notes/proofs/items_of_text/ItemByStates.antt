@@ -10,7 +10,7 @@ use Rattle.gabc_patterns.proofs.LongestMunchByCharacter.{snippet_to, snippet_fro
 use Rattle.gabc_patterns.proofs.StatesAfterTexts.{Stands, after_char}
 use Rattle.gabc_notes.specs.Table.{gabc}
 use Rattle.gabc_notes.specs.Notes.{is_digit}
-use Rattle.gabc_notes.specs.StageEvents.{kind_at, macro_digit}
+use Rattle.gabc_notes.specs.witness.StageEvents.{kind_at, macro_digit}
 use Rattle.gabc_notes.specs.Events.{in_raw, digit_if, ItemText, last_item, opens_fusion, closes_fusion, macro_in, macro_of}
 use Rattle.gabc_notes.specs.machine.ItemMachine.{whole_at, raw_state, attribute_state}
 use Rattle.gabc_notes.specs.declared.item.ItemKind.{ItemKind}

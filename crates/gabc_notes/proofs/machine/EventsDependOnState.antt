@@ -5,7 +5,7 @@ use Rattle.gabc_places.specs.StageLaw.{silence}
 use Rattle.gabc_patterns.specs.Derivative.{Munch, start, step, run, is_whole, is_alive}
 use Rattle.gabc_patterns.proofs.StatesAfterTexts.{run-append}
 use Rattle.gabc_notes.specs.Table.{gabc}
-use Rattle.gabc_notes.specs.StageEvents.{is_attribute_kind, kind_at, macro_digit, char_facts, role_in, before_in, events_in, event_list, cut_event, raw_with, events_following, events_behind}
+use Rattle.gabc_notes.specs.witness.StageEvents.{is_attribute_kind, kind_at, macro_digit, char_facts, role_in, before_in, events_in, event_list, cut_event, raw_with, events_following, events_behind}
 use Rattle.gabc_notes.specs.Events.{in_raw}
 use Rattle.gabc_notes.specs.declared.item.ItemKind.{ItemKind}
 use Rattle.gabc_notes.specs.declared.stage.Before.{Before}

@@ -13,7 +13,7 @@ use Rattle.gabc_patterns.proofs.LongestPrefixIsOne.{split_push}
 use Rattle.gabc_patterns.proofs.StatesAfterTexts.{Stands, state_of, after_char}
 use Rattle.gabc_notes.specs.Table.{gabc}
 use Rattle.gabc_notes.specs.machine.ItemMachine.{whole_at, raw_state, attribute_state}
-use Rattle.gabc_notes.specs.StageEvents.{ends_with_attribute, kind_at, is_attribute_kind, macro_digit, char_facts, role_in, before_in, fused_in, events_in, warning_in, event_list, raw_with, count_plus, cut_event, events_following, events_behind}
+use Rattle.gabc_notes.specs.witness.StageEvents.{ends_with_attribute, kind_at, is_attribute_kind, macro_digit, char_facts, role_in, before_in, fused_in, events_in, warning_in, event_list, raw_with, count_plus, cut_event, events_following, events_behind}
 use Rattle.gabc_notes.specs.machine.StageEvents.{nothing_before}
 use Rattle.gabc_notes.specs.Events.{in_raw, finding_event, end_by_mark, is_missing, Point, ends_in_comment, with_comments, kept, is_comment, is_in_raw, kept_with, is_kept, last_item, item_at, opens_fusion, closes_fusion, macro_of, is_fused, opener, bytes_of, is_end, is_over, is_unpaired, warnings, at_end, events_at, cut_events, note_events_behind, note_events}
 use Rattle.gabc_notes.specs.declared.item.ItemKind.{ItemKind}

@@ -16,14 +16,13 @@ use Rattle.gabc_patterns.specs.Derivative.{is_snippet, is_viable}
 use Rattle.gabc_patterns.specs.Function.{trim}
 use Rattle.gabc_patterns.proofs.FunctionsMeetRelations.{trim_trims}
 use Rattle.gabc_notes.specs.Table.{gabc}
-use Rattle.gabc_notes.specs.ItemMachine.{events_left}
+use Rattle.gabc_notes.specs.witness.ItemMachine.{events_left}
 use Rattle.gabc_places.proofs.PushesAreOne.{joined_silence}
 use Rattle.gabc_notes.specs.Events.{in_raw, finding_event, end_by_mark, is_missing, Point, kept, is_comment, is_end, is_over, is_fused, is_unpaired, opener, item_at, macro_of, bytes_of, warnings, at_end, events_at, cut_events, note_events, note_events_behind}
 use Rattle.gabc_notes.specs.SnippetRead.{SnippetStop, kept_of, ends_of, findings_of, stop_after, index_of, kept_by, ending_by, ending_at}
 use Rattle.gabc_notes.specs.machine.BuiltSnippet.{BuiltSnippet, with_events, PushIsAdded, EndIsAdded}
-use Rattle.gabc_notes.specs.declared.snippet_read.SnippetEnding.TheVariants as snippet
 use Rattle.gabc_notes.specs.declared.stage.NoteEnd.{NoteEnd}
-use Rattle.gabc_notes.specs.declared.stage.NoteEnd.TheVariants.{Next, Close, Cut}
+use Rattle.gabc_notes.specs.declared.stage.NoteEnd.TheVariants.{Cut}
 use Rattle.gabc_notes.specs.declared.stage.NoteEvent.{NoteEvent}
 use Rattle.gabc_notes.specs.declared.stage.NoteEvent.TheVariants.{Kept, Found, Ended}
 use Rattle.gabc_notes.specs.declared.stage.NoteStage.{NoteStage}

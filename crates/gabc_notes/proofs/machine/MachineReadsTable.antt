@@ -4,7 +4,7 @@ use Rattle.std.proofs.lemmas.Bool.Decides.{nat_tests}
 use Rattle.gabc_notes.specs.Table.{gabc}
 use Rattle.gabc_notes.specs.machine.CharClass.{class_of_character}
 use Rattle.gabc_notes.specs.machine.ItemMachine.{going_on, next_state, kind_at_end, whole_at}
-use Rattle.gabc_notes.specs.ItemMachine.{example}
+use Rattle.gabc_notes.specs.witness.ItemMachine.{example}
 use Rattle.gabc_notes.specs.declared.class.CharClass.{CharClass}
 use Rattle.gabc_notes.specs.declared.item.ItemKind.{ItemKind}
 use Rattle.gabc_notes.specs.declared.item.ItemKind.TheVariants.{Note, Alteration, Clef, Bar, Spacing, Custos, Break, Attribute, Fusion}

@@ -9,7 +9,7 @@ use Rattle.gabc_patterns.specs.Derivative.{is_snippet, is_viable}
 use Rattle.gabc_patterns.specs.Function.{keep, trim_from}
 use Rattle.gabc_patterns.proofs.FunctionsMeetRelations.{keep_append}
 use Rattle.gabc_notes.specs.Table.{gabc}
-use Rattle.gabc_notes.specs.StageEvents.{count_plus}
+use Rattle.gabc_notes.specs.witness.StageEvents.{count_plus}
 use Rattle.gabc_notes.specs.Events.{Point, points, outside_comments, with_comments, kept, is_comment, is_in_raw, kept_with, is_kept, item_at, opens_fusion, closes_fusion, is_fused, opener, bytes_of}
 use Rattle.gabc_notes.specs.declared.stage.NoteEvent.{NoteEvent}
 use Rattle.gabc_notes.specs.declared.stage.CharRole.{CharRole}

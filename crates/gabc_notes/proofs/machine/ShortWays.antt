@@ -5,11 +5,11 @@ use Rattle.gabc_places.specs.BoundedList.{BoundedList, extended_by}
 use Rattle.gabc_places.specs.StageLaw.{Pushes}
 use Rattle.gabc_notes.specs.machine.CharClass.{class_of_character}
 use Rattle.gabc_notes.specs.machine.ItemMachine.{IsShortStep, next_state, raw_state, facts_by_states, stage_after, stage_kept, whole_at}
-use Rattle.gabc_notes.specs.ItemMachine.{events_left}
+use Rattle.gabc_notes.specs.witness.ItemMachine.{events_left}
 use Rattle.gabc_notes.specs.TakenAtOnce.{TakesNext, StandsBeforeKept}
 use Rattle.gabc_places.specs.declared.code.Code.TheVariants.{E6, W10}
 use Rattle.gabc_notes.specs.Events.{finding_event, end_by_mark}
-use Rattle.gabc_notes.specs.StageEvents.{role_in, warning_in, events_in, event_list}
+use Rattle.gabc_notes.specs.witness.StageEvents.{role_in, warning_in, events_in, event_list}
 use Rattle.gabc_notes.specs.declared.stage.Before.{Before}
 use Rattle.gabc_notes.specs.declared.stage.CharFacts.{CharFacts}
 use Rattle.gabc_notes.specs.declared.macro_prefix.MacroPrefix.{MacroPrefix}
@@ -133,7 +133,7 @@ not_raw Raw e = absurd (cc)
 not_raw SlashRaw e = absurd (cc)
 not_raw _ e = refl
 
-next_role : (s : ItemState) (o : Option ItemState) (n : MacroPrefix) → whole_at s ≡ true → role_in true false (facts_by_states s o n) 124 ≡ Ends
+pub next_role : (s : ItemState) (o : Option ItemState) (n : MacroPrefix) → whole_at s ≡ true → role_in true false (facts_by_states s o n) 124 ≡ Ends
 next_role s None n whole = rw (not_raw s whole) refl
 next_role s (Some z) n whole = rw (not_raw s whole) refl
 

@@ -7,9 +7,9 @@ use Rattle.gabc_patterns.proofs.StatesAfterTexts.{run-append}
 use Rattle.gabc_patterns.proofs.AutomatonsByTests.{reading, reading_of}
 use Rattle.gabc_notes.specs.Table.{gabc}
 use Rattle.gabc_notes.specs.machine.CharClass.{class_of_character}
-use Rattle.gabc_notes.specs.StageEvents.{is_attribute_kind, kind_at, macro_digit, char_facts, role_in, before_in, events_in, event_list, raw_with, events_following, events_behind}
+use Rattle.gabc_notes.specs.witness.StageEvents.{is_attribute_kind, kind_at, macro_digit, char_facts, role_in, before_in, events_in, event_list, raw_with, events_following, events_behind}
 use Rattle.gabc_notes.specs.machine.ItemMachine.{next_state, raw_state, attribute_state, digit_of_prefix, facts_by_states, prefix_with, prefix_after, stage_after}
-use Rattle.gabc_notes.specs.ItemMachine.{example, example_prefix, events_left}
+use Rattle.gabc_notes.specs.witness.ItemMachine.{example, example_prefix, events_left}
 use Rattle.gabc_notes.specs.declared.item.ItemKind.{ItemKind}
 use Rattle.gabc_notes.specs.declared.macro_prefix.MacroPrefix.{MacroPrefix}
 use Rattle.gabc_notes.specs.declared.macro_prefix.MacroPrefix.TheVariants.{Closed, Opened, Letter, Named, Last, Other}
@@ -25,7 +25,7 @@ use Rattle.gabc_notes.proofs.machine.MachineReadsTable.{machine, snippets_read}
 use Rattle.gabc_notes.proofs.machine.EventsDependOnState.{at_end, raw_at, facts_at, facts_by, NameAlike, events_alike}
 use Rattle.gabc_places.specs.BoundedList.{BoundedList, extended_by}
 use Rattle.gabc_places.specs.StageLaw.{Pushes, silence}
-use Rattle.gabc_notes.specs.StageEvents.{CharEvents}
+use Rattle.gabc_notes.specs.witness.StageEvents.{CharEvents}
 
 -- whether a state lies inside raw
 pub raw_is : (s : ItemState) → raw_at (reading gabc machine s) ≡ raw_state s
@@ -164,7 +164,7 @@ named_alike e n c = go e.raw_after
     go false = λ w. refl
 
 -- what is not viable is not kept
-not_kept : (split comment : Bool) (s : ItemState) (n : MacroPrefix) (c : ℕ) → role_in split comment (facts_by_states s None n) c ≡ Keep → ⊥
+pub not_kept : (split comment : Bool) (s : ItemState) (n : MacroPrefix) (c : ℕ) → role_in split comment (facts_by_states s None n) c ≡ Keep → ⊥
 not_kept split comment s n c e = go (comment && not (c == 10)) (not (raw_state s) && ((c == 41) || (split && (c == 124)))) (not (raw_state s) && (c == 37)) e
   where
     go : (a b d : Bool) → cond a Silent (cond b Ends (cond d Comment LeaveOut)) ≡ Keep → ⊥

@@ -15,7 +15,7 @@ use Rattle.gabc_patterns.proofs.LongestMunchByCharacter.{snippet_from}
 use Rattle.gabc_patterns.proofs.StatesAfterTexts.{state_of, after_char}
 use Rattle.gabc_notes.specs.Table.{gabc}
 use Rattle.gabc_notes.specs.machine.StageEvents.{nothing_before}
-use Rattle.gabc_notes.specs.StageEvents.{char_facts, raw_with, before_in}
+use Rattle.gabc_notes.specs.witness.StageEvents.{char_facts, raw_with, before_in}
 use Rattle.gabc_notes.specs.Events.{ItemText, Point, in_raw, kept, kept_with, is_comment, is_kept, is_end, is_over, is_fused, is_unpaired, is_missing, opener, item_at, opens_fusion, closes_fusion, macro_of, bytes_of, finding_event, end_by_mark, last_of, warnings, at_end, events_at, note_events, note_events_behind}
 use Rattle.gabc_notes.specs.SnippetRead.{findings_of}
 use Rattle.gabc_notes.specs.declared.item.ItemKind.TheVariants.{Attribute}

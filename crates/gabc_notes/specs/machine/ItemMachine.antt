@@ -6,7 +6,7 @@ use Rattle.gabc_patterns.specs.Pattern.{is_in}
 use Rattle.gabc_notes.specs.machine.CharClass.{class_of_character}
 use Rattle.gabc_notes.specs.Notes.{is_digit}
 use Rattle.gabc_places.specs.declared.place.Char.{Char}
-use Rattle.gabc_notes.specs.StageEvents.{before_in}
+use Rattle.gabc_notes.specs.witness.StageEvents.{before_in}
 use Rattle.gabc_notes.specs.Events.{digit_if}
 use Rattle.gabc_notes.specs.declared.stage.NoteStage.{NoteStage}
 use Rattle.gabc_notes.specs.declared.stage.CharRole.{CharRole}

@@ -7,7 +7,8 @@ use Rattle.std.specs.Char.{IsScalar}
 use lib.Utf8.{encode}
 use Rattle.gabc_places.specs.declared.code.Code.TheVariants.{F7}
 use Rattle.gabc_places.specs.Text.{utf8_prefix_of, tail_of}
-use Rattle.gabc_places.specs.DecoderMachine.{DecoderState, DecoderStep, stop_with, take_character, take_pending, take_byte}
+use Rattle.gabc_places.specs.DecoderMachine.{DecoderState}
+use Rattle.gabc_places.specs.witness.DecoderEvents.{DecoderStep, stop_with, take_character, take_pending, take_byte}
 use Rattle.gabc_places.proofs.utf8.CharacterByCharacter.{utf8_prefix_of-past, utf8_prefix_of-none, by_true}
 use Rattle.gabc_places.proofs.utf8.PartOfACharacter.{nothing_is_partial}
 

@@ -1,7 +1,8 @@
 -- A decoder that has stopped emits nothing, and a fault stops it.
-use Rattle.std.proofs.Common.{◌≡◌, ℕ, Bool, true, false, List, [], ◌∷◌, ◌++◌, Option, Some, None, IfSome, option_to_list, Result, Err, refl, ap, sym, ◌∙◌, ◌⊎◌, inl, inr}
+use Rattle.std.proofs.Common.{◌≡◌, ℕ, Bool, true, false, List, [], ◌∷◌, ◌++◌, Option, Some, None, IfSome, option_to_list, Result, Ok, Err, refl, ap, sym, ◌∙◌, ◌⊎◌, inl, inr}
 use Rattle.std.specs.List.{list_any}
 use Rattle.gabc_places.specs.declared.place.Char.{Char}
+use Rattle.gabc_places.specs.declared.place.Place.{Place}
 use Rattle.gabc_places.specs.declared.code.Code.{Code}
 use Rattle.gabc_places.specs.declared.code.Code.TheVariants.{F1}
 use Rattle.gabc_places.specs.declared.code.Fault.{Fault}
@@ -9,7 +10,8 @@ use Rattle.gabc_places.specs.declared.decoded.Tail.{Tail}
 use Rattle.gabc_places.specs.declared.decoded.Tail.TheVariants.{Nothing, Part, Wrong}
 use Rattle.gabc_places.specs.StageLaw.{concat_of, silence, EmitsNothing}
 use Rattle.gabc_places.specs.Text.{is_left_out, utf8_prefix_of, tail_of}
-use Rattle.gabc_places.specs.DecoderMachine.{DecoderState, DecoderStep, stop_with, take_character, take_pending, take_byte, take_end, is_fault_item, events_left}
+use Rattle.gabc_places.specs.DecoderMachine.{DecoderState, is_fault_item}
+use Rattle.gabc_places.specs.witness.DecoderEvents.{DecoderStep, stop_with, take_character, take_pending, take_byte, take_end, events_left}
 use Rattle.gabc_places.specs.machine.Decoder.{take_part}
 use Rattle.gabc_places.proofs.PushesAreOne.{joined_silence}
 
@@ -77,3 +79,40 @@ pub item_of_byte : (x : ℕ) (s new : DecoderState) (item : Option (Result Char 
     → (xs : List ℕ) → events_left s (x ∷ xs) ≡ option_to_list item ∷ events_left new xs
 item_of_byte x s new item e h xs =
     ap (λ (events : List (Result Char Fault)). events ∷ events_left (take_byte x s).state xs) (sym h) ∙ ap (λ (t : DecoderState). option_to_list item ∷ events_left t xs) (sym e)
+
+-- ---- where a fault stands
+
+-- a fault is emitted at the place of the next character, which stays
+abbrev StaysAtFault : Place → DecoderStep → Type 0
+StaysAtFault p t = list_any is_fault_item t.events ≡ true → t.state.place ≡ p
+
+character_stays : (c : ℕ) (s : DecoderState) → StaysAtFault s.place (take_character c s)
+character_stays c s = by (is_left_out (s.previous, c)) refl
+  where
+    by : (b : Bool) → is_left_out (s.previous, c) ≡ b → StaysAtFault s.place (take_character c s)
+    by true e = rw e (λ f. absurd (cc))
+    by false e = rw e (λ f. absurd (cc))
+
+pending_stays : (bytes cs : List ℕ) (tail : Tail) (s : DecoderState) → StaysAtFault s.place (take_pending bytes cs tail s)
+pending_stays bytes (c ∷ cs) tail s = character_stays c s
+pending_stays bytes [] Wrong s = λ f. refl
+pending_stays bytes [] Part s = λ f. refl
+pending_stays bytes [] Nothing s = λ f. refl
+
+stays_with : (p : Place) (t : DecoderStep) (item : Option (Result Char Fault)) (new : DecoderState) → StaysAtFault p t → new ≡ t.state → option_to_list item ≡ t.events
+    → IfSome item (λ i. is_fault_item i ≡ true → new.place ≡ p)
+stays_with p t None new stays e h = tt
+stays_with p t (Some i) new stays e h = λ fault. ap (λ (s : DecoderState). s.place) e ∙ stays (ap (list_any is_fault_item) (sym h) ∙ any_of i fault)
+  where
+    any_of : (i : Result Char Fault) → is_fault_item i ≡ true → list_any is_fault_item (i ∷ []) ≡ true
+    any_of (Ok x) f = absurd (cc)
+    any_of (Err fault) f = refl
+
+pub part_stays : (x : ℕ) (s new : DecoderState) (item : Option (Result Char Fault)) → new ≡ (take_part x s).state → option_to_list item ≡ (take_part x s).events
+    → IfSome item (λ i. is_fault_item i ≡ true → new.place ≡ s.place)
+part_stays x s new item e h = stays_with s.place (take_part x s) item new (pending_stays (s.pending ++ x ∷ []) (utf8_prefix_of (s.pending ++ x ∷ [])) (tail_of (s.pending ++ x ∷ [])) (record s { pending = [] })) e h
+
+-- a character that is whole is no fault
+pub character_is_none : (c : ℕ) (s new : DecoderState) (item : Option (Result Char Fault)) → new ≡ (take_character c s).state → option_to_list item ≡ (take_character c s).events
+    → IfSome item (λ i. is_fault_item i ≡ true → new.place ≡ s.place)
+character_is_none c s new item e h = stays_with s.place (take_character c s) item new (character_stays c s) e h

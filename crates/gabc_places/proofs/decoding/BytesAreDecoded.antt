@@ -24,7 +24,8 @@ use Rattle.gabc_places.specs.Place.{place_after, placed_characters, placed_chara
 use Rattle.gabc_places.specs.StageLaw.{concat_of, silence}
 use Rattle.gabc_places.specs.Text.{is_left_out, read_as, with_previous, text_of_characters, utf8_prefix_of, tail_of, decoded_of, stop_code_of}
 use Rattle.gabc_places.specs.Decoder.{items_of, known_of, known_at_end}
-use Rattle.gabc_places.specs.DecoderMachine.{DecoderState, DecoderStep, IsPartial, IsWrong, fresh_decoder, stop_with, take_character, take_pending, take_byte, take_end, is_unfinished, events_left}
+use Rattle.gabc_places.specs.DecoderMachine.{DecoderState, IsPartial, IsWrong, fresh_decoder, is_unfinished}
+use Rattle.gabc_places.specs.witness.DecoderEvents.{DecoderStep, stop_with, take_character, take_pending, take_byte, take_end, events_left}
 use Rattle.gabc_places.proofs.decoding.AByteIsTaken.{with_byte, byte_taken}
 use Rattle.gabc_places.proofs.decoding.ADecoderStops.{silent}
 use Rattle.gabc_places.proofs.PlacesOfAText.{next_after}

@@ -7,7 +7,7 @@ use Rattle.std.proofs.lemmas.List.Elements.{All-head, All-tail}
 use lib.Utf8.{encodes, scalars}
 use Rattle.gabc_places.specs.declared.limits.Limits.{Limits}
 use Rattle.gabc_places.specs.declared.decoded.Tail.TheVariants.{Nothing}
-use Rattle.gabc_places.specs.Text.{is_left_out, read_as, utf8_prefix_of, tail_of, decoded_of, stop_code_of}
+use Rattle.gabc_places.specs.Text.{is_left_out, read_as, utf8_prefix_of, tail_of, decoded_of, stop_code_of, text_of_characters}
 use Rattle.gabc_places.proofs.decoding.BytesAreDecoded.{reads-past, tail-past, decoded_by, decoded_within}
 use Rattle.gabc_places.proofs.utf8.CharacterByCharacter.{utf8_prefix_of-none, tail_of-none}
 use Rattle.gabc_places.proofs.utf8.PartOfACharacter.{nothing_is_partial}
@@ -27,10 +27,10 @@ all_scalars (c ∷ cs) h = both (All-head IsScalar c cs h) (all_scalars cs (All-
 kept : (p c : ℕ) → p ≢ 13 → IsPlain c → (not (is_left_out (p, c)) ≡ true) × (read_as c ≡ c)
 kept p c before plain = (grind (arith, nat_tests), grind (arith, nat_tests))
 
-abbrev read_one : ℕ × ℕ → ℕ
+abbrev pub read_one : ℕ × ℕ → ℕ
 read_one q = read_as q.1
 
-abbrev is_read : ℕ × ℕ → Bool
+abbrev pub is_read : ℕ × ℕ → Bool
 is_read q = not (is_left_out q)
 
 plain_behind : (p : ℕ) (cs : List ℕ) → p ≢ 13 → All IsPlain cs → map read_one (filter is_read (zip (p ∷ cs) cs)) ≡ cs
@@ -45,14 +45,19 @@ plain_behind p (c ∷ cs) before h =
     by true e same rest = ap₂ (λ x (xs : List ℕ). x ∷ xs) same rest
     by false e same rest = absurd (cc)
 
+-- the bytes of characters are read as the text of these
+pub characters_are_read : (limits : Limits) (ended : Bool) (cs : List ℕ) → scalars cs ≡ true → length (encodes cs) ≤ limits.input
+    → decoded_of limits ended (encodes cs) ≡ record { text = text_of_characters cs; fault = None }
+characters_are_read limits ended cs ok within =
+    let characters : utf8_prefix_of (encodes cs) ≡ cs =
+    ap utf8_prefix_of (sym (append-nil (encodes cs))) ∙ reads-past cs [] ok ∙ ap (λ l. cs ++ l) (utf8_prefix_of-none [] nothing_is_partial.none) ∙ append-nil cs in
+    let tail : tail_of (encodes cs) ≡ Nothing =
+    ap tail_of (sym (append-nil (encodes cs))) ∙ tail-past cs [] ok ∙ tail_of-none [] nothing_is_partial.none in
+    decoded_within limits ended (encodes cs) within
+    ∙ ap₂ (λ read t. decoded_by read (stop_code_of false ended t)) characters tail
+
 pub read_again : (limits : Limits) (ended : Bool) (text : List ℕ) → All IsScalar text → All IsPlain text → length (encodes text) ≤ limits.input
     → decoded_of limits ended (encodes text) ≡ record { text = text; fault = None }
 read_again limits ended text scalar plain within =
-    let ok = all_scalars text scalar in
-    let characters : utf8_prefix_of (encodes text) ≡ text =
-    ap utf8_prefix_of (sym (append-nil (encodes text))) ∙ reads-past text [] ok ∙ ap (λ l. text ++ l) (utf8_prefix_of-none [] nothing_is_partial.none) ∙ append-nil text in
-    let tail : tail_of (encodes text) ≡ Nothing =
-    ap tail_of (sym (append-nil (encodes text))) ∙ tail-past text [] ok ∙ tail_of-none [] nothing_is_partial.none in
-    decoded_within limits ended (encodes text) within
-    ∙ ap₂ (λ cs t. decoded_by cs (stop_code_of false ended t)) characters tail
+    characters_are_read limits ended text (all_scalars text scalar) within
     ∙ ap (λ (t : List ℕ). record { text = t; fault = None }) (plain_behind 0 text (λ e. absurd (omega (arith, e))) plain)

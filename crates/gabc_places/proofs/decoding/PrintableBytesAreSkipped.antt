@@ -4,7 +4,8 @@ use Rattle.std.proofs.lemmas.Bool.Decides.{nat_tests}
 use Rattle.gabc_places.specs.Place.{is_line_feed}
 use Rattle.gabc_places.specs.Skip.{IsPrintable, most_skipped}
 use Rattle.gabc_places.specs.Text.{is_left_out, read_as}
-use Rattle.gabc_places.specs.DecoderMachine.{DecoderState, take_character, take_byte, is_unfinished}
+use Rattle.gabc_places.specs.DecoderMachine.{DecoderState, is_unfinished}
+use Rattle.gabc_places.specs.witness.DecoderEvents.{take_character, take_byte}
 use Rattle.gabc_places.proofs.decoding.AByteIsTaken.{plain_byte_taken}
 
 shown : (p x : ℕ) → 32 ≤ x → x ≤ 126 → is_left_out (p, x) ≡ false

@@ -6,7 +6,8 @@ use Rattle.std.proofs.lemmas.List.Elements.{All-head, All-tail}
 use Rattle.gabc_places.specs.declared.place.Char.{Char}
 use Rattle.gabc_places.specs.declared.code.Fault.{Fault}
 use Rattle.gabc_places.specs.Skip.{IsPrintable, most_skipped, skipped_events}
-use Rattle.gabc_places.specs.DecoderMachine.{DecoderState, DecoderStep, events_left}
+use Rattle.gabc_places.specs.DecoderMachine.{DecoderState}
+use Rattle.gabc_places.specs.witness.DecoderEvents.{DecoderStep, events_left}
 use Rattle.gabc_places.proofs.decoding.PrintableBytesAreSkipped.{moved_to, printable_byte_taken, runs, most_is_left}
 
 -- the last of some bytes, or else p

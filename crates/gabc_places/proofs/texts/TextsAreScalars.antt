@@ -51,11 +51,11 @@ behind_short p (c ∷ cs) = by (not (is_left_out (p, c))) (behind_short c cs)
         omega arith
     by false rest = let whole = all in omega arith
 
-prefix_scalars : (bytes : List ℕ) → scalars (utf8_prefix_of bytes) ≡ true
+pub prefix_scalars : (bytes : List ℕ) → scalars (utf8_prefix_of bytes) ≡ true
 unfolding utf8_prefix_of
 prefix_scalars bytes = scalars-chars (take (utf8_valid_len bytes) bytes) (valid_len-front bytes)
 
-prefix_short : (bytes : List ℕ) → length (encodes (utf8_prefix_of bytes)) ≤ length bytes
+pub prefix_short : (bytes : List ℕ) → length (encodes (utf8_prefix_of bytes)) ≤ length bytes
 unfolding utf8_prefix_of
 prefix_short bytes =
     let e : length (encodes (utf8_prefix_of bytes)) ≡ length (take (utf8_valid_len bytes) bytes) = ap length (encodes-chars (take (utf8_valid_len bytes) bytes) (valid_len-front bytes)) in

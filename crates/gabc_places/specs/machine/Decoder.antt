@@ -1,6 +1,7 @@
 -- What a decoder does with a byte of a longer character.
 use Rattle.std.specs.Prelude.{ℕ, [], ◌∷◌, ◌++◌}
-use Rattle.gabc_places.specs.DecoderMachine.{DecoderState, DecoderStep, take_pending}
+use Rattle.gabc_places.specs.DecoderMachine.{DecoderState}
+use Rattle.gabc_places.specs.witness.DecoderEvents.{DecoderStep, take_pending}
 use Rattle.gabc_places.specs.Text.{utf8_prefix_of, tail_of}
 
 -- a byte behind those that are pending, which is counted already

@@ -4,7 +4,7 @@ use Rattle.std.specs.List.{list_any}
 use Rattle.gabc_places.specs.declared.place.Char.{Char}
 use Rattle.gabc_places.specs.declared.place.Place.{Place}
 use Rattle.gabc_notes.specs.declared.stage.NoteEvent.{NoteEvent}
-use Rattle.gabc_score.specs.BodyStage.{texts_by_stage}
+use Rattle.gabc_score.specs.witness.BodyStage.{texts_by_stage}
 use Rattle.gabc_score.specs.Events.{PartAhead, InNotes, events_from, behind_mark, is_next, is_close, note_event, next_line, snippet_from, text_from}
 
 module _ (lines macros line : ℕ) (opened : Place) (x : Char) (es : List NoteEvent) (before after : List Char → List (List NoteEvent)) where

@@ -7,7 +7,7 @@ use Rattle.gabc_text.specs.declared.text_event.TextEnd.TheVariants as text_end
 use Rattle.gabc_text.specs.declared.text_event.TextEvent.TheVariants as text
 use Rattle.gabc_text.specs.declared.stage.TextStage.{TextStage}
 use Rattle.gabc_text.specs.Events.{codes_of}
-use Rattle.gabc_text.specs.EventsLeft.{events_left}
+use Rattle.gabc_text.specs.witness.EventsLeft.{events_left}
 use Rattle.gabc_text.specs.TakenAtOnce.{Takes}
 use Rattle.gabc_notes.specs.TakenAtOnce.{TakesNext}
 use Rattle.gabc_notes.specs.declared.stage.NoteEnd.TheVariants as note_end
@@ -17,7 +17,7 @@ use Rattle.gabc_score.specs.declared.body_stage.BodyPart.TheVariants as part
 use Rattle.gabc_score.specs.declared.events.BodyEvent.{BodyEvent}
 use Rattle.gabc_score.specs.declared.events.BodyEvent.TheVariants as event
 use Rattle.gabc_score.specs.declared.slot_pair.SlotUse.TheVariants.{Filling}
-use Rattle.gabc_score.specs.BodyStage.{BodyStageState, part_with, running_events_left, texts_by_stage}
+use Rattle.gabc_score.specs.witness.BodyStage.{BodyStageState, part_with, running_events_left, texts_by_stage}
 use Rattle.gabc_score.specs.Events.{InText, InNotes, events_from, next_line, snippet_from}
 use Rattle.gabc_score.specs.ScoreEvents.{findings_now}
 use Rattle.gabc_score.specs.Syllable.{prefix_of}

@@ -150,7 +150,7 @@ module _ (P L : UnplacedSyllable → Type 0) where
 
 -- ---- the score
 
-codes_placed : (prefix behind : List ℕ) → codes_of (placed_characters_behind prefix behind) ≡ behind
+pub codes_placed : (prefix behind : List ℕ) → codes_of (placed_characters_behind prefix behind) ≡ behind
 codes_placed prefix [] = refl
 codes_placed prefix (c ∷ behind) = ap (λ cs. c ∷ cs) (codes_placed (prefix ++ c ∷ []) behind)
 

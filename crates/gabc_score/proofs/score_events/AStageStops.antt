@@ -18,10 +18,11 @@ use Rattle.gabc_score.specs.declared.score_machine.ScoreMachine.{ScoreMachine}
 use Rattle.gabc_score.specs.declared.score_machine.ScorePart.{ScorePart}
 use Rattle.gabc_score.specs.declared.score_machine.ScorePart.TheVariants as score_part
 use Rattle.gabc_score.specs.Body.{fault_at}
-use Rattle.gabc_score.specs.BodyStage.{BodyStageState, running_events_left, texts_by_stage}
+use Rattle.gabc_score.specs.witness.BodyStage.{BodyStageState, running_events_left, texts_by_stage}
 use Rattle.gabc_score.specs.Events.{InComment, events_from}
 use Rattle.gabc_score.specs.ScoreEvents.{ScoreOutput, Found, Stop, Syllable, End, findings_now, characters_in}
-use Rattle.gabc_score.specs.ScoreStage.{left_of, events_lent, events_of, is_last_event}
+use Rattle.gabc_score.specs.ScoreStage.{events_lent, events_of, is_last_event}
+use Rattle.gabc_score.specs.witness.ScoreStage.{left_of}
 use Rattle.gabc_score.specs.machine.BodyBuilder.{with_all, code_in, end_fault}
 use Rattle.gabc_score.specs.machine.Gatherer.{with_last}
 use Rattle.gabc_score.specs.machine.ScoreStage.{HeldScore, placed_behind, score_past, end_outputs_by, left_by, body_left, fresh_score, score_left, outputs_left}

@@ -1,27 +1,101 @@
--- Where what comes in just ceases, a stage of scores gives neither a stop nor the end.
-use Rattle.std.proofs.Common.{◌≡◌, List, [], ◌++◌, None, false, refl, ap}
-use Rattle.gabc_places.specs.StageLaw.{concat_of}
+-- Where what comes in just ceases, a stage of scores gives no finding, no stop and no end; and it gives the end only at the end.
+use Rattle.std.proofs.Common.{◌≡◌, ℕ, ◌≤◌, not, List, [], ◌∷◌, ◌++◌, length, Option, Some, None, false, refl, ap, ◌∙◌, arith, append-nil, append_assoc}
+use Rattle.gabc_places.proofs.PushesAreOne.{joined_silence}
+use Rattle.gabc_places.specs.StageLaw.{concat_of, silence}
+use Rattle.gabc_places.specs.declared.code.Code.{Code}
+use Rattle.gabc_places.specs.declared.code.Fault.{Fault}
+use Rattle.gabc_places.specs.declared.code.Finding.{Finding}
 use Rattle.gabc_places.specs.declared.limits.Limits.{Limits}
-use Rattle.gabc_score.specs.BodyStage.{BodyStageState}
+use Rattle.gabc_places.specs.declared.place.Char.{Char}
+use Rattle.gabc_headers.specs.declared.head_event.HeadEvent.{HeadEvent}
+use Rattle.gabc_headers.specs.declared.head_event.HeadEvent.TheVariants as head_event
+use Rattle.gabc_score.specs.witness.BodyStage.{BodyStageState, running_events_left, texts_by_stage}
+use Rattle.gabc_score.specs.Events.{InComment, events_from}
+use Rattle.gabc_score.specs.declared.events.BodyEvent.{BodyEvent}
 use Rattle.gabc_score.specs.declared.score_machine.ScorePart.{ScorePart}
 use Rattle.gabc_score.specs.declared.score_machine.ScorePart.TheVariants as score_part
-use Rattle.gabc_score.specs.ScoreEvents.{outputs_of}
-use Rattle.gabc_score.specs.ScoreStage.{ScoreStageState, left_of}
+use Rattle.gabc_score.specs.ScoreEvents.{HasNoEnd, ScoreOutput, Stop, characters_in, findings_now, has_end, outputs_of, syllables_in}
+use Rattle.gabc_score.specs.witness.ScoreStage.{ScoreStageState, left_of}
 use Rattle.gabc_score.specs.Syllable.{PlacedSyllable}
-use Rattle.gabc_score.specs.machine.ScoreStage.{HeldScore, outputs_left}
+use Rattle.gabc_score.specs.machine.BodyBuilder.{code_in, with_all}
+use Rattle.gabc_score.specs.machine.ScoreStage.{HeldScore, body_left, fresh_score, held_outputs, left_by, outputs_left, placed_behind, point_outputs, score_left, score_past, stop_outputs}
+use Rattle.gabc_score.proofs.score_events.FewAndShortAreLent.{placed_count}
 use Rattle.gabc_score.proofs.score_events.WhatOutputsSay.{Said, said_by, said_of}
 
+-- ---- what ceases
+
 pub record NoStop (s : Said) : Type 0 where
+  pub findings : s.findings ≡ []
   pub stop : s.fault ≡ None
   pub end : s.ended ≡ false
 
 held : (ss : List PlacedSyllable) → NoStop (said_by (outputs_of [] ss ++ []))
-held ss = record { stop = ap (λ (s : Said). s.fault) (said_of [] ss []); end = ap (λ (s : Said). s.ended) (said_of [] ss []) }
+held ss =
+    let said = said_of [] ss [] in
+    record { findings = ap (λ (s : Said). s.findings) said; stop = ap (λ (s : Said). s.fault) said; end = ap (λ (s : Said). s.ended) said }
 
 by_part : (limits : Limits) (part : ScorePart) (s : HeldScore) (body : BodyStageState) → NoStop (said_by (concat_of (outputs_left limits part s body [])))
-by_part limits score_part.Heads s body = record { stop = refl; end = refl }
-by_part limits score_part.Over s body = record { stop = refl; end = refl }
+by_part limits score_part.Heads s body = record { findings = refl; stop = refl; end = refl }
+by_part limits score_part.Over s body = record { findings = refl; stop = refl; end = refl }
 by_part limits score_part.Body s body = held _
 
 pub no_stop : (s : ScoreStageState) → NoStop (said_by (concat_of (left_of s [])))
 no_stop s = by_part s.limits s.part s.held s.body
+
+-- one syllable is given at most, where one is held at most
+pub few_are_held : (limits : Limits) (s : HeldScore) (body : BodyStageState) → length s.gathered.made ≤ 1
+    → length (syllables_in (concat_of (outputs_left limits score_part.Body s body []))) ≤ 1
+few_are_held limits s body few =
+    let ss = placed_behind s.has_lent s.gathered.made in
+    let said = ap (λ (t : Said). length t.syllables) (said_of [] ss []) in
+    let same = ap (λ (l : List PlacedSyllable). length l) (append-nil ss) in
+    let count = placed_count (not s.has_lent) s.gathered.made in
+    omega (arith, said, same, count, few)
+
+-- ---- the end
+
+silent : (xs : List HeadEvent) → has_end (concat_of (silence {I = HeadEvent} {O = ScoreOutput} xs)) ≡ false
+silent xs = ap has_end (joined_silence {O = ScoreOutput} xs)
+
+stopped : (s : HeldScore) (fault : Fault) (xs : List HeadEvent) → has_end (concat_of (stop_outputs s fault ∷ silence xs)) ≡ false
+stopped s fault xs =
+    let ss = placed_behind s.has_lent s.gathered.made in
+    let later = concat_of (silence {O = ScoreOutput} xs) in
+    ap has_end (append_assoc (outputs_of [] ss) (Stop fault ∷ []) later)
+    ∙ (ap (λ (t : Said). t.ended) (said_of [] ss (Stop fault ∷ later)) ∙ silent xs)
+
+pointed : (s : HeldScore) (now : List BodyEvent) (later : List (List ScoreOutput)) → has_end (concat_of later) ≡ false
+    → has_end (concat_of (point_outputs s now ∷ later)) ≡ false
+pointed s now later none = ap (λ (t : Said). t.ended) (said_of (findings_now now) _ (concat_of later)) ∙ none
+
+read : (code : Option Code) (s : HeldScore) (x : Char) (now : List BodyEvent) (xs : List HeadEvent) (later : List (List ScoreOutput)) → has_end (concat_of later) ≡ false
+    → has_end (concat_of (left_by code s x now xs later)) ≡ false
+read (Some code) s x now xs later none = stopped s _ xs
+read None s x now xs later none = pointed s now later none
+
+in_body : (limits : Limits) (s : HeldScore) (lists : List (List BodyEvent)) (xs : List HeadEvent) → HasNoEnd xs → has_end (concat_of (body_left limits s lists xs)) ≡ false
+in_body limits s lists [] h = (held (placed_behind s.has_lent s.gathered.made)).end
+in_body limits s (now ∷ lists) (head_event.Body x ∷ xs) h =
+    read (code_in limits (with_all s.gathered now)) s x now xs (body_left limits (score_past s x now) lists xs) (in_body limits (score_past s x now) lists xs h)
+in_body limits s [] (head_event.Body x ∷ xs) h = silent xs
+in_body limits s lists (head_event.End ∷ xs) h = absurd h
+in_body limits s lists (head_event.Stop fault ∷ xs) h = stopped s fault xs
+in_body limits s lists (head_event.Found f ∷ xs) h = in_body limits s lists xs h
+in_body limits s lists (head_event.Heads lines macros canonical ∷ xs) h = in_body limits s lists xs h
+
+in_score : (limits : Limits) (xs : List HeadEvent) → HasNoEnd xs → has_end (concat_of (score_left limits xs)) ≡ false
+in_score limits [] h = refl
+in_score limits (head_event.Heads lines macros canonical ∷ xs) h =
+    in_body limits (fresh_score limits canonical) (events_from texts_by_stage lines macros InComment (characters_in xs)) xs h
+in_score limits (head_event.Found f ∷ xs) h = in_score limits xs h
+in_score limits (head_event.Stop fault ∷ xs) h = silent xs
+in_score limits (head_event.End ∷ xs) h = absurd h
+in_score limits (head_event.Body x ∷ xs) h = in_score limits xs h
+
+in_part : (limits : Limits) (part : ScorePart) (s : HeldScore) (body : BodyStageState) (xs : List HeadEvent) → HasNoEnd xs → has_end (concat_of (outputs_left limits part s body xs)) ≡ false
+in_part limits score_part.Heads s body xs h = in_score limits xs h
+in_part limits score_part.Body s body xs h = in_body limits s (running_events_left body (characters_in xs)) xs h
+in_part limits score_part.Over s body xs h = silent xs
+
+pub no_end : (s : ScoreStageState) (xs : List HeadEvent) → HasNoEnd xs → has_end (concat_of (left_of s xs)) ≡ false
+no_end s xs h = in_part s.limits s.part s.held s.body xs h

@@ -6,11 +6,11 @@ use Rattle.gabc_places.specs.declared.limits.Limits.{Limits}
 use Rattle.gabc_places.proofs.PushesAreOne.{joined_silence}
 use Rattle.gabc_headers.specs.declared.head_event.HeadEvent.{HeadEvent}
 use Rattle.gabc_headers.specs.declared.head_event.HeadEvent.TheVariants as head_event
-use Rattle.gabc_score.specs.BodyStage.{BodyStageState}
+use Rattle.gabc_score.specs.witness.BodyStage.{BodyStageState}
 use Rattle.gabc_score.specs.declared.score_machine.ScorePart.{ScorePart}
 use Rattle.gabc_score.specs.declared.score_machine.ScorePart.TheVariants as score_part
 use Rattle.gabc_score.specs.ScoreEvents.{ScoreOutput, Stop}
-use Rattle.gabc_score.specs.ScoreStage.{ScoreStageState, left_of}
+use Rattle.gabc_score.specs.witness.ScoreStage.{ScoreStageState, left_of}
 use Rattle.gabc_score.specs.machine.ScoreStage.{HeldScore, outputs_left, stop_outputs}
 
 by_part : (limits : Limits) (part : ScorePart) (s : HeldScore) (body : BodyStageState) (fault : Fault) (later : List HeadEvent)

@@ -11,7 +11,8 @@ use Rattle.gabc_places.specs.Skip.{IsPrintable}
 use Rattle.gabc_headers.specs.declared.head_event.HeadEvent.{HeadEvent}
 use Rattle.gabc_headers.specs.declared.head_event.HeadEvent.TheVariants as head_event
 use Rattle.gabc_score.specs.ScoreEvents.{ScoreOutput}
-use Rattle.gabc_score.specs.ScoreStage.{ScoreStageState, GivesNothing, body_inputs, left_of, nothing_each}
+use Rattle.gabc_score.specs.ScoreStage.{GivesNothing, body_inputs, nothing_each}
+use Rattle.gabc_score.specs.witness.ScoreStage.{ScoreStageState, left_of}
 use Rattle.gabc_score.specs.machine.ScoreMachine.{PassesQuietly}
 
 enumerate_one_more : (n : ℕ) (xs : List ℕ) (x : ℕ) → enumerate_from n (xs ++ x ∷ []) ≡ enumerate_from n xs ++ (n + length xs, x) ∷ []

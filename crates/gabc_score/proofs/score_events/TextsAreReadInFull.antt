@@ -17,11 +17,11 @@ use Rattle.gabc_headers.specs.HeadEvents.{event_of_book}
 use Rattle.gabc_headers.specs.Heads.{heads_of}
 use Rattle.gabc_headers.specs.Lines.{bytes_len}
 use Rattle.gabc_text.specs.Events.{CountsFit, events_by_point}
-use Rattle.gabc_text.specs.EventsLeft.{events_left}
+use Rattle.gabc_text.specs.witness.EventsLeft.{events_left}
 use Rattle.gabc_text.specs.TextStage.{fresh_stage}
 use Rattle.gabc_score.specs.declared.ending.InputEnding.{InputEnding}
 use Rattle.gabc_score.specs.declared.events.BodyEvent.{BodyEvent}
-use Rattle.gabc_score.specs.BodyStage.{texts_by_stage}
+use Rattle.gabc_score.specs.witness.BodyStage.{texts_by_stage}
 use Rattle.gabc_score.specs.Events.{Texts, InComment, events_from, texts_by_definition}
 use Rattle.gabc_score.specs.Score.{heads_text, behind_heads, head_fault_by}
 use Rattle.gabc_score.specs.ScoreEvents.{ScoreOutput, Found, characters_in, body_outputs, first_place, score_outputs, stop_events, head_events_by, head_events}

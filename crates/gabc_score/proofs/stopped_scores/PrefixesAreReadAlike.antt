@@ -10,7 +10,7 @@ use Rattle.gabc_text.specs.declared.text_event.TextEnd.TheVariants as text_end
 use Rattle.gabc_text.specs.declared.text_event.TextEvent.{TextEvent}
 use Rattle.gabc_text.specs.declared.text_event.TextEvent.TheVariants as text_out
 use Rattle.gabc_text.specs.Events.{CountsFit, codes_of, events_by_point}
-use Rattle.gabc_text.specs.EventsLeft.{events_left}
+use Rattle.gabc_text.specs.witness.EventsLeft.{events_left}
 use Rattle.gabc_text.specs.TextStage.{fresh_stage}
 use Rattle.gabc_text.specs.declared.stage.TextStage.{TextStage}
 use Rattle.gabc_notes.specs.declared.stage.NoteEvent.{NoteEvent}

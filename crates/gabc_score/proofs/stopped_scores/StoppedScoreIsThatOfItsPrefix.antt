@@ -16,7 +16,7 @@ use Rattle.gabc_text.specs.declared.stage.TextStage.{TextStage}
 use Rattle.gabc_text.specs.BuiltText.{with_events, empty_text, text_built_at}
 use Rattle.gabc_text.specs.Ends.{EndsOnce}
 use Rattle.gabc_text.specs.Events.{CountsFit, codes_of, events_of, events_by_point}
-use Rattle.gabc_text.specs.EventsLeft.{events_left}
+use Rattle.gabc_text.specs.witness.EventsLeft.{events_left}
 use Rattle.gabc_text.specs.TextStage.{fresh_stage}
 use Rattle.gabc_text.specs.ViewFacts.{StandsForView}
 use Rattle.gabc_text.specs.View.{kept}

@@ -12,11 +12,11 @@ use Rattle.gabc_headers.specs.Heads.{head_len}
 use Rattle.gabc_text.specs.declared.text_event.TextEvent.{TextEvent}
 use Rattle.gabc_text.specs.Events.{CountsFit, codes_of, events_by_point}
 use Rattle.gabc_text.specs.View.{bytes_of}
-use Rattle.gabc_text.specs.EventsLeft.{events_left}
+use Rattle.gabc_text.specs.witness.EventsLeft.{events_left}
 use Rattle.gabc_text.specs.TextStage.{fresh_stage}
 use Rattle.gabc_score.specs.declared.events.BodyEvent.{BodyEvent}
 use Rattle.gabc_score.specs.Events.{PartAhead, InComment, InText, InNotes, is_next, is_close, first_list, other_lists, events_in, snippet_from, next_line, behind_mark, part_at, part_behind, events_from, texts_by_definition}
-use Rattle.gabc_score.specs.BodyStage.{texts_by_stage}
+use Rattle.gabc_score.specs.witness.BodyStage.{texts_by_stage}
 use Rattle.gabc_score.specs.Score.{heads_text, behind_heads}
 
 codes_placed : (at : Place) (t : List ℕ) → codes_of (placed_characters_from at t) ≡ t

@@ -12,7 +12,8 @@ use Rattle.gabc_places.specs.BoundedList.{BoundedList}
 use Rattle.gabc_places.specs.StageLaw.{concat_of}
 use Rattle.gabc_score.specs.declared.ending.InputEnding.{InputEnding}
 use Rattle.gabc_score.specs.ScoreEvents.{ScoreOutput, findings_in, syllables_in, fault_in, ending_events}
-use Rattle.gabc_score.specs.ScoreStage.{ScoreStageState, GivesOutputs, left_of}
+use Rattle.gabc_score.specs.ScoreStage.{GivesOutputs}
+use Rattle.gabc_score.specs.witness.ScoreStage.{ScoreStageState, left_of}
 use Rattle.gabc_score.specs.Syllable.{PlacedSyllable}
 
 -- the first fault counts

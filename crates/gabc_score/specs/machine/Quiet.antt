@@ -3,7 +3,7 @@ use Rattle.std.specs.Prelude.{◌≡◌, ◌+◌, ◌≤◌, List, [], ◌∷◌
 use Rattle.gabc_places.specs.declared.place.Char.{Char}
 use Rattle.gabc_score.specs.declared.events.BodyEvent.{BodyEvent}
 use Rattle.gabc_score.specs.declared.slot_pair.SlotUse.TheVariants.{Filling}
-use Rattle.gabc_score.specs.BodyStage.{BodyStageState, running_events_left}
+use Rattle.gabc_score.specs.witness.BodyStage.{BodyStageState, running_events_left}
 use Rattle.gabc_score.specs.ScoreEvents.{findings_now}
 use Rattle.gabc_score.specs.machine.BodyBuilder.{with_all}
 use Rattle.gabc_score.specs.machine.PartCounts.{CountsHold}

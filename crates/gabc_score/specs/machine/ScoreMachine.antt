@@ -10,7 +10,7 @@ use Rattle.gabc_score.specs.declared.score_machine.ScoreMachine.{ScoreMachine}
 use Rattle.gabc_score.specs.declared.score_machine.ScorePart.{ScorePart}
 use Rattle.gabc_score.specs.declared.score_machine.ScorePart.TheVariants as score_part
 use Rattle.gabc_score.specs.declared.slot_pair.SlotUse.TheVariants.{Filling}
-use Rattle.gabc_score.specs.ScoreStage.{ScoreStageState, left_of}
+use Rattle.gabc_score.specs.witness.ScoreStage.{ScoreStageState, left_of}
 use Rattle.gabc_score.specs.machine.BodyBuilder.{code_in}
 use Rattle.gabc_score.specs.machine.Gatherer.{nothing_gathered}
 use Rattle.gabc_score.specs.machine.PartCounts.{CountsHold}

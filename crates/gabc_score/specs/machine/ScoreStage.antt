@@ -11,7 +11,7 @@ use Rattle.gabc_headers.specs.declared.head_event.HeadEvent.{HeadEvent}
 use Rattle.gabc_headers.specs.declared.head_event.HeadEvent.TheVariants as head_event
 use Rattle.gabc_score.specs.declared.events.BodyEvent.{BodyEvent}
 use Rattle.gabc_score.specs.Body.{fault_at, has_text}
-use Rattle.gabc_score.specs.BodyStage.{BodyStageState, running_events_left, texts_by_stage}
+use Rattle.gabc_score.specs.witness.BodyStage.{BodyStageState, running_events_left, texts_by_stage}
 use Rattle.gabc_score.specs.declared.score_machine.ScorePart.{ScorePart}
 use Rattle.gabc_score.specs.declared.score_machine.ScorePart.TheVariants as score_part
 use Rattle.gabc_score.specs.Canonical.{placed_syllables_by}

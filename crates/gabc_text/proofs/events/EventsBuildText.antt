@@ -329,14 +329,14 @@ module _ (at : Place) (t : List ℕ) where
 
 -- ---- the kept characters
 
-kept_more : (xs ys : List TextEvent) → kept_in (xs ++ ys) ≡ kept_in xs ++ kept_in ys
+pub kept_more : (xs ys : List TextEvent) → kept_in (xs ++ ys) ≡ kept_in xs ++ kept_in ys
 kept_more [] ys = refl
 kept_more (out.Kept c ∷ xs) ys = ap (λ (x : List ℕ). c.c ∷ x) (kept_more xs ys)
 kept_more (out.Part p ∷ xs) ys = kept_more xs ys
 kept_more (out.Found f ∷ xs) ys = kept_more xs ys
 kept_more (out.Ended e ∷ xs) ys = kept_more xs ys
 
-none_kept : {X : Type 0} (f : X → TextEvent) → ((x : X) → kept_in (f x ∷ []) ≡ []) → (xs : List X) → kept_in (map f xs) ≡ []
+pub none_kept : {X : Type 0} (f : X → TextEvent) → ((x : X) → kept_in (f x ∷ []) ≡ []) → (xs : List X) → kept_in (map f xs) ≡ []
 none_kept f h [] = refl
 none_kept f h (x ∷ xs) = kept_more (f x ∷ []) (map f xs) ∙ ap (λ (y : List ℕ). y ++ kept_in (map f xs)) (h x) ∙ none_kept f h xs
 

@@ -22,8 +22,8 @@ use Rattle.gabc_text.specs.machine.TextFacts.{early_at, facts_after}
 use Rattle.gabc_text.specs.machine.TokenState.{settled_kind, next_step, keep, kind_at_end, is_plain}
 use Rattle.gabc_places.specs.Place.{saturating_next_place}
 use Rattle.gabc_text.specs.machine.TextStage.{events_of_settling_by, settle_stage_by, settled_push_stage, events_of_settled_push, events_of_reading, read_stage, events_of_step, stage_after_step, stage_past_char, progress_past, char_event, bytes_with, token_stage, events_of_token, events_of_end, end_stage, events_of_finish_by, end_by, progress_after, is_cut_end}
-use Rattle.gabc_text.specs.FactsPast.{past, bytes_past}
-use Rattle.gabc_text.specs.EventsLeft.{findings_there, kept_by, lists_kept, early_events_by, last_by, token_events_by, lists_past, lists_last, owed_events_at, facts_at, progress_at}
+use Rattle.gabc_text.specs.witness.FactsPast.{past, bytes_past}
+use Rattle.gabc_text.specs.witness.EventsLeft.{findings_there, kept_by, lists_kept, early_events_by, last_by, token_events_by, lists_past, lists_last, owed_events_at, facts_at, progress_at}
 use Rattle.gabc_text.specs.ViewFacts.{but_end}
 use Rattle.gabc_text.proofs.machine.EventsStepByStep.{stepwise, stepwise_left}
 use Rattle.gabc_text.proofs.tokens.TokensByCharacter.{drop_past}

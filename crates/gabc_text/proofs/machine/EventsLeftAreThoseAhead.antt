@@ -14,7 +14,7 @@ use Rattle.gabc_text.specs.View.{along}
 use Rattle.gabc_text.specs.Events.{codes_of, after_tokens, no_events_each}
 use Rattle.gabc_text.specs.machine.TextStage.{push_stage, events_of_push, events_of_finish}
 use Rattle.gabc_text.specs.ExampleTexts.{stands_for}
-use Rattle.gabc_text.specs.EventsLeft.{lists_past, lists_last, lists_ahead, events_left, characters_left}
+use Rattle.gabc_text.specs.witness.EventsLeft.{lists_past, lists_last, lists_ahead, events_left, characters_left}
 use Rattle.gabc_text.proofs.machine.EventsStepByStep.{stepwise, stepwise_left}
 use Rattle.gabc_text.proofs.machine.KeptOfOpenToken.{kept_held}
 use Rattle.gabc_text.proofs.machine.TokensOneAfterAnother.{after_is, rest_done}

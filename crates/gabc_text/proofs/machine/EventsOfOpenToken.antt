@@ -20,8 +20,8 @@ use Rattle.gabc_text.specs.machine.TextFacts.{early_at}
 use Rattle.gabc_text.specs.machine.TokenState.{is_plain, next_step, first_step, keep, keep_first, step_at_tag_end, wanted_char}
 use Rattle.gabc_text.specs.machine.TextStage.{char_event, bytes_with}
 use Rattle.gabc_places.specs.Place.{saturating_next_place}
-use Rattle.gabc_text.specs.FactsPast.{leaves_out, past, bytes_past}
-use Rattle.gabc_text.specs.EventsLeft.{findings_there, kept_by, each_kept, lists_kept, early_events_by}
+use Rattle.gabc_text.specs.witness.FactsPast.{leaves_out, past, bytes_past}
+use Rattle.gabc_text.specs.witness.EventsLeft.{findings_there, kept_by, each_kept, lists_kept, early_events_by}
 use Rattle.gabc_text.proofs.tokens.CasesOfCharacters.{by_case, single_kind}
 use Rattle.gabc_text.proofs.machine.KeptOfOpenToken.{kept_held, is_within, is_kept_whole, IsKept, within_kept, keep_within, held_within}
 use Rattle.gabc_text.proofs.machine.TokenStateByCharacter.{Holds}

@@ -17,8 +17,8 @@ use Rattle.gabc_text.specs.machine.TextFacts.{facts_after, after_tag}
 use Rattle.gabc_text.specs.TextStage.{count_plus}
 use Rattle.gabc_places.specs.Place.{saturating_next_place}
 use Rattle.gabc_text.specs.machine.TextStage.{progress_after}
-use Rattle.gabc_text.specs.FactsPast.{is_open_past, blank_past, begun_past, ended_past, space_past, starts_past, facts_past, past, bytes_past, leaves_out}
-use Rattle.gabc_text.specs.EventsLeft.{kept_by, kept_behind, facts_at, read_at, ahead_at, text_since, kept_since, progress_at}
+use Rattle.gabc_text.specs.witness.FactsPast.{is_open_past, blank_past, begun_past, ended_past, space_past, starts_past, facts_past, past, bytes_past, leaves_out}
+use Rattle.gabc_text.specs.witness.EventsLeft.{kept_by, kept_behind, facts_at, read_at, ahead_at, text_since, kept_since, progress_at}
 
 -- ---- what was seen
 

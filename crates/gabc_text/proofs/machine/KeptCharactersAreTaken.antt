@@ -12,7 +12,7 @@ use Rattle.gabc_text.specs.declared.token_state.Step.TheVariants.{Stays, Ends}
 use Rattle.gabc_text.specs.declared.text_event.TextPart.TheVariants as part
 use Rattle.gabc_text.specs.declared.stage.TextStage.{TextStage}
 use Rattle.gabc_text.specs.Events.{is_whole_translation}
-use Rattle.gabc_text.specs.EventsLeft.{parts_by, codes_by}
+use Rattle.gabc_text.specs.witness.EventsLeft.{parts_by, codes_by}
 use Rattle.gabc_text.specs.View.{piece_kind, is_space}
 use Rattle.gabc_text.specs.TakenAtOnce.{Takes, kept_events, word_events, stays_within}
 use Rattle.gabc_text.specs.machine.TagPrefix.{next_name}

@@ -12,7 +12,7 @@ use Rattle.gabc_text.specs.declared.progress.Progress.{Progress}
 use Rattle.gabc_text.specs.Token.{Token}
 use Rattle.gabc_text.specs.View.{effect, piece_kind, is_space, has_word, follows_blank, place_of, bytes_of, begin_of, end_of, count_pieces, piece_of, PieceFacts, open_styles}
 use Rattle.gabc_text.specs.Events.{kept_of, piece_at, waiting_blank, is_blank_at}
-use Rattle.gabc_text.specs.EventsLeft.{piece_by, piece_there, count_behind, waiting_behind}
+use Rattle.gabc_text.specs.witness.EventsLeft.{piece_by, piece_there, count_behind, waiting_behind}
 use Rattle.gabc_text.specs.machine.TextStage.{progress_after}
 use Rattle.gabc_text.proofs.machine.FactsOfTokens.{facts_of}
 use Rattle.gabc_text.proofs.tokens.CountsOfTexts.{up_is}

@@ -8,7 +8,7 @@ use Rattle.gabc_text.specs.declared.text_event.TextEvent.{TextEvent}
 use Rattle.gabc_text.specs.declared.text_event.TextEvent.TheVariants as out
 use Rattle.gabc_text.specs.declared.stage.TextStage.{TextStage}
 use Rattle.gabc_text.specs.Events.{count_by}
-use Rattle.gabc_text.specs.EventsLeft.{codes_last}
+use Rattle.gabc_text.specs.witness.EventsLeft.{codes_last}
 use Rattle.gabc_text.specs.PiecesOwed.{PiecesArePaid}
 use Rattle.gabc_text.specs.TakenAtOnce.{Takes, letter_events, letter_piece, is_silent_end}
 use Rattle.gabc_text.specs.TextFacts.{has_style}
@@ -17,6 +17,7 @@ use Rattle.gabc_text.specs.machine.TokenState.{IsLetterBetween}
 use Rattle.gabc_text.specs.machine.TextStage.{read_stage, end_stage, push_stage, events_of_push}
 use Rattle.gabc_text.proofs.PiecesFollowCharacters.{push_pays}
 use Rattle.gabc_text.proofs.machine.EventsLeftAreThoseAhead.{rest_is}
+use Rattle.gabc_text.proofs.resuming.StagesKeep.{push_keeps}
 use Rattle.gabc_text.proofs.machine.EventsStepByStep.{stepwise}
 
 -- a push takes its character
@@ -27,6 +28,7 @@ push_takes t next c events e f = record {
       ∙ ap (λ (xs : List TextEvent). xs ∷ stepwise next cs) f
       ∙ ap (λ (lists : List (List TextEvent)). events ∷ lists) (sym (rest_is next cs));
   pieces = subst (λ (xs : List TextEvent). PiecesArePaid t xs next) f (subst (λ (s : TextStage). PiecesArePaid t (events_of_push t c) s) (sym e) (push_pays t c).paid);
+  keeps = push_keeps t next c events e (sym f);
 }
 
 -- the end of a text emits nothing before it

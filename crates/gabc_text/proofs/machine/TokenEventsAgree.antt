@@ -9,7 +9,7 @@ use Rattle.gabc_text.specs.declared.text_event.TextEvent.TheVariants as out
 use Rattle.gabc_text.specs.Token.{Token}
 use Rattle.gabc_text.specs.View.{effect, kind_of}
 use Rattle.gabc_text.specs.machine.TextStage.{events_of_token, events_of_end, is_cut_end}
-use Rattle.gabc_text.specs.EventsLeft.{kept_behind, last_by, parts_by, codes_by, findings_there, token_events_by, end_events_by}
+use Rattle.gabc_text.specs.witness.EventsLeft.{kept_behind, last_by, parts_by, codes_by, findings_there, token_events_by, end_events_by}
 use Rattle.gabc_text.proofs.machine.FactsPastTokens.{behind}
 
 -- what a token gives where it ends

@@ -11,8 +11,8 @@ use Rattle.gabc_text.specs.declared.text_event.TextEvent.TheVariants as out
 use Rattle.gabc_text.specs.Token.{Token, spelling}
 use Rattle.gabc_text.specs.View.{along, is_open_kind, is_space}
 use Rattle.gabc_text.specs.Events.{is_lone, with_first, with_last, no_events_each, end_by_rest}
-use Rattle.gabc_text.specs.FactsPast.{leaves_out}
-use Rattle.gabc_text.specs.EventsLeft.{facts_at, progress_at, read_at, ahead_at, token_events_by, early_events_by, lists_kept, each_kept, lists_past, lists_last, owed_events_at, end_at_text, end_events_by}
+use Rattle.gabc_text.specs.witness.FactsPast.{leaves_out}
+use Rattle.gabc_text.specs.witness.EventsLeft.{facts_at, progress_at, read_at, ahead_at, token_events_by, early_events_by, lists_kept, each_kept, lists_past, lists_last, owed_events_at, end_at_text, end_events_by}
 use Rattle.gabc_text.proofs.machine.TokensOneAfterAnother.{onto}
 use Rattle.gabc_text.proofs.machine.FactsPastTokens.{facts_on, progress_on, read_on, read_none, past_token}
 

@@ -11,7 +11,7 @@ use Rattle.gabc_text.specs.Token.{Token, spelling}
 use Rattle.gabc_text.specs.View.{along, PieceFacts, effect, effect_as, kind_of, piece_kind, pieces_at, piece_of, text_of_piece, open_styles, is_space, is_begin, is_end, has_word, has_begin, has_end, follows_blank, follows_space, starts_word, is_left_out, kept_at, count_pieces, begin_of, end_of, has_translation, is_word_kind}
 use Rattle.gabc_text.specs.Events.{styles_of, is_whole_translation}
 use Rattle.gabc_text.specs.machine.TextFacts.{facts_after}
-use Rattle.gabc_text.specs.FactsPast.{leaves_out}
+use Rattle.gabc_text.specs.witness.FactsPast.{leaves_out}
 use Rattle.gabc_text.specs.Canonical.{listed_styles}
 use Rattle.gabc_text.specs.ViewFacts.{translation_text, but_end}
 use Rattle.gabc_text.proofs.machine.FactsOfTokens.{facts_of, facts_more}

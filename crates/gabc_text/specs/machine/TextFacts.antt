@@ -12,7 +12,7 @@ use Rattle.gabc_text.specs.declared.token.TagEffect.{TagEffect}
 use Rattle.gabc_text.specs.declared.token.TagEffect.TheVariants.{Opens, Closes, Mark, Other}
 use Rattle.gabc_text.specs.declared.token_state.TokenState.{TokenState}
 use Rattle.gabc_text.specs.declared.token_state.TokenState.TheVariants.{Plain}
-use Rattle.gabc_text.specs.FactsPast.{leaves_out}
+use Rattle.gabc_text.specs.witness.FactsPast.{leaves_out}
 
 abbrev pub with_style : Styles → Style → Bool → Styles
 with_style s B o = record s { b = o }

@@ -13,7 +13,7 @@ use Rattle.gabc_text.specs.declared.token_state.Step.TheVariants.{Stays, Ends}
 use Rattle.gabc_text.specs.Token.{is_special, single, effect_of}
 use Rattle.gabc_text.specs.declared.text_facts.TextFacts.{TextFacts}
 use Rattle.gabc_text.specs.View.{kept_as}
-use Rattle.gabc_text.specs.FactsPast.{leaves_out}
+use Rattle.gabc_text.specs.witness.FactsPast.{leaves_out}
 use Rattle.gabc_text.specs.machine.TagPrefix.{next_name}
 
 abbrev pub settled_kind : TokenState → ℕ → Option TokenKind

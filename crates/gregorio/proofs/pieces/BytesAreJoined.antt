@@ -2,7 +2,7 @@
 use Rattle.std.proofs.Common.{◌≡◌, ℕ, List, [], ◌++◌, ap, sym, ◌∙◌, append_assoc, append-nil}
 use Rattle.std.proofs.lemmas.List.{append_cancel_left}
 use Rattle.gabc_places.specs.BoundedList.{BoundedList, extended_by}
-use Rattle.gregorio.specs.Engine.{Streams, behind_bytes}
+use Rattle.gregorio.specs.Streams.{Streams, behind_bytes}
 use Rattle.gregorio_jobs.specs.declared.job.Status.{Status}
 
 pub behind_both : (output lines more_output more_lines : List ℕ) (s : Streams) → behind_bytes (output ++ more_output) (lines ++ more_lines) s ≡ behind_bytes output lines (behind_bytes more_output more_lines s)

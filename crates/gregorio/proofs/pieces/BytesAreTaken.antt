@@ -5,16 +5,19 @@ use Rattle.gabc_places.specs.declared.code.Fault.{Fault}
 use Rattle.gabc_places.specs.declared.limits.Limits.{Limits}
 use Rattle.gabc_places.specs.declared.place.Char.{Char}
 use Rattle.gabc_places.specs.DecoderMachine.{DecoderState}
-use Rattle.gabc_places.specs.DecoderMachine as decoder
+use Rattle.gabc_places.specs.witness.DecoderEvents as decoder
 use Rattle.gabc_headers.specs.declared.head_event.HeadEvent.{HeadEvent}
-use Rattle.gabc_headers.specs.HeadEvents.{HeaderStageState, emitted_by}
+use Rattle.gabc_headers.specs.HeadEvents.{emitted_by}
+use Rattle.gabc_headers.specs.witness.HeadEvents.{HeaderStageState}
 use Rattle.gabc_score.specs.ScoreEvents.{fault_in, has_end}
-use Rattle.gabc_score.specs.ScoreStage.{ScoreStageState, left_of}
+use Rattle.gabc_score.specs.witness.ScoreStage.{ScoreStageState, left_of}
 use Rattle.gregorio.specs.declared.run_part.RunPart.{RunPart}
 use Rattle.gregorio.specs.declared.run_part.RunPart.TheVariants as part
 use Rattle.gregorio.specs.declared.source_ending.SourceEnding.{SourceEnding}
 use Rattle.gregorio.specs.declared.source_ending.SourceEnding.TheVariants.{Whole as Ended, Broken}
-use Rattle.gregorio.specs.Engine.{EngineState, Streams, Written, NothingWaits, behind_bytes, book_behind, head_events_left, has_errors, items_left, is_running, is_running_in, streams_by_part, streams_left, with_waiting}
+use Rattle.gregorio.specs.Engine.{NothingWaits, is_running, is_running_in, with_waiting}
+use Rattle.gregorio.specs.witness.Engine.{EngineState, Written, book_behind, head_events_left, has_errors, items_left, streams_by_part, streams_left}
+use Rattle.gregorio.specs.Streams.{Streams, behind_bytes}
 use Rattle.gregorio.specs.Outcome.{is_whole, status_by}
 use Rattle.gregorio.specs.machine.RunWriter.{heads_room, syllable_room, line_room}
 use Rattle.gregorio.specs.machine.ScoreWriter.{ScoreWriterState, IsReserved, IsSteady}

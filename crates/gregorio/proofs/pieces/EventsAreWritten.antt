@@ -4,7 +4,7 @@ use Rattle.gabc_headers.specs.declared.head_event.HeadEvent.{HeadEvent}
 use Rattle.gabc_headers.specs.declared.head_event.HeadEvent.TheVariants as head_event
 use Rattle.gregorio.specs.declared.run_part.RunPart.{RunPart}
 use Rattle.gregorio.specs.declared.run_part.RunPart.TheVariants as part
-use Rattle.gregorio.specs.Engine.{Streams, behind_bytes}
+use Rattle.gregorio.specs.Streams.{Streams, behind_bytes}
 use Rattle.gregorio.specs.machine.ScoreWriter.{ScoreWriterState, FitsEvents, IsSteady, WritesAt, IsBodyBehind, streams_of}
 use Rattle.gregorio.specs.machine.Engine.{WritesAll, IsBodyPast, HasMark}
 use Rattle.gregorio.proofs.pieces.RoomIsLeft.{room_for_first}

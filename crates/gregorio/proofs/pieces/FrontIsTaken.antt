@@ -8,17 +8,20 @@ use Rattle.gabc_places.specs.declared.limits.Limits.{Limits}
 use Rattle.gabc_places.specs.declared.place.Char.{Char}
 use Rattle.gabc_places.specs.declared.place.Place.{Place}
 use Rattle.gabc_places.specs.DecoderMachine.{DecoderState}
-use Rattle.gabc_places.specs.DecoderMachine as decoder
+use Rattle.gabc_places.specs.witness.DecoderEvents as decoder
 use Rattle.gabc_headers.specs.declared.head_event.HeadEvent.{HeadEvent}
 use Rattle.gabc_headers.specs.declared.head_event.HeadEvent.TheVariants as head_event
-use Rattle.gabc_headers.specs.HeadEvents.{HeaderStageState, HeadProgress, reading, behind, over, IsBehind, emitted_by}
-use Rattle.gabc_score.specs.ScoreStage.{ScoreStageState, GivesNothing, body_inputs, left_of, nothing_each}
+use Rattle.gabc_headers.specs.HeadEvents.{emitted_by}
+use Rattle.gabc_headers.specs.witness.HeadEvents.{HeaderStageState, HeadProgress, reading, behind, over, IsBehind}
+use Rattle.gabc_score.specs.ScoreStage.{GivesNothing, body_inputs, nothing_each}
+use Rattle.gabc_score.specs.witness.ScoreStage.{ScoreStageState, left_of}
 use Rattle.gabc_score.specs.ScoreEvents.{ScoreOutput}
 use Rattle.gregorio.specs.declared.run_part.RunPart.{RunPart}
 use Rattle.gregorio.specs.declared.run_part.RunPart.TheVariants as part
 use Rattle.gregorio.specs.declared.source_ending.SourceEnding.{SourceEnding}
 use Rattle.gregorio.specs.declared.source_ending.SourceEnding.TheVariants.{Whole as Ended, Broken}
-use Rattle.gregorio.specs.Engine.{EngineState, NothingWaits, book_behind, head_events_left, streams_by_part, streams_in, streams_left, with_waiting}
+use Rattle.gregorio.specs.Engine.{NothingWaits, with_waiting}
+use Rattle.gregorio.specs.witness.Engine.{EngineState, book_behind, head_events_left, streams_by_part, streams_in, streams_left}
 use Rattle.gregorio.specs.Outcome.{is_whole}
 use Rattle.gregorio.specs.machine.RunWriter.{RunWriterState}
 use Rattle.gregorio.specs.machine.ScoreWriter.{ScoreWriterState, IsSteady, WritesNothing, streams_of}

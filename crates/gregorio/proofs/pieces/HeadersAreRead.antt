@@ -14,7 +14,7 @@ use Rattle.gabc_headers.specs.Heads.{heads_of}
 use Rattle.gabc_headers.specs.declared.heads.Heads.{Heads}
 use Rattle.gabc_headers.specs.declared.head_event.HeadEvent.{HeadEvent}
 use Rattle.gabc_headers.specs.declared.head_event.HeadEvent.TheVariants as head_event
-use Rattle.gabc_headers.specs.HeadEvents.{HeaderStageState, events_left, events_of_end, events_of_input, stage_after}
+use Rattle.gabc_headers.specs.witness.HeadEvents.{HeaderStageState, events_left, events_of_end, events_of_input, stage_after}
 use Rattle.gabc_headers.proofs.entries.TextsAsBytes.{length-encodes}
 use Rattle.gregorio.specs.declared.run_part.RunPart.TheVariants as part
 use Rattle.gregorio.specs.machine.RunWriter.{line_room}

@@ -10,14 +10,16 @@ use Rattle.gabc_headers.specs.declared.heads.HeadFault.{HeadFault}
 use Rattle.gabc_headers.specs.declared.head_event.HeadEvent.{HeadEvent}
 use Rattle.gabc_headers.specs.declared.head_event.HeadEvent.TheVariants as head_event
 use Rattle.gabc_headers.specs.Heads.{heads_of}
-use Rattle.gabc_headers.specs.HeadEvents.{HeaderStageState, HeadProgress, reading, behind, over, IsBehind, book_at, events_by, events_of_input, event_of_book, new_findings, progress_after, progress_by, stage_after, stage_past}
-use Rattle.gabc_score.specs.ScoreStage.{ScoreStageState, left_of}
+use Rattle.gabc_headers.specs.HeadEvents.{event_of_book}
+use Rattle.gabc_headers.specs.witness.HeadEvents.{HeaderStageState, HeadProgress, reading, behind, over, IsBehind, book_at, events_by, events_of_input, new_findings, progress_after, progress_by, stage_after, stage_past}
+use Rattle.gabc_score.specs.witness.ScoreStage.{ScoreStageState, left_of}
 use Rattle.gabc_score.specs.ScoreEvents.{ScoreOutput}
 use Rattle.gregorio.specs.declared.run_part.RunPart.{RunPart}
 use Rattle.gregorio.specs.declared.run_part.RunPart.TheVariants as part
 use Rattle.gregorio.specs.declared.source_ending.SourceEnding.{SourceEnding}
 use Rattle.gregorio.specs.declared.source_ending.SourceEnding.TheVariants.{Whole as Ended, Broken}
-use Rattle.gregorio.specs.Engine.{Streams, behind_bytes, book_behind, head_events_left, streams_by_part, streams_in}
+use Rattle.gregorio.specs.Streams.{Streams, behind_bytes}
+use Rattle.gregorio.specs.witness.Engine.{book_behind, head_events_left, streams_by_part, streams_in}
 use Rattle.gregorio.specs.machine.ScoreWriter.{ScoreWriterState, IsBookAt, IsShortBook, IsSteady, WritesAt, streams_of}
 use Rattle.gregorio.specs.machine.Engine.{AreBooksAt, GoTogether, HasMark, IsBodyPast, IsBookRead, IsSettled, WritesAll, WritesItems, event_of_item}
 use Rattle.gregorio.proofs.pieces.BytesAreJoined.{behind_same, extended_by_none}

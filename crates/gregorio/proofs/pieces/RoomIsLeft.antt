@@ -10,7 +10,8 @@ use Rattle.gabc_headers.specs.declared.heads.HeadFault.{HeadFault}
 use Rattle.gabc_headers.specs.declared.head_event.HeadEvent.{HeadEvent}
 use Rattle.gabc_headers.specs.declared.head_event.HeadEvent.TheVariants as head_event
 use Rattle.gabc_headers.specs.Heads.{heads_of}
-use Rattle.gabc_headers.specs.HeadEvents.{HeadProgress, reading, behind, over, events_by, events_at_end, events_of_end, events_of_input, event_of_book, new_findings}
+use Rattle.gabc_headers.specs.HeadEvents.{event_of_book}
+use Rattle.gabc_headers.specs.witness.HeadEvents.{HeadProgress, reading, behind, over, events_by, events_at_end, events_of_end, events_of_input, new_findings}
 use Rattle.gregorio.specs.declared.run_part.RunPart.{RunPart}
 use Rattle.gregorio.specs.declared.run_part.RunPart.TheVariants as part
 use Rattle.gregorio.specs.machine.RunWriter.{heads_room, line_room, syllable_room}

@@ -1,6 +1,7 @@
 -- What is gathered between an engine and the sinks.
 use Rattle.std.specs.Prelude.{◌≡◌, ℕ, List, [], ◌++◌}
-use Rattle.gregorio.specs.Engine.{EngineState, behind_bytes, streams_left}
+use Rattle.gregorio.specs.witness.Engine.{EngineState, streams_left}
+use Rattle.gregorio.specs.Streams.{behind_bytes}
 use Rattle.gregorio.specs.declared.source_ending.SourceEnding.{SourceEnding}
 use Rattle.gregorio.specs.machine.Compile.{AreSent}
 use Rattle.gregorio.specs.Run.{Use}

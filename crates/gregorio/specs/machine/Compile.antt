@@ -1,27 +1,25 @@
 -- What the parts of a run do to its source and its sinks.
-use Rattle.std.specs.Prelude.{◌≡◌, ◌≢◌, ℕ, ◌+◌, ◌<◌, ◌≤◌, List, ◌++◌, length, take, Option, ◌⊎◌}
+use Rattle.std.specs.Prelude.{◌≡◌, ◌≢◌, ℕ, ◌+◌, ◌<◌, ◌≤◌, List, ◌++◌, length, take, ◌⊎◌}
 use Rattle.std.specs.Io.KnownBytes.{Appends, Consumes}
+use Rattle.gabc_places.specs.Calls.{GoesOn, NoneLate}
 use Rattle.gabc_places.specs.declared.limits.Limits.{Limits}
 use Rattle.gregorio.specs.declared.source_ending.SourceEnding.{SourceEnding}
 use Rattle.gregorio.specs.declared.source_ending.SourceEnding.TheVariants.{Broken}
-use Rattle.gregorio.specs.Engine.{EngineState, Streams, behind_bytes, streams_left, streams_of_outcome}
+use Rattle.gregorio.specs.witness.Engine.{EngineState, streams_left}
+use Rattle.gregorio.specs.Streams.{Streams, behind_bytes, streams_of_outcome}
 use Rattle.gregorio.specs.Outcome.{outcome_of}
-use Rattle.gregorio.specs.Run.{Compiles, Use}
+use Rattle.gregorio.specs.Run.{Compiles, InTime, OneFails, Use}
 use Rattle.gregorio.specs.SourceBytes.{ReadsSource}
 use Rattle.gregorio_jobs.specs.declared.job.Job.{Job}
 use Rattle.gregorio_jobs.specs.declared.job.Status.{Status}
 use Rattle.gregorio_jobs.specs.declared.job.Status.TheVariants.{ReadFault, WriteFault}
 
--- an end that had `old` and has `new`
-abbrev pub used : {A : Type 0} → (A → Option (List ℕ)) → (A → ℕ) → A → A → Use
-used bytes failures old new = record { old = bytes old; new = bytes new; failed_old = failures old; failed_new = failures new }
-
 -- Both sinks took all of these bytes, and did not fail.
 pub record AreSent (out messages : Use) (output lines : List ℕ) : Type 0 where
   pub written : Appends out.old out.new output
   pub messages_written : Appends messages.old messages.new lines
-  pub steady : out.failed_new ≡ out.failed_old
-  pub messages_steady : messages.failed_new ≡ messages.failed_old
+  pub goes_on : GoesOn out.calls_old out.calls_new
+  pub messages_go_on : GoesOn messages.calls_old messages.calls_new
 
 -- A sink failed: each took a prefix of these bytes.
 pub record AreCut (out messages : Use) (output lines : List ℕ) : Type 0 where
@@ -29,7 +27,7 @@ pub record AreCut (out messages : Use) (output lines : List ℕ) : Type 0 where
   pub lines_count : ℕ
   pub written : Appends out.old out.new (take output_count output)
   pub messages_written : Appends messages.old messages.new (take lines_count lines)
-  pub failed : (out.failed_old < out.failed_new) ⊎ (messages.failed_old < messages.failed_new)
+  pub fails : OneFails out messages
 
 -- A sink failed: each took a prefix of these streams.
 abbrev pub StreamsAreCut : Use → Use → Streams → Type 0
@@ -47,19 +45,21 @@ pub record IsFedFrom (source out messages : Use) (old new : EngineState) (count 
   pub bytes : List ℕ
   pub counted : length bytes ≡ count
   pub consumed : Consumes source.old source.new bytes
-  pub steady : source.failed_new ≡ source.failed_old
+  pub goes_on : GoesOn source.calls_old source.calls_new
   pub fed : IsFed out messages old new bytes
 
 -- A source was read as far as may be and stopped so, and an engine took its bytes.
 pub record IsFedAll (limit : ℕ) (source out messages : Use) (old new : EngineState) (ending : SourceEnding) : Type 0 where
   pub bytes : List ℕ
-  pub reads : ReadsSource source.old source.new source.failed_old source.failed_new limit bytes ending
+  pub reads : ReadsSource source.old source.new source.calls_old source.calls_new limit bytes ending
+  pub in_time : NoneLate source.calls_old source.calls_new
   pub fed : IsFed out messages old new bytes
 
 -- A sink failed when these bytes of a source were taken.
 pub record IsFedInPart (limit : ℕ) (source out messages : Use) (old : EngineState) : Type 0 where
   pub bytes : List ℕ
   pub consumed : Consumes source.old source.new bytes
+  pub goes_on : GoesOn source.calls_old source.calls_new
   pub within : length bytes ≤ limit + 1
   pub cut : StreamsAreCut out messages (streams_left old Broken bytes)
 
@@ -70,6 +70,7 @@ SaysOutcomes job limits e = (bytes : List ℕ) (ending : SourceEnding) → strea
 -- A whole run, and which ends failed.
 pub record IsRun (job : Job) (limits : Limits) (source out messages : Use) (status : Status) : Type 0 where
   pub compiles : Compiles job limits source out messages status
-  pub read_fault : status ≡ ReadFault → source.failed_old < source.failed_new
-  pub write_fault : status ≡ WriteFault → (out.failed_old < out.failed_new) ⊎ (messages.failed_old < messages.failed_new)
-  pub steady : status ≢ WriteFault → (out.failed_new ≡ out.failed_old) × (messages.failed_new ≡ messages.failed_old)
+  pub read_fault : status ≡ ReadFault → source.calls_old.failures < source.calls_new.failures
+  pub write_fault : status ≡ WriteFault → (out.calls_old.failures < out.calls_new.failures) ⊎ (messages.calls_old.failures < messages.calls_new.failures)
+  pub steady : status ≢ WriteFault → (out.calls_new.failures ≡ out.calls_old.failures) × (messages.calls_new.failures ≡ messages.calls_old.failures)
+  pub in_time : InTime source out messages

@@ -10,7 +10,8 @@ use Rattle.gabc_places.specs.declared.limits.Limits.{Limits}
 use Rattle.gabc_score.specs.ScoreStage.{IsWithin}
 use Rattle.gabc_write.specs.Message.{line_of}
 use Rattle.gregorio.specs.Outcome.{shown_line, is_error_finding}
-use Rattle.gregorio.specs.Engine.{Written, heads_text, syllable_text, last_text, next_number}
+use Rattle.gregorio.specs.witness.Engine.{Written}
+use Rattle.gregorio.specs.Streams.{heads_text, syllable_text, last_text, next_number}
 use Rattle.gregorio_jobs.specs.declared.job.Format.{Format}
 use Rattle.gregorio_jobs.specs.declared.job.Format.TheVariants.{Gabc, Dump}
 

@@ -9,13 +9,15 @@ use Rattle.gabc_headers.specs.declared.head_event.HeadEvent.TheVariants as head_
 use Rattle.gabc_score.specs.declared.score_event.ScoreEvent.{ScoreEvent}
 use Rattle.gabc_score.specs.declared.score_event.ScoreEvent.TheVariants as event
 use Rattle.gabc_score.specs.ScoreEvents.{ScoreOutput, Found, Stop, Syllable, End}
-use Rattle.gabc_score.specs.ScoreStage.{ScoreStageState, body_inputs, lent_in}
+use Rattle.gabc_score.specs.ScoreStage.{body_inputs, lent_in}
+use Rattle.gabc_score.specs.witness.ScoreStage.{ScoreStageState}
 use Rattle.gregorio.specs.declared.run_part.RunPart.{RunPart}
 use Rattle.gregorio.specs.declared.run_part.RunPart.TheVariants as part
 use Rattle.gregorio.specs.Outcome.{input_name, status_by}
 use Rattle.gregorio_jobs.specs.declared.job.Status.TheVariants.{Fatal as FatalFault}
 use Rattle.gregorio_jobs.specs.declared.job.Job.{Job}
-use Rattle.gregorio.specs.Engine.{Streams, Written, behind_bytes, ended_with, streams_by_part}
+use Rattle.gregorio.specs.Streams.{Streams, behind_bytes, ended_with}
+use Rattle.gregorio.specs.witness.Engine.{Written, streams_by_part}
 use Rattle.gregorio.specs.machine.RunWriter.{RunWriterState, with_found, with_fault, with_syllable, with_last, line_room, syllable_room, heads_room, last_room}
 use Rattle.gregorio_jobs.specs.declared.job.Format.{Format}
 use Rattle.gregorio_jobs.specs.declared.job.Status.{Status}

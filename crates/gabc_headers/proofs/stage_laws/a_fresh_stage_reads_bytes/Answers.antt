@@ -1,10 +1,11 @@
 use Rattle.std.proofs.Common.{List, ap, ◌∙◌}
 use Rattle.gabc_places.specs.BoundedList.{extended_by}
 use Rattle.gabc_places.specs.Chain.{chain_events, StagePair}
-use Rattle.gabc_places.specs.DecoderMachine.{DecoderState, events_left as decoder_events}
+use Rattle.gabc_places.specs.DecoderMachine.{DecoderState}
+use Rattle.gabc_places.specs.witness.DecoderEvents.{events_left as decoder_events}
 use Rattle.gabc_places.specs.StageLaw.{concat_of}
 use Rattle.gabc_headers.specs.declared.head_event.HeadEvent.{HeadEvent}
-use Rattle.gabc_headers.specs.HeadEvents.{HeaderStageState, events_left}
+use Rattle.gabc_headers.specs.witness.HeadEvents.{HeaderStageState, events_left}
 use Rattle.gabc_headers.proofs.stages.BytesThroughADecoder.{chained, known_text}
 use Rattle.gabc_headers.proofs.stage_laws.a_fresh_stage_reads_bytes.Goals as goal
 

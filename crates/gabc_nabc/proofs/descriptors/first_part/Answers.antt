@@ -1,7 +1,7 @@
 use Rattle.std.proofs.Common.{◌≡◌, ℕ, ◌+◌, Some, None, arith, ap, ◌∙◌}
 use Rattle.std.specs.Str.Iter.{chars_rest}
 use Rattle.gabc_nabc.specs.CharClass.{class_of_character}
-use Rattle.gabc_nabc.specs.DescriptorMachine.{going_on}
+use Rattle.gabc_nabc.specs.witness.DescriptorMachine.{going_on}
 use Rattle.gabc_nabc.specs.machine.DescriptorMachine.{is_space_at_end}
 use Rattle.gabc_nabc.specs.Table.{nabc}
 use Rattle.gabc_nabc.proofs.machine.MachineReadsTable.{machine, items_read}

@@ -3,7 +3,7 @@ use Rattle.std.specs.Str.Iter.{chars_rest}
 use Rattle.std.proofs.lemmas.Str.{IsUtf8-past_char}
 use Rattle.gabc_nabc.specs.Table.{nabc}
 use Rattle.gabc_nabc.specs.CharClass.{class_of_character}
-use Rattle.gabc_nabc.specs.DescriptorMachine.{next_state}
+use Rattle.gabc_nabc.specs.witness.DescriptorMachine.{next_state}
 use Rattle.gabc_nabc.proofs.machine.MachineReadsTable.{machine, snippets_read}
 use Rattle.gabc_patterns.proofs.TextIsReadByCharacter.{one_read, one_next, all_read}
 use Rattle.gabc_patterns.proofs.SnippetsByState.{stuck, emitted_by}

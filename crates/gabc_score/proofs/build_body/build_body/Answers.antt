@@ -10,13 +10,14 @@ use Rattle.gabc_places.specs.Place.{next_place, placed_characters_from}
 use Rattle.gabc_places.specs.StageLaw.{concat_of}
 use Rattle.gabc_places.proofs.PlacesOfAText.{within_on, shorter}
 use Rattle.gabc_score.specs.declared.score_event.ScoreEvent.{ScoreEvent}
-use Rattle.gabc_score.specs.ScoreStage.{left_of, events_of}
+use Rattle.gabc_score.specs.ScoreStage.{events_of}
+use Rattle.gabc_score.specs.witness.ScoreStage.{left_of}
 use Rattle.gabc_score.specs.machine.Collected.{result_with, to_come}
 use Rattle.gabc_score.specs.machine.ScoreMachine.{shown}
 use Rattle.gabc_score.proofs.score_events.BodyIsCollected.{collects_on, counts_below, nothing_said, body_collected}
 use Rattle.gabc_score.proofs.score_events.ScoreOutputs.{characters_are}
 use Rattle.gabc_score.proofs.building.OneListEachCharacter.{events_each}
-use Rattle.gabc_score.specs.BodyStage.{running_events_left, texts_by_stage, part_with}
+use Rattle.gabc_score.specs.witness.BodyStage.{running_events_left, texts_by_stage, part_with}
 use Rattle.gabc_score.specs.machine.ScoreStage.{begun_score, body_left}
 use Rattle.gabc_score.proofs.build_body.build_body.Goals as goal
 

@@ -3,7 +3,7 @@ use Rattle.std.specs.Str.{chars}
 use Rattle.std.specs.Str.Iter.{chars_rest}
 use Rattle.gabc_places.specs.Place.{placed_characters_from}
 use Rattle.gabc_places.specs.StageLaw.{concat_of}
-use Rattle.gabc_score.specs.ScoreStage.{left_of}
+use Rattle.gabc_score.specs.witness.ScoreStage.{left_of}
 use Rattle.gabc_score.specs.machine.Collected.{result_with, to_come}
 use Rattle.gabc_score.specs.machine.ScoreMachine.{shown, IsScore}
 use Rattle.gabc_score.proofs.build_body.build_body.Given as goal

@@ -1,7 +1,7 @@
 use Rattle.std.proofs.Common.{◌+◌, ap, sym, subst, ◌∙◌, arith, IsUtf8}
 use Rattle.std.specs.Str.{chars}
 use Rattle.gabc_headers.specs.Heads.{head_len}
-use Rattle.gabc_score.specs.BodyStage.{running_events_left}
+use Rattle.gabc_score.specs.witness.BodyStage.{running_events_left}
 use Rattle.gabc_score.specs.Score.{with_body}
 use Rattle.gabc_score.proofs.texts_of_body.BodyBehindHeads.{boundary_here, chars_prefix, chars_behind, utf8_here, body_is}
 use Rattle.gabc_score.proofs.texts_of_body.StageAndDefinitionAgree.{fits_behind_prefix}

@@ -1,6 +1,7 @@
 use Rattle.std.proofs.Common.{◌≡◌, ◌-◌, ◌+◌, ◌≤◌}
 use Rattle.gregorio.specs.Engine.{NothingWaits}
-use Rattle.gregorio.specs.machine.Compile.{IsFedFrom, used}
+use Rattle.gregorio.specs.Run.{used}
+use Rattle.gregorio.specs.machine.Compile.{IsFedFrom}
 use Rattle.gregorio.specs.machine.Buffers.{nothing_buffered}
 use Rattle.gregorio.proofs.run.feed_all.Given as goal
 
@@ -10,7 +11,7 @@ invariant-loop-taken g l = record {
   limit : l.most ≡ l.limit + 1;
   waits : NothingWaits l.engine;
   buffers : l.buffers ≡ nothing_buffered;
-  fed : IsFedFrom (used g.S.Source.remaining g.S.Source.failures l.initial.source l.source) (used g.O.Sink.written g.O.Sink.failures l.initial.out l.out) (used g.M.Sink.written g.M.Sink.failures l.initial.messages l.messages) l.initial.engine l.engine l.taken;
+  fed : IsFedFrom (used g.S.Source.remaining g.S.Source.calls l.initial.source l.source) (used g.O.Sink.written g.O.Sink.calls l.initial.out l.out) (used g.M.Sink.written g.M.Sink.calls l.initial.messages l.messages) l.initial.engine l.engine l.taken;
 }
 
 abbrev pub decreases-loop-taken : goal.decreases-loop-taken

@@ -1,4 +1,4 @@
-use Rattle.std.proofs.Common.{◌≡◌, ◌∙◌, ap, List, ℕ}
+use Rattle.std.proofs.Common.{◌≡◌, ap, List, ℕ}
 use Rattle.gabc_places.specs.BoundedList.{BoundedList}
 use Rattle.gabc_places.specs.declared.place.Span.{Span}
 use Rattle.gabc_headers.specs.machine.EntryMap.{named_entries}
@@ -7,5 +7,5 @@ use Rattle.gabc_headers.proofs.entry_map.EntryMap.len.Goals as goal
 
 pub returns : goal.returns
 returns c =
-    let view : named_entries c.self.inside.headers.items ≡ c.args.self.now.items = ap (λ (v : BoundedList (List ℕ × Span)). v.items) c.self.view_is in
-    rw (← view, length-named c.self.inside.headers.items) (c.len.ensures ∙ c.self.inside.headers.ok.0)
+    let view : named_entries c.self.inside.map.entries ≡ c.args.self.now.items = ap (λ (v : BoundedList (List ℕ × Span)). v.items) c.self.view_is in
+    rw (← view, length-named c.self.inside.map.entries) c.len.ensures.len

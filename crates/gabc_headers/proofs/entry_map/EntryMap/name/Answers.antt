@@ -1,17 +1,16 @@
-use Rattle.std.proofs.Common.{◌≡◌, ◌<◌, length, refl, ap, List, ℕ}
+use Rattle.std.proofs.Common.{◌≡◌, ap, List, ℕ}
 use Rattle.gabc_places.specs.BoundedList.{BoundedList}
 use Rattle.gabc_places.specs.declared.place.Span.{Span}
 use Rattle.gabc_headers.specs.machine.EntryMap.{named_entries}
-use Rattle.gabc_headers.proofs.entries.MapIsReadByEntry.{length-named, named_get}
+use Rattle.gabc_headers.proofs.entries.MapIsReadByEntry.{length-named, named_get, get_none}
 use Rattle.gabc_headers.proofs.entry_map.EntryMap.name.Goals as goal
 
-pub index-requires : goal.index-requires
-index-requires c =
-    let view : named_entries c.self.inside.headers.items ≡ c.args.self.now.items = ap (λ (v : BoundedList (List ℕ × Span)). v.items) c.self.view_is in
-    rw (c.self.inside.headers.ok.0, ← length-named c.self.inside.headers.items, view) c.requires
+pub returns-in-Some : goal.returns-in-Some
+returns-in-Some c =
+    let view : named_entries c.self.inside.map.entries ≡ c.args.self.now.items = ap (λ (v : BoundedList (List ℕ × Span)). v.items) c.self.view_is in
+    rw (← view, named_get c.self.inside.map.entries c.args.index _ c.in-Some.ensures.entry) c.name.ensures
 
-pub returns : goal.returns
-returns c =
-    let view : named_entries c.self.inside.headers.items ≡ c.args.self.now.items = ap (λ (v : BoundedList (List ℕ × Span)). v.items) c.self.view_is in
-    let l : c.args.index < length c.self.inside.headers.items = rw (← length-named c.self.inside.headers.items, view) c.requires in
-    rw (← view, named_get c.self.inside.headers.items c.args.index c.index.result.now l, ← c.index.ensures, c.as_str.ensures.value) refl
+pub returns-in-None : goal.returns-in-None
+returns-in-None c =
+    let view : named_entries c.self.inside.map.entries ≡ c.args.self.now.items = ap (λ (v : BoundedList (List ℕ × Span)). v.items) c.self.view_is in
+    absurd (get_none c.self.inside.map.entries c.args.index c.in-None.ensures.entry (rw (← length-named c.self.inside.map.entries, view) c.requires))

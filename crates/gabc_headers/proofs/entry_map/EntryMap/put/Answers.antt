@@ -1,98 +1,82 @@
-use Rattle.std.proofs.Common.{◌≡◌, ◌≤◌, ◌+◌, ◌++◌, length, arith, refl, sym, ap, ◌∙◌, List, ℕ, length-append, ◌∷◌, []}
-use Rattle.std.proofs.Math.ListN.{length-set}
+use Rattle.std.proofs.Common.{◌≡◌, ◌<◌, ◌+◌, ◌∷◌, ◌∙◌, ℕ, List, length, false, Bool, is_some, if◌then◌else◌, refl, sym, ap, subst, arith, bytes_eq, IsUtf8}
+use Rattle.std.proofs.lemmas.Bool.{false≢true}
+use Rattle.std.specs.Str.{chars}
+use Rattle.std.specs.Map.{lookup}
+use Rattle.arrayvec.specs.ArrayString.{ArrayString}
+use Rattle.indexmap.specs.IndexMap.{spare, set_value_at}
+use Rattle.indexmap.proofs.CallerLemmas.{index_map_len-with_value_at}
 use Rattle.gabc_places.specs.declared.place.Span.{Span}
-use Rattle.gabc_headers.specs.machine.NameTree.{IsListed}
-use Rattle.gabc_headers.proofs.names.LinksAreKept.{length-nodes_with}
+use Rattle.gabc_headers.specs.contracts.entry_map.KeyPartialEq.TheImpl.{eq-value}
+use Rattle.gabc_headers.specs.declared.entry_map.Key.{Key}
+use Rattle.gabc_headers.specs.declared.entry_map.Key.TheVariants.{Name}
+use Rattle.gabc_headers.specs.machine.EntryMap.{named_entries, IsKeyOf, AreKeysBelow}
+use Rattle.gabc_headers.proofs.entries.TextsAsBytes.{bytes_eq-chars}
 use Rattle.gabc_headers.proofs.entries.MapIsReadByEntry.{fits_inside}
-use Rattle.gabc_headers.proofs.entries.PutIsFound.{not_so, so, held_within, held_found, held_put, held_again, room_added, new_found, new_put, new_again, annotation_found, annotation_put, annotation_again}
+use Rattle.gabc_headers.proofs.entries.InsertPutsEntry.{Puts, puts, set_found}
 use Rattle.gabc_headers.proofs.entry_map.EntryMap.put.Goals as goal
-use Rattle.gabc_headers.proofs.entry_map.EntryMap.put.Goals.{then-ne+in-Err, else-ne}
 
-pub index_mut-requires : goal.index_mut-requires
-index_mut-requires c =
-    let listed : IsListed c.args.name.now = not_so _ (sym c.ne.ensures ∙ c.if-ne.true) in
-    let l = held_within c.self.inside.tree.nodes.items c.self.inside.headers.items c.self.inside.headers.items c.deref.result.now c.in-Ok-find.index c.args.name.now c.args.value c.self.invariant.found refl c.deref.ensures.value c.utf8.name listed c.in-Ok-find.ensures in
-    omega (arith, l, c.self.inside.headers.ok.0)
+-- keys that are names compare by their characters
+same : (s t : ArrayString) → IsUtf8 s.bytes → IsUtf8 t.bytes → (eq-value).it (Name s) (Name t) ≡ bytes_eq (chars s.bytes) (chars t.bytes)
+same s t u v = sym (bytes_eq-chars s.bytes t.bytes u v)
+
+abbrev keys_same : Key → Key → Bool
+keys_same = (eq-value).it
+
+-- what putting the key of a name does
+put_key : (name : List ℕ) (v : Span) (es : List (Key × Span)) (k : Key) (n : ℕ) → IsUtf8 name → IsKeyOf name n k → n ≡ length es → AreKeysBelow (length es) es
+    → Puts keys_same same (λ i j. refl) (λ s i. refl) (λ s i. refl) name v es k
+put_key name v es k n u h e b = puts keys_same same (λ i j. refl) (λ s i. refl) (λ s i. refl) name v es k u (subst (λ (m : ℕ). IsKeyOf name m k) e h) b
 
 pub invariant_of-self : goal.invariant_of-self
 invariant_of-self c =
-    let listed : IsListed c.args.name.now = not_so _ (sym c.ne.ensures ∙ c.if-ne.true) in
-    let n = length-set c.self.inside.headers.items c.in-Ok-find.index (record { name = c.index_mut.result.now.name; value = c.args.value }) in
+    let es = c.self.inside.map.entries in
+    let p = put_key c.args.name.now c.args.value es c.of-key.result c.len.result c.utf8.name c.of-key.ensures c.len.ensures.len c.self.invariant.keys in
+    let found = set_found keys_same same (λ i j. refl) (λ s i. refl) (λ s i. refl) c.of-key.result c.args.value es c.in-Some.index (sym c.in-Some.ensures.index) in
+    let count : length (set_value_at es c.in-Some.index c.args.value) ≡ length es = index_map_len-with_value_at c.self.inside.map c.in-Some.index c.args.value in
     record {
-      found = held_found c.self.inside.tree.nodes.items c.self.inside.headers.items c.self.inside.headers.items c.deref.result.now c.in-Ok-find.index c.args.name.now c.args.value c.self.invariant.found refl c.deref.ensures.value c.utf8.name listed c.in-Ok-find.ensures c.index_mut.result.now c.index_mut.ensures.value;
-      few = (let f = c.self.invariant.few in omega arith);
-      fewer = (let f = c.self.invariant.fewer in omega arith);
-      headers_fit = c.self.invariant.headers_fit;
-      nodes_fit = c.self.invariant.nodes_fit;
+      keys = subst (λ (x : List (Key × Span)). AreKeysBelow (length x) x) (sym found) p.below;
+      fits = (let f = c.self.invariant.fits in omega (arith, count, f));
     }
 
-pub returns-in-Ok-find-clause-put : goal.returns-in-Ok-find-clause-put
-returns-in-Ok-find-clause-put c =
-    let listed : IsListed c.args.name.now = not_so _ (sym c.ne.ensures ∙ c.if-ne.true) in
-    rw (← c.self.view_is)
-    (ap (λ (x : List (List ℕ × Span)). record { items = x; limit = c.self.inside.limit })
-    (held_put c.self.inside.tree.nodes.items c.self.inside.headers.items c.self.inside.headers.items c.deref.result.now c.in-Ok-find.index c.args.name.now c.args.value c.self.invariant.found refl c.deref.ensures.value c.utf8.name listed c.in-Ok-find.ensures c.index_mut.result.now c.index_mut.ensures.value))
+pub returns-in-Some-clause-put : goal.returns-in-Some-clause-put
+returns-in-Some-clause-put c =
+    let es = c.self.inside.map.entries in
+    let p = put_key c.args.name.now c.args.value es c.of-key.result c.len.result c.utf8.name c.of-key.ensures c.len.ensures.len c.self.invariant.keys in
+    let found = set_found keys_same same (λ i j. refl) (λ s i. refl) (λ s i. refl) c.of-key.result c.args.value es c.in-Some.index (sym c.in-Some.ensures.index) in
+    rw (← c.self.view_is) (ap (λ (x : List (List ℕ × Span)). record { items = x; limit = c.self.inside.limit }) (ap named_entries found ∙ p.entries))
 
-pub returns-in-Ok-find-clause-again : goal.returns-in-Ok-find-clause-again
-returns-in-Ok-find-clause-again c =
-    let listed : IsListed c.args.name.now = not_so _ (sym c.ne.ensures ∙ c.if-ne.true) in
-    rw (← c.self.view_is) (held_again c.self.inside.tree.nodes.items c.self.inside.headers.items c.self.inside.headers.items c.deref.result.now c.in-Ok-find.index c.args.name.now c.args.value c.self.invariant.found refl c.deref.ensures.value c.utf8.name listed c.in-Ok-find.ensures)
+pub returns-in-Some-clause-again : goal.returns-in-Some-clause-again
+returns-in-Some-clause-again c =
+    let es = c.self.inside.map.entries in
+    let p = put_key c.args.name.now c.args.value es c.of-key.result c.len.result c.utf8.name c.of-key.ensures c.len.ensures.len c.self.invariant.keys in
+    rw (← c.self.view_is) (c.in-Some.ensures.found ∙ p.again)
 
-pub put-requires-clause-room : goal.put-requires-clause-room
-put-requires-clause-room c =
-    let room = fits_inside c.self.inside.headers.items c.self.inside.limit c.args.self.now c.self.view_is c.requires.room in
-    let a = c.self.invariant.fewer in
-    let b = c.self.invariant.nodes_fit in
-    omega (arith, c.self.inside.tree.nodes.ok.0)
-
-pub push_reserved-requires : goal.push_reserved-requires
-push_reserved-requires c =
-    let room = fits_inside c.self.inside.headers.items c.self.inside.limit c.args.self.now c.self.view_is c.requires.room in
-    let a = c.self.invariant.headers_fit in
-    elim c.if-ne.branch [
-      | then-ne+in-Err w ↦ rw (w.self-inside-is) (omega (arith, c.self.inside.headers.ok.0))
-      | else-ne w ↦ rw (w.self-inside-is) (omega (arith, c.self.inside.headers.ok.0))
-    ]
+pub unreachable-requires : goal.unreachable-requires
+unreachable-requires c =
+    let room = fits_inside c.self.inside.map.entries c.self.inside.limit c.args.self.now c.self.view_is c.requires.room in
+    let f = c.self.invariant.fits in
+    let some : 0 < spare c.self.inside.map = omega (arith, room, f) in
+    false≢true (c.in_default-insert.ensures.succeeds some)
 
 pub invariant_of-self-2 : goal.invariant_of-self-2
 invariant_of-self-2 c =
-    let room = fits_inside c.self.inside.headers.items c.self.inside.limit c.args.self.now c.self.view_is c.requires.room in
-    let more : length (c.self.inside.headers.items ++ record { name = c.in-Ok.text; value = c.args.value } ∷ []) ≡ length c.self.inside.headers.items + 1
-    = (let l = length-append c.self.inside.headers.items (record { name = c.in-Ok.text; value = c.args.value } ∷ []) in omega arith) in
-    elim c.if-ne.branch [
-      | then-ne+in-Err w ↦
-          let count : w.len.result ≡ length c.self.inside.headers.items = w.len.ensures ∙ c.self.inside.headers.ok.0 in
-          let nodes : length w.put.new.self.nodes.items ≤ length c.self.inside.tree.nodes.items + 1
-          = (let l = ap length w.put.ensures.nodes in let m = length-nodes_with c.self.inside.tree.nodes.items w.in-Err.spot w.len.result in omega arith) in
-          rw (c.push_reserved.ensures.items, c.push_reserved.ensures.capacity, w.self-inside-is)
-          (room_added c.self.inside.limit _ _ _ _ c.self.inside.tree.nodes.items w.put.new.self.nodes.items c.self.inside.headers.items _ c.self.invariant room
-          (rw w.put.ensures.nodes (new_found c.self.inside.tree.nodes.items c.self.inside.headers.items c.self.inside.headers.items c.args.name.now c.in-Ok.text c.args.value c.self.invariant.found refl c.utf8.name c.in-Ok.ensures.ok
-          w.deref.result.now w.in-Err.spot w.len.result w.deref.ensures.value count w.in-Err.ensures.0 w.in-Err.ensures.1))
-          more nodes refl w.put.ensures.room)
-      | else-ne w ↦ rw (c.push_reserved.ensures.items, c.push_reserved.ensures.capacity, w.self-inside-is)
-          (room_added c.self.inside.limit _ _ _ _ c.self.inside.tree.nodes.items c.self.inside.tree.nodes.items c.self.inside.headers.items _ c.self.invariant room
-          (annotation_found c.self.inside.tree.nodes.items c.self.inside.headers.items c.self.inside.headers.items c.args.name.now c.in-Ok.text c.args.value c.self.invariant.found refl c.utf8.name c.in-Ok.ensures.ok
-          (so _ (sym c.ne.ensures ∙ w.if-ne.false))) more (omega arith) refl refl)
-    ]
+    let es = c.self.inside.map.entries in
+    let p = put_key c.args.name.now c.args.value es c.of-key.result c.len.result c.utf8.name c.of-key.ensures c.len.ensures.len c.self.invariant.keys in
+    let none : is_some (lookup (keys_same c.of-key.result) es) ≡ false = sym c.in_default.ensures.found in
+    let count : length c.insert.new.self.entries ≡ length es + 1 = c.in-Ok.ensures.len ∙ ap (λ (b : Bool). length es + (if b then 0 else 1)) (ap is_some c.in-Ok.ensures.old ∙ none) in
+    record {
+      keys = subst (λ (x : List (Key × Span)). AreKeysBelow (length x) x) (sym c.in-Ok.ensures.entries) p.below;
+      fits = (let f = c.self.invariant.fits in let s = c.in-Ok.ensures.spare in omega (arith, count, f, s));
+    }
 
 pub returns-clause-put : goal.returns-clause-put
-returns-clause-put c = elim c.if-ne.branch [
-  | then-ne+in-Err w ↦ rw (← c.self.view_is, c.push_reserved.ensures.items, w.self-inside-is)
-      (ap (λ (x : List (List ℕ × Span)). record { items = x; limit = c.self.inside.limit })
-      (new_put c.self.inside.tree.nodes.items c.self.inside.headers.items c.self.inside.headers.items c.args.name.now c.in-Ok.text c.args.value c.self.invariant.found refl c.utf8.name c.in-Ok.ensures.ok
-      w.deref.result.now w.deref.ensures.value (not_so _ (sym c.ne.ensures ∙ w.if-ne.true)) w.in-Err.ensures.0))
-  | else-ne w ↦ rw (← c.self.view_is, c.push_reserved.ensures.items, w.self-inside-is)
-      (ap (λ (x : List (List ℕ × Span)). record { items = x; limit = c.self.inside.limit })
-      (annotation_put c.self.inside.tree.nodes.items c.self.inside.headers.items c.self.inside.headers.items c.args.name.now c.in-Ok.text c.args.value c.self.invariant.found refl c.utf8.name c.in-Ok.ensures.ok
-      (so _ (sym c.ne.ensures ∙ w.if-ne.false))))
-]
+returns-clause-put c =
+    let es = c.self.inside.map.entries in
+    let p = put_key c.args.name.now c.args.value es c.of-key.result c.len.result c.utf8.name c.of-key.ensures c.len.ensures.len c.self.invariant.keys in
+    rw (← c.self.view_is) (ap (λ (x : List (List ℕ × Span)). record { items = x; limit = c.self.inside.limit }) (ap named_entries c.in-Ok.ensures.entries ∙ p.entries))
 
 pub returns-clause-again : goal.returns-clause-again
-returns-clause-again c = elim c.if-ne.branch [
-  | then-ne+in-Err w ↦ rw (← c.self.view_is)
-      (new_again c.self.inside.tree.nodes.items c.self.inside.headers.items c.self.inside.headers.items c.args.name.now c.in-Ok.text c.args.value c.self.invariant.found refl c.utf8.name c.in-Ok.ensures.ok
-      w.deref.result.now w.deref.ensures.value (not_so _ (sym c.ne.ensures ∙ w.if-ne.true)) w.in-Err.ensures.0)
-  | else-ne w ↦ rw (← c.self.view_is)
-      (annotation_again c.self.inside.tree.nodes.items c.self.inside.headers.items c.self.inside.headers.items c.args.name.now c.in-Ok.text c.args.value c.self.invariant.found refl c.utf8.name c.in-Ok.ensures.ok
-      (so _ (sym c.ne.ensures ∙ w.if-ne.false)))
-]
+returns-clause-again c =
+    let es = c.self.inside.map.entries in
+    let p = put_key c.args.name.now c.args.value es c.of-key.result c.len.result c.utf8.name c.of-key.ensures c.len.ensures.len c.self.invariant.keys in
+    rw (← c.self.view_is) (c.in_default.ensures.found ∙ p.again)

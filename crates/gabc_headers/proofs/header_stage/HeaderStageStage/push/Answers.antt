@@ -1,6 +1,7 @@
 use Rattle.std.proofs.Common.{subst, sym}
 use Rattle.gabc_places.specs.StageLaw.{StopsAtEnd}
-use Rattle.gabc_headers.specs.HeadEvents.{HeaderStageState, events_left, is_last_event}
+use Rattle.gabc_headers.specs.HeadEvents.{is_last_event}
+use Rattle.gabc_headers.specs.witness.HeadEvents.{HeaderStageState, events_left}
 use Rattle.gabc_headers.proofs.stages.AStageStops.{push_stops}
 use Rattle.gabc_headers.proofs.header_stage.HeaderStageStage.push.Goals as goal
 

@@ -1,8 +1,9 @@
 use Rattle.std.proofs.Common.{◌≤◌, ◌∷◌, ap, sym, Bool, true, false, cond, length, arith, Option, Some, None, []}
 use Rattle.gabc_notes.specs.declared.stage.NoteEvent.{NoteEvent}
-use Rattle.gabc_nabc.specs.DescriptorMachine.{event_list, stage_events_at, events_left, events_in, role_at, facts_at}
+use Rattle.gabc_nabc.specs.witness.DescriptorMachine.{event_list, stage_events_at, events_left, events_in, role_at, facts_at}
 use Rattle.gabc_nabc.specs.declared.stage.NabcEvents.{NabcEvents}
 use Rattle.gabc_nabc.specs.declared.stage.NabcStage.{NabcStage}
+use Rattle.gabc_nabc.proofs.StagesKeep.{push_keeps_in}
 use Rattle.gabc_nabc.proofs.Stopping.{push_stops}
 use Rattle.gabc_nabc.proofs.stage.NabcStageStage.push.Goals as goal
 
@@ -28,3 +29,6 @@ returns-clause-events c =
 
 pub returns-clause-end : goal.returns-clause-end
 returns-clause-end c = push_stops c.args.self.now c.take.new.self c.args.x c.args.out.now c.take.new.out c.take.ensures.stage c.take.ensures.out
+
+pub returns-clause-keeps : goal.returns-clause-keeps
+returns-clause-keeps c = push_keeps_in c.args.self.now c.take.new.self c.args.x c.args.out.now c.take.new.out c.take.ensures.stage c.take.ensures.out

@@ -1,5 +1,9 @@
 use Rattle.gabc_notes.proofs.machine.FreshStageEmitsEventsByPoint.{fresh_says}
+use Rattle.gabc_notes.proofs.resuming.StagesKeep.{fresh_keeps}
 use Rattle.gabc_notes.proofs.stage.NoteStage.new.Goals as goal
 
-pub returns : goal.returns
-returns c = λ xs. fresh_says c.args.split c.args.macros xs
+pub returns-clause-events : goal.returns-clause-events
+returns-clause-events c = λ xs. fresh_says c.args.split c.args.macros xs
+
+pub returns-clause-keeps : goal.returns-clause-keeps
+returns-clause-keeps c = fresh_keeps c.args.split c.args.macros

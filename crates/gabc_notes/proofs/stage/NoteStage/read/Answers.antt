@@ -1,3 +1,4 @@
+use Rattle.gabc_notes.proofs.resuming.CallsKeep.{read_state}
 use Rattle.std.proofs.Common.{◌≡◌, refl}
 use Rattle.gabc_notes.specs.machine.CharClass.{class_of_character}
 use Rattle.gabc_notes.specs.machine.ItemMachine.{next_state}
@@ -15,3 +16,6 @@ pub returns-clause-end : goal.returns-clause-end
 returns-clause-end c =
     push_stops c.args.self.now c.advance.new.self c.args.x c.next_state-next.result c.look-facts.result c.role_of-role.result _ c.args.out.now c.emit.new.out
     refl c.advance.ensures c.emit.ensures
+
+pub returns-clause-state : goal.returns-clause-state
+returns-clause-state c = read_state c.args.self.now c.advance.new.self c.args.x c.next_state-next.result c.look-facts.result c.role_of-role.result c.requires.runs (cc (c.class_of.ensures, c.next_state-next.ensures)) c.look-facts.ensures c.role_of-role.ensures c.advance.ensures

@@ -1,3 +1,4 @@
+use Rattle.gabc_notes.proofs.resuming.CallsKeep.{close_state}
 use Rattle.std.proofs.Common.{true, refl, sym, ◌∙◌}
 use Rattle.gabc_notes.specs.declared.stage.CharRole.TheVariants.{Ends}
 use Rattle.gabc_notes.specs.machine.CharClass.{class_of_character}
@@ -19,3 +20,6 @@ returns-clause-end c =
     let next = next_state st.state (class_of_character c.args.x.c) in
     push_stops st (record st { ended = true }) c.args.x next (facts_of st c.args.x) Ends _ c.args.out.now c.emit_end.new.out
     refl refl (c.emit_end.ensures st.macros (facts_of st c.args.x) (whole_is st.state next st.name ∙ sym c.is_whole.ensures))
+
+pub returns-clause-state : goal.returns-clause-state
+returns-clause-state c = close_state c.args.self.now c.args.x c.requires.runs c.requires.comment c.requires.outside c.requires.close

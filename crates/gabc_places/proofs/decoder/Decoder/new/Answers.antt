@@ -7,8 +7,8 @@ pub invariant_of-result : goal.invariant_of-result
 invariant_of-result c = record {
   partial = rw c.new.ensures nothing_is_partial;
   taken = omega arith;
-  line = omega arith;
-  column = omega arith;
+  reached = record { line = omega arith; column = omega arith; bytes = rw c.new.ensures (omega arith) };
+  cr = λ e. absurd (cc);
 }
 
 pub returns-clause-known : goal.returns-clause-known

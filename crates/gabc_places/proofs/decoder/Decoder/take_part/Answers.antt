@@ -1,4 +1,4 @@
-use Rattle.std.proofs.Common.{◌≡◌, ℕ, arith, sym, ap, ◌∙◌, length, List, []}
+use Rattle.std.proofs.Common.{◌≡◌, ℕ, arith, sym, ap, ◌∙◌, length, length-append, List, [], ◌∷◌}
 use Rattle.std.proofs.lemmas.Str.{chars-nil}
 use Rattle.std.specs.Str.{chars}
 use Rattle.gabc_places.specs.declared.decoded.Tail.TheVariants.{Nothing, Part}
@@ -17,16 +17,16 @@ pub invariant_of-self : goal.invariant_of-self
 invariant_of-self c = record {
   partial = rw c.clear.ensures nothing_is_partial;
   taken = c.self.invariant.taken;
-  line = c.self.invariant.line;
-  column = c.self.invariant.column;
+  reached = record { line = c.self.invariant.reached.line; column = c.self.invariant.reached.column; bytes = omega (arith, rw (← c.self.view_is) at c.requires.counted, ap length c.clear.ensures) };
+  cr = c.self.invariant.cr;
 }
 
 pub invariant_of-self-in-None-Wrong : goal.invariant_of-self-in-None-Wrong
 invariant_of-self-in-None-Wrong c = record {
   partial = rw c.clear-in-None-Wrong.ensures nothing_is_partial;
   taken = c.self.invariant.taken;
-  line = c.self.invariant.line;
-  column = c.self.invariant.column;
+  reached = record { line = c.self.invariant.reached.line; column = c.self.invariant.reached.column; bytes = omega (arith, rw (← c.self.view_is) at c.requires.counted, ap length c.clear-in-None-Wrong.ensures) };
+  cr = c.self.invariant.cr;
 }
 
 pub invariant_of-self-in-None-Part : goal.invariant_of-self-in-None-Part
@@ -35,8 +35,8 @@ invariant_of-self-in-None-Part c = record {
       (sym c.prefix_and_tail-tail.ensures.text ∙ no_chars _ _ c.chars.ensures.rest c.in-None-Part.ensures.steps.0.0)
       (sym c.prefix_and_tail-tail.ensures.tail ∙ c.in-None-Part.is-1) (λ e. cc));
   taken = c.self.invariant.taken;
-  line = c.self.invariant.line;
-  column = c.self.invariant.column;
+  reached = record { line = c.self.invariant.reached.line; column = c.self.invariant.reached.column; bytes = omega (arith, rw (← c.self.view_is) at c.requires.counted, ap length c.push.ensures.items, length-append c.self.inside.pending.items (c.args.byte ∷ [])) };
+  cr = c.self.invariant.cr;
 }
 
 pub invariant_of-self-in-None-Nothing : goal.invariant_of-self-in-None-Nothing
@@ -45,6 +45,6 @@ invariant_of-self-in-None-Nothing c = record {
       (sym c.prefix_and_tail-tail.ensures.text ∙ no_chars _ _ c.chars.ensures.rest c.in-None-Nothing.ensures.steps.0.0)
       (sym c.prefix_and_tail-tail.ensures.tail ∙ c.in-None-Nothing.is-1) (λ e. cc));
   taken = c.self.invariant.taken;
-  line = c.self.invariant.line;
-  column = c.self.invariant.column;
+  reached = record { line = c.self.invariant.reached.line; column = c.self.invariant.reached.column; bytes = omega (arith, rw (← c.self.view_is) at c.requires.counted, ap length c.push.ensures.items, length-append c.self.inside.pending.items (c.args.byte ∷ [])) };
+  cr = c.self.invariant.cr;
 }

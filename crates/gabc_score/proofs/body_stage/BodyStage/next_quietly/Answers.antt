@@ -1,8 +1,8 @@
 use Rattle.std.proofs.Common.{sym, ap, subst, ◌∙◌, arith}
-use Rattle.gabc_notes.specs.ItemMachine as notes
-use Rattle.gabc_nabc.specs.DescriptorMachine as nabc
+use Rattle.gabc_notes.specs.witness.ItemMachine as notes
+use Rattle.gabc_nabc.specs.witness.DescriptorMachine as nabc
 use Rattle.gabc_score.specs.declared.body_stage.BodyPart.{BodyPart}
-use Rattle.gabc_score.specs.BodyStage.{BodyStageState, part_with}
+use Rattle.gabc_score.specs.witness.BodyStage.{BodyStageState, part_with}
 use Rattle.gabc_score.specs.machine.PartCounts.{CountsHold}
 use Rattle.gabc_score.proofs.building.QuietParts.{next_quiet}
 use Rattle.gabc_score.proofs.body_stage.BodyStage.next_quietly.Goals as goal

@@ -1,5 +1,5 @@
 use Rattle.std.proofs.Common.{sym, ap, ◌∙◌, arith}
-use Rattle.gabc_score.specs.BodyStage.{BodyStageState}
+use Rattle.gabc_score.specs.witness.BodyStage.{BodyStageState}
 use Rattle.gabc_score.proofs.building.QuietParts.{end_quiet}
 use Rattle.gabc_score.proofs.body_stage.BodyStage.open_quietly.Goals as goal
 

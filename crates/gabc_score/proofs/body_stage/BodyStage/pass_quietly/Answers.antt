@@ -3,7 +3,7 @@ use Rattle.gabc_text.specs.declared.text_event.TextPart.TheVariants as text_part
 use Rattle.gabc_text.specs.declared.text_event.TextEvent.TheVariants as text
 use Rattle.gabc_text.specs.declared.stage.TextStage.{TextStage}
 use Rattle.gabc_text.specs.TakenAtOnce.{Takes, kept_events}
-use Rattle.gabc_score.specs.BodyStage.{BodyStageState}
+use Rattle.gabc_score.specs.witness.BodyStage.{BodyStageState}
 use Rattle.gabc_score.specs.machine.Gatherer.{Gathered, with_text}
 use Rattle.gabc_score.proofs.building.QuietTexts.{word_quiet, kept_quiet}
 use Rattle.gabc_score.proofs.body_stage.BodyStage.pass_quietly.Goals as goal

@@ -2,7 +2,7 @@ use Rattle.std.proofs.Common.{◌≡◌, ℕ, ◌≤◌, true, false, List, map,
 use Rattle.std.proofs.lemmas.List.{length-map}
 use Rattle.std.specs.List.{list_any}
 use Rattle.gabc_places.specs.declared.place.Place.{Place}
-use Rattle.gabc_notes.specs.ItemMachine as notes
+use Rattle.gabc_notes.specs.witness.ItemMachine as notes
 use Rattle.gabc_notes.specs.declared.stage.NoteEvent.{NoteEvent}
 use Rattle.gabc_score.specs.Events.{is_next, is_close, note_event}
 use Rattle.gabc_score.proofs.building.EventsOfSnippets.{snippet_emits}

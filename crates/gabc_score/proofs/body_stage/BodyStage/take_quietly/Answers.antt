@@ -1,10 +1,10 @@
 use Rattle.std.proofs.Common.{sym, ap, subst, ◌∙◌, refl}
 use Rattle.gabc_text.specs.declared.text_event.TextPart.TheVariants as text_part
 use Rattle.gabc_text.specs.declared.text_event.TextEvent.TheVariants as text
-use Rattle.gabc_notes.specs.ItemMachine as notes
-use Rattle.gabc_nabc.specs.DescriptorMachine as nabc
+use Rattle.gabc_notes.specs.witness.ItemMachine as notes
+use Rattle.gabc_nabc.specs.witness.DescriptorMachine as nabc
 use Rattle.gabc_score.specs.declared.body_stage.BodyPart.{BodyPart}
-use Rattle.gabc_score.specs.BodyStage.{BodyStageState, part_with}
+use Rattle.gabc_score.specs.witness.BodyStage.{BodyStageState, part_with}
 use Rattle.gabc_score.specs.machine.PartCounts.{CountsHold}
 use Rattle.gabc_score.specs.machine.Gatherer.{Gathered, with_text}
 use Rattle.gabc_score.proofs.building.QuietParts.{note_quiet}

@@ -1,4 +1,4 @@
-use Rattle.gabc_score.specs.ScoreStage.{left_of}
+use Rattle.gabc_score.specs.witness.ScoreStage.{left_of}
 use Rattle.gabc_score.specs.machine.ScoreMachine.{shown}
 use Rattle.gabc_score.proofs.score_events.AStageStops.{stops}
 use Rattle.gabc_score.proofs.score_stage.ScoreStageStage.push.Goals as goal

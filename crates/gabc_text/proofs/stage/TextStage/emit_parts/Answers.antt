@@ -2,7 +2,7 @@ use Rattle.std.proofs.Common.{List, map, ap, ◌∙◌}
 use Rattle.gabc_places.specs.BoundedList.{extended_by}
 use Rattle.gabc_text.specs.declared.text_event.TextPart.{TextPart}
 use Rattle.gabc_text.specs.declared.text_event.TextEvent.TheVariants as event
-use Rattle.gabc_text.specs.EventsLeft.{parts_by}
+use Rattle.gabc_text.specs.witness.EventsLeft.{parts_by}
 use Rattle.gabc_text.proofs.stage.TextStage.emit_parts.Goals as goal
 
 pub returns-in-None-clause-events : goal.returns-in-None-clause-events

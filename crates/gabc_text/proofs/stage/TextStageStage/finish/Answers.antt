@@ -1,6 +1,8 @@
+use Rattle.std.proofs.Common.{ap, ◌∙◌}
+use Rattle.gabc_text.specs.declared.stage.TextStage.{TextStage}
 use Rattle.gabc_text.proofs.PiecesFollowCharacters.{finish_is_paid}
 use Rattle.gabc_text.proofs.machine.EventsLeftAreThoseAhead.{finish_ends}
-use Rattle.gabc_text.proofs.NothingBehindTheEnd.{finish_stops, finish_is_over}
+use Rattle.gabc_text.proofs.NothingBehindTheEnd.{is_done, finish_stops, finish_is_over}
 use Rattle.gabc_text.proofs.stage.TextStageStage.finish.Goals as goal
 
 pub returns-clause-ends : goal.returns-clause-ends
@@ -14,3 +16,6 @@ returns-clause-over c = finish_is_over c.args.self.now c.stop.new.self c.stop.en
 
 pub returns-clause-pieces : goal.returns-clause-pieces
 returns-clause-pieces c = finish_is_paid c.args.self.now c.args.out.now c.stop.new.out c.stop.ensures.out
+
+pub returns-clause-done : goal.returns-clause-done
+returns-clause-done c = ap (λ (x : TextStage). x.done) c.stop.ensures.stage ∙ is_done c.args.self.now

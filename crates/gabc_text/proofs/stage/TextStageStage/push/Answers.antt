@@ -1,4 +1,7 @@
-use Rattle.gabc_text.proofs.PiecesFollowCharacters.{push_is_paid}
+use Rattle.std.proofs.Common.{drop, length}
+use Rattle.gabc_text.specs.machine.TextStage.{events_of_push}
+use Rattle.gabc_text.proofs.resuming.StagesKeep.{push_keeps}
+use Rattle.gabc_text.proofs.PiecesFollowCharacters.{in_room, push_is_paid}
 use Rattle.gabc_text.proofs.machine.EventsLeftAreThoseAhead.{push_emits}
 use Rattle.gabc_text.proofs.NothingBehindTheEnd.{push_stops}
 use Rattle.gabc_text.proofs.stage.TextStageStage.push.Goals as goal
@@ -11,3 +14,8 @@ returns-clause-end c = push_stops c.args.self.now c.args.input.c c.take.new.self
 
 pub returns-clause-pieces : goal.returns-clause-pieces
 returns-clause-pieces c = push_is_paid c.args.self.now c.args.input.c c.take.new.self c.args.out.now c.take.new.out c.take.ensures.stage c.take.ensures.out
+
+pub returns-clause-keeps : goal.returns-clause-keeps
+returns-clause-keeps c =
+    push_keeps c.args.self.now c.take.new.self c.args.input.c (drop (length c.args.out.now.items) c.take.new.out.items) c.take.ensures.stage
+    (in_room c.args.out.now c.take.new.out (events_of_push c.args.self.now c.args.input.c) c.take.ensures.out)

@@ -1,6 +1,6 @@
 use Rattle.std.proofs.Common.{[], ap, sym, ◌∙◌}
 use Rattle.gregorio.specs.declared.source_ending.SourceEnding.TheVariants.{Broken}
-use Rattle.gregorio.specs.Engine.{EngineState, streams_left}
+use Rattle.gregorio.specs.witness.Engine.{EngineState, streams_left}
 use Rattle.gregorio.specs.machine.Engine.{IsEmpty}
 use Rattle.gregorio.proofs.pieces.InputsAreEnded.{ends_last, ends_now, over_is_last, room_for_last}
 use Rattle.gregorio.proofs.engine.Engine.broken.Goals as goal

@@ -2,10 +2,11 @@ use Rattle.std.proofs.Common.{List, [], option_to_list, ap, sym, subst, ◌∙�
 use Rattle.gabc_headers.specs.declared.head_event.HeadEvent.{HeadEvent as HeadItem}
 use Rattle.gregorio.specs.declared.engine.Engine.TheInside.{Inside}
 use Rattle.gregorio.specs.declared.source_ending.SourceEnding.TheVariants.{Whole}
-use Rattle.gregorio.specs.Engine.{EngineState, is_running, streams_left}
+use Rattle.gregorio.specs.Engine.{is_running}
+use Rattle.gregorio.specs.witness.Engine.{EngineState, streams_left}
 use Rattle.gregorio.specs.machine.Engine.{IsEmpty, streams_of_items}
 use Rattle.gregorio.specs.machine.ScoreWriter.{FitsEvents, WritesLast}
-use Rattle.gabc_places.specs.DecoderMachine as decoder
+use Rattle.gabc_places.specs.witness.DecoderEvents as decoder
 use Rattle.gabc_places.specs.StageLaw.{concat_of}
 use Rattle.gregorio.proofs.pieces.HeadersAreRead.{given_of_end}
 use Rattle.gregorio.proofs.pieces.RoomIsLeft.{room_for_end}

@@ -1,8 +1,8 @@
-use Rattle.std.proofs.Common.{inl, inr, length, length-drop, take, ap, sym, ◌∙◌, arith}
-use Rattle.gregorio.specs.Engine.{NothingWaits}
+use Rattle.std.proofs.Common.{refl, inl, inr, length, length-drop, take, ap, sym, ◌∙◌, arith}
 use Rattle.gregorio.proofs.PiecesAreSent.{all_behind}
-use Rattle.gregorio.proofs.pieces.BytesAreTaken.{begun_by, read_fault_if_broken, stopped_takes, takes_none}
+use Rattle.gregorio.proofs.pieces.BytesAreTaken.{read_fault_if_broken, stopped_takes, takes_none}
 use Rattle.gregorio.proofs.pieces.FrontIsTaken.{takes_more}
+use Rattle.gregorio.proofs.pieces.NothingIsKeptBack.{no_fault_is_kept_back, prompt_further, prompt_where_over}
 use Rattle.gregorio.proofs.engine.Engine.feed.Goals as goal
 
 pub loop-count-init : goal.loop-count-init
@@ -10,6 +10,8 @@ loop-count-init c = record {
   taken = takes_none c.args.self.now c.requires.waits;
   within = omega arith;
   begun = inr c.requires.waits;
+  format = refl;
+  stops = λ something. absurd (something c.requires.waits);
 }
 
 pub loop-count-preserved : goal.loop-count-preserved
@@ -26,42 +28,39 @@ loop-count-preserved c =
           (c.nothing_waits.ensures.waits c.if-nothing_waits.true) c.take_some-count.ensures.law;
       within = omega (arith, within, l, left, more);
       begun = inl (omega (arith, some (omega (arith, l, left, more))));
+      format = c.take_some-count.ensures.format ∙ i.format;
+      stops = λ something.
+          prompt_further c.args.self.now c.loop-count.self c.args.piece.now _ c.loop-count.count c.take_some-count.result all i.taken
+          (c.nothing_waits.ensures.waits c.if-nothing_waits.true) (some (omega (arith, l, left, more))) i.format (c.take_some-count.ensures.stops something);
     }
 
-pub returns-after-loop-count-clause-law : goal.returns-after-loop-count-clause-law
-returns-after-loop-count-clause-law c = c.loop-count.invariant.taken
+pub returns-clause-law : goal.returns-clause-law
+returns-clause-law c = c.loop-count.invariant.taken
 
-pub returns-after-loop-count-clause-running : goal.returns-after-loop-count-clause-running
-returns-after-loop-count-clause-running c = read_fault_if_broken c.inputs_that_cease_give_no_stop.ensures.stop c.inputs_that_cease_give_no_stop.ensures.end c.loop-count.self
+pub returns-clause-running : goal.returns-clause-running
+returns-clause-running c = read_fault_if_broken c.inputs_that_cease_give_no_stop.ensures.stop c.inputs_that_cease_give_no_stop.ensures.end c.loop-count.self
 
-pub returns-after-loop-count-clause-over : goal.returns-after-loop-count-clause-over
-returns-after-loop-count-clause-over c = λ stopped. absurd (cc (sym c.if-not-running.false ∙ (c.running.ensures ∙ stopped)))
+pub returns-clause-over : goal.returns-clause-over
+returns-clause-over c = λ stopped. absurd (cc (sym c.if-not-running.false ∙ (c.running.ensures ∙ stopped)))
 
-pub returns-after-loop-count-clause-all : goal.returns-after-loop-count-clause-all
-returns-after-loop-count-clause-all c = λ waits.
-    let most = c.loop-count.invariant.within in
-    let least = c.loop-count-test.false in
-    omega (arith, most, least)
+pub returns-clause-prompt : goal.returns-clause-prompt
+returns-clause-prompt c = c.keeps_nothing_back.ensures
 
-pub returns-after-loop-count-clause-some : goal.returns-after-loop-count-clause-some
-returns-after-loop-count-clause-some c = λ some. let least = c.loop-count-test.false in omega (arith, some, least)
+pub returns-clause-stops : goal.returns-clause-stops
+returns-clause-stops c = c.loop-count.invariant.stops
 
-pub returns-else-nothing_waits-clause-law : goal.returns-else-nothing_waits-clause-law
-returns-else-nothing_waits-clause-law c = c.loop-count.invariant.taken
+pub returns-clause-fault : goal.returns-clause-fault
+returns-clause-fault c = λ runs something.
+    no_fault_is_kept_back c.the_end_comes_with_the_end.ensures c.args.self.now runs _ (c.loop-count.invariant.stops something).messages
 
-pub returns-else-nothing_waits-clause-running : goal.returns-else-nothing_waits-clause-running
-returns-else-nothing_waits-clause-running c = read_fault_if_broken c.inputs_that_cease_give_no_stop.ensures.stop c.inputs_that_cease_give_no_stop.ensures.end c.loop-count.self
+pub returns-then-not-running-clause-prompt : goal.returns-then-not-running-clause-prompt
+returns-then-not-running-clause-prompt c = prompt_where_over c.args.self.now (sym c.running.ensures ∙ c.if-not-running.true)
 
-pub returns-else-nothing_waits-clause-over : goal.returns-else-nothing_waits-clause-over
-returns-else-nothing_waits-clause-over c = λ stopped. absurd (cc (sym c.if-not-running.false ∙ (c.running.ensures ∙ stopped)))
+pub returns-then-not-running-clause-stops : goal.returns-then-not-running-clause-stops
+returns-then-not-running-clause-stops c = λ something. absurd (something c.requires.waits)
 
-pub returns-else-nothing_waits-clause-all : goal.returns-else-nothing_waits-clause-all
-returns-else-nothing_waits-clause-all c = λ waits. absurd (cc (sym (c.nothing_waits.ensures.some waits) ∙ c.if-nothing_waits.false))
-
-pub returns-else-nothing_waits-clause-some : goal.returns-else-nothing_waits-clause-some
-returns-else-nothing_waits-clause-some c = λ some.
-    begun_by c.loop-count.count (NothingWaits c.loop-count.self) c.loop-count.invariant.begun
-    (λ waits. absurd (cc (sym (c.nothing_waits.ensures.some waits) ∙ c.if-nothing_waits.false)))
+pub returns-then-not-running-clause-fault : goal.returns-then-not-running-clause-fault
+returns-then-not-running-clause-fault c = λ runs something. absurd (something c.requires.waits)
 
 pub returns-then-not-running-clause-law : goal.returns-then-not-running-clause-law
 returns-then-not-running-clause-law c =

@@ -1,5 +1,5 @@
 use Rattle.std.proofs.Common.{option_to_list, ap, sym, ◌∙◌, ◌∷◌}
-use Rattle.gregorio.specs.Engine.{EngineState, streams_left}
+use Rattle.gregorio.specs.witness.Engine.{EngineState, streams_left}
 use Rattle.gregorio.specs.machine.Engine.{IsEmpty}
 use Rattle.gregorio.proofs.pieces.BytesAreTaken.{byte_taken}
 use Rattle.gregorio.proofs.engine.Engine.take.Goals as goal
@@ -10,15 +10,16 @@ read_decoded-requires-clause-empty c = record {
   messages = ap (λ (s : EngineState). s.messages) c.self.view_is ∙ c.requires.waits.messages;
 }
 
-pub returns : goal.returns
-returns c =
+pub returns-clause-law : goal.returns-clause-law
+returns-clause-law c =
     let empty : IsEmpty c.self.inside.writer = record {
       output = ap (λ (s : EngineState). s.output) c.self.view_is ∙ c.requires.waits.output;
       messages = ap (λ (s : EngineState). s.messages) c.self.view_is ∙ c.requires.waits.messages;
     } in
-    record {
-      law = λ bytes ending.
-          ap (λ (s : EngineState). streams_left s ending (c.args.byte ∷ bytes)) (sym c.self.view_is)
-          ∙ byte_taken c.self.inside.decoder c.take-item.new.self c.self.inside.heads c.read_decoded.new.heads c.self.inside.writer c.read_decoded.new.writer c.args.byte
-          (option_to_list c.take-item.result) c.take-item.ensures.item c.read_decoded.ensures.writes empty bytes ending;
-    }
+    λ bytes ending.
+    ap (λ (s : EngineState). streams_left s ending (c.args.byte ∷ bytes)) (sym c.self.view_is)
+    ∙ byte_taken c.self.inside.decoder c.take-item.new.self c.self.inside.heads c.read_decoded.new.heads c.self.inside.writer c.read_decoded.new.writer c.args.byte
+    (option_to_list c.take-item.result) c.take-item.ensures.item c.read_decoded.ensures.writes empty bytes ending
+
+pub returns-clause-format : goal.returns-clause-format
+returns-clause-format c = c.read_decoded.ensures.steady.format ∙ ap (λ (s : EngineState). s.written.format) c.self.view_is

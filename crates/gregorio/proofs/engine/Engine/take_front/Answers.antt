@@ -1,6 +1,7 @@
 use Rattle.std.proofs.Common.{take, ◌++◌, List, ℕ, ap, sym, subst, ◌∙◌}
 use Rattle.gabc_places.specs.declared.place.Place.{Place}
-use Rattle.gregorio.specs.Engine.{EngineState, streams_left}
+use Rattle.gregorio.specs.witness.Engine.{EngineState, streams_left}
+use Rattle.gregorio.specs.machine.RunWriter.{RunWriterState}
 use Rattle.gregorio.specs.machine.ScoreWriter.{WritesNothing}
 use Rattle.gregorio.proofs.pieces.BytesAreTaken.{still_reserved}
 use Rattle.gregorio.proofs.pieces.FrontIsTaken.{front_is_taken, front_of_front, still_steady, still_together}
@@ -21,7 +22,11 @@ returns-clause-law c = λ bytes ending.
     let most = c.min-most.result in
     let count = c.take_front-count.result in
     let front = take count (take most c.args.piece.now) in
-    let writes : WritesNothing w d.place front new = subst (λ (at : Place). WritesNothing w at front new) c.place.ensures c.take_front-count.ensures.writes in
+    let writes : WritesNothing w d.place front new = subst (λ (at : Place). WritesNothing w at front new) c.place.ensures.place c.take_front-count.ensures.writes in
     ap (λ (xs : List ℕ). streams_left c.args.self.now ending (xs ++ bytes)) (sym (front_of_front count most c.args.piece.now c.take_front-count.ensures.within))
     ∙ (ap (λ (s : EngineState). streams_left s ending (front ++ bytes)) (sym c.self.view_is)
     ∙ front_is_taken d c.skip.new.self c.self.inside.heads w new front writes c.self.invariant.together c.skip.ensures.joined bytes ending)
+
+pub returns-clause-format : goal.returns-clause-format
+returns-clause-format c =
+    ap (λ (w : RunWriterState). w.written.format) c.take_front-count.ensures.writes.writer ∙ ap (λ (s : EngineState). s.written.format) c.self.view_is

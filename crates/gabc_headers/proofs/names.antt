@@ -1,4 +1,0 @@
-pub mod LinksAreKept
-pub mod NamesOfHeaders
-pub mod NewNameIsFound
-pub mod TurnsLeadToName

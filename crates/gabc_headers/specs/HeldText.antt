@@ -1,0 +1,31 @@
+-- The text of the headers that a stage holds until their line `%%`.
+use Rattle.std.specs.Prelude.{◌≡◌, ℕ, List, [], map, true, Result, Ok, Err}
+use Rattle.gabc_places.specs.declared.place.Char.{Char}
+use Rattle.gabc_places.specs.declared.code.Fault.{Fault}
+use Rattle.gabc_places.specs.declared.code.Finding.{Finding}
+use Rattle.gabc_places.specs.declared.limits.Limits.{Limits}
+use Rattle.gabc_headers.specs.declared.heads.HeadFault.{HeadFault}
+use Rattle.gabc_headers.specs.witness.HeadEvents.{HeaderStageState, reading}
+use Rattle.gabc_headers.specs.Heads.{heads_of, findings_of}
+
+-- Its end alone stops it: it has no line `%%`, and no limit is passed.
+pub record IsHeld (limits : Limits) (t : List ℕ) : Type 0 where
+  pub stopped : HeadFault
+  pub heads : heads_of limits t ≡ Err stopped
+  pub at_end : stopped.at_end ≡ true
+
+-- what is found in it
+abbrev pub findings_held : Limits → List ℕ → List Finding
+findings_held limits t = findings_of (heads_of limits t)
+
+-- the stage that holds it
+abbrev pub holding : Limits → List ℕ → HeaderStageState
+holding limits t = record { limits = limits; progress = reading t; book = [] }
+
+-- ---- characters, wherever they stand
+
+abbrev pub text_in : List Char → List ℕ
+text_in xs = map (λ (x : Char). x.c) xs
+
+abbrev pub inputs_of : List Char → List (Result Char Fault)
+inputs_of xs = map (λ x. Ok x) xs

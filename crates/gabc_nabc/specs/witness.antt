@@ -1,0 +1,2 @@
+pub mod DescriptorMachine
+pub mod Keeps

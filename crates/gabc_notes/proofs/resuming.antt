@@ -1,0 +1,4 @@
+pub mod CallsKeep
+pub mod KeptTextGivesStage
+pub mod StagesAgree
+pub mod StagesKeep

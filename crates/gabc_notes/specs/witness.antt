@@ -1,0 +1,3 @@
+pub mod ItemMachine
+pub mod Keeps
+pub mod StageEvents

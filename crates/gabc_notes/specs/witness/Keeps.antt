@@ -1,0 +1,75 @@
+-- A stage stands behind the text that it kept. Of what it has read nothing else matters but what it tells.
+use Rattle.std.specs.Prelude.{◌≡◌, ℕ, List, [], ◌∷◌, ◌++◌, Bool, true, false, not, ◌&&◌, ◌||◌, ◌==◌, if◌then◌else◌, Option, Some, None, map}
+use Rattle.gabc_places.specs.declared.place.Char.{Char}
+use Rattle.gabc_places.specs.declared.place.Place.{Place}
+use Rattle.gabc_patterns.specs.Derivative.{is_viable}
+use Rattle.gabc_patterns.specs.Function.{trim}
+use Rattle.gabc_notes.specs.Table.{gabc}
+use Rattle.gabc_notes.specs.Events.{in_raw, end_by_mark, bytes_of}
+use Rattle.gabc_notes.specs.SnippetRead.{kept_of, ends_of}
+use Rattle.gabc_notes.specs.StageTells.{opener_of, comment_of}
+use Rattle.gabc_notes.specs.machine.StageBehind.{aside, fresh_stage, stage_past, AreKept}
+use Rattle.gabc_notes.specs.declared.stage.NoteEvent.{NoteEvent}
+use Rattle.gabc_notes.specs.declared.stage.NoteStage.{NoteStage}
+
+-- It goes on, and stands where a fresh stage does that has read k, but for a place and a comment; of k all is kept.
+pub record Keeps (split : Bool) (macros : ℕ) (s : NoteStage) (k : List ℕ) : Type 0 where
+  pub goes_on : s.ended ≡ false
+  pub outside : comment_of s ≡ true → in_raw k ≡ false
+  pub alike : aside s ≡ stage_past (fresh_stage split macros) k
+  pub whole : AreKept (fresh_stage split macros) k
+
+-- ---- a character c behind the kept text k, by whether a comment is open
+
+-- it lies in a comment
+abbrev pub is_comment_behind : List ℕ → Bool → ℕ → Bool
+is_comment_behind k comment c = not (c == 10) && (comment || (not (in_raw k) && (c == 37)))
+
+-- it ends the snippet
+abbrev pub is_end_behind : Bool → List ℕ → Bool → ℕ → Bool
+is_end_behind split k comment c = not (is_comment_behind k comment c) && (not (in_raw k) && ((c == 41) || (split && (c == 124))))
+
+-- what is kept with it
+abbrev pub kept_behind : List ℕ → Bool → ℕ → List ℕ
+kept_behind k comment c = if not (is_comment_behind k comment c) && is_viable gabc (k ++ c ∷ []) then k ++ c ∷ [] else k
+
+-- the place of the bracket that is open behind it, where it stands at p: inside raw that of the one open before it, else its own
+abbrev pub opener_behind : Bool → Option Place → Place → Option Place
+opener_behind false before p = None
+opener_behind true (Some q) p = Some q
+opener_behind true None p = Some p
+
+-- The stage goes on behind a character.
+pub record GoesOn (split : Bool) (macros : ℕ) (k : List ℕ) (before : NoteStage) (x : Char) (events : List NoteEvent) (after : NoteStage) : Type 0 where
+  pub no_end : ends_of events ≡ []
+  pub kept : k ++ kept_of events ≡ kept_behind k (comment_of before) x.c
+  pub keeps : Keeps split macros after (k ++ kept_of events)
+  pub comment : comment_of after ≡ is_comment_behind k (comment_of before) x.c
+  pub opener : opener_of after ≡ opener_behind (in_raw (k ++ kept_of events)) (opener_of before) x.place
+
+-- It ends with the bytes of the kept text k without an unfinished end, and nothing is kept with the mark c.
+pub record EndsBehind (k : List ℕ) (c : ℕ) (events : List NoteEvent) : Type 0 where
+  pub end : ends_of events ≡ (end_by_mark c, bytes_of (trim gabc k)) ∷ []
+  pub none_kept : kept_of events ≡ []
+
+-- What a character does to a stage, by the text that it kept and what it tells: it goes on or ends.
+pub record KeepsOn (before : NoteStage) (x : Char) (events : List NoteEvent) (after : NoteStage) : Type 0 where
+  pub goes : (split : Bool) (macros : ℕ) (k : List ℕ) → Keeps split macros before k → is_end_behind split k (comment_of before) x.c ≡ false
+      → GoesOn split macros k before x events after
+  pub ends : (split : Bool) (macros : ℕ) (k : List ℕ) → Keeps split macros before k → is_end_behind split k (comment_of before) x.c ≡ true → EndsBehind k x.c events
+
+-- ---- a stage set down again
+
+-- the characters of a kept text, each at this place, and a `%` behind them where a comment is open
+abbrev pub set_down : Place → List ℕ → Bool → List Char
+set_down at k comment = map (λ (c : ℕ). record { c = c; place = at }) k ++ (if comment then record { c = 37; place = at } ∷ [] else [])
+
+-- no bracket is open but one that stands there
+abbrev pub OpensAt : Place → NoteStage → Type 0
+OpensAt at s = (place : Place) → opener_of s ≡ Some place → place ≡ at
+
+-- The character c behind k is kept again, where no comment is open, and none is open behind it.
+pub record IsKeptAgain (split : Bool) (k : List ℕ) (c : ℕ) : Type 0 where
+  pub no_comment : is_comment_behind k false c ≡ false
+  pub goes_on : is_end_behind split k false c ≡ false
+  pub kept : kept_behind k false c ≡ k ++ c ∷ []

@@ -1,0 +1,2 @@
+pub mod BodyStage
+pub mod ScoreStage

@@ -1,0 +1,379 @@
+-- A stage keeps the text that it has kept.
+use Rattle.std.proofs.lemmas.Bool.{eqb-true, false≢true}
+use Rattle.std.proofs.Common.{◌≡◌, ◌==◌, ◌&&◌, ℕ, List, [], ◌∷◌, ◌++◌, Bool, true, false, Option, Some, None, option_to_list, refl, sym, ap, ◌∙◌, subst, append-nil, append_assoc, if◌then◌else◌}
+use Rattle.gabc_places.specs.declared.place.Place.{Place}
+use Rattle.gabc_text.specs.declared.token_state.TokenState.{TokenState}
+use Rattle.gabc_text.specs.declared.token_state.TokenState.TheVariants.{Plain, Dollar, Comment, Tag, Raw, Translation}
+use Rattle.gabc_text.specs.declared.text_event.TextPart.{TextPart}
+use Rattle.gabc_text.specs.declared.text_event.TextEvent.{TextEvent}
+use Rattle.gabc_text.specs.declared.text_event.TextEvent.TheVariants as out
+use Rattle.gabc_text.specs.declared.text_event.TextEnd.TheVariants as text_ending
+use Rattle.gabc_text.specs.declared.stage.TextStage.{TextStage}
+use Rattle.gabc_text.specs.BuiltText.{kept_in}
+use Rattle.gabc_text.specs.witness.EventsLeft.{events_left}
+use Rattle.gabc_text.specs.witness.Keeps.{parts_in, end_text, stage_behind, Keeps, parts_of, is_open_behind, begins_comment, kept_with, ends_behind, last_parts_of, comment_with, GoesOn, EndsBehind, KeepsOn}
+use Rattle.gabc_text.specs.StageTells.{is_open, is_comment, opener_of, is_in_comment, next_of, moved_to, place_told, told}
+use Rattle.gabc_text.specs.TextStage.{fresh_stage}
+use Rattle.gabc_text.specs.machine.RawPart.{stage_past, events_of_pushes}
+use Rattle.gabc_text.specs.machine.Resuming.{nowhere, placed, outside, IsAlike, kept_at, kept_past}
+use Rattle.gabc_text.specs.machine.TokenState.{is_plain}
+use Rattle.gabc_text.specs.machine.TextStage.{push_stage, events_of_push}
+use Rattle.gabc_places.specs.Place.{saturating_next_place}
+use Rattle.gabc_text.proofs.machine.EventsLeftAreThoseAhead.{rest_is}
+use Rattle.gabc_text.proofs.machine.EventsStepByStep.{stepwise}
+use Rattle.std.proofs.Math.Bool.{and-false}
+use Rattle.std.proofs.Common.{not, ◌≤◌, length, suc, is_some, arith}
+use Rattle.gabc_text.proofs.resuming.PlacesAside.{push_placed, push_same}
+use Rattle.gabc_text.proofs.resuming.KeptCharactersSuffice.{StepAlike, step_alike, stays_outside}
+use Rattle.gabc_text.proofs.resuming.ReachedStages.{push_reached, fresh_reached, moved_reached, goes_on}
+use Rattle.gabc_text.proofs.resuming.ToldSuffices.{told_suffices}
+use Rattle.gabc_text.proofs.resuming.EndsAndKept.{kept_said, parts_said, parts_append, done_is, kept_is, read_kept, none_kept_at_end, EndsAt, ended_at}
+use Rattle.gabc_text.proofs.resuming.WhatStagesTell.{next_goes, opener_goes, comment_goes}
+
+-- ---- one character more
+
+past_more : (s : TextStage) (k : List ℕ) (d : ℕ) → stage_past s (k ++ d ∷ []) ≡ push_stage (stage_past s k) d
+past_more s [] d = refl
+past_more s (c ∷ k) d = past_more (push_stage s c) k d
+
+kept_more : (s : TextStage) (k : List ℕ) (d : ℕ) → kept_past s (k ++ d ∷ []) ≡ kept_past s k ++ option_to_list (kept_at (stage_past s k) d)
+kept_more s [] d = append-nil (option_to_list (kept_at s d))
+kept_more s (c ∷ k) d =
+    ap (λ (t : List ℕ). option_to_list (kept_at s c) ++ t) (kept_more (push_stage s c) k d)
+    ∙ sym (append_assoc (option_to_list (kept_at s c)) (kept_past (push_stage s c) k) (option_to_list (kept_at (stage_past (push_stage s c) k) d)))
+
+events_more : (s : TextStage) (k : List ℕ) (d : ℕ) → events_of_pushes s (k ++ d ∷ []) ≡ events_of_pushes s k ++ events_of_push (stage_past s k) d
+events_more s [] d = append-nil (events_of_push s d)
+events_more s (c ∷ k) d =
+    ap (λ (t : List TextEvent). events_of_push s c ++ t) (events_more (push_stage s c) k d)
+    ∙ sym (append_assoc (events_of_push s c) (events_of_pushes (push_stage s c) k) (events_of_push (stage_past (push_stage s c) k) d))
+
+alike_done : (s r : TextStage) → IsAlike s r → r.done ≡ s.done
+alike_done s r a = ap (λ (x : TextStage). x.done) a.same
+
+head_same : (a b : ℕ) → a ∷ [] ≡ b ∷ [] → a ≡ b
+head_same a b e = cc
+
+some_same : (a b : Place) → Some a ≡ Some b → a ≡ b
+some_same a b e = cc
+
+-- ---- what follows from a kept text
+
+parts_are : (k : List ℕ) → parts_of k ≡ parts_in (events_of_pushes (fresh_stage nowhere) k)
+unfolding parts_of
+parts_are k = refl
+
+open_is : (k : List ℕ) → is_open_behind k ≡ is_open (stage_behind k).state
+unfolding is_open_behind
+open_is k = refl
+
+begins_is : (k : List ℕ) → begins_comment k ≡ is_plain (stage_behind k).state
+unfolding begins_comment
+begins_is k = refl
+
+kept_with_is : (k : List ℕ) (c : ℕ) → kept_with k c ≡ kept_in (events_of_push (stage_behind k) c)
+unfolding kept_with
+kept_with_is k c = refl
+
+ends_are : (k : List ℕ) → ends_behind k ≡ (push_stage (stage_behind k) 40).done
+unfolding ends_behind
+ends_are k = refl
+
+last_are : (k : List ℕ) → last_parts_of k ≡ parts_in (events_of_push (stage_behind k) 40)
+unfolding last_parts_of
+last_are k = refl
+
+pub fresh_keeps : (at : Place) → Keeps (fresh_stage at) []
+fresh_keeps at = record { goes_on = refl; reached = fresh_reached at; alike = record { place = nowhere; next = nowhere; same = refl }; whole = refl }
+
+module _ (s : TextStage) (c : ℕ) (k : List ℕ) (keeps : Keeps s k) where
+  -- with absurd (true≢false comment) open, it stands where the fresh one does, but for places
+  placed_alike : is_in_comment s ≡ false → stage_behind k ≡ placed keeps.alike.place keeps.alike.next s
+  placed_alike e = keeps.alike.same ∙ ap (λ (m : TokenState). placed keeps.alike.place keeps.alike.next (record s { state = m })) (stays_outside s.state e)
+
+  kept_here : is_in_comment s ≡ false → kept_in (events_of_push s c) ≡ kept_with k c
+  kept_here e =
+      sym (kept_said (events_of_push s c))
+      ∙ ap kept_in (sym (push_same keeps.alike.place keeps.alike.next s c))
+      ∙ kept_said (events_of_push (placed keeps.alike.place keeps.alike.next s) c)
+      ∙ ap (λ (x : TextStage). kept_in (events_of_push x c)) (sym (placed_alike e))
+      ∙ sym (kept_with_is k c)
+
+  ends_same : is_in_comment s ≡ false → c ≡ 40 → ends_behind k ≡ (push_stage s c).done
+  ends_same e f =
+      ends_are k
+      ∙ ap (λ (x : TextStage). (push_stage x 40).done) (placed_alike e)
+      ∙ ap (λ (x : TextStage). x.done) (push_placed keeps.alike.place keeps.alike.next s 40).same
+      ∙ ap (λ (x : ℕ). (push_stage s x).done) (sym f)
+
+  end_here : (d : Bool) → (push_stage s c).done ≡ d → d ≡ (not (is_in_comment s) && (c == 40 && ends_behind k))
+  end_here true f =
+      let at : EndsAt s c = ended_at s c keeps.goes_on f in
+      let mark : (c == 40) ≡ true = ap (λ (x : ℕ). x == 40) at.mark in
+      rw (at.no_comment, mark, ends_same at.no_comment at.mark ∙ f) refl
+  end_here false f = sym (by (is_in_comment s) (c == 40) refl refl)
+    where
+      by : (a b : Bool) → is_in_comment s ≡ a → (c == 40) ≡ b → (not a && (b && ends_behind k)) ≡ false
+      by true b g h = refl
+      by false false g h = refl
+      by false true g h = ends_same g (eqb-true c 40 h) ∙ f
+
+  comment_here : (push_stage s c).done ≡ false → is_in_comment (push_stage s c) ≡ comment_with k (is_in_comment s) c
+  comment_here goes = comment_goes s c keeps.goes_on goes ∙ by (is_in_comment s) refl
+    where
+      by : (b : Bool) → is_in_comment s ≡ b → (if b then not (c == 10) else (c == 37 && is_plain s.state)) ≡ comment_with k b c
+      by true e = refl
+      by false e = ap (λ (x : Bool). c == 37 && x) (sym (begins_is k ∙ ap (λ (x : TextStage). is_plain x.state) (placed_alike e)))
+
+  goes_behind : end_text (events_of_push s c) ≡ false → GoesOn s k c (events_of_push s c) (push_stage s c)
+  goes_behind e = by (kept_at s c) (kept_is s c keeps.goes_on goes) (step_alike s (stage_behind k) c keeps.reached keeps.goes_on goes keeps.alike)
+    where
+      goes : (push_stage s c).done ≡ false
+      goes = done_is s c keeps.goes_on ∙ e
+
+      by : (o : Option ℕ) → kept_in (events_of_push s c) ≡ option_to_list o → StepAlike s c (stage_behind k) o → GoesOn s k c (events_of_push s c) (push_stage s c)
+      by None f h = record {
+        keeps = subst (Keeps (push_stage s c)) (sym (ap (λ (t : List ℕ). k ++ t) f ∙ append-nil k)) (record { goes_on = goes; reached = push_reached s c keeps.reached; alike = h.0; whole = keeps.whole });
+        parts = ap (λ (t : List ℕ). parts_of (k ++ t)) f ∙ ap parts_of (append-nil k) ∙ sym (ap (λ (t : List TextPart). parts_of k ++ t) (sym (parts_said (events_of_push s c)) ∙ ap parts_in h.1) ∙ append-nil (parts_of k));
+        opener = opener_goes s c keeps.goes_on keeps.reached;
+        comment = comment_here goes;
+        next = next_goes s c keeps.goes_on goes;
+      }
+      by (Some d) f h = record {
+        keeps = subst (λ (t : List ℕ). Keeps (push_stage s c) (k ++ t)) (sym f) (record {
+          goes_on = goes;
+          reached = push_reached s c keeps.reached;
+          alike = subst (IsAlike (push_stage s c)) (sym (past_more (fresh_stage nowhere) k d)) h.0;
+          whole = kept_more (fresh_stage nowhere) k d ∙ ap (λ (t : List ℕ). t ++ option_to_list (kept_at (stage_behind k) d)) keeps.whole ∙ ap (λ (t : List ℕ). k ++ t) kept_same;
+        });
+        parts = ap (λ (t : List ℕ). parts_of (k ++ t)) f
+            ∙ parts_are (k ++ d ∷ [])
+            ∙ ap parts_in (events_more (fresh_stage nowhere) k d)
+            ∙ parts_append (events_of_pushes (fresh_stage nowhere) k) (events_of_push (stage_behind k) d)
+            ∙ ap (λ (t : List TextPart). parts_in (events_of_pushes (fresh_stage nowhere) k) ++ t) (sym (parts_said (events_of_push (stage_behind k) d)) ∙ ap parts_in (sym h.1) ∙ parts_said (events_of_push s c))
+            ∙ ap (λ (t : List TextPart). t ++ parts_in (events_of_push s c)) (sym (parts_are k));
+        opener = opener_goes s c keeps.goes_on keeps.reached;
+        comment = comment_here goes;
+        next = next_goes s c keeps.goes_on goes;
+      }
+        where
+          behind_goes : (stage_behind k).done ≡ false
+          behind_goes = alike_done s (stage_behind k) keeps.alike ∙ keeps.goes_on
+
+          after_goes : (push_stage (stage_behind k) d).done ≡ false
+          after_goes = alike_done (push_stage s c) (push_stage (stage_behind k) d) h.0 ∙ goes
+
+          kept_same : option_to_list (kept_at (stage_behind k) d) ≡ d ∷ []
+          kept_same =
+              sym (kept_is (stage_behind k) d behind_goes after_goes)
+              ∙ sym (kept_said (events_of_push (stage_behind k) d))
+              ∙ ap kept_in (sym h.1)
+              ∙ kept_said (events_of_push s c)
+              ∙ f
+
+  ended_behind : end_text (events_of_push s c) ≡ true → EndsBehind k (events_of_push s c) (push_stage s c)
+  ended_behind e = record {
+    kept = none_kept_at_end s c keeps.goes_on over;
+    parts = ap (λ (x : ℕ). parts_in (events_of_push s x)) at.mark
+        ∙ sym (parts_said (events_of_push s 40))
+        ∙ ap parts_in (sym (push_same keeps.alike.place keeps.alike.next s 40))
+        ∙ parts_said (events_of_push (placed keeps.alike.place keeps.alike.next s) 40)
+        ∙ ap (λ (x : TextStage). parts_in (events_of_push x 40)) (sym (placed_alike at.no_comment))
+        ∙ sym (last_are k);
+    over = over;
+  }
+    where
+      over : (push_stage s c).done ≡ true
+      over = done_is s c keeps.goes_on ∙ e
+
+      at : EndsAt s c
+      at = ended_at s c keeps.goes_on over
+
+-- what a push does
+pub push_keeps : (s next : TextStage) (c : ℕ) (events : List TextEvent) → next ≡ push_stage s c → events ≡ events_of_push s c → KeepsOn s c events next
+push_keeps s next c events e f = rw (e, f) (record {
+  end = λ k h. sym (done_is s c h.goes_on) ∙ end_here s c k h (push_stage s c).done refl;
+  kept = λ k h. kept_here s c k h;
+  goes = λ k h. goes_behind s c k h;
+  ends = λ k h. ended_behind s c k h;
+})
+
+pub moved_keeps : (at : Place) (s : TextStage) (k : List ℕ) → Keeps s k → Keeps (moved_to at s) k
+moved_keeps at s k h = record { goes_on = h.goes_on; reached = moved_reached at s h.reached; alike = record { place = h.alike.place; next = h.alike.next; same = h.alike.same }; whole = h.whole }
+
+pub moved_opener : (at : Place) (s : TextStage) → opener_of (moved_to at s) ≡ opener_of s
+moved_opener at s = by (is_open s.state)
+  where
+    by : (b : Bool) → (if b then Some (if b then s.progress.place else at) else None) ≡ (if b then Some s.progress.place else None)
+    by true = refl
+    by false = refl
+
+-- ---- what is open
+
+state_alike : (s : TextStage) (k : List ℕ) → Keeps s k → (stage_behind k).state ≡ outside s.state
+state_alike s k h = ap (λ (x : TextStage). x.state) h.alike.same
+
+pub opener_open : (s : TextStage) (k : List ℕ) → Keeps s k → is_some (opener_of s) ≡ is_open_behind k
+opener_open s k h = by (is_open s.state) ∙ sym (open_is k ∙ ap is_open (state_alike s k h) ∙ still s.state)
+  where
+    by : (b : Bool) → is_some (if b then Some s.progress.place else None) ≡ b
+    by true = refl
+    by false = refl
+
+    still : (m : TokenState) → is_open (outside m) ≡ is_open m
+    still Plain = refl
+    still Dollar = refl
+    still Comment = refl
+    still (Tag name) = refl
+    still (Raw part m) = refl
+    still Translation = refl
+
+comment_is : (m : TokenState) → is_comment m ≡ true → m ≡ Comment
+comment_is Plain e = absurd (false≢true e)
+comment_is Dollar e = absurd (false≢true e)
+comment_is Comment e = refl
+comment_is (Tag name) e = absurd (false≢true e)
+comment_is (Raw part m) e = absurd (false≢true e)
+comment_is Translation e = absurd (false≢true e)
+
+pub comment_open : (s : TextStage) (k : List ℕ) → Keeps s k → is_in_comment s ≡ true → begins_comment k ≡ true
+comment_open s k h e = begins_is k ∙ ap is_plain (state_alike s k h ∙ ap outside (comment_is s.state e))
+
+pub comment_alone : (k : List ℕ) → begins_comment k ≡ true → is_open_behind k ≡ false
+comment_alone k e = open_is k ∙ by (stage_behind k).state (sym (begins_is k) ∙ e)
+  where
+    by : (m : TokenState) → is_plain m ≡ true → is_open m ≡ false
+    by Plain h = refl
+    by Dollar h = refl
+    by Comment h = refl
+    by (Tag name) h = absurd (false≢true h)
+    by (Raw part m) h = absurd (false≢true h)
+    by Translation h = absurd (false≢true h)
+
+-- ---- a kept character is kept again
+
+length_past : (s : TextStage) (t : List ℕ) → length (kept_past s t) ≤ length t
+length_past s [] = omega arith
+length_past s (c ∷ t) = by (kept_at s c) (length_past (push_stage s c) t)
+  where
+    by : (o : Option ℕ) → length (kept_past (push_stage s c) t) ≤ length t → length (option_to_list o ++ kept_past (push_stage s c) t) ≤ suc (length t)
+    by None h = omega (arith, h)
+    by (Some d) h = omega (arith, h)
+
+first_kept : (s : TextStage) (c : ℕ) (t : List ℕ) → kept_past s (c ∷ t) ≡ c ∷ t → (kept_at s c ≡ Some c) × (kept_past (push_stage s c) t ≡ t)
+first_kept s c t = by (kept_at s c)
+  where
+    by : (o : Option ℕ) → option_to_list o ++ kept_past (push_stage s c) t ≡ c ∷ t → (o ≡ Some c) × (kept_past (push_stage s c) t ≡ t)
+    by None e = absurd (let h : length (kept_past (push_stage s c) t) ≡ suc (length t) = ap length e in omega (arith, h, length_past (push_stage s c) t))
+    by (Some d) e = (cc, cc)
+
+past_joined : (s : TextStage) (t u : List ℕ) → stage_past s (t ++ u) ≡ stage_past (stage_past s t) u
+past_joined s [] u = refl
+past_joined s (c ∷ t) u = past_joined (push_stage s c) t u
+
+kept_each : (s : TextStage) (a b : List ℕ) (c : ℕ) → kept_past s (a ++ c ∷ b) ≡ a ++ c ∷ b → kept_at (stage_past s a) c ≡ Some c
+kept_each s [] b c e = (first_kept s c b e).0
+kept_each s (x ∷ a) b c e = kept_each (push_stage s x) a b c (first_kept s x (a ++ c ∷ b) e).1
+
+pub kept_again : (s : TextStage) (a b : List ℕ) (c : ℕ) → Keeps s (a ++ c ∷ b) → kept_with a c ≡ c ∷ []
+kept_again s a b c h =
+    kept_with_is a c
+    ∙ kept_is (stage_behind a) c (goes_on (stage_behind a) (c ∷ b) going) (goes_on (push_stage (stage_behind a) c) b going)
+    ∙ ap option_to_list (kept_each (fresh_stage nowhere) a b c h.whole)
+  where
+    going : (stage_past (stage_behind a) (c ∷ b)).done ≡ false
+    going = ap (λ (x : TextStage). x.done) (sym (past_joined (fresh_stage nowhere) a (c ∷ b))) ∙ alike_done s (stage_behind (a ++ c ∷ b)) h.alike ∙ h.goes_on
+
+pub comment_not_kept : (k : List ℕ) → begins_comment k ≡ true → kept_with k 37 ≡ []
+comment_not_kept k e = kept_with_is k 37 ∙ by (stage_behind k).state (stage_behind k).done (sym (begins_is k) ∙ e)
+  where
+    by : (m : TokenState) (d : Bool) → is_plain m ≡ true → kept_in (events_of_push (record { state = m; facts = (stage_behind k).facts; progress = (stage_behind k).progress; done = d }) 37) ≡ []
+    by Plain true h = refl
+    by Plain false h = read_kept (record { state = Plain; facts = (stage_behind k).facts; progress = (stage_behind k).progress; done = false }) 37
+    by Dollar d h = absurd (false≢true h)
+    by Comment d h = absurd (false≢true h)
+    by (Tag name) d h = absurd (false≢true h)
+    by (Raw part m) d h = absurd (false≢true h)
+    by Translation d h = absurd (false≢true h)
+
+-- ---- stages that keep and tell the same
+
+state_same : (m n : TokenState) → outside m ≡ outside n → is_comment m ≡ is_comment n → m ≡ n
+state_same m n e f = by (is_comment m) refl
+  where
+    by : (b : Bool) → is_comment m ≡ b → m ≡ n
+    by true g = comment_is m g ∙ sym (comment_is n (sym f ∙ g))
+    by false g = sym (stays_outside m g) ∙ e ∙ stays_outside n (sym f ∙ g)
+
+-- what is told of places
+place_same : (m : TokenState) (p q n : Place) → (is_plain m ≡ true → p ≡ n) → (is_plain m ≡ true → q ≡ n) → (if is_open m then Some p else None) ≡ (if is_open m then Some q else None)
+    → place_told m p n ≡ place_told m q n
+place_same Plain p q n a b e = a refl ∙ sym (b refl)
+place_same Dollar p q n a b e = refl
+place_same Comment p q n a b e = refl
+place_same (Tag name) p q n a b e = some_same p q e
+place_same (Raw part m) p q n a b e = some_same p q e
+place_same Translation p q n a b e = some_same p q e
+
+-- a stage by the one alike
+abbrev with_places : TokenState → TextStage → Place → Place → TextStage
+with_places m x at next = record x { state = m; progress = record x.progress { place = place_told m at next; next = next } }
+
+told_is : (s x : TextStage) → IsAlike s x → told s ≡ with_places s.state x s.progress.place s.progress.next
+told_is s x a = ap (λ (y : TextStage). with_places s.state y s.progress.place s.progress.next) (sym a.same)
+
+keeps_agree : (s r : TextStage) (k : List ℕ) → Keeps s k → Keeps r k → opener_of s ≡ opener_of r → is_in_comment s ≡ is_in_comment r → next_of s ≡ next_of r → told s ≡ told r
+keeps_agree s r k hs hr opener comment next =
+    told_is s (stage_behind k) hs.alike
+    ∙ ap (λ (m : TokenState). with_places m (stage_behind k) s.progress.place s.progress.next) same
+    ∙ ap (λ (p : Place). record (stage_behind k) { state = r.state; progress = record (stage_behind k).progress { place = p; next = s.progress.next } })
+    (place_same r.state s.progress.place r.progress.place s.progress.next (λ e. hs.reached.between (ap is_plain same ∙ e)) (λ e. hr.reached.between e ∙ sym next)
+    (ap (λ (m : TokenState). if is_open m then Some s.progress.place else None) (sym same) ∙ opener))
+    ∙ ap (λ (n : Place). with_places r.state (stage_behind k) r.progress.place n) next
+    ∙ sym (told_is r (stage_behind k) hr.alike)
+  where
+    same : s.state ≡ r.state
+    same = state_same s.state r.state (ap (λ (x : TextStage). x.state) (sym hs.alike.same ∙ hr.alike.same)) comment
+
+pub kept_suffices : (s r : TextStage) (k : List ℕ) → Keeps s k → Keeps r k → opener_of s ≡ opener_of r → is_in_comment s ≡ is_in_comment r → next_of s ≡ next_of r → (t : List ℕ) → events_left s t ≡ events_left r t
+kept_suffices s r k hs hr opener comment next t = told_suffices s r t (keeps_agree s r k hs hr opener comment next)
+
+-- ---- a comment in front of a text
+
+-- a comment is open before the first character of a text, where the next character stands here
+abbrev comment_before : Place → TextStage
+comment_before at = record (fresh_stage at) { state = Comment }
+
+before_keeps : (at : Place) → Keeps (comment_before at) []
+before_keeps at = record { goes_on = refl; reached = record { between = λ e. absurd (false≢true e); start = λ e. refl; blank = λ e. absurd (false≢true e); starts = λ e. absurd (false≢true e) }; alike = record { place = nowhere; next = nowhere; same = refl }; whole = refl }
+
+module _ (s : TextStage) (keeps : Keeps s []) (comment : is_in_comment s ≡ true) where
+  as_before : (at : Place) (t : List ℕ) → events_left (moved_to at s) t ≡ events_left (comment_before at) t
+  as_before at t = kept_suffices (moved_to at s) (comment_before at) [] (moved_keeps at s [] keeps) (before_keeps at)
+      (moved_opener at s ∙ ap (λ (m : TokenState). if is_open m then Some s.progress.place else None) (comment_is s.state comment)) comment refl t
+
+  as_it_is : (t : List ℕ) → events_left s t ≡ events_left (comment_before (next_of s)) t
+  as_it_is t = kept_suffices s (comment_before (next_of s)) [] keeps (before_keeps (next_of s)) (ap (λ (m : TokenState). if is_open m then Some s.progress.place else None) (comment_is s.state comment)) comment refl t
+
+  -- the LF that ends it is the first character of a text that begins here
+  pub comment_then_text : (t : List ℕ) → events_left s (10 ∷ t) ≡ events_left (fresh_stage (next_of s)) (10 ∷ t)
+  comment_then_text t = as_it_is (10 ∷ t) ∙ rest_is (comment_before (next_of s)) (10 ∷ t) ∙ sym (rest_is (fresh_stage (next_of s)) (10 ∷ t))
+
+  -- the end of the input ends it with the text
+  pub comment_last : events_left s [] ≡ (out.Ended text_ending.Finished ∷ []) ∷ []
+  comment_last = as_it_is [] ∙ rest_is (comment_before (next_of s)) []
+
+  -- another character is part of it
+  pub comment_on : (c : ℕ) (t : List ℕ) → (c == 10) ≡ false → events_left s (c ∷ t) ≡ [] ∷ events_left (moved_to (saturating_next_place (next_of s) c) s) t
+  comment_on c t e =
+      as_it_is (c ∷ t)
+      ∙ rest_is (comment_before (next_of s)) (c ∷ t)
+      ∙ step
+      ∙ ap (λ (lists : List (List TextEvent)). [] ∷ lists)
+      (sym (rest_is behind_it t) ∙ told_suffices behind_it (comment_before (saturating_next_place (next_of s) c)) t refl ∙ sym (as_before (saturating_next_place (next_of s) c) t))
+    where
+      behind_it : TextStage
+      behind_it = record (comment_before (next_of s)) { progress = record (comment_before (next_of s)).progress { next = saturating_next_place (next_of s) c } }
+
+      step : stepwise (comment_before (next_of s)) (c ∷ t) ≡ [] ∷ stepwise behind_it t
+      step = rw (e, and-false (c == 40)) refl

@@ -1,0 +1,42 @@
+-- What a stage tells of where it stands, beside the text that it has kept, and how it is set there again.
+use Rattle.std.specs.Prelude.{Bool, true, false, Option, Some, None, if◌then◌else◌}
+use Rattle.gabc_places.specs.declared.place.Place.{Place}
+use Rattle.gabc_text.specs.declared.token_state.TokenState.{TokenState}
+use Rattle.gabc_text.specs.declared.token_state.TokenState.TheVariants.{Dollar, Comment, Tag, Raw, Translation}
+use Rattle.gabc_text.specs.declared.stage.TextStage.{TextStage}
+
+-- in a tag, a raw part or a translation
+abbrev pub is_open : TokenState → Bool
+is_open (Tag name) = true
+is_open (Raw part m) = true
+is_open Translation = true
+is_open _ = false
+
+abbrev pub is_comment : TokenState → Bool
+is_comment Comment = true
+is_comment _ = false
+
+-- the place of the opener: the `<` or `[` of what is open
+abbrev pub opener_of : TextStage → Option Place
+opener_of s = if is_open s.state then Some s.progress.place else None
+
+-- a comment is open
+abbrev pub is_in_comment : TextStage → Bool
+is_in_comment s = is_comment s.state
+
+-- the place of the next character
+abbrev pub next_of : TextStage → Place
+next_of s = s.progress.next
+
+-- The next character stands at this place. What is open keeps the place where it began.
+abbrev pub moved_to : Place → TextStage → TextStage
+moved_to at s = record s { progress = record s.progress { place = if is_open s.state then s.progress.place else at; next = at } }
+
+-- What matters of where a stage stands: the place of a `$` or of a comment does not.
+abbrev pub place_told : TokenState → Place → Place → Place
+place_told Dollar place next = next
+place_told Comment place next = next
+place_told _ place next = place
+
+abbrev pub told : TextStage → TextStage
+told s = record s { progress = record s.progress { place = place_told s.state s.progress.place s.progress.next } }

@@ -1,0 +1,3 @@
+pub mod EventsLeft
+pub mod FactsPast
+pub mod Keeps

@@ -1,0 +1,90 @@
+-- A stage keeps a text: it stands where the characters lead that it has kept, whatever it has read.
+use Rattle.std.specs.Prelude.{◌≡◌, ◌⊎◌, ◌==◌, ◌&&◌, not, ℕ, List, [], ◌∷◌, ◌++◌, Bool, true, false, Some, if◌then◌else◌}
+use Rattle.std.specs.List.{list_any}
+use Rattle.gabc_places.specs.Place.{saturating_next_place}
+use Rattle.gabc_places.specs.declared.place.Place.{Place}
+use Rattle.gabc_text.specs.declared.text_event.TextPart.{TextPart}
+use Rattle.gabc_text.specs.declared.text_event.TextEvent.{TextEvent}
+use Rattle.gabc_text.specs.declared.text_event.TextEvent.TheVariants as out
+use Rattle.gabc_text.specs.declared.stage.TextStage.{TextStage}
+use Rattle.gabc_text.specs.BuiltText.{kept_in}
+use Rattle.gabc_text.specs.End.{is_end}
+use Rattle.gabc_text.specs.StageTells.{is_open, opener_of, is_in_comment, next_of}
+use Rattle.gabc_text.specs.TextStage.{fresh_stage}
+use Rattle.gabc_text.specs.machine.RawPart.{stage_past, events_of_pushes}
+use Rattle.gabc_text.specs.machine.Resuming.{nowhere, IsAlike, IsReached, kept_past}
+use Rattle.gabc_text.specs.machine.TextStage.{push_stage, events_of_push}
+use Rattle.gabc_text.specs.machine.TokenState.{is_plain}
+
+-- the parts of the view among these
+abbrev pub parts_in : List TextEvent → List TextPart
+parts_in [] = []
+parts_in (out.Part p ∷ os) = p ∷ parts_in os
+parts_in (o ∷ os) = parts_in os
+
+-- the text ends with one of these
+abbrev pub end_text : List TextEvent → Bool
+end_text events = list_any is_end events
+
+-- where a fresh stage stands that has read a text
+abbrev pub stage_behind : List ℕ → TextStage
+stage_behind k = stage_past (fresh_stage nowhere) k
+
+-- It goes on, and stands where a fresh stage does that has read k, but for places and a comment; of k all is kept.
+pub record Keeps (s : TextStage) (k : List ℕ) : Type 0 where
+  pub goes_on : s.done ≡ false
+  pub reached : IsReached s
+  pub alike : IsAlike s (stage_behind k)
+  pub whole : kept_past (fresh_stage nowhere) k ≡ k
+
+-- ---- what follows from the text that is kept
+
+-- the parts that were emitted
+unfoldable pub parts_of : List ℕ → List TextPart
+parts_of k = parts_in (events_of_pushes (fresh_stage nowhere) k)
+
+-- a tag, a raw part or a translation is open behind it
+unfoldable pub is_open_behind : List ℕ → Bool
+is_open_behind k = is_open (stage_behind k).state
+
+-- a `%` behind it begins a comment
+unfoldable pub begins_comment : List ℕ → Bool
+begins_comment k = is_plain (stage_behind k).state
+
+-- what is kept of the next character, where no comment is open
+unfoldable pub kept_with : List ℕ → ℕ → List ℕ
+kept_with k c = kept_in (events_of_push (stage_behind k) c)
+
+-- a `(` behind it ends the text, where no comment is open, and the parts that are emitted with it
+unfoldable pub ends_behind : List ℕ → Bool
+ends_behind k = (push_stage (stage_behind k) 40).done
+
+unfoldable pub last_parts_of : List ℕ → List TextPart
+last_parts_of k = parts_in (events_of_push (stage_behind k) 40)
+
+-- a comment is open behind a character: as one was, up to an LF, or as a `%` begins one
+abbrev pub comment_with : List ℕ → Bool → ℕ → Bool
+comment_with k is_open c = if is_open then not (c == 10) else (c == 37 && begins_comment k)
+
+-- ---- what a character does
+
+-- The text k goes on with a character: the stage keeps what is kept more. The opener is the one before, or the character.
+pub record GoesOn (before : TextStage) (k : List ℕ) (c : ℕ) (events : List TextEvent) (after : TextStage) : Type 0 where
+  pub keeps : Keeps after (k ++ kept_in events)
+  pub parts : parts_of (k ++ kept_in events) ≡ parts_of k ++ parts_in events
+  pub opener : (p : Place) → opener_of after ≡ Some p → (opener_of before ≡ Some p) ⊎ (next_of before ≡ p)
+  pub comment : is_in_comment after ≡ comment_with k (is_in_comment before) c
+  pub next : next_of after ≡ saturating_next_place (next_of before) c
+
+-- It ends with it: nothing is kept, and the stage keeps no text any more.
+pub record EndsBehind (k : List ℕ) (events : List TextEvent) (after : TextStage) : Type 0 where
+  pub kept : kept_in events ≡ []
+  pub parts : parts_in events ≡ last_parts_of k
+  pub over : after.done ≡ true
+
+-- By the text that a stage keeps, whether a character ends it, what is kept of it, and which of the two it does.
+pub record KeepsOn (before : TextStage) (c : ℕ) (events : List TextEvent) (after : TextStage) : Type 0 where
+  pub end : (k : List ℕ) → Keeps before k → end_text events ≡ (not (is_in_comment before) && (c == 40 && ends_behind k))
+  pub kept : (k : List ℕ) → Keeps before k → is_in_comment before ≡ false → kept_in events ≡ kept_with k c
+  pub goes : (k : List ℕ) → Keeps before k → end_text events ≡ false → GoesOn before k c events after
+  pub ends : (k : List ℕ) → Keeps before k → end_text events ≡ true → EndsBehind k events after

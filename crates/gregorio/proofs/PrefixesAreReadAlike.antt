@@ -1,0 +1,110 @@
+-- A run that is stopped behind its headers has the book and the syllables of a prefix of its bytes.
+use Rattle.std.proofs.Common.{◌≡◌, ℕ, ◌≤◌, ◌<◌, ◌^◌, ◌||◌, not, Bool, true, false, List, ◌++◌, length, take, Option, Some, None, is_some, refl, sym, ap, subst, ◌∙◌, arith, append-nil, append_assoc}
+use lib.Utf8.{encodes}
+use Rattle.gabc_places.specs.declared.code.Fault.{Fault}
+use Rattle.gabc_places.specs.declared.decoded.Decoded.{Decoded}
+use Rattle.gabc_places.specs.declared.limits.Limits.{Limits}
+use Rattle.gabc_places.specs.declared.place.Char.{Char}
+use Rattle.gabc_places.specs.Text.{decoded_of, text_of_bytes}
+use Rattle.gabc_score.specs.declared.ending.InputEnding.{InputEnding}
+use Rattle.gabc_score.specs.declared.ending.InputEnding.TheVariants.{Whole as WholeInput}
+use Rattle.gabc_headers.specs.Book.{nabc_lines_of, macros_of}
+use Rattle.gabc_score.specs.Events.{Texts, texts_by_definition}
+use Rattle.gabc_score.specs.Score.{score_of}
+use Rattle.gabc_score.specs.SyllablesOfUnits.{body_characters, whole_prefix, IsBodyCut, StandBeforeBodyStop}
+use Rattle.gabc_score.specs.Syllable.{PlacedSyllable}
+use Rattle.gabc_score.specs.Units.{BodyCutting, IsCut}
+use Rattle.gabc_write.specs.CanonicalFile.{score_text}
+use Rattle.gabc_write.specs.DumpLines.{dump_heads, end_line}
+use Rattle.gabc_write.specs.DumpOfSyllables.{dump_text, lines_of_syllables}
+use Rattle.gregorio_jobs.specs.declared.job.Format.TheVariants.{Gabc, Dump}
+use Rattle.gregorio.specs.declared.outcome.Outcome.{Outcome}
+use Rattle.gregorio.specs.declared.source_ending.SourceEnding.{SourceEnding}
+use Rattle.gregorio.specs.declared.source_ending.SourceEnding.TheVariants.{Whole as Ended, Broken}
+use Rattle.gregorio.specs.PrefixOfAStop.{IsPrefixBeforeStop, IsOutcomeOfPrefix}
+use Rattle.gregorio.specs.Outcome.{ending_by, is_cut_short, is_read_whole, is_whole, outcome_of, output_by}
+use Rattle.gregorio.proofs.OutputIsCompiledAgain.{made_of}
+
+-- ---- a stopped run
+
+whole_where_ended : (ending : SourceEnding) (decoded fault : Option Fault) → ending_by ending decoded ≡ WholeInput → fault ≡ None → not (is_some fault || is_cut_short ending fault) ≡ true
+whole_where_ended Ended decoded fault e none = ap (λ (o : Option Fault). not (is_some o || is_cut_short Ended o)) none
+whole_where_ended Broken (Some other) fault e none = absurd (cc e)
+whole_where_ended Broken None fault e none = absurd (cc e)
+
+-- ---- what is written
+
+canonical_alike : (a b : Bool) (one other : Option (List (List ℕ × List ℕ))) (ss ts : List PlacedSyllable) (book : List (List ℕ × List ℕ)) → one ≡ Some book → other ≡ Some book → ss ≡ ts
+    → output_by Gabc a one ss ≡ output_by Gabc b other ts
+canonical_alike a b one other ss ts book h k same =
+    ap (λ (o : Option (List (List ℕ × List ℕ))). output_by Gabc a o ss) h
+    ∙ (ap (λ (l : List PlacedSyllable). score_text book l) same
+    ∙ sym (ap (λ (o : Option (List (List ℕ × List ℕ))). output_by Gabc b o ts) k))
+
+dump_alike : (a b : Bool) (one other : Option (List (List ℕ × List ℕ))) (ss ts : List PlacedSyllable) (book : List (List ℕ × List ℕ)) → a ≡ true → b ≡ false → one ≡ Some book → other ≡ Some book → ss ≡ ts
+    → output_by Dump a one ss ≡ output_by Dump b other ts ++ end_line (length ts)
+dump_alike a b one other ss ts book whole stopped h k same =
+    let last = end_line (length ts) in
+    let lines = lines_of_syllables 1 ts in
+    let cut : output_by Dump b other ts ≡ dump_heads book ++ lines =
+    ap (λ (o : Option (List (List ℕ × List ℕ))). output_by Dump b o ts) k
+    ∙ (ap (λ (x : Bool). dump_text x book ts) stopped ∙ ap (λ (l : List ℕ). dump_heads book ++ l) (append-nil lines)) in
+    ap (λ (o : Option (List (List ℕ × List ℕ))). output_by Dump a o ss) h
+    ∙ (ap (λ (x : Bool). dump_text x book ss) whole
+    ∙ (ap (λ (l : List PlacedSyllable). dump_text true book l) same
+    ∙ (sym (append_assoc (dump_heads book) lines last)
+    ∙ ap (λ (l : List ℕ). l ++ last) (sym cut))))
+
+module _ (prefixes : (limits : Limits) (ended whole : Bool) (bytes : List ℕ) (n : ℕ) → (count : ℕ) × (decoded_of limits whole (take count bytes) ≡ record { text = take n (decoded_of limits ended bytes).text; fault = None }))
+    (short : (limit : ℕ) (bytes : List ℕ) → length (encodes (text_of_bytes limit bytes)) ≤ limit)
+    (one_cutting : (texts : Texts) (lines macros : ℕ) (xs : List Char) → (cut : BodyCutting) × IsCut texts lines macros xs cut)
+    (is_front : (book : List (List ℕ × List ℕ)) (t : List ℕ) (cut : BodyCutting) (n : ℕ) → IsBodyCut book t cut → (m : ℕ) × (whole_prefix t cut n ≡ take m t))
+    (stop : (limits : Limits) (book : List (List ℕ × List ℕ)) (t : List ℕ) → (n : ℕ) × StandBeforeBodyStop limits book t n)
+    (prefix : (limits : Limits) (ending : InputEnding) (t : List ℕ) (book : List (List ℕ × List ℕ)) (cut : BodyCutting) (n : ℕ) → length (encodes t) < 2 ^ 63
+    → (let score = score_of limits ending t in let again = score_of limits WholeInput (whole_prefix t cut n) in
+    score.book ≡ Some book → IsBodyCut book t cut → StandBeforeBodyStop limits book t n → ¬ ((ending ≡ WholeInput) × (score.fault ≡ None))
+    → (again.book ≡ score.book) × ((again.syllables ≡ score.syllables) × (again.fault ≡ None))))
+    (limits : Limits) (ending : SourceEnding) (bytes : List ℕ) where
+  abbrev first : Outcome
+  first = outcome_of limits ending bytes
+
+  abbrev text : List ℕ
+  text = text_of_bytes limits.input bytes
+
+  abbrev how : InputEnding
+  how = ending_by ending (decoded_of limits (is_whole ending) bytes).fault
+
+  stopped : is_read_whole first ≡ false → ¬ ((how ≡ WholeInput) × (first.score.fault ≡ None))
+  stopped h = λ ended.
+      let whole = whole_where_ended ending (decoded_of limits (is_whole ending) bytes).fault first.score.fault ended.0 ended.1 in
+      absurd (cc (sym h ∙ whole))
+
+  pub has_front : (book : List (List ℕ × List ℕ)) → is_read_whole first ≡ false → first.score.book ≡ Some book → (count : ℕ) × IsPrefixBeforeStop limits ending bytes book count
+  has_front book cut_short h =
+      let cut = one_cutting texts_by_definition (nabc_lines_of book) (macros_of book) (body_characters text) in
+      let before = stop limits book text in
+      let small : length (encodes text) < 2 ^ 63 = omega (arith, short limits.input bytes, limits.in_range.input_most) in
+      let a = prefix limits how text book cut.0 before.0 small h cut.1 before.1 (stopped cut_short) in
+      let taken = is_front book text cut.0 before.0 cut.1 in
+      let f = prefixes limits (is_whole ending) true bytes taken.0 in
+      let prefix = whole_prefix text cut.0 before.0 in
+      let read : decoded_of limits true (take f.0 bytes) ≡ record { text = prefix; fault = None } = f.1 ∙ ap (λ (t : List ℕ). record { text = t; fault = None }) (sym taken.1) in
+      let again = made_of limits (record { text = prefix; fault = None }) in
+      let whole : is_read_whole again ≡ true = whole_where_ended Ended None again.score.fault refl a.1.1 in
+      let same : IsOutcomeOfPrefix first again = record {
+        fault = a.1.1;
+        book = a.0;
+        syllables = a.1.0;
+        output = canonical_alike (is_read_whole again) (is_read_whole first) again.score.book first.score.book again.score.syllables first.score.syllables book (a.0 ∙ h) h a.1.0;
+        dump = dump_alike (is_read_whole again) (is_read_whole first) again.score.book first.score.book again.score.syllables first.score.syllables book whole cut_short (a.0 ∙ h) h a.1.0;
+      } in (
+        f.0,
+        record {
+          cut = cut.0;
+          before = before.0;
+          is_cut = cut.1;
+          stand = before.1;
+          text = read;
+          outcome = subst (λ (d : Decoded). IsOutcomeOfPrefix first (made_of limits d)) (sym read) same;
+        },
+      )

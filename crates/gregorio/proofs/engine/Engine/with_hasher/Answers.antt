@@ -1,0 +1,56 @@
+use Rattle.std.proofs.Common.{◌≡◌, ap, sym, subst, ◌∙◌, arith}
+use Rattle.gabc_places.specs.BoundedList.{BoundedList}
+use Rattle.gabc_places.specs.witness.DecoderEvents as decoder
+use Rattle.gabc_headers.specs.HeadEvents.{emitted_by}
+use Rattle.gabc_headers.specs.witness.HeadEvents.{HeaderStageState, fresh_stage, stage_past}
+use Rattle.gregorio.specs.declared.run_part.RunPart.{RunPart}
+use Rattle.gregorio.specs.declared.run_part.RunPart.TheVariants as part
+use Rattle.gregorio.specs.witness.Engine.{Written, head_events_left, streams_by_part}
+use Rattle.gregorio.specs.Outcome.{is_whole}
+use Rattle.gregorio.specs.machine.ScoreWriter.{fresh_writer}
+use Rattle.gregorio.specs.machine.Engine.{GoTogether, IsBookRead}
+use Rattle.gregorio.specs.machine.ScoreWriter.{IsShortBook}
+use Rattle.gregorio.proofs.FreshEngineSaysOutcome.{LawsBelow, streams_are}
+use Rattle.gregorio.proofs.pieces.HeadersAreRead.{no_heads_are_short}
+use Rattle.gregorio.proofs.engine.Engine.with_hasher.Goals as goal
+
+pub returns-in-Ok-clause-all : goal.returns-in-Ok-clause-all
+returns-in-Ok-clause-all c bytes ending =
+    let below : LawsBelow = record {
+      scalars = c.texts_are_scalars_within_the_limit.ensures.scalars;
+      short = c.texts_are_scalars_within_the_limit.ensures.short;
+      book = c.the_book_is_read.ensures;
+      whole = c.a_stage_of_headers_emits_the_events.ensures.whole;
+      broken = c.a_stage_of_headers_emits_the_events.ensures.broken;
+      stopped = c.a_stage_of_headers_emits_the_events.ensures.stopped;
+      counts = c.texts_are_read_in_full.ensures.counts;
+      outputs = c.texts_are_read_in_full.ensures.outputs;
+      findings = c.a_score_says_what_it_emits.ensures.findings;
+      syllables = c.a_score_says_what_it_emits.ensures.syllables;
+      fault = c.a_score_says_what_it_emits.ensures.fault;
+      end = c.a_score_says_what_it_emits.ensures.end;
+      few = c.syllables_are_fewer_than_bytes.ensures;
+    } in
+    let w = c.in-Ok.writer in
+    let heads = c.in_ok-heads.heads in
+    let items = emitted_by (is_whole ending) bytes (decoder.events_left c.new.result bytes) in
+    ap (λ (part : RunPart). streams_by_part part w.score w.writer.written (stage_past heads items).book (head_events_left heads ending items)) c.in-Ok.ensures.part
+    ∙ (ap (λ (written : Written). streams_by_part part.Heads w.score written (stage_past heads items).book (head_events_left heads ending items)) c.in-Ok.ensures.fresh
+    ∙ (ap (λ (h : HeaderStageState). streams_by_part part.Heads w.score (fresh_writer c.args.job.now) (stage_past h items).book (head_events_left h ending items)) c.in_ok-heads.ensures
+    ∙ streams_are below c.args.job.now c.args.limits c.new.result w.score c.new.ensures.known c.new.ensures.at_end c.in-Ok.ensures.score bytes ending))
+
+pub invariant_of-result : goal.invariant_of-result
+invariant_of-result c =
+    let fresh : c.in_ok-heads.heads ≡ fresh_stage c.args.limits = c.in_ok-heads.ensures in
+    let two : c.in_ok-from_heads.from_heads.limit ≡ 2 = ap (λ (r : BoundedList _). r.limit) c.in_ok-from_heads.ensures in
+    let together : GoTogether c.in_ok-heads.heads c.in-Ok.writer = record {
+      limits = ap (λ (h : HeaderStageState). h.limits) fresh ∙ sym c.in-Ok.ensures.limits;
+      body = λ body. absurd (cc (sym c.in-Ok.ensures.part ∙ body));
+      book = subst (λ (h : HeaderStageState). IsBookRead h.progress h.book) (sym fresh) tt;
+      short = subst (λ (h : HeaderStageState). IsShortBook h.limits h.book) (sym fresh) (no_heads_are_short c.args.limits);
+    } in
+    record {
+      few = omega (arith, two);
+      together = together;
+      reserved = c.in-Ok.ensures.reserved;
+    }

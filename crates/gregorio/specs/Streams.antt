@@ -1,0 +1,58 @@
+-- What a run writes: its output, its messages and its status; the texts of which an output is joined.
+use Rattle.std.specs.Prelude.{ℕ, ◌+◌, ◌-◌, ◌^◌, min, List, [], ◌∷◌, ◌++◌, Bool, encode_utf8_all, codes, if◌then◌else◌}
+use Rattle.gabc_headers.specs.Canonical.{canonical_heads}
+use Rattle.gabc_score.specs.Canonical.{canonical_in_place}
+use Rattle.gabc_score.specs.Syllable.{PlacedSyllable}
+use Rattle.gabc_write.specs.DumpLines.{dump_heads, end_line}
+use Rattle.gabc_write.specs.DumpOfSyllables.{lines_of_syllable}
+use Rattle.gregorio.specs.declared.outcome.Outcome.{Outcome}
+use Rattle.gregorio.specs.Outcome.{output_of, messages_of, status_of}
+use Rattle.gregorio_jobs.specs.declared.job.Format.{Format}
+use Rattle.gregorio_jobs.specs.declared.job.Format.TheVariants.{Gabc, Dump}
+use Rattle.gregorio_jobs.specs.declared.job.Job.{Job}
+use Rattle.gregorio_jobs.specs.declared.job.Status.{Status}
+
+-- The bytes of an output and of messages, and the status of the run that writes them.
+pub record Streams : Type 0 where
+  pub output : List ℕ
+  pub messages : List ℕ
+  pub status : Status
+
+-- nothing more is written
+abbrev pub ended_with : Status → Streams
+ended_with status = record { output = []; messages = []; status = status }
+
+-- those of a whole run of a job
+abbrev pub streams_of_outcome : Job → Outcome → Streams
+streams_of_outcome job outcome = record { output = output_of job.format outcome; messages = messages_of job outcome; status = status_of outcome }
+
+-- these bytes, and what follows them
+abbrev pub behind_bytes : List ℕ → List ℕ → Streams → Streams
+behind_bytes output messages rest = record rest { output = output ++ rest.output; messages = messages ++ rest.messages }
+
+-- what stands before the syllables
+abbrev pub heads_text : Format → List (List ℕ × List ℕ) → List ℕ
+heads_text Gabc book = encode_utf8_all (canonical_heads book)
+heads_text Dump book = dump_heads book
+
+-- a syllable with its number
+abbrev pub syllable_text : Format → ℕ → PlacedSyllable → List ℕ
+syllable_text Gabc number s = canonical_in_place s
+syllable_text Dump number s = lines_of_syllable number s
+
+-- what stands behind so many syllables, which are the whole score or not
+abbrev pub last_text : Format → Bool → ℕ → List ℕ
+last_text Gabc whole count = codes "\n"
+last_text Dump whole count = if whole then end_line count else []
+
+-- the number behind this one; the last value of a `u64` stays
+abbrev pub next_number : ℕ → ℕ
+next_number count = min (count + 1) (2 ^ 64 - 1)
+
+abbrev pub texts_behind : Format → ℕ → List PlacedSyllable → List ℕ
+texts_behind format count [] = []
+texts_behind format count (s ∷ syllables) = syllable_text format (next_number count) s ++ texts_behind format (next_number count) syllables
+
+abbrev pub count_behind : ℕ → List PlacedSyllable → ℕ
+count_behind count [] = count
+count_behind count (s ∷ syllables) = count_behind (next_number count) syllables

@@ -1,0 +1,179 @@
+//! Stages of snippets that are cut at each character and set down again, from the text that they kept and what they tell.
+
+use gabc_nabc::NabcStage;
+use gabc_notes::{NoteEvent, NoteStage};
+use gabc_places::{Char, Place, Room, Stage};
+use std::alloc::{AllocError, Global};
+
+/// Returns the character `c` in this column.
+fn char_at(c: char, column: usize) -> Char {
+    Char {
+        c,
+        place: Place {
+            line: 1,
+            column: column as u64,
+        },
+    }
+}
+
+/// Pushes `x`, and appends it to `kept` if it is kept.
+fn keep<S: Stage<Input = Char, Output = NoteEvent>>(
+    alloc: Global,
+    stage: &mut S,
+    x: Char,
+    kept: &mut String,
+) -> Result<(), AllocError> {
+    let mut out = Room::with_limit(alloc, stage.most())?;
+    stage.push(x, &mut out);
+    if let Some(NoteEvent::Kept(y)) = out.slice().first() {
+        kept.push(y.c)?;
+    }
+    Ok(())
+}
+
+/// Appends these events.
+fn show(alloc: Global, events: &[NoteEvent], lines: &mut String) -> Result<(), AllocError> {
+    for event in events {
+        lines.push_str(format!(in alloc; "{event:?}\n")?.as_str())?;
+    }
+    Ok(())
+}
+
+/// Pushes `x`, and appends what is emitted.
+fn push<S: Stage<Input = Char, Output = NoteEvent>>(
+    alloc: Global,
+    stage: &mut S,
+    x: Char,
+    lines: &mut String,
+) -> Result<(), AllocError> {
+    let mut out = Room::with_limit(alloc, stage.most())?;
+    stage.push(x, &mut out);
+    show(alloc, out.slice(), lines)
+}
+
+/// Pushes the first `cut` characters of `text`, and appends those that are kept.
+fn keep_front<S: Stage<Input = Char, Output = NoteEvent>>(
+    alloc: Global,
+    stage: &mut S,
+    text: &str,
+    cut: usize,
+    kept: &mut String,
+) -> Result<(), AllocError> {
+    for (column, c) in text.chars().take(cut).enumerate() {
+        keep(alloc, stage, char_at(c, column), kept)?;
+    }
+    Ok(())
+}
+
+/// Pushes the characters of `text` from the one at `cut` on, and ends them. Returns what is emitted.
+fn emit_rest<S: Stage<Input = Char, Output = NoteEvent>>(
+    alloc: Global,
+    stage: &mut S,
+    text: &str,
+    cut: usize,
+) -> Result<String, AllocError> {
+    let mut lines = String::new(alloc);
+    for (column, c) in text.chars().skip(cut).enumerate() {
+        push(alloc, stage, char_at(c, column), &mut lines)?;
+    }
+    let mut out = Room::with_limit(alloc, stage.most())?;
+    stage.finish(&mut out);
+    show(alloc, out.slice(), &mut lines)?;
+    Ok(lines)
+}
+
+/// Pushes a kept text, each character at `place`, and a `%` where a comment is open.
+fn set_down<S: Stage<Input = Char, Output = NoteEvent>>(
+    alloc: Global,
+    stage: &mut S,
+    kept: &str,
+    place: Place,
+    comment: bool,
+) -> Result<(), AllocError> {
+    let mut passed = String::new(alloc);
+    for c in kept.chars() {
+        keep(alloc, stage, Char { c, place }, &mut passed)?;
+    }
+    if comment {
+        keep(alloc, stage, Char { c: '%', place }, &mut passed)?;
+    }
+    Ok(())
+}
+
+/// Returns whether a stage of notes, cut there and set down again, emits the same of the rest.
+fn notes_go_on(alloc: Global, text: &str, cut: usize) -> Result<bool, AllocError> {
+    let mut kept = String::new(alloc);
+    let mut stage = NoteStage::new(true, 2);
+    keep_front(alloc, &mut stage, text, cut, &mut kept)?;
+    let place = stage.opener().unwrap_or(Place::START);
+    let mut again = NoteStage::new(true, 2);
+    set_down(alloc, &mut again, &kept, place, stage.in_comment())?;
+    let lines = emit_rest(alloc, &mut stage, text, cut)?;
+    Ok(lines == emit_rest(alloc, &mut again, text, cut)?)
+}
+
+/// Returns whether a stage of NABC, cut there and set down again, emits the same of the rest.
+fn nabc_goes_on(alloc: Global, text: &str, cut: usize) -> Result<bool, AllocError> {
+    let mut kept = String::new(alloc);
+    let mut stage = NabcStage::new();
+    keep_front(alloc, &mut stage, text, cut, &mut kept)?;
+    let mut again = NabcStage::new();
+    set_down(
+        alloc,
+        &mut again,
+        &kept,
+        Place::START,
+        stage.in_comment(),
+    )?;
+    let lines = emit_rest(alloc, &mut stage, text, cut)?;
+    Ok(lines == emit_rest(alloc, &mut again, text, cut)?)
+}
+
+#[test]
+fn notes_go_on_behind_each_character(rt: HostRuntime) -> Result<(), AllocError> {
+    for text in [
+        "c4@cb3 gx#?/[2]hv'1)",
+        "g[nm1]h[nm2]|",
+        "@[gh@[i]j]k]-)",
+        "g1%]a|)\n[%|)\u{e9}\tx",
+        "-g//z0z+Z-!`-",
+        "/[\u{1d11e}%)|",
+    ] {
+        for cut in 0..text.chars().count() {
+            assert!(rt; notes_go_on(rt.alloc(), text, cut)?, "{text} at {cut}");
+        }
+    }
+    Ok(())
+}
+
+#[test]
+fn nabc_goes_on_behind_each_character(rt: HostRuntime) -> Result<(), AllocError> {
+    for text in [
+        "viS2hm!ta- \tlsa7su1pp1hb//``vi)",
+        "zzvs 1%]|)\nqlxh|",
+        "vi!",
+        "lsb",
+        "%",
+    ] {
+        for cut in 0..text.chars().count() {
+            assert!(rt; nabc_goes_on(rt.alloc(), text, cut)?, "{text} at {cut}");
+        }
+    }
+    Ok(())
+}
+
+#[test]
+fn laws_of_kept_texts_are_called(rt: HostRuntime) {
+    let one = NoteStage::new(true, 2);
+    let other = NoteStage::new(true, 2);
+    gabc_notes::laws::stages_that_tell_the_same_agree(&one, &one);
+    gabc_notes::laws::stages_behind_one_text_agree(&one, &other);
+    gabc_notes::laws::an_opener_is_told_inside_raw(&one);
+    gabc_notes::laws::a_kept_text_gives_the_stage_back(&one);
+    assert!(rt; one.opener().is_none() && !other.in_comment());
+    let one = NabcStage::new();
+    let other = NabcStage::new();
+    gabc_nabc::laws::stages_behind_one_text_agree(&one, &other);
+    gabc_nabc::laws::a_kept_text_gives_the_stage_back(&one);
+    assert!(rt; !one.in_comment());
+}
