@@ -6,8 +6,8 @@ use std::alloc::{AllocError, Global};
 use std::test::Fail;
 
 /// Texts of which each character is the first behind a cut: tags, raw parts, translations, an unpaired `$`, comments, runs of blanks, braces
-/// and brackets.
-const TEXTS: [&str; 24] = [
+/// and brackets; and each text of the rows of calls.
+const TEXTS: [&str; 53] = [
     "<i>a<b>b</i>c</b>(f)",
     "$(a$)$$ b%c\n(f)",
     " A[first]le[second](g)",
@@ -32,6 +32,35 @@ const TEXTS: [&str; 24] = [
     "a[b(]c[",
     "<v>a</sp></v",
     " {a<i>$(} [t]<x> ",
+    "a)b(f)",
+    "a ) b(f)",
+    "a [x] b(f)",
+    "a <b> c</b>(f)",
+    "a { b}(f)",
+    "{}(f)",
+    "<eu>E(f)",
+    "</eu> (::)",
+    "a <eu> b(f)",
+    "a <eu> (f)",
+    "<nlba>a</nlba>b(f)",
+    "<sp>'(a</sp>b(f)",
+    "<v>\\a{}</v>(f)",
+    "<v><<(</</v>b(f)",
+    "<sp>\u{c9}<\u{20ac}a</sp>(f)",
+    "$",
+    "$x",
+    "\u{c9}$\u{c9}(f)",
+    "<ul>a<sc>b</sc></ul><tt>c</tt>",
+    "<i><i>a",
+    "<i>{a",
+    "a[b",
+    "<v>a</sp>",
+    " {a<i>$(} [t]<x>",
+    "a)",
+    "a) \n b%c\n(f)",
+    "$(a$)$$ b%c\n(",
+    "A[first]le[second](",
+    "a)b(",
 ];
 
 /// Returns what `stage` emits with `c`.

@@ -5,6 +5,65 @@ use gabc_notes::{NoteEvent, NoteStage};
 use gabc_places::{Char, Place, Room, Stage};
 use std::alloc::{AllocError, Global};
 
+/// Snippets of notes of which each character is the first behind a cut: in the middle of items, raw brackets, attributes and comments, and each
+/// snippet of the rows of calls.
+const NOTES: [&str; 30] = [
+    "c4@cb3 gx#?/[2]hv'1)",
+    "g[nm1]h[nm2]|",
+    "@[gh@[i]j]k]-)",
+    "g1%]a|)\n[%|)\u{e9}\tx",
+    "-g//z0z+Z-!`-",
+    "/[\u{1d11e}%)|",
+    "/./)",
+    "cb&3)",
+    "-.f)",
+    "f-)",
+    "(- f)",
+    "-c4)",
+    "g1)x",
+    ",?1)",
+    "gr0hr1F1)",
+    "f|g)",
+    "f[nm1]@[g)",
+    "[em9][gm0][xm0])",
+    "/[nm1]//[nm1])",
+    "@[nm1])",
+    "[[nm1])",
+    "@[f@[g]])",
+    "@[f-)",
+    "f[x)|%]g)",
+    "f%)[\ng)",
+    "f[\u{e9}",
+    "f-",
+    "f[nm1])",
+    "g1-)hh",
+    "cb)",
+];
+
+/// Snippets of NABC: in the middle of codes, and each snippet of the rows of calls.
+const NABC: [&str; 20] = [
+    "viS2hm!ta- \tlsa7su1pp1hb//``vi)",
+    "zzvs 1%]|)\nqlxh|",
+    "vi!",
+    "lsb",
+    "%",
+    "peci|g",
+    "vi-hj)",
+    "pe!1clsu)",
+    "pe/su1)",
+    "su1)",
+    "hh)",
+    "\nzz)",
+    "pe su2)",
+    "pe%ci)|\n\tci)",
+    "\u{e9})",
+    "pesu1zz!xx",
+    "pes%",
+    "zzh|p",
+    "peci|",
+    "zz)",
+];
+
 /// Returns the character `c` in this column.
 fn char_at(c: char, column: usize) -> Char {
     Char {
@@ -16,19 +75,20 @@ fn char_at(c: char, column: usize) -> Char {
     }
 }
 
-/// Pushes `x`, and appends it to `kept` if it is kept.
+/// Pushes `x`, and appends it to `kept` if it is kept. Returns whether the snippet goes on.
 fn keep<S: Stage<Input = Char, Output = NoteEvent>>(
     alloc: Global,
     stage: &mut S,
     x: Char,
     kept: &mut String,
-) -> Result<(), AllocError> {
+) -> Result<bool, AllocError> {
     let mut out = Room::with_limit(alloc, stage.most())?;
     stage.push(x, &mut out);
     if let Some(NoteEvent::Kept(y)) = out.slice().first() {
         kept.push(y.c)?;
     }
-    Ok(())
+    let last = out.slice().last();
+    Ok(!matches!(last, Some(NoteEvent::Ended { .. })))
 }
 
 /// Appends these events.
@@ -51,18 +111,19 @@ fn push<S: Stage<Input = Char, Output = NoteEvent>>(
     show(alloc, out.slice(), lines)
 }
 
-/// Pushes the first `cut` characters of `text`, and appends those that are kept.
+/// Pushes the first `cut` characters of `text`, and appends those that are kept. Returns whether the snippet goes on behind them.
 fn keep_front<S: Stage<Input = Char, Output = NoteEvent>>(
     alloc: Global,
     stage: &mut S,
     text: &str,
     cut: usize,
     kept: &mut String,
-) -> Result<(), AllocError> {
+) -> Result<bool, AllocError> {
+    let mut goes_on = true;
     for (column, c) in text.chars().take(cut).enumerate() {
-        keep(alloc, stage, char_at(c, column), kept)?;
+        goes_on = keep(alloc, stage, char_at(c, column), kept)? && goes_on;
     }
-    Ok(())
+    Ok(goes_on)
 }
 
 /// Pushes the characters of `text` from the one at `cut` on, and ends them. Returns what is emitted.
@@ -100,11 +161,13 @@ fn set_down<S: Stage<Input = Char, Output = NoteEvent>>(
     Ok(())
 }
 
-/// Returns whether a stage of notes, cut there and set down again, emits the same of the rest.
+/// Returns whether a stage of notes, cut there and set down again, emits the same of the rest, or the snippet has ended there.
 fn notes_go_on(alloc: Global, text: &str, cut: usize) -> Result<bool, AllocError> {
     let mut kept = String::new(alloc);
     let mut stage = NoteStage::new(true, 2);
-    keep_front(alloc, &mut stage, text, cut, &mut kept)?;
+    if !keep_front(alloc, &mut stage, text, cut, &mut kept)? {
+        return Ok(true);
+    }
     let place = stage.opener().unwrap_or(Place::START);
     let mut again = NoteStage::new(true, 2);
     set_down(alloc, &mut again, &kept, place, stage.in_comment())?;
@@ -112,33 +175,22 @@ fn notes_go_on(alloc: Global, text: &str, cut: usize) -> Result<bool, AllocError
     Ok(lines == emit_rest(alloc, &mut again, text, cut)?)
 }
 
-/// Returns whether a stage of NABC, cut there and set down again, emits the same of the rest.
+/// Returns whether a stage of NABC, cut there and set down again, emits the same of the rest, or the snippet has ended there.
 fn nabc_goes_on(alloc: Global, text: &str, cut: usize) -> Result<bool, AllocError> {
     let mut kept = String::new(alloc);
     let mut stage = NabcStage::new();
-    keep_front(alloc, &mut stage, text, cut, &mut kept)?;
+    if !keep_front(alloc, &mut stage, text, cut, &mut kept)? {
+        return Ok(true);
+    }
     let mut again = NabcStage::new();
-    set_down(
-        alloc,
-        &mut again,
-        &kept,
-        Place::START,
-        stage.in_comment(),
-    )?;
+    set_down(alloc, &mut again, &kept, Place::START, stage.in_comment())?;
     let lines = emit_rest(alloc, &mut stage, text, cut)?;
     Ok(lines == emit_rest(alloc, &mut again, text, cut)?)
 }
 
 #[test]
 fn notes_go_on_behind_each_character(rt: HostRuntime) -> Result<(), AllocError> {
-    for text in [
-        "c4@cb3 gx#?/[2]hv'1)",
-        "g[nm1]h[nm2]|",
-        "@[gh@[i]j]k]-)",
-        "g1%]a|)\n[%|)\u{e9}\tx",
-        "-g//z0z+Z-!`-",
-        "/[\u{1d11e}%)|",
-    ] {
+    for text in NOTES {
         for cut in 0..text.chars().count() {
             assert!(rt; notes_go_on(rt.alloc(), text, cut)?, "{text} at {cut}");
         }
@@ -148,13 +200,7 @@ fn notes_go_on_behind_each_character(rt: HostRuntime) -> Result<(), AllocError> 
 
 #[test]
 fn nabc_goes_on_behind_each_character(rt: HostRuntime) -> Result<(), AllocError> {
-    for text in [
-        "viS2hm!ta- \tlsa7su1pp1hb//``vi)",
-        "zzvs 1%]|)\nqlxh|",
-        "vi!",
-        "lsb",
-        "%",
-    ] {
+    for text in NABC {
         for cut in 0..text.chars().count() {
             assert!(rt; nabc_goes_on(rt.alloc(), text, cut)?, "{text} at {cut}");
         }
