@@ -48,13 +48,7 @@ pub(crate) fn outcome_of_whole(
     ensures { IfOk result (λ outcome. IsOutcomeOf score.now outcome) }
 {
     let hasher = hasher_of(key);
-    Outcome::of_with_hasher(
-        alloc,
-        score,
-        SourceEnding::Whole,
-        Limits::default(),
-        hasher,
-    )
+    Outcome::of_with_hasher(alloc, score, SourceEnding::Whole, Limits::default(), hasher)
 }
 
 /// Returns the exit status of a run with this `outcome`.
