@@ -84,9 +84,7 @@ impl Slot {
           reading = record self.old.reading { view = with_part self.old.reading.view part };
         } }
     {
-        let Ok(()) = self.syllable.text.add(part) else {
-            unreachable!()
-        };
+        self.syllable.text.add_reserved(part);
     }
 
     /// Ends the part that is being read with this mark.
@@ -119,16 +117,13 @@ impl Slot {
         } }
     {
         cut_text(&mut self.syllable.kept, self.from.saturating_add(count));
-        let Ok(()) = self.syllable.snippets.push(Snippet {
+        self.syllable.snippets.push_reserved(Snippet {
             line,
             span: Span {
                 from: self.from,
                 to: self.syllable.kept.len(),
             },
-        })
-        else {
-            unreachable!()
-        };
+        });
         self.mark(mark);
     }
 
@@ -140,13 +135,10 @@ impl Slot {
     {
         let end = self.syllable.kept.len();
         self.syllable.snippets.clear();
-        let Ok(()) = self.syllable.snippets.push(Snippet {
+        self.syllable.snippets.push_reserved(Snippet {
             line: 0,
             span: Span { from: end, to: end },
-        })
-        else {
-            unreachable!()
-        };
+        });
     }
 
     /// Makes the syllable that was read whole.

@@ -124,6 +124,20 @@ impl TextView {
         Ok(())
     }
 
+    /// Adds `part`, as `add` does, where a piece more is within the capacity. It asks for no memory.
+    pub fn add_reserved(&mut self, part: TextPart)
+        requires { HasRoomFor self.old.pieces 1 }
+        ensures added { content_of self.new ≡ with_part (content_of self.old) part }
+        ensures capacity { self.new.pieces.capacity ≡ self.old.pieces.capacity }
+    {
+        match part {
+            TextPart::WordStart => self.word_start = true,
+            TextPart::Piece(piece) => self.pieces.push_reserved(piece),
+            TextPart::Centre(span) => self.centre = Some(span),
+            TextPart::Translation(span) => self.translation = Some(span),
+        }
+    }
+
     /// Returns a view that says the same, in memory of its own.
     pub fn copy(&self, alloc: Global) -> Result<TextView, AllocError>
         ensures { IfOk result (λ view. content_of view ≡ content_of self.now) }
