@@ -11,7 +11,8 @@ ghost use Rattle.gabc_places.specs.Place.{place_after};
 ghost use Rattle.gabc_places.specs.StageLaw.{concat_of};
 ghost use Rattle.gabc_headers.specs.declared.heads.Heads.{Heads};
 ghost use Rattle.gabc_headers.specs.Heads.{head_len, heads_of, findings_of, line_place};
-ghost use Rattle.gabc_headers.specs.Book.{standing_entries};
+ghost use Rattle.gabc_headers.specs.Book.{nabc_values, standing_entries};
+ghost use Rattle.gabc_headers.specs.NabcLines.{values_in_range};
 ghost use Rattle.gabc_headers.specs.Canonical.{canonical_heads, header_lines};
 ghost use Rattle.gabc_headers.specs.Lines.{bytes_len};
 ghost use Rattle.gabc_headers.specs.HeadsAgain.{heads_again};
@@ -38,6 +39,11 @@ pub fn groups_are_unique()
 pub fn groups_tell_parts()
     ensures { (lines : List (List ℕ)) (groups : List Group) (k n : ℕ) → AreGroups lines groups →
         parts outside k n lines ≡ parts_of_groups k n groups }
+{}
+
+/// The values of `nabc-lines` that are in range are the digits 0 to 4, each at the index that is its number.
+pub fn nabc_lines_are_these()
+    ensures { nabc_values ≡ values_in_range }
 {}
 
 /// Headers that are put in turn, each of which replaces the value of an earlier one of its name unless it is an
