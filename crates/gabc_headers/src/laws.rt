@@ -11,8 +11,7 @@ ghost use Rattle.gabc_places.specs.Place.{place_after};
 ghost use Rattle.gabc_places.specs.StageLaw.{concat_of};
 ghost use Rattle.gabc_headers.specs.declared.heads.Heads.{Heads};
 ghost use Rattle.gabc_headers.specs.Heads.{head_len, heads_of, findings_of, line_place};
-ghost use Rattle.gabc_headers.specs.Book.{nabc_values, standing_entries};
-ghost use Rattle.gabc_headers.specs.NabcLines.{values_in_range};
+ghost use Rattle.gabc_headers.specs.Book.{standing_entries};
 ghost use Rattle.gabc_headers.specs.Canonical.{canonical_heads, header_lines};
 ghost use Rattle.gabc_headers.specs.Lines.{bytes_len};
 ghost use Rattle.gabc_headers.specs.HeadsAgain.{heads_again};
@@ -22,6 +21,8 @@ ghost use Rattle.gabc_headers.specs.HeadEvents.{emitted_by, events_of_broken, ev
 ghost use Rattle.gabc_headers.specs.witness.HeadEvents.{events_left, fresh_stage, reading, stage_past};
 ghost use Rattle.gabc_places.specs.Decoder.{fault_items};
 ghost use Rattle.gabc_headers.specs.Parts.{outside, parts};
+
+pub use crate::nabc_lines::nabc_lines_are_these;
 
 /// The lines of the headers, whatever they are, can be cut into groups.
 pub fn lines_have_groups()
@@ -39,11 +40,6 @@ pub fn groups_are_unique()
 pub fn groups_tell_parts()
     ensures { (lines : List (List ℕ)) (groups : List Group) (k n : ℕ) → AreGroups lines groups →
         parts outside k n lines ≡ parts_of_groups k n groups }
-{}
-
-/// The values of `nabc-lines` that are in range are the digits 0 to 4, each at the index that is its number.
-pub fn nabc_lines_are_these()
-    ensures { nabc_values ≡ values_in_range }
 {}
 
 /// Headers that are put in turn, each of which replaces the value of an earlier one of its name unless it is an
