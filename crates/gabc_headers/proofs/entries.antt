@@ -7,3 +7,4 @@ pub mod PushedEntryIsShown
 pub mod RoomIsFilled
 pub mod PutEntriesStand
 pub mod TextsAsBytes
+pub mod ValuesOfNabcLines

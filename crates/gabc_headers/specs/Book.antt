@@ -1,14 +1,21 @@
 -- The book of header parts.
-use Rattle.std.specs.Prelude.{ℕ, zero, suc, ◌+◌, ◌^◌, if◌then◌else◌, List, [], ◌∷◌, ◌++◌, Bool, true, false, ◌||◌, ◌&&◌, not, cond, bytes_eq, codes, Option, Some, None, is_some}
+use Rattle.std.specs.Prelude.{ℕ, zero, suc, ◌+◌, ◌^◌, if◌then◌else◌, List, [], ◌∷◌, ◌++◌, Bool, true, false, ◌||◌, ◌&&◌, not, cond, bytes_eq, codes, map, Option, Some, None, is_some}
+use Rattle.std.specs.List.{position}
+use Rattle.std.specs.Option.{unwrap_or}
+use Rattle.gabc_headers.specs.declared.nabc_lines.TheConstants.{NABC_LINES}
 use Rattle.gabc_headers.specs.Parts.{HeaderPart, left_out, header, unended}
-
--- the value of `nabc-lines` is a number that is known
-abbrev pub is_kept : List ℕ → List ℕ → Bool
-is_kept name value = not (bytes_eq name (codes "nabc-lines")) || (bytes_eq value (codes "0") || bytes_eq value (codes "1"))
 
 abbrev pub is_one_of : List ℕ → List (List ℕ) → Bool
 is_one_of name [] = false
 is_one_of name (n ∷ ns) = bytes_eq name n || is_one_of name ns
+
+-- the values of `nabc-lines` that are in range, each at the index that is its number of lines: those of the table
+abbrev pub nabc_values : List (List ℕ)
+nabc_values = map (λ value. value.now) NABC_LINES
+
+-- a header counts: of `nabc-lines`, one whose value is in range
+abbrev pub is_kept : List ℕ → List ℕ → Bool
+is_kept name value = not (bytes_eq name (codes "nabc-lines")) || is_one_of value nabc_values
 
 -- whether the name comes again, after these; an annotation never does
 abbrev pub repeats : List (List ℕ) → List ℕ → Bool
@@ -52,7 +59,7 @@ has_header name book = is_some (value_named name book)
 -- the number of lines of NABC; 0 without the header
 abbrev pub lines_by : Option (List ℕ) → ℕ
 lines_by None = 0
-lines_by (Some value) = cond (bytes_eq value (codes "1")) 1 0
+lines_by (Some value) = unwrap_or (position (λ known. bytes_eq known value) nabc_values) 0
 
 abbrev pub nabc_lines_of : List (List ℕ × List ℕ) → ℕ
 nabc_lines_of book = lines_by (value_named (codes "nabc-lines") book)

@@ -10,5 +10,6 @@ pub mod Heads
 pub mod HeadsAgain
 pub mod HeldText
 pub mod Lines
+pub mod NabcLines
 pub mod NextHeader
 pub mod Parts

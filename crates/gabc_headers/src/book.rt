@@ -10,6 +10,7 @@ ghost use Rattle.gabc_headers.specs.BookText.{shown_entries, IsBook};
 use crate::book_room::{BookRoom, Entry};
 use crate::canonical::canon_header;
 use crate::headers::Headers;
+use crate::nabc_lines::NABC_LINES;
 use gabc_places::ByteCounter;
 use std::alloc::Global;
 use std::marker::Model;
@@ -56,7 +57,8 @@ fn macro_header(digit: u8) -> &'static str
 fn lines_in(value: &str) -> u8
     ensures { result ≡ lines_by (Some (chars value.now)) }
 {
-    if value == "1" { 1 } else { 0 }
+    let lines = NABC_LINES.iter().position(|known| *known == value);
+    lines.unwrap_or(0) as u8
 }
 
 impl HeaderBook {
@@ -131,7 +133,7 @@ impl HeaderBook {
         None
     }
 
-    /// Returns the number of lines of NABC under each snippet of notes: 0 or 1, by the header `nabc-lines` (GregorioRef, "Headers").
+    /// Returns the number of lines of NABC under each snippet of notes: 0 to 4, by the header `nabc-lines` (GregorioRef, "Headers").
     pub fn nabc_lines(&self) -> u8
         ensures { result ≡ nabc_lines_of self.now }
     {

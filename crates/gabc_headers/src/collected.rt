@@ -10,6 +10,7 @@ ghost use Rattle.gabc_headers.specs.machine.Shown.{shown};
 
 use crate::entry_map::EntryMap;
 use crate::events::HeaderEvent;
+use crate::nabc_lines::NABC_LINES;
 use gabc_places::{Code, Finding, Findings, Place};
 use std::alloc::{AllocError, Global};
 use std::hash::DefaultHasher;
@@ -21,15 +22,11 @@ pub(crate) struct Collected {
     pub findings: Findings,
 }
 
-/// Whether a header counts: of `nabc-lines` only one whose value is a number that is known.
+/// Whether a header counts: of `nabc-lines` only one whose value is in range.
 fn is_kept(name: &str, value: &str) -> bool
     ensures { result ≡ book.is_kept (chars name.now) (chars value.now) }
 {
-    if name == "nabc-lines" {
-        value == "0" || value == "1"
-    } else {
-        true
-    }
+    name != "nabc-lines" || NABC_LINES.contains(&value)
 }
 
 /// A finding at the first character of a line.

@@ -11,7 +11,7 @@ pub enum HeadEvent {
     Stop(Fault),
     /// The line `%%` ended the headers.
     Heads {
-        /// The number of lines of NABC under each snippet of notes, 0 or 1.
+        /// The number of lines of NABC under each snippet of notes, 0 to 4.
         nabc_lines: u8,
         /// The bit `d` tells that the macro of the digit `d` is defined.
         macros: u16,

@@ -22,6 +22,8 @@ ghost use Rattle.gabc_headers.specs.witness.HeadEvents.{events_left, fresh_stage
 ghost use Rattle.gabc_places.specs.Decoder.{fault_items};
 ghost use Rattle.gabc_headers.specs.Parts.{outside, parts};
 
+pub use crate::nabc_lines::nabc_lines_are_these;
+
 /// The lines of the headers, whatever they are, can be cut into groups.
 pub fn lines_have_groups()
     ensures { (lines : List (List ℕ)) → (groups : List Group) × AreGroups lines groups }

@@ -27,7 +27,7 @@ use std::alloc::Global;
 use std::{fs, io};
 
 /// The example scores: each is a file `NAME.gabc`, with its canonical form, its dump and the messages under `-W` beside it.
-const SCORES: [&str; 8] = [
+const SCORES: [&str; 9] = [
     "antiphon",
     "ave-maria",
     "every-finding",
@@ -36,6 +36,7 @@ const SCORES: [&str; 8] = [
     "introit",
     "kyrie",
     "psalm-tone",
+    "two-lines",
 ];
 
 /// The files of rows of calls of the crates below.
@@ -240,6 +241,7 @@ fn main(rt: HostRuntime) -> io::Result<()> {
     check_rows(&rt, "rows.tsv")?;
     check_rows(&rt, "canonical.tsv")?;
     check_rows(&rt, "dump.tsv")?;
+    check_rows(&rt, "nabc_lines.tsv")?;
     check_scores(&rt)?;
     for path in CALLS {
         check_calls(&rt, path)?;

@@ -56,22 +56,6 @@ utf8-nabc_lines : is_utf8 (codes "nabc-lines") ≡ true
 unfolding is_utf8 chars encode
 utf8-nabc_lines = refl
 
-pub chars-zero : chars (codes "0") ≡ codes "0"
-unfolding chars
-chars-zero = refl
-
-utf8-zero : is_utf8 (codes "0") ≡ true
-unfolding is_utf8 chars encode
-utf8-zero = refl
-
-pub chars-one : chars (codes "1") ≡ codes "1"
-unfolding chars
-chars-one = refl
-
-utf8-one : is_utf8 (codes "1") ≡ true
-unfolding is_utf8 chars encode
-utf8-one = refl
-
 pub chars-name : chars (codes "name") ≡ codes "name"
 unfolding chars
 chars-name = refl
@@ -89,12 +73,6 @@ annotation-chars a u = bytes_eq-text a (codes "annotation") u (IsUtf8-from_is_ut
 
 pub nabc_lines-chars : (a : List ℕ) → IsUtf8 a → bytes_eq (chars a) (codes "nabc-lines") ≡ bytes_eq a (codes "nabc-lines")
 nabc_lines-chars a u = bytes_eq-text a (codes "nabc-lines") u (IsUtf8-from_is_utf8 (codes "nabc-lines") utf8-nabc_lines) chars-nabc_lines
-
-pub zero-chars : (a : List ℕ) → IsUtf8 a → bytes_eq (chars a) (codes "0") ≡ bytes_eq a (codes "0")
-zero-chars a u = bytes_eq-text a (codes "0") u (IsUtf8-from_is_utf8 (codes "0") utf8-zero) chars-zero
-
-pub one-chars : (a : List ℕ) → IsUtf8 a → bytes_eq (chars a) (codes "1") ≡ bytes_eq a (codes "1")
-one-chars a u = bytes_eq-text a (codes "1") u (IsUtf8-from_is_utf8 (codes "1") utf8-one) chars-one
 
 pub name-chars : (a : List ℕ) → IsUtf8 a → bytes_eq (chars a) (codes "name") ≡ bytes_eq a (codes "name")
 name-chars a u = bytes_eq-text a (codes "name") u (IsUtf8-from_is_utf8 (codes "name") utf8-name) chars-name

@@ -1,5 +1,5 @@
 -- The text that a stage of headers holds: its end alone stops it, and pushed into a fresh stage it is held again.
-use Rattle.std.proofs.Common.{◌≡◌, ℕ, List, [], ◌∷◌, ◌++◌, length, take, map, Bool, true, false, refl, sym, ap, ◌∙◌, subst, append-nil, append_assoc, Result, Ok, Err}
+use Rattle.std.proofs.Common.{◌≡◌, ℕ, List, [], ◌∷◌, ◌++◌, length, take, map, Bool, true, false, refl, sym, ap, ◌∙◌, subst, append-nil, Result, Err}
 use Rattle.std.specs.Str.{chars}
 use Rattle.std.proofs.lemmas.Str.{scalars-chars}
 use Rattle.std.specs.Prelude.{IsUtf8}
@@ -15,9 +15,9 @@ use Rattle.gabc_headers.specs.declared.head_event.HeadEvent.TheVariants.{Found}
 use Rattle.gabc_headers.specs.declared.header_machine.HeaderMachine.{HeaderMachine}
 use Rattle.gabc_headers.specs.declared.heads.Heads.{Heads}
 use Rattle.gabc_headers.specs.declared.heads.HeadFault.{HeadFault}
-use Rattle.gabc_headers.specs.Heads.{heads_of, findings_of}
+use Rattle.gabc_headers.specs.Heads.{findings_of}
 use Rattle.gabc_headers.specs.HeadEvents.{events_of_broken, inputs_behind, emitted_by}
-use Rattle.gabc_headers.specs.witness.HeadEvents.{HeadProgress, reading, behind, over, HeaderStageState, fresh_stage, book_at, stage_past, text_held, progress_by, progress_with, events_at, events_left}
+use Rattle.gabc_headers.specs.witness.HeadEvents.{HeadProgress, reading, behind, over, book_at, stage_past, text_held, progress_by, progress_with, events_at, events_left}
 use Rattle.gabc_headers.specs.HeldText.{IsHeld, findings_held, holding, text_in, inputs_of}
 use Rattle.gabc_headers.specs.machine.HeaderMachine.{fresh_machine}
 use Rattle.gabc_headers.specs.machine.HeaderStage.{IsReading}

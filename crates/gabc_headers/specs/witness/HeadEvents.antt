@@ -1,5 +1,5 @@
 -- What a stage of headers will still emit, in any state. Nobody has to believe it: the laws state what a fresh stage emits.
-use Rattle.std.specs.Prelude.{ℕ, ◌+◌, List, [], ◌∷◌, ◌++◌, if◌then◌else◌, length, drop, map, Result, Ok, Err}
+use Rattle.std.specs.Prelude.{ℕ, List, [], ◌∷◌, ◌++◌, if◌then◌else◌, length, drop, map, Result, Ok, Err}
 use Rattle.gabc_places.specs.declared.place.Char.{Char}
 use Rattle.gabc_places.specs.declared.code.Fault.{Fault}
 use Rattle.gabc_places.specs.declared.code.Finding.{Finding}

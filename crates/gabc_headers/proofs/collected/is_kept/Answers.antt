@@ -1,12 +1,10 @@
-use Rattle.std.proofs.Common.{refl}
-use Rattle.gabc_headers.proofs.entries.TextsAsBytes.{nabc_lines-chars, zero-chars, one-chars}
+use Rattle.std.proofs.Common.{refl, sym, ◌∙◌}
+use Rattle.gabc_headers.proofs.entries.TextsAsBytes.{nabc_lines-chars}
+use Rattle.gabc_headers.proofs.entries.ValuesOfNabcLines.{in_range-chars}
 use Rattle.gabc_headers.proofs.collected.is_kept.Goals as goal
 
-pub returns-then-eq-2 : goal.returns-then-eq-2
-returns-then-eq-2 c = rw (nabc_lines-chars c.args.name.now c.utf8.name, zero-chars c.args.value.now c.utf8.value, one-chars c.args.value.now c.utf8.value, ← c.if-eq.ensures, ← c.if-eq-2.ensures) c.if-eq-2.true
+pub returns-then-ne : goal.returns-then-ne
+returns-then-ne c = rw (nabc_lines-chars c.args.name.now c.utf8.name, ← c.ne.ensures, c.if-ne.true) refl
 
-pub returns-else-eq-2 : goal.returns-else-eq-2
-returns-else-eq-2 c = rw (nabc_lines-chars c.args.name.now c.utf8.name, zero-chars c.args.value.now c.utf8.value, one-chars c.args.value.now c.utf8.value, ← c.if-eq.ensures, ← c.if-eq-2.ensures) c.eq-else-eq-2.ensures
-
-pub returns-else-eq : goal.returns-else-eq
-returns-else-eq c = rw (nabc_lines-chars c.args.name.now c.utf8.name, ← c.if-eq.ensures) refl
+pub returns-else-ne : goal.returns-else-ne
+returns-else-ne c = rw (nabc_lines-chars c.args.name.now c.utf8.name, ← c.ne.ensures, c.if-ne.false) (c.contains.ensures.value ∙ sym (in_range-chars c.args.value.now c.utf8.value))

@@ -1,4 +1,4 @@
-use Rattle.std.proofs.Common.{◌≡◌, ◌<◌, ◌+◌, ◌∷◌, ◌∙◌, ℕ, List, length, false, Bool, is_some, if◌then◌else◌, refl, sym, ap, subst, arith, bytes_eq, IsUtf8}
+use Rattle.std.proofs.Common.{◌≡◌, ◌<◌, ◌+◌, ◌∙◌, ℕ, List, length, false, Bool, is_some, if◌then◌else◌, refl, sym, ap, subst, arith, bytes_eq, IsUtf8}
 use Rattle.std.proofs.lemmas.Bool.{false≢true}
 use Rattle.std.specs.Str.{chars}
 use Rattle.std.specs.Map.{lookup}
