@@ -2,6 +2,7 @@ pub mod machine
 pub mod witness
 pub mod Ends
 pub mod Events
+pub mod FirstNoteOrClef
 pub mod Items
 pub mod Notes
 pub mod Raw

@@ -4,6 +4,7 @@ ghost use Rattle.std.specs.Prelude.{◌≡◌, ◌≤◌, ◌<◌, length, IfOk,
 ghost use Rattle.std.specs.Str.{chars};
 ghost use Rattle.gabc_patterns.specs.Function.{longest_item};
 ghost use Rattle.gabc_places.specs.BoundedList.{Fits, extended_by};
+ghost use Rattle.gabc_notes.specs.FirstNoteOrClef.{is_note_or_clef as note_or_clef, first_note_or_clef as first_of};
 ghost use Rattle.gabc_notes.specs.Items.{items_of, AreWithin};
 ghost use Rattle.gabc_notes.specs.Table.{gabc};
 ghost use Rattle.gabc_notes.specs.machine.Items.{IsFirstItem};
@@ -105,4 +106,29 @@ pub fn items_into(kept: &str, out: &mut Room<Item>)
         out.push(Item { kind, span });
         at += len;
     }
+}
+
+/// Returns whether an item of that kind is a note or a clef. A custos is neither.
+fn is_note_or_clef(kind: ItemKind) -> bool
+    ensures { result ≡ note_or_clef kind }
+{
+    match kind {
+        ItemKind::Note | ItemKind::Clef => true,
+        _ => false,
+    }
+}
+
+/// Returns which comes first among the items of `kept`, as `items_whole` returns them: a note or a clef. Where neither is among them it
+/// returns `None`. It asks for no memory.
+pub fn first_note_or_clef(kept: &str) -> Option<ItemKind>
+    ensures { result ≡ first_of (items_of kept.now) }
+{
+    let mut at = 0;
+    while let Some((kind, len)) = first_item(&kept[at..]) {
+        if is_note_or_clef(kind) {
+            return Some(kind);
+        }
+        at += len;
+    }
+    None
 }

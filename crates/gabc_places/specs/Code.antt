@@ -1,12 +1,12 @@
 -- What a code is: its rank among the codes of one place, and what the row of the table says of it.
 use Rattle.std.specs.Prelude.{ℕ, ◌-◌, List, [], map, slice_index_or}
 use Rattle.gabc_places.specs.declared.code.Code.{Code}
-use Rattle.gabc_places.specs.declared.code.Code.TheVariants.{E1, E2, E3, E4, E5, E6, W1, W2, W3, W4, W5, W6, W7, W8, W9, W10, W11, F1, F2, F3, F4, F5, F6, F7}
+use Rattle.gabc_places.specs.declared.code.Code.TheVariants.{E1, E2, E3, E4, E5, E6, W1, W2, W3, W4, W5, W6, W7, W8, W9, W10, W11, W12, F1, F2, F3, F4, F5, F6, F7}
 use Rattle.gabc_places.specs.declared.severity.Severity.{Severity}
 use Rattle.gabc_places.specs.declared.severity.Severity.TheVariants.{Error, Warning, Fatal}
 use Rattle.gabc_places.specs.declared.codes.TheConstants.{CODES}
 
--- E1 to E6, then W1 to W11, then F1 to F7
+-- E1 to E6, then W1 to W12, then F1 to F7
 abbrev pub rank_of : Code → ℕ
 rank_of E1 = 1
 rank_of E2 = 2
@@ -25,13 +25,14 @@ rank_of W8 = 14
 rank_of W9 = 15
 rank_of W10 = 16
 rank_of W11 = 17
-rank_of F1 = 18
-rank_of F2 = 19
-rank_of F3 = 20
-rank_of F4 = 21
-rank_of F5 = 22
-rank_of F6 = 23
-rank_of F7 = 24
+rank_of W12 = 18
+rank_of F1 = 19
+rank_of F2 = 20
+rank_of F3 = 21
+rank_of F4 = 22
+rank_of F5 = 23
+rank_of F6 = 24
+rank_of F7 = 25
 
 -- of each row of the table, in the order of the ranks: how grave the code is, its name in messages, what a message says of it
 abbrev pub severity_of : Code → Severity
@@ -62,6 +63,7 @@ severity_by_kind W8 = Warning
 severity_by_kind W9 = Warning
 severity_by_kind W10 = Warning
 severity_by_kind W11 = Warning
+severity_by_kind W12 = Warning
 severity_by_kind F1 = Fatal
 severity_by_kind F2 = Fatal
 severity_by_kind F3 = Fatal

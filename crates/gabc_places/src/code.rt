@@ -44,6 +44,8 @@ pub enum Code {
     W10,
     /// An `eu` or `nlba` span that is open at the end.
     W11,
+    /// A note before any clef.
+    W12,
     /// Bytes that are not UTF-8.
     F1,
     /// No `%%` line.

@@ -4,7 +4,7 @@ use crate::severity::Severity;
 
 /// How grave each code is, its name in messages, and what a message says of it; in the order in which the codes are declared.
 #[rattlefmt::skip]
-pub const CODES: [(Severity, &str, &str); 24] = [
+pub const CODES: [(Severity, &str, &str); 25] = [
     (Severity::Error, "E1", "character left out of the notes"),
     (Severity::Error, "E2", "character left out of the text"),
     (Severity::Error, "E3", "character left out of the NABC notes"),
@@ -22,6 +22,7 @@ pub const CODES: [(Severity, &str, &str); 24] = [
     (Severity::Warning, "W9", "text without notes at the end"),
     (Severity::Warning, "W10", "fusion bracket not matched"),
     (Severity::Warning, "W11", "eu or nlba open at the end"),
+    (Severity::Warning, "W12", "note before any clef"),
     (Severity::Fatal, "F1", "not UTF-8"),
     (Severity::Fatal, "F2", "no %% line"),
     (Severity::Fatal, "F3", "header value not ended"),

@@ -41,7 +41,7 @@ abbrev pub item_at : ItemKind → ℕ → ℕ → Item
 item_at k at len = record { kind = k; span = record { from = at; to = at + len } }
 
 -- the first of the items from a byte on, and those behind it
-first_from : (text : List ℕ) (at len : ℕ) (k : ItemKind) → IsUtf8 (drop at text) → IsFirstItem (drop at text) k len
+pub first_from : (text : List ℕ) (at len : ℕ) (k : ItemKind) → IsUtf8 (drop at text) → IsFirstItem (drop at text) k len
     → items_from text at ≡ item_at k at len ∷ items_from text (at + len)
 first_from text at len k u h =
     let here : List ℕ = drop at text in
