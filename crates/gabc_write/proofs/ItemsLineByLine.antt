@@ -1,7 +1,7 @@
 -- The lines of a snippet's items, put one item at a time.
-use Rattle.std.proofs.Common.{◌≡◌, ℕ, zero, suc, ◌+◌, ◌-◌, ◌≤◌, ◌<◌, ◌==◌, ◌&&◌, List, [], ◌∷◌, ◌++◌, Bool, true, false, not, cond, Option, Some, None, refl, sym, ap, ◌∙◌, subst, length, drop, take, reverse, slice_range, get_or, add-one, arith, append_assoc, append-nil, length-append, length-drop, drop-drop, ne_eqb, eqb-true, codes, if◌then◌else◌}
+use Rattle.std.proofs.Common.{◌≡◌, ℕ, zero, suc, ◌+◌, ◌-◌, ◌≤◌, ◌<◌, ◌==◌, ◌&&◌, List, [], ◌∷◌, ◌++◌, Bool, true, false, not, cond, Option, Some, None, refl, sym, ap, ◌∙◌, subst, length, drop, take, reverse, slice_range, get_or, map, add-one, arith, append_assoc, append-nil, length-append, length-drop, drop-drop, ne_eqb, eqb-true, codes, if◌then◌else◌}
 use Rattle.std.specs.List.{take_while, cons_option}
-use Rattle.std.proofs.lemmas.List.{reverse-append, take_more, take_all}
+use Rattle.std.proofs.lemmas.List.{reverse-append, map-append, take_more, take_all}
 use Rattle.std.proofs.Math.Seq.{drop-cons}
 use Rattle.std.proofs.lemmas.List.Elements.{filter_map-append}
 use Rattle.std.proofs.lemmas.List.Sums.{take_while-cons}
@@ -13,7 +13,7 @@ use Rattle.gabc_notes.specs.declared.item.ItemKind.TheVariants as kind
 use Rattle.gabc_notes.specs.declared.note.Note.{Note}
 use Rattle.gabc_neumes.specs.Cut.{kind_by, longest_glyph, glyphs_within, glyphs_of}
 use Rattle.gabc_neumes.specs.Elements.{is_in_element, is_in_segment, joins_segment, notes_in}
-use Rattle.gabc_neumes.specs.InForce.{InForce}
+use Rattle.gabc_neumes.specs.InForce.{InForce, ScoreStep, step_of, in_force_behind, passed}
 use Rattle.gabc_neumes.specs.declared.glyph.Glyph.{Glyph}
 use Rattle.gabc_neumes.specs.declared.glyph.GlyphKind.{GlyphKind}
 use Rattle.gabc_write.specs.DumpOfNotes.{is_behind_element, element_line, line_of_glyph, line_of_glyph_at, notes_before, notes_behind, is_note, glyph_line, line_of_item, in_force_at, lines_behind}
@@ -379,3 +379,19 @@ turn outset kept items index d place old l s =
 -- what is left from a place on
 pub slice_rest : {X : Type 0} (xs : List X) (at : ℕ) → slice_range xs at (length xs) ≡ drop at xs
 slice_rest xs at = take_all (length xs - at) (drop at xs) (omega (arith, length-drop at xs))
+
+-- ---- the items of a list, passed in order
+
+steps_reversed : (kept : List ℕ) (items : List Item) → map (step_of kept) (reverse items) ≡ reverse (map (step_of kept) items)
+steps_reversed kept [] = refl
+steps_reversed kept (i ∷ items) =
+    ap (map (step_of kept)) (reverse-append (i ∷ []) items)
+    ∙ (map-append (step_of kept) (reverse items) (i ∷ [])
+    ∙ (ap (λ (t : List ScoreStep). t ++ step_of kept i ∷ []) (steps_reversed kept items)
+    ∙ sym (reverse-append (step_of kept i ∷ []) (map (step_of kept) items))))
+
+-- behind as many items as there are, all are passed
+pub all_passed : (outset : InForce) (kept : List ℕ) (items : List Item) (count : ℕ) → length items ≤ count
+    → in_force_at outset kept (reverse (take count items)) ≡ passed outset (map (step_of kept) items)
+all_passed outset kept items count l =
+    ap (λ (t : List Item). in_force_at outset kept (reverse t)) (take_all count items l) ∙ ap (in_force_behind outset) (steps_reversed kept items)

@@ -15,7 +15,8 @@ use crate::dump_item::{put_item, put_last, put_shape};
 use crate::scratch::Scratch;
 use gabc_neumes::laws::steps_are_passed_one_by_one;
 use gabc_neumes::{
-    Alterations, Base, Glyph, Tail, cut, is_in_element, is_in_segment, notes_into, word_of_base, word_of_tail,
+    Alterations, Base, Glyph, Tail, cut, is_in_element, is_in_segment, notes_into, word_of_base,
+    word_of_tail,
 };
 use gabc_notes::{Item, ItemKind, Note, items_into};
 use gabc_places::{Put, Room};

@@ -7,7 +7,7 @@ use Rattle.gabc_neumes.specs.declared.glyph.Glyph.{Glyph}
 use Rattle.gabc_write.specs.DumpOfNotes.{in_force_at, lines_behind}
 use Rattle.gabc_write.specs.declared.dump_notes.ItemPlace.{ItemPlace}
 use Rattle.gabc_write.specs.machine.NoteLines.{glyphs_from, lines_at, place_behind}
-use Rattle.gabc_write.proofs.ItemsLineByLine.{Stands, turn, one_more, slice_rest}
+use Rattle.gabc_write.proofs.ItemsLineByLine.{Stands, turn, one_more, slice_rest, all_passed}
 use Rattle.gabc_write.proofs.dump_notes.put_items.Goals as goal
 
 abbrev default : Item
@@ -23,7 +23,7 @@ loop-i-preserved g c =
     let i : Item = get_or items n default in
     let before : List Item = reverse (take (n + 1) items) in
     let all : List Glyph = glyphs_from kept place.in_segment (drop n items) old in
-    let outset = c.args.alterations.old in
+    let outset = c.args.alterations.now in
     let t = turn outset kept items n default place old c.loop-i-test.true c.loop-i.invariant.stands in
     let are : c.enter_segment.new.glyphs.items ≡ all =
     ap (λ (r : BoundedList Glyph). r.items) c.enter_segment.ensures.glyphs ∙ ap (λ (u : List Item). glyphs_from kept place.in_segment u old) (slice_rest items n) in
@@ -57,4 +57,4 @@ loop-i-preserved g c =
     }
 
 pub returns-clause-alterations : goal.returns-clause-alterations
-returns-clause-alterations g c = ?
+returns-clause-alterations g c = c.loop-i.invariant.alterations ∙ all_passed c.args.alterations.now c.args.kept.now c.args.items.now c.loop-i.i c.loop-i-test.false
