@@ -78,8 +78,13 @@ alter_in_force outset (s ∷ before) height = elim (alter_of height s) as (λ _.
 abbrev pub heights : List ℕ
 heights = range_with_len 0 15
 
+-- behind these steps; where there are none, the outset itself
 abbrev pub in_force_behind : InForce → List ScoreStep → InForce
-in_force_behind outset before = record { clef = clef_in_force outset before; alters = map (alter_in_force outset before) heights }
+in_force_behind outset [] = outset
+in_force_behind outset (s ∷ before) = record {
+  clef = clef_in_force outset (s ∷ before);
+  alters = map (alter_in_force outset (s ∷ before)) heights;
+}
 
 -- the same, where the steps are in the order of the score
 abbrev pub passed : InForce → List ScoreStep → InForce

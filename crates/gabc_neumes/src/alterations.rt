@@ -1,12 +1,16 @@
 //! The clef and the alterations in force.
 
 ghost use Rattle.std.specs.Prelude.{◌≡◌, ◌≤◌, [], ◌∷◌, length, IfSome};
+ghost use Rattle.gabc_notes.specs.Notes.{height_at};
 ghost use Rattle.gabc_neumes.specs.Sound.{line_at, clef_at, sign_of, told};
-ghost use Rattle.gabc_neumes.specs.InForce.{WordStart, AnItem, step_of, nothing_in_force, in_force_behind, own_alter, sound_of};
+ghost use Rattle.gabc_neumes.specs.InForce.{WordStart, AnItem, step_of, nothing_in_force, is_virgula, in_force_behind, own_alter, sound_of};
 
 use crate::sound::{Alter, Clef, Sound, degree};
 use gabc_notes::{Item, ItemKind, height_of};
 use std::marker::Model;
+
+/// How many heights pitches have: from 0 for `a` to 14 for `p`.
+const HEIGHTS: usize = 15;
 
 /// The clef and the alterations that are in force at a place of a score. It asks for no memory.
 ///
@@ -16,7 +20,7 @@ use std::marker::Model;
 pub struct Alterations {
     clef: Option<Clef>,
     /// That of each height.
-    alters: [Alter; 15],
+    alters: [Alter; HEIGHTS],
 }
 
 impl Model for Alterations {
@@ -70,6 +74,26 @@ pub fn sign_of(text: &[u8]) -> Alter
     }
 }
 
+/// Returns the height of the pitch with which `text` begins.
+fn height_at(text: &[u8]) -> u8
+    ensures { result ≡ height_at text.now }
+{
+    match text {
+        [pitch, ..] => height_of(*pitch),
+        [] => 0,
+    }
+}
+
+/// Returns whether the bar `text` is a virgula.
+fn is_virgula(text: &[u8]) -> bool
+    ensures { result ≡ is_virgula text.now }
+{
+    match text {
+        [b'`', ..] => true,
+        _ => false,
+    }
+}
+
 /// Returns `own`, or with none a flat if the clef gives one.
 fn told(own: Alter, flat_by_clef: bool) -> Alter
     ensures { result ≡ told own flat_by_clef }
@@ -87,7 +111,7 @@ impl Alterations {
     {
         Alterations {
             clef: None,
-            alters: [Alter::None; 15],
+            alters: [Alter::None; HEIGHTS],
         }
     }
 
@@ -95,7 +119,7 @@ impl Alterations {
     pub fn start_word(&mut self)
         ensures { self.new ≡ in_force_behind self.old (WordStart ∷ []) }
     {
-        self.alters = [Alter::None; 15];
+        self.alters = [Alter::None; HEIGHTS];
     }
 
     /// Passes a clef of that text.
@@ -105,16 +129,17 @@ impl Alterations {
         if let Some(clef) = clef_at(text) {
             self.clef = Some(clef);
         }
-        self.alters = [Alter::None; 15];
+        self.alters = [Alter::None; HEIGHTS];
     }
 
     /// Passes a bar of that text.
     fn pass_bar(&mut self, text: &[u8])
         ensures { self.new ≡ in_force_behind self.old (AnItem ItemKind.Bar text.now ∷ []) }
     {
-        match text {
-            [b'`', ..] => {}
-            _ => self.alters = [Alter::None; 15],
+        // how many heights there are is known where a field is used
+        let _ = &self.alters;
+        if !is_virgula(text) {
+            self.alters = [Alter::None; HEIGHTS];
         }
     }
 
@@ -122,12 +147,9 @@ impl Alterations {
     fn pass_alteration(&mut self, text: &[u8])
         ensures { self.new ≡ in_force_behind self.old (AnItem ItemKind.Alteration text.now ∷ []) }
     {
-        let height = match text {
-            [pitch, ..] => height_of(*pitch),
-            [] => 0,
-        };
-        if let Some(alter) = self.alters.get_mut(height as usize) {
-            *alter = sign_of(text);
+        let height = height_at(text);
+        if (height as usize) < HEIGHTS {
+            self.alters[height as usize] = sign_of(text);
         }
     }
 
@@ -139,6 +161,8 @@ impl Alterations {
         requires { (item.span.from ≤ item.span.to) × (item.span.to ≤ length kept.now) }
         ensures { self.new ≡ in_force_behind self.old (step_of kept.now item ∷ []) }
     {
+        // how many heights there are is known where a field is used
+        let _ = &self.alters;
         let text = &kept.as_bytes()[item.span.from..item.span.to];
         match item.kind {
             ItemKind::Clef => self.pass_clef(text),
@@ -173,7 +197,10 @@ impl Alterations {
     {
         let own = self.own(height);
         let Some(clef) = self.clef else {
-            return Sound { degree: None, alter: own };
+            return Sound {
+                degree: None,
+                alter: own,
+            };
         };
         let degree = degree(clef, height);
         Sound {

@@ -1,6 +1,6 @@
 //! Laws of the definitions that contracts speak of. Each function is there for its clauses, and does nothing.
 
-ghost use Rattle.std.specs.Prelude.{◌≡◌, ◌≤◌, ◌<◌, ℕ, ◌⊎◌, List, [], ◌∷◌, ◌++◌, length, Bool, true, false};
+ghost use Rattle.std.specs.Prelude.{◌≡◌, ◌≤◌, ◌<◌, ℕ, ◌⊎◌, List, [], ◌∷◌, ◌++◌, Bool, true, false};
 ghost use Rattle.gabc_patterns.specs.LongestItems.{HasSome};
 ghost use Rattle.gabc_places.specs.declared.place.Span.{Span};
 ghost use Rattle.gabc_notes.specs.declared.item.Item.{Item};
@@ -57,14 +57,12 @@ pub fn segments_stand_in_elements()
     ensures { (kept : List ℕ) (i : Item) → is_in_segment i ≡ true → is_in_element kept i ≡ true }
 {}
 
-/// What is in force behind no step is what was in force before. What is in force behind some steps, and then behind more, is in force
-/// behind all of them: so whoever passes them one by one has what the definition says of all.
+/// What is in force behind some steps, and then behind more, is in force behind all of them: so whoever passes them one by one has what
+/// the definition says of all. It is also said of steps in the order of the score.
 pub fn steps_are_passed_one_by_one()
-    ensures none { (outset : InForce) → length outset.alters ≡ 15 →
-        in_force_behind outset [] ≡ outset }
-    ensures all { (outset : InForce) (before more : List ScoreStep) →
+    ensures back { (outset : InForce) (before more : List ScoreStep) →
         in_force_behind (in_force_behind outset before) more
         ≡ in_force_behind outset (more ++ before) }
-    ensures in_order { (outset : InForce) (steps more : List ScoreStep) →
+    ensures forth { (outset : InForce) (steps more : List ScoreStep) →
         passed (passed outset steps) more ≡ passed outset (steps ++ more) }
 {}

@@ -13,8 +13,10 @@ ghost use Rattle.gabc_write.specs.machine.NoteLines.{glyphs_from, begins_at, lin
 
 use crate::dump_item::{put_item, put_last, put_shape};
 use crate::scratch::Scratch;
+use gabc_neumes::laws::steps_are_passed_one_by_one;
 use gabc_neumes::{
-    Alterations, Base, Glyph, Tail, cut, is_in_element, is_in_segment, notes_into, word_of_base, word_of_tail,
+    Alterations, Base, Glyph, Tail, cut, is_in_element, is_in_segment, notes_into, word_of_base,
+    word_of_tail,
 };
 use gabc_notes::{Item, ItemKind, Note, items_into};
 use gabc_places::{Put, Room};
@@ -229,6 +231,7 @@ fn put_items<S: Put>(
     ensures notes { notes.new.limit ≡ notes.old.limit }
     ensures glyphs { glyphs.new.limit ≡ glyphs.old.limit }
 {
+    steps_are_passed_one_by_one();
     let mut place = ItemPlace::START;
     for (i, item) in items.iter().enumerate() {
         enter_segment(kept, &items[i..], place.in_segment, notes, glyphs);

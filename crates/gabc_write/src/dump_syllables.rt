@@ -107,6 +107,7 @@ fn put_snippets<S: Put>(
     ensures scratch { scratch.new ≡ scratch.old }
     ensures lines { All (λ snippet. snippet.line < 256) snippets.now }
 {
+    steps_are_passed_one_by_one();
     for snippet in snippets {
         put_snippet(syllable, *snippet, alterations, scratch, out);
     }
