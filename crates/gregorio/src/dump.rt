@@ -31,13 +31,7 @@ fn put_lines<S: Put>(syllables: &[Syllable], scratch: &mut Scratch, out: &mut S)
 {
     let mut alterations = Alterations::new();
     for (index, syllable) in syllables.iter().enumerate() {
-        dump_syllable(
-            index as u64 + 1,
-            syllable,
-            &mut alterations,
-            scratch,
-            out,
-        );
+        dump_syllable(index as u64 + 1, syllable, &mut alterations, scratch, out);
     }
 }
 
