@@ -2,7 +2,9 @@ pub mod machine
 pub mod Cut
 pub mod Elements
 pub mod Glyphs
+pub mod InForce
 pub mod Letters
 pub mod Runs
+pub mod Sound
 pub mod Table
 pub mod Words

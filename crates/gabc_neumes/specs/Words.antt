@@ -1,4 +1,4 @@
--- The words of kinds of glyphs.
+-- The words of kinds of glyphs, and of alterations.
 use Rattle.std.specs.Prelude.{ℕ, List, [], ◌++◌, codes}
 use Rattle.gabc_notes.specs.declared.note.Shape.{Shape}
 use Rattle.gabc_notes.specs.declared.note.Shape.TheVariants as shape
@@ -7,6 +7,8 @@ use Rattle.gabc_neumes.specs.declared.glyph.Base.TheVariants.{Pes, Clivis, Torcu
 use Rattle.gabc_neumes.specs.declared.glyph.Tail.{Tail}
 use Rattle.gabc_neumes.specs.declared.glyph.Tail.TheVariants.{Plain, Subpunctis, Resupinus}
 use Rattle.gabc_neumes.specs.declared.glyph.GlyphKind.{GlyphKind}
+use Rattle.gabc_neumes.specs.declared.sound.Alter.{Alter}
+use Rattle.gabc_neumes.specs.declared.sound.Alter.TheVariants as alter
 
 abbrev pub shape_word : Shape → List ℕ
 shape_word shape.Punctum = codes "punctum"
@@ -50,3 +52,9 @@ tail_word _ Resupinus = codes "-subpunctis-resupinus"
 
 abbrev pub kind_word : GlyphKind → List ℕ
 kind_word k = base_word k.base ++ tail_word k.base k.tail
+
+abbrev pub alter_word : Alter → List ℕ
+alter_word alter.None = codes "none"
+alter_word alter.Flat = codes "flat"
+alter_word alter.Natural = codes "natural"
+alter_word alter.Sharp = codes "sharp"

@@ -8,6 +8,7 @@ ghost use Rattle.gabc_notes.specs.declared.note.Note.{Note};
 ghost use Rattle.gabc_neumes.specs.Cut.{glyphs_of};
 ghost use Rattle.gabc_neumes.specs.Elements.{AreElementsOf, AreSegmentsOf, is_in_element, is_in_segment, divides, joins_segment};
 ghost use Rattle.gabc_neumes.specs.Glyphs.{HasKind, AreGlyphsOf};
+ghost use Rattle.gabc_neumes.specs.InForce.{InForce, ScoreStep, in_force_behind, passed};
 ghost use Rattle.gabc_neumes.specs.Runs.{passes_at, IsRun};
 ghost use Rattle.gabc_neumes.specs.declared.glyph.Glyph.{Glyph};
 ghost use Rattle.gabc_neumes.specs.declared.glyph.GlyphKind.{GlyphKind};
@@ -54,4 +55,14 @@ pub fn what_passes_stands_in_a_run()
 /// What is part of a segment is part of an element.
 pub fn segments_stand_in_elements()
     ensures { (kept : List ℕ) (i : Item) → is_in_segment i ≡ true → is_in_element kept i ≡ true }
+{}
+
+/// What is in force behind some steps, and then behind more, is in force behind all of them: so whoever passes them one by one has what
+/// the definition says of all. It is also said of steps in the order of the score.
+pub fn steps_are_passed_one_by_one()
+    ensures back { (outset : InForce) (before more : List ScoreStep) →
+        in_force_behind (in_force_behind outset before) more
+        ≡ in_force_behind outset (more ++ before) }
+    ensures forth { (outset : InForce) (steps more : List ScoreStep) →
+        passed (passed outset steps) more ≡ passed outset (steps ++ more) }
 {}

@@ -32,18 +32,22 @@
 //! the table is compared with the machine's next state, for each letter.
 #![tactic(auto)]
 
+mod alterations;
 mod glyph;
 mod glyphs;
 mod kind;
 pub mod laws;
 mod notes;
 mod runs;
+mod sound;
 mod state;
 mod words;
 
+pub use alterations::{Alterations, sign_of};
 pub use glyph::{Base, Glyph, GlyphKind, Tail};
 pub use glyphs::cut;
 pub use kind::kind_of;
 pub use notes::notes_into;
 pub use runs::{elements, is_in_element, is_in_segment, segments};
-pub use words::{word_of_base, word_of_shape, word_of_tail};
+pub use sound::{Alter, Clef, Sound, degree};
+pub use words::{word_of_alter, word_of_base, word_of_shape, word_of_tail};

@@ -1,9 +1,10 @@
-//! The words of kinds of glyphs.
+//! The words of kinds of glyphs, and of alterations.
 
 ghost use Rattle.std.specs.Prelude.{◌≡◌, Some};
-ghost use Rattle.gabc_neumes.specs.Words.{shape_word, base_word, tail_word, kind_word};
+ghost use Rattle.gabc_neumes.specs.Words.{shape_word, base_word, tail_word, kind_word, alter_word};
 
 use crate::glyph::{Base, GlyphKind, Tail};
+use crate::sound::Alter;
 use gabc_notes::Shape;
 use std::fmt;
 
@@ -71,5 +72,26 @@ impl fmt::Display for GlyphKind {
     fn fmt<W: fmt::Write>(&self, f: &mut fmt::Formatter<W>) -> fmt::Result {
         let GlyphKind { base, tail } = *self;
         write!(f, "{}{}", word_of_base(base), word_of_tail(base, tail))
+    }
+}
+
+/// Returns the word of `alter`, such as `flat`; that of `Alter::None` is `none`.
+pub fn word_of_alter(alter: Alter) -> &'static str
+    ensures { result.now ≡ alter_word alter }
+{
+    match alter {
+        Alter::None => "none",
+        Alter::Flat => "flat",
+        Alter::Natural => "natural",
+        Alter::Sharp => "sharp",
+    }
+}
+
+/// Prints the alteration's word, such as `flat`.
+impl fmt::Display for Alter {
+    ghost output = { λ a. Some (alter_word a) };
+
+    fn fmt<W: fmt::Write>(&self, f: &mut fmt::Formatter<W>) -> fmt::Result {
+        write!(f, "{}", word_of_alter(*self))
     }
 }

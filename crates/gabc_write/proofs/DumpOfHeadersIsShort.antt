@@ -56,4 +56,4 @@ lines_short (e ∷ book) =
     )
 
 pub heads_short : (book : List (List ℕ × List ℕ)) → length (dump_heads book) ≤ 3 * length (encodes (canonical_heads book)) + 7
-heads_short book = omega (arith, length-append (codes "dump 1\n") (flat_map line_of_header book), bytes_of_both (header_lines book) (codes "%%"), lines_short book)
+heads_short book = omega (arith, length-append (codes "dump 2\n") (flat_map line_of_header book), bytes_of_both (header_lines book) (codes "%%"), lines_short book)

@@ -1,7 +1,7 @@
 -- The lines of a snippet's items, put one item at a time.
-use Rattle.std.proofs.Common.{◌≡◌, ℕ, zero, suc, ◌+◌, ◌-◌, ◌≤◌, ◌<◌, ◌==◌, ◌&&◌, List, [], ◌∷◌, ◌++◌, Bool, true, false, not, cond, Option, Some, None, refl, sym, ap, ◌∙◌, subst, length, drop, take, reverse, slice_range, get_or, add-one, arith, append_assoc, append-nil, length-append, length-drop, drop-drop, ne_eqb, eqb-true, codes, if◌then◌else◌}
+use Rattle.std.proofs.Common.{◌≡◌, ℕ, zero, suc, ◌+◌, ◌-◌, ◌≤◌, ◌<◌, ◌==◌, ◌&&◌, List, [], ◌∷◌, ◌++◌, Bool, true, false, not, cond, Option, Some, None, refl, sym, ap, ◌∙◌, subst, length, drop, take, reverse, slice_range, get_or, map, add-one, arith, append_assoc, append-nil, length-append, length-drop, drop-drop, ne_eqb, eqb-true, codes, if◌then◌else◌}
 use Rattle.std.specs.List.{take_while, cons_option}
-use Rattle.std.proofs.lemmas.List.{reverse-append, take_more, take_all}
+use Rattle.std.proofs.lemmas.List.{reverse-append, map-append, take_more, take_all}
 use Rattle.std.proofs.Math.Seq.{drop-cons}
 use Rattle.std.proofs.lemmas.List.Elements.{filter_map-append}
 use Rattle.std.proofs.lemmas.List.Sums.{take_while-cons}
@@ -13,9 +13,10 @@ use Rattle.gabc_notes.specs.declared.item.ItemKind.TheVariants as kind
 use Rattle.gabc_notes.specs.declared.note.Note.{Note}
 use Rattle.gabc_neumes.specs.Cut.{kind_by, longest_glyph, glyphs_within, glyphs_of}
 use Rattle.gabc_neumes.specs.Elements.{is_in_element, is_in_segment, joins_segment, notes_in}
+use Rattle.gabc_neumes.specs.InForce.{InForce, ScoreStep, step_of, in_force_behind, passed}
 use Rattle.gabc_neumes.specs.declared.glyph.Glyph.{Glyph}
 use Rattle.gabc_neumes.specs.declared.glyph.GlyphKind.{GlyphKind}
-use Rattle.gabc_write.specs.DumpOfNotes.{is_behind_element, element_line, line_of_glyph, line_of_glyph_at, notes_before, notes_behind, is_note, glyph_line, line_of_item, lines_behind}
+use Rattle.gabc_write.specs.DumpOfNotes.{is_behind_element, element_line, line_of_glyph, line_of_glyph_at, notes_before, notes_behind, is_note, glyph_line, line_of_item, in_force_at, lines_behind}
 use Rattle.gabc_write.specs.machine.NoteLines.{glyphs_from, begins_at, line_of_next, lines_at, more_if, place_behind}
 use Rattle.gabc_write.specs.declared.dump_notes.ItemPlace.{ItemPlace}
 
@@ -221,9 +222,9 @@ more_small true n = omega arith
 more_small false n = omega arith
 
 -- What an item's step does: its lines are those of the definition, and the writer stands behind it.
-pub record Step (kept : List ℕ) (before items : List Item) (i : Item) (place : ItemPlace) (glyphs : List Glyph) : Type 0 where
+pub record Step (outset : InForce) (kept : List ℕ) (before items : List Item) (i : Item) (place : ItemPlace) (glyphs : List Glyph) : Type 0 where
   pub fits : place.glyphs ≤ length glyphs
-  pub lines : lines_at kept place (drop place.glyphs glyphs) i ≡ element_line kept before i ++ (glyph_line kept before i items ++ line_of_item kept i)
+  pub lines : lines_at (in_force_at outset kept before) kept place (drop place.glyphs glyphs) i ≡ element_line kept before i ++ (glyph_line kept before i items ++ line_of_item (in_force_at outset kept before) kept i)
   pub stands : Stands kept (i ∷ before) items (place_behind kept place (drop place.glyphs glyphs) i) glyphs
 
 element_same : (kept : List ℕ) (before : List Item) (i : Item) (b : Bool) (t : List ℕ) → b ≡ is_behind_element kept before
@@ -254,17 +255,17 @@ step_note kept before items i note glyphs_put glyphs e f n o =
     )
 
 -- outside of a segment
-step_outside : (kept : List ℕ) (before items : List Item) (i : Item) (place : ItemPlace) (old : List Glyph) → is_in_segment i ≡ false
-    → Stands kept before (i ∷ items) place old → Step kept before items i place old
-step_outside kept before items i place old e s =
+step_outside : (outset : InForce) (kept : List ℕ) (before items : List Item) (i : Item) (place : ItemPlace) (old : List Glyph) → is_in_segment i ≡ false
+    → Stands kept before (i ∷ items) place old → Step outset kept before items i place old
+step_outside outset kept before items i place old e s =
     let f : is_note i.kind ≡ false = no_note i.kind e in
     let there : ItemPlace = record { in_element = is_in_element kept i; in_segment = false; notes = 0; glyphs = 0 } in
     let same : there ≡ place_behind kept place (drop place.glyphs old) i = rw e refl in
-    let tail : (if is_note i.kind then line_of_next place.notes (drop place.glyphs old) else []) ++ line_of_item kept i ≡ glyph_line kept before i items ++ line_of_item kept i = rw f refl in
+    let tail : (if is_note i.kind then line_of_next place.notes (drop place.glyphs old) else []) ++ line_of_item (in_force_at outset kept before) kept i ≡ glyph_line kept before i items ++ line_of_item (in_force_at outset kept before) kept i = rw f refl in
     record {
       fits = fits place.in_segment refl;
       lines = ap (λ (t : List ℕ). (if is_in_element kept i && not place.in_element then codes "element\n" else []) ++ t) tail
-          ∙ element_same kept before i place.in_element (glyph_line kept before i items ++ line_of_item kept i) s.in_element;
+          ∙ element_same kept before i place.in_element (glyph_line kept before i items ++ line_of_item (in_force_at outset kept before) kept i) s.in_element;
       stands = subst (λ (p : ItemPlace). Stands kept (i ∷ before) items p old) same (record {
         in_element = refl;
         in_segment = sym e;
@@ -281,9 +282,9 @@ step_outside kept before items i place old e s =
     fits false x = let z = s.none x in omega arith
 
 -- inside a segment
-step_inside : (kept : List ℕ) (before items : List Item) (i : Item) (place : ItemPlace) (old glyphs : List Glyph) → is_in_segment i ≡ true
-    → Stands kept before (i ∷ items) place old → Open kept before (i ∷ items) place.notes place.glyphs glyphs → Step kept before items i place glyphs
-step_inside kept before items i place old glyphs e s o = go (is_note i.kind) refl
+step_inside : (outset : InForce) (kept : List ℕ) (before items : List Item) (i : Item) (place : ItemPlace) (old glyphs : List Glyph) → is_in_segment i ≡ true
+    → Stands kept before (i ∷ items) place old → Open kept before (i ∷ items) place.notes place.glyphs glyphs → Step outset kept before items i place glyphs
+step_inside outset kept before items i place old glyphs e s o = go (is_note i.kind) refl
   where
     count : (b : Bool) → is_note i.kind ≡ b → more_if b place.notes ≡ length (notes_before kept (i ∷ before))
     count b f =
@@ -303,74 +304,94 @@ step_inside kept before items i place old glyphs e s o = go (is_note i.kind) ref
         → Stands kept (i ∷ before) items (record { in_element = is_in_element kept i; in_segment = true; notes = note; glyphs = glyphs_put }) glyphs
     step_with note glyphs_put n l m p = record { in_element = refl; in_segment = sym e; notes = n; few = l; few_written = m; none = λ x. absurd (cc); inside = λ x. p }
 
-    go : (b : Bool) → is_note i.kind ≡ b → Step kept before items i place glyphs
+    go : (b : Bool) → is_note i.kind ≡ b → Step outset kept before items i place glyphs
     go true f =
         let t = step_note kept before items i place.notes place.glyphs glyphs e f s.notes o in
         let glyphs_put : ℕ = more_if (begins_at place.notes (drop place.glyphs glyphs)) place.glyphs in
         let there : ItemPlace = record { in_element = is_in_element kept i; in_segment = true; notes = place.notes + 1; glyphs = glyphs_put } in
         let same : there ≡ place_behind kept place (drop place.glyphs glyphs) i = rw (e, f) refl in
-        let tail : (if is_note i.kind then line_of_next place.notes (drop place.glyphs glyphs) else []) ++ line_of_item kept i ≡ glyph_line kept before i items ++ line_of_item kept i
-        = ap (λ (x : Bool). (if x then line_of_next place.notes (drop place.glyphs glyphs) else []) ++ line_of_item kept i) f ∙ ap (λ (x : List ℕ). x ++ line_of_item kept i) t.0 in
+        let tail : (if is_note i.kind then line_of_next place.notes (drop place.glyphs glyphs) else []) ++ line_of_item (in_force_at outset kept before) kept i ≡ glyph_line kept before i items ++ line_of_item (in_force_at outset kept before) kept i
+        = ap (λ (x : Bool). (if x then line_of_next place.notes (drop place.glyphs glyphs) else []) ++ line_of_item (in_force_at outset kept before) kept i) f ∙ ap (λ (x : List ℕ). x ++ line_of_item (in_force_at outset kept before) kept i) t.0 in
         record {
           fits = o.fits;
           lines = ap (λ (x : List ℕ). (if is_in_element kept i && not place.in_element then codes "element\n" else []) ++ x) tail
-              ∙ element_same kept before i place.in_element (glyph_line kept before i items ++ line_of_item kept i) s.in_element;
+              ∙ element_same kept before i place.in_element (glyph_line kept before i items ++ line_of_item (in_force_at outset kept before) kept i) s.in_element;
           stands = subst (λ (p : ItemPlace). Stands kept (i ∷ before) items p glyphs) same (step_with (place.notes + 1) glyphs_put (count true f) (few true) (let m = s.few_written in omega (arith, more_small (begins_at place.notes (drop place.glyphs glyphs)) place.glyphs)) t.1);
         }
     go false f =
         let there : ItemPlace = record { in_element = is_in_element kept i; in_segment = true; notes = place.notes; glyphs = place.glyphs } in
         let same : there ≡ place_behind kept place (drop place.glyphs glyphs) i = rw (e, f) refl in
-        let tail : (if is_note i.kind then line_of_next place.notes (drop place.glyphs glyphs) else []) ++ line_of_item kept i ≡ glyph_line kept before i items ++ line_of_item kept i = rw f refl in
+        let tail : (if is_note i.kind then line_of_next place.notes (drop place.glyphs glyphs) else []) ++ line_of_item (in_force_at outset kept before) kept i ≡ glyph_line kept before i items ++ line_of_item (in_force_at outset kept before) kept i = rw f refl in
         let open_on : Open kept (i ∷ before) items place.notes place.glyphs glyphs = record { fits = o.fits; read = o.read ∙ ap glyphs_of (same_notes kept before items i e); ascends = o.ascends; lines = o.lines } in
         record {
           fits = o.fits;
           lines = ap (λ (x : List ℕ). (if is_in_element kept i && not place.in_element then codes "element\n" else []) ++ x) tail
-              ∙ element_same kept before i place.in_element (glyph_line kept before i items ++ line_of_item kept i) s.in_element;
+              ∙ element_same kept before i place.in_element (glyph_line kept before i items ++ line_of_item (in_force_at outset kept before) kept i) s.in_element;
           stands = subst (λ (p : ItemPlace). Stands kept (i ∷ before) items p glyphs) same (step_with place.notes place.glyphs (count false f) (few false) s.few_written open_on);
         }
 
 -- an item's step
-pub step : (kept : List ℕ) (before items : List Item) (i : Item) (place : ItemPlace) (old : List Glyph) → Stands kept before (i ∷ items) place old
-    → Step kept before items i place (glyphs_from kept place.in_segment (i ∷ items) old)
-step kept before items i place old s = go (is_in_segment i) refl
+pub step : (outset : InForce) (kept : List ℕ) (before items : List Item) (i : Item) (place : ItemPlace) (old : List Glyph) → Stands kept before (i ∷ items) place old
+    → Step outset kept before items i place (glyphs_from kept place.in_segment (i ∷ items) old)
+step outset kept before items i place old s = go (is_in_segment i) refl
   where
-    go : (b : Bool) → is_in_segment i ≡ b → Step kept before items i place (glyphs_from kept place.in_segment (i ∷ items) old)
-    go true e = step_inside kept before items i place old (glyphs_from kept place.in_segment (i ∷ items) old) e s (opened kept before items i place old e s)
+    go : (b : Bool) → is_in_segment i ≡ b → Step outset kept before items i place (glyphs_from kept place.in_segment (i ∷ items) old)
+    go true e = step_inside outset kept before items i place old (glyphs_from kept place.in_segment (i ∷ items) old) e s (opened kept before items i place old e s)
     go false e =
         let same : old ≡ glyphs_from kept place.in_segment (i ∷ items) old = rw e refl in
-        subst (Step kept before items i place) same (step_outside kept before items i place old e s)
+        subst (Step outset kept before items i place) same (step_outside outset kept before items i place old e s)
 
 -- ---- over a list
 
 -- What the turn of a loop over the items does, at the item with that index.
-pub record Turn (kept : List ℕ) (items : List Item) (index : ℕ) (i : Item) (place : ItemPlace) (glyphs : List Glyph) : Type 0 where
+pub record Turn (outset : InForce) (kept : List ℕ) (items : List Item) (index : ℕ) (i : Item) (place : ItemPlace) (glyphs : List Glyph) : Type 0 where
   pub fits : place.glyphs ≤ length glyphs
-  pub lines : lines_behind kept (reverse (take index items)) (drop index items)
-      ≡ lines_at kept place (drop place.glyphs glyphs) i ++ lines_behind kept (reverse (take (index + 1) items)) (drop (index + 1) items)
+  pub lines : lines_behind outset kept (reverse (take index items)) (drop index items)
+      ≡ lines_at (in_force_at outset kept (reverse (take index items))) kept place (drop place.glyphs glyphs) i ++ lines_behind outset kept (reverse (take (index + 1) items)) (drop (index + 1) items)
   pub stands : Stands kept (reverse (take (index + 1) items)) (drop (index + 1) items) (place_behind kept place (drop place.glyphs glyphs) i) glyphs
 
-pub turn : (kept : List ℕ) (items : List Item) (index : ℕ) (d : Item) (place : ItemPlace) (old : List Glyph) → index < length items
+-- an item more is the nearest before the next
+pub one_more : (items : List Item) (index : ℕ) (d : Item) → index < length items → get_or items index d ∷ reverse (take index items) ≡ reverse (take (index + 1) items)
+one_more items index d l = sym (ap reverse (take_more items index d l) ∙ reverse-append (take index items) (get_or items index d ∷ []))
+
+pub turn : (outset : InForce) (kept : List ℕ) (items : List Item) (index : ℕ) (d : Item) (place : ItemPlace) (old : List Glyph) → index < length items
     → Stands kept (reverse (take index items)) (drop index items) place old
-    → Turn kept items index (get_or items index d) place (glyphs_from kept place.in_segment (drop index items) old)
-turn kept items index d place old l s =
+    → Turn outset kept items index (get_or items index d) place (glyphs_from kept place.in_segment (drop index items) old)
+turn outset kept items index d place old l s =
     let i : Item = get_or items index d in
     let before : List Item = reverse (take index items) in
     let rest : drop index items ≡ i ∷ drop (index + 1) items = drop-cons items index d l ∙ ap (λ (n : ℕ). i ∷ drop n items) (sym (add-one index)) in
-    let done : i ∷ before ≡ reverse (take (index + 1) items) = sym (ap reverse (take_more items index d l) ∙ reverse-append (take index items) (i ∷ [])) in
-    let t = subst (λ (u : List Item). Step kept before (drop (index + 1) items) i place (glyphs_from kept place.in_segment u old)) (sym rest)
-    (step kept before (drop (index + 1) items) i place old (subst (λ (u : List Item). Stands kept before u place old) rest s)) in
+    let done : i ∷ before ≡ reverse (take (index + 1) items) = one_more items index d l in
+    let t = subst (λ (u : List Item). Step outset kept before (drop (index + 1) items) i place (glyphs_from kept place.in_segment u old)) (sym rest)
+    (step outset kept before (drop (index + 1) items) i place old (subst (λ (u : List Item). Stands kept before u place old) rest s)) in
     let glyphs : List Glyph = glyphs_from kept place.in_segment (drop index items) old in
-    let later : List ℕ = lines_behind kept (i ∷ before) (drop (index + 1) items) in
+    let later : List ℕ = lines_behind outset kept (i ∷ before) (drop (index + 1) items) in
     record {
       fits = t.fits;
-      lines = ap (lines_behind kept before) rest
-          ∙ (ap (λ (x : List ℕ). element_line kept before i ++ x) (sym (append_assoc (glyph_line kept before i (drop (index + 1) items)) (line_of_item kept i) later))
-          ∙ (sym (append_assoc (element_line kept before i) (glyph_line kept before i (drop (index + 1) items) ++ line_of_item kept i) later)
+      lines = ap (lines_behind outset kept before) rest
+          ∙ (ap (λ (x : List ℕ). element_line kept before i ++ x) (sym (append_assoc (glyph_line kept before i (drop (index + 1) items)) (line_of_item (in_force_at outset kept before) kept i) later))
+          ∙ (sym (append_assoc (element_line kept before i) (glyph_line kept before i (drop (index + 1) items) ++ line_of_item (in_force_at outset kept before) kept i) later)
           ∙ (ap (λ (x : List ℕ). x ++ later) (sym t.lines)
-          ∙ ap (λ (x : List Item). lines_at kept place (drop place.glyphs glyphs) i ++ lines_behind kept x (drop (index + 1) items)) done)));
+          ∙ ap (λ (x : List Item). lines_at (in_force_at outset kept before) kept place (drop place.glyphs glyphs) i ++ lines_behind outset kept x (drop (index + 1) items)) done)));
       stands = subst (λ (x : List Item). Stands kept x (drop (index + 1) items) (place_behind kept place (drop place.glyphs glyphs) i) glyphs) done t.stands;
     }
 
 -- what is left from a place on
 pub slice_rest : {X : Type 0} (xs : List X) (at : ℕ) → slice_range xs at (length xs) ≡ drop at xs
 slice_rest xs at = take_all (length xs - at) (drop at xs) (omega (arith, length-drop at xs))
+
+-- ---- the items of a list, passed in order
+
+steps_reversed : (kept : List ℕ) (items : List Item) → map (step_of kept) (reverse items) ≡ reverse (map (step_of kept) items)
+steps_reversed kept [] = refl
+steps_reversed kept (i ∷ items) =
+    ap (map (step_of kept)) (reverse-append (i ∷ []) items)
+    ∙ (map-append (step_of kept) (reverse items) (i ∷ [])
+    ∙ (ap (λ (t : List ScoreStep). t ++ step_of kept i ∷ []) (steps_reversed kept items)
+    ∙ sym (reverse-append (step_of kept i ∷ []) (map (step_of kept) items))))
+
+-- behind as many items as there are, all are passed
+pub all_passed : (outset : InForce) (kept : List ℕ) (items : List Item) (count : ℕ) → length items ≤ count
+    → in_force_at outset kept (reverse (take count items)) ≡ passed outset (map (step_of kept) items)
+all_passed outset kept items count l =
+    ap (λ (t : List Item). in_force_at outset kept (reverse t)) (take_all count items l) ∙ ap (in_force_behind outset) (steps_reversed kept items)

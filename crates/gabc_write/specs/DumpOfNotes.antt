@@ -1,5 +1,6 @@
--- The lines of a GABC snippet in a dump. In these definitions `before` is what stands before an item, the nearest first.
-use Rattle.std.specs.Prelude.{ℕ, ◌+◌, ◌-◌, ◌==◌, List, [], ◌∷◌, ◌++◌, Bool, true, false, ◌&&◌, ◌||◌, not, length, drop, reverse, slice_range, codes, if◌then◌else◌}
+-- The lines of a GABC snippet in a dump. In these definitions `before` is what stands before an item, the nearest first, and `outset` is
+-- what is in force before the snippet.
+use Rattle.std.specs.Prelude.{ℕ, ◌+◌, ◌-◌, ◌==◌, List, [], ◌∷◌, ◌++◌, Bool, true, false, ◌&&◌, ◌||◌, not, length, map, reverse, slice_range, codes, Option, Some, None, if◌then◌else◌}
 use Rattle.std.specs.List.{flat_map, take_while}
 use Rattle.std.specs.Fmt.{decimal}
 use Rattle.gabc_notes.specs.Items.{items_of, bytes_of}
@@ -10,8 +11,11 @@ use Rattle.gabc_notes.specs.declared.item.ItemKind.TheVariants as kind
 use Rattle.gabc_notes.specs.declared.note.Note.{Note}
 use Rattle.gabc_neumes.specs.Cut.{glyphs_of}
 use Rattle.gabc_neumes.specs.Elements.{is_in_element, is_in_segment, notes_in}
-use Rattle.gabc_neumes.specs.Words.{shape_word, kind_word}
+use Rattle.gabc_neumes.specs.InForce.{InForce, step_of, is_virgula, in_force_behind, sound_of}
+use Rattle.gabc_neumes.specs.Sound.{sign_of}
+use Rattle.gabc_neumes.specs.Words.{shape_word, kind_word, alter_word}
 use Rattle.gabc_neumes.specs.declared.glyph.Glyph.{Glyph}
+use Rattle.gabc_neumes.specs.declared.sound.Sound.{Sound}
 use Rattle.gabc_write.specs.DumpLines.{escaped}
 
 -- ---- the line of an item, by its spelling
@@ -24,28 +28,38 @@ last_text t = escaped t ++ codes "\n"
 abbrev pub pitch_letter : ℕ → ℕ
 pitch_letter height = if height == 14 then 112 else height + 97
 
--- `note PITCH SHAPE S`
-abbrev pub line_of_note : List ℕ → List ℕ
-line_of_note t =
-    codes "note " ++ (pitch_letter (height_at (from_pitch t)) ∷ (codes " " ++ (shape_word (shape_at (from_pitch t)) ++ (codes " " ++ last_text t))))
+-- the degrees from 0 to 6 by their names; there is none before any clef
+abbrev pub degree_word : Option ℕ → List ℕ
+degree_word None = codes "-"
+degree_word (Some degree) =
+    if degree == 0 then codes "ut" else
+    if degree == 1 then codes "re" else
+    if degree == 2 then codes "mi" else
+    if degree == 3 then codes "fa" else
+    if degree == 4 then codes "sol" else
+    if degree == 5 then codes "la" else codes "si"
 
--- the sign stands behind its pitch
-abbrev pub sign_word : List ℕ → List ℕ
-sign_word t =
-    if begins_with (codes "x") t || begins_with (codes "X") t then codes "flat" else
-    if begins_with (codes "y") t || begins_with (codes "Y") t then codes "natural" else codes "sharp"
+-- ` DEGREE ALTER`
+abbrev pub sound_words : Sound → List ℕ
+sound_words sound = codes " " ++ (degree_word sound.degree ++ (codes " " ++ alter_word sound.alter))
+
+-- `note PITCH SHAPE DEGREE ALTER S`
+abbrev pub line_of_note : Sound → List ℕ → List ℕ
+line_of_note sound t =
+    codes "note " ++ (pitch_letter (height_at (from_pitch t)) ∷ (codes " " ++ (shape_word (shape_at (from_pitch t))
+    ++ (sound_words sound ++ (codes " " ++ last_text t)))))
 
 -- `alteration PITCH flat|natural|sharp S`
 abbrev pub line_of_alteration : List ℕ → List ℕ
-line_of_alteration t = codes "alteration " ++ (pitch_letter (height_at t) ∷ (codes " " ++ (sign_word (drop 1 t) ++ (codes " " ++ last_text t))))
+line_of_alteration t = codes "alteration " ++ (pitch_letter (height_at t) ∷ (codes " " ++ (alter_word (sign_of t) ++ (codes " " ++ last_text t))))
 
 abbrev pub bar_word : List ℕ → List ℕ
 bar_word t =
-    if begins_with (codes "::") t then codes "finalis" else
-    if begins_with (codes ":") t then codes "maior" else
-    if begins_with (codes ";") t then codes "minor" else
+    if is_virgula t then codes "virgula" else
+    if begins_with (codes "^") t then codes "minimis" else
     if begins_with (codes ",") t then codes "minima" else
-    if begins_with (codes "^") t then codes "minimis" else codes "virgula"
+    if begins_with (codes ";") t then codes "minor" else
+    if begins_with (codes "::") t then codes "finalis" else codes "maior"
 
 -- `bar NAME S`
 abbrev pub line_of_bar : List ℕ → List ℕ
@@ -67,19 +81,20 @@ line_of_custos t = codes "custos " ++ (if begins_with (codes "z") t then codes "
 abbrev pub raw_of : List ℕ → List ℕ
 raw_of t = slice_range t 1 (length t - 1)
 
-abbrev pub line_by : ItemKind → List ℕ → List ℕ
-line_by kind.Note t = line_of_note t
-line_by kind.Alteration t = line_of_alteration t
-line_by kind.Clef t = codes "clef " ++ last_text t
-line_by kind.Bar t = line_of_bar t
-line_by kind.Spacing t = line_of_spacing t
-line_by kind.Custos t = line_of_custos t
-line_by kind.Break t = codes "break " ++ last_text t
-line_by kind.Attribute t = codes "attribute " ++ last_text (raw_of t)
-line_by kind.Fusion t = codes "fusion " ++ last_text t
+-- before the item this is in force
+abbrev pub line_by : InForce → ItemKind → List ℕ → List ℕ
+line_by force kind.Note t = line_of_note (sound_of force (height_at (from_pitch t))) t
+line_by force kind.Alteration t = line_of_alteration t
+line_by force kind.Clef t = codes "clef " ++ last_text t
+line_by force kind.Bar t = line_of_bar t
+line_by force kind.Spacing t = line_of_spacing t
+line_by force kind.Custos t = line_of_custos t
+line_by force kind.Break t = codes "break " ++ last_text t
+line_by force kind.Attribute t = codes "attribute " ++ last_text (raw_of t)
+line_by force kind.Fusion t = codes "fusion " ++ last_text t
 
-abbrev pub line_of_item : List ℕ → Item → List ℕ
-line_of_item kept i = line_by i.kind (bytes_of kept i)
+abbrev pub line_of_item : InForce → List ℕ → Item → List ℕ
+line_of_item force kept i = line_by force i.kind (bytes_of kept i)
 
 -- ---- what stands before the line of an item
 
@@ -122,11 +137,16 @@ glyph_line kept before i items = if is_note i.kind then line_of_first_glyph kept
 
 -- ---- the lines of a snippet
 
-abbrev pub lines_behind : List ℕ → List Item → List Item → List ℕ
-lines_behind kept before [] = []
-lines_behind kept before (i ∷ items) =
-    element_line kept before i ++ (glyph_line kept before i items ++ (line_of_item kept i ++ lines_behind kept (i ∷ before) items))
+-- what is in force behind the items before
+abbrev pub in_force_at : InForce → List ℕ → List Item → InForce
+in_force_at outset kept before = in_force_behind outset (map (step_of kept) before)
+
+abbrev pub lines_behind : InForce → List ℕ → List Item → List Item → List ℕ
+lines_behind outset kept before [] = []
+lines_behind outset kept before (i ∷ items) =
+    element_line kept before i ++ (glyph_line kept before i items
+    ++ (line_of_item (in_force_at outset kept before) kept i ++ lines_behind outset kept (i ∷ before) items))
 
 -- `notes:S`, and the lines of its items
-abbrev pub lines_of_notes : List ℕ → List ℕ
-lines_of_notes kept = codes "notes:" ++ (last_text kept ++ lines_behind kept [] (items_of kept))
+abbrev pub lines_of_notes : InForce → List ℕ → List ℕ
+lines_of_notes outset kept = codes "notes:" ++ (last_text kept ++ lines_behind outset kept [] (items_of kept))

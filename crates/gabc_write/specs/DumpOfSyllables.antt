@@ -3,7 +3,9 @@ use Rattle.std.specs.Prelude.{ℕ, ◌+◌, ◌==◌, List, [], ◌∷◌, ◌++
 use Rattle.std.specs.List.{flat_map}
 use Rattle.std.specs.Fmt.{decimal}
 use Rattle.gabc_places.specs.declared.place.Span.{Span}
+use Rattle.gabc_neumes.specs.InForce.{InForce, ScoreStep, WordStart, nothing_in_force, steps_of, passed}
 use Rattle.gabc_text.specs.Canonical.{canonical_text}
+use Rattle.gabc_score.specs.Canonical.{starts_word}
 use Rattle.gabc_score.specs.Syllable.{PlacedSyllable, slice, text_at}
 use Rattle.gabc_score.specs.declared.snippets.Snippet.{Snippet}
 use Rattle.gabc_score.specs.declared.syllable.Position.{Position}
@@ -34,24 +36,47 @@ abbrev pub line_of_translation : List ℕ → Option Span → List ℕ
 line_of_translation kept None = []
 line_of_translation kept (Some span) = codes "translation:" ++ last_text (slice span kept)
 
+-- ---- the steps, in order, of a snippet, of a syllable's snippets, and of a syllable: they begin with the start of a word where it begins one
+
+abbrev pub steps_of_snippet : List ℕ → Snippet → List ScoreStep
+steps_of_snippet kept s = if s.line == 0 then steps_of (text_at s.span kept) else []
+
+abbrev pub steps_of_snippets : List ℕ → List Snippet → List ScoreStep
+steps_of_snippets kept snippets = flat_map (steps_of_snippet kept) snippets
+
+abbrev pub first_steps : Position → List ScoreStep
+first_steps position = if starts_word position then WordStart ∷ [] else []
+
+abbrev pub steps_of_syllable : PlacedSyllable → List ScoreStep
+steps_of_syllable s = first_steps s.position ++ steps_of_snippets s.made.kept s.made.snippets
+
+-- ---- the lines; `outset` is what is in force before what they tell of
+
 -- the lines of a snippet: line 0 is that of the notes
-abbrev pub lines_of_snippet : List ℕ → Snippet → List ℕ
-lines_of_snippet kept s = if s.line == 0 then lines_of_notes (text_at s.span kept) else lines_of_nabc s.line (text_at s.span kept)
+abbrev pub lines_of_snippet : InForce → List ℕ → Snippet → List ℕ
+lines_of_snippet outset kept s =
+    if s.line == 0 then lines_of_notes outset (text_at s.span kept) else lines_of_nabc s.line (text_at s.span kept)
+
+abbrev pub lines_of_snippets : InForce → List ℕ → List Snippet → List ℕ
+lines_of_snippets outset kept [] = []
+lines_of_snippets outset kept (s ∷ snippets) =
+    lines_of_snippet outset kept s ++ lines_of_snippets (passed outset (steps_of_snippet kept s)) kept snippets
 
 -- the lines of the syllable with that number
-abbrev pub lines_of_syllable : ℕ → PlacedSyllable → List ℕ
-lines_of_syllable number s =
+abbrev pub lines_of_syllable : ℕ → InForce → PlacedSyllable → List ℕ
+lines_of_syllable number outset s =
     first_line number s
     ++ (line_of_text (canonical_text s.made.text s.made.kept)
     ++ (line_of_translation s.made.kept s.made.text.translation
-    ++ flat_map (lines_of_snippet s.made.kept) s.made.snippets))
+    ++ lines_of_snippets (passed outset (first_steps s.position)) s.made.kept s.made.snippets))
 
 -- the lines of syllables, which are numbered from that number on
-abbrev pub lines_of_syllables : ℕ → List PlacedSyllable → List ℕ
-lines_of_syllables number [] = []
-lines_of_syllables number (s ∷ syllables) = lines_of_syllable number s ++ lines_of_syllables (number + 1) syllables
+abbrev pub lines_of_syllables : ℕ → InForce → List PlacedSyllable → List ℕ
+lines_of_syllables number outset [] = []
+lines_of_syllables number outset (s ∷ syllables) =
+    lines_of_syllable number outset s ++ lines_of_syllables (number + 1) (passed outset (steps_of_syllable s)) syllables
 
 -- The dump of this book and these syllables. Where the score was stopped, it has no last line.
 abbrev pub dump_text : Bool → List (List ℕ × List ℕ) → List PlacedSyllable → List ℕ
 dump_text whole book syllables =
-    dump_heads book ++ (lines_of_syllables 1 syllables ++ (if whole then end_line (length syllables) else []))
+    dump_heads book ++ (lines_of_syllables 1 nothing_in_force syllables ++ (if whole then end_line (length syllables) else []))

@@ -21,7 +21,7 @@ fn put_header<S: Put>(name: &str, value: &str, out: &mut S)
     out.put(b"\n");
 }
 
-/// Puts what stands before the syllables of a dump: `dump 1`, and a line for each header of `book`. In names and values a
+/// Puts what stands before the syllables of a dump: `dump 2`, and a line for each header of `book`. In names and values a
 /// backslash is written `\\` and an LF `\n`. It is at most three times as many bytes as `HeaderBook::canonical_len` tells, and 7.
 /// A room without that many bytes left gets as many of them as fit.
 pub fn dump_header<S: Put>(book: &HeaderBook, out: &mut S)
@@ -29,7 +29,7 @@ pub fn dump_header<S: Put>(book: &HeaderBook, out: &mut S)
     ensures short { length (dump_heads book.now)
         ≤ 3 * length (encode_utf8_all (canonical_heads book.now)) + 7 }
 {
-    out.put(b"dump 1\n");
+    out.put(b"dump 2\n");
     for index in 0..book.len() {
         put_header(book.name(index), book.value(index), out);
     }

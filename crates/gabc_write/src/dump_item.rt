@@ -1,12 +1,13 @@
 //! The line of one item of a snippet in the dump.
 
-ghost use Rattle.std.specs.Prelude.{◌≡◌, ◌≤◌, ◌<◌, ◌++◌, codes, drop, length, false};
+ghost use Rattle.std.specs.Prelude.{◌≡◌, ◌≤◌, ◌<◌, ◌++◌, codes, length, false};
+ghost use Rattle.gabc_neumes.specs.InForce.{InForce};
 ghost use Rattle.gabc_neumes.specs.Words.{shape_word};
 ghost use Rattle.gabc_notes.specs.Notes.{from_pitch, height_at, shape_at};
-ghost use Rattle.gabc_write.specs.DumpOfNotes.{last_text, pitch_letter, line_of_note, sign_word, line_of_alteration, bar_word, line_of_bar, is_blank_run, line_of_spacing, line_of_custos, raw_of, is_note, line_by, line_of_item};
+ghost use Rattle.gabc_write.specs.DumpOfNotes.{last_text, pitch_letter, degree_word, sound_words, line_of_note, line_of_alteration, bar_word, line_of_bar, is_blank_run, line_of_spacing, line_of_custos, raw_of, is_note, line_by, line_of_item};
 
 use crate::escape::put_escaped;
-use gabc_neumes::word_of_shape;
+use gabc_neumes::{Alter, Alterations, Sound, sign_of, word_of_alter, word_of_shape};
 use gabc_notes::{Item, ItemKind, Shape, height_of, note_of};
 use gabc_places::Put;
 
@@ -82,25 +83,46 @@ fn letter_of_note(text: &[u8]) -> u8
     }
 }
 
-/// Puts the line of a note of that shape and text: `note PITCH SHAPE S`.
-fn put_note<S: Put>(shape: Shape, text: &[u8], out: &mut S)
+/// Returns the name of `degree`, or `-` where there is none.
+fn name_of_degree(degree: Option<u8>) -> &'static str
+    ensures { result.now ≡ degree_word degree }
+{
+    match degree {
+        None => "-",
+        Some(0) => "ut",
+        Some(1) => "re",
+        Some(2) => "mi",
+        Some(3) => "fa",
+        Some(4) => "sol",
+        Some(5) => "la",
+        Some(_) => "si",
+    }
+}
+
+/// Puts how a note sounds, with a blank before each word: ` DEGREE ALTER`.
+fn put_sound<S: Put>(sound: Sound, out: &mut S)
+    ensures { out.new ≡ S.taken out.old (sound_words sound) }
+{
+    out.put(b" ");
+    out.put(name_of_degree(sound.degree).as_bytes());
+    match sound.alter {
+        Alter::None => out.put(b" none"),
+        _ => {
+            out.put(b" ");
+            out.put(word_of_alter(sound.alter).as_bytes());
+        }
+    }
+}
+
+/// Puts the line of a note of that shape, sound and text: `note PITCH SHAPE DEGREE ALTER S`.
+fn put_note<S: Put>(shape: Shape, sound: Sound, text: &[u8], out: &mut S)
     requires { shape ≡ shape_at (from_pitch text.now) }
-    ensures { out.new ≡ S.taken out.old (line_of_note text.now) }
+    ensures { out.new ≡ S.taken out.old (line_of_note sound text.now) }
 {
     out.put(&[b'n', b'o', b't', b'e', b' ', letter_of_note(text), b' ']);
     put_shape(shape, out);
+    put_sound(sound, out);
     put_blank_and_last(text, out);
-}
-
-/// Returns the word of the sign that stands behind the pitch of `text`, an alteration.
-fn word_of_sign(text: &[u8]) -> &'static str
-    ensures { result.now ≡ sign_word (drop 1 text.now) }
-{
-    match text {
-        [_, b'x' | b'X', ..] => "flat",
-        [_, b'y' | b'Y', ..] => "natural",
-        _ => "sharp",
-    }
 }
 
 /// Puts the line of an alteration: `alteration PITCH flat|natural|sharp S`.
@@ -109,7 +131,7 @@ fn put_alteration<S: Put>(text: &[u8], out: &mut S)
 {
     out.put(b"alteration ");
     out.put(&[letter_of(text), b' ']);
-    put_word_and_last(word_of_sign(text), text, out);
+    put_word_and_last(word_of_alter(sign_of(text)), text, out);
 }
 
 /// Returns the name of the bar `text`.
@@ -117,12 +139,12 @@ fn name_of_bar(text: &[u8]) -> &'static str
     ensures { result.now ≡ bar_word text.now }
 {
     match text {
-        [b':', b':', ..] => "finalis",
-        [b':', ..] => "maior",
-        [b';', ..] => "minor",
-        [b',', ..] => "minima",
+        [b'`', ..] => "virgula",
         [b'^', ..] => "minimis",
-        _ => "virgula",
+        [b',', ..] => "minima",
+        [b';', ..] => "minor",
+        [b':', b':', ..] => "finalis",
+        _ => "maior",
     }
 }
 
@@ -180,7 +202,7 @@ fn raw(text: &[u8]) -> &[u8]
 /// Puts the line of an item of that kind and text that is no note.
 fn put_other<S: Put>(kind: ItemKind, text: &[u8], out: &mut S)
     requires { is_note kind ≡ false }
-    ensures { out.new ≡ S.taken out.old (line_by kind text.now) }
+    ensures { (force : InForce) → out.new ≡ S.taken out.old (line_by force kind text.now) }
 {
     match kind {
         ItemKind::Note => {}
@@ -207,14 +229,14 @@ fn put_other<S: Put>(kind: ItemKind, text: &[u8], out: &mut S)
     }
 }
 
-/// Puts the line of `item`, which has to lie in `kept`.
-pub(crate) fn put_item<S: Put>(kept: &str, item: Item, out: &mut S)
+/// Puts the line of `item`, which has to lie in `kept`. Before it `force` is in force.
+pub(crate) fn put_item<S: Put>(kept: &str, item: Item, force: &Alterations, out: &mut S)
     requires { (item.span.from ≤ item.span.to) × (item.span.to ≤ length kept.now) }
-    ensures { out.new ≡ S.taken out.old (line_of_item kept.now item) }
+    ensures { out.new ≡ S.taken out.old (line_of_item force.now kept.now item) }
 {
     let text = &kept.as_bytes()[item.span.from..item.span.to];
     match note_of(kept, item) {
-        Some(note) => put_note(note.shape, text, out),
+        Some(note) => put_note(note.shape, force.sound(note.height), text, out),
         None => put_other(item.kind, text, out),
     }
 }

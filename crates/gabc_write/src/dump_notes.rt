@@ -1,19 +1,22 @@
 //! The lines of a GABC snippet in the dump.
 
-ghost use Rattle.std.specs.Prelude.{◌≡◌, ◌≤◌, ◌<◌, ◌+◌, ◌^◌, ◌++◌, [], codes, length};
+ghost use Rattle.std.specs.Prelude.{◌≡◌, ◌≤◌, ◌<◌, ◌+◌, ◌^◌, ◌++◌, [], ◌∷◌, map, codes, length};
 ghost use Rattle.std.specs.Fmt.{decimal};
 ghost use Rattle.std.specs.List.{prefix_len};
 ghost use Rattle.gabc_notes.specs.Items.{AreWithin};
 ghost use Rattle.gabc_neumes.specs.Cut.{glyphs_of};
 ghost use Rattle.gabc_neumes.specs.Elements.{is_in_segment};
+ghost use Rattle.gabc_neumes.specs.InForce.{step_of, steps_of, in_force_behind, passed};
 ghost use Rattle.gabc_neumes.specs.Words.{base_word, tail_word};
 ghost use Rattle.gabc_write.specs.DumpOfNotes.{line_of_glyph, notes_behind, lines_behind, lines_of_notes};
 ghost use Rattle.gabc_write.specs.machine.NoteLines.{glyphs_from, begins_at, line_of_next, lines_at, place_after, place_behind};
 
 use crate::dump_item::{put_item, put_last, put_shape};
 use crate::scratch::Scratch;
+use gabc_neumes::laws::steps_are_passed_one_by_one;
 use gabc_neumes::{
-    Base, Glyph, Tail, cut, is_in_element, is_in_segment, notes_into, word_of_base, word_of_tail,
+    Alterations, Base, Glyph, Tail, cut, is_in_element, is_in_segment, notes_into, word_of_base,
+    word_of_tail,
 };
 use gabc_notes::{Item, ItemKind, Note, items_into};
 use gabc_places::{Put, Room};
@@ -177,19 +180,23 @@ fn enter_segment(
     }
 }
 
-/// Puts the lines of `item` at `place`: before its own those of an element and of a glyph that it begins. `glyphs` are those of the
-/// segment that have no lines yet. Returns the place behind the item.
+/// Puts the lines of `item` at `place`, and passes it: before its own line those of an element and of a glyph that it begins. `glyphs` are
+/// those of the segment that have no lines yet. Returns the place behind the item.
 fn put_at<S: Put>(
     kept: &str,
     place: ItemPlace,
     glyphs: &[Glyph],
     item: Item,
+    alterations: &mut Alterations,
     out: &mut S,
 ) -> ItemPlace
     requires within { (item.span.from ≤ item.span.to) × (item.span.to ≤ length kept.now) }
     requires notes { place.notes + 1 < 2 ^ 64 }
     requires glyphs { place.glyphs ≤ place.notes }
-    ensures lines { out.new ≡ S.taken out.old (lines_at kept.now place glyphs.now item) }
+    ensures lines { out.new ≡ S.taken out.old
+        (lines_at alterations.old kept.now place glyphs.now item) }
+    ensures alterations { alterations.new
+        ≡ in_force_behind alterations.old (step_of kept.now item ∷ []) }
     ensures place { result ≡ place_behind kept.now place glyphs.now item }
 {
     let in_element = is_in_element(kept, item);
@@ -200,37 +207,50 @@ fn put_at<S: Put>(
         ItemKind::Note => put_next_glyph(place.notes, glyphs, out),
         _ => false,
     };
-    put_item(kept, item, out);
+    put_item(kept, item, alterations, out);
+    alterations.pass(kept, item);
     place.behind(item, in_element, with_glyph)
 }
 
-/// Puts the lines of `items`, which are those of `kept`. Both rooms have to take as many as there are items.
+/// Puts the lines of `items`, which are those of `kept`, and passes them. Both rooms have to take as many as there are items.
 fn put_items<S: Put>(
     kept: &str,
     items: &[Item],
     notes: &mut Room<Note>,
     glyphs: &mut Room<Glyph>,
+    alterations: &mut Alterations,
     out: &mut S,
 )
     requires within { AreWithin kept.now items.now }
     requires notes { length items.now ≤ notes.old.limit }
     requires glyphs { length items.now ≤ glyphs.old.limit }
-    ensures lines { out.new ≡ S.taken out.old (lines_behind kept.now [] items.now) }
+    ensures lines { out.new
+        ≡ S.taken out.old (lines_behind alterations.old kept.now [] items.now) }
+    ensures alterations { alterations.new
+        ≡ passed alterations.old (map (step_of kept.now) items.now) }
     ensures notes { notes.new.limit ≡ notes.old.limit }
     ensures glyphs { glyphs.new.limit ≡ glyphs.old.limit }
 {
+    steps_are_passed_one_by_one();
     let mut place = ItemPlace::START;
     for (i, item) in items.iter().enumerate() {
         enter_segment(kept, &items[i..], place.in_segment, notes, glyphs);
-        place = put_at(kept, place, &glyphs.slice()[place.glyphs..], *item, out);
+        let left = &glyphs.slice()[place.glyphs..];
+        place = put_at(kept, place, left, *item, alterations, out);
     }
 }
 
-/// Puts the lines of a snippet of notes, `notes:S` and those of its items. `kept` has to have at most as many bytes as `scratch` is
-/// for; it may be any text, whose lines go as far as an item begins.
-pub(crate) fn put_notes<S: Put>(kept: &str, scratch: &mut Scratch, out: &mut S)
+/// Puts the lines of a snippet of notes, `notes:S` and those of its items, and passes these. `kept` has to have at most as many bytes as
+/// `scratch` is for; it may be any text, whose lines go as far as an item begins.
+pub(crate) fn put_notes<S: Put>(
+    kept: &str,
+    alterations: &mut Alterations,
+    scratch: &mut Scratch,
+    out: &mut S,
+)
     requires { length kept.now ≤ scratch.old }
-    ensures lines { out.new ≡ S.taken out.old (lines_of_notes kept.now) }
+    ensures lines { out.new ≡ S.taken out.old (lines_of_notes alterations.old kept.now) }
+    ensures alterations { alterations.new ≡ passed alterations.old (steps_of kept.now) }
     ensures scratch { scratch.new ≡ scratch.old }
 {
     out.put(b"notes:");
@@ -242,6 +262,7 @@ pub(crate) fn put_notes<S: Put>(kept: &str, scratch: &mut Scratch, out: &mut S)
         scratch.items.slice(),
         &mut scratch.notes,
         &mut scratch.glyphs,
+        alterations,
         out,
     );
 }

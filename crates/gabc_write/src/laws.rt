@@ -9,6 +9,7 @@ ghost use Rattle.gabc_places.specs.LargerLimits.{AreNoLess};
 ghost use Rattle.gabc_headers.specs.declared.heads.Heads.{Heads};
 ghost use Rattle.gabc_headers.specs.Heads.{heads_of};
 ghost use Rattle.gabc_headers.specs.Book.{nabc_lines_of};
+ghost use Rattle.gabc_neumes.specs.InForce.{InForce};
 ghost use Rattle.gabc_text.specs.ViewFacts.{view_facts};
 ghost use Rattle.gabc_score.specs.Events.{texts_by_definition};
 ghost use Rattle.gabc_score.specs.declared.ending.InputEnding.{InputEnding};
@@ -116,20 +117,23 @@ pub fn score_again()
     score_is_printed();
 }
 
-/// The lines of a syllable in a dump are at most 64 bytes for each byte of its canonical text, and 256.
+/// The lines of a syllable in a dump are at most 64 bytes for each byte of its canonical text, and 256, whatever is in force before it.
 pub fn a_dump_is_short()
-    ensures { (number : ℕ) (s : PlacedSyllable) → number < 2 ^ 64 → IsUtf8 s.made.kept →
+    ensures { (number : ℕ) (outset : InForce) (s : PlacedSyllable) → number < 2 ^ 64 →
+        IsUtf8 s.made.kept →
         length s.made.kept < 2 ^ 64 → All (λ (x : Snippet). x.line < 256) s.made.snippets →
-        length (lines_of_syllable number s)
+        length (lines_of_syllable number outset s)
         ≤ 64 * length (canonical (starts_word s.position) s.made) + 256 }
 {
     gabc_nabc::laws::names_are_short();
 }
 
-/// Syllables that say the same have the same lines in a dump, if the spans of their snippets begin and end between characters.
+/// Syllables that say the same have the same lines in a dump, if the spans of their snippets begin and end between characters and the same is
+/// in force before both.
 pub fn syllables_that_say_the_same_have_one_dump()
-    ensures { (number : ℕ) (ss ts : List PlacedSyllable) →
+    ensures { (number : ℕ) (outset : InForce) (ss ts : List PlacedSyllable) →
         All (λ (s : PlacedSyllable). HasWholeSnippets s.made) ss →
         All (λ (s : PlacedSyllable). HasWholeSnippets s.made) ts →
-        AreSame ss ts → lines_of_syllables number ss ≡ lines_of_syllables number ts }
+        AreSame ss ts →
+        lines_of_syllables number outset ss ≡ lines_of_syllables number outset ts }
 {}

@@ -93,7 +93,7 @@ module _ (job : Job) (limits : Limits) (score : ScoreStageState) (ending : Sourc
   pub says_outcome : streams_by_part part.Heads score (fresh_writer job) read from_heads ≡ streams_of_outcome job (record { score = made; broken = is_cut_short ending made.fault })
   says_outcome =
       let b = book_by limits e decoded.text (heads_of limits decoded.text) read book in
-      streams_same (fresh_writer job) refl refl ending decoded.fault (outputs_from_heads score from_heads) made score_is (stops_at limits e decoded.text (heads_of limits decoded.text)) r.few
+      streams_same (fresh_writer job) refl refl refl ending decoded.fault (outputs_from_heads score from_heads) made score_is (stops_at limits e decoded.text (heads_of limits decoded.text)) r.few
       made.book read (has_heads from_heads) (has_book limits e decoded.text (heads_of limits decoded.text)) b.0 b.1
 
 -- ---- by the laws of the crates below

@@ -19,6 +19,7 @@ use Rattle.gabc_score.specs.Score.{score_of}
 use Rattle.gabc_score.specs.Syllable.{PlacedSyllable}
 use Rattle.gabc_write.specs.CanonicalFile.{score_text}
 use Rattle.gabc_write.specs.DumpLines.{dump_heads, end_line}
+use Rattle.gabc_neumes.specs.InForce.{InForce, nothing_in_force}
 use Rattle.gabc_write.specs.DumpOfSyllables.{lines_of_syllables, dump_text}
 use Rattle.gabc_write.specs.FileAgain.{printed_file}
 use Rattle.gabc_write.specs.SyllableMeaning.{SyllableMeaning, meaning_of, AreSame}
@@ -57,22 +58,22 @@ not_cut_short limits decoded = refl
 
 -- the dump of an outcome that is whole
 dump_is : (m : Outcome) (syllables : List PlacedSyllable) (book : List (List ℕ × List ℕ)) → m.score.fault ≡ None → m.broken ≡ false → m.score.book ≡ Some book
-    → lines_of_syllables 1 m.score.syllables ≡ lines_of_syllables 1 syllables → AreSame m.score.syllables syllables → output_of Dump m ≡ dump_text true book syllables
+    → lines_of_syllables 1 nothing_in_force m.score.syllables ≡ lines_of_syllables 1 nothing_in_force syllables → AreSame m.score.syllables syllables → output_of Dump m ≡ dump_text true book syllables
 dump_is m syllables book f b h lines same =
     let count : length m.score.syllables ≡ length syllables = sym (length-map m.score.syllables meaning_of) ∙ (ap (length {A = SyllableMeaning}) same ∙ length-map syllables meaning_of) in
     let whole : is_read_whole m ≡ true = ap (λ o. not (is_some o || m.broken)) f ∙ ap (λ x. not (false || x)) b in
     ap (λ x. output_by Dump x m.score.book m.score.syllables) whole
     ∙ (ap (λ o. output_by Dump true o m.score.syllables) h
     ∙ (ap (λ (t : List ℕ). dump_heads book ++ (t ++ end_line (length m.score.syllables))) lines
-    ∙ ap (λ n. dump_heads book ++ (lines_of_syllables 1 syllables ++ end_line n)) count))
+    ∙ ap (λ n. dump_heads book ++ (lines_of_syllables 1 nothing_in_force syllables ++ end_line n)) count))
 
 module _ (plain : (limit : ℕ) (bytes : List ℕ) → All (λ c. (c ≢ 13) × (c ≢ 0xFEFF)) (text_of_bytes limit bytes)) (scalars : (limit : ℕ) (bytes : List ℕ) → All IsScalar (text_of_bytes limit bytes))
     (short : (limit : ℕ) (bytes : List ℕ) → length (encodes (text_of_bytes limit bytes)) ≤ limit)
     (read_again : (limits larger : Limits) (ending : score.InputEnding) (t : List ℕ) (book : List (List ℕ × List ℕ)) → AreNoLess limits larger → length (encodes t) < 2 ^ 63 → IsText t
     → (score_of limits ending t).book ≡ Some book → IsScoreAgain larger t book (score_of limits ending t).syllables)
     (between : (limits : Limits) (ending : score.InputEnding) (t : List ℕ) → length (encodes t) < 2 ^ 63 → All (λ (s : PlacedSyllable). HasWholeSnippets s.made) (score_of limits ending t).syllables)
-    (one_dump : (number : ℕ) (ss ts : List PlacedSyllable) → All (λ (s : PlacedSyllable). HasWholeSnippets s.made) ss → All (λ (s : PlacedSyllable). HasWholeSnippets s.made) ts
-    → AreSame ss ts → lines_of_syllables number ss ≡ lines_of_syllables number ts)
+    (one_dump : (number : ℕ) (outset : InForce) (ss ts : List PlacedSyllable) → All (λ (s : PlacedSyllable). HasWholeSnippets s.made) ss → All (λ (s : PlacedSyllable). HasWholeSnippets s.made) ts
+    → AreSame ss ts → lines_of_syllables number outset ss ≡ lines_of_syllables number outset ts)
     (limits larger : Limits) (ending : SourceEnding) (bytes : List ℕ) (no_less : AreNoLess limits larger) where
   abbrev first : Outcome
   first = outcome_of limits ending bytes
@@ -99,7 +100,7 @@ module _ (plain : (limit : ℕ) (bytes : List ℕ) → All (λ c. (c ≢ 13) × 
         syllables = s.same_meaning;
         output = ap (λ b. output_by Gabc (is_read_whole again) b again.score.syllables) s.same.book_is ∙ s.same_file ∙ sym output;
         dump = λ other e. dump_is again first.score.syllables other s.no_fault (not_cut_short larger (record { text = file; fault = None })) (s.same.book_is ∙ sym h ∙ e)
-            (one_dump 1 again.score.syllables first.score.syllables (between larger WholeInput file file_small) (between limits how text small) s.same_meaning) s.same_meaning;
+            (one_dump 1 nothing_in_force again.score.syllables first.score.syllables (between larger WholeInput file file_small) (between limits how text small) s.same_meaning) s.same_meaning;
       })
 
   pub compiled_again : IsSome first.score.book → IsOutcomeAgain first (outcome_of larger Ended (output_of Gabc first))

@@ -16,6 +16,7 @@ use Rattle.gabc_score.specs.Syllable.{PlacedSyllable}
 use Rattle.gabc_score.specs.Units.{BodyCutting, IsCut}
 use Rattle.gabc_write.specs.CanonicalFile.{score_text}
 use Rattle.gabc_write.specs.DumpLines.{dump_heads, end_line}
+use Rattle.gabc_neumes.specs.InForce.{nothing_in_force}
 use Rattle.gabc_write.specs.DumpOfSyllables.{dump_text, lines_of_syllables}
 use Rattle.gregorio_jobs.specs.declared.job.Format.TheVariants.{Gabc, Dump}
 use Rattle.gregorio.specs.declared.outcome.Outcome.{Outcome}
@@ -45,7 +46,7 @@ dump_alike : (a b : Bool) (one other : Option (List (List ℕ × List ℕ))) (ss
     → output_by Dump a one ss ≡ output_by Dump b other ts ++ end_line (length ts)
 dump_alike a b one other ss ts book whole stopped h k same =
     let last = end_line (length ts) in
-    let lines = lines_of_syllables 1 ts in
+    let lines = lines_of_syllables 1 nothing_in_force ts in
     let cut : output_by Dump b other ts ≡ dump_heads book ++ lines =
     ap (λ (o : Option (List (List ℕ × List ℕ))). output_by Dump b o ts) k
     ∙ (ap (λ (x : Bool). dump_text x book ts) stopped ∙ ap (λ (l : List ℕ). dump_heads book ++ l) (append-nil lines)) in

@@ -9,6 +9,7 @@ use Rattle.gabc_places.specs.declared.limits.Limits.{Limits}
 use Rattle.gabc_headers.specs.declared.heads.Heads.{Heads}
 use Rattle.gabc_headers.specs.declared.heads.HeadFault.{HeadFault}
 use Rattle.gabc_headers.specs.Canonical.{canonical_heads}
+use Rattle.gabc_neumes.specs.InForce.{InForce, nothing_in_force}
 use Rattle.gabc_score.specs.Canonical.{canonical_in_place}
 use Rattle.gabc_score.specs.declared.ending.InputEnding.{InputEnding}
 use Rattle.gabc_score.specs.declared.ending.InputEnding.TheVariants as score_ending
@@ -31,7 +32,7 @@ use Rattle.gregorio_jobs.specs.declared.job.Status.{Status}
 use Rattle.gregorio.specs.declared.source_ending.SourceEnding.{SourceEnding}
 use Rattle.gregorio.specs.declared.source_ending.SourceEnding.TheVariants.{Whole as Ended, Broken}
 use Rattle.gregorio.specs.Outcome.{ending_by, is_cut_short, text_in, output_by, fault_line, shown_line, lines_of, status_by, status_with}
-use Rattle.gregorio.specs.Streams.{Streams, heads_text, last_text, next_number, texts_behind, count_behind}
+use Rattle.gregorio.specs.Streams.{Streams, force_behind, heads_text, last_text, next_number, texts_behind, count_behind}
 use Rattle.gregorio.specs.witness.Engine.{Written, has_errors, status_in, streams_in}
 
 -- ---- numbers
@@ -46,23 +47,25 @@ count_is n (s ∷ ss) h =
     let e = next_is n (omega (arith, h)) in
     ap (λ (k : ℕ). count_behind k ss) e ∙ (count_is (n + 1) ss (omega (arith, h)) ∙ omega arith)
 
-lines_are : (n : ℕ) (ss : List PlacedSyllable) → n + length ss < 2 ^ 64 → texts_behind Dump n ss ≡ lines_of_syllables (n + 1) ss
-lines_are n [] h = refl
-lines_are n (s ∷ ss) h =
+lines_are : (n : ℕ) (force : InForce) (ss : List PlacedSyllable) → n + length ss < 2 ^ 64 → texts_behind Dump n force ss ≡ lines_of_syllables (n + 1) force ss
+lines_are n force [] h = refl
+lines_are n force (s ∷ ss) h =
     let e = next_is n (omega (arith, h)) in
-    ap (λ (k : ℕ). lines_of_syllable k s ++ texts_behind Dump k ss) e ∙ ap (λ (t : List ℕ). lines_of_syllable (n + 1) s ++ t) (lines_are (n + 1) ss (omega (arith, h)))
+    let behind = force_behind Dump force s in
+    ap (λ (k : ℕ). lines_of_syllable k force s ++ texts_behind Dump k behind ss) e
+    ∙ ap (λ (t : List ℕ). lines_of_syllable (n + 1) force s ++ t) (lines_are (n + 1) behind ss (omega (arith, h)))
 
-canonical_are : (n : ℕ) (ss : List PlacedSyllable) → texts_behind Gabc n ss ≡ flat_map canonical_in_place ss
-canonical_are n [] = refl
-canonical_are n (s ∷ ss) = ap (λ (t : List ℕ). canonical_in_place s ++ t) (canonical_are (next_number n) ss)
+canonical_are : (n : ℕ) (force : InForce) (ss : List PlacedSyllable) → texts_behind Gabc n force ss ≡ flat_map canonical_in_place ss
+canonical_are n force [] = refl
+canonical_are n force (s ∷ ss) = ap (λ (t : List ℕ). canonical_in_place s ++ t) (canonical_are (next_number n) force ss)
 
 -- the text behind the headers
 pub text_is : (format : Format) (whole : Bool) (book : List (List ℕ × List ℕ)) (ss : List PlacedSyllable) → length ss < 2 ^ 64
-    → heads_text format book ++ (texts_behind format 0 ss ++ last_text format whole (count_behind 0 ss)) ≡ text_in format whole book ss
-text_is Gabc whole book ss h = ap (λ (t : List ℕ). encode_utf8_all (canonical_heads book) ++ (t ++ codes "\n")) (canonical_are 0 ss)
+    → heads_text format book ++ (texts_behind format 0 nothing_in_force ss ++ last_text format whole (count_behind 0 ss)) ≡ text_in format whole book ss
+text_is Gabc whole book ss h = ap (λ (t : List ℕ). encode_utf8_all (canonical_heads book) ++ (t ++ codes "\n")) (canonical_are 0 nothing_in_force ss)
 text_is Dump whole book ss h =
-    ap (λ (t : List ℕ). heads_text Dump book ++ (t ++ last_text Dump whole (count_behind 0 ss))) (lines_are 0 ss (omega (arith, h)))
-    ∙ ap (λ (n : ℕ). heads_text Dump book ++ (lines_of_syllables 1 ss ++ last_text Dump whole n)) (count_is 0 ss (omega (arith, h)) ∙ (let z : 0 + length ss ≡ length ss = omega arith in z))
+    ap (λ (t : List ℕ). heads_text Dump book ++ (t ++ last_text Dump whole (count_behind 0 ss))) (lines_are 0 nothing_in_force ss (omega (arith, h)))
+    ∙ ap (λ (n : ℕ). heads_text Dump book ++ (lines_of_syllables 1 nothing_in_force ss ++ last_text Dump whole n)) (count_is 0 ss (omega (arith, h)) ∙ (let z : 0 + length ss ≡ length ss = omega arith in z))
 
 -- ---- how a run ended
 
@@ -131,7 +134,7 @@ pub record SaysScore (ending : InputEnding) (outputs : List ScoreOutput) (score 
   pub fault : fault_in outputs ≡ score.fault
   pub end : has_end outputs ≡ is_whole_score ending score.fault
 
-module _ (w : Written) (format : w.count ≡ 0) (no_error : w.errors ≡ false) (ending : SourceEnding) (stop : Option Fault) (outputs : List ScoreOutput) (score : Score)
+module _ (w : Written) (no_syllable : w.count ≡ 0) (no_force : w.force ≡ nothing_in_force) (no_error : w.errors ≡ false) (ending : SourceEnding) (stop : Option Fault) (outputs : List ScoreOutput) (score : Score)
     (score_is : SaysScore (ending_by ending stop) outputs score) (stops : StopsAt (ending_by ending stop) score.fault) (few : length score.syllables < 2 ^ 64) where
   messages_are : flat_map (shown_line w.name w.all_warnings) (findings_in outputs) ++ fault_line w.name (fault_in outputs) ≡ lines_of w.name w.all_warnings score
   messages_are =
@@ -150,16 +153,17 @@ module _ (w : Written) (format : w.count ≡ 0) (no_error : w.errors ≡ false) 
   whole_same = score_is.end ∙ whole_is ending stop score.fault stops
 
   -- with headers
-  output_with : (book : List (List ℕ × List ℕ)) → heads_text w.format book ++ (texts_behind w.format w.count (syllables_in outputs) ++ last_text w.format (has_end outputs) (count_behind w.count (syllables_in outputs)))
+  output_with : (book : List (List ℕ × List ℕ)) → heads_text w.format book ++ (texts_behind w.format w.count w.force (syllables_in outputs) ++ last_text w.format (has_end outputs) (count_behind w.count (syllables_in outputs)))
       ≡ text_in w.format (not (is_some score.fault || is_cut_short ending score.fault)) book score.syllables
   output_with book =
-      ap (λ (n : ℕ). heads_text w.format book ++ (texts_behind w.format n (syllables_in outputs) ++ last_text w.format (has_end outputs) (count_behind n (syllables_in outputs)))) format
-      ∙ (ap (λ (ss : List PlacedSyllable). heads_text w.format book ++ (texts_behind w.format 0 ss ++ last_text w.format (has_end outputs) (count_behind 0 ss))) score_is.syllables
-      ∙ (ap (λ (b : Bool). heads_text w.format book ++ (texts_behind w.format 0 score.syllables ++ last_text w.format b (count_behind 0 score.syllables))) whole_same
-      ∙ text_is w.format (not (is_some score.fault || is_cut_short ending score.fault)) book score.syllables few))
+      ap (λ (n : ℕ). heads_text w.format book ++ (texts_behind w.format n w.force (syllables_in outputs) ++ last_text w.format (has_end outputs) (count_behind n (syllables_in outputs)))) no_syllable
+      ∙ (ap (λ (force : InForce). heads_text w.format book ++ (texts_behind w.format 0 force (syllables_in outputs) ++ last_text w.format (has_end outputs) (count_behind 0 (syllables_in outputs)))) no_force
+      ∙ (ap (λ (ss : List PlacedSyllable). heads_text w.format book ++ (texts_behind w.format 0 nothing_in_force ss ++ last_text w.format (has_end outputs) (count_behind 0 ss))) score_is.syllables
+      ∙ (ap (λ (b : Bool). heads_text w.format book ++ (texts_behind w.format 0 nothing_in_force score.syllables ++ last_text w.format b (count_behind 0 score.syllables))) whole_same
+      ∙ text_is w.format (not (is_some score.fault || is_cut_short ending score.fault)) book score.syllables few)))
 
-  output_without : score.syllables ≡ [] → texts_behind w.format w.count (syllables_in outputs) ++ [] ≡ []
-  output_without none = ap (λ (ss : List PlacedSyllable). texts_behind w.format w.count ss ++ []) (score_is.syllables ∙ none)
+  output_without : score.syllables ≡ [] → texts_behind w.format w.count w.force (syllables_in outputs) ++ [] ≡ []
+  output_without none = ap (λ (ss : List PlacedSyllable). texts_behind w.format w.count w.force ss ++ []) (score_is.syllables ∙ none)
 
   same : (one other : List ℕ) → one ≡ other
       → streams_of one (flat_map (shown_line w.name w.all_warnings) (findings_in outputs) ++ fault_line w.name (fault_in outputs)) (status_in (w.errors || has_errors (findings_in outputs)) outputs)
@@ -177,7 +181,7 @@ module _ (w : Written) (format : w.count ≡ 0) (no_error : w.errors ≡ false) 
         messages = lines_of w.name w.all_warnings score;
         status = status_with score (is_cut_short ending score.fault);
       }
-  streams_same (Some book) read true h e none = same _ _ (ap (λ (b : List (List ℕ × List ℕ)). heads_text w.format b ++ (texts_behind w.format w.count (syllables_in outputs) ++ last_text w.format (has_end outputs) (count_behind w.count (syllables_in outputs)))) e ∙ output_with book)
+  streams_same (Some book) read true h e none = same _ _ (ap (λ (b : List (List ℕ × List ℕ)). heads_text w.format b ++ (texts_behind w.format w.count w.force (syllables_in outputs) ++ last_text w.format (has_end outputs) (count_behind w.count (syllables_in outputs)))) e ∙ output_with book)
   streams_same None read false h e none = same _ _ (output_without (none refl))
   streams_same (Some book) read false h e none = absurd (false≢true h)
   streams_same None read true h e none = absurd (true≢false h)

@@ -14,7 +14,7 @@ use Rattle.gregorio_jobs.specs.declared.job.Status.TheVariants.{Fatal}
 use Rattle.gregorio.specs.declared.run_part.RunPart.{RunPart}
 use Rattle.gregorio.specs.declared.run_part.RunPart.TheVariants as part
 use Rattle.gregorio.specs.Outcome.{shown_line, fault_line, is_error_finding, status_by}
-use Rattle.gregorio.specs.Streams.{Streams, behind_bytes, ended_with, syllable_text, last_text, next_number, texts_behind}
+use Rattle.gregorio.specs.Streams.{Streams, behind_bytes, ended_with, syllable_text, force_behind, last_text, next_number, texts_behind}
 use Rattle.gregorio.specs.witness.Engine.{Written, streams_in, last_in, has_errors, status_in}
 use Rattle.gregorio.specs.machine.ScoreWriter.{ScoreWriterState, past_output, past_outputs}
 
@@ -30,7 +30,7 @@ same a b c d s t o m e = ap (λ (x : List ℕ). streams_made x c s) o ∙ (ap (�
 abbrev pub text_of_output : Written → ScoreOutput → List ℕ
 text_of_output w (Found f) = []
 text_of_output w (Stop fault) = last_text w.format false w.count
-text_of_output w (Syllable s) = syllable_text w.format (next_number w.count) s
+text_of_output w (Syllable s) = syllable_text w.format (next_number w.count) w.force s
 text_of_output w End = last_text w.format true w.count
 
 abbrev pub lines_of_output : Written → ScoreOutput → List ℕ
@@ -89,9 +89,9 @@ streams_behind_found w head headed f rest = same _ _ _ _ _ _ refl
 
 -- behind a syllable
 streams_behind_syllable : (w : Written) (s : PlacedSyllable) (rest : List ScoreOutput)
-    → streams_in w [] true (Syllable s ∷ rest) ≡ behind_bytes (syllable_text w.format (next_number w.count) s) [] (streams_in (record w { count = next_number w.count }) [] true rest)
+    → streams_in w [] true (Syllable s ∷ rest) ≡ behind_bytes (syllable_text w.format (next_number w.count) w.force s) [] (streams_in (record w { count = next_number w.count; force = force_behind w.format w.force s }) [] true rest)
 streams_behind_syllable w s rest = same _ _ _ _ _ _
-    (append_assoc (syllable_text w.format (next_number w.count) s) (texts_behind w.format (next_number w.count) (syllables_in rest)) (last_in true w.format (next_number w.count) rest))
+    (append_assoc (syllable_text w.format (next_number w.count) w.force s) (texts_behind w.format (next_number w.count) (force_behind w.format w.force s) (syllables_in rest)) (last_in true w.format (next_number w.count) rest))
     refl refl
 
 -- at a stop
@@ -151,7 +151,7 @@ streams_behind s (Found f ∷ outputs) rest body ends =
     ∙ behind_both [] (shown_line s.writer.written.name s.writer.written.all_warnings f) (texts_of_outputs t outputs) (lines_of_outputs t outputs) _)
 streams_behind s (Syllable x ∷ outputs) rest body ends =
     let t = past_output s (Syllable x) in
-    let text = syllable_text s.writer.written.format (next_number s.writer.written.count) x in
+    let text = syllable_text s.writer.written.format (next_number s.writer.written.count) s.writer.written.force x in
     streams_behind_syllable s.writer.written x (outputs ++ rest)
     ∙ (ap (λ (y : Streams). behind_bytes text [] y) (streams_behind t outputs rest body ends)
     ∙ behind_both text [] (texts_of_outputs t outputs) (lines_of_outputs t outputs) _)

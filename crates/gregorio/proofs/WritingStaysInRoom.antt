@@ -52,13 +52,13 @@ module _ (limits : Limits) (a b : ℕ) (w : RunWriterState) where
   }
 
   pub syllable_in_room : (s : PlacedSyllable) (outputs : List ScoreOutput)
-      → length (syllable_text w.written.format (next_number w.written.count) s) ≤ syllable_len w.written.format (length (canonical_in_place s))
+      → length (syllable_text w.written.format (next_number w.written.count) w.written.force s) ≤ syllable_len w.written.format (length (canonical_in_place s))
       → IsInRoom limits a b w (Syllable s ∷ outputs) → IsInRoom limits a b (with_syllable w s) outputs
   syllable_in_room s outputs short h =
       let within = All-head (IsWithin limits) s (syllables_in outputs) h.within in
       record {
         lines = omega (arith, h.lines);
-        texts = omega (arith, h.texts, short, longer w.written.format (length (canonical_in_place s)) limits.syllable within.canonical, length-append w.out.items (syllable_text w.written.format (next_number w.written.count) s));
+        texts = omega (arith, h.texts, short, longer w.written.format (length (canonical_in_place s)) limits.syllable within.canonical, length-append w.out.items (syllable_text w.written.format (next_number w.written.count) w.written.force s));
         scratch = h.scratch;
         within = All-tail (IsWithin limits) s (syllables_in outputs) h.within;
       }

@@ -1,5 +1,6 @@
 -- A run in pieces: what an engine will still write, and how it will end.
 use Rattle.std.specs.Prelude.{◌≡◌, ◌≤◌, ◌⊎◌, ℕ, ◌+◌, List, [], ◌++◌, length, Bool, true, false}
+use Rattle.gabc_neumes.specs.InForce.{InForce}
 use Rattle.gabc_score.specs.Syllable.{PlacedSyllable}
 use Rattle.gregorio.specs.declared.run_part.RunPart.{RunPart}
 use Rattle.gregorio.specs.declared.run_part.RunPart.TheVariants as part
@@ -27,9 +28,10 @@ pub record NothingWaits (s : EngineState) : Type 0 where
 -- not whole.
 pub record IsHeldText (format : Format) (output : List ℕ) : Type 0 where
   pub count : ℕ
+  pub force : InForce
   pub held : List PlacedSyllable
   pub few : length held ≤ 1
-  pub is : output ≡ texts_behind format count held ++ last_text format false (count_behind count held)
+  pub is : output ≡ texts_behind format count force held ++ last_text format false (count_behind count held)
 
 -- A run that breaks off now has nothing to write that it could have written before: no message, and of the output nothing, or the held
 -- syllable and the last text.

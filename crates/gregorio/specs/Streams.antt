@@ -1,10 +1,11 @@
 -- What a run writes: its output, its messages and its status; the texts of which an output is joined.
 use Rattle.std.specs.Prelude.{ℕ, ◌+◌, ◌-◌, ◌^◌, min, List, [], ◌∷◌, ◌++◌, Bool, encode_utf8_all, codes, if◌then◌else◌}
 use Rattle.gabc_headers.specs.Canonical.{canonical_heads}
+use Rattle.gabc_neumes.specs.InForce.{InForce, passed}
 use Rattle.gabc_score.specs.Canonical.{canonical_in_place}
 use Rattle.gabc_score.specs.Syllable.{PlacedSyllable}
 use Rattle.gabc_write.specs.DumpLines.{dump_heads, end_line}
-use Rattle.gabc_write.specs.DumpOfSyllables.{lines_of_syllable}
+use Rattle.gabc_write.specs.DumpOfSyllables.{lines_of_syllable, steps_of_syllable}
 use Rattle.gregorio.specs.declared.outcome.Outcome.{Outcome}
 use Rattle.gregorio.specs.Outcome.{output_of, messages_of, status_of}
 use Rattle.gregorio_jobs.specs.declared.job.Format.{Format}
@@ -35,10 +36,15 @@ abbrev pub heads_text : Format → List (List ℕ × List ℕ) → List ℕ
 heads_text Gabc book = encode_utf8_all (canonical_heads book)
 heads_text Dump book = dump_heads book
 
--- a syllable with its number
-abbrev pub syllable_text : Format → ℕ → PlacedSyllable → List ℕ
-syllable_text Gabc number s = canonical_in_place s
-syllable_text Dump number s = lines_of_syllable number s
+-- a syllable with its number, before which this is in force
+abbrev pub syllable_text : Format → ℕ → InForce → PlacedSyllable → List ℕ
+syllable_text Gabc number force s = canonical_in_place s
+syllable_text Dump number force s = lines_of_syllable number force s
+
+-- what is in force behind a syllable: the canonical form asks for nothing of it
+abbrev pub force_behind : Format → InForce → PlacedSyllable → InForce
+force_behind Gabc force s = force
+force_behind Dump force s = passed force (steps_of_syllable s)
 
 -- what stands behind so many syllables, which are the whole score or not
 abbrev pub last_text : Format → Bool → ℕ → List ℕ
@@ -49,9 +55,11 @@ last_text Dump whole count = if whole then end_line count else []
 abbrev pub next_number : ℕ → ℕ
 next_number count = min (count + 1) (2 ^ 64 - 1)
 
-abbrev pub texts_behind : Format → ℕ → List PlacedSyllable → List ℕ
-texts_behind format count [] = []
-texts_behind format count (s ∷ syllables) = syllable_text format (next_number count) s ++ texts_behind format (next_number count) syllables
+-- the texts of syllables behind so many, before which this is in force
+abbrev pub texts_behind : Format → ℕ → InForce → List PlacedSyllable → List ℕ
+texts_behind format count force [] = []
+texts_behind format count force (s ∷ syllables) =
+    syllable_text format (next_number count) force s ++ texts_behind format (next_number count) (force_behind format force s) syllables
 
 abbrev pub count_behind : ℕ → List PlacedSyllable → ℕ
 count_behind count [] = count

@@ -13,6 +13,7 @@ ghost use Rattle.gregorio.specs.machine.RunWriter.{syllable_len, syllable_room a
 
 use crate::findings::{input_name, is_error, put_finding};
 use gabc_headers::HeaderBook;
+use gabc_neumes::Alterations;
 use gabc_places::{Fault, Finding, Limits, Room};
 use gabc_score::Syllable;
 use gabc_write::{
@@ -31,6 +32,8 @@ pub(crate) struct RunWriter {
     scratch: Scratch,
     /// How many syllables were written. It saturates.
     count: u64,
+    /// What is in force behind them, in a dump.
+    alterations: Alterations,
     /// Whether an error was found.
     errors: bool,
     out: Room<u8>,
@@ -87,6 +90,7 @@ impl Model for RunWriter {
         name = string_bytes w.name;
         all_warnings = w.all_warnings;
         count = w.count;
+        force = w.alterations;
         errors = w.errors;
       };
       scratch = w.scratch;
@@ -120,6 +124,7 @@ impl RunWriter {
             name: String::from_str(alloc, name)?,
             all_warnings: job.all_warnings,
             count: 0,
+            alterations: Alterations::new(),
             errors: false,
             out: Room::with_limit(alloc, out)?,
             messages: message_room(alloc, name.len())?,
@@ -180,16 +185,20 @@ impl RunWriter {
             (length (canonical_in_place (placed_of syllable.now)))) }
         ensures writes { self.new ≡ with_syllable self.old (placed_of syllable.now) }
         ensures short { length (syllable_text self.old.written.format
-            (next_number self.old.written.count) (placed_of syllable.now))
+            (next_number self.old.written.count) self.old.written.force (placed_of syllable.now))
             ≤ syllable_len self.old.written.format
             (length (canonical_in_place (placed_of syllable.now))) }
     {
         self.count = self.count.saturating_add(1);
         match self.format {
             Format::Gabc => canon_syllable(syllable, &mut self.out),
-            Format::Dump => {
-                dump_syllable(self.count, syllable, &mut self.scratch, &mut self.out)
-            }
+            Format::Dump => dump_syllable(
+                self.count,
+                syllable,
+                &mut self.alterations,
+                &mut self.scratch,
+                &mut self.out,
+            ),
         }
     }
 

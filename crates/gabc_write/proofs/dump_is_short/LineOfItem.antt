@@ -1,13 +1,18 @@
--- The line of an item is short: an item of b bytes has a line of at most 24 * b.
-use Rattle.std.proofs.Common.{ℕ, ◌+◌, ◌*◌, ◌≤◌, ◌==◌, ◌||◌, ◌-◌, List, [], ◌∷◌, ◌++◌, Bool, true, false, length, length-append, length-take, length-drop, drop, codes, arith, if◌then◌else◌}
+-- The line of an item is short: an item of b bytes has a line of at most 33 * b.
+use Rattle.std.proofs.Common.{ℕ, ◌+◌, ◌*◌, ◌≤◌, ◌==◌, ◌-◌, List, [], ◌∷◌, ◌++◌, Bool, true, false, length, length-append, length-take, length-drop, drop, codes, Option, Some, None, arith, if◌then◌else◌}
 use Rattle.gabc_notes.specs.Notes.{begins_with, is_capital, from_pitch, height_at, shape_at}
 use Rattle.gabc_notes.specs.declared.item.ItemKind.{ItemKind}
 use Rattle.gabc_notes.specs.declared.item.ItemKind.TheVariants as kind
 use Rattle.gabc_notes.specs.declared.note.Shape.{Shape}
 use Rattle.gabc_notes.specs.declared.note.Shape.TheVariants as shape
-use Rattle.gabc_neumes.specs.Words.{shape_word}
+use Rattle.gabc_neumes.specs.InForce.{InForce, is_virgula, sound_of}
+use Rattle.gabc_neumes.specs.Sound.{sign_of}
+use Rattle.gabc_neumes.specs.Words.{shape_word, alter_word}
+use Rattle.gabc_neumes.specs.declared.sound.Alter.{Alter}
+use Rattle.gabc_neumes.specs.declared.sound.Alter.TheVariants as alter
+use Rattle.gabc_neumes.specs.declared.sound.Sound.{Sound}
 use Rattle.gabc_write.specs.DumpLines.{escaped}
-use Rattle.gabc_write.specs.DumpOfNotes.{last_text, pitch_letter, line_of_note, sign_word, bar_word, is_blank_run, line_of_spacing, line_of_custos, raw_of, line_by}
+use Rattle.gabc_write.specs.DumpOfNotes.{last_text, pitch_letter, degree_word, sound_words, line_of_note, bar_word, is_blank_run, line_of_spacing, line_of_custos, raw_of, line_by}
 use Rattle.gabc_write.proofs.DumpOfHeadersIsShort.{escaped_short}
 
 -- ---- words
@@ -54,23 +59,44 @@ shape_short (c ∷ d ∷ t) b l m = omega (arith, word_short (shape_at (from_pit
 pub last_short : (t : List ℕ) → length (last_text t) ≤ 2 * length t + 1
 last_short t = omega (arith, length-append (escaped t) (codes "\n"), escaped_short t)
 
-note_short : (t : List ℕ) (b : ℕ) → length t ≤ b → 1 ≤ b → length (line_of_note t) ≤ 24 * b
-note_short t b l m =
-    let word = shape_word (shape_at (from_pitch t)) in
-    omega (arith, length-append word (codes " " ++ last_text t), last_short t, shape_short t b l m)
+alter_short : (a : Alter) → length (alter_word a) ≤ 7
+alter_short alter.None = omega arith
+alter_short alter.Flat = omega arith
+alter_short alter.Natural = omega arith
+alter_short alter.Sharp = omega arith
 
-sign_short : (t : List ℕ) → length (sign_word t) ≤ 7
-sign_short t = by (begins_with (codes "x") t || begins_with (codes "X") t) (begins_with (codes "y") t || begins_with (codes "Y") t)
+degree_short : (degree : Option ℕ) → length (degree_word degree) ≤ 3
+degree_short None = omega arith
+degree_short (Some degree) = by (degree == 0) (degree == 1) (degree == 2) (degree == 3) (degree == 4) (degree == 5)
   where
-    by : (a b : Bool) → length (if a then codes "flat" else if b then codes "natural" else codes "sharp") ≤ 7
-    by true b = omega arith
-    by false true = omega arith
-    by false false = omega arith
+    by : (a b c d e f : Bool) → length (if a then codes "ut" else if b then codes "re" else if c then codes "mi" else if d then codes "fa" else if e then codes "sol" else if f then codes "la" else codes "si") ≤ 3
+    by true b c d e f = omega arith
+    by false true c d e f = omega arith
+    by false false true d e f = omega arith
+    by false false false true e f = omega arith
+    by false false false false true f = omega arith
+    by false false false false false true = omega arith
+    by false false false false false false = omega arith
+
+sound_short : (s : Sound) → length (sound_words s) ≤ 12
+sound_short s = omega (arith, length-append (degree_word s.degree) (codes " " ++ alter_word s.alter), degree_short s.degree, alter_short s.alter)
+
+note_short : (s : Sound) (t : List ℕ) (b : ℕ) → length t ≤ b → 1 ≤ b → length (line_of_note s t) ≤ 33 * b
+note_short s t b l m =
+    let word = shape_word (shape_at (from_pitch t)) in
+    omega (
+      arith,
+      length-append word (sound_words s ++ (codes " " ++ last_text t)),
+      length-append (sound_words s) (codes " " ++ last_text t),
+      sound_short s,
+      last_short t,
+      shape_short t b l m,
+    )
 
 bar_short : (t : List ℕ) → length (bar_word t) ≤ 7
-bar_short t = by (begins_with (codes "::") t) (begins_with (codes ":") t) (begins_with (codes ";") t) (begins_with (codes ",") t) (begins_with (codes "^") t)
+bar_short t = by (is_virgula t) (begins_with (codes "^") t) (begins_with (codes ",") t) (begins_with (codes ";") t) (begins_with (codes "::") t)
   where
-    by : (a b c d e : Bool) → length (if a then codes "finalis" else if b then codes "maior" else if c then codes "minor" else if d then codes "minima" else if e then codes "minimis" else codes "virgula") ≤ 7
+    by : (a b c d e : Bool) → length (if a then codes "virgula" else if b then codes "minimis" else if c then codes "minima" else if d then codes "minor" else if e then codes "finalis" else codes "maior") ≤ 7
     by true b c d e = omega arith
     by false true c d e = omega arith
     by false false true d e = omega arith
@@ -96,13 +122,13 @@ raw_short : (t : List ℕ) → length (raw_of t) ≤ length t
 raw_short t = omega (arith, length-take (length t - 1 - 1) (drop 1 t), length-drop 1 t)
 
 -- the line of an item of that spelling, which has at most b bytes
-pub line_short : (k : ItemKind) (t : List ℕ) (b : ℕ) → length t ≤ b → 1 ≤ b → length (line_by k t) ≤ 24 * b
-line_short kind.Note t b l m = note_short t b l m
-line_short kind.Alteration t b l m = omega (arith, length-append (sign_word (drop 1 t)) (codes " " ++ last_text t), sign_short (drop 1 t), last_short t)
-line_short kind.Clef t b l m = omega (arith, last_short t)
-line_short kind.Bar t b l m = omega (arith, length-append (bar_word t) (codes " " ++ last_text t), bar_short t, last_short t)
-line_short kind.Spacing t b l m = omega (arith, spacing_short t)
-line_short kind.Custos t b l m = omega (arith, custos_short t)
-line_short kind.Break t b l m = omega (arith, last_short t)
-line_short kind.Attribute t b l m = omega (arith, last_short (raw_of t), raw_short t)
-line_short kind.Fusion t b l m = omega (arith, last_short t)
+pub line_short : (f : InForce) (k : ItemKind) (t : List ℕ) (b : ℕ) → length t ≤ b → 1 ≤ b → length (line_by f k t) ≤ 33 * b
+line_short f kind.Note t b l m = note_short (sound_of f (height_at (from_pitch t))) t b l m
+line_short f kind.Alteration t b l m = omega (arith, length-append (alter_word (sign_of t)) (codes " " ++ last_text t), alter_short (sign_of t), last_short t)
+line_short f kind.Clef t b l m = omega (arith, last_short t)
+line_short f kind.Bar t b l m = omega (arith, length-append (bar_word t) (codes " " ++ last_text t), bar_short t, last_short t)
+line_short f kind.Spacing t b l m = omega (arith, spacing_short t)
+line_short f kind.Custos t b l m = omega (arith, custos_short t)
+line_short f kind.Break t b l m = omega (arith, last_short t)
+line_short f kind.Attribute t b l m = omega (arith, last_short (raw_of t), raw_short t)
+line_short f kind.Fusion t b l m = omega (arith, last_short t)

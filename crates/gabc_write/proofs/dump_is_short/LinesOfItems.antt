@@ -1,4 +1,4 @@
--- The lines of items are short: of items with b bytes in all, at most 52 * b.
+-- The lines of items are short: of items with b bytes in all, at most 61 * b.
 use Rattle.std.proofs.Common.{◌≡◌, ℕ, zero, suc, ◌+◌, ◌*◌, ◌-◌, ◌≤◌, ◌<◌, ◌^◌, ◌&&◌, List, [], ◌∷◌, ◌++◌, Bool, true, false, not, cond, Some, None, length, length-append, length-take, take, drop, reverse, codes, arith, refl, sym, ap, ◌∙◌, subst, append_assoc, append-nil, if◌then◌else◌}
 use Rattle.std.specs.List.{prefix_len, take_while}
 use Rattle.std.proofs.lemmas.List.{reverse-append}
@@ -13,8 +13,9 @@ use Rattle.gabc_notes.specs.declared.item.ItemKind.TheVariants as kind
 use Rattle.gabc_notes.specs.declared.note.Note.{Note}
 use Rattle.gabc_neumes.specs.Cut.{glyphs_of}
 use Rattle.gabc_neumes.specs.Elements.{joins_segment, is_in_element, is_in_segment, notes_in}
+use Rattle.gabc_neumes.specs.InForce.{InForce}
 use Rattle.gabc_neumes.specs.Words.{shape_word}
-use Rattle.gabc_write.specs.DumpOfNotes.{line_of_item, is_behind_element, element_line, line_of_glyph_at, notes_before, notes_behind, line_of_first_glyph, is_note, glyph_line, lines_behind}
+use Rattle.gabc_write.specs.DumpOfNotes.{line_of_item, is_behind_element, element_line, line_of_glyph_at, notes_before, notes_behind, line_of_first_glyph, is_note, glyph_line, in_force_at, lines_behind}
 use Rattle.gabc_write.proofs.dump_is_short.LineOfItem.{shape_short, line_short}
 use Rattle.gabc_write.proofs.dump_is_short.LineOfGlyph.{size_of, sizes_of, AreSized}
 use Rattle.gabc_write.proofs.dump_is_short.LinesOfGlyphs.{glyphs_short, lines_at, at_most_once}
@@ -51,7 +52,7 @@ kinds kind.Break s t = outside refl refl refl
 kinds kind.Attribute s t = inside refl refl refl
 kinds kind.Fusion s t = inside refl refl refl
 
-module _ (kept : List ℕ) where
+module _ (outset : InForce) (kept : List ℕ) where
   in_none : (i : Item) (is : List Item) → note_in kept i ≡ None → notes_in kept (i ∷ is) ≡ notes_in kept is
   in_none i is e = rw (e) refl
 
@@ -110,22 +111,22 @@ module _ (kept : List ℕ) where
   -- the bound of the lines from a place on
   abbrev IsBounded : List Item → List Item → Type 0
   IsBounded before items =
-      length (lines_behind kept before items) + 20 * sizes_of (notes_behind kept items)
-      ≤ 32 * items_size items + (20 * sizes_of (notes_in kept items) + lines_left before items)
+      length (lines_behind outset kept before items) + 20 * sizes_of (notes_behind kept items)
+      ≤ 41 * items_size items + (20 * sizes_of (notes_in kept items) + lines_left before items)
 
   line_of : (before : List Item) (i : Item) (is : List Item)
-      → length (lines_behind kept before (i ∷ is))
-      ≡ length (element_line kept before i) + (length (glyph_line kept before i is) + (length (line_of_item kept i) + length (lines_behind kept (i ∷ before) is)))
+      → length (lines_behind outset kept before (i ∷ is))
+      ≡ length (element_line kept before i) + (length (glyph_line kept before i is) + (length (line_of_item (in_force_at outset kept before) kept i) + length (lines_behind outset kept (i ∷ before) is)))
   line_of before i is =
       omega (
         arith,
-        length-append (element_line kept before i) (glyph_line kept before i is ++ (line_of_item kept i ++ lines_behind kept (i ∷ before) is)),
-        length-append (glyph_line kept before i is) (line_of_item kept i ++ lines_behind kept (i ∷ before) is),
-        length-append (line_of_item kept i) (lines_behind kept (i ∷ before) is),
+        length-append (element_line kept before i) (glyph_line kept before i is ++ (line_of_item (in_force_at outset kept before) kept i ++ lines_behind outset kept (i ∷ before) is)),
+        length-append (glyph_line kept before i is) (line_of_item (in_force_at outset kept before) kept i ++ lines_behind outset kept (i ∷ before) is),
+        length-append (line_of_item (in_force_at outset kept before) kept i) (lines_behind outset kept (i ∷ before) is),
       )
 
-  item_line_short : (i : Item) → 1 ≤ item_size i → length (line_of_item kept i) ≤ 24 * item_size i
-  item_line_short i h = line_short i.kind (bytes_of kept i) (item_size i) (omega (arith, length-take (i.span.to - i.span.from) (drop i.span.from kept))) h
+  item_line_short : (f : InForce) (i : Item) → 1 ≤ item_size i → length (line_of_item f kept i) ≤ 33 * item_size i
+  item_line_short f i h = line_short f i.kind (bytes_of kept i) (item_size i) (omega (arith, length-take (i.span.to - i.span.from) (drop i.span.from kept))) h
 
   no_glyph : (before : List Item) (i : Item) (is : List Item) → is_note i.kind ≡ false → length (glyph_line kept before i is) ≡ 0
   no_glyph before i is e = ap (λ b. length (if b then line_of_first_glyph kept before (i ∷ is) else [])) e
@@ -162,7 +163,7 @@ module _ (kept : List ℕ) where
       let left = all_left (i ∷ before) is (before_none i before j) s.0 (omega arith) in
       let now : sizes_of (notes_behind kept (i ∷ is)) ≡ 0 = ap sizes_of (behind_none i is j) in
       let same : sizes_of (notes_in kept (i ∷ is)) ≡ sizes_of (notes_in kept is) = ap sizes_of (in_none i is e) in
-      omega (arith, line_of before i is, element_short before i, no_glyph before i is m, item_line_short i a, left, now, same, later)
+      omega (arith, line_of before i is, element_short before i, no_glyph before i is m, item_line_short (in_force_at outset kept before) i a, left, now, same, later)
 
   -- the glyphs that are left, by the notes before a place and those behind it
   abbrev left_by : List Note → List Note → ℕ
@@ -178,7 +179,7 @@ module _ (kept : List ℕ) where
       let same : sizes_of (notes_in kept (i ∷ is)) ≡ sizes_of (notes_in kept is) = ap sizes_of (in_none i is e) in
       let left : lines_left before (i ∷ is) ≡ lines_left (i ∷ before) is =
       ap (λ (y : List Note). left_by (notes_before kept before) y) behind ∙ ap (λ (x : List Note). left_by x (notes_behind kept is)) (sym front) in
-      omega (arith, line_of before i is, element_short before i, no_glyph before i is m, item_line_short i a, left, now, same, later)
+      omega (arith, line_of before i is, element_short before i, no_glyph before i is m, item_line_short (in_force_at outset kept before) i a, left, now, same, later)
 
   -- the first of the notes behind a place has its glyph's line there
   first_left : (x : List Note) (n : Note) (y : List Note) → left_by x (n ∷ y) ≡ length (line_of_glyph_at (glyphs_of (x ++ n ∷ y)) (length x)) + left_by (x ++ n ∷ []) y
@@ -203,7 +204,7 @@ module _ (kept : List ℕ) where
       let next : lines_left (i ∷ before) is ≡ left_by (x ++ n ∷ []) y = ap (λ (z : List Note). left_by z y) front in
       let glyph : length (glyph_line kept before i is) ≡ length (line_of_glyph_at (glyphs_of (x ++ n ∷ y)) (length x)) =
       ap (length {A = ℕ}) (a_glyph before i is m ∙ ap (λ (z : List Note). line_of_glyph_at (glyphs_of (x ++ z)) (length x)) behind) in
-      omega (arith, line_of before i is, element_short before i, glyph, item_line_short i a, here, next, first_left x n y, now, same, size, later)
+      omega (arith, line_of before i is, element_short before i, glyph, item_line_short (in_force_at outset kept before) i a, here, next, first_left x n y, now, same, size, later)
 
   bounded : (before items : List Item) → HaveBytes items → items_size items < 2 ^ 64 → IsBounded before items
   bounded before [] h l = omega arith
@@ -214,7 +215,7 @@ module _ (kept : List ℕ) where
       by (inside j m e) later = inside_step before i is (a, h) j m e later
       by (a_note n j m e s short) later = note_step before i is n (a, h) j m e s later
 
-  pub items_short : (items : List Item) → HaveBytes items → items_size items < 2 ^ 64 → length (lines_behind kept [] items) ≤ 52 * items_size items
+  pub items_short : (items : List Item) → HaveBytes items → items_size items < 2 ^ 64 → length (lines_behind outset kept [] items) ≤ 61 * items_size items
   items_short items h l =
       let s = behind_sized items h in
       let few = s.1 in

@@ -11,6 +11,7 @@ use Rattle.gabc_patterns.specs.Function.{items}
 use Rattle.gabc_notes.specs.Items.{placed_items, items_of}
 use Rattle.gabc_notes.specs.Table.{gabc}
 use Rattle.gabc_notes.specs.declared.item.ItemKind.{ItemKind}
+use Rattle.gabc_neumes.specs.InForce.{InForce}
 use Rattle.gabc_nabc.specs.Codes.{code_at, codes_in}
 use Rattle.gabc_nabc.specs.Names.{name_by}
 use Rattle.gabc_nabc.specs.Parts.{placed_parts, parts_of, bytes_of}
@@ -34,14 +35,14 @@ items_have at (i ∷ is) (a, h) =
     let size = later.1 in
     ((omega arith, later.0), omega arith)
 
-pub notes_short : (kept : List ℕ) → IsUtf8 kept → length kept < 2 ^ 64 → length (lines_of_notes kept) ≤ 54 * length kept + 7
-notes_short kept u l =
+pub notes_short : (outset : InForce) (kept : List ℕ) → IsUtf8 kept → length kept < 2 ^ 64 → length (lines_of_notes outset kept) ≤ 63 * length kept + 7
+notes_short outset kept u l =
     let p = pieces_have gabc (length (chars kept)) (chars kept) in
     let h = items_have 0 (items gabc (chars kept)) p.0 in
     let size = h.1 in
     let few = p.1 in
     let whole = ap (length {A = ℕ}) (encodes-chars kept u) in
-    omega (arith, length-append (last_text kept) (lines_behind kept [] (items_of kept)), last_short kept, items.items_short kept (items_of kept) h.0 (omega arith), size, few, whole)
+    omega (arith, length-append (last_text kept) (lines_behind outset kept [] (items_of kept)), last_short kept, items.items_short outset kept (items_of kept) h.0 (omega arith), size, few, whole)
 
 -- ---- NABC
 

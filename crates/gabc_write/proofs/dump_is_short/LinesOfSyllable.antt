@@ -1,7 +1,7 @@
 -- The dump of a syllable is short: at most 64 bytes for each byte of its canonical text, and 256.
 use Rattle.std.proofs.Common.{◌≡◌, ℕ, zero, suc, ◌+◌, ◌*◌, ◌-◌, ◌≤◌, ◌<◌, ◌^◌, ◌&&◌, ◌==◌, List, [], ◌∷◌, ◌++◌, Bool, true, false, cond, nat_le, Option, Some, None, length, length-append, length-take, length-drop, drop, codes, arith, refl, IsUtf8, if◌then◌else◌}
 use Rattle.std.specs.Str.{IsCharBoundary}
-use Rattle.std.specs.List.{All, flat_map}
+use Rattle.std.specs.List.{All}
 use Rattle.std.specs.Fmt.{decimal}
 use Rattle.std.proofs.lemmas.Bool.{leb-true}
 use Rattle.std.proofs.lemmas.Bool.Decides.{nat_tests}
@@ -9,6 +9,7 @@ use Rattle.std.proofs.lemmas.Fmt.{length-decimal-le}
 use Rattle.std.proofs.lemmas.List.Elements.{All-head, All-tail}
 use Rattle.std.proofs.lemmas.Str.{IsUtf8-between}
 use Rattle.gabc_places.specs.declared.place.Span.{Span}
+use Rattle.gabc_neumes.specs.InForce.{InForce, passed}
 use Rattle.gabc_text.specs.Canonical.{canonical_text}
 use Rattle.gabc_score.specs.Canonical.{translation_text, with_bars, canonical, starts_word}
 use Rattle.gabc_score.specs.Syllable.{PlacedSyllable, is_seam, slice, text_at}
@@ -18,7 +19,7 @@ use Rattle.gabc_score.specs.declared.syllable.Position.TheVariants.{One, Beginni
 use Rattle.gabc_patterns.proofs.BothOfTwoTests.{and_true}
 use Rattle.gabc_write.specs.DumpOfNotes.{lines_of_notes}
 use Rattle.gabc_write.specs.DumpOfNabc.{lines_of_nabc}
-use Rattle.gabc_write.specs.DumpOfSyllables.{position_word, first_line, line_of_text, line_of_translation, lines_of_snippet, lines_of_syllable}
+use Rattle.gabc_write.specs.DumpOfSyllables.{position_word, first_line, line_of_text, line_of_translation, first_steps, steps_of_snippet, lines_of_snippet, lines_of_snippets, lines_of_syllable}
 use Rattle.gabc_write.proofs.dump_is_short.LineOfItem.{last_short}
 use Rattle.gabc_write.proofs.dump_is_short.LinesOfSnippets.{NamesAreShort, notes_short, nabc_short}
 
@@ -88,37 +89,38 @@ module _ (short : NamesAreShort) (kept : List ℕ) (u : IsUtf8 kept) (l : length
   unfolding slice
   slice_within span = omega (arith, length-take (span.to - span.from) (drop span.from kept), length-drop span.from kept)
 
-  snippet_short : (s : Snippet) → s.line < 256 → length (lines_of_snippet kept s) ≤ 64 * (length (slice s.span kept) + 1)
-  snippet_short s m = by (s.line == 0)
+  snippet_short : (outset : InForce) (s : Snippet) → s.line < 256 → length (lines_of_snippet outset kept s) ≤ 64 * (length (slice s.span kept) + 1)
+  snippet_short outset s m = by (s.line == 0)
     where
-      by : (b : Bool) → length (if b then lines_of_notes (text_at s.span kept) else lines_of_nabc s.line (text_at s.span kept)) ≤ 64 * (length (slice s.span kept) + 1)
+      by : (b : Bool) → length (if b then lines_of_notes outset (text_at s.span kept) else lines_of_nabc s.line (text_at s.span kept)) ≤ 64 * (length (slice s.span kept) + 1)
       by true =
           let t = text_short s.span kept u in
           let few = t.1 in
-          omega (arith, notes_short (text_at s.span kept) t.0 (omega (arith, slice_within s.span)), few)
+          omega (arith, notes_short outset (text_at s.span kept) t.0 (omega (arith, slice_within s.span)), few)
       by false =
           let t = text_short s.span kept u in
           let few = t.1 in
           omega (arith, nabc_short short s.line (text_at s.span kept) m t.0, few)
 
-  snippets_short : (ss : List Snippet) → All (λ s. s.line < 256) ss → length (flat_map (lines_of_snippet kept) ss) ≤ 64 * (length (with_bars kept ss) + 1)
-  snippets_short [] h = omega arith
-  snippets_short (s ∷ []) h = omega (arith, length-append (lines_of_snippet kept s) [], snippet_short s (All-head (λ (x : Snippet). x.line < 256) s [] h))
-  snippets_short (s ∷ t ∷ ss) h =
-      let first = snippet_short s (All-head (λ (x : Snippet). x.line < 256) s (t ∷ ss) h) in
-      let later = snippets_short (t ∷ ss) (All-tail (λ (x : Snippet). x.line < 256) s (t ∷ ss) h) in
+  snippets_short : (outset : InForce) (ss : List Snippet) → All (λ s. s.line < 256) ss → length (lines_of_snippets outset kept ss) ≤ 64 * (length (with_bars kept ss) + 1)
+  snippets_short outset [] h = omega arith
+  snippets_short outset (s ∷ []) h = omega (arith, length-append (lines_of_snippet outset kept s) [], snippet_short outset s (All-head (λ (x : Snippet). x.line < 256) s [] h))
+  snippets_short outset (s ∷ t ∷ ss) h =
+      let behind : InForce = passed outset (steps_of_snippet kept s) in
+      let first = snippet_short outset s (All-head (λ (x : Snippet). x.line < 256) s (t ∷ ss) h) in
+      let later = snippets_short behind (t ∷ ss) (All-tail (λ (x : Snippet). x.line < 256) s (t ∷ ss) h) in
       omega (
         arith,
-        length-append (lines_of_snippet kept s) (flat_map (lines_of_snippet kept) (t ∷ ss)),
+        length-append (lines_of_snippet outset kept s) (lines_of_snippets behind kept (t ∷ ss)),
         length-append (slice s.span kept) (codes "|" ++ with_bars kept (t ∷ ss)),
         first,
         later,
       )
 
 -- the lines of a syllable, by its canonical text
-pub syllable_short : NamesAreShort → (number : ℕ) (s : PlacedSyllable) → number < 2 ^ 64 → IsUtf8 s.made.kept → length s.made.kept < 2 ^ 64
-    → All (λ (x : Snippet). x.line < 256) s.made.snippets → length (lines_of_syllable number s) ≤ 64 * length (canonical (starts_word s.position) s.made) + 256
-syllable_short short number s l u k h =
+pub syllable_short : NamesAreShort → (number : ℕ) (outset : InForce) (s : PlacedSyllable) → number < 2 ^ 64 → IsUtf8 s.made.kept → length s.made.kept < 2 ^ 64
+    → All (λ (x : Snippet). x.line < 256) s.made.snippets → length (lines_of_syllable number outset s) ≤ 64 * length (canonical (starts_word s.position) s.made) + 256
+syllable_short short number outset s l u k h =
     let m = s.made in
     let start : List ℕ = cond (starts_word s.position) (10 ∷ []) [] in
     let text = canonical_text m.text m.kept in
@@ -126,7 +128,8 @@ syllable_short short number s l u k h =
     let notes = with_bars m.kept m.snippets in
     let text_line = line_of_text text in
     let translation_line = line_of_translation m.kept m.text.translation in
-    let snippets = flat_map (lines_of_snippet m.kept) m.snippets in
+    let force : InForce = passed outset (first_steps s.position) in
+    let snippets = lines_of_snippets force m.kept m.snippets in
     omega (
       arith,
       length-append start (text ++ (translation ++ (codes "(" ++ (notes ++ codes ")")))),
@@ -139,5 +142,5 @@ syllable_short short number s l u k h =
       first_short number s l,
       text_line_short text,
       translation_short m.kept m.text.translation,
-      snippets_short short m.kept u k m.snippets h,
+      snippets_short short m.kept u k force m.snippets h,
     )

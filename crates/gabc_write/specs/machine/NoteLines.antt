@@ -4,6 +4,7 @@ use Rattle.gabc_notes.specs.declared.item.Item.{Item}
 use Rattle.gabc_notes.specs.declared.item.ItemKind.{ItemKind}
 use Rattle.gabc_neumes.specs.Cut.{glyphs_of}
 use Rattle.gabc_neumes.specs.Elements.{is_in_element, is_in_segment}
+use Rattle.gabc_neumes.specs.InForce.{InForce}
 use Rattle.gabc_neumes.specs.declared.glyph.Glyph.{Glyph}
 use Rattle.gabc_write.specs.DumpOfNotes.{notes_behind, is_note, line_of_glyph, line_of_item}
 use Rattle.gabc_write.specs.declared.dump_notes.ItemPlace.{ItemPlace}
@@ -28,11 +29,11 @@ line_of_next note (g ∷ glyphs) = if g.first == note then line_of_glyph g else 
 abbrev pub begins_glyph : ItemKind → ℕ → List Glyph → Bool
 begins_glyph kind note glyphs = is_note kind && begins_at note glyphs
 
--- the lines of an item at a place, with the glyphs that have not been written
-abbrev pub lines_at : List ℕ → ItemPlace → List Glyph → Item → List ℕ
-lines_at kept place glyphs i =
+-- the lines of an item at a place, with the glyphs that have not been written; before it this is in force
+abbrev pub lines_at : InForce → List ℕ → ItemPlace → List Glyph → Item → List ℕ
+lines_at force kept place glyphs i =
     (if is_in_element kept i && not place.in_element then codes "element\n" else [])
-    ++ ((if is_note i.kind then line_of_next place.notes glyphs else []) ++ line_of_item kept i)
+    ++ ((if is_note i.kind then line_of_next place.notes glyphs else []) ++ line_of_item force kept i)
 
 -- one more if it is so
 abbrev pub more_if : Bool → ℕ → ℕ

@@ -48,9 +48,10 @@ prompt_in_part score w book part.Body held =
           ∙ ap (λ (fault : Option Fault). fault_line w.name fault) held.stop;
       output = inr (record {
         count = w.count;
+        force = w.force;
         held = syllables;
         few = held.few;
-        is = ap (λ (whole : Bool). texts_behind w.format w.count syllables ++ last_text w.format whole (count_behind w.count syllables)) held.end;
+        is = ap (λ (whole : Bool). texts_behind w.format w.count w.force syllables ++ last_text w.format whole (count_behind w.count syllables)) held.end;
       });
     }
 

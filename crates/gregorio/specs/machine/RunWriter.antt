@@ -11,7 +11,7 @@ use Rattle.gabc_score.specs.ScoreStage.{IsWithin}
 use Rattle.gabc_write.specs.Message.{line_of}
 use Rattle.gregorio.specs.Outcome.{shown_line, is_error_finding}
 use Rattle.gregorio.specs.witness.Engine.{Written}
-use Rattle.gregorio.specs.Streams.{heads_text, syllable_text, last_text, next_number}
+use Rattle.gregorio.specs.Streams.{heads_text, syllable_text, force_behind, last_text, next_number}
 use Rattle.gregorio_jobs.specs.declared.job.Format.{Format}
 use Rattle.gregorio_jobs.specs.declared.job.Format.TheVariants.{Gabc, Dump}
 
@@ -40,7 +40,9 @@ with_fault w fault = with_message w (line_of w.written.name fault.place fault.co
 abbrev pub with_syllable : RunWriterState → PlacedSyllable → RunWriterState
 with_syllable w s =
     let number = next_number w.written.count in
-    record (with_output w (syllable_text w.written.format number s)) { written = record w.written { count = number } }
+    record (with_output w (syllable_text w.written.format number w.written.force s)) {
+      written = record w.written { count = number; force = force_behind w.written.format w.written.force s };
+    }
 
 abbrev pub with_last : RunWriterState → Bool → RunWriterState
 with_last w whole = with_output w (last_text w.written.format whole w.written.count)

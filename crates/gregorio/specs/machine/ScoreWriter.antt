@@ -8,6 +8,7 @@ use Rattle.gabc_headers.specs.declared.head_event.HeadEvent.{HeadEvent}
 use Rattle.gabc_headers.specs.declared.head_event.HeadEvent.TheVariants as head_event
 use Rattle.gabc_score.specs.declared.score_event.ScoreEvent.{ScoreEvent}
 use Rattle.gabc_score.specs.declared.score_event.ScoreEvent.TheVariants as event
+use Rattle.gabc_neumes.specs.InForce.{nothing_in_force}
 use Rattle.gabc_score.specs.ScoreEvents.{ScoreOutput, Found, Stop, Syllable, End}
 use Rattle.gabc_score.specs.ScoreStage.{body_inputs, lent_in}
 use Rattle.gabc_score.specs.witness.ScoreStage.{ScoreStageState}
@@ -145,4 +146,4 @@ emptied s = record s { writer = record s.writer { out = record s.writer.out { it
 
 -- nothing was written
 abbrev pub fresh_writer : Job → Written
-fresh_writer job = record { format = job.format; name = input_name job.input; all_warnings = job.all_warnings; count = 0; errors = false }
+fresh_writer job = record { format = job.format; name = input_name job.input; all_warnings = job.all_warnings; count = 0; force = nothing_in_force; errors = false }

@@ -12,6 +12,7 @@ use Rattle.gabc_headers.specs.declared.head_event.HeadEvent.TheVariants as head_
 use Rattle.gabc_headers.specs.witness.HeadEvents.{HeaderStageState, stage_past}
 use Rattle.gabc_headers.specs.HeadEvents as heads
 use Rattle.gabc_headers.specs.witness.HeadEvents as heads_left
+use Rattle.gabc_neumes.specs.InForce.{InForce}
 use Rattle.gabc_score.specs.ScoreEvents.{ScoreOutput, Found, Stop, findings_in, syllables_in, fault_in, has_end}
 use Rattle.gabc_score.specs.witness.ScoreStage.{ScoreStageState, left_of}
 use Rattle.gregorio.specs.declared.run_part.RunPart.{RunPart}
@@ -23,12 +24,13 @@ use Rattle.gregorio_jobs.specs.declared.job.Status.{Status}
 use Rattle.gregorio.specs.Streams.{Streams, ended_with, heads_text, last_text, texts_behind, count_behind}
 
 -- What an engine writes: the format, what messages call the input, whether warnings are wanted; how many syllables were written, a count
--- that saturates; and whether an error was found.
+-- that saturates; what is in force behind them, in a dump; and whether an error was found.
 pub record Written : Type 0 where
   pub format : Format
   pub name : List ℕ
   pub all_warnings : Bool
   pub count : ℕ
+  pub force : InForce
   pub errors : Bool
 
 -- What an engine shows: its stages, the part of the run in which it is, what it writes, and the bytes that wait to be taken.
@@ -86,7 +88,7 @@ last_in headed format count outputs = if headed then last_text format (has_end o
 -- The streams of these, behind this text of the headers.
 abbrev pub streams_in : Written → List ℕ → Bool → List ScoreOutput → Streams
 streams_in w head headed outputs = record {
-  output = head ++ (texts_behind w.format w.count (syllables_in outputs) ++ last_in headed w.format w.count outputs);
+  output = head ++ (texts_behind w.format w.count w.force (syllables_in outputs) ++ last_in headed w.format w.count outputs);
   messages = flat_map (shown_line w.name w.all_warnings) (findings_in outputs) ++ fault_line w.name (fault_in outputs);
   status = status_in (w.errors || has_errors (findings_in outputs)) outputs;
 }
