@@ -3,6 +3,7 @@ pub mod BodyIsCollected
 pub mod EventsStayWithinBounds
 pub mod BodyOutputs
 pub mod FewAndShortAreLent
+pub mod FirstNotes
 pub mod EmittedByHeaders
 pub mod GivenSyllables
 pub mod HeldScoreIsDefinition
