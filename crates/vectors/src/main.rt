@@ -239,6 +239,7 @@ fn check_calls(rt: &HostRuntime, path: &str) -> io::Result<()> {
 fn main(rt: HostRuntime) -> io::Result<()> {
     check_rows(&rt, "rows.tsv")?;
     check_rows(&rt, "canonical.tsv")?;
+    check_rows(&rt, "canonical_w12.tsv")?;
     check_rows(&rt, "dump.tsv")?;
     check_scores(&rt)?;
     for path in CALLS {

@@ -26,7 +26,8 @@ use Rattle.gabc_score.specs.Events.{InText, InNotes, events_from, next_line, sni
 use Rattle.gabc_score.specs.ScoreEvents.{findings_now}
 use Rattle.gabc_score.specs.Syllable.{prefix_of, text_at}
 use Rattle.gabc_score.specs.machine.BodyBuilder.{with_all}
-use Rattle.gabc_score.specs.machine.Gatherer.{Gathered, awaits, first_past}
+use Rattle.gabc_score.specs.machine.Gatherer.{Gathered, awaits, first_past, span_of}
+use Rattle.gabc_score.specs.machine.SyllableBuilder.{past_snippet}
 use Rattle.gabc_score.specs.machine.PartCounts.{CountsInNotes, CountsHold}
 use Rattle.gabc_score.specs.machine.Quiet.{TakesQuietly}
 use Rattle.gabc_score.specs.machine.SlotPair.{SlotPairState}
@@ -119,5 +120,5 @@ module _ (before after : BodyStageState) (x : Char) (pair next : SlotPairState) 
       (λ xs. rw (is (x ∷ xs), lines, macros)
       (ap (λ lists. events_from texts_by_stage before.nabc_lines before.macros (InNotes line opened lists) (x ∷ xs)) (takes.law x xs mark)
       ∙ ap (λ p. (event.Notes line (note.Ended note_end.Next count) ∷ []) ∷ events_from texts_by_stage before.nabc_lines before.macros p xs) (sym (snippet xs))))
-      (record { silent = refl; made = refl; over = refl; total = refl; limit = refl; cut = refl; first_kind = stays_first pair.gathered.first_kind line _ _ none; kept = omega (arith, cut, marked) }) gathered
+      (record { silent = refl; made = refl; over = refl; total = refl; limit = refl; cut = refl; first_kind = stays_first pair.gathered.first_kind line (span_of open_now line count) (past_snippet open_now line count 124).kept none; kept = omega (arith, cut, marked) }) gathered
       ((notes_go line opened before.part (note.Ended note_end.Next count ∷ []) (omega arith) out after.part into).counts pair.gathered counts)

@@ -72,7 +72,7 @@ few_found old new now none e few =
 one_first : (was now : Option ItemKind) (place : Place) → length (found_first was now place) ≤ 1
 one_first was now place = by (is_first_note was now)
   where
-    by : (b : Bool) → length (cond b (record { place = place; code = W12 } ∷ []) []) ≤ 1
+    by : (b : Bool) → length {A = Finding} (cond b (record { place = place; code = W12 } ∷ []) []) ≤ 1
     by true = omega arith
     by false = omega arith
 

@@ -1,5 +1,5 @@
 -- What a score emits beside its body, a note before any clef, changes nothing but what is found.
-use Rattle.std.proofs.Common.{◌≡◌, ℕ, ◌^◌, ◌<◌, ◌+◌, ◌-◌, min, Bool, true, false, cond, List, [], ◌∷◌, ◌++◌, map, Option, Some, None, option_map, refl, sym, ap, ◌∙◌, arith}
+use Rattle.std.proofs.Common.{◌≡◌, ℕ, ◌^◌, ◌<◌, ◌+◌, ◌-◌, min, Bool, true, false, cond, List, [], ◌∷◌, ◌++◌, length, map, Option, Some, None, option_map, refl, sym, ap, ◌∙◌, arith}
 use Rattle.gabc_places.specs.StageLaw.{concat_of}
 use Rattle.gabc_places.specs.declared.code.Code.{Code}
 use Rattle.gabc_places.specs.declared.code.Code.TheVariants.{W12, F6}
@@ -70,6 +70,15 @@ findings_with_first before now x =
     by true = refl
     by false = refl
 
+-- there are as many lists
+pub first_each : (before : List BodyEvent) (xs : List Char) (lists : List (List BodyEvent)) → length lists ≡ length xs + 1 → length (with_first_each before xs lists) ≡ length xs + 1
+first_each before [] lists e = e
+first_each before (x ∷ xs) [] e = absurd (let f : 0 ≡ length (x ∷ xs) + 1 = e in omega (arith, f))
+first_each before (x ∷ xs) (now ∷ lists) e =
+    let next = events_onto (with_first before x now) before in
+    let rest : length (with_first_each next xs lists) ≡ length xs + 1 = first_each next xs lists (omega (arith, e)) in
+    omega (arith, rest)
+
 -- ---- the stop
 
 record SameStop (r s : EventsToStop) : Type 0 where
@@ -84,7 +93,7 @@ module _ (limits : Limits) (head : ℕ) where
   same_stop one other (x ∷ xs) [] e = record { before = e; fault = refl; all = e }
   same_stop one other (x ∷ xs) (now ∷ lists) e =
       let next : SaysSame (events_onto (with_first one x now) one) (events_onto now other) = says_with_first one now x ∙ same_on one other now e in
-      by (code_at limits head (events_onto (with_first one x now) one)) (code_at limits head (events_onto now other)) (same_code limits head _ _ next)
+      by (code_at limits head (events_onto (with_first one x now) one)) (code_at limits head (events_onto now other)) (same_code limits head (events_onto (with_first one x now) one) (events_onto now other) next)
       (same_stop (events_onto (with_first one x now) one) (events_onto now other) xs lists next)
     where
       by : (c d : Option Code) → c ≡ d

@@ -15,6 +15,13 @@ use Rattle.gabc_score.specs.machine.PartCounts.{CountsHold}
 use Rattle.gabc_score.proofs.score_events.EventsStayWithinBounds.{few_found, few_with_first, limit_stays, within}
 use Rattle.gabc_score.proofs.score_machine.ScoreMachine.read.Goals as goal
 
+pub find_first-requires : goal.find_first-requires
+find_first-requires c =
+    let few = few_found c.args.self.now.found c.hold.new.found c.take.new.self.events c.requires.rests.rests.none c.hold.ensures.found c.take.ensures.events.few in
+    let same = ap (λ (r : BoundedList Finding). r.limit) c.hold.ensures.found in
+    let room = c.requires.rests.rests.room in
+    omega (arith, few, same, room)
+
 pub give_point-gave-requires-clause-few : goal.give_point-gave-requires-clause-few
 give_point-gave-requires-clause-few c =
     few_with_first c.hold.new.found c.find_first.new.found c.first_kind-was.result c.first_kind.result c.args.x.place c.find_first.ensures
