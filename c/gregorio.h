@@ -43,7 +43,7 @@ struct gregorio_lengths {
 
 /* A message. Lines and columns count from 1, a column for each character.
  * `severity` is 0 for a warning, 1 for an error, 2 for a fatal fault.
- * `code` is 1 to 6 for E1 to E6, 7 to 17 for W1 to W11, 18 to 24 for F1 to F7. */
+ * `code` is 101 to 106 for E1 to E6, 201 to 212 for W1 to W12, 301 to 307 for F1 to F7. A code keeps its number from now on. */
 struct gregorio_message {
   uint64_t line;
   uint64_t column;

@@ -5,6 +5,7 @@ pub mod EventsOfOnePoint
 pub mod EventsOfSnippets
 pub mod EventsOfSyllableParts
 pub mod BuilderHoldsDefinition
+pub mod FirstKinds
 pub mod OneListEachCharacter
 pub mod QuietParts
 pub mod QuietTexts

@@ -1,4 +1,5 @@
 pub mod ScoreHoldsParts
+pub mod SeamsOfText
 pub mod SnippetsAreHeld
 pub mod SpansBetweenCharacters
 pub mod SyllableHoldsPartByPart

@@ -1,3 +1,4 @@
+pub mod CodesOfSnippets
 pub mod FindingsAreNoFaults
 pub mod FindingsOfCutParts
 pub mod FindingsOfLayers
@@ -5,4 +6,5 @@ pub mod FindingsOfParts
 pub mod FindingsOfReading
 pub mod FindingsOfScore
 pub mod FindingsOneAfterAnother
+pub mod FirstNotesOfParts
 pub mod PartsThatWarn

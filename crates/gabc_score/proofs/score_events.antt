@@ -3,6 +3,7 @@ pub mod BodyIsCollected
 pub mod EventsStayWithinBounds
 pub mod BodyOutputs
 pub mod FewAndShortAreLent
+pub mod FirstNotes
 pub mod EmittedByHeaders
 pub mod GivenSyllables
 pub mod HeldScoreIsDefinition
@@ -13,6 +14,7 @@ pub mod NothingBehindTheEnd
 pub mod NothingIsGiven
 pub mod OutputsAreCollected
 pub mod OutputsOfLentSyllables
+pub mod PlainScores
 pub mod ScoreOutputs
 pub mod TextsAreReadInFull
 pub mod WhatOutputsSay

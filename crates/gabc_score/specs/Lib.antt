@@ -6,6 +6,7 @@ pub mod Events
 pub mod FoundInParts
 pub mod Holding
 pub mod Marks
+pub mod NoteBeforeClef
 pub mod Score
 pub mod ScoreEvents
 pub mod ScoreStage

@@ -14,7 +14,7 @@ use Rattle.gabc_score.specs.declared.ending.InputEnding.TheVariants.{Whole, Brok
 use Rattle.gabc_score.specs.declared.body_result.BodyResult.{BodyResult}
 use Rattle.gabc_score.specs.declared.score.Score.{Score}
 use Rattle.gabc_score.specs.Body.{body_of}
-use Rattle.gabc_score.specs.Events.{body_events}
+use Rattle.gabc_score.specs.NoteBeforeClef.{score_events}
 
 -- the text through the `%%` that ends the headers, and the body behind it
 abbrev pub heads_text : List ℕ → List ℕ
@@ -27,7 +27,7 @@ behind_heads t = drop (head_len t + 2) t
 abbrev pub body_in : Limits → InputEnding → List ℕ → Heads → BodyResult
 body_in limits ending t heads =
     let xs = placed_characters_behind (heads_text t) (behind_heads t) in
-    body_of limits (bytes_len (canonical_heads heads.book)) heads.findings (place_after t) ending xs (body_events (nabc_lines_of heads.book) (macros_of heads.book) xs)
+    body_of limits (bytes_len (canonical_heads heads.book)) heads.findings (place_after t) ending xs (score_events (nabc_lines_of heads.book) (macros_of heads.book) xs)
 
 abbrev pub with_body : Heads → BodyResult → Score
 with_body heads body = record { book = Some heads.book; syllables = body.syllables; findings = body.findings; fault = body.fault }

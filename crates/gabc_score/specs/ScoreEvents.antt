@@ -24,6 +24,7 @@ use Rattle.gabc_score.specs.declared.ending.InputEnding.TheVariants.{Whole, Brok
 use Rattle.gabc_score.specs.Body.{code_at, events_onto, fault_at, findings_of, found_at_end, fault_of_end, cut_of, all_units}
 use Rattle.gabc_score.specs.Canonical.{with_positions}
 use Rattle.gabc_score.specs.Events.{Texts, InComment, events_from, texts_by_definition}
+use Rattle.gabc_score.specs.NoteBeforeClef.{with_first_each}
 use Rattle.gabc_score.specs.Score.{head_fault_by}
 use Rattle.gabc_score.specs.Syllable.{UnplacedSyllable, PlacedSyllable, all_syllables}
 use Rattle.gabc_score.specs.SyllablesOfUnits.{body_characters}
@@ -116,7 +117,8 @@ first_place = record { line = 1; column = 1 }
 abbrev pub score_outputs : Texts → Limits → List HeadEvent → List (List ScoreOutput)
 score_outputs texts limits [] = [] ∷ []
 score_outputs texts limits (head_event.Heads lines macros canonical ∷ xs) =
-    [] ∷ body_outputs limits canonical first_place [] (events_from texts lines macros InComment (characters_in xs)) xs
+    let lists = events_from texts lines macros InComment (characters_in xs) in
+    [] ∷ body_outputs limits canonical first_place [] (with_first_each [] (characters_in xs) lists) xs
 score_outputs texts limits (head_event.Found f ∷ xs) = (Found f ∷ []) ∷ score_outputs texts limits xs
 score_outputs texts limits (head_event.Stop fault ∷ xs) = (Stop fault ∷ []) ∷ silence xs
 score_outputs texts limits (head_event.End ∷ xs) = (End ∷ []) ∷ silence xs

@@ -341,7 +341,8 @@ impl BodyStage {
         true
     }
 
-    /// Takes `x`, a `|`, as `take_quietly` does: a snippet that ends with nothing more to emit, before the next one.
+    /// Takes `x`, a `|`, as `take_quietly` does: a snippet that ends with nothing more to emit, before the next one. In GABC it takes none
+    /// until a note or a clef has come.
     #[inline(never)]
     fn next_quietly(&mut self, x: Char, pair: &mut SlotPair) -> bool
         requires reads { pair.old.used ≡ SlotUse.Filling }
@@ -356,6 +357,9 @@ impl BodyStage {
             BodyPart::Comment | BodyPart::Text(_) => false,
             BodyPart::Notes { opened, stage } => {
                 let opened = *opened;
+                if pair.awaits(0) {
+                    return false;
+                }
                 let Some(kept) = stage.take_next() else {
                     return false;
                 };
@@ -369,6 +373,9 @@ impl BodyStage {
                 stage,
             } => {
                 let (line, opened) = (*line, *opened);
+                if pair.awaits(line) {
+                    return false;
+                }
                 let Some(kept) = stage.take_next() else {
                     return false;
                 };

@@ -1,8 +1,9 @@
 //! The reading of a whole body.
 
-ghost use Rattle.std.specs.Prelude.{◌≡◌, ◌+◌, ◌<◌, ◌^◌, length, IfOk};
+ghost use Rattle.std.specs.Prelude.{◌≡◌, ◌+◌, ◌<◌, ◌^◌, [], length, IfOk};
 ghost use Rattle.std.specs.Str.{chars};
 ghost use Rattle.gabc_score.specs.Body.{body_of};
+ghost use Rattle.gabc_score.specs.NoteBeforeClef.{with_first_each};
 ghost use Rattle.gabc_score.specs.witness.BodyStage.{running_events_left};
 ghost use Rattle.gabc_places.specs.BoundedList.{Fits};
 ghost use Rattle.gabc_places.specs.Place.{place_past, placed_characters_from};
@@ -35,7 +36,7 @@ pub(crate) fn build_body(
     ensures { let xs = placed_characters_from start.at (chars body.now) in
         IfOk result (λ read. read
         ≡ body_of limits start.head start.findings (place_past start.at (chars body.now)) ending xs
-        (running_events_left stage xs)) }
+        (with_first_each [] xs (running_events_left stage xs))) }
 {
     let BodyContext { at, head, findings } = start;
     let mut machine = ScoreMachine::in_body(alloc, limits, stage, at, head)?;

@@ -2,6 +2,7 @@
 
 ghost use Rattle.std.specs.Prelude.{◌≡◌, ◌≢◌, ◌+◌, ◌-◌, ◌≤◌, ◌||◌, nat_lt, [], ◌∷◌, ◌++◌, map, take, length, cond, false};
 ghost use Rattle.gabc_places.specs.BoundedList.{Fits, extended_by};
+ghost use Rattle.gabc_score.specs.NoteBeforeClef.{found_first};
 ghost use Rattle.gabc_score.specs.ScoreEvents.{outputs_of, Stop, End};
 ghost use Rattle.gabc_score.specs.ScoreStage.{GivesOutputs};
 ghost use Rattle.gabc_score.specs.machine.BodyBuilder.{end_findings};
@@ -10,7 +11,29 @@ ghost use Rattle.gabc_score.specs.machine.SlotPair.{is_made, lent_of};
 
 use crate::score_event::{LentSyllable, ScoreEvent};
 use crate::slot_pair::{SlotPair, SlotUse};
+use gabc_notes::ItemKind;
 use gabc_places::{Code, Fault, Finding, Place, Room};
+
+/// Finds a note before any clef at `place`: which of the two came first in GABC was not known before, and is a note now.
+pub(crate) fn find_first(
+    was: Option<ItemKind>,
+    now: Option<ItemKind>,
+    place: Place,
+    found: &mut Room<Finding>,
+)
+    requires { Fits found.old 1 }
+    ensures { found.new ≡ extended_by found.old (found_first was now place) }
+{
+    if was.is_some() {
+        return;
+    }
+    if let Some(ItemKind::Note) = now {
+        found.push(Finding {
+            place,
+            code: Code::W12,
+        });
+    }
+}
 
 /// Gives what is found.
 fn give_found(found: &[Finding], out: &mut Room<ScoreEvent>)
@@ -56,7 +79,7 @@ pub(crate) fn give_point(
     found: &mut Room<Finding>,
     out: &mut Room<ScoreEvent>,
 ) -> bool
-    requires few { length found.old.items ≤ 8 }
+    requires few { length found.old.items ≤ 9 }
     requires fits { Fits out.old 16 }
     ensures gathered { pair.new.gathered ≡ with_held pair.old.gathered }
     ensures used { is_made pair.new.used ≡ false }

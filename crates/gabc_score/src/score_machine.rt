@@ -16,7 +16,7 @@ ghost use Rattle.gabc_score.specs.machine.ScoreMachine.{shown, IsInBody, IsBefor
 ghost use Rattle.gabc_score.specs.machine.SlotPair.{is_made};
 
 use crate::body_stage::{BodyPart, BodyStage};
-use crate::giving::{give_broken, give_end, give_point, give_stop};
+use crate::giving::{find_first, give_broken, give_end, give_point, give_stop};
 use crate::score_event::ScoreEvent;
 use crate::slot_pair::{SlotPair, SlotUse};
 use gabc_headers::HeadEvent;
@@ -74,7 +74,7 @@ impl ScoreMachine {
     {
         let mut pair = SlotPair::with_limit(alloc, limits.syllable as usize)?;
         pair.start(head);
-        let found = Room::with_limit(alloc, 8)?;
+        let found = Room::with_limit(alloc, 9)?;
         Ok(ScoreMachine {
             limits,
             part: ScorePart::Body,
@@ -111,8 +111,10 @@ impl ScoreMachine {
         ensures rests { IsScore self.new }
     {
         self.pair.free();
+        let was = self.pair.first_kind();
         self.body.take(x);
         self.body.hold(&mut self.pair, &mut self.found);
+        find_first(was, self.pair.first_kind(), x.place, &mut self.found);
         match self.pair.code(self.limits) {
             Some(code) => self.stop(
                 Fault {

@@ -50,7 +50,7 @@ impl ScoreStage {
     {
         let body = BodyStage::new(alloc, 0, 0)?;
         let pair = SlotPair::with_limit(alloc, limits.syllable as usize)?;
-        let found = Room::with_limit(alloc, 8)?;
+        let found = Room::with_limit(alloc, 9)?;
         Ok(ScoreStage {
             machine: ScoreMachine {
                 limits,

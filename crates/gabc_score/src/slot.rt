@@ -32,7 +32,8 @@ impl Slot {
     ghost use Rattle.std.specs.Prelude.{◌≡◌, ◌+◌, ◌<◌, ◌^◌, [], ◌∷◌, IfOk, string_bytes};
     ghost use Rattle.gabc_text.specs.BuiltText.{with_part};
     ghost use Rattle.gabc_score.specs.Body.{empty_snippet};
-    ghost use Rattle.gabc_score.specs.Syllable.{slice, placed_of, unplaced_of};
+    ghost use Rattle.gabc_score.specs.Syllable.{slice, text_at, placed_of, unplaced_of};
+    ghost use Rattle.gabc_score.specs.machine.Gatherer.{span_of};
     ghost use Rattle.gabc_score.specs.machine.Slot.{placed_in, made_in, FitsKept, FitsPiece, FitsSnippet};
     ghost use Rattle.gabc_score.specs.machine.SyllableBuilder.{nothing_open, with_kept, past_mark, past_text, past_snippet};
 
@@ -108,23 +109,25 @@ impl Slot {
         self.mark('(');
     }
 
-    /// Ends the snippet of this line at this mark; `count` bytes of it are kept.
-    pub(crate) fn end_snippet(&mut self, line: u8, count: usize, mark: char)
+    /// Ends the snippet of this line at this mark; `count` bytes of it are kept. Returns its span.
+    pub(crate) fn end_snippet(&mut self, line: u8, count: usize, mark: char) -> Span
         requires kept { FitsKept self.old.limit self.old.reading 4 }
         requires snippet { FitsSnippet self.old.limit self.old.reading }
-        ensures { self.new ≡ record self.old {
+        ensures slot { self.new ≡ record self.old {
           reading = past_snippet self.old.reading line count mark;
         } }
+        ensures span { result ≡ span_of self.old.reading line count }
     {
         cut_text(&mut self.syllable.kept, self.from.saturating_add(count));
-        self.syllable.snippets.push_reserved(Snippet {
-            line,
-            span: Span {
-                from: self.from,
-                to: self.syllable.kept.len(),
-            },
-        });
+        let span = Span {
+            from: self.from,
+            to: self.syllable.kept.len(),
+        };
+        self.syllable
+            .snippets
+            .push_reserved(Snippet { line, span });
         self.mark(mark);
+        span
     }
 
     /// Adds the notes of a last text, one empty snippet.
@@ -161,6 +164,13 @@ impl Slot {
         ensures { result.now ≡ slice span self.now.reading.kept }
     {
         slice_of(self.syllable.kept.as_str(), span)
+    }
+
+    /// The text of a span of the kept text.
+    pub(crate) fn text_at(&self, span: Span) -> &str
+        ensures { result.now ≡ text_at span self.now.reading.kept }
+    {
+        self.syllable.text_at(span)
     }
 
     /// Returns the syllable.

@@ -8,8 +8,8 @@ use crate::canonical::canonical_len;
 use crate::slot::Slot;
 use crate::syllable::Syllable;
 use crate::syllables::position_by;
-use gabc_notes::{NoteEnd, NoteEvent};
-use gabc_places::{Code, Fault, Limits, Place};
+use gabc_notes::{ItemKind, NoteEnd, NoteEvent, first_note_or_clef};
+use gabc_places::{Code, Fault, Limits, Place, Span};
 use gabc_text::{Piece, PieceKind, TextEnd, TextEvent, TextPart, TextView};
 use std::alloc::{AllocError, Global};
 use std::marker::Model;
@@ -45,6 +45,8 @@ pub(crate) struct SlotPair {
     over: bool,
     /// Where the bracket stands that the end of the input leaves open.
     cut: Option<Place>,
+    /// Which came first in the GABC snippets that have ended, a note or a clef.
+    first_kind: Option<ItemKind>,
 }
 
 /// Returns a slot with room for a syllable of `limit` bytes, in memory of its own.
@@ -76,6 +78,7 @@ impl Model for SlotPair {
         total = s.total;
         over = s.over;
         cut = s.cut;
+        first_kind = s.first_kind;
       };
       held = held_in s.held s.holder.value;
       used = s.used;
@@ -91,7 +94,7 @@ impl SlotPair {
     ghost use Rattle.gabc_score.specs.Body.{has_text, is_none};
     ghost use Rattle.gabc_score.specs.Syllable.{placed_of};
     ghost use Rattle.gabc_score.specs.machine.BodyBuilder.{code_in, end_fault};
-    ghost use Rattle.gabc_score.specs.machine.Gatherer.{nothing_gathered, with_mark, with_mark_of, with_view_part, with_text_end, with_text, with_syllable, with_note_end, with_note, with_last};
+    ghost use Rattle.gabc_score.specs.machine.Gatherer.{nothing_gathered, with_mark, with_mark_of, with_view_part, with_text_end, with_text, with_syllable, with_note_end, with_note, with_last, awaits, first_past};
     ghost use Rattle.gabc_score.specs.machine.ScoreStage.{placed_behind, with_held};
     ghost use Rattle.gabc_score.specs.machine.Slot.{FitsText, FitsNote, FitsKept, FitsPiece, FitsSnippet};
     ghost use Rattle.gabc_score.specs.machine.SlotPair.{is_made, used_past, lent_syllables};
@@ -113,6 +116,7 @@ impl SlotPair {
             total: 0,
             over: false,
             cut: None,
+            first_kind: None,
         })
     }
 
@@ -233,12 +237,42 @@ impl SlotPair {
         ensures used { self.new.used ≡ used_past (NoteEvent.Ended how count) }
     {
         match how {
-            NoteEnd::Next => self.reader.end_snippet(line, count, '|'),
+            NoteEnd::Next => {
+                let span = self.reader.end_snippet(line, count, '|');
+                self.add_first_kind(line, span);
+            }
             NoteEnd::Close => {
-                self.reader.end_snippet(line, count, ')');
+                let span = self.reader.end_snippet(line, count, ')');
+                self.add_first_kind(line, span);
                 self.close();
             }
             NoteEnd::Cut(place) => self.cut = Some(place),
+        }
+    }
+
+    /// Returns whether neither a note nor a clef has come in GABC, where `line` is a line of GABC.
+    pub(crate) fn awaits(&self, line: u8) -> bool
+        ensures { result ≡ awaits self.now.gathered.first_kind line }
+    {
+        line == 0 && self.first_kind.is_none()
+    }
+
+    /// Returns which came first in the GABC snippets that have ended, a note or a clef.
+    pub(crate) fn first_kind(&self) -> Option<ItemKind>
+        ensures { result ≡ self.now.gathered.first_kind }
+    {
+        self.first_kind
+    }
+
+    /// Finds the first note or clef in the snippet of `line` that has ended, which has this span, where neither came before.
+    fn add_first_kind(&mut self, line: u8, span: Span)
+        requires { self.old.used ≡ SlotUse.Filling }
+        ensures { let g = self.old.gathered in self.new ≡ record self.old {
+          gathered = record g { first_kind = first_past g.first_kind line span g.builder.kept };
+        } }
+    {
+        if self.awaits(line) {
+            self.first_kind = first_note_or_clef(self.reader.text_at(span));
         }
     }
 

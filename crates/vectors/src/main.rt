@@ -240,7 +240,9 @@ fn check_calls(rt: &HostRuntime, path: &str) -> io::Result<()> {
 fn main(rt: HostRuntime) -> io::Result<()> {
     check_rows(&rt, "rows.tsv")?;
     check_rows(&rt, "canonical.tsv")?;
+    check_rows(&rt, "canonical_w12.tsv")?;
     check_rows(&rt, "dump.tsv")?;
+    check_rows(&rt, "dump2.tsv")?;
     check_rows(&rt, "nabc_lines.tsv")?;
     check_scores(&rt)?;
     for path in CALLS {

@@ -162,6 +162,7 @@ fn codes_have_kinds_and_names(rt: HostRuntime) {
         (Code::W1, Severity::Warning, "W1"),
         (Code::W10, Severity::Warning, "W10"),
         (Code::W11, Severity::Warning, "W11"),
+        (Code::W12, Severity::Warning, "W12"),
         (Code::F1, Severity::Fatal, "F1"),
         (Code::F7, Severity::Fatal, "F7"),
     ] {

@@ -1,6 +1,6 @@
 -- What the gatherer holds is what the definitions say of what was emitted.
-use Rattle.std.proofs.Common.{◌≡◌, ℕ, ◌+◌, ◌-◌, ◌<◌, ◌^◌, ◌||◌, ◌&&◌, min, nat_lt, Bool, true, false, cond, List, [], ◌∷◌, ◌++◌, length, take, drop, refl, sym, ap, ◌∙◌, arith, append_assoc, append-nil, length-append, encode_utf8, codes}
-use Rattle.std.specs.List.{list_any, sum_by}
+use Rattle.std.proofs.Common.{◌≡◌, ℕ, ◌+◌, ◌-◌, ◌<◌, ◌^◌, ◌||◌, ◌&&◌, ◌==◌, min, nat_lt, Bool, true, false, cond, List, [], ◌∷◌, ◌++◌, length, take, drop, refl, sym, ap, ◌∙◌, arith, append_assoc, append-nil, length-append, encode_utf8, codes}
+use Rattle.std.specs.List.{list_any, sum_by, flat_map}
 use lib.Utf8.{encode}
 use Rattle.std.proofs.Math.Seq.{take-append-add, drop-append-add}
 use Rattle.std.proofs.lemmas.List.Sums.{sum_by_push}
@@ -9,16 +9,20 @@ use Rattle.gabc_text.specs.TextView.{ViewContent}
 use Rattle.gabc_text.specs.declared.text_event.TextPart.TheVariants as part
 use Rattle.gabc_text.specs.declared.text_event.TextEnd.TheVariants as text_end
 use Rattle.gabc_text.specs.declared.text_event.TextEvent.TheVariants as text
+use Rattle.gabc_notes.specs.FirstNoteOrClef.{first_note_or_clef}
+use Rattle.gabc_notes.specs.Items.{items_of}
 use Rattle.gabc_notes.specs.declared.stage.NoteEnd.TheVariants as note_end
 use Rattle.gabc_notes.specs.declared.stage.NoteEvent.TheVariants as note
 use Rattle.gabc_score.specs.declared.events.BodyEvent.{BodyEvent}
 use Rattle.gabc_score.specs.declared.events.BodyEvent.TheVariants as event
 use Rattle.gabc_score.specs.declared.snippets.Snippet.{Snippet}
+use Rattle.gabc_score.specs.NoteBeforeClef.{gabc_ended, first_of}
 use Rattle.gabc_score.specs.Syllable.{UnplacedSyllable, since_close, prefix_of, is_seam, part_of, ended_parts_of, kept_of, snippets_of, snippet_at, view_of, is_eu, is_nlba, syllable_by, all_syllables}
 use Rattle.gabc_score.specs.Canonical.{canonical, canonicals, canonical_bytes}
 use Rattle.gabc_score.specs.Body.{is_longer, is_none, cut_of}
 use Rattle.gabc_score.specs.machine.SyllableBuilder.{OpenSyllable, past_snippet}
-use Rattle.gabc_score.specs.machine.Gatherer.{Gathered, with_event, with_syllable, with_made}
+use Rattle.gabc_score.specs.machine.Gatherer.{Gathered, with_event, with_syllable, with_made, span_of, first_past}
+use Rattle.gabc_score.proofs.building.FirstKinds.{part_seam, first_more}
 
 -- ---- cut texts
 
@@ -103,6 +107,7 @@ gathered limit head before =
       total = min (head + canonical_bytes (all_syllables before)) (2 ^ 64 - 1);
       over = over_by limit (all_syllables before);
       cut = cut_of before;
+      first_kind = first_of before;
     }
 
 abbrev open_with : List ℕ → List ℕ → ViewContent → List Snippet → OpenSyllable
@@ -136,6 +141,15 @@ module _ (limit head : ℕ) (before : List BodyEvent) (small : limit < 2 ^ 64 - 
       (snippets_of (since_close before) ++ snippet_at line (length (ended_parts_of (since_close before))) (prefix_of count (part_of (since_close before))) ∷ [])
   ended_as line count mark = snippet_is (ended_parts_of (since_close before)) (part_of (since_close before)) (view_of (since_close before)) (snippets_of (since_close before)) line count mark
 
+  -- which came first in GABC, with the snippet that ends
+  first_as : (line count mark : ℕ) → is_seam (encode_utf8 mark) ≡ true → first_past now.first_kind line (span_of now.builder line count) (past_snippet now.builder line count mark).kept
+      ≡ first_note_or_clef (flat_map (λ kept. items_of kept) (cond (line == 0) (gabc_ended before ++ prefix_of count (part_of (since_close before)) ∷ []) (gabc_ended before)))
+  first_as line count mark h =
+      let ended = ended_parts_of (since_close before) in
+      let part = part_of (since_close before) in
+      ap (λ k. first_past now.first_kind line (record { from = length ended; to = length k }) (k ++ encode_utf8 mark)) (cut_append ended part count)
+      ∙ first_more (gabc_ended before) ended part (encode_utf8 mark) line count (part_seam (since_close before)) h
+
   pub made_is : (m : UnplacedSyllable) → with_made now m
       ≡ record now {
         builder = record { kept = []; from = 0; view = view_of []; snippets = [] };
@@ -163,8 +177,12 @@ module _ (limit head : ℕ) (before : List BodyEvent) (small : limit < 2 ^ 64 - 
   gathered_step (event.Text (text.Ended (text_end.Cut p))) = refl
   gathered_step (event.Notes line (note.Kept c)) = kept_more (encode_utf8 c.c)
   gathered_step (event.Notes line (note.Found f)) = refl
-  gathered_step (event.Notes line (note.Ended note_end.Next n)) = ap (λ o. record now { builder = o }) (ended_as line n 124)
+  gathered_step (event.Notes line (note.Ended note_end.Next n)) =
+      ap (λ o. record now { builder = o; first_kind = first_past now.first_kind line (span_of now.builder line n) (past_snippet now.builder line n 124).kept }) (ended_as line n 124)
+      ∙ ap (λ k. record (gathered limit head (event.Notes line (note.Ended note_end.Next n) ∷ before)) { first_kind = k }) (first_as line n 124 refl)
   gathered_step (event.Notes line (note.Ended note_end.Close n)) =
-      ap (λ o. with_syllable (record now { builder = o })) (ended_as line n 41)
-      ∙ made_is (syllable_by (event.Notes line (note.Ended note_end.Close n) ∷ since_close before) (is_eu before) (is_nlba before))
+      ap (λ o. with_syllable (record now { builder = o; first_kind = first_past now.first_kind line (span_of now.builder line n) (past_snippet now.builder line n 41).kept })) (ended_as line n 41)
+      ∙ ap (λ k. record (with_made now (syllable_by (event.Notes line (note.Ended note_end.Close n) ∷ since_close before) (is_eu before) (is_nlba before))) { first_kind = k }) (first_as line n 41 refl)
+      ∙ ap (λ (g : Gathered). record g { first_kind = first_of (event.Notes line (note.Ended note_end.Close n) ∷ before) })
+      (made_is (syllable_by (event.Notes line (note.Ended note_end.Close n) ∷ since_close before) (is_eu before) (is_nlba before)))
   gathered_step (event.Notes line (note.Ended (note_end.Cut p) n)) = refl

@@ -1,15 +1,19 @@
 -- The `(` of the notes, a character of a snippet and the `|` behind it are taken quietly.
-use Rattle.std.proofs.Common.{◌≡◌, ℕ, ◌+◌, ◌<◌, ◌≤◌, List, [], ◌∷◌, ◌++◌, length, encode_utf8, refl, sym, ap, subst, ◌∙◌, arith, length-append}
+use Rattle.std.proofs.Common.{◌≡◌, ℕ, ◌+◌, ◌<◌, ◌≤◌, List, [], ◌∷◌, ◌++◌, length, encode_utf8, Bool, true, false, cond, Option, refl, sym, ap, subst, ◌∙◌, arith, length-append}
 use Rattle.std.proofs.lemmas.Str.{length-encode, len_utf8_ascii}
 use Rattle.gabc_places.specs.declared.place.Char.{Char}
 use Rattle.gabc_places.specs.declared.place.Place.{Place}
+use Rattle.gabc_places.specs.declared.place.Span.{Span}
 use Rattle.gabc_text.specs.declared.text_event.TextEnd.TheVariants as text_end
 use Rattle.gabc_text.specs.declared.text_event.TextEvent.TheVariants as text
 use Rattle.gabc_text.specs.declared.stage.TextStage.{TextStage}
 use Rattle.gabc_text.specs.Events.{codes_of}
 use Rattle.gabc_text.specs.witness.EventsLeft.{events_left}
 use Rattle.gabc_text.specs.TakenAtOnce.{Takes}
+use Rattle.gabc_notes.specs.FirstNoteOrClef.{first_note_or_clef}
+use Rattle.gabc_notes.specs.Items.{items_of}
 use Rattle.gabc_notes.specs.TakenAtOnce.{TakesNext}
+use Rattle.gabc_notes.specs.declared.item.ItemKind.{ItemKind}
 use Rattle.gabc_notes.specs.declared.stage.NoteEnd.TheVariants as note_end
 use Rattle.gabc_notes.specs.declared.stage.NoteEvent.{NoteEvent}
 use Rattle.gabc_notes.specs.declared.stage.NoteEvent.TheVariants as note
@@ -20,9 +24,10 @@ use Rattle.gabc_score.specs.declared.slot_pair.SlotUse.TheVariants.{Filling}
 use Rattle.gabc_score.specs.witness.BodyStage.{BodyStageState, part_with, running_events_left, texts_by_stage}
 use Rattle.gabc_score.specs.Events.{InText, InNotes, events_from, next_line, snippet_from}
 use Rattle.gabc_score.specs.ScoreEvents.{findings_now}
-use Rattle.gabc_score.specs.Syllable.{prefix_of}
+use Rattle.gabc_score.specs.Syllable.{prefix_of, text_at}
 use Rattle.gabc_score.specs.machine.BodyBuilder.{with_all}
-use Rattle.gabc_score.specs.machine.Gatherer.{Gathered}
+use Rattle.gabc_score.specs.machine.Gatherer.{Gathered, awaits, first_past, span_of}
+use Rattle.gabc_score.specs.machine.SyllableBuilder.{past_snippet}
 use Rattle.gabc_score.specs.machine.PartCounts.{CountsInNotes, CountsHold}
 use Rattle.gabc_score.specs.machine.Quiet.{TakesQuietly}
 use Rattle.gabc_score.specs.machine.SlotPair.{SlotPairState}
@@ -34,7 +39,11 @@ one_byte kept c h =
     let e : length (encode_utf8 c) ≡ 1 = length-encode c ∙ len_utf8_ascii c h in
     let l = length-append kept (encode_utf8 c) in omega (arith, e, l)
 
--- What was gathered, where events of a body find nothing and make no syllable: one byte more is kept at most.
+-- where none is awaited, the first note or clef stays
+stays_first : (first : Option ItemKind) (line : ℕ) (span : Span) (kept : List ℕ) → awaits first line ≡ false → first_past first line span kept ≡ first
+stays_first first line span kept e = ap (λ b. cond b (first_note_or_clef (items_of (text_at span kept))) first) e
+
+-- What was gathered, where events of a body find nothing, make no syllable and bring no first note or clef: one byte more is kept at most.
 pub record OnlyKeeps (g h : Gathered) (es : List BodyEvent) : Type 0 where
   pub silent : findings_now es ≡ []
   pub made : h.made ≡ g.made
@@ -42,6 +51,7 @@ pub record OnlyKeeps (g h : Gathered) (es : List BodyEvent) : Type 0 where
   pub total : h.total ≡ g.total
   pub limit : h.limit ≡ g.limit
   pub cut : h.cut ≡ g.cut
+  pub first_kind : h.first_kind ≡ g.first_kind
   pub kept : length h.builder.kept ≤ length g.builder.kept + 1
 
 module _ (before after : BodyStageState) (x : Char) (pair next : SlotPairState) (held : next.held ≡ pair.held) (used : next.used ≡ Filling) where
@@ -59,6 +69,7 @@ module _ (before after : BodyStageState) (x : Char) (pair next : SlotPairState) 
     total = ap (λ (g : Gathered). g.total) gathered ∙ keeps.total;
     limit = ap (λ (g : Gathered). g.limit) gathered ∙ keeps.limit;
     cut = ap (λ (g : Gathered). g.cut) gathered ∙ keeps.cut;
+    first_kind = ap (λ (g : Gathered). g.first_kind) gathered ∙ keeps.first_kind;
     kept = rw gathered keeps.kept;
     held = held;
     used = used;
@@ -77,7 +88,7 @@ module _ (before after : BodyStageState) (x : Char) (pair next : SlotPairState) 
       (λ xs. rw (is, lines, macros) (ap (λ lists. events_from texts_by_stage before.nabc_lines before.macros (InText lists) (x ∷ xs))
       (ap (λ c. events_left s (c ∷ codes_of xs)) mark ∙ takes.law (codes_of xs))
       ∙ ap (λ p. (event.Text (text.Ended text_end.Notes) ∷ []) ∷ events_from texts_by_stage before.nabc_lines before.macros p xs) (sym (snippet xs))))
-      (record { silent = refl; made = refl; over = refl; total = refl; limit = refl; cut = refl; kept = one_byte pair.gathered.builder.kept 40 (omega arith) }) gathered
+      (record { silent = refl; made = refl; over = refl; total = refl; limit = refl; cut = refl; first_kind = refl; kept = one_byte pair.gathered.builder.kept 40 (omega arith) }) gathered
       ((text_ends s t (text.Ended text_end.Notes ∷ []) (omega arith) takes.pieces after.part into).counts pair.gathered
       (subst (λ b. CountsHold b pair.gathered.builder) is counts))
 
@@ -91,17 +102,17 @@ module _ (before after : BodyStageState) (x : Char) (pair next : SlotPairState) 
       events_quiet before after x pair next held used (event.Notes line (note.Kept x) ∷ [])
       (λ xs. rw (is (x ∷ xs), now xs, lines, macros)
       (ap (λ lists. events_from texts_by_stage before.nabc_lines before.macros (InNotes line opened lists) (x ∷ xs)) (law xs)))
-      (record { silent = refl; made = refl; over = refl; total = refl; limit = refl; cut = refl; kept = one_byte pair.gathered.builder.kept x.c ascii }) gathered
+      (record { silent = refl; made = refl; over = refl; total = refl; limit = refl; cut = refl; first_kind = refl; kept = one_byte pair.gathered.builder.kept x.c ascii }) gathered
       ((notes_go line opened before.part (note.Kept x ∷ []) (omega arith) out after.part into).counts pair.gathered counts)
 
-  -- the `|` that ends a snippet
+  -- the `|` that ends a snippet, which brings no first note or clef
   pub next_quiet : (line : ℕ) (opened : Place) (count : ℕ) (from to : List Char → List (List NoteEvent))
       → ((xs : List Char) → part_with before.part xs ≡ InNotes line opened (from xs)) → x.c ≡ 124 → TakesNext from to count
       → ((xs : List Char) → part_with after.part xs ≡ snippet_from before.nabc_lines before.macros (next_line before.nabc_lines line) opened xs)
       → next.gathered ≡ with_all pair.gathered (event.Notes line (note.Ended note_end.Next count) ∷ [])
       → ((o : _) → CountsHold before.part o → CountsInNotes o) → ((o : _) → CountsInNotes o → CountsHold after.part o)
-      → CountsHold before.part pair.gathered.builder → TakesQuietly before x pair after next
-  next_quiet line opened count from to is mark takes snippet gathered out into counts =
+      → CountsHold before.part pair.gathered.builder → awaits pair.gathered.first_kind line ≡ false → TakesQuietly before x pair after next
+  next_quiet line opened count from to is mark takes snippet gathered out into counts none =
       let open_now = pair.gathered.builder in
       let cut : length (prefix_of (open_now.from + count) open_now.kept) ≤ length open_now.kept = (prefix_between open_now.from count open_now.kept (out open_now counts).1).1 in
       let marked = one_byte (prefix_of (open_now.from + count) open_now.kept) 124 (omega arith) in
@@ -109,5 +120,5 @@ module _ (before after : BodyStageState) (x : Char) (pair next : SlotPairState) 
       (λ xs. rw (is (x ∷ xs), lines, macros)
       (ap (λ lists. events_from texts_by_stage before.nabc_lines before.macros (InNotes line opened lists) (x ∷ xs)) (takes.law x xs mark)
       ∙ ap (λ p. (event.Notes line (note.Ended note_end.Next count) ∷ []) ∷ events_from texts_by_stage before.nabc_lines before.macros p xs) (sym (snippet xs))))
-      (record { silent = refl; made = refl; over = refl; total = refl; limit = refl; cut = refl; kept = omega (arith, cut, marked) }) gathered
+      (record { silent = refl; made = refl; over = refl; total = refl; limit = refl; cut = refl; first_kind = stays_first pair.gathered.first_kind line (span_of open_now line count) (past_snippet open_now line count 124).kept none; kept = omega (arith, cut, marked) }) gathered
       ((notes_go line opened before.part (note.Ended note_end.Next count ∷ []) (omega arith) out after.part into).counts pair.gathered counts)

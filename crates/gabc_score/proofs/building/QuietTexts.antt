@@ -38,16 +38,16 @@ module _ (before after : BodyStageState) (x : Char) (pair next : SlotPairState) 
   pub letter_quiet : (p : Piece) → Takes s x.c (letter_events s x.c p) t → next.gathered ≡ with_all pair.gathered (map (λ o. event.Text o) (letter_events s x.c p))
       → CountsHold before.part pair.gathered.builder → TakesQuietly before x pair after next
   letter_quiet p takes =
-      text_quiet (letter_events s x.c p) (omega arith) takes (record { silent = refl; made = refl; over = refl; total = refl; limit = refl; cut = refl; kept = one_byte pair.gathered.builder.kept x.c ascii }) refl
+      text_quiet (letter_events s x.c p) (omega arith) takes (record { silent = refl; made = refl; over = refl; total = refl; limit = refl; cut = refl; first_kind = refl; kept = one_byte pair.gathered.builder.kept x.c ascii }) refl
 
   -- the blank that begins a word
   pub word_quiet : Takes s x.c (word_events s x.c) t → next.gathered ≡ with_all pair.gathered (map (λ o. event.Text o) (word_events s x.c))
       → CountsHold before.part pair.gathered.builder → TakesQuietly before x pair after next
   word_quiet takes =
-      text_quiet (word_events s x.c) (omega arith) takes (record { silent = refl; made = refl; over = refl; total = refl; limit = refl; cut = refl; kept = one_byte pair.gathered.builder.kept x.c ascii }) refl
+      text_quiet (word_events s x.c) (omega arith) takes (record { silent = refl; made = refl; over = refl; total = refl; limit = refl; cut = refl; first_kind = refl; kept = one_byte pair.gathered.builder.kept x.c ascii }) refl
 
   -- what is kept and nothing else
   pub kept_quiet : Takes s x.c (kept_events s x.c) t → next.gathered ≡ with_all pair.gathered (map (λ o. event.Text o) (kept_events s x.c))
       → CountsHold before.part pair.gathered.builder → TakesQuietly before x pair after next
   kept_quiet takes =
-      text_quiet (kept_events s x.c) (omega arith) takes (record { silent = refl; made = refl; over = refl; total = refl; limit = refl; cut = refl; kept = one_byte pair.gathered.builder.kept x.c ascii }) refl
+      text_quiet (kept_events s x.c) (omega arith) takes (record { silent = refl; made = refl; over = refl; total = refl; limit = refl; cut = refl; first_kind = refl; kept = one_byte pair.gathered.builder.kept x.c ascii }) refl

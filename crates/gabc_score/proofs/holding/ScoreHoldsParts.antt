@@ -14,8 +14,9 @@ use Rattle.gabc_text.specs.BuiltText.{with_events, empty_text, text_built_at}
 use Rattle.gabc_text.specs.Ends.{EndsOnce}
 use Rattle.gabc_text.specs.Events.{codes_of, events_by_point}
 use Rattle.gabc_score.specs.Events.{body_events}
-use Rattle.gabc_score.specs.Score.{heads_text, behind_heads, score_by, score_of}
+use Rattle.gabc_score.specs.Score.{heads_text, behind_heads}
 use Rattle.gabc_score.specs.Holding.{HoldsNoNotes, Holds, HoldsWithNotes, HoldsParts, lines_of}
+use Rattle.gabc_score.proofs.score_events.PlainScores.{plain_by, plain_of}
 use Rattle.gabc_score.proofs.texts_of_body.SeamsOfCharacters.{size, size_append}
 use Rattle.gabc_text.specs.ViewFacts.{StandsForView}
 use Rattle.gabc_text.specs.View.{kept}
@@ -172,7 +173,7 @@ module _ (ends : (at : Place) (t : List ℕ) → EndsOnce at t) (emits : (at : P
   abbrev Says : List PlacedSyllable → ℕ → Type 0
   Says ss lines = FactsHold (HoldsWithNotes t lines) (Holds HoldsNoNotes t) ss
 
-  by_heads : (r : Result Heads HeadFault) → (let score = score_by limits ending t r in Says score.syllables (lines_of score))
+  by_heads : (r : Result Heads HeadFault) → (let score = plain_by limits ending t r in Says score.syllables (lines_of score))
   by_heads (Err stop) = tt
   by_heads (Ok heads) =
       let lines = nabc_lines_of heads.book in
@@ -181,12 +182,12 @@ module _ (ends : (at : Place) (t : List ℕ) → EndsOnce at t) (emits : (at : P
       let holds = body_holds ends emits spans t lines macros xs behind_back behind_short in
       body_hold (HoldsWithNotes t lines) (Holds HoldsNoNotes t) limits (bytes_len (canonical_heads heads.book)) heads.findings (place_after t) ending xs (body_events lines macros xs) holds.made holds.last
 
-  pub score_holds : (let score = score_of limits ending t in All (λ (s : PlacedSyllable). HoldsParts t (lines_of score) s.made) score.syllables)
+  pub score_holds : (let score = plain_of limits ending t in All (λ (s : PlacedSyllable). HoldsParts t (lines_of score) s.made) score.syllables)
   score_holds =
-      let score = score_of limits ending t in
+      let score = plain_of limits ending t in
       facts_all (HoldsWithNotes t (lines_of score)) (Holds HoldsNoNotes t) score.syllables (by_heads (heads_of limits t))
 
-  pub score_noted : (let score = score_of limits ending t in (before after : List PlacedSyllable) (s next : PlacedSyllable) → score.syllables ≡ before ++ s ∷ next ∷ after → HoldsWithNotes t (lines_of score) s.made)
+  pub score_noted : (let score = plain_of limits ending t in (before after : List PlacedSyllable) (s next : PlacedSyllable) → score.syllables ≡ before ++ s ∷ next ∷ after → HoldsWithNotes t (lines_of score) s.made)
   score_noted before after s next e =
-      let score = score_of limits ending t in
+      let score = plain_of limits ending t in
       facts_noted (HoldsWithNotes t (lines_of score)) (Holds HoldsNoNotes t) before after s next (subst (λ ss. Says ss (lines_of score)) e (by_heads (heads_of limits t)))

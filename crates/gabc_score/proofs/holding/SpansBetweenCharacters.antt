@@ -8,27 +8,12 @@ use Rattle.std.proofs.lemmas.Str.{encodes-append}
 use lib.Utf8.{encode, encodes}
 use Rattle.gabc_places.specs.declared.place.Span.{Span}
 use Rattle.gabc_text.specs.ViewFacts.{StandsFor}
+use Rattle.gabc_score.proofs.holding.SeamsOfText.{first_byte, text_is}
 use Rattle.gabc_score.proofs.holding.SnippetsAreHeld.{bytes_are_size}
 use Rattle.gabc_score.specs.Body.{empty_snippet}
 use Rattle.gabc_score.specs.Holding.{ReadSnippet, HoldsParts, HasWholeSnippets}
 use Rattle.gabc_score.specs.Syllable.{UnplacedSyllable, PlacedSyllable, begins_character, is_seam, slice, text_at}
 use Rattle.gabc_score.specs.declared.snippets.Snippet.{Snippet}
-
--- from 192 on a byte begins a character
-begins : (b : ℕ) → 192 ≤ b → begins_character b ≡ true
-begins b l = grind (arith, nat_tests)
-
--- a character's bytes begin a character
-first_byte : (c : ℕ) (t : List ℕ) → is_seam (encode c ++ t) ≡ true
-unfolding encode
-first_byte c t = by (nat_lt c 128) (nat_lt c 2048) (nat_lt c 65536) refl
-  where
-    by : (x y z : Bool) → nat_lt c 128 ≡ x
-        → is_seam (cond x (c ∷ []) (cond y ((192 + c / 64) ∷ (128 + c % 64) ∷ []) (cond z ((224 + c / 4096) ∷ (128 + c / 64 % 64) ∷ (128 + c % 64) ∷ []) ((240 + c / 262144) ∷ (128 + c / 4096 % 64) ∷ (128 + c / 64 % 64) ∷ (128 + c % 64) ∷ []))) ++ t) ≡ true
-    by true y z e = rw (e) refl
-    by false true z e = begins (192 + c / 64) (omega arith)
-    by false false true e = begins (224 + c / 4096) (omega arith)
-    by false false false e = begins (240 + c / 262144) (omega arith)
 
 seam_of : (t : List ℕ) → is_seam (encodes t) ≡ true
 seam_of [] = refl
@@ -38,11 +23,6 @@ seam_of (c ∷ t) = first_byte c (encodes t)
 seam_behind : (a b : List ℕ) → is_seam (drop (length (encodes a)) (encodes (a ++ b))) ≡ true
 seam_behind a b =
     subst (λ t. is_seam t ≡ true) (sym (ap (drop (length (encodes a))) (encodes-append a b) ∙ drop_at (encodes a) (encodes b) (length (encodes a)) refl)) (seam_of b)
-
--- a span between characters has its text
-text_is : (span : Span) (bytes : List ℕ) → span.from ≤ span.to → span.to ≤ length bytes → is_seam (drop span.from bytes) ≡ true → is_seam (drop span.to bytes) ≡ true
-    → text_at span bytes ≡ slice span bytes
-text_is span bytes order within from to = rw (le-leb span.from span.to order, le-leb span.to (length bytes) within, from, to) refl
 
 -- so a span that stands for a part of a text
 pub part_text : (whole : List ℕ) (span : Span) (part : List ℕ) → StandsFor whole span part → text_at span (encodes whole) ≡ slice span (encodes whole)

@@ -6,7 +6,7 @@ use Rattle.std.proofs.lemmas.List.Elements.{All-nil, All-cons, All-head, All-tai
 use Rattle.gabc_places.specs.declared.place.Place.{Place}
 use Rattle.gabc_places.specs.declared.place.Char.{Char}
 use Rattle.gabc_places.specs.declared.code.Code.{Code}
-use Rattle.gabc_places.specs.declared.code.Code.TheVariants.{E1, E2, E3, E4, E5, E6, W1, W2, W3, W4, W5, W6, W7, W8, W9, W10, W11, F1, F2, F3, F4, F5, F6, F7}
+use Rattle.gabc_places.specs.declared.code.Code.TheVariants.{E1, E2, E3, E4, E5, E6, W1, W2, W3, W4, W5, W6, W7, W8, W9, W10, W11, W12, F1, F2, F3, F4, F5, F6, F7}
 use Rattle.gabc_places.specs.declared.severity.Severity.TheVariants.{Fatal}
 use Rattle.gabc_places.specs.declared.code.Finding.{Finding}
 use Rattle.gabc_places.specs.declared.limits.Limits.{Limits}
@@ -29,13 +29,13 @@ use Rattle.gabc_notes.specs.declared.stage.NoteEvent.{NoteEvent}
 use Rattle.gabc_notes.specs.declared.stage.NoteEvent.TheVariants as note
 use Rattle.gabc_notes.specs.Events as notes
 use Rattle.gabc_nabc.specs.Events as nabc
-use Rattle.gabc_nabc.specs.Table.{nabc as nabc_grammar}
-use Rattle.gabc_notes.specs.Table.{gabc}
-use Rattle.gabc_patterns.specs.Derivative.{is_snippet, is_viable}
 use Rattle.gabc_score.specs.declared.events.BodyEvent.TheVariants as event
 use Rattle.gabc_score.specs.declared.ending.InputEnding.{InputEnding}
 use Rattle.gabc_score.specs.Events.{PartAhead, InComment, InText, InNotes, is_text_end, is_next, is_close, note_event, first_list, other_lists, events_in, events_at_end, texts_by_definition, text_from, snippet_from, next_line, behind_mark, part_at, part_behind, events_from, body_events}
+use Rattle.gabc_score.specs.NoteBeforeClef.{with_first_each, score_events}
 use Rattle.gabc_score.specs.Score.{heads_text, behind_heads, score_of, score_by}
+use Rattle.gabc_score.proofs.order.CodesOfSnippets.{AreLow, AreLowEach, notes_low, nabc_low}
+use Rattle.gabc_score.proofs.order.FirstNotesOfParts.{all_with_first}
 use Rattle.gabc_score.proofs.order.FindingsOfParts.{found, found_append, text_found_append}
 use Rattle.gabc_score.proofs.order.FindingsOfReading.{read_finds}
 use Rattle.gabc_score.proofs.order.FindingsOfScore.{reached_prefix}
@@ -64,8 +64,8 @@ by_cond : (b : Bool) (fs gs : List Finding) → NoFaults fs → NoFaults gs → 
 by_cond true fs gs h k = h
 by_cond false fs gs h k = k
 
--- codes below W9 are no faults
-low_code : (code : Code) → rank_of code < rank_of W9 → severity_of code ≢ Fatal
+-- codes below W12 are no faults
+low_code : (code : Code) → rank_of code < rank_of W12 → severity_of code ≢ Fatal
 low_code E1 h = λ e. cc
 low_code E2 h = λ e. cc
 low_code E3 h = λ e. cc
@@ -83,6 +83,7 @@ low_code W8 h = λ e. cc
 low_code W9 h = λ e. cc
 low_code W10 h = λ e. cc
 low_code W11 h = λ e. cc
+low_code W12 h = λ e. cc
 low_code F1 h = absurd (omega arith)
 low_code F2 h = absurd (omega arith)
 low_code F3 h = absurd (omega arith)
@@ -94,7 +95,7 @@ low_code F7 h = absurd (omega arith)
 low_codes : (fs : List Finding) → All (λ (f : Finding). rank_of f.code < rank_of W9) fs → NoFaults fs
 low_codes [] h = tt
 low_codes (f ∷ fs) h =
-    (low_code f.code (All-head (λ (g : Finding). rank_of g.code < rank_of W9) f fs h), low_codes fs (All-tail (λ (g : Finding). rank_of g.code < rank_of W9) f fs h))
+    (low_code f.code (let k = All-head (λ (g : Finding). rank_of g.code < rank_of W9) f fs h in omega (arith, k)), low_codes fs (All-tail (λ (g : Finding). rank_of g.code < rank_of W9) f fs h))
 
 -- ---- of the headers
 
@@ -137,81 +138,6 @@ heads_found_by : (t : List ℕ) (s : Option Stop) → NoFaults (found_in_heads (
 heads_found_by t None = before_point (length t + 1) (head_findings t) (heads_known t)
 heads_found_by t (Some s) = before_point s.point (head_findings t) (heads_known t)
 
--- ---- of snippets
-
-abbrev NoneNoted : List NoteEvent → Type 0
-NoneNoted [] = Unit {0}
-NoneNoted (note.Kept x ∷ emitted) = NoneNoted emitted
-NoneNoted (note.Found f ∷ emitted) = IsNoFault f × NoneNoted emitted
-NoneNoted (note.Ended how n ∷ emitted) = NoneNoted emitted
-
-noted_both : (xs ys : List NoteEvent) → NoneNoted xs → NoneNoted ys → NoneNoted (xs ++ ys)
-noted_both [] ys h k = k
-noted_both (note.Kept x ∷ xs) ys h k = noted_both xs ys h k
-noted_both (note.Found f ∷ xs) ys h k = (h.0, noted_both xs ys h.1 k)
-noted_both (note.Ended how n ∷ xs) ys h k = noted_both xs ys h k
-
-noted_if : (b : Bool) (xs ys : List NoteEvent) → NoneNoted xs → NoneNoted ys → NoneNoted (if b then xs else ys)
-noted_if true xs ys h k = h
-noted_if false xs ys h k = k
-
-abbrev NoneNotedEach : List (List NoteEvent) → Type 0
-NoneNotedEach [] = Unit {0}
-NoneNotedEach (emitted ∷ lists) = NoneNoted emitted × NoneNotedEach lists
-
-one_found : (place : Place) (code : Code) → severity_of code ≢ Fatal → NoneNoted (note.Found (record { place = place; code = code }) ∷ [])
-one_found place code h = (h, tt)
-
-one_if : (b : Bool) (place : Place) (code : Code) → severity_of code ≢ Fatal → NoneNoted (if b then note.Found (record { place = place; code = code }) ∷ [] else [])
-one_if true place code h = (h, tt)
-one_if false place code h = tt
-
-none_if : (b : Bool) (place : Place) (code : Code) → severity_of code ≢ Fatal → NoneNoted (if b then [] else note.Found (record { place = place; code = code }) ∷ [])
-none_if true place code h = tt
-none_if false place code h = (h, tt)
-
-gabc_end : (p : notes.Point) → NoneNoted (notes.at_end p)
-gabc_end p =
-    noted_both (if is_snippet gabc (notes.kept p.back) then [] else notes.finding_event p.here.place E6 ∷ []) _ (none_if (is_snippet gabc (notes.kept p.back)) p.here.place E6 (λ e. cc))
-    (noted_both (if notes.is_fused p.back then notes.finding_event p.here.place W10 ∷ [] else []) _ (one_if (notes.is_fused p.back) p.here.place W10 (λ e. cc)) tt)
-
-gabc_warnings : (macros : ℕ) (p : notes.Point) → NoneNoted (notes.warnings macros p)
-gabc_warnings macros p =
-    let missing = notes.is_missing macros (notes.macro_of (notes.item_at p)) in
-    noted_both (if notes.is_unpaired p then notes.finding_event p.here.place W10 ∷ [] else []) _ (one_if (notes.is_unpaired p) p.here.place W10 (λ e. cc))
-    (one_if missing (notes.opener p.back) W8 (λ e. cc))
-
-gabc_point : (split : Bool) (macros : ℕ) (p : notes.Point) → NoneNoted (notes.events_at split macros p)
-gabc_point split macros p =
-    let error = one_found p.here.place E1 (λ e. cc) in
-    let kept = noted_if (notes.is_kept p) (note.Kept p.here ∷ notes.warnings macros p) (notes.finding_event p.here.place E1 ∷ []) (gabc_warnings macros p) error in
-    let read = noted_if (notes.is_comment p) [] (if notes.is_kept p then note.Kept p.here ∷ notes.warnings macros p else notes.finding_event p.here.place E1 ∷ []) tt kept in
-    noted_if (notes.is_over split p.back) [] _ tt (noted_if (notes.is_end split p) (notes.at_end p) _ (gabc_end p) read)
-
-gabc_points : (split : Bool) (macros : ℕ) (back xs : List Char) → NoneNotedEach (notes.note_events_behind split macros back xs)
-gabc_points split macros back [] = (noted_if (notes.is_over split back) _ _ tt tt, tt)
-gabc_points split macros back (x ∷ xs) = (gabc_point split macros (record { back = back; here = x }), gabc_points split macros (x ∷ back) xs)
-
-nabc_end : (kept : List ℕ) (x : Char) → NoneNoted (nabc.end_events kept x)
-nabc_end kept x =
-    noted_both (if is_snippet nabc_grammar kept then [] else notes.finding_event x.place E6 ∷ []) _ (none_if (is_snippet nabc_grammar kept) x.place E6 (λ e. cc)) tt
-
-nabc_character : (kept : List ℕ) (x : Char) → NoneNoted (nabc.character_events kept x)
-nabc_character kept x =
-    let missing = nabc.is_missing (nabc.first_of kept) x.c in
-    noted_if (is_viable nabc_grammar (kept ++ x.c ∷ [])) (note.Kept x ∷ (if missing then notes.finding_event x.place W7 ∷ [] else [])) (notes.finding_event x.place E3 ∷ [])
-    (one_if missing x.place W7 (λ e. cc)) (one_found x.place E3 (λ e. cc))
-
-nabc_point : (t : List ℕ) (x : Char) → NoneNoted (nabc.events_at t x)
-nabc_point t x =
-    noted_if (nabc.has_end t) [] _ tt
-    (noted_if (nabc.is_end t x.c) (nabc.end_events (nabc.kept_of t) x) _ (nabc_end (nabc.kept_of t) x)
-    (noted_if (nabc.is_character t x.c) (nabc.character_events (nabc.kept_of t) x) [] (nabc_character (nabc.kept_of t) x) tt))
-
-nabc_points : (t : List ℕ) (xs : List Char) → NoneNotedEach (nabc.nabc_events_behind t xs)
-nabc_points t [] = (noted_if (nabc.has_end t) _ _ tt tt, tt)
-nabc_points t (x ∷ xs) = (nabc_point t x, nabc_points (t ++ x.c ∷ []) xs)
-
 -- ---- of the parts of a body
 
 abbrev NoneTextEach : List (List TextEvent) → Type 0
@@ -231,7 +157,7 @@ each_text (emitted ∷ lists) h =
 abbrev PartFinds : PartAhead → Type 0
 PartFinds InComment = Unit {0}
 PartFinds (InText lists) = NoneTextEach lists
-PartFinds (InNotes line opened lists) = NoneNotedEach lists
+PartFinds (InNotes line opened lists) = AreLowEach lists
 
 text_emits_so : (emitted : List TextEvent) → NoFaults (found_in emitted) → NoFaults (found (map (λ (o : TextEvent). event.Text o) emitted))
 text_emits_so [] h = tt
@@ -240,17 +166,17 @@ text_emits_so (text.Part p ∷ emitted) h = text_emits_so emitted h
 text_emits_so (text.Found f ∷ emitted) h = (h.0, text_emits_so emitted h.1)
 text_emits_so (text.Ended e ∷ emitted) h = text_emits_so emitted h
 
-notes_emit : (line : ℕ) (opened : Place) (emitted : List NoteEvent) → NoneNoted emitted → NoFaults (found (map (note_event line opened) emitted))
+notes_emit : (line : ℕ) (opened : Place) (emitted : List NoteEvent) → AreLow emitted → NoFaults (found (map (note_event line opened) emitted))
 notes_emit line opened [] h = tt
 notes_emit line opened (note.Kept x ∷ emitted) h = notes_emit line opened emitted h
-notes_emit line opened (note.Found f ∷ emitted) h = (h.0, notes_emit line opened emitted h.1)
+notes_emit line opened (note.Found f ∷ emitted) h = (low_code f.code h.0, notes_emit line opened emitted h.1)
 notes_emit line opened (note.Ended how n ∷ emitted) h = notes_emit line opened emitted h
 
 text_first : (lists : List (List TextEvent)) → NoneTextEach lists → NoFaults (found_in (first_list lists)) × NoneTextEach (other_lists lists)
 text_first [] h = (tt, tt)
 text_first (emitted ∷ lists) h = (h.0, h.1)
 
-notes_first : (lists : List (List NoteEvent)) → NoneNotedEach lists → NoneNoted (first_list lists) × NoneNotedEach (other_lists lists)
+notes_first : (lists : List (List NoteEvent)) → AreLowEach lists → AreLow (first_list lists) × AreLowEach (other_lists lists)
 notes_first [] h = (tt, tt)
 notes_first (emitted ∷ lists) h = (h.0, h.1)
 
@@ -270,12 +196,11 @@ module _ (low : (at : Place) (t : List ℕ) → All (λ (f : Finding). rank_of f
   text_finds at xs = each_text (events_by_point at (codes_of xs)) (subst NoFaults (sym (all at (codes_of xs))) (low_codes (findings at (codes_of xs)) (low at (codes_of xs))))
 
   snippet_finds : (line : ℕ) (opened : Place) (xs : List Char) → PartFinds (snippet_from lines macros line opened xs)
-  unfolding notes.note_events
   snippet_finds line opened xs = by (line == 0)
     where
-      by : (b : Bool) → NoneNotedEach (if b then notes.note_events (nat_lt 0 lines) macros xs else nabc.nabc_events xs)
-      by true = gabc_points (nat_lt 0 lines) macros [] xs
-      by false = nabc_points [] xs
+      by : (b : Bool) → AreLowEach (if b then notes.note_events (nat_lt 0 lines) macros xs else nabc.nabc_events xs)
+      by true = notes_low (nat_lt 0 lines) macros xs
+      by false = nabc_low xs
 
   standing_finds : (part : PartAhead) (x : Char) (xs : List Char) → PartFinds part → PartFinds (part_at texts_by_definition part x xs)
   standing_finds InComment x xs h = by (x.c == 10)
@@ -316,9 +241,11 @@ module _ (low : (at : Place) (t : List ℕ) → All (λ (f : Finding). rank_of f
   score_finds limits ending t (Err stop) h = to_all stop.findings h
   score_finds limits ending t (Ok heads) h =
       let xs = placed_characters_behind (heads_text t) (behind_heads t) in
-      let lists = body_events (nabc_lines_of heads.book) (macros_of heads.book) xs in
+      let emitted = body_events (nabc_lines_of heads.book) (macros_of heads.book) xs in
+      let lists = score_events (nabc_lines_of heads.book) (macros_of heads.book) xs in
       read_finds IsNoFault (λ p e. cc) (λ p e. cc) limits _ heads.findings (place_after t) (concat_of lists) (to_all heads.findings h)
-      (to_all (found (concat_of lists)) (events_finds low all (nabc_lines_of heads.book) (macros_of heads.book) InComment xs tt))
+      (all_with_first IsNoFault (λ p e. cc) [] xs emitted
+      (to_all (found (concat_of emitted)) (events_finds low all (nabc_lines_of heads.book) (macros_of heads.book) InComment xs tt)))
       ending _ (reached_prefix limits _ [] xs lists)
 
   -- no finding of a score is a fault

@@ -1,18 +1,23 @@
 -- What is found in a body that is cut into parts stands in order.
-use Rattle.std.proofs.Common.{◌≡◌, ℕ, suc, ◌+◌, ◌-◌, ◌≤◌, ◌^◌, ◌==◌, nat_lt, min, List, [], ◌∷◌, ◌++◌, Bool, true, false, cond, refl, sym, ap, subst, ◌∙◌, length, arith, inl, inr, ◌⊎◌}
+use Rattle.std.proofs.Common.{◌≡◌, ℕ, suc, ◌+◌, ◌-◌, ◌≤◌, ◌^◌, ◌==◌, nat_lt, min, List, [], ◌∷◌, ◌++◌, Bool, true, false, cond, refl, sym, ap, subst, ◌∙◌, length, append-nil, Option, arith, inl, inr, ◌⊎◌}
 use Rattle.gabc_places.specs.declared.place.Place.{Place}
 use Rattle.gabc_places.specs.declared.place.Char.{Char}
+use Rattle.gabc_places.specs.declared.code.Code.TheVariants.{W12}
 use Rattle.gabc_places.specs.declared.code.Finding.{Finding}
 use Rattle.gabc_places.specs.Findings.{IsUpTo}
 use Rattle.gabc_places.specs.StageLaw.{concat_of}
 use Rattle.gabc_places.specs.Place.{next_place, place_past, placed_characters_from}
+use Rattle.gabc_notes.specs.declared.item.ItemKind.{ItemKind}
 use Rattle.gabc_notes.specs.Events as notes
 use Rattle.gabc_nabc.specs.Events as nabc
 use Rattle.gabc_score.specs.Events.{PartAhead, texts_by_definition, text_from, snippet_from, behind_mark}
+use Rattle.gabc_score.specs.NoteBeforeClef.{is_first_note, found_first, with_first_each}
+use Rattle.gabc_score.specs.declared.events.BodyEvent.{BodyEvent}
 use Rattle.gabc_score.specs.Units.{Mark, Opens, Next, Closes, CutPart, whole, events_through, EndsBehind, part_following, Cuts, events_of_cutting}
 use Rattle.gabc_score.proofs.units.BodyHasOneCutting.{text_mark}
-use Rattle.gabc_score.proofs.order.FindingsOneAfterAnother.{IsBefore, up_to_then, before_up_to, next_behind, past_up_to, past_append, from_earlier, from_append, before_append, order_append, all_before, before_then, no_notes}
-use Rattle.gabc_score.proofs.order.FindingsOfParts.{found, found_append, joined_append, TextsLie, SnippetsLie, Lie, LieLast, text_lies, text_lies_last, snippet_lies, snippet_lies_last}
+use Rattle.gabc_score.proofs.order.FindingsOneAfterAnother.{IsBefore, up_to_then, before_up_to, next_behind, past_up_to, past_append, AllBelow, from_earlier, from_append, up_to_append, up_to_self, below_before, before_append, order_append, order_then, all_before, before_then, no_notes}
+use Rattle.gabc_score.proofs.order.FindingsOfParts.{found, TextsLie, SnippetsLie, Lie, LieLast, text_lies, text_codes, text_lies_last, snippet_lies, snippet_codes, snippet_lies_last}
+use Rattle.gabc_score.proofs.order.FirstNotesOfParts.{through_end, to_the_end}
 
 -- ---- the characters of a part and those behind it
 
@@ -69,6 +74,23 @@ module _ (lines macros : ℕ) (texts : TextsLie) (gabc : SnippetsLie (λ xs. not
   abbrev pub Begins : PartAhead → Place → List Char → Type 0
   Begins part p xs = (part ≡ text_from texts_by_definition p xs) ⊎ ((line : ℕ) × (opened : Place) × (part ≡ snippet_from lines macros line opened xs))
 
+  -- the codes of what is found in a part through some of its characters
+  begun_codes : (part : PartAhead) (p : Place) (xs ys : List Char) → Begins part p ys → AllBelow W12 (found (concat_of (events_through part xs)))
+  begun_codes part p xs ys (inl f) = rw f (text_codes texts p ys xs)
+  begun_codes part p xs ys (inr h) = rw h.2 (snippet_codes lines macros gabc marks h.0 h.1 ys xs)
+
+  -- a note before any clef stands at the mark, behind all that the snippet finds
+  lies_with_first : (p q : Place) (fs : List Finding) (was now : Option ItemKind) → IsUpTo p q → Lie p q fs → AllBelow W12 fs → Lie p q (fs ++ found_first was now q)
+  lies_with_first p q fs was now u l h = by (is_first_note was now)
+    where
+      by : (b : Bool) → Lie p q (fs ++ cond b (record { place = q; code = W12 } ∷ []) [])
+      by true = record {
+        order = order_then fs (record { place = q; code = W12 }) [] l.order (below_before W12 q fs l.up_to h) tt;
+        from = from_append p fs (record { place = q; code = W12 } ∷ []) l.from (u, tt);
+        up_to = up_to_append q fs (record { place = q; code = W12 } ∷ []) l.up_to (up_to_self q, tt);
+      }
+      by false = subst (Lie p q) (sym (append-nil fs)) l
+
   last_lies : (part : PartAhead) (p : Place) (cs : List ℕ) (last : List Char) → last ≡ placed_characters_from p cs → Begins part p last → LieLast p (place_past p cs) (found (concat_of (events_through part last)))
   last_lies part p cs last e (inl f) = rw (f, e) (text_lies_last texts p cs)
   last_lies part p cs last e (inr h) = rw (h.2, e) (snippet_lies_last lines macros gabc marks h.0 h.1 p cs)
@@ -108,22 +130,25 @@ module _ (lines macros : ℕ) (texts : TextsLie) (gabc : SnippetsLie (λ xs. not
 
   pub pieces_lie : (pieces : List CutPart) (last : List Char) (part : PartAhead) (p : Place) (cs : List ℕ) → whole pieces last ≡ placed_characters_from p cs → Short p cs
       → Begins part p (whole pieces last) → Cuts texts_by_definition lines macros part pieces last
-      → LieLast p (place_past p cs) (found (concat_of (events_of_cutting texts_by_definition lines macros part pieces last)))
-  pieces_lie [] last part p cs e short b h = last_lies part p cs last e b
-  pieces_lie (q ∷ pieces) last part p cs e short b h =
+      → (before : List BodyEvent) → LieLast p (place_past p cs) (found (concat_of (with_first_each before (whole pieces last) (events_of_cutting texts_by_definition lines macros part pieces last))))
+  pieces_lie [] last part p cs e short b h before = subst (LieLast p (place_past p cs)) (sym (to_the_end lines part last before h)) (last_lies part p cs last e b)
+  pieces_lie (q ∷ pieces) last part p cs e short b h before =
       let s = split q.characters q.end (whole pieces last) p cs e in
       let r = place_past p s.prefix in
       let next = next_place (place_past p s.prefix) s.c in
-      let f = through_lies part p cs q.characters q.end (whole pieces last) s e b in
+      let lists = events_of_cutting texts_by_definition lines macros (part_following texts_by_definition lines macros q.mark q.end (whole pieces last)) pieces last in
+      let w = through_end lines part q.characters q.end (whole pieces last) q.mark before lists h.0 in
+      let at : q.end.place ≡ place_past p s.prefix = ap (λ (y : Char). y.place) s.here in
+      let f = lies_with_first p (place_past p s.prefix) (found (concat_of (events_through part q.characters))) w.0 w.1 (past_up_to p s.prefix)
+      (through_lies part p cs q.characters q.end (whole pieces last) s e b) (begun_codes part p q.characters (q.characters ++ q.end ∷ whole pieces last) b) in
       let g = pieces_lie pieces last (part_following texts_by_definition lines macros q.mark q.end (whole pieces last)) (next_place (place_past p s.prefix) s.c) s.rest s.behind
       (short_next (place_past p s.prefix) s.c s.rest (short_past p s.prefix (s.c ∷ s.rest) (subst (Short p) s.all short)))
-      (next_begins part p cs q.characters q.end (whole pieces last) q.mark s short b h.0) h.1 in
+      (next_begins part p cs q.characters q.end (whole pieces last) q.mark s short b h.0) h.1 w.2 in
       let end : place_past (next_place (place_past p s.prefix) s.c) s.rest ≡ place_past p cs = sym (past_append p s.prefix (s.c ∷ s.rest)) ∙ ap (place_past p) (sym s.all) in
       let l = next_behind (place_past p s.prefix) s.c in
       subst (LieLast p (place_past p cs))
-      (sym (ap found (joined_append (events_through part q.characters) (events_of_cutting texts_by_definition lines macros (part_following texts_by_definition lines macros q.mark q.end (whole pieces last)) pieces last))
-      ∙ found_append (concat_of (events_through part q.characters)) (concat_of (events_of_cutting texts_by_definition lines macros (part_following texts_by_definition lines macros q.mark q.end (whole pieces last)) pieces last))))
-      (subst (λ o. LieLast p o (found (concat_of (events_through part q.characters)) ++ found (concat_of (events_of_cutting texts_by_definition lines macros (part_following texts_by_definition lines macros q.mark q.end (whole pieces last)) pieces last)))) end
+      (sym (w.3 ∙ ap (λ place. (found (concat_of (events_through part q.characters)) ++ found_first w.0 w.1 place) ++ found (concat_of (with_first_each w.2 (whole pieces last) lists))) at))
+      (subst (λ o. LieLast p o ((found (concat_of (events_through part q.characters)) ++ found_first w.0 w.1 (place_past p s.prefix)) ++ found (concat_of (with_first_each w.2 (whole pieces last) lists)))) end
       (both_lie p (place_past p s.prefix) (next_place (place_past p s.prefix) s.c) (place_past (next_place (place_past p s.prefix) s.c) s.rest) _ _
       (up_to_then p (place_past p s.prefix) (next_place (place_past p s.prefix) s.c) (past_up_to p s.prefix) (before_up_to (place_past p s.prefix) (next_place (place_past p s.prefix) s.c) l)) l
       (past_up_to (next_place (place_past p s.prefix) s.c) s.rest) f g))

@@ -18,12 +18,13 @@ use Rattle.gabc_notes.specs.SnippetRead.{findings_of}
 use Rattle.gabc_notes.specs.Ends.{AreCutAtMost}
 use Rattle.gabc_notes.specs.Events.{note_events, note_events_behind, events_at, cut_events}
 use Rattle.gabc_nabc.specs.Events as nabc
+use Rattle.gabc_score.proofs.order.CodesOfSnippets.{found_below, notes_low, nabc_low}
 use Rattle.gabc_score.proofs.order.FindingsOneAfterAnother.{AllBelow}
 use Rattle.gabc_score.proofs.order.FindingsOfParts.{TextsLie, SnippetsLie, notes_append}
 
 -- ---- texts
 
-all_below : (fs : List Finding) → All (λ (f : Finding). rank_of f.code < rank_of W9) fs → AllBelow fs
+all_below : (fs : List Finding) → All (λ (f : Finding). rank_of f.code < rank_of W9) fs → AllBelow W9 fs
 all_below [] h = tt
 all_below (f ∷ fs) h = (All-head (λ (g : Finding). rank_of g.code < rank_of W9) f fs h, all_below fs (All-tail (λ (g : Finding). rank_of g.code < rank_of W9) f fs h))
 
@@ -34,7 +35,7 @@ pub texts_lie : ((at : Place) (prefix rest : List ℕ) → LieBetween at (place_
 texts_lie within all low order = record {
   within = within;
   order = λ at t. subst AreInOrder (sym (all at t)) (order at t);
-  below = λ at t. subst AllBelow (sym (all at t)) (all_below (findings at t) (low at t));
+  below = λ at t. subst (AllBelow W9) (sym (all at t)) (all_below (findings at t) (low at t));
 }
 
 -- ---- snippets
@@ -66,7 +67,7 @@ module _ (split : Bool) (macros : ℕ) (cuts : (back : List Char) → AreCutAtMo
 
   pub notes_lie : ((at : Place) (prefix rest : List ℕ) → LieBetween at (place_past at prefix) (findings_of (concat_of (take (length prefix + 1) (note_events split macros (placed_characters_from at (prefix ++ rest)))))))
       → ((at : Place) (t : List ℕ) → AreInOrder (findings_of (concat_of (note_events split macros (placed_characters_from at t))))) → SnippetsLie (λ xs. note_events split macros xs)
-  notes_lie within order = record { within = within; order = order; last = facts_last; each = facts_each }
+  notes_lie within order = record { within = within; order = order; last = facts_last; each = facts_each; below = λ xs. found_below _ (notes_low split macros xs) }
 
 module _ (cuts : (t : List ℕ) → AreCutAtMost (nabc.cut_events t)) where
   nabc_each : (t : List ℕ) (xs : List Char) → length (nabc.nabc_events_behind t xs) ≡ length xs + 1
@@ -82,4 +83,4 @@ module _ (cuts : (t : List ℕ) → AreCutAtMost (nabc.cut_events t)) where
 
   pub nabc_lies : ((at : Place) (prefix rest : List ℕ) → LieBetween at (place_past at prefix) (findings_of (concat_of (take (length prefix + 1) (nabc.nabc_events (placed_characters_from at (prefix ++ rest)))))))
       → ((at : Place) (t : List ℕ) → AreInOrder (findings_of (concat_of (nabc.nabc_events (placed_characters_from at t))))) → SnippetsLie (λ xs. nabc.nabc_events xs)
-  nabc_lies within order = record { within = within; order = order; last = nabc_last []; each = nabc_each [] }
+  nabc_lies within order = record { within = within; order = order; last = nabc_last []; each = nabc_each []; below = λ xs. found_below _ (nabc_low xs) }

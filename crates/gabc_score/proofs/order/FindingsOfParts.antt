@@ -3,6 +3,7 @@ use Rattle.std.proofs.Common.{◌≡◌, ℕ, suc, ◌+◌, ◌==◌, nat_lt, Li
 use Rattle.std.proofs.Math.Seq.{take-length}
 use Rattle.gabc_places.specs.declared.place.Place.{Place}
 use Rattle.gabc_places.specs.declared.place.Char.{Char}
+use Rattle.gabc_places.specs.declared.code.Code.TheVariants.{W9, W12}
 use Rattle.gabc_places.specs.declared.code.Finding.{Finding}
 use Rattle.gabc_places.specs.Findings.{AreInOrder, LieBetween}
 use Rattle.gabc_places.specs.StageLaw.{concat_of}
@@ -22,7 +23,7 @@ use Rattle.gabc_score.specs.declared.events.BodyEvent.TheVariants as event
 use Rattle.gabc_score.specs.Events.{InText, InNotes, note_event, texts_by_definition, text_from, snippet_from}
 use Rattle.gabc_score.specs.Units.{events_through}
 use Rattle.gabc_score.specs.Body.{events_onto, findings_with, findings_of}
-use Rattle.gabc_score.proofs.order.FindingsOneAfterAnother.{AllFrom, AllUpTo, AllBefore, AllBelow, lie_from, lie_up_to, order_prefix, below_prefix, below_before, all_before, no_notes, next_behind, IsBefore, past_append}
+use Rattle.gabc_score.proofs.order.FindingsOneAfterAnother.{AllFrom, AllUpTo, AllBefore, AllBelow, lie_from, lie_up_to, order_prefix, below_prefix, below_higher, below_before, all_before, no_notes, next_behind, IsBefore, past_append}
 
 -- ---- what was found, in the order in which it was emitted
 
@@ -130,10 +131,15 @@ text_order n lists h =
     order_prefix (found_in (concat_of (take n lists))) (found_in (concat_of (drop n lists)))
     (subst AreInOrder (ap found_in (joined_split n lists) ∙ text_found_append (concat_of (take n lists)) (concat_of (drop n lists))) h)
 
-text_below : (n : ℕ) (lists : List (List TextEvent)) → AllBelow (found_in (concat_of lists)) → AllBelow (found_in (concat_of (take n lists)))
+text_below : (n : ℕ) (lists : List (List TextEvent)) → AllBelow W9 (found_in (concat_of lists)) → AllBelow W9 (found_in (concat_of (take n lists)))
 text_below n lists h =
-    below_prefix (found_in (concat_of (take n lists))) (found_in (concat_of (drop n lists)))
-    (subst AllBelow (ap found_in (joined_split n lists) ∙ text_found_append (concat_of (take n lists)) (concat_of (drop n lists))) h)
+    below_prefix W9 (found_in (concat_of (take n lists))) (found_in (concat_of (drop n lists)))
+    (subst (AllBelow W9) (ap found_in (joined_split n lists) ∙ text_found_append (concat_of (take n lists)) (concat_of (drop n lists))) h)
+
+notes_below : (n : ℕ) (lists : List (List NoteEvent)) → AllBelow W12 (notes_found (concat_of lists)) → AllBelow W12 (notes_found (concat_of (take n lists)))
+notes_below n lists h =
+    below_prefix W12 (notes_found (concat_of (take n lists))) (notes_found (concat_of (drop n lists)))
+    (subst (AllBelow W12) (ap notes_found (joined_split n lists) ∙ notes_append (concat_of (take n lists)) (concat_of (drop n lists))) h)
 
 notes_order : (n : ℕ) (lists : List (List NoteEvent)) → AreInOrder (notes_found (concat_of lists)) → AreInOrder (notes_found (concat_of (take n lists)))
 notes_order n lists h =
@@ -146,7 +152,7 @@ notes_order n lists h =
 pub record TextsLie : Type 0 where
   pub within : (at : Place) (prefix rest : List ℕ) → LieBetween at (place_past at prefix) (found_in (concat_of (take (length prefix + 1) (events_by_point at (prefix ++ rest)))))
   pub order : (at : Place) (t : List ℕ) → AreInOrder (found_in (concat_of (events_by_point at t)))
-  pub below : (at : Place) (t : List ℕ) → AllBelow (found_in (concat_of (events_by_point at t)))
+  pub below : (at : Place) (t : List ℕ) → AllBelow W9 (found_in (concat_of (events_by_point at t)))
 
 -- of snippets that are read so
 pub record SnippetsLie (emits_at : List Char → List (List NoteEvent)) : Type 0 where
@@ -154,6 +160,7 @@ pub record SnippetsLie (emits_at : List Char → List (List NoteEvent)) : Type 0
   pub order : (at : Place) (t : List ℕ) → AreInOrder (notes_found (concat_of (emits_at (placed_characters_from at t))))
   pub last : (xs : List Char) → notes_found (concat_of (emits_at xs)) ≡ notes_found (concat_of (take (length xs) (emits_at xs)))
   pub each : (xs : List Char) → length (emits_at xs) ≡ length xs + 1
+  pub below : (xs : List Char) → AllBelow W12 (notes_found (concat_of (emits_at xs)))
 
 -- what is found through the end of a part whose first character stands at p, and behind which stands the place q
 pub record Lie (p q : Place) (fs : List Finding) : Type 0 where
@@ -189,6 +196,13 @@ module _ (texts : TextsLie) where
         up_to = lie_up_to p (place_past p prefix) _ (texts.within p prefix rest);
       })
 
+  -- and the codes of what is found through any of its characters
+  pub text_codes : (p : Place) (ys xs : List Char) → AllBelow W12 (found (concat_of (events_through (text_from texts_by_definition p ys) xs)))
+  text_codes p ys xs =
+      let lists = events_by_point p (codes_of ys) in
+      subst (AllBelow W12) (sym (text_through lists xs))
+      (below_higher W9 W12 (found_in (concat_of (take (suc (length xs)) lists))) (omega arith) (text_below (suc (length xs)) lists (texts.below p (codes_of ys))))
+
   pub text_lies_last : (p : Place) (cs : List ℕ) → LieLast p (place_past p cs) (found (concat_of (events_through (text_from texts_by_definition p (placed_characters_from p cs)) (placed_characters_from p cs))))
   text_lies_last p cs =
       let h = text_lies p cs [] (placed_characters_from p cs) (length_placed p cs) in
@@ -196,12 +210,12 @@ module _ (texts : TextsLie) where
       record {
         order = k.order;
         from = k.from;
-        before = below_before (place_past p cs) _ k.up_to below;
+        before = below_before W9 (place_past p cs) _ k.up_to below;
       }
     where
-      below : AllBelow (found (concat_of (events_through (text_from texts_by_definition p (placed_characters_from p cs)) (placed_characters_from p cs))))
+      below : AllBelow W9 (found (concat_of (events_through (text_from texts_by_definition p (placed_characters_from p cs)) (placed_characters_from p cs))))
       below =
-          subst AllBelow
+          subst (AllBelow W9)
           (sym (text_through (events_by_point p (codes_of (placed_characters_from p cs))) (placed_characters_from p cs)
           ∙ ap (λ t. found_in (concat_of (take (suc (length (placed_characters_from p cs))) (events_by_point p t)))) (codes_placed p cs)))
           (text_below (suc (length (placed_characters_from p cs))) (events_by_point p cs) (texts.below p cs))
@@ -230,6 +244,13 @@ module _ (lines macros : ℕ) (gabc : SnippetsLie (λ xs. notes.note_events (nat
         from = lie_from p (place_past p prefix) _ (s.within p prefix rest);
         up_to = lie_up_to p (place_past p prefix) _ (s.within p prefix rest);
       })
+
+  -- and the codes of what is found through any of its characters
+  pub snippet_codes : (line : ℕ) (opened : Place) (ys xs : List Char) → AllBelow W12 (found (concat_of (events_through (snippet_from lines macros line opened ys) xs)))
+  snippet_codes line opened ys xs =
+      let s = snippets line in
+      let lists = snippet_emits lines macros line ys in
+      subst (AllBelow W12) (sym (snippet_through line opened lists xs)) (notes_below (suc (length xs)) lists (s.below ys))
 
   -- nothing is found where the characters of a snippet end
   pub snippet_lies_last : (line : ℕ) (opened p : Place) (cs : List ℕ)

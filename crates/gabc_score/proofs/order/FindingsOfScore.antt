@@ -21,7 +21,8 @@ use Rattle.gabc_nabc.specs.Events as nabc
 use Rattle.gabc_score.specs.declared.events.BodyEvent.{BodyEvent}
 use Rattle.gabc_score.specs.declared.ending.InputEnding.{InputEnding}
 use Rattle.gabc_score.specs.declared.ending.InputEnding.TheVariants.{Whole, Broken, At}
-use Rattle.gabc_score.specs.Events.{texts_by_definition, text_from, snippet_from, body_events}
+use Rattle.gabc_score.specs.Events.{texts_by_definition, text_from, snippet_from}
+use Rattle.gabc_score.specs.NoteBeforeClef.{with_first_each, score_events}
 use Rattle.gabc_score.specs.Units.{Closes, Cutting, IsCutFrom, EndsBehind, whole, cutting_of, events_of_parts, first_text, BeginsWithLf, events_of_cutting}
 use Rattle.gabc_score.specs.Body.{events_onto, findings_of, EventsToStop, events_to_stop, stopped_events, code_at, result_by, result_at_end, result_by_fault, result_whole, result_stopped, found_at_end, has_last, fault_of_end, cut_of}
 use Rattle.gabc_score.specs.Score.{heads_text, behind_heads, score_of, score_by}
@@ -29,13 +30,10 @@ use Rattle.gabc_score.proofs.units.BodyHasOneCutting.{one, body_emits_all}
 use Rattle.gabc_places.proofs.PlacesOfAText.{placed_behind, behind_after}
 use Rattle.gabc_score.proofs.order.FindingsOneAfterAnother.{IsBefore, AllFrom, AllUpTo, AllBefore, past_up_to, past_append, next_behind, before_then, from_earlier, from_prefix, before_append, order_append, order_then, order_prefix, all_before, lie_up_to, no_notes}
 use Rattle.gabc_score.proofs.order.FindingsOfParts.{found, found_append, found_onto, TextsLie, SnippetsLie, LieLast}
+use Rattle.gabc_score.proofs.order.FirstNotesOfParts.{behind_comment}
 use Rattle.gabc_score.proofs.order.FindingsOfCutParts.{Short, short_past, pieces_lie}
 
 -- ---- the body
-
-blanks : (comment : List Char) (lists : List (List BodyEvent)) → concat_of (map (λ (x : Char). []) comment ++ lists) ≡ concat_of lists
-blanks [] lists = refl
-blanks (x ∷ comment) lists = blanks comment lists
 
 record Behind (prefix : List Char) (ys : List Char) (p : Place) (cs : List ℕ) : Type 0 where
   before : List ℕ
@@ -64,24 +62,25 @@ module _ (texts : TextsLie)
     (closes : (lines macros line : ℕ) (opened : Place) (prefix : List Char) (x : Char) (rest : List Char) → EndsBehind lines (snippet_from lines macros line opened (prefix ++ x ∷ rest)) prefix Closes → x.c ≡ 41) where
   parts_lie : (lines macros : ℕ) (p : Place) (cs : List ℕ) (comment : List Char) (parts : Option Cutting) → Short p cs
       → IsCutFrom texts_by_definition lines macros (placed_characters_from p cs) comment parts
-      → LieLast p (place_past p cs) (found (concat_of (map (λ (x : Char). []) comment ++ events_of_parts texts_by_definition lines macros parts)))
-  parts_lie lines macros p cs comment None short h = rw (blanks comment (events_of_parts texts_by_definition lines macros None)) (record { order = tt; from = tt; before = tt })
+      → LieLast p (place_past p cs) (found (concat_of (with_first_each [] (placed_characters_from p cs) (map (λ (x : Char). []) comment ++ events_of_parts texts_by_definition lines macros parts))))
+  parts_lie lines macros p cs comment None short h =
+      rw (h.0 ∙ sym (append-nil comment), behind_comment comment [] [] (events_of_parts texts_by_definition lines macros None)) (record { order = tt; from = tt; before = tt })
   parts_lie lines macros p cs comment (Some d) short h =
       let ys = whole d.pieces d.last in
       let b = part_behind comment (whole d.pieces d.last) p cs h.0 in
       let q = place_past p b.before in
       let k = pieces_lie lines macros texts (gabc lines macros) marks (closes lines macros) d.pieces d.last (first_text texts_by_definition (whole d.pieces d.last)) (place_past p b.before) b.rest b.placed
       (short_past p b.before b.rest (subst (Short p) b.all short))
-      (inl (first_begins (whole d.pieces d.last) (place_past p b.before) b.rest b.placed h.1.1.0)) h.1.1.1 in
-      rw (blanks comment (events_of_parts texts_by_definition lines macros (Some d)))
-      (subst (λ e. LieLast p e (found (concat_of (events_of_cutting texts_by_definition lines macros (first_text texts_by_definition (whole d.pieces d.last)) d.pieces d.last))))
+      (inl (first_begins (whole d.pieces d.last) (place_past p b.before) b.rest b.placed h.1.1.0)) h.1.1.1 [] in
+      rw (h.0, behind_comment comment (whole d.pieces d.last) [] (events_of_parts texts_by_definition lines macros (Some d)))
+      (subst (λ e. LieLast p e (found (concat_of (with_first_each [] (whole d.pieces d.last) (events_of_cutting texts_by_definition lines macros (first_text texts_by_definition (whole d.pieces d.last)) d.pieces d.last)))))
       (sym (past_append p b.before b.rest) ∙ ap (place_past p) (sym b.all))
       (record { order = k.order; from = from_earlier p (place_past p b.before) _ (past_up_to p b.before) k.from; before = k.before }))
 
-  body_lies : (lines macros : ℕ) (p : Place) (cs : List ℕ) → Short p cs → LieLast p (place_past p cs) (found (concat_of (body_events lines macros (placed_characters_from p cs))))
+  body_lies : (lines macros : ℕ) (p : Place) (cs : List ℕ) → Short p cs → LieLast p (place_past p cs) (found (concat_of (score_events lines macros (placed_characters_from p cs))))
   body_lies lines macros p cs short =
       let o = one texts_by_definition lines macros (placed_characters_from p cs) in
-      subst (λ ls. LieLast p (place_past p cs) (found (concat_of ls))) (sym (body_emits_all texts_by_definition lines macros (placed_characters_from p cs) o.0 o.1))
+      subst (λ ls. LieLast p (place_past p cs) (found (concat_of (with_first_each [] (placed_characters_from p cs) ls)))) (sym (body_emits_all texts_by_definition lines macros (placed_characters_from p cs) o.0 o.1))
       (parts_lie lines macros p cs o.0.comment (option_map (cutting_of lines) o.0.units) short o.1)
 
 -- ---- the stop
@@ -202,7 +201,7 @@ module _ (texts : TextsLie) (heads : HeadsLie)
       let u = behind_heads t in
       let xs : placed_characters_from (place_after (heads_text t)) (behind_heads t) ≡ placed_characters_behind (heads_text t) (behind_heads t) = placed_behind (heads_text t) (behind_heads t) in
       let end : place_past (place_after (heads_text t)) (behind_heads t) ≡ place_after t = behind_after (heads_text t) (behind_heads t) ∙ ap place_after (take-append-drop (head_len t + 2) t) in
-      let lists = body_events (nabc_lines_of h.book) (macros_of h.book) (placed_characters_behind (heads_text t) (behind_heads t)) in
+      let lists = score_events (nabc_lines_of h.book) (macros_of h.book) (placed_characters_behind (heads_text t) (behind_heads t)) in
       let all = body_lies texts gabc marks closes (nabc_lines_of h.book) (macros_of h.book) (place_after (heads_text t)) (behind_heads t) (short_body t short) in
       read_sorted limits _ h.findings (place_after t) (place_after (take (head_len t) t)) (place_after (heads_text t)) (concat_of lists)
       (subst (λ r. AreInOrder (heads_found r)) e (heads.order limits t))
@@ -210,7 +209,7 @@ module _ (texts : TextsLie) (heads : HeadsLie)
       (body_behind t (heads.behind limits t h e))
       (subst (IsUpTo (place_after (heads_text t))) end (past_up_to (place_after (heads_text t)) (behind_heads t)))
       (subst (λ p. LieLast (place_after (heads_text t)) p (found (concat_of lists))) end
-      (subst (λ ys. LieLast (place_after (heads_text t)) (place_past (place_after (heads_text t)) (behind_heads t)) (found (concat_of (body_events (nabc_lines_of h.book) (macros_of h.book) ys)))) xs all))
+      (subst (λ ys. LieLast (place_after (heads_text t)) (place_past (place_after (heads_text t)) (behind_heads t)) (found (concat_of (score_events (nabc_lines_of h.book) (macros_of h.book) ys)))) xs all))
       ending _ (reached_prefix limits _ [] (placed_characters_behind (heads_text t) (behind_heads t)) lists)
 
   pub score_sorted : (limits : Limits) (ending : InputEnding) (t : List ℕ) → length t < 2 ^ 63 → AreInOrder (score_of limits ending t).findings

@@ -3,6 +3,7 @@ use Rattle.std.proofs.Common.{◌≡◌, ℕ, ◌+◌, ◌<◌, ◌≤◌, ◌==
 use Rattle.std.proofs.lemmas.Bool.{eqb-false}
 use Rattle.gabc_places.specs.declared.place.Place.{Place}
 use Rattle.gabc_places.specs.declared.code.Finding.{Finding}
+use Rattle.gabc_places.specs.declared.code.Code.{Code}
 use Rattle.gabc_places.specs.declared.code.Code.TheVariants.{W9}
 use Rattle.gabc_places.specs.Code.{rank_of}
 use Rattle.gabc_places.specs.Findings.{StandsBefore, StandBehind, AreInOrder, IsUpTo, LieBetween}
@@ -85,6 +86,10 @@ pub from_append : (p : Place) (fs gs : List Finding) → AllFrom p fs → AllFro
 from_append p [] gs h k = k
 from_append p (f ∷ fs) gs h k = (h.0, from_append p fs gs h.1 k)
 
+pub up_to_append : (q : Place) (fs gs : List Finding) → AllUpTo q fs → AllUpTo q gs → AllUpTo q (fs ++ gs)
+up_to_append q [] gs h k = k
+up_to_append q (f ∷ fs) gs h k = (h.0, up_to_append q fs gs h.1 k)
+
 pub before_append : (g : Finding) (fs gs : List Finding) → AllBefore g fs → AllBefore g gs → AllBefore g (fs ++ gs)
 before_append g [] gs h k = k
 before_append g (f ∷ fs) gs h k = (h.0, before_append g fs gs h.1 k)
@@ -132,28 +137,33 @@ from_prefix p (f ∷ fs) gs h = (h.0, from_prefix p fs gs h.1)
 
 -- ---- codes
 
--- each has a code below that of W9
-abbrev pub AllBelow : List Finding → Type 0
-AllBelow [] = Unit {0}
-AllBelow (f ∷ fs) = (rank_of f.code < rank_of W9) × AllBelow fs
+-- each has a code below this one
+abbrev pub AllBelow : Code → List Finding → Type 0
+AllBelow code [] = Unit {0}
+AllBelow code (f ∷ fs) = (rank_of f.code < rank_of code) × AllBelow code fs
 
-pub below_prefix : (fs gs : List Finding) → AllBelow (fs ++ gs) → AllBelow fs
-below_prefix [] gs h = tt
-below_prefix (f ∷ fs) gs h = (h.0, below_prefix fs gs h.1)
+pub below_prefix : (code : Code) (fs gs : List Finding) → AllBelow code (fs ++ gs) → AllBelow code fs
+below_prefix code [] gs h = tt
+below_prefix code (f ∷ fs) gs h = (h.0, below_prefix code fs gs h.1)
+
+pub below_higher : (low high : Code) (fs : List Finding) → rank_of low < rank_of high → AllBelow low fs → AllBelow high fs
+below_higher low high [] l h = tt
+below_higher low high (f ∷ fs) l h = ((let k = h.0 in omega (arith, k, l)), below_higher low high fs l h.1)
 
 -- the finding of a text without notes, at this place
 abbrev pub no_notes : Place → Finding
 no_notes p = record { place = p; code = W9 }
 
-pub below_before : (p : Place) (fs : List Finding) → AllUpTo p fs → AllBelow fs → AllBefore (no_notes p) fs
-below_before p [] h b = tt
-below_before p (f ∷ fs) h b = (by h.0, below_before p fs h.1 b.1)
+-- findings up to a place, with codes below this one
+pub below_before : (code : Code) (p : Place) (fs : List Finding) → AllUpTo p fs → AllBelow code fs → AllBefore (record { place = p; code = code }) fs
+below_before code p [] h b = tt
+below_before code p (f ∷ fs) h b = (by h.0, below_before code p fs h.1 b.1)
   where
-    by : IsUpTo f.place p → StandsBefore f (no_notes p)
+    by : IsUpTo f.place p → StandsBefore f (record { place = p; code = code })
     by (inl l) = inl l
     by (inr l) = (let c = l.1 in at (f.place.column == p.column) refl l.0 c)
       where
-        at : (b : Bool) → (f.place.column == p.column) ≡ b → f.place.line ≡ p.line → f.place.column ≤ p.column → StandsBefore f (no_notes p)
+        at : (b : Bool) → (f.place.column == p.column) ≡ b → f.place.line ≡ p.line → f.place.column ≤ p.column → StandsBefore f (record { place = p; code = code })
         at true e l c = inr (l, inr (eqb-true f.place.column p.column e, b.0))
         at false e l c = inr (l, inl (less (eqb-false f.place.column p.column e) c))
           where

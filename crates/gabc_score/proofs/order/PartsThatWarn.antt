@@ -22,11 +22,13 @@ use Rattle.gabc_score.specs.declared.events.BodyEvent.{BodyEvent}
 use Rattle.gabc_score.specs.declared.ending.InputEnding.{InputEnding}
 use Rattle.gabc_score.specs.Events.{PartAhead, InText, InNotes, texts_by_definition, text_from, snippet_from, next_line, behind_mark, body_events}
 use Rattle.gabc_score.specs.FoundInParts.{snippet_events, TextWarns, SnippetsWarn, UnitsWarn}
+use Rattle.gabc_score.specs.NoteBeforeClef.{score_events}
 use Rattle.gabc_score.specs.Score.{score_by, score_of}
 use Rattle.gabc_score.specs.SyllablesOfUnits.{score_unit, with_ends, snippets_in, characters_from, body_characters, IsBodyCut}
 use Rattle.gabc_score.specs.Units.{Closes, CutPart, EndedPart, BodyUnit, JustText, BodyCutting, cut_part, whole, events_through, snippets_with, units_pieces, cutting_of, first_text, events_of_cutting, IsCutFrom, IsCut, events_of_parts}
 use Rattle.gabc_score.proofs.holding.SyllablesHoldParts.{nothing_of}
 use Rattle.gabc_score.proofs.order.FindingsOfParts.{found, found_append, joined_append, text_found_append, text_through, notes_append, snippet_through}
+use Rattle.gabc_score.proofs.order.FirstNotesOfParts.{all_with_first}
 use Rattle.gabc_score.proofs.order.FindingsOfReading.{all_first, read_finds}
 use Rattle.gabc_score.proofs.order.FindingsOfScore.{reached_prefix}
 use Rattle.gabc_score.proofs.syllables_of_units.UnitsGiveSyllables.{snippets_whole, unit_whole, units_whole}
@@ -125,7 +127,7 @@ module _ (all : (at : Place) (t : List ℕ) → found_in (concat_of (events_by_p
       let lines = nabc_lines_of heads.book in
       let macros = macros_of heads.book in
       let xs = body_characters t in
-      let lists = body_events lines macros xs in
+      let lists = score_events lines macros xs in
       subst (λ r. All IsWarning (score_by limits ending t r).findings) (sym ok)
-      (read_finds IsWarning (λ p. refl) (λ p. refl) limits _ heads.findings (place_after t) (concat_of lists) found_before (body_warns all lines macros xs cut units last h e w k) ending _
+      (read_finds IsWarning (λ p. refl) (λ p. refl) limits _ heads.findings (place_after t) (concat_of lists) found_before (all_with_first IsWarning (λ p. refl) [] xs (body_events lines macros xs) (body_warns all lines macros xs cut units last h e w k)) ending _
       (reached_prefix limits _ [] xs lists))

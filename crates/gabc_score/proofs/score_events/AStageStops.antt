@@ -20,6 +20,7 @@ use Rattle.gabc_score.specs.declared.score_machine.ScorePart.TheVariants as scor
 use Rattle.gabc_score.specs.Body.{fault_at}
 use Rattle.gabc_score.specs.witness.BodyStage.{BodyStageState, running_events_left, texts_by_stage}
 use Rattle.gabc_score.specs.Events.{InComment, events_from}
+use Rattle.gabc_score.specs.NoteBeforeClef.{found_first}
 use Rattle.gabc_score.specs.ScoreEvents.{ScoreOutput, Found, Stop, Syllable, End, findings_now, characters_in}
 use Rattle.gabc_score.specs.ScoreStage.{events_lent, events_of, is_last_event}
 use Rattle.gabc_score.specs.witness.ScoreStage.{left_of}
@@ -38,7 +39,7 @@ module _ (limits : Limits) where
 
   by_code : (code : Option Code) (s : HeldScore) (x : Char) (now : List BodyEvent) (xs : List HeadEvent) (later : List (List ScoreOutput)) → Ends (concat_of later) → Ends (concat_of (left_by code s x now xs later))
   by_code (Some code) s x now xs later h = last_ends [] (placed_behind s.has_lent s.gathered.made) (Stop (fault_at x.place code)) (concat_of (silence xs)) (joined_silence xs)
-  by_code None s x now xs later h = then_end (findings_now now) _ (concat_of later) h
+  by_code None s x now xs later h = then_end (findings_now now ++ found_first s.gathered.first_kind (with_all s.gathered now).first_kind x.place) _ (concat_of later) h
 
   body_ends : (s : HeldScore) (lists : List (List BodyEvent)) (xs : List HeadEvent) → Ends (concat_of (body_left limits s lists xs))
   body_ends s lists [] = then_end [] (placed_behind s.has_lent s.gathered.made) [] tt

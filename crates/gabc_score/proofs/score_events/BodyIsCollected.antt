@@ -11,14 +11,16 @@ use Rattle.gabc_score.specs.declared.ending.InputEnding.{InputEnding}
 use Rattle.gabc_score.specs.declared.ending.InputEnding.TheVariants.{Whole, Broken, At}
 use Rattle.gabc_score.specs.declared.events.BodyEvent.{BodyEvent}
 use Rattle.gabc_score.specs.Body.{body_of}
-use Rattle.gabc_score.specs.ScoreEvents.{ScoreOutput}
+use Rattle.gabc_score.specs.NoteBeforeClef.{with_first_each}
+use Rattle.gabc_score.specs.ScoreEvents.{ScoreOutput, body_outputs}
 use Rattle.gabc_score.specs.ScoreStage.{AreCountsBelow}
 use Rattle.gabc_score.specs.machine.Collected.{result_with, to_come}
 use Rattle.gabc_score.specs.machine.ScoreStage.{begun_score, body_left}
 use Rattle.gabc_score.proofs.score_events.BodyOutputs.{Says, body_says}
+use Rattle.gabc_score.proofs.score_events.FirstNotes.{first_each}
 use Rattle.gabc_score.proofs.score_events.HeldScoreIsDefinition.{left_is, holds_nothing}
 use Rattle.gabc_score.proofs.score_events.OutputsAreCollected.{with_more}
-use Rattle.gabc_score.proofs.score_events.ScoreOutputs.{ends_past}
+use Rattle.gabc_score.proofs.score_events.ScoreOutputs.{characters_are, ends_past}
 use Rattle.gabc_score.proofs.score_events.WhatOutputsSay.{Said}
 
 -- nothing but what was found in the headers
@@ -59,10 +61,12 @@ module _ (limits : Limits) (small : limits.syllable < 2 ^ 64 - 1) (low : limits.
   pub body_collected : (ending : InputEnding) (at : Place) (cs : List ℕ) (lists : List (List BodyEvent)) → length lists ≡ length (placed_characters_from at cs) + 1
       → AreCountsBelow (to_come ending (placed_characters_from at cs))
       → result_with (nothing_said found) (concat_of (body_left limits (begun_score limits at head) lists (to_come ending (placed_characters_from at cs))))
-      ≡ body_of limits head found (place_past at cs) ending (placed_characters_from at cs) lists
+      ≡ body_of limits head found (place_past at cs) ending (placed_characters_from at cs) (with_first_each [] (placed_characters_from at cs) lists)
   body_collected ending at cs lists n below =
       let xs = placed_characters_from at cs in
+      let all = with_first_each [] xs lists in
       ap (λ s. result_with (nothing_said found) (concat_of (body_left limits s lists (to_come ending xs)))) (holds_nothing limits head small low at fits)
       ∙ ap (λ ls. result_with (nothing_said found) (concat_of ls)) (left_is limits head small low at [] lists (to_come ending xs) below)
-      ∙ says_is ending _ _ (body_says limits head found ending at [] xs lists n)
-      ∙ ap (λ p. body_of limits head found p ending xs lists) (ends_past at cs)
+      ∙ ap (λ ys. result_with (nothing_said found) (concat_of (body_outputs limits head at [] (with_first_each [] ys lists) (to_come ending xs)))) (characters_are ending xs)
+      ∙ says_is ending _ _ (body_says limits head found ending at [] xs all (first_each [] xs lists n))
+      ∙ ap (λ p. body_of limits head found p ending xs all) (ends_past at cs)

@@ -1,17 +1,20 @@
 -- What the events of a point leave within bounds.
-use Rattle.std.proofs.Common.{◌≡◌, ◌≤◌, ◌+◌, ◌||◌, ◌&&◌, not, nat_lt, Bool, true, false, cond, List, [], ◌∷◌, ◌++◌, length, Some, None, refl, ap, ◌∙◌, arith, length-append}
-use Rattle.gabc_places.specs.declared.code.Code.TheVariants.{F5, F7}
+use Rattle.std.proofs.Common.{◌≡◌, ◌≤◌, ◌+◌, ◌||◌, ◌&&◌, not, nat_lt, Bool, true, false, cond, List, [], ◌∷◌, ◌++◌, length, Option, Some, None, refl, ap, ◌∙◌, arith, length-append}
+use Rattle.gabc_places.specs.declared.code.Code.TheVariants.{W12, F5, F7}
 use Rattle.gabc_places.specs.declared.limits.Limits.{Limits}
 use Rattle.gabc_places.specs.declared.code.Finding.{Finding}
-use Rattle.gabc_places.specs.BoundedList.{BoundedList}
+use Rattle.gabc_places.specs.declared.place.Place.{Place}
+use Rattle.gabc_places.specs.BoundedList.{BoundedList, extended_by}
 use Rattle.gabc_text.specs.declared.text_event.TextEnd.TheVariants as text_end
 use Rattle.gabc_text.specs.declared.text_event.TextEvent.TheVariants as text
 use Rattle.gabc_text.specs.declared.text_event.TextPart.TheVariants as part
+use Rattle.gabc_notes.specs.declared.item.ItemKind.{ItemKind}
 use Rattle.gabc_notes.specs.declared.stage.NoteEnd.TheVariants as note_end
 use Rattle.gabc_notes.specs.declared.stage.NoteEvent.TheVariants as note
 use Rattle.gabc_score.specs.declared.events.BodyEvent.{BodyEvent}
 use Rattle.gabc_score.specs.declared.events.BodyEvent.TheVariants as event
 use Rattle.gabc_score.specs.Body.{is_none, events_onto, findings_with, findings_of}
+use Rattle.gabc_score.specs.NoteBeforeClef.{is_first_note, found_first}
 use Rattle.gabc_score.specs.machine.BodyBuilder.{with_all, with_found, code_in}
 use Rattle.gabc_score.specs.machine.Gatherer.{Gathered, with_event}
 
@@ -64,3 +67,18 @@ few_found old new now none e few =
     let is : length new.items ≡ length (findings_of (events_onto now [])) = ap (λ (r : BoundedList Finding). length r.items) e ∙ ap (λ fs. length (fs ++ findings_of (events_onto now []))) none in
     let h = found_few now [] in
     omega (arith, is, h, few)
+
+-- a first note is one finding more at most
+one_first : (was now : Option ItemKind) (place : Place) → length (found_first was now place) ≤ 1
+one_first was now place = by (is_first_note was now)
+  where
+    by : (b : Bool) → length {A = Finding} (cond b (record { place = place; code = W12 } ∷ []) []) ≤ 1
+    by true = omega arith
+    by false = omega arith
+
+pub few_with_first : (found : BoundedList Finding) (new : BoundedList Finding) (was now : Option ItemKind) (place : Place) → new ≡ extended_by found (found_first was now place) → length found.items ≤ 8
+    → length new.items ≤ 9
+few_with_first found new was now place e few =
+    let is = ap (λ (r : BoundedList Finding). length r.items) e in
+    let o = one_first was now place in
+    omega (arith, is, o, length-append found.items (found_first was now place), few)

@@ -1,5 +1,5 @@
 -- What a stage emits that holds one whole syllable is what the definition says.
-use Rattle.std.proofs.Common.{Bool, true, false, cond, if◌then◌else◌, ◌==◌, ◌≡◌, ℕ, ◌+◌, ◌-◌, ◌<◌, ◌≤◌, ◌^◌, ◌||◌, min, nat_lt, List, [], ◌∷◌, ◌++◌, length, take, drop, Option, Some, None, option_map, refl, ap, subst, ◌∙◌, arith, length-append, length-drop}
+use Rattle.std.proofs.Common.{Bool, true, false, cond, if◌then◌else◌, ◌==◌, ◌≡◌, ℕ, ◌+◌, ◌-◌, ◌<◌, ◌≤◌, ◌^◌, ◌||◌, min, nat_lt, List, [], ◌∷◌, ◌++◌, length, take, drop, Option, Some, None, option_map, refl, sym, ap, subst, ◌∙◌, arith, length-append, length-drop}
 use Rattle.gabc_places.specs.StageLaw.{concat_of, silence}
 use Rattle.gabc_places.specs.Place.{next_place, saturating_next_place}
 use Rattle.gabc_text.specs.TextStage.{count_plus}
@@ -16,7 +16,8 @@ use Rattle.gabc_score.specs.declared.events.BodyEvent.{BodyEvent}
 use Rattle.gabc_score.specs.witness.BodyStage.{texts_by_stage}
 use Rattle.gabc_score.specs.Events.{InComment, events_from}
 use Rattle.gabc_score.specs.Body.{events_onto, code_at, fault_at, has_text, has_last, all_units, cut_of, fault_of_end, found_at_end}
-use Rattle.gabc_score.specs.ScoreEvents.{ScoreOutput, Found, Stop, End, findings_now, count_made, outputs_of, outputs_at, held_output, outputs_at_stop, outputs_at_end, outputs_by, body_outputs, characters_in, first_place, score_outputs}
+use Rattle.gabc_score.specs.NoteBeforeClef.{first_of, found_first, with_first, with_first_each}
+use Rattle.gabc_score.specs.ScoreEvents.{ScoreOutput, Found, Stop, End, findings_now, given_now, count_made, outputs_of, outputs_at, held_output, outputs_at_stop, outputs_at_end, outputs_by, body_outputs, characters_in, first_place, score_outputs}
 use Rattle.gabc_score.specs.Syllable.{UnplacedSyllable, all_syllables}
 use Rattle.gabc_score.specs.machine.BodyBuilder.{with_all, code_in, end_fault_by, end_fault, end_findings}
 use Rattle.gabc_score.specs.machine.Gatherer.{Gathered, with_last}
@@ -24,6 +25,7 @@ use Rattle.gabc_score.specs.machine.ScoreStage.{HeldScore, placed_behind, held_o
 use Rattle.gabc_score.proofs.building.BuilderHoldsDefinition.{gathered}
 use Rattle.gabc_score.proofs.building.EventsOfOnePoint.{gathered_all, code_is, made_after}
 use Rattle.gabc_score.proofs.building.EndOfBody.{made_by_last, open_by_last, fault_is}
+use Rattle.gabc_score.proofs.score_events.FirstNotes.{SaysSame, same_gathered, same_code, says_with_first, findings_with_first}
 use Rattle.gabc_score.proofs.score_events.HeldSyllables.{without, MayGo, all_without, all_go, last_without, last_goes, code_without, but_last_goes, placed_rest, placed_now, held_then, given_then_is}
 
 -- no fewer syllables are made later
@@ -42,6 +44,12 @@ module _ (limits : Limits) (head : ℕ) (small : limits.syllable < 2 ^ 64 - 1) (
     has_lent = nat_lt 1 (count_made before);
   }
 
+  -- it holds the same where the same was gathered
+  holding_as : (at : Place) (one other : List BodyEvent) → SaysSame one other → holding at one ≡ holding at other
+  holding_as at one other e =
+      let same = same_gathered limits.syllable head one other e in
+      ap (λ (g : Gathered). record { next = at; gathered = without (length g.made - 1) g; has_lent = nat_lt 1 (length g.made) }) same
+
   module _ (before now : List BodyEvent) where
     abbrev all : List BodyEvent
     all = events_onto now before
@@ -55,15 +63,21 @@ module _ (limits : Limits) (head : ℕ) (small : limits.syllable < 2 ^ 64 - 1) (
     now_is : with_all (without k (gathered limits.syllable head before)) now ≡ without k (gathered limits.syllable head all)
     now_is = all_without k (gathered limits.syllable head before) now (but_last_goes (gathered limits.syllable head before)) ∙ ap (without k) (gathered_all limits.syllable head before small now)
 
-    code_here : (at : Place) → code_in limits (with_all (holding at before).gathered now) ≡ code_at limits head all
-    code_here at = ap (code_in limits) now_is ∙ code_without limits k (gathered limits.syllable head all) goes ∙ code_is limits head all low
+    code_here : (at : Place) (x : Char) → code_in limits (with_all (holding at before).gathered now) ≡ code_at limits head (events_onto (with_first before x now) before)
+    code_here at x =
+        ap (code_in limits) now_is ∙ code_without limits k (gathered limits.syllable head all) goes ∙ code_is limits head all low
+        ∙ sym (same_code limits head (events_onto (with_first before x now) before) all (says_with_first before now x))
 
-    point_is : (at : Place) → point_outputs (holding at before) now ≡ outputs_at before now
-    point_is at =
-        ap (λ (g : Gathered). outputs_of (findings_now now) (take (length g.made - 1) (placed_behind (nat_lt 1 (count_made before)) g.made))) now_is
-        ∙ ap (outputs_of (findings_now now)) (placed_now (count_made before) (count_made all) (all_syllables all) refl (made_grows before now))
+    -- the syllables that are made and what came first are the same with what is found beside what the body emits
+    point_is : (at : Place) (x : Char) → point_outputs (holding at before) x now ≡ outputs_at before (with_first before x now)
+    point_is at x =
+        let fs = findings_now now ++ found_first (first_of before) (first_of all) x.place in
+        ap (λ (g : Gathered). outputs_of (findings_now now ++ found_first (first_of before) g.first_kind x.place) (take (length g.made - 1) (placed_behind (nat_lt 1 (count_made before)) g.made))) now_is
+        ∙ ap (outputs_of fs) (placed_now (count_made before) (count_made all) (all_syllables all) refl (made_grows before now))
+        ∙ ap (λ gs. outputs_of gs (given_now (count_made before) (all_syllables all))) (sym (findings_with_first before now x))
+        ∙ ap (λ (g : Gathered). outputs_of (findings_now (with_first before x now)) (given_now (count_made before) g.made)) (sym (says_with_first before now x))
 
-    past_is : (at : Place) (x : Char) → score_past (holding at before) x now ≡ holding (saturating_next_place x.place x.c) all
+    past_is : (at : Place) (x : Char) → score_past (holding at before) x now ≡ holding (saturating_next_place x.place x.c) (events_onto (with_first before x now) before)
     past_is at x =
         ap (λ (g : Gathered). record { next = saturating_next_place x.place x.c; gathered = with_held g; has_lent = nat_lt 1 (count_made before) || nat_lt 1 (length g.made) }) now_is
         ∙ ap (λ (ms : List UnplacedSyllable). record {
@@ -74,6 +88,7 @@ module _ (limits : Limits) (head : ℕ) (small : limits.syllable < 2 ^ 64 - 1) (
         (held_then (count_made before) (count_made all) (all_syllables all) refl (made_grows before now))
         ∙ ap (λ b. record { next = saturating_next_place x.place x.c; gathered = without (count_made all - 1) (gathered limits.syllable head all); has_lent = b })
         (given_then_is (count_made before) (count_made all) (length (drop k (all_syllables all))) (length-drop k (all_syllables all)) (made_grows before now))
+        ∙ sym (holding_as (saturating_next_place x.place x.c) (events_onto (with_first before x now) before) all (says_with_first before now x))
 
     abbrev last_of : Gathered → Gathered
     last_of g = with_last g
@@ -113,9 +128,9 @@ module _ (limits : Limits) (head : ℕ) (small : limits.syllable < 2 ^ 64 - 1) (
     end_is at = ap (end_outputs_by (holding at before) now) (end_fault_is at) ∙ end_by at (fault_of_end limits head at all (cut_of all))
 
   by_code : (at : Place) (before now : List BodyEvent) (x : Char) (xs : List HeadEvent) (left later : List (List ScoreOutput)) → left ≡ later → (code : Option Code)
-      → left_by code (holding at before) x now xs left ≡ outputs_by code x before now xs later
+      → left_by code (holding at before) x now xs left ≡ outputs_by code x before (with_first before x now) xs later
   by_code at before now x xs left later e (Some code) = ap (λ outputs. outputs ∷ silence xs) (stop_is before now at (fault_at x.place code))
-  by_code at before now x xs left later e None = ap (λ outputs. outputs ∷ left) (point_is before now at) ∙ ap (λ lists. outputs_at before now ∷ lists) e
+  by_code at before now x xs left later e None = ap (λ outputs. outputs ∷ left) (point_is before now at x) ∙ ap (λ lists. outputs_at before (with_first before x now) ∷ lists) e
 
   -- the place behind a character, where no count reaches its last value
   abbrev bounded_place : Char → Bool → Place
@@ -133,13 +148,13 @@ module _ (limits : Limits) (head : ℕ) (small : limits.syllable < 2 ^ 64 - 1) (
 
   -- what it will still emit
   pub left_is : (at : Place) (before : List BodyEvent) (lists : List (List BodyEvent)) (xs : List HeadEvent) → AreCountsBelow xs
-      → body_left limits (holding at before) lists xs ≡ body_outputs limits head at before lists xs
+      → body_left limits (holding at before) lists xs ≡ body_outputs limits head at before (with_first_each before (characters_in xs) lists) xs
   left_is at before lists [] p = ap (λ outputs. outputs ∷ []) (held_is before [] at)
   left_is at before (now ∷ lists) (head_event.Body x ∷ xs) p =
       ap (λ s. left_by (code_in limits (with_all (holding at before).gathered now)) (holding at before) x now xs (body_left limits s lists xs)) (past_is before now at x)
-      ∙ ap (λ place. left_by (code_in limits (with_all (holding at before).gathered now)) (holding at before) x now xs (body_left limits (holding place (events_onto now before)) lists xs)) (next_is x p.0)
-      ∙ ap (λ code. left_by code (holding at before) x now xs (body_left limits (holding (next_place x.place x.c) (events_onto now before)) lists xs)) (code_here before now at)
-      ∙ by_code at before now x xs _ _ (left_is (next_place x.place x.c) (events_onto now before) lists xs p.1) (code_at limits head (events_onto now before))
+      ∙ ap (λ place. left_by (code_in limits (with_all (holding at before).gathered now)) (holding at before) x now xs (body_left limits (holding place (events_onto (with_first before x now) before)) lists xs)) (next_is x p.0)
+      ∙ ap (λ code. left_by code (holding at before) x now xs (body_left limits (holding (next_place x.place x.c) (events_onto (with_first before x now) before)) lists xs)) (code_here before now at x)
+      ∙ by_code at before now x xs _ _ (left_is (next_place x.place x.c) (events_onto (with_first before x now) before) lists xs p.1) (code_at limits head (events_onto (with_first before x now) before))
   left_is at before [] (head_event.Body x ∷ xs) p = refl
   left_is at before lists (head_event.End ∷ xs) p = ap (λ outputs. outputs ∷ silence xs) (end_is before (concat_of lists) at)
   left_is at before lists (head_event.Stop fault ∷ xs) p = ap (λ outputs. outputs ∷ silence xs) (stop_is before [] at fault)

@@ -14,6 +14,7 @@ use Rattle.gabc_score.specs.Events.{InComment, events_from}
 use Rattle.gabc_score.specs.declared.events.BodyEvent.{BodyEvent}
 use Rattle.gabc_score.specs.declared.score_machine.ScorePart.{ScorePart}
 use Rattle.gabc_score.specs.declared.score_machine.ScorePart.TheVariants as score_part
+use Rattle.gabc_score.specs.NoteBeforeClef.{found_first}
 use Rattle.gabc_score.specs.ScoreEvents.{HasNoEnd, ScoreOutput, Stop, characters_in, findings_now, has_end, outputs_of, syllables_in}
 use Rattle.gabc_score.specs.witness.ScoreStage.{ScoreStageState, left_of}
 use Rattle.gabc_score.specs.Syllable.{PlacedSyllable}
@@ -64,14 +65,14 @@ stopped s fault xs =
     ap has_end (append_assoc (outputs_of [] ss) (Stop fault ∷ []) later)
     ∙ (ap (λ (t : Said). t.ended) (said_of [] ss (Stop fault ∷ later)) ∙ silent xs)
 
-pointed : (s : HeldScore) (now : List BodyEvent) (later : List (List ScoreOutput)) → has_end (concat_of later) ≡ false
-    → has_end (concat_of (point_outputs s now ∷ later)) ≡ false
-pointed s now later none = ap (λ (t : Said). t.ended) (said_of (findings_now now) _ (concat_of later)) ∙ none
+pointed : (s : HeldScore) (x : Char) (now : List BodyEvent) (later : List (List ScoreOutput)) → has_end (concat_of later) ≡ false
+    → has_end (concat_of (point_outputs s x now ∷ later)) ≡ false
+pointed s x now later none = ap (λ (t : Said). t.ended) (said_of (findings_now now ++ found_first s.gathered.first_kind (with_all s.gathered now).first_kind x.place) _ (concat_of later)) ∙ none
 
 read : (code : Option Code) (s : HeldScore) (x : Char) (now : List BodyEvent) (xs : List HeadEvent) (later : List (List ScoreOutput)) → has_end (concat_of later) ≡ false
     → has_end (concat_of (left_by code s x now xs later)) ≡ false
 read (Some code) s x now xs later none = stopped s _ xs
-read None s x now xs later none = pointed s now later none
+read None s x now xs later none = pointed s x now later none
 
 in_body : (limits : Limits) (s : HeldScore) (lists : List (List BodyEvent)) (xs : List HeadEvent) → HasNoEnd xs → has_end (concat_of (body_left limits s lists xs)) ≡ false
 in_body limits s lists [] h = (held (placed_behind s.has_lent s.gathered.made)).end

@@ -15,6 +15,7 @@ use Rattle.gabc_score.specs.declared.events.BodyEvent.{BodyEvent}
 use Rattle.gabc_score.specs.Syllable.{PlacedSyllable, all_syllables}
 use Rattle.gabc_score.specs.Body.{code_at, events_onto, fault_at, fault_of_end, cut_of, found_at_end, all_units}
 use Rattle.gabc_score.specs.Events.{Texts, InComment, events_from}
+use Rattle.gabc_score.specs.NoteBeforeClef.{with_first_each}
 use Rattle.gabc_score.specs.ScoreEvents.{ScoreOutput, Found, Stop, Syllable, End, is_last, not_given, given_now, count_made, findings_now, outputs_of, outputs_at_end, outputs_by, characters_in, body_outputs, first_place, score_outputs}
 
 -- behind the first stop or end among these nothing stands
@@ -63,7 +64,7 @@ module _ (limits : Limits) (head : ℕ) where
 
 score_ends : (texts : Texts) (limits : Limits) (xs : List HeadEvent) → Ends (concat_of (score_outputs texts limits xs))
 score_ends texts limits [] = tt
-score_ends texts limits (head_event.Heads lines macros canonical ∷ xs) = body_ends limits canonical first_place [] (events_from texts lines macros InComment (characters_in xs)) xs
+score_ends texts limits (head_event.Heads lines macros canonical ∷ xs) = body_ends limits canonical first_place [] (with_first_each [] (characters_in xs) (events_from texts lines macros InComment (characters_in xs))) xs
 score_ends texts limits (head_event.Found f ∷ xs) = (λ l. absurd (cc), score_ends texts limits xs)
 score_ends texts limits (head_event.Stop fault ∷ xs) = (λ l. joined_silence xs, silent _ (joined_silence xs))
 score_ends texts limits (head_event.End ∷ xs) = (λ l. joined_silence xs, silent _ (joined_silence xs))

@@ -24,12 +24,14 @@ use Rattle.gabc_score.specs.declared.ending.InputEnding.TheVariants.{Whole, Brok
 use Rattle.gabc_score.specs.declared.score.Score.{Score}
 use Rattle.gabc_score.specs.Body.{fault_at, code_by, events_to_stop, events_onto, result_by_fault, result_by}
 use Rattle.gabc_score.specs.Events.{Texts, InComment, events_from, texts_by_definition, body_events}
+use Rattle.gabc_score.specs.NoteBeforeClef.{with_first_each, score_events}
 use Rattle.gabc_score.specs.Score.{heads_text, behind_heads, head_fault_by, score_by, score_of}
 use Rattle.gabc_score.specs.SyllablesOfUnits.{body_characters}
 use Rattle.gabc_score.specs.ScoreEvents.{ScoreOutput, Found, Stop, characters_in, body_outputs, first_place, score_outputs, ending_events, stop_events, head_events_by, outputs_of_text, findings_in, syllables_in, fault_in, has_end, is_whole}
 use Rattle.gabc_score.proofs.building.EndOfBody.{none_longer}
 use Rattle.gabc_score.proofs.building.OneListEachCharacter.{events_each}
 use Rattle.gabc_score.proofs.score_events.BodyOutputs.{Says, end_place, body_says}
+use Rattle.gabc_score.proofs.score_events.FirstNotes.{first_each}
 use Rattle.gabc_score.proofs.score_events.WhatOutputsSay.{Said, said_by, said_before, found_first}
 
 -- ---- what comes in
@@ -60,7 +62,7 @@ module _ (limits : Limits) (head lines macros : ℕ) (found : List Finding) wher
   -- what the body says whose end is at this place
   abbrev result_to : InputEnding → List Char → Place → BodyResult
   result_to ending xs at =
-      let r = events_to_stop limits head [] xs (body_events lines macros xs) in
+      let r = events_to_stop limits head [] xs (score_events lines macros xs) in
       result_by limits head found at ending r.before r.last r.fault
 
   none_passed : code_by limits head [] [] ≡ None
@@ -71,7 +73,7 @@ module _ (limits : Limits) (head lines macros : ℕ) (found : List Finding) wher
   anywhere Whole at other = to at ∙ sym (to other)
     where
       to : (p : Place) → result_to Whole [] p ≡ record { syllables = []; findings = found ++ []; fault = None }
-      to p = ap (λ c. result_by_fault found p [] (events_onto (concat_of (body_events lines macros [])) []) (option_map (fault_at p) c)) none_passed
+      to p = ap (λ c. result_by_fault found p [] (events_onto (concat_of (score_events lines macros [])) []) (option_map (fault_at p) c)) none_passed
   anywhere Broken at other = refl
   anywhere (At fault) at other = refl
 
@@ -109,14 +111,15 @@ module _ (limits : Limits) (ending : InputEnding) (t : List ℕ) (h : Heads) whe
   size = bytes_len (canonical_heads h.book)
 
   abbrev body_from : List Char → List ScoreOutput
-  body_from ys = concat_of (body_outputs limits size first_place [] (events_from texts_by_definition (nabc_lines_of h.book) (macros_of h.book) InComment ys) to_come)
+  body_from ys = concat_of (body_outputs limits size first_place [] (with_first_each [] ys (events_from texts_by_definition (nabc_lines_of h.book) (macros_of h.book) InComment ys)) to_come)
 
   behind_says : said_by (concat_of (score_outputs texts_by_definition limits (head_events_by ending t (Ok h)))) ≡ said_of_score ending (score_by limits ending t (Ok h))
   behind_says =
       ap said_by (found_heads texts_by_definition limits h.findings (event_of_book h.book ∷ to_come))
       ∙ found_first h.findings (body_from (characters_in to_come))
       ∙ ap (λ ys. said_before h.findings [] (said_by (body_from ys))) (characters_are ending xs)
-      ∙ by (body_says limits size h.findings ending first_place [] xs (body_events (nabc_lines_of h.book) (macros_of h.book) xs) (events_each texts_by_definition (nabc_lines_of h.book) (macros_of h.book) InComment xs))
+      ∙ by (body_says limits size h.findings ending first_place [] xs (score_events (nabc_lines_of h.book) (macros_of h.book) xs)
+      (first_each [] xs (body_events (nabc_lines_of h.book) (macros_of h.book) xs) (events_each texts_by_definition (nabc_lines_of h.book) (macros_of h.book) InComment xs)))
       ∙ ap (said_of_body ending) (at_the_end limits size (nabc_lines_of h.book) (macros_of h.book) h.findings ending (heads_text t) (behind_heads t) xs refl first_place)
       ∙ ap (λ u. said_of_body ending (result_to limits size (nabc_lines_of h.book) (macros_of h.book) h.findings ending xs (place_after u))) (take-append-drop (head_len t + 2) t)
     where

@@ -23,6 +23,7 @@ use Rattle.gabc_score.specs.declared.ending.InputEnding.{InputEnding}
 use Rattle.gabc_score.specs.declared.events.BodyEvent.{BodyEvent}
 use Rattle.gabc_score.specs.witness.BodyStage.{texts_by_stage}
 use Rattle.gabc_score.specs.Events.{Texts, InComment, events_from, texts_by_definition}
+use Rattle.gabc_score.specs.NoteBeforeClef.{with_first_each}
 use Rattle.gabc_score.specs.Score.{heads_text, behind_heads, head_fault_by}
 use Rattle.gabc_score.specs.ScoreEvents.{ScoreOutput, Found, characters_in, body_outputs, first_place, score_outputs, stop_events, head_events_by, head_events}
 use Rattle.gabc_score.specs.ScoreStage.{AreCountsBelow}
@@ -89,7 +90,7 @@ module _ (limits : Limits) (ending : InputEnding) (t : List ℕ) (few : length (
         let xs = to_come ending (body_characters t) in
         let head = bytes_len (canonical_heads book) in
         let all : characters_in xs ≡ body_characters t = characters_are ending (body_characters t) in
-        ap (λ (lists : List (List BodyEvent)). [] ∷ body_outputs limits head first_place [] lists xs)
+        ap (λ (lists : List (List BodyEvent)). [] ∷ body_outputs limits head first_place [] (with_first_each [] (characters_in xs) lists) xs)
         (ap (events_from texts_by_stage (nabc_lines_of book) (macros_of book) InComment) all
         ∙ (body_alike (nabc_lines_of book) (macros_of book)
         ∙ sym (ap (events_from texts_by_definition (nabc_lines_of book) (macros_of book) InComment) all)))

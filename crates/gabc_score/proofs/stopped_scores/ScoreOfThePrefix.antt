@@ -34,11 +34,12 @@ use Rattle.gabc_score.specs.declared.ending.InputEnding.TheVariants.{Whole}
 use Rattle.gabc_score.specs.Body.{code_at, events_to_stop, body_of}
 use Rattle.gabc_score.specs.Canonical.{with_positions}
 use Rattle.gabc_score.specs.Events.{body_events}
-use Rattle.gabc_score.specs.Score.{heads_text, behind_heads, with_body, score_by, score_of}
+use Rattle.gabc_score.specs.Score.{heads_text, behind_heads, with_body}
 use Rattle.gabc_score.specs.Stops.{events_in_points}
 use Rattle.gabc_score.specs.Syllable.{all_syllables}
 use Rattle.gabc_score.specs.Units.{Units, BodyCutting}
 use Rattle.gabc_score.specs.SyllablesOfUnits.{closed_units, count_in, whole_count, through_unit, whole_prefix, units_within, body_characters, IsBodyCut, StandBeforeStop, StandBeforeBodyStop}
+use Rattle.gabc_score.proofs.score_events.PlainScores.{plain_by, plain_of}
 use Rattle.gabc_score.proofs.texts_of_body.SeamsOfCharacters.{size, size_append, size_of_one}
 use Rattle.gabc_places.proofs.PlacesOfAText.{placed_behind, behind_after}
 use Rattle.gabc_score.proofs.holding.ScoreHoldsParts.{behind_short}
@@ -117,10 +118,10 @@ module _ (ends : (at : Place) (t : List ℕ) → EndsOnce at t) (emits : (at : P
   through = through_unit (whole_count n cut) cut
 
   abbrev IsAgain : Score → Type 0
-  IsAgain score = let other = score_of limits Whole again in (other.book ≡ score.book) × ((other.syllables ≡ score.syllables) × (other.fault ≡ None))
+  IsAgain score = let other = plain_of limits Whole again in (other.book ≡ score.book) × ((other.syllables ≡ score.syllables) × (other.fault ≡ None))
 
   again_by : (heads : Heads) → heads_of limits t ≡ Ok heads → IsBodyCut heads.book t cut → StandBeforeBodyStop limits heads.book t n
-      → ¬ ((ending ≡ Whole) × ((score_by limits ending t (Ok heads)).fault ≡ None)) → IsAgain (score_by limits ending t (Ok heads))
+      → ¬ ((ending ≡ Whole) × ((plain_by limits ending t (Ok heads)).fault ≡ None)) → IsAgain (plain_by limits ending t (Ok heads))
   again_by heads ok h s stopped =
       let lines = nabc_lines_of heads.book in
       let macros = macros_of heads.book in
@@ -143,7 +144,7 @@ module _ (ends : (at : Place) (t : List ℕ) → EndsOnce at t) (emits : (at : P
       let body : List (List ℕ × List ℕ) → List Char → BodyResult = λ b ys.
       body_of limits (bytes_len (canonical_heads b)) o.0.findings (place_after again) Whole ys (body_events (nabc_lines_of b) (macros_of b) ys) in
       let read : body o.0.book (body_characters again) ≡ body heads.book through = ap (λ b. body b (body_characters again)) o.2 ∙ ap (body heads.book) characters in
-      let other : score_of limits Whole again ≡ with_body o.0 (body o.0.book (body_characters again)) = ap (score_by limits Whole again) o.1 in
+      let other : plain_of limits Whole again ≡ with_body o.0 (body o.0.book (body_characters again)) = ap (plain_by limits Whole again) o.1 in
       let f = prefix_read ends emits spans in_order fresh_is so_far notes_so_far nabc_so_far lines macros limits head o.0.findings (place_after again) xs through n (whole_count n cut) w p.0 (none_before_stop limits head xs lists n s) in
       let g = point_emits ends emits spans in_order lines macros xs cut n h fits p.0 in
       let us = units_within (n - length cut.comment) cut.units in
@@ -158,12 +159,12 @@ module _ (ends : (at : Place) (t : List ℕ) → EndsOnce at t) (emits : (at : P
         ),
       )
 
-  pub prefix_again : (book : List (List ℕ × List ℕ)) → (score_of limits ending t).book ≡ Some book → IsBodyCut book t cut → StandBeforeBodyStop limits book t n
-      → ¬ ((ending ≡ Whole) × ((score_of limits ending t).fault ≡ None)) → IsAgain (score_of limits ending t)
+  pub prefix_again : (book : List (List ℕ × List ℕ)) → (plain_of limits ending t).book ≡ Some book → IsBodyCut book t cut → StandBeforeBodyStop limits book t n
+      → ¬ ((ending ≡ Whole) × ((plain_of limits ending t).fault ≡ None)) → IsAgain (plain_of limits ending t)
   prefix_again book = by (heads_of limits t) refl
     where
-      by : (r : Result Heads HeadFault) → heads_of limits t ≡ r → (score_by limits ending t r).book ≡ Some book → IsBodyCut book t cut → StandBeforeBodyStop limits book t n
-          → ¬ ((ending ≡ Whole) × ((score_by limits ending t r).fault ≡ None)) → IsAgain (score_by limits ending t r)
+      by : (r : Result Heads HeadFault) → heads_of limits t ≡ r → (plain_by limits ending t r).book ≡ Some book → IsBodyCut book t cut → StandBeforeBodyStop limits book t n
+          → ¬ ((ending ≡ Whole) × ((plain_by limits ending t r).fault ≡ None)) → IsAgain (plain_by limits ending t r)
       by (Err stop) e b h s k = absurd (cc)
       by (Ok heads) e b h s k =
           let same : heads.book ≡ book = cc in

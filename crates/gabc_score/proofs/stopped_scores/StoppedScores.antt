@@ -26,11 +26,11 @@ use Rattle.gabc_score.specs.declared.ending.InputEnding.TheVariants.{Whole, Brok
 use Rattle.gabc_score.specs.Body.{events_onto, events_to_stop, cut_of, fault_of_end, result_by_fault, result_by}
 use Rattle.gabc_score.specs.Canonical.{with_positions}
 use Rattle.gabc_score.specs.Events.{InComment, body_events, text_from, texts_by_definition}
-use Rattle.gabc_score.specs.Score.{score_by, score_of}
 use Rattle.gabc_score.specs.Stops.{events_in_points, StopsAt, NeverStops}
 use Rattle.gabc_score.specs.Syllable.{UnplacedSyllable, all_syllables}
 use Rattle.gabc_score.specs.Units.{BodyUnit, LastUnit, Units, BodyCutting, whole, last_pieces, units_pieces, last_characters, events_of_cutting, cutting_of, Cuts, IsCutFrom, IsCut, events_of_parts}
 use Rattle.gabc_score.specs.SyllablesOfUnits.{span_tags, characters_in, ScoreUnit, closed_units, count_within, units_within, AreSyllablesOf, body_characters, IsBodyCut, StandBeforeStop, StandBeforeBodyStop}
+use Rattle.gabc_score.proofs.score_events.PlainScores.{plain_by, plain_of}
 use Rattle.gabc_score.proofs.texts_of_body.SeamsOfCharacters.{size}
 use Rattle.gabc_score.proofs.building.EventsOfSyllableParts.{onto_append}
 use Rattle.gabc_score.proofs.order.FindingsOfParts.{joined_append}
@@ -178,8 +178,8 @@ stop_reached limits head xs lists n (inr h) =
 module _ (ends : (at : Place) (t : List ℕ) → EndsOnce at t) (emits : (at : Place) (t : List ℕ) → with_events empty_text (concat_of (events_by_point at t)) ≡ text_built_at at t)
     (spans : (t : List ℕ) → StandsForView (kept t) (view_in t) t) (in_order : (at : Place) (t : List ℕ) → concat_of (events_by_point at t) ≡ events_of at t)
     (limits : Limits) (ending : InputEnding) (t : List ℕ) (book : List (List ℕ × List ℕ)) (cut : BodyCutting) (n : ℕ) (short : size t < 2 ^ 63) where
-  stopped_by_heads : (r : Result Heads HeadFault) → (score_by limits ending t r).book ≡ Some book → IsBodyCut book t cut → StandBeforeBodyStop limits book t n
-      → ¬ ((ending ≡ Whole) × ((score_by limits ending t r).fault ≡ None)) → AreSyllablesOf (nabc_lines_of book) (units_within (n - length cut.comment) cut.units) (score_by limits ending t r).syllables
+  stopped_by_heads : (r : Result Heads HeadFault) → (plain_by limits ending t r).book ≡ Some book → IsBodyCut book t cut → StandBeforeBodyStop limits book t n
+      → ¬ ((ending ≡ Whole) × ((plain_by limits ending t r).fault ≡ None)) → AreSyllablesOf (nabc_lines_of book) (units_within (n - length cut.comment) cut.units) (plain_by limits ending t r).syllables
   stopped_by_heads (Err stop) b h s k = absurd (cc)
   stopped_by_heads (Ok heads) b h s k =
       let same : heads.book ≡ book = cc in
@@ -192,12 +192,12 @@ module _ (ends : (at : Place) (t : List ℕ) → EndsOnce at t) (emits : (at : P
       let p = stop_reached limits head xs lists n (subst (λ c. StandBeforeBodyStop limits c t n) (sym same) s) in
       let us = units_within (n - length cut.comment) cut.units in
       let g = point_emits ends emits spans in_order lines macros xs cut n (subst (λ c. IsBodyCut c t cut) (sym same) h) (behind_short ends emits spans limits ending t short) p.0 in
-      subst (λ c. AreSyllablesOf (nabc_lines_of c) us (score_by limits ending t (Ok heads)).syllables) same
+      subst (λ c. AreSyllablesOf (nabc_lines_of c) us (plain_by limits ending t (Ok heads)).syllables) same
       (subst (AreSyllablesOf lines us) (sym (stopped_read limits head heads.findings (place_after t) ending r.before r.last r.fault k ∙ ap (λ a. with_positions (all_syllables a)) p.1 ∙ ap with_positions g.1.0))
       (placed_are lines us g.0 g.1.1))
 
-  pub stopped_syllables : (score_of limits ending t).book ≡ Some book → IsBodyCut book t cut → StandBeforeBodyStop limits book t n
-      → ¬ ((ending ≡ Whole) × ((score_of limits ending t).fault ≡ None)) → AreSyllablesOf (nabc_lines_of book) (units_within (n - length cut.comment) cut.units) (score_of limits ending t).syllables
+  pub stopped_syllables : (plain_of limits ending t).book ≡ Some book → IsBodyCut book t cut → StandBeforeBodyStop limits book t n
+      → ¬ ((ending ≡ Whole) × ((plain_of limits ending t).fault ≡ None)) → AreSyllablesOf (nabc_lines_of book) (units_within (n - length cut.comment) cut.units) (plain_of limits ending t).syllables
   stopped_syllables = stopped_by_heads (heads_of limits t)
 
 -- each body has a stop, or all of it stands before its end

@@ -24,10 +24,10 @@ use Rattle.gabc_score.specs.declared.ending.InputEnding.TheVariants.{Whole}
 use Rattle.gabc_score.specs.Body.{events_onto, events_to_stop, code_by, all_units, cut_of, fault_at, fault_of_end, result_by_fault, result_by}
 use Rattle.gabc_score.specs.Canonical.{with_positions}
 use Rattle.gabc_score.specs.Events.{body_events}
-use Rattle.gabc_score.specs.Score.{score_by, score_of}
 use Rattle.gabc_score.specs.Syllable.{since_close, kept_of}
 use Rattle.gabc_score.specs.Units.{BodyCutting}
 use Rattle.gabc_score.specs.SyllablesOfUnits.{score_units, AreSyllablesOf, body_characters, IsBodyCut}
+use Rattle.gabc_score.proofs.score_events.PlainScores.{plain_by, plain_of}
 use Rattle.gabc_score.proofs.texts_of_body.SeamsOfCharacters.{size}
 use Rattle.gabc_score.proofs.holding.ScoreHoldsParts.{behind_short}
 use Rattle.gabc_score.proofs.order.FindingsOfScore.{reached_prefix}
@@ -64,8 +64,8 @@ module _ (limits : Limits) (head : ℕ) (found : List Finding) (at : Place) wher
 module _ (ends : (at : Place) (t : List ℕ) → EndsOnce at t) (emits : (at : Place) (t : List ℕ) → with_events empty_text (concat_of (events_by_point at t)) ≡ text_built_at at t)
     (spans : (t : List ℕ) → StandsForView (kept t) (view_in t) t) (in_order : (at : Place) (t : List ℕ) → concat_of (events_by_point at t) ≡ events_of at t)
     (limits : Limits) (t : List ℕ) (book : List (List ℕ × List ℕ)) (cut : BodyCutting) (short : size t < 2 ^ 63) where
-  by_heads : (r : Result Heads HeadFault) → (score_by limits Whole t r).book ≡ Some book → IsBodyCut book t cut → (score_by limits Whole t r).fault ≡ None
-      → AreSyllablesOf (nabc_lines_of book) (score_units cut.units) (score_by limits Whole t r).syllables
+  by_heads : (r : Result Heads HeadFault) → (plain_by limits Whole t r).book ≡ Some book → IsBodyCut book t cut → (plain_by limits Whole t r).fault ≡ None
+      → AreSyllablesOf (nabc_lines_of book) (score_units cut.units) (plain_by limits Whole t r).syllables
   by_heads (Err stop) b h k = absurd (cc)
   by_heads (Ok heads) b h k =
       let same : heads.book ≡ book = cc in
@@ -78,9 +78,9 @@ module _ (ends : (at : Place) (t : List ℕ) → EndsOnce at t) (emits : (at : P
       let w = whole_read limits head heads.findings (place_after t) r.before r.last r.fault k in
       let all = (reached_prefix limits head [] xs lists).last w.goes_on in
       let g = body_emits ends emits spans in_order lines macros xs cut (subst (λ c. IsBodyCut c t cut) (sym same) h) (behind_short ends emits spans limits Whole t short) (ap cut_of (sym all) ∙ w.none_cut) in
-      subst (λ c. AreSyllablesOf (nabc_lines_of c) (score_units cut.units) (score_by limits Whole t (Ok heads)).syllables) same
+      subst (λ c. AreSyllablesOf (nabc_lines_of c) (score_units cut.units) (plain_by limits Whole t (Ok heads)).syllables) same
       (subst (AreSyllablesOf lines (score_units cut.units)) (sym (w.syllables_are ∙ ap (λ a. with_positions (all_units a)) all ∙ ap with_positions g.1.0)) (placed_are lines (score_units cut.units) g.0 g.1.1))
 
-  pub whole_syllables : (score_of limits Whole t).book ≡ Some book → IsBodyCut book t cut → (score_of limits Whole t).fault ≡ None
-      → AreSyllablesOf (nabc_lines_of book) (score_units cut.units) (score_of limits Whole t).syllables
+  pub whole_syllables : (plain_of limits Whole t).book ≡ Some book → IsBodyCut book t cut → (plain_of limits Whole t).fault ≡ None
+      → AreSyllablesOf (nabc_lines_of book) (score_units cut.units) (plain_of limits Whole t).syllables
   whole_syllables = by_heads (heads_of limits t)

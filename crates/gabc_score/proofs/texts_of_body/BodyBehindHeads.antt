@@ -19,6 +19,7 @@ use Rattle.gabc_score.specs.declared.events.BodyEvent.{BodyEvent}
 use Rattle.gabc_score.specs.declared.ending.InputEnding.{InputEnding}
 use Rattle.gabc_score.specs.Events.{body_events}
 use Rattle.gabc_score.specs.Body.{body_of}
+use Rattle.gabc_score.specs.NoteBeforeClef.{with_first_each, score_events}
 use Rattle.gabc_score.specs.Score.{heads_text, behind_heads, body_in}
 use Rattle.gabc_places.proofs.PlacesOfAText.{placed_behind, behind_after}
 
@@ -67,16 +68,16 @@ module _ (t bytes : List ℕ) (whole : bytes ≡ encodes t) (utf8 : IsUtf8 bytes
 module _ (limits : Limits) (ending : InputEnding) (t : List ℕ) (heads : Heads) (rest : List Char → List (List BodyEvent)) (lines macros head : ℕ) (at : Place) (prefix behind : List ℕ) where
   pub body_is : rest (placed_characters_from at behind) ≡ body_events lines macros (placed_characters_from at behind) → lines ≡ nabc_lines_of heads.book → macros ≡ macros_of heads.book → head ≡ bytes_len (canonical_heads heads.book)
       → at ≡ place_past (record { line = 1; column = 1 }) prefix → prefix ≡ heads_text t → behind ≡ behind_heads t
-      → body_of limits head heads.findings (place_past at behind) ending (placed_characters_from at behind) (rest (placed_characters_from at behind)) ≡ body_in limits ending t heads
+      → body_of limits head heads.findings (place_past at behind) ending (placed_characters_from at behind) (with_first_each [] (placed_characters_from at behind) (rest (placed_characters_from at behind))) ≡ body_in limits ending t heads
   body_is law l m h p f b =
       let place : at ≡ place_after (heads_text t) = p ∙ ap (place_past (record { line = 1; column = 1 })) f ∙ behind_after [] (heads_text t) in
       let xs : placed_characters_from at behind ≡ placed_characters_behind (heads_text t) (behind_heads t) =
       ap (λ q. placed_characters_from q behind) place ∙ ap (placed_characters_from (place_after (heads_text t))) b ∙ placed_behind (heads_text t) (behind_heads t) in
       let end : place_past at behind ≡ place_after t =
       ap (λ q. place_past q behind) place ∙ ap (place_past (place_after (heads_text t))) b ∙ behind_after (heads_text t) (behind_heads t) ∙ ap place_after (take-append-drop (head_len t + 2) t) in
-      ap (λ lists. body_of limits head heads.findings (place_past at behind) ending (placed_characters_from at behind) lists) law
-      ∙ ap (λ k. body_of limits k heads.findings (place_past at behind) ending (placed_characters_from at behind) (body_events lines macros (placed_characters_from at behind))) h
-      ∙ ap (λ q. body_of limits (bytes_len (canonical_heads heads.book)) heads.findings q ending (placed_characters_from at behind) (body_events lines macros (placed_characters_from at behind))) end
-      ∙ ap (λ ys. body_of limits (bytes_len (canonical_heads heads.book)) heads.findings (place_after t) ending ys (body_events lines macros ys)) xs
-      ∙ ap (λ k. body_of limits (bytes_len (canonical_heads heads.book)) heads.findings (place_after t) ending (placed_characters_behind (heads_text t) (behind_heads t)) (body_events k macros (placed_characters_behind (heads_text t) (behind_heads t)))) l
-      ∙ ap (λ k. body_of limits (bytes_len (canonical_heads heads.book)) heads.findings (place_after t) ending (placed_characters_behind (heads_text t) (behind_heads t)) (body_events (nabc_lines_of heads.book) k (placed_characters_behind (heads_text t) (behind_heads t)))) m
+      ap (λ lists. body_of limits head heads.findings (place_past at behind) ending (placed_characters_from at behind) (with_first_each [] (placed_characters_from at behind) lists)) law
+      ∙ ap (λ k. body_of limits k heads.findings (place_past at behind) ending (placed_characters_from at behind) (score_events lines macros (placed_characters_from at behind))) h
+      ∙ ap (λ q. body_of limits (bytes_len (canonical_heads heads.book)) heads.findings q ending (placed_characters_from at behind) (score_events lines macros (placed_characters_from at behind))) end
+      ∙ ap (λ ys. body_of limits (bytes_len (canonical_heads heads.book)) heads.findings (place_after t) ending ys (score_events lines macros ys)) xs
+      ∙ ap (λ k. body_of limits (bytes_len (canonical_heads heads.book)) heads.findings (place_after t) ending (placed_characters_behind (heads_text t) (behind_heads t)) (score_events k macros (placed_characters_behind (heads_text t) (behind_heads t)))) l
+      ∙ ap (λ k. body_of limits (bytes_len (canonical_heads heads.book)) heads.findings (place_after t) ending (placed_characters_behind (heads_text t) (behind_heads t)) (score_events (nabc_lines_of heads.book) k (placed_characters_behind (heads_text t) (behind_heads t)))) m

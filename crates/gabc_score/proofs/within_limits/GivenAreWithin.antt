@@ -20,11 +20,11 @@ use Rattle.gabc_score.specs.declared.ending.InputEnding.TheVariants.{Whole, Brok
 use Rattle.gabc_score.specs.Body.{events_onto, code_by, code_at, events_to_stop, cut_of, all_units, fault_of_end, result_by_fault, result_by}
 use Rattle.gabc_score.specs.Canonical.{with_positions}
 use Rattle.gabc_score.specs.Events.{InComment, texts_by_definition, body_events}
-use Rattle.gabc_score.specs.Score.{score_by, score_of}
 use Rattle.gabc_score.specs.Stops.{events_in_points, StopsAt, NeverStops}
 use Rattle.gabc_score.specs.Syllable.{all_syllables, since_close, kept_of}
 use Rattle.gabc_score.specs.SyllablesOfUnits.{body_characters}
 use Rattle.gabc_score.specs.WithinLimits.{AreWithin}
+use Rattle.gabc_score.proofs.score_events.PlainScores.{plain_by, plain_of}
 use Rattle.gabc_score.proofs.texts_of_body.SeamsOfCharacters.{size, size_is_sum}
 use Rattle.gabc_score.proofs.building.StopIsFirst.{stop_is_first}
 use Rattle.gabc_score.proofs.building.OneListEachCharacter.{events_each}
@@ -73,7 +73,7 @@ module _ (ends : (at : Place) (t : List ℕ) → EndsOnce at t) (lines macros : 
 module _ (ends : (at : Place) (t : List ℕ) → EndsOnce at t)
     (heads_short : (limits : Limits) (t : List ℕ) (heads : Heads) → heads_of limits t ≡ Ok heads → (bytes_len (header_lines heads.book) ≤ limits.header) × (bytes_len (canonical_heads heads.book) + 1 ≤ limits.input))
     (limits : Limits) (ending : InputEnding) (t : List ℕ) (book : List (List ℕ × List ℕ)) where
-  by_heads : (r : Result Heads HeadFault) → heads_of limits t ≡ r → (score_by limits ending t r).book ≡ Some book → AreWithin limits (bytes_len (canonical_heads book)) (score_by limits ending t r).syllables
+  by_heads : (r : Result Heads HeadFault) → heads_of limits t ≡ r → (plain_by limits ending t r).book ≡ Some book → AreWithin limits (bytes_len (canonical_heads book)) (plain_by limits ending t r).syllables
   by_heads (Err stop) e b = absurd (cc)
   by_heads (Ok heads) e b =
       let same : heads.book ≡ book = cc in
@@ -82,8 +82,8 @@ module _ (ends : (at : Place) (t : List ℕ) → EndsOnce at t)
       let xs = body_characters t in
       let head = bytes_len (canonical_heads heads.book) in
       let r = events_to_stop limits head [] xs (body_events lines macros xs) in
-      subst (λ c. AreWithin limits (bytes_len (canonical_heads c)) (score_by limits ending t (Ok heads)).syllables) same
+      subst (λ c. AreWithin limits (bytes_len (canonical_heads c)) (plain_by limits ending t (Ok heads)).syllables) same
       (end_is_within limits head (heads_short limits t heads e).1 heads.findings (place_after t) r.before (none_before_stop ends lines macros limits head xs) ending r.last r.fault)
 
-  pub given_are_within : (score_of limits ending t).book ≡ Some book → AreWithin limits (size (canonical_heads book)) (score_of limits ending t).syllables
-  given_are_within b = subst (λ n. AreWithin limits n (score_of limits ending t).syllables) (size_is_sum (canonical_heads book)) (by_heads (heads_of limits t) refl b)
+  pub given_are_within : (plain_of limits ending t).book ≡ Some book → AreWithin limits (size (canonical_heads book)) (plain_of limits ending t).syllables
+  given_are_within b = subst (λ n. AreWithin limits n (plain_of limits ending t).syllables) (size_is_sum (canonical_heads book)) (by_heads (heads_of limits t) refl b)

@@ -26,12 +26,12 @@ use Rattle.gabc_score.specs.declared.ending.InputEnding.TheVariants.{Whole}
 use Rattle.gabc_score.specs.Body.{events_onto, code_at, events_to_stop, cut_of, has_last, last_syllable, all_units, fault_at, fault_of_end, result_by_fault, result_by}
 use Rattle.gabc_score.specs.Canonical.{with_positions}
 use Rattle.gabc_score.specs.Events.{InComment, InText, texts_by_definition, text_from, body_events}
-use Rattle.gabc_score.specs.Score.{score_by, score_of}
 use Rattle.gabc_score.specs.Stops.{events_in_points, StopsAt, NeverStops}
 use Rattle.gabc_score.specs.Syllable.{UnplacedSyllable, PlacedSyllable, all_syllables, since_close, kept_of}
 use Rattle.gabc_score.specs.SyllablesOfUnits.{closed_units, score_units, AreSyllablesOf, body_characters, IsBodyCut}
 use Rattle.gabc_score.specs.Units.{BodyUnit, JustText, Units, BodyCutting, whole, events_through, units_pieces, cutting_of, Endless, Cuts, IsCutFrom, IsCut, events_of_parts}
 use Rattle.gabc_score.specs.WithinLimits.{CanonicalWithin, KeepsWithin}
+use Rattle.gabc_score.proofs.score_events.PlainScores.{plain_by, plain_of}
 use Rattle.gabc_score.proofs.texts_of_body.SeamsOfCharacters.{size, size_is_sum}
 use Rattle.gabc_score.proofs.texts_of_body.TextEmitsThroughEnd.{endless_emits}
 use Rattle.gabc_score.proofs.building.EventsOfSyllableParts.{onto_append, text_emitted}
@@ -177,10 +177,10 @@ module _ (ends : (at : Place) (t : List ℕ) → EndsOnce at t) (emits : (at : P
 module _ (ends : (at : Place) (t : List ℕ) → EndsOnce at t) (emits : (at : Place) (t : List ℕ) → with_events empty_text (concat_of (events_by_point at t)) ≡ text_built_at at t)
     (spans : (t : List ℕ) → StandsForView (kept t) (view_in t) t) (in_order : (at : Place) (t : List ℕ) → concat_of (events_by_point at t) ≡ events_of at t)
     (limits : Limits) (t : List ℕ) (book : List (List ℕ × List ℕ)) (cut : BodyCutting) (units : List BodyUnit) (last : List Char) (short : size t < 2 ^ 63) where
-  by_heads : (r : Result Heads HeadFault) → (score_by limits Whole t r).book ≡ Some book → IsBodyCut book t cut → cut.units ≡ Some (record { closed = units; last = JustText last }) → codes_of last ≡ 10 ∷ []
+  by_heads : (r : Result Heads HeadFault) → (plain_by limits Whole t r).book ≡ Some book → IsBodyCut book t cut → cut.units ≡ Some (record { closed = units; last = JustText last }) → codes_of last ≡ 10 ∷ []
       → All (KeepsWithin limits.syllable) (closed_units units (JustText last))
       → ((syllables : List PlacedSyllable) → AreSyllablesOf (nabc_lines_of book) (score_units cut.units) syllables → CanonicalWithin limits (bytes_len (canonical_heads book)) syllables)
-      → (score_by limits Whole t r).fault ≡ None
+      → (plain_by limits Whole t r).fault ≡ None
   by_heads (Err stop) b h e lf few within = absurd (cc)
   by_heads (Ok heads) b h e lf few within =
       let same : book ≡ heads.book = cc in
@@ -193,9 +193,9 @@ module _ (ends : (at : Place) (t : List ℕ) → EndsOnce at t) (emits : (at : P
       no_fault ends emits spans in_order lines macros limits (bytes_len (canonical_heads heads.book)) xs cut k fits w
       (body_read ends emits spans in_order lines macros limits.syllable (omega (arith, limits.in_range.syllable_least)) units last lf few xs cut k e fits) heads.findings (place_after t)
 
-  pub no_limit_is_passed : (score_of limits Whole t).book ≡ Some book → IsBodyCut book t cut → cut.units ≡ Some (record { closed = units; last = JustText last }) → codes_of last ≡ 10 ∷ []
+  pub no_limit_is_passed : (plain_of limits Whole t).book ≡ Some book → IsBodyCut book t cut → cut.units ≡ Some (record { closed = units; last = JustText last }) → codes_of last ≡ 10 ∷ []
       → All (KeepsWithin limits.syllable) (closed_units units (JustText last))
       → ((syllables : List PlacedSyllable) → AreSyllablesOf (nabc_lines_of book) (score_units cut.units) syllables → CanonicalWithin limits (size (canonical_heads book)) syllables)
-      → (score_of limits Whole t).fault ≡ None
+      → (plain_of limits Whole t).fault ≡ None
   no_limit_is_passed b h e lf few within =
       by_heads (heads_of limits t) b h e lf few (λ syllables k. subst (λ n. CanonicalWithin limits n syllables) (sym (size_is_sum (canonical_heads book))) (within syllables k))

@@ -1,6 +1,7 @@
 -- What the gatherer of syllables does with what is emitted.
-use Rattle.std.specs.Prelude.{ℕ, ◌+◌, ◌||◌, ◌^◌, ◌-◌, min, nat_lt, List, [], ◌∷◌, ◌++◌, Bool, false, cond, length, Option, Some, None, codes}
+use Rattle.std.specs.Prelude.{ℕ, ◌+◌, ◌||◌, ◌^◌, ◌-◌, min, nat_lt, ◌==◌, ◌&&◌, not, List, [], ◌∷◌, ◌++◌, Bool, false, cond, length, Option, Some, None, is_some, codes}
 use Rattle.gabc_places.specs.declared.place.Place.{Place}
+use Rattle.gabc_places.specs.declared.place.Span.{Span}
 use Rattle.gabc_text.specs.declared.view.Piece.{Piece}
 use Rattle.gabc_text.specs.declared.text_event.TextPart.{TextPart}
 use Rattle.gabc_text.specs.declared.text_event.TextPart.TheVariants as part
@@ -9,19 +10,22 @@ use Rattle.gabc_text.specs.declared.text_event.TextEnd.TheVariants as text_end
 use Rattle.gabc_text.specs.declared.text_event.TextEvent.{TextEvent}
 use Rattle.gabc_text.specs.declared.text_event.TextEvent.TheVariants as text
 use Rattle.gabc_text.specs.BuiltText.{with_part}
+use Rattle.gabc_notes.specs.FirstNoteOrClef.{first_note_or_clef}
+use Rattle.gabc_notes.specs.Items.{items_of}
+use Rattle.gabc_notes.specs.declared.item.ItemKind.{ItemKind}
 use Rattle.gabc_notes.specs.declared.stage.NoteEnd.{NoteEnd}
 use Rattle.gabc_notes.specs.declared.stage.NoteEnd.TheVariants as note_end
 use Rattle.gabc_notes.specs.declared.stage.NoteEvent.{NoteEvent}
 use Rattle.gabc_notes.specs.declared.stage.NoteEvent.TheVariants as note
 use Rattle.gabc_score.specs.declared.events.BodyEvent.{BodyEvent}
 use Rattle.gabc_score.specs.declared.events.BodyEvent.TheVariants as event
-use Rattle.gabc_score.specs.Syllable.{UnplacedSyllable, slice, is_open_after}
+use Rattle.gabc_score.specs.Syllable.{UnplacedSyllable, prefix_of, slice, text_at, is_open_after}
 use Rattle.gabc_score.specs.Canonical.{canonical}
 use Rattle.gabc_score.specs.Body.{is_longer, is_none, empty_snippet, has_text}
-use Rattle.gabc_score.specs.machine.SyllableBuilder.{OpenSyllable, nothing_open, with_kept, past_text, past_snippet, made_from}
+use Rattle.gabc_score.specs.machine.SyllableBuilder.{OpenSyllable, nothing_open, with_kept, past_text, snippet_from, past_snippet, made_from}
 
 -- What was gathered: `total` counts the canonical bytes of the headers and of the syllables that were made, and `over` tells
--- whether one of those is longer than the limit.
+-- whether one of those is longer than the limit. `first_kind` tells which came first in the GABC snippets that have ended, a note or a clef.
 pub record Gathered : Type 0 where
   pub limit : ℕ
   pub builder : OpenSyllable
@@ -31,9 +35,10 @@ pub record Gathered : Type 0 where
   pub total : ℕ
   pub over : Bool
   pub cut : Option Place
+  pub first_kind : Option ItemKind
 
 abbrev pub nothing_gathered : ℕ → ℕ → Gathered
-nothing_gathered limit head = record { limit = limit; builder = nothing_open; eu = false; nlba = false; made = []; total = head; over = false; cut = None }
+nothing_gathered limit head = record { limit = limit; builder = nothing_open; eu = false; nlba = false; made = []; total = head; over = false; cut = None; first_kind = None }
 
 abbrev pub with_mark : Gathered → Piece → Gathered
 with_mark g p =
@@ -61,8 +66,22 @@ with_text g (text.Part p) = with_view_part (with_mark_of g p) p
 with_text g (text.Found f) = g
 with_text g (text.Ended end) = with_text_end g end
 
+-- neither a note nor a clef has come in GABC, and this is a line of GABC
+abbrev pub awaits : Option ItemKind → ℕ → Bool
+awaits first line = (line == 0) && not (is_some first)
+
+-- which came first, with the snippet of that line and span
+abbrev pub first_past : Option ItemKind → ℕ → Span → List ℕ → Option ItemKind
+first_past first line span kept = cond (awaits first line) (first_note_or_clef (items_of (text_at span kept))) first
+
+-- the span of the snippet that ends now
+abbrev pub span_of : OpenSyllable → ℕ → ℕ → Span
+span_of o line count = (snippet_from o line (prefix_of (o.from + count) o.kept)).span
+
 abbrev pub with_snippet : Gathered → ℕ → ℕ → ℕ → Gathered
-with_snippet g line count mark = record g { builder = past_snippet g.builder line count mark }
+with_snippet g line count mark =
+    let o = past_snippet g.builder line count mark in
+    record g { builder = o; first_kind = first_past g.first_kind line (span_of g.builder line count) o.kept }
 
 abbrev pub with_count : Gathered → UnplacedSyllable → Gathered
 with_count g m =

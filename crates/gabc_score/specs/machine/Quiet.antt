@@ -9,7 +9,7 @@ use Rattle.gabc_score.specs.machine.BodyBuilder.{with_all}
 use Rattle.gabc_score.specs.machine.PartCounts.{CountsHold}
 use Rattle.gabc_score.specs.machine.SlotPair.{SlotPairState}
 
--- The body goes on behind x, and what it emits there is gathered: nothing is found, no syllable is made, and one byte more is kept at most.
+-- The body goes on behind x, and what it emits there is gathered: nothing is found, no syllable is made, no first note or clef comes, and one byte more is kept at most.
 pub record TakesQuietly (before : BodyStageState) (x : Char) (pair : SlotPairState) (after : BodyStageState) (next : SlotPairState) : Type 0 where
   pub events : List BodyEvent
   pub law : (xs : List Char) → running_events_left before (x ∷ xs) ≡ events ∷ running_events_left after xs
@@ -20,6 +20,7 @@ pub record TakesQuietly (before : BodyStageState) (x : Char) (pair : SlotPairSta
   pub total : next.gathered.total ≡ pair.gathered.total
   pub limit : next.gathered.limit ≡ pair.gathered.limit
   pub cut : next.gathered.cut ≡ pair.gathered.cut
+  pub first_kind : next.gathered.first_kind ≡ pair.gathered.first_kind
   pub held : next.held ≡ pair.held
   pub used : next.used ≡ Filling
   pub counts : CountsHold after.part next.gathered.builder

@@ -32,7 +32,7 @@ pub record IsShort (limit : ℕ) (m : UnplacedSyllable) : Type 0 where
 -- between two calls: nothing found is kept, the slots are those of the limits, and what is held is within them
 pub record IsAtRest (m : ScoreMachine) : Type 0 where
   pub none : m.found.items ≡ []
-  pub room : 8 ≤ m.found.limit
+  pub room : 9 ≤ m.found.limit
   pub limit : m.pair.gathered.limit ≡ m.limits.syllable
   pub used : is_made m.pair.used ≡ false
   pub over : m.pair.gathered.over ≡ false

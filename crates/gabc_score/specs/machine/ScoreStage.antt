@@ -16,6 +16,7 @@ use Rattle.gabc_score.specs.declared.score_machine.ScorePart.{ScorePart}
 use Rattle.gabc_score.specs.declared.score_machine.ScorePart.TheVariants as score_part
 use Rattle.gabc_score.specs.Canonical.{placed_syllables_by}
 use Rattle.gabc_score.specs.Events.{InComment, events_from}
+use Rattle.gabc_score.specs.NoteBeforeClef.{found_first}
 use Rattle.gabc_score.specs.ScoreEvents.{ScoreOutput, Found, Stop, End, findings_now, outputs_of, characters_in, first_place}
 use Rattle.gabc_score.specs.Syllable.{UnplacedSyllable, PlacedSyllable}
 use Rattle.gabc_score.specs.machine.BodyBuilder.{with_all, code_in, end_fault, end_findings}
@@ -39,10 +40,10 @@ abbrev pub stop_outputs : HeldScore → Fault → List ScoreOutput
 stop_outputs s fault = held_outputs s ++ Stop fault ∷ []
 
 -- at a character of which the body emits this, where no limit is passed
-abbrev pub point_outputs : HeldScore → List BodyEvent → List ScoreOutput
-point_outputs s now =
-    let made = (with_all s.gathered now).made in
-    outputs_of (findings_now now) (take (length made - 1) (placed_behind s.has_lent made))
+abbrev pub point_outputs : HeldScore → Char → List BodyEvent → List ScoreOutput
+point_outputs s x now =
+    let g = with_all s.gathered now in
+    outputs_of (findings_now now ++ found_first s.gathered.first_kind g.first_kind x.place) (take (length g.made - 1) (placed_behind s.has_lent g.made))
 
 -- all but the last are given
 abbrev pub with_held : Gathered → Gathered
@@ -65,7 +66,7 @@ end_outputs limits s now = end_outputs_by s now (end_fault limits s.next (with_l
 
 abbrev pub left_by : Option Code → HeldScore → Char → List BodyEvent → List HeadEvent → List (List ScoreOutput) → List (List ScoreOutput)
 left_by (Some code) s x now xs later = stop_outputs s (fault_at x.place code) ∷ silence xs
-left_by None s x now xs later = point_outputs s now ∷ later
+left_by None s x now xs later = point_outputs s x now ∷ later
 
 -- what it will still emit, where the body's machine will still emit these lists
 abbrev pub body_left : Limits → HeldScore → List (List BodyEvent) → List HeadEvent → List (List ScoreOutput)

@@ -16,7 +16,7 @@ returns-in-Some-clause-taken c h =
     0 c.in-Notes.opened c.in-Some.kept (notes.events_left c.in-Notes.stage) (notes.events_left c.take_next.new.self)
     (λ xs. ap (λ (b : BodyPart). part_with b xs) part_is) c.requires.mark c.in-Some.ensures.taken
     (λ xs. rw (← lines, ← macros) (c.next_snippet-self-inside.ensures.part xs)) c.add_note.ensures.gathered
-    (λ o counts. subst (λ (b : BodyPart). CountsHold b o) part_is counts) c.next_snippet-self-inside.ensures.counts c.requires.counts
+    (λ o counts. subst (λ (b : BodyPart). CountsHold b o) part_is counts) c.next_snippet-self-inside.ensures.counts c.requires.counts (sym c.awaits.ensures ∙ c.if-awaits.false)
 
 pub returns-in-Some-take_next-clause-taken : goal.returns-in-Some-take_next-clause-taken
 returns-in-Some-take_next-clause-taken c h =
@@ -27,4 +27,4 @@ returns-in-Some-take_next-clause-taken c h =
     c.in-Nabc.line c.in-Nabc.opened c.in-Some-take_next.kept (nabc.events_left c.in-Nabc.stage) (nabc.events_left c.take_next-in-Nabc.new.self)
     (λ xs. ap (λ (b : BodyPart). part_with b xs) part_is) c.requires.mark c.in-Some-take_next.ensures.taken
     (λ xs. rw (← lines, ← macros) (c.next_snippet-self-inside-in-Nabc.ensures.part xs)) c.add_note-in-Nabc.ensures.gathered
-    (λ o counts. subst (λ (b : BodyPart). CountsHold b o) part_is counts) c.next_snippet-self-inside-in-Nabc.ensures.counts c.requires.counts
+    (λ o counts. subst (λ (b : BodyPart). CountsHold b o) part_is counts) c.next_snippet-self-inside-in-Nabc.ensures.counts c.requires.counts (sym c.awaits-in-Nabc.ensures ∙ c.if-awaits-2.false)

@@ -12,11 +12,20 @@ use Rattle.gabc_places.specs.BoundedList.{BoundedList}
 use Rattle.gabc_score.specs.machine.BodyBuilder.{code_in, with_all}
 use Rattle.gabc_score.specs.machine.Gatherer.{Gathered}
 use Rattle.gabc_score.specs.machine.PartCounts.{CountsHold}
-use Rattle.gabc_score.proofs.score_events.EventsStayWithinBounds.{few_found, limit_stays, within}
+use Rattle.gabc_score.proofs.score_events.EventsStayWithinBounds.{few_found, few_with_first, limit_stays, within}
 use Rattle.gabc_score.proofs.score_machine.ScoreMachine.read.Goals as goal
 
+pub find_first-requires : goal.find_first-requires
+find_first-requires c =
+    let few = few_found c.args.self.now.found c.hold.new.found c.take.new.self.events c.requires.rests.rests.none c.hold.ensures.found c.take.ensures.events.few in
+    let same = ap (λ (r : BoundedList Finding). r.limit) c.hold.ensures.found in
+    let room = c.requires.rests.rests.room in
+    omega (arith, few, same, room)
+
 pub give_point-gave-requires-clause-few : goal.give_point-gave-requires-clause-few
-give_point-gave-requires-clause-few c = few_found c.args.self.now.found c.hold.new.found c.take.new.self.events c.requires.rests.rests.none c.hold.ensures.found c.take.ensures.events.few
+give_point-gave-requires-clause-few c =
+    few_with_first c.hold.new.found c.find_first.new.found c.first_kind-was.result c.first_kind.result c.args.x.place c.find_first.ensures
+    (few_found c.args.self.now.found c.hold.new.found c.take.new.self.events c.requires.rests.rests.none c.hold.ensures.found c.take.ensures.events.few)
 
 pub returns-in-Some-clause-step : goal.returns-in-Some-clause-step
 returns-in-Some-clause-step c =
@@ -35,7 +44,7 @@ returns-in-Some-clause-step c =
 pub returns-after-self-clause-step : goal.returns-after-self-clause-step
 returns-after-self-clause-step c =
     let made = c.hold.new.pair.gathered.made in
-    let fs = c.hold.new.found.items in
+    let fs = c.find_first.new.found.items in
     let lent = take (length made - 1) (placed_behind c.args.self.now.has_lent made) in
     let rests = c.requires.rests.rests in
     let limits = c.args.self.now.limits in
@@ -60,7 +69,7 @@ returns-after-self-clause-rests c =
     let h = c.hold.ensures in
     let g = c.hold.new.pair.gathered in
     let now = c.take.new.self.events in
-    let limits = ap (λ (r : BoundedList Finding). r.limit) t.found in
+    let limits = ap (λ (r : BoundedList Finding). r.limit) t.found ∙ ap (λ (r : BoundedList Finding). r.limit) c.find_first.ensures in
     let before = ap (λ (r : BoundedList Finding). r.limit) h.found in
     let room = old.rests.room in
     let same = ap (λ (k : Gathered). k.limit) t.gathered in

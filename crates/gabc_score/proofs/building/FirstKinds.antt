@@ -1,0 +1,128 @@
+-- Which comes first in the GABC snippets that have ended, a note or a clef, where one more ends.
+use Rattle.std.proofs.Common.{◌≡◌, ℕ, zero, suc, ◌+◌, ◌-◌, ◌≤◌, ◌==◌, ◌&&◌, not, Bool, true, false, cond, List, [], ◌∷◌, ◌++◌, length, take, drop, Option, Some, None, refl, sym, ap, subst, ◌∙◌, arith, append_assoc, append-nil, length-append, drop_at}
+use Rattle.std.specs.Prelude.{is_some}
+use Rattle.std.specs.List.{flat_map}
+use Rattle.std.proofs.lemmas.Grind.{flat_map-append}
+use Rattle.std.proofs.Math.Seq.{take-append_seam}
+use Rattle.gabc_places.specs.declared.place.Span.{Span}
+use Rattle.gabc_text.specs.declared.text_event.TextEnd.TheVariants as text_end
+use Rattle.gabc_text.specs.declared.text_event.TextEvent.TheVariants as text
+use Rattle.gabc_notes.specs.FirstNoteOrClef.{is_note_or_clef, first_note_or_clef}
+use Rattle.gabc_notes.specs.Items.{items_of}
+use Rattle.gabc_notes.specs.declared.item.Item.{Item}
+use Rattle.gabc_notes.specs.declared.item.ItemKind.{ItemKind}
+use Rattle.gabc_notes.specs.declared.stage.NoteEnd.TheVariants as note_end
+use Rattle.gabc_notes.specs.declared.stage.NoteEvent.TheVariants as note
+use Rattle.gabc_score.specs.declared.events.BodyEvent.{BodyEvent}
+use Rattle.gabc_score.specs.declared.events.BodyEvent.TheVariants as event
+use Rattle.gabc_score.specs.NoteBeforeClef.{gabc_ended}
+use Rattle.gabc_score.specs.Syllable.{is_seam, prefix_of, part_of, slice, text_at}
+use Rattle.gabc_score.specs.machine.Gatherer.{first_past}
+use Rattle.gabc_score.proofs.holding.SeamsOfText.{first_byte, text_is}
+
+-- ---- the first of two lists of items
+
+abbrev or_then : Option ItemKind → Option ItemKind → Option ItemKind
+or_then None later = later
+or_then (Some kind) later = Some kind
+
+first_append : (is js : List Item) → first_note_or_clef (is ++ js) ≡ or_then (first_note_or_clef is) (first_note_or_clef js)
+first_append [] js = refl
+first_append (i ∷ is) js = by (is_note_or_clef i.kind) (first_append is js)
+  where
+    by : (b : Bool) → first_note_or_clef (is ++ js) ≡ or_then (first_note_or_clef is) (first_note_or_clef js)
+        → cond b (Some i.kind) (first_note_or_clef (is ++ js)) ≡ or_then (cond b (Some i.kind) (first_note_or_clef is)) (first_note_or_clef js)
+    by true e = refl
+    by false e = e
+
+abbrev first_in : List (List ℕ) → Option ItemKind
+first_in ended = first_note_or_clef (flat_map (λ kept. items_of kept) ended)
+
+first_push : (ended : List (List ℕ)) (kept : List ℕ) → first_in (ended ++ kept ∷ []) ≡ or_then (first_in ended) (first_note_or_clef (items_of kept))
+first_push ended kept =
+    ap first_note_or_clef (flat_map-append (λ (k : List ℕ). items_of k) ended (kept ∷ []))
+    ∙ first_append (flat_map (λ (k : List ℕ). items_of k) ended) (items_of kept ++ [])
+    ∙ ap (λ (is : List Item). or_then (first_in ended) (first_note_or_clef is)) (append-nil (items_of kept))
+
+-- ---- a character begins where a part begins
+
+grown_seam : (part more : List ℕ) → is_seam part ≡ true → is_seam (more ++ []) ≡ true → is_seam (part ++ more) ≡ true
+grown_seam [] more h k = subst (λ t. is_seam t ≡ true) (append-nil more) k
+grown_seam (b ∷ part) more h k = h
+
+pub part_seam : (events : List BodyEvent) → is_seam (part_of events) ≡ true
+part_seam [] = refl
+part_seam (event.Text (text.Kept c) ∷ events) = grown_seam (part_of events) _ (part_seam events) (first_byte c.c [])
+part_seam (event.Text (text.Part p) ∷ events) = part_seam events
+part_seam (event.Text (text.Found f) ∷ events) = part_seam events
+part_seam (event.Text (text.Ended text_end.Notes) ∷ events) = refl
+part_seam (event.Text (text.Ended text_end.Finished) ∷ events) = part_seam events
+part_seam (event.Text (text.Ended (text_end.Cut p)) ∷ events) = part_seam events
+part_seam (event.Notes line (note.Kept c) ∷ events) = grown_seam (part_of events) _ (part_seam events) (first_byte c.c [])
+part_seam (event.Notes line (note.Found f) ∷ events) = part_seam events
+part_seam (event.Notes line (note.Ended note_end.Next n) ∷ events) = refl
+part_seam (event.Notes line (note.Ended note_end.Close n) ∷ events) = refl
+part_seam (event.Notes line (note.Ended (note_end.Cut p) n) ∷ events) = part_seam events
+
+taken_seam : (n : ℕ) (part : List ℕ) → is_seam part ≡ true → is_seam (take n part) ≡ true
+taken_seam zero part h = refl
+taken_seam (suc n) [] h = refl
+taken_seam (suc n) (b ∷ part) h = h
+
+prefix_seam : (n : ℕ) (part : List ℕ) → is_seam part ≡ true → is_seam (prefix_of n part) ≡ true
+prefix_seam n part h = by (is_seam (drop n part))
+  where
+    by : (b : Bool) → is_seam (cond b (take n part) part) ≡ true
+    by true = taken_seam n part h
+    by false = h
+
+-- ---- the text of the snippet that ends
+
+module _ (ended kept mark : List ℕ) (begins : is_seam kept ≡ true) (marks : is_seam mark ≡ true) where
+  abbrev whole : List ℕ
+  whole = (ended ++ kept) ++ mark
+
+  abbrev span : Span
+  span = record { from = length ended; to = length (ended ++ kept) }
+
+  split : whole ≡ ended ++ (kept ++ mark)
+  split = append_assoc ended kept mark
+
+  rest : drop (length ended) whole ≡ kept ++ mark
+  rest = ap (drop (length ended)) split ∙ drop_at ended (kept ++ mark) (length ended) refl
+
+  behind : drop (length (ended ++ kept)) whole ≡ mark
+  behind = drop_at (ended ++ kept) mark (length (ended ++ kept)) refl
+
+  kept_seam : (k : List ℕ) → is_seam k ≡ true → is_seam (k ++ mark) ≡ true
+  kept_seam [] h = marks
+  kept_seam (b ∷ k) h = h
+
+  size : length (ended ++ kept) - length ended ≡ length kept
+  size = omega (arith, length-append ended kept)
+
+  sliced : slice span whole ≡ kept
+  unfolding slice
+  sliced = ap (λ n. take n (drop (length ended) whole)) size ∙ ap (take (length kept)) rest ∙ take-append_seam kept mark
+
+  pub snippet_text : text_at span whole ≡ kept
+  snippet_text =
+      text_is span whole (omega (arith, length-append ended kept)) (omega (arith, length-append (ended ++ kept) mark))
+      (subst (λ t. is_seam t ≡ true) (sym rest) (kept_seam kept begins)) (subst (λ t. is_seam t ≡ true) (sym behind) marks)
+      ∙ sliced
+
+-- ---- one more snippet
+
+pub first_more : (snippets : List (List ℕ)) (ended part mark : List ℕ) (line n : ℕ) → is_seam part ≡ true → is_seam mark ≡ true
+    → first_past (first_in snippets) line (record { from = length ended; to = length (ended ++ prefix_of n part) }) ((ended ++ prefix_of n part) ++ mark)
+    ≡ first_in (cond (line == 0) (snippets ++ prefix_of n part ∷ []) snippets)
+first_more snippets ended part mark line n h k = by (line == 0) (first_in snippets) refl
+  where
+    by : (b : Bool) (f : Option ItemKind) → first_in snippets ≡ f
+        → cond (b && not (is_some f)) (first_note_or_clef (items_of (text_at (record { from = length ended; to = length (ended ++ prefix_of n part) }) ((ended ++ prefix_of n part) ++ mark)))) f
+        ≡ first_in (cond b (snippets ++ prefix_of n part ∷ []) snippets)
+    by true (Some kind) e = sym (first_push snippets (prefix_of n part) ∙ ap (λ g. or_then g (first_note_or_clef (items_of (prefix_of n part)))) e)
+    by true None e =
+        ap (λ t. first_note_or_clef (items_of t)) (snippet_text ended (prefix_of n part) mark (prefix_seam n part h) k)
+        ∙ sym (first_push snippets (prefix_of n part) ∙ ap (λ g. or_then g (first_note_or_clef (items_of (prefix_of n part)))) e)
+    by false f e = sym e
