@@ -123,7 +123,7 @@ check 'a folder: what stays, and why' is "$(grep stays "$room/messages")" "$(for
     *) echo "scores/$it.gabc stays as it is: more than its blanks would change" ;;
   esac
 done)"
-check 'a folder: a warning says why a style would go' grep -q '^scores/style.gabc:3:9: warning: W3' "$room/messages"
+check 'a folder: a warning says why a style would go' grep -q '^scores/style.gabc:3:12: warning: W3' "$room/messages"
 nothing_is_lost 'a folder'
 for it in 'with blanks' 'Kyrié – 聖歌' -loose link; do
   holds 'a folder' "scores/$it.gabc" "$canonical"
