@@ -21,6 +21,10 @@
 extern "C" {
 #endif
 
+/* The version of this header; `gregorio_version` is that of the library, a text that ends in a NUL. They are equal where both come from one build. */
+#define GREGORIO_VERSION "0.5.0"
+extern const char gregorio_version[];
+
 /* What `format` may be. */
 #define GREGORIO_GABC 0u /* canonical GABC */
 #define GREGORIO_DUMP 1u /* a line for each syllable, neume, note and sign */

@@ -20,8 +20,10 @@ import os
 import re
 from collections.abc import Iterator
 from dataclasses import dataclass
+from importlib.metadata import version
 from pathlib import Path
 
+__version__ = version("gregorio-chant")
 __all__ = ["Format", "Kind", "Message", "Result", "Status", "compile"]
 
 

@@ -1,6 +1,6 @@
 """Prints the messages of scores as editors want them: `FILE:LINE:COLUMN: KIND: CODE: TEXT`.
 
-Usage: python -m gregorio_chant FILE..
+Usage: python -m gregorio_chant FILE.., or gregorio-chant FILE..
 
 Ends with the highest status of the scores: 0 whole, 1 errors, 2 a fatal fault; or with 4 where a file could not be read.
 """
@@ -35,5 +35,10 @@ def main(names: list[str]) -> int:
     return max([check(name) for name in names])
 
 
+def run() -> int:
+    """Checks the files that the words of the command name, and returns its status."""
+    return main(sys.argv[1:])
+
+
 if __name__ == "__main__":
-    sys.exit(main(sys.argv[1:]))
+    sys.exit(run())

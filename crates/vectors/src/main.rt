@@ -27,12 +27,13 @@ use std::alloc::Global;
 use std::{fs, io};
 
 /// The example scores: each is a file `NAME.gabc`, with its canonical form, its dump and the messages under `-W` beside it.
-const SCORES: [&str; 9] = [
+const SCORES: [&str; 10] = [
     "antiphon",
     "ave-maria",
     "every-finding",
     "every-item",
     "hymn",
+    "hymn-verses",
     "introit",
     "kyrie",
     "psalm-tone",
