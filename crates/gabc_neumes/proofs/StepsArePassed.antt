@@ -30,11 +30,11 @@ in_force clef alters = record { clef = clef; alters = alters }
 
 -- ---- steps are passed one by one
 
-clef_there : (outset : InForce) (before : List ScoreStep) → (in_force_behind outset before).clef ≡ clef_in_force outset before
+pub clef_there : (outset : InForce) (before : List ScoreStep) → (in_force_behind outset before).clef ≡ clef_in_force outset before
 clef_there outset [] = refl
 clef_there outset (s ∷ before) = refl
 
-alter_there : (outset : InForce) (before : List ScoreStep) (h : ℕ) → h < 15 → get_or (in_force_behind outset before).alters h alter.None ≡ alter_in_force outset before h
+pub alter_there : (outset : InForce) (before : List ScoreStep) (h : ℕ) → h < 15 → get_or (in_force_behind outset before).alters h alter.None ≡ alter_in_force outset before h
 alter_there outset [] h l = refl
 alter_there outset (s ∷ before) h l = at_height (alter_in_force outset (s ∷ before)) h l
 
