@@ -5,6 +5,7 @@ ghost use Rattle.std.specs.Prelude.{◌≤◌, length, string_bytes};
 use crate::printed::Printed;
 use crate::show::show_bytes;
 use gabc_headers::{HeaderBook, headers_whole};
+use gabc_neumes::Alterations;
 use gabc_places::{Code, Limits, Place, Room, Text};
 use gabc_score::{InputEnding, Syllable, score_whole};
 use gabc_write::{
@@ -111,17 +112,18 @@ fn show_lines(
     alloc: Global,
     number: u64,
     syllable: &Syllable,
+    alterations: &mut Alterations,
     scratch: &mut Scratch,
     out: &mut Printed,
 ) -> Result<(), AllocError>
     requires { length (string_bytes syllable.now.kept) ≤ scratch.old }
 {
-    let len = dump_len(number, syllable, scratch);
+    let len = dump_len(number, syllable, alterations, scratch);
     if len == usize::MAX {
         return Err(AllocError);
     }
     let mut room = Room::with_limit(alloc, len)?;
-    dump_syllable(number, syllable, scratch, &mut room);
+    dump_syllable(number, syllable, alterations, scratch, &mut room);
     out.put("\t");
     show_counted(len, room.slice(), out);
     Ok(())
@@ -132,10 +134,11 @@ fn show_dump(
     alloc: Global,
     number: u64,
     syllable: &Syllable,
+    alterations: &mut Alterations,
     out: &mut Printed,
 ) -> Result<(), AllocError> {
     let mut scratch = Scratch::with_limit(alloc, syllable.kept.len())?;
-    let shown = show_lines(alloc, number, syllable, &mut scratch, out);
+    let shown = show_lines(alloc, number, syllable, alterations, &mut scratch, out);
     // A proof follows a call faster than all that lies inside.
     drop(scratch);
     shown
@@ -144,9 +147,10 @@ fn show_dump(
 /// Prints the number of syllables, and the lines of each in a dump. The first one has the number 4294967295.
 fn show_dumps(alloc: Global, syllables: &[Syllable], out: &mut Printed) -> Result<(), AllocError> {
     out.show(&syllables.len());
+    let mut alterations = Alterations::new();
     for (index, syllable) in syllables.iter().enumerate() {
         let number = (index as u64).saturating_add(4294967295);
-        show_dump(alloc, number, syllable, out)?;
+        show_dump(alloc, number, syllable, &mut alterations, out)?;
     }
     Ok(())
 }

@@ -75,11 +75,11 @@ const NO_CHARACTER: Trial = Trial {
 const FAILED_DUMP: Trial = Trial {
     format: Format::Dump,
     input: b"%%\nKy(f)ri(",
-    steps: &[(2, "dump 1\n", "")],
+    steps: &[(2, "dump 2\n", "")],
     ending: SourceEnding::Broken,
     last: (
         11,
-        "syllable 1 one\ntext:Ky\nnotes:f\nelement\nglyph punctum 1\nnote f punctum f\n",
+        "syllable 1 one\ntext:Ky\nnotes:f\nelement\nglyph punctum 1\nnote f punctum - none f\n",
         "",
     ),
     status: Status::ReadFault,

@@ -4,6 +4,7 @@
 ghost use Rattle.std.specs.Prelude.{◌<◌, length};
 
 use gabc_headers::{HeadFault, HeaderBook, Heads, headers_whole};
+use gabc_neumes::Alterations;
 use gabc_places::{
     Code, Decoded, Fault, Findings, FromReader, Limits, Place, Room, Span, Text, ToWriter,
     place_of_byte, text_of,
@@ -99,7 +100,7 @@ fn reads_headers(rt: HostRuntime) -> Result<(), AllocError> {
 #[test]
 fn dumps_headers(rt: HostRuntime) -> Result<(), AllocError> {
     let alloc = rt.alloc();
-    let wanted = "dump 1\nheader name:a\\\\b\\nc\nheader user\\\\notes:\nend 4294967296\n";
+    let wanted = "dump 2\nheader name:a\\\\b\\nc\nheader user\\\\notes:\nend 4294967296\n";
     let heads = heads_of(alloc, "name:\n a\\b\nc;;\nuser\\notes:;\n%%")?;
     let well = match &heads {
         Ok(heads) => are_dumped(alloc, heads, wanted),
@@ -126,8 +127,9 @@ fn put_lines(
     if syllable.kept.len() > scratch.limit() {
         return None;
     }
-    let len = dump_len(number, syllable, scratch);
-    dump_syllable(number, syllable, scratch, out);
+    let mut alterations = Alterations::new();
+    let len = dump_len(number, syllable, &alterations, scratch);
+    dump_syllable(number, syllable, &mut alterations, scratch, out);
     Some(len)
 }
 
@@ -149,7 +151,7 @@ fn is_dumped(
 fn dumps_a_syllable(rt: HostRuntime) -> Result<(), AllocError> {
     let alloc = rt.alloc();
     let wanted =
-        "syllable 4294967296 one\nnotes:hG\nelement\nglyph punctum 1\nnote h punctum h\nglyph inclinata 1\nnote g inclinatum G\n";
+        "syllable 4294967296 one\nnotes:hG\nelement\nglyph punctum 1\nnote h punctum - none h\nglyph inclinata 1\nnote g inclinatum - none G\n";
     let score = score_of(alloc, "%%\n(hG)")?;
     let well = match score.syllables.as_slice().first() {
         Some(syllable) => is_dumped(alloc, 4294967296, syllable, wanted),
