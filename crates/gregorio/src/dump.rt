@@ -1,10 +1,12 @@
 //! The dump.
 
 ghost use Rattle.std.specs.Prelude.{◌≡◌, ◌≤◌, All, length, map, string_bytes};
+ghost use Rattle.gabc_neumes.specs.InForce.{nothing_in_force};
 ghost use Rattle.gabc_score.specs.Syllable.{placed_of};
 ghost use Rattle.gabc_write.specs.DumpOfSyllables.{lines_of_syllables, dump_text};
 
 use gabc_headers::HeaderBook;
+use gabc_neumes::Alterations;
 use gabc_places::Put;
 use gabc_score::Syllable;
 use gabc_write::{Scratch, dump_end, dump_header, dump_syllable};
@@ -20,14 +22,16 @@ pub(crate) fn longest_kept(syllables: &[Syllable]) -> usize
     longest
 }
 
-/// Puts the lines of `syllables`, which are numbered from 1.
+/// Puts the lines of `syllables`, the first of a score, which are numbered from 1.
 fn put_lines<S: Put>(syllables: &[Syllable], scratch: &mut Scratch, out: &mut S)
     requires { All (λ s. length (string_bytes s.kept) ≤ scratch.old) syllables.now }
-    ensures put { out.new ≡ S.taken out.old (lines_of_syllables 1 (map placed_of syllables.now)) }
+    ensures put { out.new ≡ S.taken out.old
+        (lines_of_syllables 1 nothing_in_force (map placed_of syllables.now)) }
     ensures scratch { scratch.new ≡ scratch.old }
 {
+    let mut alterations = Alterations::new();
     for (index, syllable) in syllables.iter().enumerate() {
-        dump_syllable(index as u64 + 1, syllable, scratch, out);
+        dump_syllable(index as u64 + 1, syllable, &mut alterations, scratch, out);
     }
 }
 

@@ -13,6 +13,7 @@ ghost use Rattle.gregorio.specs.machine.RunWriter.{syllable_len, syllable_room a
 
 use crate::findings::{input_name, is_error, put_finding};
 use gabc_headers::HeaderBook;
+use gabc_neumes::Alterations;
 use gabc_places::{Fault, Finding, Limits, Room};
 use gabc_score::Syllable;
 use gabc_write::{
@@ -29,6 +30,7 @@ pub(crate) struct RunWriter {
     name: String,
     all_warnings: bool,
     scratch: Scratch,
+    alterations: Alterations,
     /// How many syllables were written. It saturates.
     count: u64,
     /// Whether an error was found.
@@ -119,6 +121,7 @@ impl RunWriter {
             format: job.format,
             name: String::from_str(alloc, name)?,
             all_warnings: job.all_warnings,
+            alterations: Alterations::new(),
             count: 0,
             errors: false,
             out: Room::with_limit(alloc, out)?,
@@ -188,7 +191,13 @@ impl RunWriter {
         match self.format {
             Format::Gabc => canon_syllable(syllable, &mut self.out),
             Format::Dump => {
-                dump_syllable(self.count, syllable, &mut self.scratch, &mut self.out)
+                dump_syllable(
+                    self.count,
+                    syllable,
+                    &mut self.alterations,
+                    &mut self.scratch,
+                    &mut self.out,
+                )
             }
         }
     }

@@ -6,7 +6,7 @@ use Rattle.gregorio.proofs.dump.put_lines.Given as goal
 -- with what is left, it will have taken all of it
 abbrev pub invariant-loop-index : goal.invariant-loop-index
 invariant-loop-index g l = record {
-  put : g.S.Put.taken l.out (lines_of_syllables (l.index + 1) (map placed_of (drop l.index l.syllables)))
-      ≡ g.S.Put.taken l.initial.out (lines_of_syllables 1 (map placed_of l.syllables));
+  put : g.S.Put.taken l.out (lines_of_syllables (l.index + 1) l.alterations (map placed_of (drop l.index l.syllables)))
+      ≡ g.S.Put.taken l.initial.out (lines_of_syllables 1 l.initial.alterations (map placed_of l.syllables));
   scratch : l.scratch ≡ l.initial.scratch;
 }
