@@ -1,6 +1,5 @@
 -- What is in force behind steps, step by step.
-use Rattle.std.proofs.Common.{◌≡◌, ℕ, ◌+◌, ◌≤◌, ◌<◌, ◌==◌, List, [], ◌∷◌, ◌++◌, Bool, true, false, not, Option, Some, None, map, reverse, length, get_or, set, replicate, refl, sym, ap, ap₂, ◌∙◌, arith, subst, ne_eqb, eqb-true, if◌then◌else◌}
-use Rattle.std.specs.List.{range_with_len}
+use Rattle.std.proofs.Common.{◌≡◌, ℕ, ◌≤◌, ◌<◌, ◌==◌, List, [], ◌∷◌, ◌++◌, Bool, true, false, not, Option, Some, None, map, reverse, length, get_or, set, replicate, refl, sym, ap, ap₂, ◌∙◌, arith, subst, ne_eqb, eqb-true, if◌then◌else◌}
 use Rattle.std.specs.Option.{option_or}
 use Rattle.std.proofs.lemmas.List.{ext_get_or, reverse-append, length-set, get_or-set_same, get_or-set_other}
 use Rattle.std.proofs.lemmas.Bool.{eqb-false}
@@ -31,11 +30,11 @@ in_force clef alters = record { clef = clef; alters = alters }
 
 -- ---- steps are passed one by one
 
-clef_there : (outset : InForce) (before : List ScoreStep) → (in_force_behind outset before).clef ≡ clef_in_force outset before
+pub clef_there : (outset : InForce) (before : List ScoreStep) → (in_force_behind outset before).clef ≡ clef_in_force outset before
 clef_there outset [] = refl
 clef_there outset (s ∷ before) = refl
 
-alter_there : (outset : InForce) (before : List ScoreStep) (h : ℕ) → h < 15 → get_or (in_force_behind outset before).alters h alter.None ≡ alter_in_force outset before h
+pub alter_there : (outset : InForce) (before : List ScoreStep) (h : ℕ) → h < 15 → get_or (in_force_behind outset before).alters h alter.None ≡ alter_in_force outset before h
 alter_there outset [] h l = refl
 alter_there outset (s ∷ before) h l = at_height (alter_in_force outset (s ∷ before)) h l
 

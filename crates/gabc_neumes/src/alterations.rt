@@ -14,8 +14,8 @@ const HEIGHTS: usize = 15;
 
 /// The clef and the alterations that are in force at a place of a score. It asks for no memory.
 ///
-/// The words of the score and the items of its notes are passed in their order: `start_word` before the first item of a syllable that
-/// begins a word, and `pass` with each item, behind which it counts.
+/// What stands in the score is passed in its order: the start of each word by `start_word`, before the first item of the syllable that
+/// begins it, and each item of the notes by `pass`. Contracts see the clef and the alteration of each height.
 #[derive(Clone, Copy, Debug)]
 pub struct Alterations {
     clef: Option<Clef>,

@@ -8,7 +8,7 @@ ghost use Rattle.gabc_notes.specs.declared.note.Note.{Note};
 ghost use Rattle.gabc_neumes.specs.Cut.{glyphs_of};
 ghost use Rattle.gabc_neumes.specs.Elements.{AreElementsOf, AreSegmentsOf, is_in_element, is_in_segment, divides, joins_segment};
 ghost use Rattle.gabc_neumes.specs.Glyphs.{HasKind, AreGlyphsOf};
-ghost use Rattle.gabc_neumes.specs.InForce.{InForce, ScoreStep, in_force_behind, passed};
+ghost use Rattle.gabc_neumes.specs.InForce.{InForce, ScoreStep, clef_in_force, alter_in_force, in_force_behind, passed, own_alter};
 ghost use Rattle.gabc_neumes.specs.Runs.{passes_at, IsRun};
 ghost use Rattle.gabc_neumes.specs.declared.glyph.Glyph.{Glyph};
 ghost use Rattle.gabc_neumes.specs.declared.glyph.GlyphKind.{GlyphKind};
@@ -55,6 +55,15 @@ pub fn what_passes_stands_in_a_run()
 /// What is part of a segment is part of an element.
 pub fn segments_stand_in_elements()
     ensures { (kept : List ℕ) (i : Item) → is_in_segment i ≡ true → is_in_element kept i ≡ true }
+{}
+
+/// The clef in force behind some steps is the nearest on the way back, else that of the outset. The alteration in force at a height is the
+/// nearest of that height, if nothing that ends alterations comes first; where neither comes, it is that of the outset.
+pub fn positions_say_what_is_in_force()
+    ensures clef { (outset : InForce) (before : List ScoreStep) →
+        (in_force_behind outset before).clef ≡ clef_in_force outset before }
+    ensures alter { (outset : InForce) (before : List ScoreStep) (height : ℕ) → height < 15 →
+        own_alter (in_force_behind outset before) height ≡ alter_in_force outset before height }
 {}
 
 /// What is in force behind some steps, and then behind more, is in force behind all of them: so whoever passes them one by one has what

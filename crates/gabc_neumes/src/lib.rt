@@ -1,5 +1,5 @@
 //! The neumes of a snippet of notes: the elements and segments into which its items fall, and the glyphs into which the notes of a
-//! segment are cut.
+//! segment are cut; and how each note of a score sounds.
 //!
 //! - Dividers are blanks, `/`, `//`, `/[..]`, bars, clefs, custodes and breaks; `!`, `/0` and `/!` are none. `elements` adds the
 //!   elements of a snippet: as many items in a row as have no divider among them.
@@ -10,6 +10,9 @@
 //!   ends.
 //! - A `GlyphKind` is printed as its word, such as `pes-subpunctis-resupinus`: those of its base and its tail (`word_of_base`,
 //!   `word_of_tail`). `word_of_shape` is the word of one note's shape.
+//! - `Alterations` follows a score, whose words and items it passes one by one. It tells the clef in force, and how a note sounds: its
+//!   degree, as `degree` gives it, and what alters it. What is in force is defined by what comes first on the way back from the note
+//!   (`specs/InForce.antt`). `sign_of` reads an alteration; an `Alter` is printed as its word (`word_of_alter`).
 //! - `laws` has what follows of the definitions.
 //!
 //! Spans count items from 0, and glyphs count notes from 0. No call asks for memory.

@@ -1,5 +1,5 @@
 -- Snippets of the dump by example.
-use Rattle.std.proofs.Common.{◌≡◌, refl, codes, Some}
+use Rattle.std.proofs.Common.{◌≡◌, refl, codes}
 use Rattle.std.specs.Str.{chars}
 use Rattle.std.specs.Fmt.{digits}
 use lib.Utf8.{encode}

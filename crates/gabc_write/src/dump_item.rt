@@ -99,15 +99,31 @@ fn name_of_degree(degree: Option<u8>) -> &'static str
     }
 }
 
-/// Puts how a note sounds, with a blank before each word: ` DEGREE ALTER`.
+/// Returns how a note of that degree sounds that nothing alters, as `put_sound` puts it.
+fn words_of_unaltered(degree: Option<u8>) -> &'static str
+    ensures { result.now ≡ sound_words (record { degree = degree; alter = Alter.None }) }
+{
+    match degree {
+        None => " - none",
+        Some(0) => " ut none",
+        Some(1) => " re none",
+        Some(2) => " mi none",
+        Some(3) => " fa none",
+        Some(4) => " sol none",
+        Some(5) => " la none",
+        Some(_) => " si none",
+    }
+}
+
+/// Puts how a note sounds, with a blank before each word: ` DEGREE ALTER`. Most notes are not altered, so these words are put at once.
 fn put_sound<S: Put>(sound: Sound, out: &mut S)
     ensures { out.new ≡ S.taken out.old (sound_words sound) }
 {
-    out.put(b" ");
-    out.put(name_of_degree(sound.degree).as_bytes());
     match sound.alter {
-        Alter::None => out.put(b" none"),
+        Alter::None => out.put(words_of_unaltered(sound.degree).as_bytes()),
         _ => {
+            out.put(b" ");
+            out.put(name_of_degree(sound.degree).as_bytes());
             out.put(b" ");
             out.put(word_of_alter(sound.alter).as_bytes());
         }

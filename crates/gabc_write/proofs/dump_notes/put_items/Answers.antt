@@ -2,7 +2,7 @@ use Rattle.std.proofs.Common.{◌≡◌, ◌+◌, ℕ, List, [], ◌∷◌, map,
 use Rattle.gabc_places.specs.BoundedList.{BoundedList}
 use Rattle.gabc_notes.specs.declared.item.Item.{Item}
 use Rattle.gabc_notes.specs.declared.item.ItemKind.TheVariants as kind
-use Rattle.gabc_neumes.specs.InForce.{InForce, ScoreStep, step_of, in_force_behind}
+use Rattle.gabc_neumes.specs.InForce.{InForce, step_of, in_force_behind}
 use Rattle.gabc_neumes.specs.declared.glyph.Glyph.{Glyph}
 use Rattle.gabc_write.specs.DumpOfNotes.{in_force_at, lines_behind}
 use Rattle.gabc_write.specs.declared.dump_notes.ItemPlace.{ItemPlace}
