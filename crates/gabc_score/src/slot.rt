@@ -29,7 +29,7 @@ impl Model for Slot {
 }
 
 impl Slot {
-    ghost use Rattle.std.specs.Prelude.{◌≡◌, ◌+◌, ◌<◌, ◌^◌, [], ◌∷◌, IfOk, string_bytes};
+    ghost use Rattle.std.specs.Prelude.{◌≡◌, ◌+◌, ◌<◌, ◌^◌, nat_lt, length, [], ◌∷◌, IfOk, string_bytes};
     ghost use Rattle.gabc_text.specs.BuiltText.{with_part};
     ghost use Rattle.gabc_score.specs.Body.{empty_snippet};
     ghost use Rattle.gabc_score.specs.Syllable.{slice, text_at, placed_of, unplaced_of};
@@ -169,6 +169,13 @@ impl Slot {
         ensures { result.now ≡ slice span self.now.reading.kept }
     {
         slice_of(self.syllable.kept.as_str(), span)
+    }
+
+    /// Returns whether anything is kept of the part that is being read.
+    pub(crate) fn has_part(&self) -> bool
+        ensures { result ≡ nat_lt self.now.reading.from (length self.now.reading.kept) }
+    {
+        self.from < self.syllable.kept.len()
     }
 
     /// The text of a span of the kept text.

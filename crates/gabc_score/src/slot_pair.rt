@@ -94,7 +94,7 @@ impl SlotPair {
     ghost use Rattle.gabc_score.specs.Body.{has_text, is_none};
     ghost use Rattle.gabc_score.specs.Syllable.{placed_of};
     ghost use Rattle.gabc_score.specs.machine.BodyBuilder.{code_in, end_fault};
-    ghost use Rattle.gabc_score.specs.machine.Gatherer.{nothing_gathered, with_mark, with_mark_of, with_view_part, with_text_end, with_text, with_syllable, with_note_end, with_note, with_last, awaits, first_past};
+    ghost use Rattle.gabc_score.specs.machine.Gatherer.{nothing_gathered, with_mark, with_mark_of, with_view_part, with_text_end, with_text, with_syllable, with_note_end, with_note, with_last, awaits, awaits_in, first_past};
     ghost use Rattle.gabc_score.specs.machine.ScoreStage.{placed_behind, with_held};
     ghost use Rattle.gabc_score.specs.machine.Slot.{FitsText, FitsNote, FitsKept, FitsPiece, FitsSnippet};
     ghost use Rattle.gabc_score.specs.machine.SlotPair.{is_made, used_past, lent_syllables};
@@ -250,8 +250,17 @@ impl SlotPair {
         }
     }
 
-    /// Returns whether neither a note nor a clef has come in GABC, where `line` is a line of GABC.
+    /// Returns whether neither a note nor a clef has come in GABC, and the snippet that is being read may bring one: `line` is a line of
+    /// GABC, and something is kept.
     pub(crate) fn awaits(&self, line: u8) -> bool
+        requires { self.now.used ≡ SlotUse.Filling }
+        ensures { result ≡ awaits_in self.now.gathered.first_kind line self.now.gathered.builder }
+    {
+        self.awaits_on(line) && self.reader.has_part()
+    }
+
+    /// Returns whether neither a note nor a clef has come in GABC, where `line` is a line of GABC.
+    fn awaits_on(&self, line: u8) -> bool
         ensures { result ≡ awaits self.now.gathered.first_kind line }
     {
         line == 0 && self.first_kind.is_none()
@@ -271,7 +280,10 @@ impl SlotPair {
           gathered = record g { first_kind = first_past g.first_kind line span g.builder.kept };
         } }
     {
-        if self.awaits(line) {
+        if span.to <= span.from {
+            return;
+        }
+        if self.awaits_on(line) {
             self.first_kind = first_note_or_clef(self.reader.text_at(span));
         }
     }
