@@ -15,6 +15,7 @@ use gabc_notes::ItemKind;
 use gabc_places::{Code, Fault, Finding, Place, Room};
 
 /// Finds a note before any clef at `place`: which of the two came first in GABC was not known before, and is a note now.
+#[inline(always)]
 pub(crate) fn find_first(
     was: Option<ItemKind>,
     now: Option<ItemKind>,

@@ -172,6 +172,7 @@ impl Slot {
     }
 
     /// Returns whether anything is kept of the part that is being read.
+    #[inline(always)]
     pub(crate) fn has_part(&self) -> bool
         ensures { result ≡ nat_lt self.now.reading.from (length self.now.reading.kept) }
     {

@@ -260,6 +260,7 @@ impl SlotPair {
     }
 
     /// Returns whether neither a note nor a clef has come in GABC, where `line` is a line of GABC.
+    #[inline(always)]
     fn awaits_on(&self, line: u8) -> bool
         ensures { result ≡ awaits self.now.gathered.first_kind line }
     {
@@ -267,6 +268,7 @@ impl SlotPair {
     }
 
     /// Returns which came first in the GABC snippets that have ended, a note or a clef.
+    #[inline(always)]
     pub(crate) fn first_kind(&self) -> Option<ItemKind>
         ensures { result ≡ self.now.gathered.first_kind }
     {
@@ -274,6 +276,7 @@ impl SlotPair {
     }
 
     /// Finds the first note or clef in the snippet of `line` that has ended, which has this span, where neither came before.
+    #[inline(always)]
     fn add_first_kind(&mut self, line: u8, span: Span)
         requires { self.old.used ≡ SlotUse.Filling }
         ensures { let g = self.old.gathered in self.new ≡ record self.old {
