@@ -3,6 +3,7 @@
 use crate::slice::slice_of;
 use crate::snippets::{Snippet, Snippets};
 use crate::syllable::{Position, Syllable};
+use gabc_notes::{ItemKind, first_note_or_clef};
 use gabc_places::Span;
 use gabc_text::{TextPart, TextView};
 use std::alloc::{AllocError, Global};
@@ -30,6 +31,8 @@ impl Model for Slot {
 
 impl Slot {
     ghost use Rattle.std.specs.Prelude.{◌≡◌, ◌+◌, ◌<◌, ◌^◌, nat_lt, length, [], ◌∷◌, IfOk, string_bytes};
+    ghost use Rattle.gabc_notes.specs.FirstNoteOrClef.{first_note_or_clef};
+    ghost use Rattle.gabc_notes.specs.Items.{items_of};
     ghost use Rattle.gabc_text.specs.BuiltText.{with_part};
     ghost use Rattle.gabc_score.specs.Body.{empty_snippet};
     ghost use Rattle.gabc_score.specs.Syllable.{slice, text_at, placed_of, unplaced_of};
@@ -179,11 +182,16 @@ impl Slot {
         self.from < self.syllable.kept.len()
     }
 
-    /// The text of a span of the kept text.
-    pub(crate) fn text_at(&self, span: Span) -> &str
-        ensures { result.now ≡ text_at span self.now.reading.kept }
+    /// Returns which comes first in the snippet of this span, a note or a clef.
+    #[inline(never)]
+    pub(crate) fn first_kind_in(&self, span: Span) -> Option<ItemKind>
+        ensures { result
+            ≡ first_note_or_clef (items_of (text_at span self.now.reading.kept)) }
     {
-        self.syllable.text_at(span)
+        if span.to <= span.from {
+            return None;
+        }
+        first_note_or_clef(self.syllable.text_at(span))
     }
 
     /// Returns the syllable.

@@ -8,7 +8,7 @@ use crate::canonical::canonical_len;
 use crate::slot::Slot;
 use crate::syllable::Syllable;
 use crate::syllables::position_by;
-use gabc_notes::{ItemKind, NoteEnd, NoteEvent, first_note_or_clef};
+use gabc_notes::{ItemKind, NoteEnd, NoteEvent};
 use gabc_places::{Code, Fault, Limits, Place, Span};
 use gabc_text::{Piece, PieceKind, TextEnd, TextEvent, TextPart, TextView};
 use std::alloc::{AllocError, Global};
@@ -283,11 +283,8 @@ impl SlotPair {
           gathered = record g { first_kind = first_past g.first_kind line span g.builder.kept };
         } }
     {
-        if span.to <= span.from {
-            return;
-        }
         if self.awaits_on(line) {
-            self.first_kind = first_note_or_clef(self.reader.text_at(span));
+            self.first_kind = self.reader.first_kind_in(span);
         }
     }
 
