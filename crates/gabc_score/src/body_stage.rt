@@ -341,8 +341,8 @@ impl BodyStage {
         true
     }
 
-    /// Takes `x`, a `|`, as `take_quietly` does: a snippet that ends with nothing more to emit, before the next one. In GABC it takes none
-    /// until a note or a clef has come.
+    /// Takes `x`, a `|`, as `take_quietly` does: a snippet that ends with nothing more to emit, before the next one. It takes none that
+    /// ends a snippet of GABC which may bring the first note or clef.
     #[inline(never)]
     fn next_quietly(&mut self, x: Char, pair: &mut SlotPair) -> bool
         requires reads { pair.old.used ≡ SlotUse.Filling }

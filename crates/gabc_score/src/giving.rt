@@ -1,6 +1,6 @@
 //! What a stage over a score gives at a point.
 
-ghost use Rattle.std.specs.Prelude.{◌≡◌, ◌≢◌, ◌+◌, ◌-◌, ◌≤◌, ◌||◌, nat_lt, [], ◌∷◌, ◌++◌, map, take, length, cond, false};
+ghost use Rattle.std.specs.Prelude.{◌≡◌, ◌≢◌, ◌+◌, ◌-◌, ◌≤◌, ◌||◌, nat_lt, [], ◌∷◌, ◌++◌, map, take, length, cond, false, None};
 ghost use Rattle.gabc_places.specs.BoundedList.{Fits, extended_by};
 ghost use Rattle.gabc_score.specs.NoteBeforeClef.{found_first};
 ghost use Rattle.gabc_score.specs.ScoreEvents.{outputs_of, Stop, End};
@@ -15,6 +15,7 @@ use gabc_notes::ItemKind;
 use gabc_places::{Code, Fault, Finding, Place, Room};
 
 /// Finds a note before any clef at `place`: which of the two came first in GABC was not known before, and is a note now.
+#[inline(always)]
 pub(crate) fn find_first(
     was: Option<ItemKind>,
     now: Option<ItemKind>,
@@ -24,9 +25,17 @@ pub(crate) fn find_first(
     requires { Fits found.old 1 }
     ensures { found.new ≡ extended_by found.old (found_first was now place) }
 {
-    if was.is_some() {
-        return;
+    if was.is_none() {
+        find_note(now, place, found);
     }
+}
+
+/// Finds a note before any clef at `place`, where what came first in GABC is a note.
+#[inline(never)]
+fn find_note(now: Option<ItemKind>, place: Place, found: &mut Room<Finding>)
+    requires { Fits found.old 1 }
+    ensures { found.new ≡ extended_by found.old (found_first None now place) }
+{
     if let Some(ItemKind::Note) = now {
         found.push(Finding {
             place,

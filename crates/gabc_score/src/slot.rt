@@ -3,6 +3,7 @@
 use crate::slice::slice_of;
 use crate::snippets::{Snippet, Snippets};
 use crate::syllable::{Position, Syllable};
+use gabc_notes::{ItemKind, first_note_or_clef};
 use gabc_places::Span;
 use gabc_text::{TextPart, TextView};
 use std::alloc::{AllocError, Global};
@@ -29,7 +30,9 @@ impl Model for Slot {
 }
 
 impl Slot {
-    ghost use Rattle.std.specs.Prelude.{◌≡◌, ◌+◌, ◌<◌, ◌^◌, [], ◌∷◌, IfOk, string_bytes};
+    ghost use Rattle.std.specs.Prelude.{◌≡◌, ◌+◌, ◌<◌, ◌^◌, nat_lt, length, [], ◌∷◌, IfOk, string_bytes};
+    ghost use Rattle.gabc_notes.specs.FirstNoteOrClef.{first_note_or_clef};
+    ghost use Rattle.gabc_notes.specs.Items.{items_of};
     ghost use Rattle.gabc_text.specs.BuiltText.{with_part};
     ghost use Rattle.gabc_score.specs.Body.{empty_snippet};
     ghost use Rattle.gabc_score.specs.Syllable.{slice, text_at, placed_of, unplaced_of};
@@ -123,9 +126,7 @@ impl Slot {
             from: self.from,
             to: self.syllable.kept.len(),
         };
-        self.syllable
-            .snippets
-            .push_reserved(Snippet { line, span });
+        self.syllable.snippets.push_reserved(Snippet { line, span });
         self.mark(mark);
         span
     }
@@ -166,11 +167,24 @@ impl Slot {
         slice_of(self.syllable.kept.as_str(), span)
     }
 
-    /// The text of a span of the kept text.
-    pub(crate) fn text_at(&self, span: Span) -> &str
-        ensures { result.now ≡ text_at span self.now.reading.kept }
+    /// Returns whether anything is kept of the part that is being read.
+    #[inline(always)]
+    pub(crate) fn has_part(&self) -> bool
+        ensures { result ≡ nat_lt self.now.reading.from (length self.now.reading.kept) }
     {
-        self.syllable.text_at(span)
+        self.from < self.syllable.kept.len()
+    }
+
+    /// Returns which comes first in the snippet of this span, a note or a clef.
+    #[inline(never)]
+    pub(crate) fn first_kind_in(&self, span: Span) -> Option<ItemKind>
+        ensures { result
+            ≡ first_note_or_clef (items_of (text_at span self.now.reading.kept)) }
+    {
+        if span.to <= span.from {
+            return None;
+        }
+        first_note_or_clef(self.syllable.text_at(span))
     }
 
     /// Returns the syllable.

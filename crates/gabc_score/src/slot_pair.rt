@@ -8,7 +8,7 @@ use crate::canonical::canonical_len;
 use crate::slot::Slot;
 use crate::syllable::Syllable;
 use crate::syllables::position_by;
-use gabc_notes::{ItemKind, NoteEnd, NoteEvent, first_note_or_clef};
+use gabc_notes::{ItemKind, NoteEnd, NoteEvent};
 use gabc_places::{Code, Fault, Limits, Place, Span};
 use gabc_text::{Piece, PieceKind, TextEnd, TextEvent, TextPart, TextView};
 use std::alloc::{AllocError, Global};
@@ -94,7 +94,7 @@ impl SlotPair {
     ghost use Rattle.gabc_score.specs.Body.{has_text, is_none};
     ghost use Rattle.gabc_score.specs.Syllable.{placed_of};
     ghost use Rattle.gabc_score.specs.machine.BodyBuilder.{code_in, end_fault};
-    ghost use Rattle.gabc_score.specs.machine.Gatherer.{nothing_gathered, with_mark, with_mark_of, with_view_part, with_text_end, with_text, with_syllable, with_note_end, with_note, with_last, awaits, first_past};
+    ghost use Rattle.gabc_score.specs.machine.Gatherer.{nothing_gathered, with_mark, with_mark_of, with_view_part, with_text_end, with_text, with_syllable, with_note_end, with_note, with_last, awaits, awaits_in, first_past};
     ghost use Rattle.gabc_score.specs.machine.ScoreStage.{placed_behind, with_held};
     ghost use Rattle.gabc_score.specs.machine.Slot.{FitsText, FitsNote, FitsKept, FitsPiece, FitsSnippet};
     ghost use Rattle.gabc_score.specs.machine.SlotPair.{is_made, used_past, lent_syllables};
@@ -250,14 +250,25 @@ impl SlotPair {
         }
     }
 
-    /// Returns whether neither a note nor a clef has come in GABC, where `line` is a line of GABC.
+    /// Returns whether neither a note nor a clef has come in GABC, and the snippet that is being read may bring one: `line` is a line of
+    /// GABC, and something is kept.
     pub(crate) fn awaits(&self, line: u8) -> bool
+        requires { self.now.used ≡ SlotUse.Filling }
+        ensures { result ≡ awaits_in self.now.gathered.first_kind line self.now.gathered.builder }
+    {
+        self.awaits_on(line) && self.reader.has_part()
+    }
+
+    /// Returns whether neither a note nor a clef has come in GABC, where `line` is a line of GABC.
+    #[inline(always)]
+    fn awaits_on(&self, line: u8) -> bool
         ensures { result ≡ awaits self.now.gathered.first_kind line }
     {
         line == 0 && self.first_kind.is_none()
     }
 
     /// Returns which came first in the GABC snippets that have ended, a note or a clef.
+    #[inline(always)]
     pub(crate) fn first_kind(&self) -> Option<ItemKind>
         ensures { result ≡ self.now.gathered.first_kind }
     {
@@ -265,14 +276,15 @@ impl SlotPair {
     }
 
     /// Finds the first note or clef in the snippet of `line` that has ended, which has this span, where neither came before.
+    #[inline(always)]
     fn add_first_kind(&mut self, line: u8, span: Span)
         requires { self.old.used ≡ SlotUse.Filling }
         ensures { let g = self.old.gathered in self.new ≡ record self.old {
           gathered = record g { first_kind = first_past g.first_kind line span g.builder.kept };
         } }
     {
-        if self.awaits(line) {
-            self.first_kind = first_note_or_clef(self.reader.text_at(span));
+        if self.awaits_on(line) {
+            self.first_kind = self.reader.first_kind_in(span);
         }
     }
 

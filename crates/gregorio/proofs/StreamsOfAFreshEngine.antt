@@ -18,7 +18,7 @@ use Rattle.gabc_headers.specs.Book.{nabc_lines_of, macros_of}
 use Rattle.gabc_headers.specs.Lines.{bytes_len}
 use Rattle.gabc_places.specs.Place.{place_after, placed_characters_behind}
 use Rattle.gabc_places.specs.declared.place.Char.{Char}
-use Rattle.gabc_score.specs.Events.{body_events}
+use Rattle.gabc_score.specs.NoteBeforeClef.{score_events}
 use Rattle.gabc_score.specs.Score.{score_by, head_fault_by, behind_heads, heads_text as heads_text_of}
 use Rattle.gabc_score.specs.Body.{body_of, events_to_stop, result_by}
 use Rattle.gabc_score.specs.declared.events.BodyEvent.{BodyEvent}
@@ -115,7 +115,7 @@ stops_at limits score_ending.Whole t r = tt
 stops_at limits score_ending.Broken t r = tt
 stops_at limits (score_ending.At fault) t (Ok heads) =
     let xs = placed_characters_behind (heads_text_of t) (behind_heads t) in
-    body_stops limits (bytes_len (canonical_heads heads.book)) heads.findings (place_after t) fault xs (body_events (nabc_lines_of heads.book) (macros_of heads.book) xs)
+    body_stops limits (bytes_len (canonical_heads heads.book)) heads.findings (place_after t) fault xs (score_events (nabc_lines_of heads.book) (macros_of heads.book) xs)
 stops_at limits (score_ending.At fault) t (Err stop) = by stop.at_end
   where
     by : (at_end : Bool) → StopsAt (score_ending.At fault) (head_fault_by (score_ending.At fault) at_end stop.fault)

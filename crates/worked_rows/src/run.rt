@@ -150,7 +150,7 @@ fn stops_at(alloc: Global, ends: Ends, out: &[u8], messages: &str) -> Result<boo
         messages,
         status: Status::WriteFault,
     };
-    runs(alloc, true, b"%%\nKy(f)ri(g)", ends, wanted)
+    runs(alloc, true, b"%%\nKy(,)ri(;)", ends, wanted)
 }
 
 /// The only message of a run on two syllables without headers.
@@ -158,7 +158,7 @@ const NO_NAME: &str = "<stdin>:1:1: warning: W1: no name header\n";
 
 #[test]
 fn stops_where_writes_of_output_fail(rt: HostRuntime) -> Result<(), AllocError> {
-    let output = b"%%\nKy(f)ri(g)\n";
+    let output = b"%%\nKy(,)ri(;)\n";
     for holds in 0..output.len() {
         let ends = Ends {
             fails_after: None,

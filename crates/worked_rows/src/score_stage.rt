@@ -109,14 +109,14 @@ fn is_written(
 #[test]
 fn gives_a_syllable_with_the_next(rt: HostRuntime) -> Result<(), AllocError> {
     let wanted =
-        "|||||||||2:1: error: E1: character left out of the notes\n|First \" a(f)\" Beginning\n||2:2: warning: W9: text without notes at the end\nFirst \"b()\" Middle\nSecond \"c\" End\nend\n";
+        "||||||2:1: warning: W12: note before any clef\n|||2:1: error: E1: character left out of the notes\n|First \" a(f)\" Beginning\n||2:2: warning: W9: text without notes at the end\nFirst \"b()\" Middle\nSecond \"c\" End\nend\n";
     assert!(rt; is_written(rt.alloc(), "\na(f)b(Q)c", Some(HeadEvent::End), wanted)?);
     Ok(())
 }
 
 #[test]
 fn gives_the_held_syllable_where_the_source_fails(rt: HostRuntime) -> Result<(), AllocError> {
-    let wanted = "|||||||First \" a(f)\" One\n";
+    let wanted = "||||||2:1: warning: W12: note before any clef\n|First \" a(f)\" One\n";
     assert!(rt; is_written(rt.alloc(), "\na(f)b", None, wanted)?);
     Ok(())
 }

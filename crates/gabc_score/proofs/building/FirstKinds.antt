@@ -3,12 +3,15 @@ use Rattle.std.proofs.Common.{◌≡◌, ℕ, zero, suc, ◌+◌, ◌-◌, ◌�
 use Rattle.std.specs.Prelude.{is_some}
 use Rattle.std.specs.List.{flat_map}
 use Rattle.std.proofs.lemmas.Grind.{flat_map-append}
+use Rattle.std.proofs.lemmas.Str.{chars-encodes}
 use Rattle.std.proofs.Math.Seq.{take-append_seam}
 use Rattle.gabc_places.specs.declared.place.Span.{Span}
 use Rattle.gabc_text.specs.declared.text_event.TextEnd.TheVariants as text_end
 use Rattle.gabc_text.specs.declared.text_event.TextEvent.TheVariants as text
 use Rattle.gabc_notes.specs.FirstNoteOrClef.{is_note_or_clef, first_note_or_clef}
-use Rattle.gabc_notes.specs.Items.{items_of}
+use Rattle.gabc_notes.specs.Items.{placed_items, items_of}
+use Rattle.gabc_notes.specs.Table.{gabc}
+use Rattle.gabc_patterns.specs.Function.{items}
 use Rattle.gabc_notes.specs.declared.item.Item.{Item}
 use Rattle.gabc_notes.specs.declared.item.ItemKind.{ItemKind}
 use Rattle.gabc_notes.specs.declared.stage.NoteEnd.TheVariants as note_end
@@ -126,3 +129,29 @@ first_more snippets ended part mark line n h k = by (line == 0) (first_in snippe
         ap (λ t. first_note_or_clef (items_of t)) (snippet_text ended (prefix_of n part) mark (prefix_seam n part h) k)
         ∙ sym (first_push snippets (prefix_of n part) ∙ ap (λ g. or_then g (first_note_or_clef (items_of (prefix_of n part)))) e)
     by false f e = sym e
+
+-- ---- an empty snippet
+
+empty_slice : (span : Span) (kept : List ℕ) → span.to ≤ span.from → slice span kept ≡ []
+unfolding slice
+empty_slice span kept l = ap (λ n. take n (drop span.from kept)) (let none : span.to - span.from ≡ 0 = omega (arith, l) in none)
+
+no_items : first_note_or_clef (items_of []) ≡ None
+no_items = ap (λ (t : List ℕ). first_note_or_clef (placed_items 0 (items gabc t))) (chars-encodes [] refl)
+
+none_in : (b : Bool) (t : List ℕ) → t ≡ [] → first_note_or_clef (items_of (cond b t [])) ≡ None
+none_in true t e = ap (λ (k : List ℕ). first_note_or_clef (items_of k)) e ∙ no_items
+none_in false t e = no_items
+
+-- it has neither a note nor a clef
+pub none_in_empty : (span : Span) (kept : List ℕ) → span.to ≤ span.from → first_note_or_clef (items_of (text_at span kept)) ≡ None
+none_in_empty span kept l = none_in _ (slice span kept) (empty_slice span kept l)
+
+-- so it brings none
+pub empty_first : (first : Option ItemKind) (line : ℕ) (span : Span) (kept : List ℕ) → span.to ≤ span.from → first_past first line span kept ≡ first
+empty_first first line span kept l = by (line == 0) first (none_in_empty span kept l)
+  where
+    by : (b : Bool) (f : Option ItemKind) → first_note_or_clef (items_of (text_at span kept)) ≡ None → cond (b && not (is_some f)) (first_note_or_clef (items_of (text_at span kept))) f ≡ f
+    by true None e = e
+    by true (Some kind) e = refl
+    by false f e = refl

@@ -1,5 +1,6 @@
 -- The `(` of the notes, a character of a snippet and the `|` behind it are taken quietly.
-use Rattle.std.proofs.Common.{◌≡◌, ℕ, ◌+◌, ◌<◌, ◌≤◌, List, [], ◌∷◌, ◌++◌, length, encode_utf8, Bool, true, false, cond, Option, refl, sym, ap, subst, ◌∙◌, arith, length-append}
+use Rattle.std.proofs.Common.{◌≡◌, ℕ, ◌+◌, ◌<◌, ◌≤◌, List, [], ◌∷◌, ◌++◌, length, encode_utf8, ◌&&◌, nat_lt, Bool, true, false, cond, Option, refl, sym, ap, subst, ◌∙◌, arith, length-append}
+use Rattle.std.proofs.lemmas.Bool.Decides.{nat_tests}
 use Rattle.std.proofs.lemmas.Str.{length-encode, len_utf8_ascii}
 use Rattle.gabc_places.specs.declared.place.Char.{Char}
 use Rattle.gabc_places.specs.declared.place.Place.{Place}
@@ -26,11 +27,12 @@ use Rattle.gabc_score.specs.Events.{InText, InNotes, events_from, next_line, sni
 use Rattle.gabc_score.specs.ScoreEvents.{findings_now}
 use Rattle.gabc_score.specs.Syllable.{prefix_of, text_at}
 use Rattle.gabc_score.specs.machine.BodyBuilder.{with_all}
-use Rattle.gabc_score.specs.machine.Gatherer.{Gathered, awaits, first_past, span_of}
-use Rattle.gabc_score.specs.machine.SyllableBuilder.{past_snippet}
+use Rattle.gabc_score.specs.machine.Gatherer.{Gathered, awaits, awaits_in, first_past, span_of}
+use Rattle.gabc_score.specs.machine.SyllableBuilder.{OpenSyllable, past_snippet}
 use Rattle.gabc_score.specs.machine.PartCounts.{CountsInNotes, CountsHold}
 use Rattle.gabc_score.specs.machine.Quiet.{TakesQuietly}
 use Rattle.gabc_score.specs.machine.SlotPair.{SlotPairState}
+use Rattle.gabc_score.proofs.building.FirstKinds.{empty_first}
 use Rattle.gabc_score.proofs.building.CountsOfParts.{text_ends, prefix_between, notes_go}
 
 -- a printable character adds one byte
@@ -42,6 +44,16 @@ one_byte kept c h =
 -- where none is awaited, the first note or clef stays
 stays_first : (first : Option ItemKind) (line : ℕ) (span : Span) (kept : List ℕ) → awaits first line ≡ false → first_past first line span kept ≡ first
 stays_first first line span kept e = ap (λ b. cond b (first_note_or_clef (items_of (text_at span kept))) first) e
+
+-- so it does where the snippet may bring none
+quiet_first : (first : Option ItemKind) (line : ℕ) (o : OpenSyllable) (span : Span) (kept : List ℕ) → span.from ≡ o.from → span.to ≤ length o.kept → awaits_in first line o ≡ false
+    → first_past first line span kept ≡ first
+quiet_first first line o span kept from to none = by (awaits first line) (nat_lt o.from (length o.kept)) refl refl none
+  where
+    by : (a b : Bool) → awaits first line ≡ a → nat_lt o.from (length o.kept) ≡ b → (a && b) ≡ false → first_past first line span kept ≡ first
+    by false b e f n = stays_first first line span kept e
+    by true true e f n = absurd (cc)
+    by true false e f n = empty_first first line span kept (grind (arith, nat_tests, f, from, to))
 
 -- What was gathered, where events of a body find nothing, make no syllable and bring no first note or clef: one byte more is kept at most.
 pub record OnlyKeeps (g h : Gathered) (es : List BodyEvent) : Type 0 where
@@ -111,7 +123,7 @@ module _ (before after : BodyStageState) (x : Char) (pair next : SlotPairState) 
       → ((xs : List Char) → part_with after.part xs ≡ snippet_from before.nabc_lines before.macros (next_line before.nabc_lines line) opened xs)
       → next.gathered ≡ with_all pair.gathered (event.Notes line (note.Ended note_end.Next count) ∷ [])
       → ((o : _) → CountsHold before.part o → CountsInNotes o) → ((o : _) → CountsInNotes o → CountsHold after.part o)
-      → CountsHold before.part pair.gathered.builder → awaits pair.gathered.first_kind line ≡ false → TakesQuietly before x pair after next
+      → CountsHold before.part pair.gathered.builder → awaits_in pair.gathered.first_kind line pair.gathered.builder ≡ false → TakesQuietly before x pair after next
   next_quiet line opened count from to is mark takes snippet gathered out into counts none =
       let open_now = pair.gathered.builder in
       let cut : length (prefix_of (open_now.from + count) open_now.kept) ≤ length open_now.kept = (prefix_between open_now.from count open_now.kept (out open_now counts).1).1 in
@@ -120,5 +132,5 @@ module _ (before after : BodyStageState) (x : Char) (pair next : SlotPairState) 
       (λ xs. rw (is (x ∷ xs), lines, macros)
       (ap (λ lists. events_from texts_by_stage before.nabc_lines before.macros (InNotes line opened lists) (x ∷ xs)) (takes.law x xs mark)
       ∙ ap (λ p. (event.Notes line (note.Ended note_end.Next count) ∷ []) ∷ events_from texts_by_stage before.nabc_lines before.macros p xs) (sym (snippet xs))))
-      (record { silent = refl; made = refl; over = refl; total = refl; limit = refl; cut = refl; first_kind = stays_first pair.gathered.first_kind line (span_of open_now line count) (past_snippet open_now line count 124).kept none; kept = omega (arith, cut, marked) }) gathered
+      (record { silent = refl; made = refl; over = refl; total = refl; limit = refl; cut = refl; first_kind = quiet_first pair.gathered.first_kind line open_now (span_of open_now line count) (past_snippet open_now line count 124).kept refl cut none; kept = omega (arith, cut, marked) }) gathered
       ((notes_go line opened before.part (note.Ended note_end.Next count ∷ []) (omega arith) out after.part into).counts pair.gathered counts)

@@ -70,6 +70,10 @@ with_text g (text.Ended end) = with_text_end g end
 abbrev pub awaits : Option ItemKind → ℕ → Bool
 awaits first line = (line == 0) && not (is_some first)
 
+-- and the part that is read keeps something
+abbrev pub awaits_in : Option ItemKind → ℕ → OpenSyllable → Bool
+awaits_in first line o = awaits first line && nat_lt o.from (length o.kept)
+
 -- which came first, with the snippet of that line and span
 abbrev pub first_past : Option ItemKind → ℕ → Span → List ℕ → Option ItemKind
 first_past first line span kept = cond (awaits first line) (first_note_or_clef (items_of (text_at span kept))) first
