@@ -25,7 +25,10 @@ pub(crate) fn find_first(
     requires { Fits found.old 1 }
     ensures { found.new ≡ extended_by found.old (found_first was now place) }
 {
-    if was.is_none() {
+    if was.is_some() {
+        return;
+    }
+    if now.is_some() {
         find_note(now, place, found);
     }
 }

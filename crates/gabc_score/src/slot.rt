@@ -176,7 +176,7 @@ impl Slot {
     }
 
     /// Returns which comes first in the snippet of this span, a note or a clef.
-    #[inline(never)]
+    #[inline(always)]
     pub(crate) fn first_kind_in(&self, span: Span) -> Option<ItemKind>
         ensures { result
             ≡ first_note_or_clef (items_of (text_at span self.now.reading.kept)) }
@@ -184,6 +184,15 @@ impl Slot {
         if span.to <= span.from {
             return None;
         }
+        self.first_kind_read(span)
+    }
+
+    /// Returns which comes first in the snippet of this span, by reading its items.
+    #[inline(never)]
+    fn first_kind_read(&self, span: Span) -> Option<ItemKind>
+        ensures { result
+            ≡ first_note_or_clef (items_of (text_at span self.now.reading.kept)) }
+    {
         first_note_or_clef(self.syllable.text_at(span))
     }
 
