@@ -1,15 +1,15 @@
 //! The score: syllables with their positions, what was found, and what stopped the reading.
 //!
 //! ```
-//! let text = Text::from_str(alloc, "name:;\n%%\nKy(f)ri(gfg)e(x.)")?;
+//! let text = Text::from_str(alloc, "name:;\n%%\n(c4) Ky(f)ri(gfg)e(x.)")?;
 //! let score = score_whole(alloc, &text, InputEnding::Whole, Limits::DEFAULT)?;
 //! for syllable in &score.syllables {
 //!     for snippet in &syllable.snippets {
-//!         let notes = syllable.slice(snippet.span); // "f", "gfg", ""
+//!         let notes = syllable.slice(snippet.span); // "c4", "f", "gfg", ""
 //!     }
 //! }
 //! for finding in &score.findings {
-//!     let message = format!(in alloc; "{finding}")?; // E1 at 3:15 and at 3:16: "3:15: error: E1: character left out of the notes"
+//!     let message = format!(in alloc; "{finding}")?; // E1 at 3:20 and at 3:21: "3:20: error: E1: character left out of the notes"
 //! }
 //! ```
 #![tactic(auto)]

@@ -240,9 +240,9 @@ fn has_lines(alloc: Global, findings: &Findings, wanted: &str) -> Result<bool, A
 fn reads_a_score(rt: HostRuntime) -> Result<(), AllocError> {
     let alloc = rt.alloc();
     let wanted =
-        "3:15: error: E1: character left out of the notes\n3:16: error: E1: character left out of the notes\n";
-    let score = score_of(alloc, "name:;\n%%\nKy(f)ri(gfg)e(x.)")?;
-    let notes = has_notes(alloc, &score, b"f,gfg,,");
+        "3:20: error: E1: character left out of the notes\n3:21: error: E1: character left out of the notes\n";
+    let score = score_of(alloc, "name:;\n%%\n(c4) Ky(f)ri(gfg)e(x.)")?;
+    let notes = has_notes(alloc, &score, b"c4,f,gfg,,");
     let lines = has_lines(alloc, &score.findings, wanted);
     drop(score);
     assert!(rt; notes? && lines?);
