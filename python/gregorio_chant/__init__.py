@@ -1,16 +1,17 @@
 """Reads Gregorian chant in GABC, with unheighted neumes in NABC, by a proved compiler.
 
 >>> from gregorio_chant import compile
->>> result = compile("name: Kyrie;\\n%%\\nKy(f)ri(/./)")
+>>> result = compile("name: Kyrie;\\n%%\\n(c4) Ky(f)ri(/./)")
 >>> print(result.canonical, end="")
 name: Kyrie;
 %%
+(c4)
 Ky(f)ri(//)
 >>> result.status
 <Status.ERRORS: 1>
 >>> for message in result:
 ...     print(message.line, message.column, message.code, message.text)
-3 10 E1 character left out of the notes
+3 15 E1 character left out of the notes
 """
 from __future__ import annotations
 
