@@ -170,8 +170,20 @@ fn split_debilis(text: &[u8]) -> (bool, &[u8])
     }
 }
 
-/// Returns the height and the shape of `text`, which begins with its pitch.
+/// Returns the height and the shape of `text`, which begins with its pitch. Most notes are one small pitch, so these are found first.
 fn height_and_shape(text: &[u8]) -> (u8, Shape)
+    ensures height { result.0 ≡ height_at text.now }
+    ensures shape { result.1 ≡ shape_at text.now }
+{
+    match text {
+        [pitch @ b'a'..=b'n'] => (*pitch - b'a', Shape::Punctum),
+        _ => height_and_shape_read(text),
+    }
+}
+
+/// Returns the height and the shape of `text`, as `height_and_shape` does, by reading it. It stays out of line.
+#[inline(never)]
+fn height_and_shape_read(text: &[u8]) -> (u8, Shape)
     ensures height { result.0 ≡ height_at text.now }
     ensures shape { result.1 ≡ shape_at text.now }
 {

@@ -1,6 +1,6 @@
 //! The line of one item of a snippet in the dump.
 
-ghost use Rattle.std.specs.Prelude.{◌≡◌, ◌≤◌, ◌<◌, ◌++◌, codes, length, false};
+ghost use Rattle.std.specs.Prelude.{◌≡◌, ◌≤◌, ◌<◌, ◌++◌, [], ◌∷◌, codes, length, false};
 ghost use Rattle.gabc_neumes.specs.InForce.{InForce};
 ghost use Rattle.gabc_neumes.specs.Words.{shape_word};
 ghost use Rattle.gabc_notes.specs.Notes.{from_pitch, height_at, shape_at};
@@ -83,55 +83,46 @@ fn letter_of_note(text: &[u8]) -> u8
     }
 }
 
-/// Returns the name of `degree`, or `-` where there is none.
-fn name_of_degree(degree: Option<u8>) -> &'static str
-    ensures { result.now ≡ degree_word degree }
+/// Puts the name of `degree`, or `-` where there is none, with a blank before it and one behind it.
+fn put_degree<S: Put>(degree: Option<u8>, out: &mut S)
+    ensures { out.new ≡ S.taken out.old (codes " " ++ (degree_word degree ++ codes " ")) }
 {
     match degree {
-        None => "-",
-        Some(0) => "ut",
-        Some(1) => "re",
-        Some(2) => "mi",
-        Some(3) => "fa",
-        Some(4) => "sol",
-        Some(5) => "la",
-        Some(_) => "si",
+        None => out.put(b" - "),
+        Some(0) => out.put(b" ut "),
+        Some(1) => out.put(b" re "),
+        Some(2) => out.put(b" mi "),
+        Some(3) => out.put(b" fa "),
+        Some(4) => out.put(b" sol "),
+        Some(5) => out.put(b" la "),
+        Some(_) => out.put(b" si "),
     }
 }
 
-/// Returns how a note of that degree sounds that nothing alters, as `put_sound` puts it.
-fn words_of_unaltered(degree: Option<u8>) -> &'static str
-    ensures { result.now ≡ sound_words (record { degree = degree; alter = Alter.None }) }
-{
-    match degree {
-        None => " - none",
-        Some(0) => " ut none",
-        Some(1) => " re none",
-        Some(2) => " mi none",
-        Some(3) => " fa none",
-        Some(4) => " sol none",
-        Some(5) => " la none",
-        Some(_) => " si none",
-    }
-}
-
-/// Puts how a note sounds, with a blank before each word: ` DEGREE ALTER`. Most notes are not altered, so these words are put at once.
+/// Puts how a note sounds, with a blank before each word: ` DEGREE ALTER`.
 fn put_sound<S: Put>(sound: Sound, out: &mut S)
     ensures { out.new ≡ S.taken out.old (sound_words sound) }
 {
-    match sound.alter {
-        Alter::None => out.put(words_of_unaltered(sound.degree).as_bytes()),
-        _ => {
-            out.put(b" ");
-            out.put(name_of_degree(sound.degree).as_bytes());
-            out.put(b" ");
-            out.put(word_of_alter(sound.alter).as_bytes());
-        }
-    }
+    put_degree(sound.degree, out);
+    out.put(word_of_alter(sound.alter).as_bytes());
 }
 
-/// Puts the line of a note of that shape, sound and text: `note PITCH SHAPE DEGREE ALTER S`.
-fn put_note<S: Put>(shape: Shape, sound: Sound, text: &[u8], out: &mut S)
+/// Puts the line of a note that is `pitch`, a small pitch from `a` to `n`, of that degree, and that nothing alters.
+fn put_pitch<S: Put>(pitch: u8, degree: Option<u8>, out: &mut S)
+    requires { (97 ≤ pitch) × (pitch ≤ 110) }
+    ensures { out.new ≡ S.taken out.old
+        (line_of_note (record { degree = degree; alter = Alter.None }) (pitch ∷ [])) }
+{
+    out.put(&[
+        b'n', b'o', b't', b'e', b' ', pitch, b' ', b'p', b'u', b'n', b'c', b't', b'u', b'm',
+    ]);
+    put_degree(degree, out);
+    out.put(&[b'n', b'o', b'n', b'e', b' ', pitch, b'\n']);
+}
+
+/// Puts the line of a note, as `put_note` does, word by word. It stays out of line.
+#[inline(never)]
+fn put_note_by_words<S: Put>(shape: Shape, sound: Sound, text: &[u8], out: &mut S)
     requires { shape ≡ shape_at (from_pitch text.now) }
     ensures { out.new ≡ S.taken out.old (line_of_note sound text.now) }
 {
@@ -139,6 +130,18 @@ fn put_note<S: Put>(shape: Shape, sound: Sound, text: &[u8], out: &mut S)
     put_shape(shape, out);
     put_sound(sound, out);
     put_blank_and_last(text, out);
+}
+
+/// Puts the line of a note of that shape, sound and text: `note PITCH SHAPE DEGREE ALTER S`. Most notes are one small pitch that nothing
+/// alters, so their lines are put in few pieces.
+fn put_note<S: Put>(shape: Shape, sound: Sound, text: &[u8], out: &mut S)
+    requires { shape ≡ shape_at (from_pitch text.now) }
+    ensures { out.new ≡ S.taken out.old (line_of_note sound text.now) }
+{
+    match (text, sound.alter) {
+        ([pitch @ b'a'..=b'n'], Alter::None) => put_pitch(*pitch, sound.degree, out),
+        _ => put_note_by_words(shape, sound, text, out),
+    }
 }
 
 /// Puts the line of an alteration: `alteration PITCH flat|natural|sharp S`.
