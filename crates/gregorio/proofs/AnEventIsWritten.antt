@@ -1,126 +1,197 @@
--- A writer of scores writes an event of the body and the end of what comes, by what its stage gave.
-use Rattle.std.proofs.Common.{◌≡◌, ℕ, ◌+◌, ◌*◌, ◌≤◌, List, [], ◌∷◌, false, length, refl, sym, ap, ◌∙◌, subst, arith}
+-- A writer of scores writes an event and the end of what comes, by what its stage gave.
+use Rattle.std.proofs.Common.{◌≡◌, ℕ, ◌+◌, ◌*◌, ◌≤◌, List, [], ◌∷◌, ◌++◌, drop, false, Some, IsSome, length, refl, sym, ap, ◌∙◌, subst, append-nil, arith}
 use Rattle.std.proofs.Math.Nat.{mul-le-mul_right}
 use Rattle.gabc_places.specs.BoundedList.{BoundedList, Fits}
 use Rattle.gabc_places.specs.StageLaw.{concat_of, StopsAtEnd}
 use Rattle.gabc_places.specs.declared.limits.Limits.{Limits}
 use Rattle.gabc_headers.specs.declared.head_event.HeadEvent.{HeadEvent}
+use Rattle.gabc_headers.specs.declared.head_event.HeadEvent.TheVariants as head_event
 use Rattle.gabc_score.specs.declared.score_event.LentSyllable.TheVariants.{First}
 use Rattle.gabc_score.specs.declared.score_event.ScoreEvent.{ScoreEvent}
-use Rattle.gabc_score.specs.ScoreEvents.{ScoreOutput}
-use Rattle.gabc_score.specs.ScoreStage.{GivesAt, GivesLast, events_left, is_last_event}
+use Rattle.gabc_score.specs.ScoreEvents.{ScoreOutput, Found, Stop, Syllable, End}
+use Rattle.gabc_score.specs.ScoreStage.{GivesAt, GivesLast, GivesOutputs, events_left, events_of, is_last_event}
 use Rattle.gabc_score.specs.witness.ScoreStage.{ScoreStageState, left_of}
 use Rattle.gregorio_jobs.specs.declared.job.Status.{Status}
-use Rattle.gregorio_jobs.specs.declared.job.Status.TheVariants.{ReadFault}
-use Rattle.gregorio.specs.declared.run_part.RunPart.{RunPart}
-use Rattle.gregorio.specs.declared.run_part.RunPart.TheVariants as part
-use Rattle.gregorio.specs.machine.RunWriter.{HasRoomFor, IsInRoom, last_room, line_room, lines_room, syllable_room, texts_room, with_last}
-use Rattle.gregorio.specs.machine.ScoreWriter.{ScoreWriterState, FitsEvents, IsSteady, WritesAt, WritesLast, event_room, outputs_of_events, past_outputs, writer_at}
-use Rattle.gregorio.proofs.BodyIsWritten.{IsBehindHeads, break_is_written, end_is_written, ends_where_emitted, event_is_written, outs_are, stays_behind_heads}
-use Rattle.gregorio.proofs.OutputsOfEvents.{as_many_emitted, nothing_left}
-use Rattle.gregorio.proofs.RoomForAnEvent.{event_has_room, event_in_room, lines_within, room_behind, texts_are, texts_before_end}
-use Rattle.gregorio.proofs.WhatIsEmittedIsStillToBeWritten.{EndsAtLast}
+use Rattle.gregorio.specs.Streams.{Streams, behind_bytes}
+use Rattle.gregorio.specs.witness.Engine.{Written, behind_output, behind_outputs, ceased_status, ceased_text, first_list, is_before_heads, is_heads, lines_of_outputs, streams_from, streams_in, text_of_heads, texts_of_outputs, writes_heads}
+use Rattle.gregorio.specs.machine.RunWriter.{RunWriterState, HasRoomFor, IsInRoom, IsSteadyWriter, last_room, line_room, lines_room, past_end, past_outputs, syllable_room, texts_room, with_heads}
+use Rattle.gregorio.specs.machine.ScoreWriter.{ScoreWriterState, FitsEvents, IsSilent, WritesAt, WritesLast, event_room, outputs_of_events, streams_of}
+use Rattle.gregorio.proofs.OutputsOfEvents.{as_many_emitted, emitted_is, ends_at_last, nothing_left}
+use Rattle.gregorio.proofs.RoomForAnEvent.{event_has_room, event_in_room, lines_within, room_behind, texts_are}
+use Rattle.gregorio.proofs.StreamsOfOutputs.{EndsAtLast, headed_stays, heads_come_first, no_heads_at, second_empty}
+use Rattle.gregorio.proofs.pieces.BytesAreJoined.{behind_both, extended_by_both}
+
+-- ---- the outputs
+
+-- what a call emitted into an emptied room is the outputs that it gave
+outs_are : (outputs : List ScoreOutput) (r old new : BoundedList ScoreEvent) (events : List ScoreEvent) (s : ScoreStageState) → old ≡ record r { items = [] } → events ≡ new.items → GivesOutputs outputs old new s.first s.second
+    → outputs_of_events s events ≡ outputs
+outs_are outputs r old new events s empty is emitted =
+    ap (outputs_of_events s) (is ∙ (ap (λ (l : BoundedList ScoreEvent). l.items) emitted.events ∙ ap (λ (l : BoundedList ScoreEvent). l.items ++ events_of outputs) empty)) ∙ emitted_is s outputs emitted.lent
+
+-- behind a stop or the end the stage gives nothing
+ends_where_emitted : (outputs : List ScoreOutput) (old new : BoundedList ScoreEvent) (s : ScoreStageState) → GivesOutputs outputs old new s.first s.second
+    → StopsAtEnd is_last_event (events_left s) old new → EndsAtLast (IsSilent s) outputs
+ends_where_emitted outputs old new s emitted stops = ends_at_last (events_left s) old new stops (λ none xs. nothing_left s xs none) First [] outputs emitted.events
+
+-- where a run is over behind these, it was over before, or they end it
+over_by_last : (P : Type 0) (w : Written) (outputs : List ScoreOutput) → EndsAtLast P outputs → (IsSome w.ended → P) → IsSome (behind_outputs w outputs).ended → P
+over_by_last P w [] ends before over = before over
+over_by_last P w (Found f ∷ outputs) ends before over = over_by_last P (behind_output w (Found f)) outputs ends before over
+over_by_last P w (Stop fault ∷ outputs) ends before over = ends.1
+over_by_last P w (Syllable s ∷ outputs) ends before over = over_by_last P (behind_output w (Syllable s)) outputs ends before over
+over_by_last P w (End ∷ outputs) ends before over = ends.1
 
 -- ---- an event
 
-module _ (old : ScoreWriterState) (x : HeadEvent) (mid : ScoreStageState) (cleared filled : BoundedList ScoreEvent) (body : old.part ≡ part.Body) (empty : cleared.items ≡ [])
-    (step : GivesAt old.score x mid cleared filled) (stops : StopsAtEnd is_last_event (events_left mid) cleared filled) where
-  ends : (xs : List HeadEvent) → EndsAtLast (concat_of (left_of mid xs) ≡ []) step.outputs
-  ends xs = ends_where_emitted step.outputs cleared filled mid empty step.emitted stops (λ none. nothing_left mid xs none)
+-- A writer of this stage and these bytes shows `now`. Its stage emitted `events` into an emptied room.
+module _ (score mid : ScoreStageState) (writer : RunWriterState) (now : ScoreWriterState) (view : record { score = score; writer = writer } ≡ now) (x : HeadEvent)
+    (r cleared filled : BoundedList ScoreEvent) (empty : cleared ≡ record r { items = [] }) (events : List ScoreEvent) (are : events ≡ filled.items)
+    (step : GivesAt score x mid cleared filled) (stops : StopsAtEnd is_last_event (events_left mid) cleared filled) where
+  abbrev old : ScoreWriterState
+  old = record { score = score; writer = writer }
+
+  ends : EndsAtLast (IsSilent mid) step.outputs
+  ends = ends_where_emitted step.outputs cleared filled mid step.emitted stops
 
   few : length step.outputs ≤ 16
   few = omega (arith, step.emitted.few, as_many_emitted First step.outputs)
 
-  emitted : outputs_of_events mid filled.items ≡ step.outputs
-  emitted = outs_are step.outputs cleared filled mid empty step.emitted
+  emitted : outputs_of_events mid events ≡ step.outputs
+  emitted = outs_are step.outputs r cleared filled events mid empty are step.emitted
 
-  pub room_for_event : FitsEvents old (x ∷ []) → HasRoomFor mid.limits old.writer (outputs_of_events mid filled.items)
-  room_for_event h =
-      let room : HasRoomFor old.score.limits old.writer step.outputs = event_has_room (concat_of (left_of mid []) ≡ []) old x step.outputs h step.lends few (ends []) in
-      subst (λ (limits : Limits). HasRoomFor limits old.writer (outputs_of_events mid filled.items)) (sym step.limits)
-      (subst (λ (outputs : List ScoreOutput). HasRoomFor old.score.limits old.writer outputs) (sym emitted) room)
+  -- what holds of the outputs under the limits of the stage holds of the events
+  of_events : (P : Limits → List ScoreOutput → Type 0) → P score.limits step.outputs → P mid.limits (outputs_of_events mid events)
+  of_events P h = subst (λ (limits : Limits). P limits (outputs_of_events mid events)) (sym step.limits) (subst (P score.limits) (sym emitted) h)
 
-  module _ (new : ScoreWriterState) (writes : new ≡ past_outputs (writer_at mid old.part old.writer) (outputs_of_events mid filled.items)) where
-    new_is : new ≡ past_outputs (writer_at mid old.part old.writer) step.outputs
-    new_is = writes ∙ ap (past_outputs (writer_at mid old.part old.writer)) emitted
+  pub room_for_event : FitsEvents now (x ∷ []) → HasRoomFor mid.limits writer (outputs_of_events mid events)
+  room_for_event room =
+      of_events (λ limits outputs. HasRoomFor limits writer outputs)
+      (event_has_room (IsSilent mid) old x step.outputs (subst (λ (s : ScoreWriterState). FitsEvents s (x ∷ [])) (sym view) room) step.lends few ends)
 
-    pub event_writes : (read : List (List ℕ × List ℕ)) → WritesAt old x read new
-    event_writes read = subst (λ (s : ScoreWriterState). WritesAt old x read s) (sym new_is) (event_is_written old x read mid body step.outputs step.law ends)
+  module _ (new : RunWriterState) (writes : new ≡ past_outputs writer (outputs_of_events mid events)) where
+    new_is : new ≡ past_outputs writer step.outputs
+    new_is = writes ∙ ap (past_outputs writer) emitted
 
-    pub event_keeps_room : IsSteady old new → ((lines texts : ℕ) → IsInRoom mid.limits lines texts old.writer (outputs_of_events mid filled.items) → IsInRoom mid.limits lines texts new.writer [])
-        → (events : List HeadEvent) → FitsEvents old (x ∷ events) → FitsEvents new events
-    event_keeps_room steady kept events h =
-        let lines = length old.writer.messages.items + 16 * line_room old.writer.written.name in
-        let texts = length old.writer.out.items + event_room old.writer.written.format old.score.limits.syllable x in
-        let behind : IsBehindHeads new.part = subst (λ (s : ScoreWriterState). IsBehindHeads s.part) (sym new_is) (stays_behind_heads (writer_at mid old.part old.writer) step.outputs (subst IsBehindHeads (sym body) tt)) in
-        let before : IsInRoom old.score.limits lines texts old.writer step.outputs = event_in_room (concat_of (left_of mid []) ≡ []) old x step.outputs h.scratch step.lends few (ends []) in
-        let before_emitted = subst (λ (outputs : List ScoreOutput). IsInRoom old.score.limits lines texts old.writer outputs) (sym emitted) before in
-        let before_at = subst (λ (limits : Limits). IsInRoom limits lines texts old.writer (outputs_of_events mid filled.items)) (sym step.limits) before_emitted in
-        let after = subst (λ (limits : Limits). IsInRoom limits lines texts new.writer []) step.limits (kept lines texts before_at) in
-        room_behind old new x events steady behind after h
+    pub event_writes : writes_heads now.writer.written x ≡ false → (read : List (List ℕ × List ℕ)) → WritesAt now x read (record { score = mid; writer = new })
+    event_writes no_heads read =
+        let w = writer.written in
+        subst (λ (s : ScoreWriterState). WritesAt s x read (record { score = mid; writer = new })) view
+        (subst (λ (v : RunWriterState). WritesAt old x read (record { score = mid; writer = v })) (sym new_is) (record {
+          output = texts_of_outputs w step.outputs;
+          lines = lines_of_outputs w step.outputs;
+          out = refl;
+          messages = refl;
+          law = λ book from_heads h.
+              no_heads_at w book x from_heads (left_of score (x ∷ from_heads)) (ap (λ (s : ScoreWriterState). writes_heads s.writer.written x) view ∙ no_heads)
+              ∙ ap (λ (lists : List (List ScoreOutput)).
+              behind_bytes (texts_of_outputs w (first_list lists)) (lines_of_outputs w (first_list lists)) (streams_from (behind_outputs w (first_list lists)) book from_heads (drop 1 lists))) (step.law from_heads);
+        }))
+
+    -- where the run is over, the stage gives nothing more
+    pub silent_behind : (IsSome writer.written.ended → IsSilent score) → IsSome new.written.ended → IsSilent mid
+    silent_behind before over =
+        over_by_last (IsSilent mid) writer.written step.outputs ends
+        (λ some xs. second_empty step.outputs (concat_of (left_of mid xs)) (sym (ap (λ (lists : List (List ScoreOutput)). concat_of lists) (step.law xs)) ∙ before some (x ∷ xs)))
+        (subst (λ (v : RunWriterState). IsSome v.written.ended) new_is over)
+
+    pub event_keeps_room : IsSteadyWriter writer new → ((lines texts : ℕ) → IsInRoom mid.limits lines texts writer (outputs_of_events mid events) → IsInRoom mid.limits lines texts new [])
+        → (more : List HeadEvent) → FitsEvents now (x ∷ more) → FitsEvents (record { score = mid; writer = new }) more
+    event_keeps_room steady kept more room =
+        let lines = length writer.messages.items + 16 * line_room writer.written.name in
+        let texts = length writer.out.items + event_room writer.written.format score.limits.syllable x in
+        let fits = subst (λ (s : ScoreWriterState). FitsEvents s (x ∷ more)) (sym view) room in
+        let before = of_events (λ limits outputs. IsInRoom limits lines texts writer outputs) (event_in_room (IsSilent mid) old x step.outputs fits.scratch step.lends few ends) in
+        let after = subst (λ (limits : Limits). IsInRoom limits lines texts new []) step.limits (kept lines texts before) in
+        room_behind old (record { score = mid; writer = new }) x more
+        (record { limits = step.limits; format = steady.format; name = steady.name; out = steady.out; messages = steady.messages; scratch = steady.scratch })
+        (ap (λ (v : RunWriterState). v.written.headed) new_is ∙ headed_stays writer.written step.outputs) after fits
+
+-- ---- the headers
+
+-- they are written before the event is passed on
+pub heads_are_written : (old : ScoreWriterState) (lines macros canonical : ℕ) (read : List (List ℕ × List ℕ)) (new : ScoreWriterState)
+    → WritesAt (record old { writer = with_heads old.writer read }) (head_event.Heads lines macros canonical) read new → WritesAt old (head_event.Heads lines macros canonical) read new
+heads_are_written old lines macros canonical read new a =
+    let w = old.writer.written in
+    let x = head_event.Heads lines macros canonical in
+    let mid : ScoreWriterState = record old { writer = with_heads old.writer read } in
+    let text = text_of_heads w read (is_before_heads w) in
+    record {
+      output = text ++ a.output;
+      lines = a.lines;
+      out = extended_by_both old.writer.out mid.writer.out new.writer.out text a.output refl a.out;
+      messages = a.messages;
+      law = λ book from_heads h.
+          heads_come_first w book x from_heads (left_of old.score (x ∷ from_heads)) refl
+          ∙ (ap (λ (b : List (List ℕ × List ℕ)). behind_bytes (text_of_heads w b (is_before_heads w)) [] (streams_of mid book (x ∷ from_heads))) h
+          ∙ (ap (λ (s : Streams). behind_bytes text [] s) (a.law book from_heads h)
+          ∙ sym (behind_both text [] a.output a.lines (streams_of new book from_heads))));
+    }
 
 -- ---- the end of what comes
 
-module _ (old : ScoreWriterState) (mid : ScoreStageState) (cleared filled : BoundedList ScoreEvent) (body : old.part ≡ part.Body) (empty : cleared.items ≡ [])
-    (step : GivesLast old.score mid cleared filled) (stops : StopsAtEnd is_last_event (events_left mid) cleared filled) (room : FitsEvents old []) where
-  ends_last : EndsAtLast (◌≡◌ {A = List ScoreOutput} [] []) step.outputs
-  ends_last = ends_where_emitted step.outputs cleared filled mid empty step.emitted stops (λ none. refl)
+module _ (score mid : ScoreStageState) (writer : RunWriterState) (now : ScoreWriterState) (view : record { score = score; writer = writer } ≡ now)
+    (r cleared filled : BoundedList ScoreEvent) (empty : cleared ≡ record r { items = [] }) (events : List ScoreEvent) (are : events ≡ filled.items)
+    (step : GivesLast score mid cleared filled) (stops : StopsAtEnd is_last_event (events_left mid) cleared filled) (room : FitsEvents now []) where
+  emitted_last : outputs_of_events mid events ≡ step.outputs
+  emitted_last = outs_are step.outputs r cleared filled events mid empty are step.emitted
 
-  few_last : length step.outputs ≤ 16
-  few_last = omega (arith, step.emitted.few, as_many_emitted First step.outputs)
+  fits_last : FitsEvents (record { score = score; writer = writer }) []
+  fits_last = subst (λ (s : ScoreWriterState). FitsEvents s []) (sym view) room
 
-  emitted_last : outputs_of_events mid filled.items ≡ step.outputs
-  emitted_last = outs_are step.outputs cleared filled mid empty step.emitted
+  abbrev most_lines : ℕ
+  most_lines = length writer.messages.items + lines_room writer.written.name step.outputs
 
-  pub room_for_last : HasRoomFor mid.limits old.writer (outputs_of_events mid filled.items)
+  abbrev most_texts : ℕ
+  most_texts = length writer.out.items + texts_room writer.written.format score.limits.syllable step.outputs
+
+  in_room : (lines texts : ℕ) → most_lines ≤ lines → most_texts ≤ texts → IsInRoom mid.limits lines texts writer (outputs_of_events mid events)
+  in_room lines texts more_lines more_texts =
+      subst (λ (limits : Limits). IsInRoom limits lines texts writer (outputs_of_events mid events)) (sym step.limits)
+      (subst (λ (outputs : List ScoreOutput). IsInRoom score.limits lines texts writer outputs) (sym emitted_last)
+      (record { lines = more_lines; texts = more_texts; scratch = fits_last.scratch; within = step.lends.within }))
+
+  -- room is left for the last text behind them
+  texts_fit : most_texts + last_room ≤ writer.out.limit
+  texts_fit = omega (
+    arith,
+    fits_last.texts,
+    texts_are (IsSilent mid) writer.written.format score.limits.syllable step.outputs (ends_where_emitted step.outputs cleared filled mid step.emitted stops),
+    mul-le-mul_right (syllable_room writer.written.format score.limits.syllable) step.lends.few,
+  )
+
+  pub room_for_last : HasRoomFor mid.limits writer (outputs_of_events mid events)
   room_for_last =
-      let fits : HasRoomFor old.score.limits old.writer step.outputs = record {
-        lines = omega (arith, room.lines, lines_within old.writer.written.name step.outputs few_last);
-        texts = omega (arith, room.texts, texts_are (◌≡◌ {A = List ScoreOutput} [] []) old.writer.written.format old.score.limits.syllable step.outputs ends_last, mul-le-mul_right (syllable_room old.writer.written.format old.score.limits.syllable) step.lends.few);
-        scratch = room.scratch;
-        within = step.lends.within;
-      } in
-      subst (λ (limits : Limits). HasRoomFor limits old.writer (outputs_of_events mid filled.items)) (sym step.limits)
-      (subst (λ (outputs : List ScoreOutput). HasRoomFor old.score.limits old.writer outputs) (sym emitted_last) fits)
+      let texts = texts_fit in
+      let few : length step.outputs ≤ 16 = omega (arith, step.emitted.few, as_many_emitted First step.outputs) in
+      in_room writer.messages.limit writer.out.limit (omega (arith, fits_last.lines, lines_within writer.written.name step.outputs few)) (omega (arith, texts))
 
-  module _ (new : ScoreWriterState) (writes : new ≡ past_outputs (writer_at mid old.part old.writer) (outputs_of_events mid filled.items)) where
-    new_last : new ≡ past_outputs (writer_at mid old.part old.writer) step.outputs
-    new_last = writes ∙ ap (past_outputs (writer_at mid old.part old.writer)) emitted_last
+  pub room_for_end : (new : RunWriterState) → new.out.limit ≡ writer.out.limit
+      → ((lines texts : ℕ) → IsInRoom mid.limits lines texts writer (outputs_of_events mid events) → IsInRoom mid.limits lines texts new []) → Fits new.out last_room
+  room_for_end new limit kept =
+      let texts = texts_fit in
+      let after = (kept most_lines most_texts (in_room most_lines most_texts (omega arith) (omega arith))).texts in
+      omega (arith, after, texts, limit)
 
-    part_last : (past_outputs (writer_at mid old.part old.writer) step.outputs).part ≡ new.part
-    part_last = sym (ap (λ (s : ScoreWriterState). s.part) new_last)
-
-    pub end_writes : (status : Status) → new.part ≡ part.Over status → WritesLast old new status
-    end_writes status over = subst (λ (s : ScoreWriterState). WritesLast old s status) (sym new_last) (end_is_written old mid body step.outputs step.law ends_last status (part_last ∙ over))
-
-    pub is_running_last : ((status : Status) → new.part ≡ part.Over status → ⊥) → new.part ≡ part.Body
-    is_running_last not_over = by new.part (subst (λ (s : ScoreWriterState). IsBehindHeads s.part) (sym new_last) (stays_behind_heads (writer_at mid old.part old.writer) step.outputs (subst IsBehindHeads (sym body) tt))) not_over
-      where
-        by : (at : RunPart) → IsBehindHeads at → ((status : Status) → at ≡ part.Over status → ⊥) → at ≡ part.Body
-        by part.Heads h n = absurd h
-        by part.Body h n = refl
-        by (part.Over status) h n = absurd (n status refl)
-
-    pub break_writes : new.part ≡ part.Body → WritesLast old (record new { part = part.Over ReadFault; writer = with_last new.writer false }) ReadFault
-    break_writes running =
-        subst (λ (s : ScoreWriterState). WritesLast old (record s { part = part.Over ReadFault; writer = with_last s.writer false }) ReadFault) (sym new_last)
-        (break_is_written old mid body step.outputs step.law ends_last (part_last ∙ running))
-
-    pub room_for_break : new.part ≡ part.Body → new.writer.out.limit ≡ old.writer.out.limit
-        → ((lines texts : ℕ) → IsInRoom mid.limits lines texts old.writer (outputs_of_events mid filled.items) → IsInRoom mid.limits lines texts new.writer [])
-        → Fits new.writer.out last_room
-    room_for_break running limit kept =
-        let lines = length old.writer.messages.items + lines_room old.writer.written.name step.outputs in
-        let texts = length old.writer.out.items + texts_room old.writer.written.format old.score.limits.syllable step.outputs in
-        let before : IsInRoom old.score.limits lines texts old.writer step.outputs = record { lines = omega arith; texts = omega arith; scratch = room.scratch; within = step.lends.within } in
-        let before_emitted = subst (λ (outputs : List ScoreOutput). IsInRoom old.score.limits lines texts old.writer outputs) (sym emitted_last) before in
-        let before_at = subst (λ (limits : Limits). IsInRoom limits lines texts old.writer (outputs_of_events mid filled.items)) (sym step.limits) before_emitted in
-        let after = kept lines texts before_at in
-        omega (
-          arith,
-          after.texts,
-          room.texts,
-          limit,
-          texts_before_end (◌≡◌ {A = List ScoreOutput} [] []) (writer_at mid old.part old.writer) old.writer.written.format old.score.limits.syllable step.outputs ends_last (part_last ∙ running),
-          mul-le-mul_right (syllable_room old.writer.written.format old.score.limits.syllable) step.lends.few,
-        )
+  pub last_is_written : (new : RunWriterState) (status : Status) → new ≡ past_end (past_outputs writer (outputs_of_events mid events)) → new.written.ended ≡ Some status
+      → WritesLast now (record { score = mid; writer = new }) status
+  last_is_written new status writes ended =
+      let w = writer.written in
+      let v = behind_outputs w step.outputs in
+      let texts = texts_of_outputs w step.outputs in
+      let lines = lines_of_outputs w step.outputs in
+      let last = ceased_text v.ended v in
+      let is = writes ∙ ap (λ (outputs : List ScoreOutput). past_end (past_outputs writer outputs)) emitted_last in
+      let status_is : Some (ceased_status v.ended) ≡ Some status = sym (ap (λ (u : RunWriterState). u.written.ended) is) ∙ ended in
+      subst (λ (s : ScoreWriterState). WritesLast s (record { score = mid; writer = new }) status) view (record {
+        output = texts ++ last;
+        lines = lines;
+        out = extended_by_both writer.out (past_outputs writer step.outputs).out new.out texts last refl (ap (λ (u : RunWriterState). u.out) is);
+        messages = ap (λ (u : RunWriterState). u.messages) is;
+        law = λ book.
+            ap (λ (lists : List (List ScoreOutput)). streams_in w (concat_of lists)) step.law
+            ∙ (ap (λ (outputs : List ScoreOutput). streams_in w outputs) (append-nil step.outputs)
+            ∙ (ap (λ (s : Status). record { output = texts ++ last; messages = lines ++ []; status = s }) (cc status_is)
+            ∙ ap (λ (text : List ℕ). record { output = text; messages = lines ++ []; status = status }) (sym (append-nil (texts ++ last)))));
+      })

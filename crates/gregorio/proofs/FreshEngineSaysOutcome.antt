@@ -1,5 +1,5 @@
 -- An engine that has taken nothing will write what a run writes of its whole input.
-use Rattle.std.proofs.Common.{◌≡◌, ℕ, ◌*◌, ◌≤◌, ◌<◌, ◌^◌, List, [], ◌∷◌, ◌++◌, length, take, Bool, true, false, Option, Some, None, Result, Ok, Err, IfSome, refl, sym, ap, ◌∙◌, subst, arith, append-nil, encode_utf8_all}
+use Rattle.std.proofs.Common.{◌≡◌, ℕ, ◌*◌, ◌≤◌, ◌<◌, ◌^◌, List, [], ◌∷◌, ◌++◌, length, take, Bool, true, false, Option, Some, None, is_some, Result, Ok, Err, IfSome, refl, sym, ap, ◌∙◌, arith, append-nil, encode_utf8_all}
 use Rattle.std.specs.Char.{IsScalar}
 use Rattle.std.specs.List.{All}
 use Rattle.gabc_places.specs.Decoder.{fault_items, items_of, known_of, known_at_end}
@@ -27,15 +27,15 @@ use Rattle.gabc_score.specs.ScoreEvents.{ScoreOutput, findings_in, syllables_in,
 use Rattle.gabc_score.specs.ScoreStage.{AreCountsBelow}
 use Rattle.gabc_score.specs.witness.ScoreStage.{ScoreStageState, left_of}
 use Rattle.gregorio_jobs.specs.declared.job.Job.{Job}
-use Rattle.gregorio.specs.declared.run_part.RunPart.TheVariants as part
 use Rattle.gregorio.specs.declared.source_ending.SourceEnding.{SourceEnding}
 use Rattle.gregorio.specs.declared.source_ending.SourceEnding.TheVariants.{Whole as Ended, Broken}
 use Rattle.gregorio.specs.Outcome.{is_whole, is_cut_short, ending_by, outcome_of}
-use Rattle.gregorio.specs.witness.Engine.{head_events_left, has_heads, outputs_from_heads, streams_by_part}
-use Rattle.gregorio.specs.Streams.{streams_of_outcome}
+use Rattle.gregorio.specs.witness.Engine.{head_events_left, streams_from, text_of_heads}
+use Rattle.gregorio.specs.Streams.{Streams, behind_bytes, streams_of_outcome}
 use Rattle.gregorio.specs.machine.ScoreWriter.{fresh_writer}
-use Rattle.gregorio.proofs.OutputsOfAFreshScore.{has_book, outputs_same}
+use Rattle.gregorio.proofs.HeadersComeFirst.{NothingBehind, heads_first, nothing_behind}
 use Rattle.gregorio.proofs.StreamsOfAFreshEngine.{SaysScore, stops_at, streams_same}
+use Rattle.gregorio.proofs.StreamsOfOutputs.{EndsAtLast, outputs_are_said}
 
 -- what the decoder gives, whether the input has ended or its source failed
 pub items_are : (d : DecoderState) (limits : Limits) → ((bytes more : List ℕ) → concat_of (take (length bytes) (decoder.events_left d (bytes ++ more))) ≡ known_of limits bytes)
@@ -59,11 +59,11 @@ given_are limits Broken t None g =
 given_are limits Ended t (Some fault) g = sym (g.stopped fault true)
 given_are limits Broken t (Some fault) g = sym (g.stopped fault false)
 
--- the book is that of the headers, and where there is none there is no syllable
+-- the book is that of the headers
 book_by : (limits : Limits) (e : InputEnding) (t : List ℕ) (r : Result Heads HeadFault) (read : List (List ℕ × List ℕ)) → ((heads : Heads) → r ≡ Ok heads → read ≡ heads.book)
-    → IfSome (score_by limits e t r).book (λ book. read ≡ book) × ((score_by limits e t r).book ≡ None → (score_by limits e t r).syllables ≡ [])
-book_by limits e t (Ok heads) read is = (is heads refl, λ h. absurd (cc h))
-book_by limits e t (Err stop) read is = (tt, λ h. refl)
+    → IfSome (score_by limits e t r).book (λ book. read ≡ book)
+book_by limits e t (Ok heads) read is = is heads refl
+book_by limits e t (Err stopped) read is = tt
 
 -- what holds of a text and a stage of scores that has taken nothing
 pub record ReadsText (limits : Limits) (score : ScoreStageState) (e : InputEnding) (t : List ℕ) : Type 0 where
@@ -71,6 +71,7 @@ pub record ReadsText (limits : Limits) (score : ScoreStageState) (e : InputEndin
   pub counts : AreCountsBelow (head_events limits e t)
   pub outputs : score_outputs texts_by_stage limits (head_events limits e t) ≡ score_outputs texts_by_definition limits (head_events limits e t)
   pub score_is : SaysScore e (outputs_of_text limits e t) (score_of limits e t)
+  pub ends : EndsAtLast (Unit {0}) (outputs_of_text limits e t)
   pub few : length (score_of limits e t).syllables < 2 ^ 64
 
 module _ (job : Job) (limits : Limits) (score : ScoreStageState) (ending : SourceEnding) (decoded : Decoded) (r : ReadsText limits score (ending_by ending decoded.fault) decoded.text)
@@ -84,17 +85,15 @@ module _ (job : Job) (limits : Limits) (score : ScoreStageState) (ending : Sourc
   abbrev made : Score
   made = score_of limits e decoded.text
 
-  outs_are : outputs_from_heads score from_heads ≡ outputs_of_text limits e decoded.text
-  outs_are = outputs_same limits score r.fresh e decoded.text (heads_of limits decoded.text) r.counts ∙ ap (λ (lists : List (List ScoreOutput)). concat_of lists) r.outputs
-
-  score_is : SaysScore e (outputs_from_heads score from_heads) made
-  score_is = subst (λ (outputs : List ScoreOutput). SaysScore e outputs made) (sym outs_are) r.score_is
-
-  pub says_outcome : streams_by_part part.Heads score (fresh_writer job) read from_heads ≡ streams_of_outcome job (record { score = made; broken = is_cut_short ending made.fault })
+  pub says_outcome : streams_from (fresh_writer job) read from_heads (left_of score from_heads) ≡ streams_of_outcome job (record { score = made; broken = is_cut_short ending made.fault })
   says_outcome =
-      let b = book_by limits e decoded.text (heads_of limits decoded.text) read book in
-      streams_same (fresh_writer job) refl refl refl ending decoded.fault (outputs_from_heads score from_heads) made score_is (stops_at limits e decoded.text (heads_of limits decoded.text)) r.few
-      made.book read (has_heads from_heads) (has_book limits e decoded.text (heads_of limits decoded.text)) b.0 b.1
+      let w = fresh_writer job in
+      let r_heads = heads_of limits decoded.text in
+      let headed = is_some made.book in
+      ap (λ (lists : List (List ScoreOutput)). streams_from w read from_heads lists) (r.fresh from_heads r.counts ∙ r.outputs)
+      ∙ (heads_first texts_by_definition limits read w e decoded.text r_heads
+      ∙ (ap (λ (s : Streams). behind_bytes (text_of_heads w read headed) [] s) (outputs_are_said (Unit {0}) (record w { headed = headed }) (outputs_of_text limits e decoded.text) refl r.ends)
+      ∙ streams_same w refl refl refl ending decoded.fault (outputs_of_text limits e decoded.text) made r.score_is (stops_at limits e decoded.text r_heads) r.few made.book read (book_by limits e decoded.text r_heads read book)))
 
 -- ---- by the laws of the crates below
 
@@ -111,6 +110,7 @@ pub record LawsBelow : Type 0 where
   pub findings : (limits : Limits) (e : InputEnding) (t : List ℕ) → findings_in (outputs_of_text limits e t) ≡ (score_of limits e t).findings
   pub syllables : (limits : Limits) (e : InputEnding) (t : List ℕ) → syllables_in (outputs_of_text limits e t) ≡ (score_of limits e t).syllables
   pub fault : (limits : Limits) (e : InputEnding) (t : List ℕ) → fault_in (outputs_of_text limits e t) ≡ (score_of limits e t).fault
+  pub nothing_behind : (limits : Limits) (xs : List HeadEvent) → NothingBehind (concat_of (score_outputs texts_by_definition limits xs))
   pub end : (limits : Limits) (e : InputEnding) (t : List ℕ) → has_end (outputs_of_text limits e t) ≡ is_whole_score e (score_of limits e t).fault
   pub few : (limits : Limits) (e : InputEnding) (t : List ℕ) → 2 * length (score_of limits e t).syllables ≤ limits.input
 
@@ -135,12 +135,14 @@ module _ (below : LawsBelow) (job : Job) (limits : Limits) (d : DecoderState) (s
           fault = below.fault limits e t;
           end = below.end limits e t;
         };
+        ends = nothing_behind (outputs_of_text limits e t) (below.nothing_behind limits (head_events limits e t));
         few = omega (arith, few, most);
       }
 
   pub streams_are : (bytes : List ℕ) (ending : SourceEnding)
       → (let items = emitted_by (is_whole ending) bytes (decoder.events_left d bytes) in
-      streams_by_part part.Heads score (fresh_writer job) (stage_past (fresh_stage limits) items).book (head_events_left (fresh_stage limits) ending items))
+      let from_heads = head_events_left (fresh_stage limits) ending items in
+      streams_from (fresh_writer job) (stage_past (fresh_stage limits) items).book from_heads (left_of score from_heads))
       ≡ streams_of_outcome job (outcome_of limits ending bytes)
   streams_are bytes ending =
       let decoded = decoded_of limits (is_whole ending) bytes in
@@ -148,6 +150,7 @@ module _ (below : LawsBelow) (job : Job) (limits : Limits) (d : DecoderState) (s
       let xs = inputs_behind [] t ++ fault_items decoded.fault in
       let scalars : All IsScalar t = below.scalars limits.input bytes in
       let step : GivesHeads limits t = record { whole = below.whole limits t scalars; broken = below.broken limits t scalars; stopped = λ fault ended. below.stopped limits t fault ended scalars } in
-      ap (λ (items : List (Result Char Fault)). streams_by_part part.Heads score (fresh_writer job) (stage_past (fresh_stage limits) items).book (head_events_left (fresh_stage limits) ending items)) (items_are d limits known at_end ending bytes)
-      ∙ (ap (λ (from_heads : List HeadEvent). streams_by_part part.Heads score (fresh_writer job) (stage_past (fresh_stage limits) xs).book from_heads) (given_are limits ending t decoded.fault step)
+      ap (λ (items : List (Result Char Fault)). let from_heads = head_events_left (fresh_stage limits) ending items in
+      streams_from (fresh_writer job) (stage_past (fresh_stage limits) items).book from_heads (left_of score from_heads)) (items_are d limits known at_end ending bytes)
+      ∙ (ap (λ (from_heads : List HeadEvent). streams_from (fresh_writer job) (stage_past (fresh_stage limits) xs).book from_heads (left_of score from_heads)) (given_are limits ending t decoded.fault step)
       ∙ says_outcome job limits score ending decoded (reads (ending_by ending decoded.fault) bytes) (stage_past (fresh_stage limits) xs).book (λ heads h. below.book limits t heads decoded.fault scalars h))

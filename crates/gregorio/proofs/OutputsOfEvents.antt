@@ -12,7 +12,7 @@ use Rattle.gabc_score.specs.ScoreStage.{events_lent, events_of, is_last_event, e
 use Rattle.gabc_score.specs.witness.ScoreStage.{ScoreStageState, left_of}
 use Rattle.gabc_score.specs.Syllable.{PlacedSyllable}
 use Rattle.gregorio.specs.machine.ScoreWriter.{outputs_of_events}
-use Rattle.gregorio.proofs.WhatIsEmittedIsStillToBeWritten.{EndsAtLast, no_item}
+use Rattle.gregorio.proofs.StreamsOfOutputs.{EndsAtLast, no_item}
 
 abbrev head_or : PlacedSyllable → List PlacedSyllable → PlacedSyllable
 head_or d [] = d

@@ -1,28 +1,20 @@
 -- There is room for what an event brings.
-use Rattle.std.proofs.Common.{◌≡◌, ℕ, suc, ◌+◌, ◌*◌, ◌≤◌, List, [], ◌∷◌, length, refl, sym, ap, ◌∙◌, arith, Bool, true, false}
+use Rattle.std.proofs.Common.{◌≡◌, ℕ, suc, ◌+◌, ◌*◌, ◌≤◌, List, [], ◌∷◌, length, refl, sym, ap, ◌∙◌, arith, Bool, true, false, not, ◌||◌, is_some, encode_utf8_all, length-append, if◌then◌else◌}
 use Rattle.std.proofs.Math.Nat.{suc-mul, mul-le-mul_right}
-use Rattle.std.proofs.lemmas.Bool.{true≢false}
 use Rattle.gabc_places.specs.declared.limits.Limits.{Limits}
 use Rattle.gabc_headers.specs.declared.head_event.HeadEvent.{HeadEvent}
 use Rattle.gabc_headers.specs.declared.head_event.HeadEvent.TheVariants as head_event
 use Rattle.gabc_score.specs.ScoreEvents.{ScoreOutput, Found, Stop, Syllable, End, syllables_in}
-use Rattle.gregorio.specs.declared.run_part.RunPart.{RunPart}
-use Rattle.gregorio.specs.declared.run_part.RunPart.TheVariants as part
 use Rattle.gregorio_jobs.specs.declared.job.Format.{Format}
-use Rattle.gregorio_jobs.specs.declared.job.Status.{Status}
+use Rattle.gregorio_jobs.specs.declared.job.Format.TheVariants.{Gabc, Dump}
+use Rattle.gabc_headers.specs.Canonical.{canonical_heads}
+use Rattle.gabc_places.specs.BoundedList.{Fits}
+use Rattle.gregorio.specs.Streams.{heads_text}
+use Rattle.gregorio.specs.witness.Engine.{is_before_heads, text_of_heads}
 use Rattle.gabc_score.specs.ScoreStage.{Lends, most_lent}
-use Rattle.gregorio.specs.machine.RunWriter.{RunWriterState, IsInRoom, HasRoomFor, line_room, lines_room, texts_room, syllable_room, last_room}
-use Rattle.gregorio.specs.machine.ScoreWriter.{ScoreWriterState, FitsEvents, IsSteady, event_room, events_room, heads_left, past_output, past_outputs}
-use Rattle.gregorio.proofs.BodyIsWritten.{IsBehindHeads}
-use Rattle.gregorio.proofs.WhatIsEmittedIsStillToBeWritten.{EndsAtLast}
-
-abbrev is_over : RunPart → Bool
-is_over part.Heads = false
-is_over part.Body = false
-is_over (part.Over status) = true
-
-over_is_not_body : {P : Type 0} {status : Status} → part.Over status ≡ part.Body → P
-over_is_not_body e = absurd (true≢false (ap is_over e))
+use Rattle.gregorio.specs.machine.RunWriter.{RunWriterState, IsInRoom, HasRoomFor, heads_len, heads_room, line_room, lines_room, texts_room, syllable_room, last_room, with_heads}
+use Rattle.gregorio.specs.machine.ScoreWriter.{ScoreWriterState, FitsEvents, IsShortBook, IsSteady, event_room, events_room, heads_left}
+use Rattle.gregorio.proofs.StreamsOfOutputs.{EndsAtLast}
 
 -- ---- numbers
 
@@ -54,20 +46,6 @@ texts_are P format limit (Found f ∷ outputs) ends = omega (arith, texts_are P 
 texts_are P format limit (Stop fault ∷ outputs) ends = texts_at_end format limit (length (syllables_in outputs) * syllable_room format limit) outputs ends.0
 texts_are P format limit (Syllable s ∷ outputs) ends = omega (arith, texts_are P format limit outputs ends, times_more (length (syllables_in outputs)) (syllable_room format limit))
 texts_are P format limit (End ∷ outputs) ends = texts_at_end format limit (length (syllables_in outputs) * syllable_room format limit) outputs ends.0
-
--- no end, where the run goes on
-pub texts_before_end : (P : Type 0) (s : ScoreWriterState) (format : Format) (limit : ℕ) (outputs : List ScoreOutput) → EndsAtLast P outputs → (past_outputs s outputs).part ≡ part.Body
-    → texts_room format limit outputs ≤ length (syllables_in outputs) * syllable_room format limit
-texts_before_end P s format limit [] ends body = omega arith
-texts_before_end P s format limit (Found f ∷ outputs) ends body = omega (arith, texts_before_end P (past_output s (Found f)) format limit outputs ends body)
-texts_before_end P s format limit (Stop fault ∷ outputs) ends body =
-    let t = past_output s (Stop fault) in
-    over_is_not_body (sym (ap (λ (l : List ScoreOutput). (past_outputs t l).part) ends.0) ∙ body)
-texts_before_end P s format limit (Syllable x ∷ outputs) ends body =
-    omega (arith, texts_before_end P (past_output s (Syllable x)) format limit outputs ends body, times_more (length (syllables_in outputs)) (syllable_room format limit))
-texts_before_end P s format limit (End ∷ outputs) ends body =
-    let t = past_output s End in
-    over_is_not_body (sym (ap (λ (l : List ScoreOutput). (past_outputs t l).part) ends.0) ∙ body)
 
 pub texts_within : (P : Type 0) (format : Format) (limit : ℕ) (x : HeadEvent) (outputs : List ScoreOutput) → length (syllables_in outputs) ≤ most_lent x → EndsAtLast P outputs
     → texts_room format limit outputs ≤ event_room format limit x
@@ -104,25 +82,27 @@ pub event_has_room : (P : Type 0) (old : ScoreWriterState) (x : HeadEvent) (outp
 event_has_room P old x outputs h lends few ends =
     more_room old.score.limits _ _ _ _ old.writer outputs (omega (arith, h.lines)) (omega (arith, h.texts)) (event_in_room P old x outputs h.scratch lends few ends)
 
-nothing_kept : (at : RunPart) (format : Format) (limit : ℕ) → IsBehindHeads at → heads_left at format limit ≡ 0
-nothing_kept part.Heads format limit h = absurd h
-nothing_kept part.Body format limit h = refl
-nothing_kept (part.Over status) format limit h = refl
+heads_same : (old new : ScoreWriterState) → IsSteady old new → new.writer.written.headed ≡ old.writer.written.headed
+    → heads_left new.writer.written new.score.limits.header ≡ heads_left old.writer.written old.score.limits.header
+heads_same old new steady headed =
+    ap (λ (b : Bool). if b then 0 else heads_room new.writer.written.format new.score.limits.header) headed
+    ∙ (ap (λ (format : Format). if old.writer.written.headed then 0 else heads_room format new.score.limits.header) steady.format
+    ∙ ap (λ (limits : Limits). heads_left old.writer.written limits.header) steady.limits)
 
 -- behind an event there is room for those that follow
-pub room_behind : (old new : ScoreWriterState) (x : HeadEvent) (events : List HeadEvent) → IsSteady old new → IsBehindHeads new.part
+pub room_behind : (old new : ScoreWriterState) (x : HeadEvent) (events : List HeadEvent) → IsSteady old new → new.writer.written.headed ≡ old.writer.written.headed
     → IsInRoom old.score.limits (length old.writer.messages.items + 16 * line_room old.writer.written.name)
     (length old.writer.out.items + event_room old.writer.written.format old.score.limits.syllable x) new.writer []
     → FitsEvents old (x ∷ events) → FitsEvents new events
-room_behind old new x events steady behind room h =
+room_behind old new x events steady headed room h =
     let lines_same : (length events + 1) * (16 * line_room new.writer.written.name) ≡ (length events + 1) * (16 * line_room old.writer.written.name) =
     ap (λ (name : List ℕ). (length events + 1) * (16 * line_room name)) steady.name in
     let texts_same : events_room new.writer.written.format new.score.limits.syllable events ≡ events_room old.writer.written.format old.score.limits.syllable events =
     ap (λ (format : Format). events_room format new.score.limits.syllable events) steady.format ∙ ap (λ (limits : Limits). events_room old.writer.written.format limits.syllable events) steady.limits in
-    let none = nothing_kept new.part new.writer.written.format new.score.limits.header behind in
+    let kept = heads_same old new steady headed in
     let limit_same : new.score.limits.syllable ≡ old.score.limits.syllable = ap (λ (limits : Limits). limits.syllable) steady.limits in
     record {
       lines = omega (arith, room.lines, h.lines, lines_same, one_more (length events) (16 * line_room old.writer.written.name), steady.messages);
-      texts = omega (arith, room.texts, h.texts, texts_same, none, steady.out);
+      texts = omega (arith, room.texts, h.texts, texts_same, kept, steady.out);
       scratch = omega (arith, room.scratch, limit_same);
     }

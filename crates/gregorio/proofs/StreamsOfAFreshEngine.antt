@@ -1,8 +1,7 @@
 -- What a fresh engine will write of an input is what a run writes of it as a whole.
-use Rattle.std.proofs.Common.{◌≡◌, ℕ, ◌+◌, ◌<◌, ◌^◌, List, [], ◌∷◌, ◌++◌, length, Bool, true, false, not, ◌||◌, Option, Some, None, is_some, Result, Ok, Err, if◌then◌else◌, refl, ap, ◌∙◌, arith, codes, encode_utf8_all, IfSome}
-use Rattle.std.proofs.lemmas.Bool.{false≢true, true≢false}
+use Rattle.std.proofs.Common.{◌≡◌, ℕ, ◌+◌, ◌<◌, ◌^◌, List, [], ◌∷◌, ◌++◌, length, Bool, true, false, not, ◌||◌, Option, Some, None, is_some, Result, Ok, Err, refl, ap, ◌∙◌, arith, codes, encode_utf8_all, IfSome}
 use Rattle.std.proofs.lemmas.Bool.Decides.{nat_tests}
-use Rattle.std.specs.List.{flat_map}
+use Rattle.std.specs.List.{flat_map, list_any}
 use Rattle.gabc_places.specs.declared.code.Fault.{Fault}
 use Rattle.gabc_places.specs.declared.code.Finding.{Finding}
 use Rattle.gabc_places.specs.declared.limits.Limits.{Limits}
@@ -31,9 +30,11 @@ use Rattle.gregorio_jobs.specs.declared.job.Format.TheVariants.{Gabc, Dump}
 use Rattle.gregorio_jobs.specs.declared.job.Status.{Status}
 use Rattle.gregorio.specs.declared.source_ending.SourceEnding.{SourceEnding}
 use Rattle.gregorio.specs.declared.source_ending.SourceEnding.TheVariants.{Whole as Ended, Broken}
-use Rattle.gregorio.specs.Outcome.{ending_by, is_cut_short, text_in, output_by, fault_line, shown_line, lines_of, status_by, status_with}
-use Rattle.gregorio.specs.Streams.{Streams, force_behind, heads_text, last_text, next_number, texts_behind, count_behind}
-use Rattle.gregorio.specs.witness.Engine.{Written, has_errors, status_in, streams_in}
+use Rattle.gregorio.specs.Outcome.{ending_by, is_cut_short, text_in, output_by, fault_line, shown_line, lines_of, is_error_finding, status_by, status_with}
+use Rattle.gregorio.specs.Streams.{Streams, behind_bytes, force_behind, heads_text, last_text, next_number, texts_behind, count_behind}
+use Rattle.gregorio.specs.witness.Engine.{Written, text_of_heads}
+use Rattle.gregorio.proofs.StreamsOfOutputs.{said}
+use Rattle.gregorio.proofs.pieces.BytesAreJoined.{same_streams}
 
 -- ---- numbers
 
@@ -88,7 +89,7 @@ whole_is Broken None None h = refl
 whole_is Broken None (Some g) h = refl
 
 pub status_is : (ending : SourceEnding) (stop o : Option Fault) (errors : Bool) → StopsAt (ending_by ending stop) o
-    → status_by o (if is_whole_score (ending_by ending stop) o then false else true) errors ≡ status_by o (is_cut_short ending o) errors
+    → status_by o (not (is_whole_score (ending_by ending stop) o)) errors ≡ status_by o (is_cut_short ending o) errors
 status_is Ended (Some f) (Some g) errors h = refl
 status_is Broken (Some f) (Some g) errors h = refl
 status_is Ended (Some f) None errors h = absurd h
@@ -141,13 +142,14 @@ module _ (w : Written) (no_syllable : w.count ≡ 0) (no_force : w.force ≡ not
       ap (λ (fs : List Finding). flat_map (shown_line w.name w.all_warnings) fs ++ fault_line w.name (fault_in outputs)) score_is.findings
       ∙ ap (λ (o : Option Fault). flat_map (shown_line w.name w.all_warnings) score.findings ++ fault_line w.name o) score_is.fault
 
-  status_same : status_in (w.errors || has_errors (findings_in outputs)) outputs ≡ status_with score (is_cut_short ending score.fault)
+  status_same : status_by (fault_in outputs) (not (has_end outputs)) (w.errors || list_any is_error_finding (findings_in outputs)) ≡ status_with score (is_cut_short ending score.fault)
   status_same =
-      ap (λ (b : Bool). status_in (b || has_errors (findings_in outputs)) outputs) no_error
-      ∙ (ap (λ (fs : List Finding). status_by (fault_in outputs) (if has_end outputs then false else true) (has_errors fs)) score_is.findings
-      ∙ (ap (λ (o : Option Fault). status_by o (if has_end outputs then false else true) (has_errors score.findings)) score_is.fault
-      ∙ (ap (λ (b : Bool). status_by score.fault (if b then false else true) (has_errors score.findings)) score_is.end
-      ∙ status_is ending stop score.fault (has_errors score.findings) stops)))
+      let errors = list_any is_error_finding score.findings in
+      ap (λ (b : Bool). status_by (fault_in outputs) (not (has_end outputs)) (b || list_any is_error_finding (findings_in outputs))) no_error
+      ∙ (ap (λ (fs : List Finding). status_by (fault_in outputs) (not (has_end outputs)) (list_any is_error_finding fs)) score_is.findings
+      ∙ (ap (λ (o : Option Fault). status_by o (not (has_end outputs)) errors) score_is.fault
+      ∙ (ap (λ (b : Bool). status_by score.fault (not b) errors) score_is.end
+      ∙ status_is ending stop score.fault errors stops)))
 
   whole_same : has_end outputs ≡ not (is_some score.fault || is_cut_short ending score.fault)
   whole_same = score_is.end ∙ whole_is ending stop score.fault stops
@@ -162,26 +164,18 @@ module _ (w : Written) (no_syllable : w.count ≡ 0) (no_force : w.force ≡ not
       ∙ (ap (λ (b : Bool). heads_text w.format book ++ (texts_behind w.format 0 nothing_in_force score.syllables ++ last_text w.format b (count_behind 0 score.syllables))) whole_same
       ∙ text_is w.format (not (is_some score.fault || is_cut_short ending score.fault)) book score.syllables few)))
 
-  output_without : score.syllables ≡ [] → texts_behind w.format w.count w.force (syllables_in outputs) ++ [] ≡ []
-  output_without none = ap (λ (ss : List PlacedSyllable). texts_behind w.format w.count w.force ss ++ []) (score_is.syllables ∙ none)
-
   same : (one other : List ℕ) → one ≡ other
-      → streams_of one (flat_map (shown_line w.name w.all_warnings) (findings_in outputs) ++ fault_line w.name (fault_in outputs)) (status_in (w.errors || has_errors (findings_in outputs)) outputs)
+      → streams_of one (said w outputs).messages (said w outputs).status
       ≡ streams_of other (lines_of w.name w.all_warnings score) (status_with score (is_cut_short ending score.fault))
-  same one other e =
-      ap (λ (t : List ℕ). streams_of t (flat_map (shown_line w.name w.all_warnings) (findings_in outputs) ++ fault_line w.name (fault_in outputs)) (status_in (w.errors || has_errors (findings_in outputs)) outputs)) e
-      ∙ (ap (λ (t : List ℕ). streams_of other t (status_in (w.errors || has_errors (findings_in outputs)) outputs)) messages_are
-      ∙ ap (λ (s : Status). streams_of other (lines_of w.name w.all_warnings score) s) status_same)
+  same one other e = same_streams _ _ e messages_are status_same
 
-  -- the headers are a book, which `read` is, or there is none and no syllable
-  pub streams_same : (o : Option (List (List ℕ × List ℕ))) (read : List (List ℕ × List ℕ)) (headed : Bool) → headed ≡ is_some o → IfSome o (λ book. read ≡ book) → (o ≡ None → score.syllables ≡ [])
-      → streams_in w (if headed then heads_text w.format read else []) headed outputs
+  -- the headers are a book, which `read` is, or there is none
+  pub streams_same : (o : Option (List (List ℕ × List ℕ))) (read : List (List ℕ × List ℕ)) → IfSome o (λ book. read ≡ book)
+      → behind_bytes (text_of_heads w read (is_some o)) [] (said (record w { headed = is_some o }) outputs)
       ≡ record {
         output = output_by w.format (not (is_some score.fault || is_cut_short ending score.fault)) o score.syllables;
         messages = lines_of w.name w.all_warnings score;
         status = status_with score (is_cut_short ending score.fault);
       }
-  streams_same (Some book) read true h e none = same _ _ (ap (λ (b : List (List ℕ × List ℕ)). heads_text w.format b ++ (texts_behind w.format w.count w.force (syllables_in outputs) ++ last_text w.format (has_end outputs) (count_behind w.count (syllables_in outputs)))) e ∙ output_with book)
-  streams_same None read false h e none = same _ _ (output_without (none refl))
-  streams_same (Some book) read false h e none = absurd (false≢true h)
-  streams_same None read true h e none = absurd (true≢false h)
+  streams_same (Some book) read e = same _ _ (ap (λ (b : List (List ℕ × List ℕ)). heads_text w.format b ++ (texts_behind w.format w.count w.force (syllables_in outputs) ++ last_text w.format (has_end outputs) (count_behind w.count (syllables_in outputs)))) e ∙ output_with book)
+  streams_same None read e = same [] [] refl

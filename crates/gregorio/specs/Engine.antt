@@ -1,18 +1,10 @@
 -- A run in pieces: what an engine will still write, and how it will end.
-use Rattle.std.specs.Prelude.{◌≡◌, ◌≤◌, ◌⊎◌, ℕ, ◌+◌, List, [], ◌++◌, length, Bool, true, false}
+use Rattle.std.specs.Prelude.{◌≡◌, ◌≤◌, ◌⊎◌, ℕ, List, [], ◌++◌, length, Bool, false, is_none}
 use Rattle.gabc_neumes.specs.InForce.{InForce}
 use Rattle.gabc_score.specs.Syllable.{PlacedSyllable}
-use Rattle.gregorio.specs.declared.run_part.RunPart.{RunPart}
-use Rattle.gregorio.specs.declared.run_part.RunPart.TheVariants as part
 use Rattle.gregorio_jobs.specs.declared.job.Format.{Format}
 use Rattle.gregorio.specs.Streams.{Streams, behind_bytes, last_text, texts_behind, count_behind}
 use Rattle.gregorio.specs.witness.Engine.{EngineState}
-
--- ---- texts
-
--- ---- what comes
-
--- ---- what is written of it
 
 -- what waits, and then these
 abbrev pub with_waiting : EngineState → Streams → Streams
@@ -40,10 +32,5 @@ pub record IsPrompt (format : Format) (broken : Streams) : Type 0 where
   pub output : (broken.output ≡ []) ⊎ IsHeldText format broken.output
 
 -- no fatal fault, `end` or `broken` has come
-abbrev pub is_running_in : RunPart → Bool
-is_running_in part.Heads = true
-is_running_in part.Body = true
-is_running_in (part.Over status) = false
-
 abbrev pub is_running : EngineState → Bool
-is_running s = is_running_in s.part
+is_running s = is_none s.written.ended

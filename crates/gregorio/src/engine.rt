@@ -10,10 +10,9 @@ ghost use Rattle.gregorio.specs.Outcome.{outcome_of};
 ghost use Rattle.gregorio.specs.Engine.{IsPrompt, NothingWaits, is_running, with_waiting};
 ghost use Rattle.gregorio.specs.witness.Engine.{streams_left};
 ghost use Rattle.gregorio.specs.Streams.{streams_of_outcome, ended_with};
-ghost use Rattle.gregorio.specs.machine.Engine.{GoTogether, IsBodyPast, IsEmpty, WritesAll, WritesItems, event_of_item};
+ghost use Rattle.gregorio.specs.machine.Engine.{GoTogether, IsEmpty, WritesAll, WritesItems, event_of_item, headed_past};
 ghost use Rattle.gregorio.specs.machine.ScoreWriter.{FitsEvents, IsReserved, IsShortBook, IsSteady};
 
-use crate::run_part::RunPart;
 use crate::score_writer::ScoreWriter;
 use gabc_headers::{HeadEvent, HeaderBook, HeaderStage};
 use gabc_places::{Char, Decoder, Fault, Limits, Room, Stage};
@@ -51,7 +50,6 @@ impl Model for Engine {
       decoder = e.decoder;
       heads = e.heads;
       score = e.writer.score;
-      part = e.writer.part;
       written = e.writer.writer.written;
       output = e.writer.writer.out.items;
       messages = e.writer.writer.messages.items;
@@ -68,7 +66,8 @@ fn pass_on(from_heads: &[HeadEvent], book: &HeaderBook, writer: &mut ScoreWriter
     ensures room { (events : List HeadItem) → FitsEvents writer.old (from_heads.now ++ events) →
         FitsEvents writer.new events }
     ensures steady { IsSteady writer.old writer.new }
-    ensures part { writer.new.part ≡ RunPart.Body → IsBodyPast writer.old.part from_heads.now }
+    ensures headed { headed_past writer.old.writer.written.headed from_heads.now ≡ false →
+        writer.new.writer.written.headed ≡ false }
 {
     for event in from_heads {
         writer.push(*event, book);
@@ -103,13 +102,11 @@ fn read(
     ensures room { FitsEvents writer.new (End ∷ []) }
     ensures steady { IsSteady writer.old writer.new }
 {
-    match writer.part() {
-        RunPart::Body => {
-            gabc_score::stage_laws::nothing_follows_a_stop();
-            writer.push_in_body(body_event(item))
-        }
-        _ => read_in_heads(item, heads, from_heads, writer),
+    if !writer.headed() {
+        return read_in_heads(item, heads, from_heads, writer);
     }
+    gabc_score::stage_laws::nothing_follows_a_stop();
+    writer.pass(body_event(item));
 }
 
 /// Reads a character, or the fault that stops the text, by way of the stage of headers.
@@ -120,7 +117,7 @@ fn read_in_heads(
     from_heads: &mut Room<HeadEvent>,
     writer: &mut ScoreWriter,
 )
-    requires heads { ¬ (writer.old.part ≡ RunPart.Body) }
+    requires heads { writer.old.writer.written.headed ≡ false }
     requires together { GoTogether heads.old writer.old }
     requires few { 2 ≤ from_heads.old.limit }
     requires reserved { IsReserved writer.old }
@@ -195,6 +192,7 @@ impl Engine {
         gabc_headers::laws::the_book_is_read();
         gabc_score::laws::a_stage_of_headers_emits_the_events();
         gabc_score::laws::a_score_says_what_it_emits();
+        gabc_score::laws::nothing_follows_the_end();
         gabc_score::laws::syllables_are_fewer_than_bytes();
         gabc_score::stage_laws::texts_are_read_in_full();
         let from_heads = Room::with_limit(alloc, 2)?;
@@ -250,8 +248,7 @@ impl Engine {
         ensures law { (bytes : List ℕ) (ending : EndOfSource)
             → streams_left self.old ending (take result piece.now ++ bytes)
             ≡ streams_left self.new ending bytes }
-        ensures part { self.new.part ≡ self.old.part }
-        ensures format { self.new.written.format ≡ self.old.written.format }
+        ensures written { self.new.written ≡ self.old.written }
         ensures output { self.new.output ≡ self.old.output }
         ensures messages { self.new.messages ≡ self.old.messages }
     {
@@ -308,7 +305,7 @@ impl Engine {
         gabc_score::stage_laws::inputs_that_cease_give_no_stop();
         gabc_score::stage_laws::the_end_comes_with_the_end();
         let mut count = 0;
-        if !self.running() {
+        if self.writer.ended().is_some() {
             return piece.len();
         }
         while count < piece.len() && self.nothing_waits() {
@@ -359,18 +356,19 @@ impl Engine {
         ensures over { is_running self.new ≡ false }
         ensures again { is_running self.old ≡ false → self.new ≡ self.old }
     {
-        if self.running() {
-            let item = self.decoder.end();
-            read_decoded(
-                item,
-                &mut self.heads,
-                &mut self.from_heads,
-                &mut self.writer,
-            );
-            self.from_heads.clear();
-            self.heads.finish(&mut self.from_heads);
-            pass_on(self.from_heads.slice(), self.heads.book(), &mut self.writer);
+        if let Some(status) = self.writer.ended() {
+            return status;
         }
+        let item = self.decoder.end();
+        read_decoded(
+            item,
+            &mut self.heads,
+            &mut self.from_heads,
+            &mut self.writer,
+        );
+        self.from_heads.clear();
+        self.heads.finish(&mut self.from_heads);
+        pass_on(self.from_heads.slice(), self.heads.book(), &mut self.writer);
         self.writer.finish()
     }
 
@@ -384,6 +382,9 @@ impl Engine {
         ensures over { is_running self.new ≡ false }
         ensures again { is_running self.old ≡ false → self.new ≡ self.old }
     {
+        if let Some(status) = self.writer.ended() {
+            return status;
+        }
         // The stages read no end.
         self.writer.finish()
     }
@@ -392,9 +393,6 @@ impl Engine {
     pub fn running(&self) -> bool
         ensures { result ≡ is_running self.now }
     {
-        match self.writer.part() {
-            RunPart::Over(_) => false,
-            _ => true,
-        }
+        self.writer.ended().is_none()
     }
 }

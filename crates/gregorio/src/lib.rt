@@ -22,7 +22,6 @@ pub mod laws;
 mod outcome;
 mod output;
 mod run;
-mod run_part;
 mod run_writer;
 mod score_writer;
 mod source_ending;

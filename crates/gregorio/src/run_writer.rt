@@ -1,15 +1,17 @@
 //! What a run writes, in rooms that are reserved.
 
-ghost use Rattle.std.specs.Prelude.{◌≡◌, ◌+◌, ◌*◌, ◌^◌, ◌<◌, ◌≤◌, [], IfOk, None, false, length, string_bytes, encode_utf8_all};
+ghost use Rattle.std.specs.Prelude.{◌≡◌, ◌+◌, ◌*◌, ◌^◌, ◌<◌, ◌≤◌, [], IfOk, Some, true, length, string_bytes, encode_utf8_all};
 ghost use Rattle.gabc_headers.specs.Canonical.{canonical_heads};
 ghost use Rattle.gabc_score.specs.Canonical.{canonical_in_place};
 ghost use Rattle.gabc_write.specs.Message.{line_of};
 ghost use Rattle.gabc_places.specs.BoundedList.{Fits};
+ghost use Rattle.gabc_score.specs.ScoreEvents.{Found, Stop, Syllable as SyllableGiven, End};
 ghost use Rattle.gabc_score.specs.Syllable.{placed_of};
-ghost use Rattle.gregorio.specs.Streams.{heads_text, last_text, next_number, syllable_text};
-ghost use Rattle.gregorio.specs.Outcome.{shown_line, status_by};
+ghost use Rattle.gregorio.specs.Streams.{last_text};
+ghost use Rattle.gregorio.specs.Outcome.{shown_line};
+ghost use Rattle.gregorio.specs.witness.Engine.{if_headed, is_before_heads, text_of_heads, text_of_output};
 ghost use Rattle.gregorio.specs.machine.ScoreWriter.{fresh_writer};
-ghost use Rattle.gregorio.specs.machine.RunWriter.{syllable_len, syllable_room as room_of_syllable, heads_len, heads_room as room_of_heads, line_room, last_room, with_heads, with_found, with_fault, with_syllable, with_last};
+ghost use Rattle.gregorio.specs.machine.RunWriter.{syllable_len, syllable_room as room_of_syllable, heads_len, heads_room as room_of_heads, line_room, last_room, with_heads, with_last, past_output, past_end};
 
 use crate::findings::{input_name, is_error, put_finding};
 use gabc_headers::HeaderBook;
@@ -30,12 +32,16 @@ pub(crate) struct RunWriter {
     name: String,
     all_warnings: bool,
     scratch: Scratch,
+    /// Whether the headers were written.
+    headed: bool,
     /// How many syllables were written. It saturates.
     count: u64,
     /// What is in force behind them, in a dump.
     alterations: Alterations,
     /// Whether an error was found.
     errors: bool,
+    /// How the run ended, if it is over.
+    ended: Option<Status>,
     out: Room<u8>,
     messages: Room<u8>,
 }
@@ -89,9 +95,11 @@ impl Model for RunWriter {
         format = w.format;
         name = string_bytes w.name;
         all_warnings = w.all_warnings;
+        headed = w.headed;
         count = w.count;
         force = w.alterations;
         errors = w.errors;
+        ended = w.ended;
       };
       scratch = w.scratch;
       out = w.out;
@@ -123,23 +131,45 @@ impl RunWriter {
             format: job.format,
             name: String::from_str(alloc, name)?,
             all_warnings: job.all_warnings,
+            headed: false,
             count: 0,
             alterations: Alterations::new(),
             errors: false,
+            ended: None,
             out: Room::with_limit(alloc, out)?,
             messages: message_room(alloc, name.len())?,
             scratch: Scratch::with_limit(alloc, syllable)?,
         })
     }
 
-    /// Writes what stands before the syllables.
+    /// Returns whether the headers were written.
+    pub(crate) fn headed(&self) -> bool
+        ensures { result ≡ self.now.written.headed }
+    {
+        self.headed
+    }
+
+    /// Returns how the run ended, if it is over.
+    pub(crate) fn ended(&self) -> Option<Status>
+        ensures { result ≡ self.now.written.ended }
+    {
+        self.ended
+    }
+
+    /// Writes the headers, which are `book`, unless they were written or the run is over.
     pub(crate) fn heads(&mut self, book: &HeaderBook)
-        requires { Fits self.old.out (heads_len self.old.written.format
+        requires { is_before_heads self.old.written ≡ true →
+            Fits self.old.out (heads_len self.old.written.format
             (length (encode_utf8_all (canonical_heads book.now)))) }
         ensures writes { self.new ≡ with_heads self.old book.now }
-        ensures short { length (heads_text self.old.written.format book.now)
+        ensures short { length
+            (text_of_heads self.old.written book.now (is_before_heads self.old.written))
             ≤ heads_len self.old.written.format (length (encode_utf8_all (canonical_heads book.now))) }
     {
+        if self.headed || self.ended.is_some() {
+            return;
+        }
+        self.headed = true;
         match self.format {
             Format::Gabc => canon_header(book, &mut self.out),
             Format::Dump => dump_header(book, &mut self.out),
@@ -149,7 +179,7 @@ impl RunWriter {
     /// Writes the message of a finding, if it is shown.
     pub(crate) fn found(&mut self, finding: Finding)
         requires { Fits self.old.messages (line_room self.old.written.name) }
-        ensures writes { self.new ≡ with_found self.old finding }
+        ensures writes { self.new ≡ past_output self.old (Found finding) }
         ensures short { length
             (shown_line self.old.written.name self.old.written.all_warnings finding)
             ≤ line_room self.old.written.name }
@@ -163,12 +193,14 @@ impl RunWriter {
         self.errors = self.errors || is_error(finding);
     }
 
-    /// Writes the message of a fault.
+    /// Ends the run at `fault`: writes its message, and what stands behind the syllables.
     pub(crate) fn fault(&mut self, fault: Fault)
-        requires { Fits self.old.messages (line_room self.old.written.name) }
-        ensures writes { self.new ≡ with_fault self.old fault }
+        requires line { Fits self.old.messages (line_room self.old.written.name) }
+        requires last { Fits self.old.out last_room }
+        ensures writes { self.new ≡ past_output self.old (Stop fault) }
         ensures short { length (line_of self.old.written.name fault.place fault.code)
             ≤ line_room self.old.written.name }
+        ensures last { length (text_of_output self.old.written (Stop fault)) ≤ last_room }
     {
         message_line(
             self.name.as_str(),
@@ -176,19 +208,24 @@ impl RunWriter {
             fault.code,
             &mut self.messages,
         );
+        self.last(false);
+        self.ended = Some(Status::Fatal);
     }
 
-    /// Writes the next syllable.
+    /// Writes the next syllable, if the headers were written.
     pub(crate) fn syllable(&mut self, syllable: &Syllable)
         requires scratch { length (string_bytes syllable.now.kept) ≤ self.old.scratch }
         requires fits { Fits self.old.out (syllable_len self.old.written.format
             (length (canonical_in_place (placed_of syllable.now)))) }
-        ensures writes { self.new ≡ with_syllable self.old (placed_of syllable.now) }
-        ensures short { length (syllable_text self.old.written.format
-            (next_number self.old.written.count) self.old.written.force (placed_of syllable.now))
+        ensures writes { self.new ≡ past_output self.old (SyllableGiven (placed_of syllable.now)) }
+        ensures short { length
+            (text_of_output self.old.written (SyllableGiven (placed_of syllable.now)))
             ≤ syllable_len self.old.written.format
             (length (canonical_in_place (placed_of syllable.now))) }
     {
+        if !self.headed {
+            return;
+        }
         self.count = self.count.saturating_add(1);
         match self.format {
             Format::Gabc => canon_syllable(syllable, &mut self.out),
@@ -202,13 +239,16 @@ impl RunWriter {
         }
     }
 
-    /// Writes what stands behind the syllables, which are the `whole` score or not.
-    pub(crate) fn last(&mut self, whole: bool)
+    /// Writes what stands behind the syllables, which are the `whole` score or not, if the headers were written.
+    fn last(&mut self, whole: bool)
         requires { Fits self.old.out last_room }
         ensures writes { self.new ≡ with_last self.old whole }
-        ensures short { length (last_text self.old.written.format whole self.old.written.count)
-            ≤ last_room }
+        ensures short { length (if_headed self.old.written
+            (last_text self.old.written.format whole self.old.written.count)) ≤ last_room }
     {
+        if !self.headed {
+            return;
+        }
         match (self.format, whole) {
             (Format::Gabc, _) => self.out.append(b"\n"),
             (Format::Dump, true) => dump_end(self.count, &mut self.out),
@@ -216,15 +256,32 @@ impl RunWriter {
         }
     }
 
-    /// Returns how a run ends that has read its input to the end.
-    pub(crate) fn status(&self) -> Status
-        ensures { result ≡ status_by None false self.now.written.errors }
+    /// Ends the run of an input that is read to its end: writes what stands behind the syllables.
+    pub(crate) fn end(&mut self)
+        requires { Fits self.old.out last_room }
+        ensures writes { self.new ≡ past_output self.old End }
+        ensures last { length (text_of_output self.old.written End) ≤ last_room }
     {
-        if self.errors {
+        self.last(true);
+        self.ended = Some(if self.errors {
             Status::Errors
         } else {
             Status::Whole
+        });
+    }
+
+    /// Ends the run, if it is not over, as one whose source has failed: writes what stands behind the syllables. Returns how the run ended.
+    pub(crate) fn cease(&mut self) -> Status
+        requires { Fits self.old.out last_room }
+        ensures writes { self.new ≡ past_end self.old }
+        ensures status { self.new.written.ended ≡ Some result }
+    {
+        if let Some(status) = self.ended {
+            return status;
         }
+        self.last(false);
+        self.ended = Some(Status::ReadFault);
+        Status::ReadFault
     }
 
     /// Returns the bytes of the output that wait.

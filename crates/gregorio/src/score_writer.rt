@@ -1,6 +1,6 @@
 //! What a run does with what a stage of headers emits.
 
-ghost use Rattle.std.specs.Prelude.{◌≡◌, ◌≤◌, ℕ, List, [], ◌∷◌, length, take, false, IfOk};
+ghost use Rattle.std.specs.Prelude.{◌≡◌, ◌≤◌, ◌||◌, ℕ, List, [], ◌∷◌, length, take, false, IfOk, IfSome, IsSome};
 ghost use Rattle.std.specs.List.{All};
 ghost use Rattle.gabc_places.specs.Skip.{IsPrintable};
 ghost use Rattle.gabc_headers.specs.declared.head_event.HeadEvent.{HeadEvent as HeadItem};
@@ -9,11 +9,10 @@ ghost use Rattle.gabc_places.specs.StageLaw.{concat_of};
 ghost use Rattle.gabc_score.specs.ScoreEvents.{ScoreOutput, score_outputs, syllables_in};
 ghost use Rattle.gabc_score.specs.ScoreStage.{AreCountsBelow};
 ghost use Rattle.gabc_score.specs.witness.ScoreStage.{left_of};
-ghost use Rattle.gregorio.specs.Engine.{is_running_in};
-ghost use Rattle.gregorio.specs.machine.RunWriter.{HasRoomFor, IsInRoom, IsSteadyWriter};
-ghost use Rattle.gregorio.specs.machine.ScoreWriter.{output_of_event, outputs_of_events, past_output, past_outputs, writer_at, IsBodyBehind, IsShortBook, emptied, fresh_writer, IsReserved, IsSteady, FitsEvents, WritesAt, WritesLast, WritesNothing};
+ghost use Rattle.gregorio.specs.witness.Engine.{is_heads, writes_heads};
+ghost use Rattle.gregorio.specs.machine.RunWriter.{HasRoomFor, IsInRoom, IsSteadyWriter, past_output, past_outputs};
+ghost use Rattle.gregorio.specs.machine.ScoreWriter.{output_of_event, outputs_of_events, IsOver, IsShortBook, IsSilent, emptied, fresh_writer, IsReserved, IsSteady, FitsEvents, WritesAt, WritesLast, WritesNothing};
 
-use crate::run_part::RunPart;
 use crate::run_writer::RunWriter;
 use gabc_headers::{HeadEvent, HeaderBook};
 use gabc_places::{Limits, Place, Room, Stage};
@@ -27,27 +26,24 @@ use std::marker::Model;
 pub(crate) struct ScoreWriter {
     score: ScoreStage,
     events: Room<ScoreEvent>,
-    part: RunPart,
     writer: RunWriter,
 }
 
 impl Model for ScoreWriter {
-    ghost use Rattle.std.specs.Prelude.{◌≤◌};
-    ghost use Rattle.gregorio.specs.machine.ScoreWriter.{ScoreWriterState};
+    ghost use Rattle.gregorio.specs.machine.ScoreWriter.{IsScoreWriter, ScoreWriterState};
 
     ghost Value = { ScoreWriterState };
 
-    ghost view = { λ w. record { score = w.score; part = w.part; writer = w.writer } };
+    ghost view = { λ w. record { score = w.score; writer = w.writer } };
 
-    ghost invariant = { λ w. 16 ≤ w.events.limit };
+    ghost invariant = { λ w. IsScoreWriter w.score w.events w.writer };
 }
 
 /// Writes what `event` of `score` brings. A stop or the end ends the run.
 #[inline(never)]
-fn write_event(writer: &mut RunWriter, part: &mut RunPart, score: &ScoreStage, event: ScoreEvent)
+fn write_event(writer: &mut RunWriter, score: &ScoreStage, event: ScoreEvent)
     requires { HasRoomFor score.now.limits writer.old (output_of_event score.now event ∷ []) }
-    ensures writes { writer_at score.now part.new writer.new
-        ≡ past_output (writer_at score.now part.old writer.old) (output_of_event score.now event) }
+    ensures writes { writer.new ≡ past_output writer.old (output_of_event score.now event) }
     ensures room { (lines texts : ℕ) (outputs : List ScoreOutput) →
         IsInRoom score.now.limits lines texts writer.old (output_of_event score.now event ∷ outputs) →
         IsInRoom score.now.limits lines texts writer.new outputs }
@@ -55,37 +51,24 @@ fn write_event(writer: &mut RunWriter, part: &mut RunPart, score: &ScoreStage, e
 {
     match event {
         ScoreEvent::Found(finding) => writer.found(finding),
-        ScoreEvent::Stop(fault) => {
-            writer.fault(fault);
-            writer.last(false);
-            *part = RunPart::Over(Status::Fatal);
-        }
+        ScoreEvent::Stop(fault) => writer.fault(fault),
         ScoreEvent::Syllable(lent) => writer.syllable(score.syllable(lent)),
-        ScoreEvent::End => {
-            *part = RunPart::Over(writer.status());
-            writer.last(true);
-        }
+        ScoreEvent::End => writer.end(),
     }
 }
 
 /// Writes what `events` of `score` bring.
 #[inline(always)]
-fn write_events(
-    writer: &mut RunWriter,
-    part: &mut RunPart,
-    score: &ScoreStage,
-    events: &[ScoreEvent],
-)
+fn write_events(writer: &mut RunWriter, score: &ScoreStage, events: &[ScoreEvent])
     requires { HasRoomFor score.now.limits writer.old (outputs_of_events score.now events.now) }
-    ensures writes { writer_at score.now part.new writer.new
-        ≡ past_outputs (writer_at score.now part.old writer.old) (outputs_of_events score.now events.now) }
+    ensures writes { writer.new ≡ past_outputs writer.old (outputs_of_events score.now events.now) }
     ensures room { (lines texts : ℕ) →
         IsInRoom score.now.limits lines texts writer.old (outputs_of_events score.now events.now) →
         IsInRoom score.now.limits lines texts writer.new [] }
     ensures steady { IsSteadyWriter writer.old writer.new }
 {
     for event in events {
-        write_event(writer, part, score, *event);
+        write_event(writer, score, *event);
     }
 }
 
@@ -97,7 +80,6 @@ impl ScoreWriter {
         limits: Limits,
     ) -> Result<ScoreWriter, AllocError>
         ensures fresh { IfOk result (λ writer. writer.writer.written ≡ fresh_writer job.now) }
-        ensures part { IfOk result (λ writer. writer.part ≡ RunPart.Heads) }
         ensures limits { IfOk result (λ writer. writer.score.limits ≡ limits) }
         ensures reserved { IfOk result IsReserved }
         ensures empty { IfOk result (λ writer. writer ≡ emptied writer) }
@@ -110,7 +92,6 @@ impl ScoreWriter {
             Ok(score) => Ok(ScoreWriter {
                 score,
                 events,
-                part: RunPart::Heads,
                 writer,
             }),
             Err(error) => {
@@ -121,7 +102,7 @@ impl ScoreWriter {
         }
     }
 
-    /// Takes `event`, and writes what follows from it. `book` has the headers that are read, if they are whole.
+    /// Takes `event`, and writes what follows from it: first the headers, where it says that they are whole. Then they are `book`.
     pub(crate) fn push(&mut self, event: HeadEvent, book: &HeaderBook)
         requires room { FitsEvents self.old (event ∷ []) }
         requires book { IsShortBook self.old.score.limits book.now }
@@ -129,63 +110,31 @@ impl ScoreWriter {
         ensures room { (events : List HeadItem) → FitsEvents self.old (event ∷ events) →
             FitsEvents self.new events }
         ensures steady { IsSteady self.old self.new }
-        ensures part { self.new.part ≡ RunPart.Body → IsBodyBehind self.old.part event }
+        ensures headed { (self.old.writer.written.headed || is_heads event) ≡ false →
+            self.new.writer.written.headed ≡ false }
     {
-        match self.part {
-            RunPart::Heads => self.push_in_heads(event, book),
-            RunPart::Body => self.push_in_body(event),
-            RunPart::Over(_) => {}
+        if let HeadEvent::Heads { .. } = event {
+            self.writer.heads(book);
         }
+        self.pass(event);
     }
 
-    /// Takes an event before the body.
-    fn push_in_heads(&mut self, event: HeadEvent, book: &HeaderBook)
+    /// Passes `event` on to the score, and writes what that gives. No headers are to be written at it.
+    pub(crate) fn pass(&mut self, event: HeadEvent)
         requires room { FitsEvents self.old (event ∷ []) }
-        requires book { IsShortBook self.old.score.limits book.now }
-        requires heads { self.old.part ≡ RunPart.Heads }
-        ensures writes { WritesAt self.old event book.now self.new }
+        requires heads { writes_heads self.old.writer.written event ≡ false }
+        ensures writes { (read : List (List ℕ × List ℕ)) → WritesAt self.old event read self.new }
         ensures room { (events : List HeadItem) → FitsEvents self.old (event ∷ events) →
             FitsEvents self.new events }
         ensures steady { IsSteady self.old self.new }
-        ensures part { self.new.part ≡ RunPart.Body → IsBodyBehind self.old.part event }
-    {
-        match event {
-            HeadEvent::Found(finding) => self.writer.found(finding),
-            HeadEvent::Stop(fault) => {
-                self.writer.fault(fault);
-                self.part = RunPart::Over(Status::Fatal);
-            }
-            HeadEvent::Heads { .. } => {
-                self.writer.heads(book);
-                self.part = RunPart::Body;
-                self.push_in_body(event);
-            }
-            HeadEvent::Body(_) | HeadEvent::End => {}
-        }
-    }
-
-    /// Takes an event of the body.
-    pub(crate) fn push_in_body(&mut self, event: HeadEvent)
-        requires room { FitsEvents self.old (event ∷ []) }
-        requires body { self.old.part ≡ RunPart.Body }
-        ensures writes { WritesAt self.old event [] self.new }
-        ensures any_book { (read : List (List ℕ × List ℕ)) → WritesAt self.old event read self.new }
-        ensures room { (events : List HeadItem) → FitsEvents self.old (event ∷ events) →
-            FitsEvents self.new events }
-        ensures steady { IsSteady self.old self.new }
-        ensures part { self.new.part ≡ RunPart.Body → IsBodyBehind self.old.part event }
+        ensures headed { self.new.writer.written.headed ≡ self.old.writer.written.headed }
     {
         self.events.clear();
         self.score.push(event, &mut self.events);
-        write_events(
-            &mut self.writer,
-            &mut self.part,
-            &self.score,
-            self.events.slice(),
-        );
+        write_events(&mut self.writer, &self.score, self.events.slice());
     }
 
-    /// Takes characters from the front of `bytes` at which nothing is written, and returns how many: none outside of the body. They are
+    /// Takes characters from the front of `bytes` at which nothing is written, and returns how many: none before the headers are written. They are
     /// printable characters of ASCII, of which the first stands at `at` and each next one in the next column. From then on it writes what it
     /// would write had each of them been pushed.
     #[inline(always)]
@@ -194,10 +143,10 @@ impl ScoreWriter {
         ensures printable { All IsPrintable (take result bytes.now) }
         ensures writes { WritesNothing self.old at (take result bytes.now) self.new }
     {
-        match self.part {
-            RunPart::Body => self.score.take_front(at, bytes),
-            _ => 0,
+        if !self.headed() {
+            return 0;
         }
+        self.score.take_front(at, bytes)
     }
 
     /// Ends what comes, and returns how the run ended. Where neither a stop nor the end has come, the source has failed.
@@ -205,56 +154,37 @@ impl ScoreWriter {
         requires room { FitsEvents self.old [] }
         ensures writes { WritesLast self.old self.new result }
         ensures steady { IsSteady self.old self.new }
-        ensures part { self.new.part ≡ RunPart.Over result }
-        ensures again { is_running_in self.old.part ≡ false → self.new ≡ self.old }
-    {
-        match self.part {
-            RunPart::Heads => {
-                self.part = RunPart::Over(Status::ReadFault);
-                Status::ReadFault
-            }
-            RunPart::Body => self.finish_body(),
-            RunPart::Over(status) => status,
-        }
-    }
-
-    /// Ends what comes behind the line `%%`.
-    fn finish_body(&mut self) -> Status
-        requires room { FitsEvents self.old [] }
-        requires body { self.old.part ≡ RunPart.Body }
-        ensures writes { WritesLast self.old self.new result }
-        ensures steady { IsSteady self.old self.new }
-        ensures part { self.new.part ≡ RunPart.Over result }
+        ensures over { IsOver self.new.writer.written self.new.score result }
     {
         self.events.clear();
         self.score.finish(&mut self.events);
-        write_events(
-            &mut self.writer,
-            &mut self.part,
-            &self.score,
-            self.events.slice(),
-        );
-        if let RunPart::Over(status) = self.part {
-            return status;
-        }
-        self.writer.last(false);
-        self.part = RunPart::Over(Status::ReadFault);
-        Status::ReadFault
+        write_events(&mut self.writer, &self.score, self.events.slice());
+        self.writer.cease()
     }
 
-    /// Does nothing. Its contract is a law: where nothing more comes, at most one syllable is written.
+    /// Does nothing. Its contract is a law: where nothing more comes, at most one syllable is written, and behind the end nothing is.
     #[inline(always)]
     pub(crate) fn at_most_one_is_held(&self)
-        ensures { length (syllables_in (concat_of (left_of self.now.score []))) ≤ 1 }
+        ensures held { length (syllables_in (concat_of (left_of self.now.score []))) ≤ 1 }
+        ensures over { IsSome self.now.writer.written.ended → IsSilent self.now.score }
     {
         gabc_score::stage_laws::at_most_one_syllable_is_held(&self.score);
     }
 
-    /// Returns where the run stands.
-    pub(crate) fn part(&self) -> RunPart
-        ensures { result ≡ self.now.part }
+    /// Returns whether the headers were written.
+    pub(crate) fn headed(&self) -> bool
+        ensures { result ≡ self.now.writer.written.headed }
     {
-        self.part
+        self.writer.headed()
+    }
+
+    /// Returns how the run ended, if it is over.
+    pub(crate) fn ended(&self) -> Option<Status>
+        ensures ended { result ≡ self.now.writer.written.ended }
+        ensures over { IfSome result (λ status.
+            IsOver self.now.writer.written self.now.score status) }
+    {
+        self.writer.ended()
     }
 
     /// Returns the bytes of the output that wait.

@@ -1,30 +1,30 @@
 -- A byte that an engine takes brings what was to come for it, and so do the bytes of a piece.
-use Rattle.std.proofs.Common.{◌≡◌, ℕ, ◌+◌, ◌*◌, ◌<◌, ◌||◌, ◌⊎◌, inl, inr, List, [], ◌∷◌, ◌++◌, length, take, Bool, true, false, if◌then◌else◌, Option, None, Result, refl, ap, sym, ◌∙◌, arith}
+use Rattle.std.proofs.Common.{◌≡◌, ℕ, ◌+◌, ◌*◌, ◌<◌, ◌||◌, ◌⊎◌, inl, inr, List, [], ◌∷◌, ◌++◌, length, take, Bool, true, false, not, Option, Some, None, IfSome, is_none, is_some, Result, refl, ap, sym, ◌∙◌, arith}
+use Rattle.std.specs.List.{list_any}
 use Rattle.gabc_places.specs.StageLaw.{concat_of}
 use Rattle.gabc_places.specs.declared.code.Fault.{Fault}
 use Rattle.gabc_places.specs.declared.limits.Limits.{Limits}
 use Rattle.gabc_places.specs.declared.place.Char.{Char}
 use Rattle.gabc_places.specs.DecoderMachine.{DecoderState}
 use Rattle.gabc_places.specs.witness.DecoderEvents as decoder
-use Rattle.gabc_headers.specs.declared.head_event.HeadEvent.{HeadEvent}
 use Rattle.gabc_headers.specs.HeadEvents.{emitted_by}
 use Rattle.gabc_headers.specs.witness.HeadEvents.{HeaderStageState}
-use Rattle.gabc_score.specs.ScoreEvents.{fault_in, has_end}
+use Rattle.gabc_score.specs.ScoreEvents.{ScoreOutput, Found, Stop, Syllable, End, fault_in, findings_in, has_end}
 use Rattle.gabc_score.specs.witness.ScoreStage.{ScoreStageState, left_of}
-use Rattle.gregorio.specs.declared.run_part.RunPart.{RunPart}
-use Rattle.gregorio.specs.declared.run_part.RunPart.TheVariants as part
 use Rattle.gregorio.specs.declared.source_ending.SourceEnding.{SourceEnding}
 use Rattle.gregorio.specs.declared.source_ending.SourceEnding.TheVariants.{Whole as Ended, Broken}
-use Rattle.gregorio.specs.Engine.{NothingWaits, is_running, is_running_in, with_waiting}
-use Rattle.gregorio.specs.witness.Engine.{EngineState, Written, book_behind, head_events_left, has_errors, items_left, streams_by_part, streams_left}
-use Rattle.gregorio.specs.Streams.{Streams, behind_bytes}
-use Rattle.gregorio.specs.Outcome.{is_whole, status_by}
+use Rattle.gregorio.specs.Engine.{NothingWaits, is_running, with_waiting}
+use Rattle.gregorio.specs.witness.Engine.{EngineState, Written, book_behind, head_events_left, items_left, streams_left}
+use Rattle.gregorio.specs.Streams.{Streams, behind_bytes, ended_with}
+use Rattle.gregorio.specs.Outcome.{is_error_finding, is_whole, status_by}
 use Rattle.gregorio.specs.machine.RunWriter.{heads_room, syllable_room, line_room}
-use Rattle.gregorio.specs.machine.ScoreWriter.{ScoreWriterState, IsReserved, IsSteady}
+use Rattle.gregorio.specs.machine.ScoreWriter.{ScoreWriterState, IsOver, IsReserved, IsSteady}
 use Rattle.gregorio.specs.machine.Engine.{IsEmpty, WritesItems, streams_of_items}
 use Rattle.gregorio.proofs.pieces.BytesAreJoined.{waits_now}
 use Rattle.gregorio_jobs.specs.declared.job.Format.{Format}
+use Rattle.gregorio_jobs.specs.declared.job.Status.{Status}
 use Rattle.gregorio_jobs.specs.declared.job.Status.TheVariants.{ReadFault}
+use Rattle.gregorio.proofs.StreamsOfOutputs.{EndsAtLast, outputs_are_said, over_is_last, said}
 
 -- ---- the rooms stay
 
@@ -71,6 +71,10 @@ byte_taken d e h now w new byte items law a empty bytes ending =
 
 -- ---- a piece
 
+pub goes_on : (ended : Option Status) → is_none ended ≡ true → ended ≡ None
+goes_on None running = refl
+goes_on (Some status) running = absurd (cc running)
+
 abbrev pub Takes : EngineState → List ℕ → EngineState → Type 0
 Takes old piece new = (bytes : List ℕ) (ending : SourceEnding) → streams_left old ending (piece ++ bytes) ≡ with_waiting new (streams_left new ending bytes)
 
@@ -80,37 +84,43 @@ none_wait s waits rest = ap (λ (o : List ℕ). behind_bytes o s.messages rest) 
 pub takes_none : (s : EngineState) → NothingWaits s → Takes s [] s
 takes_none s waits = λ bytes ending. sym (none_wait s waits (streams_left s ending bytes))
 
--- an engine that is over takes a piece, and nothing follows
-over_takes : (p : RunPart) (score : ScoreStageState) (w : Written) → is_running_in p ≡ false → (book other : List (List ℕ × List ℕ)) (from_heads more : List HeadEvent)
-    → streams_by_part p score w book from_heads ≡ streams_by_part p score w other more
-over_takes part.Heads score w h book other from_heads more = absurd (cc h)
-over_takes part.Body score w h book other from_heads more = absurd (cc h)
-over_takes (part.Over status) score w h book other from_heads more = refl
+pub found_over : (o : Option Status) (w : Written) (score : ScoreStageState) → is_some o ≡ true → IfSome o (λ status. IsOver w score status) → (status : Status) × IsOver w score status
+found_over (Some status) w score is over = (status, over)
+found_over None w score is over = absurd (cc is)
 
-pub stopped_takes : (s : EngineState) → is_running s ≡ false → NothingWaits s → (piece : List ℕ) → Takes s piece s
-stopped_takes s stopped waits piece = λ bytes ending.
-    let before = items_left s ending (piece ++ bytes) in
-    let after = items_left s ending bytes in
-    over_takes s.part s.score s.written stopped (book_behind s.heads before) (book_behind s.heads after) (head_events_left s.heads ending before) (head_events_left s.heads ending after)
-    ∙ sym (none_wait s waits (streams_left s ending bytes))
+-- where the run is over, nothing is written
+pub over_left : (s : EngineState) (status : Status) → IsOver s.written s.score status → (ending : SourceEnding) (bytes : List ℕ) → streams_left s ending bytes ≡ ended_with status
+over_left s status over ending bytes = let items = items_left s ending bytes in over_is_last s.written s.score status over (book_behind s.heads items) (head_events_left s.heads ending items)
 
-pub begun_by : (n : ℕ) (A : Type 0) → (0 < n) ⊎ A → (A → ⊥) → 0 < n
-begun_by n A (inl some) none = some
-begun_by n A (inr a) none = absurd (none a)
+-- a piece is taken, and nothing follows
+pub stopped_takes : (s : EngineState) (status : Status) → IsOver s.written s.score status → NothingWaits s → (piece : List ℕ) → Takes s piece s
+stopped_takes s status over waits piece = λ bytes ending.
+    over_left s status over ending (piece ++ bytes) ∙ sym (none_wait s waits (streams_left s ending bytes) ∙ over_left s status over ending bytes)
 
 -- ---- an input that breaks off
 
-status_where : (score : ScoreStageState) (w : Written) (book : List (List ℕ × List ℕ)) (p : RunPart) → fault_in (concat_of (left_of score [])) ≡ None → has_end (concat_of (left_of score [])) ≡ false
-    → is_running_in p ≡ true → (streams_by_part p score w book []).status ≡ ReadFault
-status_where score w book part.Heads stop end h = refl
-status_where score w book part.Body stop end h =
-    let outputs = concat_of (left_of score []) in
-    let errors = w.errors || has_errors (Rattle.gabc_score.specs.ScoreEvents.findings_in outputs) in
-    ap (λ (f : Option Fault). status_by f (if has_end outputs then false else true) errors) stop
-    ∙ ap (λ (b : Bool). status_by None (if b then false else true) errors) end
-status_where score w book (part.Over status) stop end h = absurd (cc h)
+-- what a stage of scores gives where its inputs cease
+pub record GivesNoLast (outputs : List ScoreOutput) : Type 0 where
+  pub findings : findings_in outputs ≡ []
+  pub stop : fault_in outputs ≡ None
+  pub end : has_end outputs ≡ false
 
--- an engine that runs has a source that failed, if its input ceases now
-pub read_fault_if_broken : ((s : ScoreStageState) → fault_in (concat_of (left_of s [])) ≡ None) → ((s : ScoreStageState) → has_end (concat_of (left_of s [])) ≡ false)
-    → (s : EngineState) → is_running s ≡ true → (streams_left s Broken []).status ≡ ReadFault
-read_fault_if_broken stop end s running = status_where s.score s.written _ s.part (stop s.score) (end s.score) running
+no_last : (outputs : List ScoreOutput) → fault_in outputs ≡ None → has_end outputs ≡ false → EndsAtLast (Unit {0}) outputs
+no_last [] stop end = tt
+no_last (Found f ∷ outputs) stop end = no_last outputs stop end
+no_last (Stop fault ∷ outputs) stop end = absurd (cc stop)
+no_last (Syllable s ∷ outputs) stop end = no_last outputs stop end
+no_last (End ∷ outputs) stop end = absurd (cc end)
+
+-- what an engine says that runs, if its input ceases now
+pub broken_is_said : (s : EngineState) → s.written.ended ≡ None → GivesNoLast (concat_of (left_of s.score [])) → streams_left s Broken [] ≡ said s.written (concat_of (left_of s.score []))
+broken_is_said s runs gives = outputs_are_said (Unit {0}) s.written (concat_of (left_of s.score [])) runs (no_last (concat_of (left_of s.score [])) gives.stop gives.end)
+
+-- it has a source that failed
+pub read_fault_if_broken : (s : EngineState) → is_running s ≡ true → GivesNoLast (concat_of (left_of s.score [])) → (streams_left s Broken []).status ≡ ReadFault
+read_fault_if_broken s running gives =
+    let outputs = concat_of (left_of s.score []) in
+    let errors = s.written.errors || list_any is_error_finding (findings_in outputs) in
+    ap (λ (t : Streams). t.status) (broken_is_said s (goes_on s.written.ended running) gives)
+    ∙ (ap (λ (f : Option Fault). status_by f (not (has_end outputs)) errors) gives.stop
+    ∙ ap (λ (b : Bool). status_by None (not b) errors) gives.end)

@@ -1,12 +1,11 @@
 -- Events that are taken one after the other are written one after the other.
-use Rattle.std.proofs.Common.{◌≡◌, ℕ, List, [], ◌∷◌, ◌++◌, length, drop, slice_index_or, ◌+◌, ◌<◌, refl, ap, sym, subst, ◌∙◌, add-one, drop-cons}
+use Rattle.std.proofs.Common.{◌≡◌, ℕ, List, [], ◌∷◌, ◌++◌, length, drop, slice_index_or, ◌+◌, ◌<◌, Bool, true, false, ◌||◌, refl, ap, sym, subst, ◌∙◌, add-one, drop-cons}
+use Rattle.std.specs.List.{list_any}
 use Rattle.gabc_headers.specs.declared.head_event.HeadEvent.{HeadEvent}
-use Rattle.gabc_headers.specs.declared.head_event.HeadEvent.TheVariants as head_event
-use Rattle.gregorio.specs.declared.run_part.RunPart.{RunPart}
-use Rattle.gregorio.specs.declared.run_part.RunPart.TheVariants as part
 use Rattle.gregorio.specs.Streams.{Streams, behind_bytes}
-use Rattle.gregorio.specs.machine.ScoreWriter.{ScoreWriterState, FitsEvents, IsSteady, WritesAt, IsBodyBehind, streams_of}
-use Rattle.gregorio.specs.machine.Engine.{WritesAll, IsBodyPast, HasMark}
+use Rattle.gregorio.specs.witness.Engine.{is_heads}
+use Rattle.gregorio.specs.machine.ScoreWriter.{ScoreWriterState, FitsEvents, IsSteady, WritesAt, streams_of}
+use Rattle.gregorio.specs.machine.Engine.{WritesAll, headed_past}
 use Rattle.gregorio.proofs.pieces.RoomIsLeft.{room_for_first}
 use Rattle.gregorio.proofs.pieces.BytesAreJoined.{behind_both, extended_by_none, extended_by_both}
 
@@ -33,31 +32,11 @@ writes_next x events read old mid new a b = record {
 
 -- ---- the line `%%`
 
-mark_later : (x : HeadEvent) (events : List HeadEvent) → HasMark events → HasMark (x ∷ events)
-mark_later (head_event.Heads lines macros canonical) events h = tt
-mark_later (head_event.Found f) events h = h
-mark_later (head_event.Stop fault) events h = h
-mark_later (head_event.Body c) events h = h
-mark_later head_event.End events h = h
-
-past_later : (p : RunPart) (x : HeadEvent) (events : List HeadEvent) → HasMark events → IsBodyPast p (x ∷ events)
-past_later part.Body x events h = tt
-past_later part.Heads x events h = mark_later x events h
-past_later (part.Over status) x events h = mark_later x events h
-
-past_now : (p : RunPart) (x : HeadEvent) (events : List HeadEvent) → IsBodyBehind p x → IsBodyPast p (x ∷ events)
-past_now part.Body x events h = tt
-past_now part.Heads (head_event.Heads lines macros canonical) events h = tt
-past_now part.Heads (head_event.Found f) events h = absurd h
-past_now part.Heads (head_event.Stop fault) events h = absurd h
-past_now part.Heads (head_event.Body c) events h = absurd h
-past_now part.Heads head_event.End events h = absurd h
-past_now (part.Over status) x events h = absurd h
-
-pub past_next : (p q : RunPart) (x : HeadEvent) (events : List HeadEvent) → (q ≡ part.Body → IsBodyBehind p x) → IsBodyPast q events → IsBodyPast p (x ∷ events)
-past_next p part.Body x events at h = past_now p x events (at refl)
-past_next p part.Heads x events at h = past_later p x events h
-past_next p (part.Over status) x events at h = past_later p x events h
+-- where the headers are not written at an event, and none come behind it
+pub unheaded_later : (headed now heads later : Bool) → ((headed || heads) ≡ false → now ≡ false) → (headed || (heads || later)) ≡ false → (now || later) ≡ false
+unheaded_later false now false later at h = ap (λ (b : Bool). b || later) (at refl) ∙ h
+unheaded_later false now true later at h = absurd (cc h)
+unheaded_later true now heads later at h = absurd (cc h)
 
 -- ---- what no call changes
 
@@ -89,5 +68,6 @@ module _ (from_heads : List HeadEvent) (i : ℕ) (d : HeadEvent) (within : i < l
   pub room_left : (w : ScoreWriterState) (events : List HeadEvent) → FitsEvents w (drop i from_heads ++ events) → FitsEvents w (now ∷ (drop (i + 1) from_heads ++ events))
   room_left w events room = subst (λ (left : List HeadEvent). FitsEvents w (left ++ events)) left_is room
 
-  pub past_left : (p q : RunPart) → (q ≡ part.Body → IsBodyBehind p now) → IsBodyPast q (drop (i + 1) from_heads) → IsBodyPast p (drop i from_heads)
-  past_left p q at h = subst (λ (left : List HeadEvent). IsBodyPast p left) (sym left_is) (past_next p q now (drop (i + 1) from_heads) at h)
+  pub unheaded_left : (headed behind : Bool) → ((headed || is_heads now) ≡ false → behind ≡ false) → headed_past headed (drop i from_heads) ≡ false → headed_past behind (drop (i + 1) from_heads) ≡ false
+  unheaded_left headed behind at h =
+      unheaded_later headed behind (is_heads now) (list_any is_heads (drop (i + 1) from_heads)) at (sym (ap (headed_past headed) left_is) ∙ h)

@@ -16,18 +16,17 @@ use Rattle.gabc_headers.specs.witness.HeadEvents.{HeaderStageState, HeadProgress
 use Rattle.gabc_score.specs.ScoreStage.{GivesNothing, body_inputs, nothing_each}
 use Rattle.gabc_score.specs.witness.ScoreStage.{ScoreStageState, left_of}
 use Rattle.gabc_score.specs.ScoreEvents.{ScoreOutput}
-use Rattle.gregorio.specs.declared.run_part.RunPart.{RunPart}
-use Rattle.gregorio.specs.declared.run_part.RunPart.TheVariants as part
 use Rattle.gregorio.specs.declared.source_ending.SourceEnding.{SourceEnding}
 use Rattle.gregorio.specs.declared.source_ending.SourceEnding.TheVariants.{Whole as Ended, Broken}
 use Rattle.gregorio.specs.Engine.{NothingWaits, with_waiting}
-use Rattle.gregorio.specs.witness.Engine.{EngineState, book_behind, head_events_left, streams_by_part, streams_in, streams_left}
+use Rattle.gregorio.specs.witness.Engine.{EngineState, book_behind, head_events_left, streams_in, streams_left}
 use Rattle.gregorio.specs.Outcome.{is_whole}
 use Rattle.gregorio.specs.machine.RunWriter.{RunWriterState}
-use Rattle.gregorio.specs.machine.ScoreWriter.{ScoreWriterState, IsSteady, WritesNothing, streams_of}
+use Rattle.gregorio.specs.machine.ScoreWriter.{ScoreWriterState, IsSilent, IsSteady, WritesNothing, streams_of}
 use Rattle.gregorio.specs.machine.Engine.{GoTogether, IsSettled, streams_of_items}
 use Rattle.gregorio.proofs.pieces.BytesAreTaken.{Takes, none_wait}
 use Rattle.gregorio.proofs.pieces.ItemsAreRead.{past_behind}
+use Rattle.gregorio.proofs.StreamsOfOutputs.{in_body}
 
 -- ---- what a writer writes
 
@@ -36,22 +35,27 @@ nothing_joined : (bytes : List ℕ) (rest : List (List ScoreOutput)) → concat_
 nothing_joined [] rest = refl
 nothing_joined (byte ∷ bytes) rest = nothing_joined bytes rest
 
-pub nothing_is_given : (w : ScoreWriterState) (at : Place) (bytes : List ℕ) (score : ScoreStageState) → w.part ≡ part.Body → GivesNothing w.score at bytes score
+given_later : (before after : ScoreStageState) (at : Place) (bytes : List ℕ) → GivesNothing before at bytes after → (from_heads : List HeadEvent)
+    → concat_of (left_of before (body_inputs at bytes ++ from_heads)) ≡ concat_of (left_of after from_heads)
+given_later before after at bytes a from_heads = ap (λ (lists : List (List ScoreOutput)). concat_of lists) (a.law from_heads) ∙ nothing_joined bytes (left_of after from_heads)
+
+pub nothing_is_given : (w : ScoreWriterState) (at : Place) (bytes : List ℕ) (score : ScoreStageState) → w.writer.written.headed ≡ true → GivesNothing w.score at bytes score
     → WritesNothing w at bytes (record w { score = score })
-nothing_is_given w at bytes score body a = record {
-  body = λ some. body;
-  part = refl;
+nothing_is_given w at bytes score headed a = record {
+  headed = λ some. headed;
   limits = a.limits;
   writer = refl;
   law = λ book from_heads.
-      ap (λ (p : RunPart). streams_by_part p w.score w.writer.written book (body_inputs at bytes ++ from_heads)) body
-      ∙ (ap (λ (outputs : List ScoreOutput). streams_in w.writer.written [] true outputs)
-      (ap (λ (lists : List (List ScoreOutput)). concat_of lists) (a.law from_heads) ∙ nothing_joined bytes (left_of score from_heads))
-      ∙ ap (λ (p : RunPart). streams_by_part p score w.writer.written book from_heads) (sym body));
+      in_body w.writer.written book (body_inputs at bytes ++ from_heads) (left_of w.score (body_inputs at bytes ++ from_heads)) headed
+      ∙ (ap (streams_in w.writer.written) (given_later w.score score at bytes a from_heads) ∙ sym (in_body w.writer.written book from_heads (left_of score from_heads) headed));
 }
 
+-- a stage that gives nothing gives nothing later
+pub silent_later : (before after : ScoreStageState) (at : Place) (bytes : List ℕ) → GivesNothing before at bytes after → IsSilent before → IsSilent after
+silent_later before after at bytes a silent = λ xs. sym (given_later before after at bytes a xs) ∙ silent (body_inputs at bytes ++ xs)
+
 pub none_is_given : (w : ScoreWriterState) (at : Place) → WritesNothing w at [] w
-none_is_given w at = record { body = λ some. absurd (omega (arith, some)); part = refl; limits = refl; writer = refl; law = λ book from_heads. refl }
+none_is_given w at = record { headed = λ some. absurd (omega (arith, some)); limits = refl; writer = refl; law = λ book from_heads. refl }
 
 -- ---- what a decoder gives
 
@@ -88,7 +92,7 @@ module _ (w new : ScoreWriterState) (at : Place) (bytes : List ℕ) (a : WritesN
   pub still_together : (h : HeaderStageState) → GoTogether h w → GoTogether h new
   still_together h together = record {
     limits = together.limits ∙ sym a.limits;
-    body = λ e. by (together.body (sym a.part ∙ e));
+    headed = λ e. by (together.headed (sym (ap (λ (x : RunWriterState). x.written.headed) a.writer) ∙ e));
     book = together.book;
     short = together.short;
   }
@@ -134,9 +138,9 @@ module _ (w new : ScoreWriterState) (at : Place) (bytes : List ℕ) (a : WritesN
       streams_of_items h w ending (characters at bytes ++ more) ≡ streams_of_items h new ending more)
       (sym together.book) (front_behind limits book ending more)
 
-  front_of_items : (h : HeaderStageState) → w.part ≡ part.Body → GoTogether h w → (ending : SourceEnding) (more : List (Result Char Fault))
+  front_of_items : (h : HeaderStageState) → w.writer.written.headed ≡ true → GoTogether h w → (ending : SourceEnding) (more : List (Result Char Fault))
       → streams_of_items h w ending (characters at bytes ++ more) ≡ streams_of_items h new ending more
-  front_of_items h body together ending more = by (together.body body)
+  front_of_items h headed together ending more = by (together.headed headed)
     where
       by : IsBehind h.progress ⊎ IsSettled w → streams_of_items h w ending (characters at bytes ++ more) ≡ streams_of_items h new ending more
       by (inl is) = front_in_body h.limits h.progress h.book ending more is together
@@ -146,7 +150,7 @@ pub items_of_a_front : (w new : ScoreWriterState) (at : Place) (bytes : List ℕ
     → (ending : SourceEnding) (more : List (Result Char Fault)) → streams_of_items h w ending (characters at bytes ++ more) ≡ streams_of_items h new ending more
 items_of_a_front w new at [] a h together ending more = a.law (book_behind h more) (head_events_left h ending more)
 items_of_a_front w new at (byte ∷ bytes) a h together ending more =
-    front_of_items w new at (byte ∷ bytes) a h (a.body (omega arith)) together ending more
+    front_of_items w new at (byte ∷ bytes) a h (a.headed (omega arith)) together ending more
 
 -- Bytes that a decoder skips are those of the front.
 pub front_is_taken : (d e : DecoderState) (h : HeaderStageState) (w new : ScoreWriterState) (bytes : List ℕ) → WritesNothing w d.place bytes new → GoTogether h w

@@ -1,5 +1,5 @@
 -- What the stage of headers gives of an item has room, and is passed on.
-use Rattle.std.proofs.Common.{◌≡◌, ℕ, ◌+◌, ◌*◌, ◌≤◌, List, [], ◌∷◌, ◌++◌, length, codes, Result, Ok, refl, ap, sym, ◌∙◌, subst, length-append, arith}
+use Rattle.std.proofs.Common.{◌≡◌, ℕ, ◌+◌, ◌*◌, ◌≤◌, List, [], ◌∷◌, ◌++◌, length, codes, false, Result, Ok, refl, ap, sym, ◌∙◌, subst, length-append, arith}
 use Rattle.std.specs.Char.{len_utf8}
 use Rattle.std.proofs.lemmas.List.Sums.{sum_by-append}
 use Rattle.std.proofs.Math.Nat.{mul-le-mul_right}
@@ -16,10 +16,9 @@ use Rattle.gabc_headers.specs.declared.head_event.HeadEvent.{HeadEvent}
 use Rattle.gabc_headers.specs.declared.head_event.HeadEvent.TheVariants as head_event
 use Rattle.gabc_headers.specs.witness.HeadEvents.{HeaderStageState, events_left, events_of_end, events_of_input, stage_after}
 use Rattle.gabc_headers.proofs.entries.TextsAsBytes.{length-encodes}
-use Rattle.gregorio.specs.declared.run_part.RunPart.TheVariants as part
 use Rattle.gregorio.specs.machine.RunWriter.{line_room}
 use Rattle.gregorio.specs.machine.ScoreWriter.{ScoreWriterState, FitsEvents, IsReserved, IsShortBook, IsSteady, events_room}
-use Rattle.gregorio.specs.machine.Engine.{GoTogether, IsBodyPast, IsEmpty, WritesAll, WritesItems}
+use Rattle.gregorio.specs.machine.Engine.{GoTogether, IsEmpty, WritesAll, WritesItems, headed_past}
 use Rattle.gregorio.proofs.pieces.ItemsAreRead.{AreHeadsShort, items_by_heads, short_stage_after, together_by_heads}
 use Rattle.gregorio.proofs.pieces.RoomIsLeft.{input_is_few, least_room, room_with_end}
 
@@ -101,10 +100,11 @@ module _ (h : HeaderStageState) (w : ScoreWriterState) (item : Result Char Fault
     pub short_book_given : AreHeadsShort → GoTogether h w → IsShortBook w.score.limits book
     short_book_given heads_short together = subst (λ (b : List (List ℕ × List ℕ)). IsShortBook w.score.limits b) (sym book_after) (short_stage_after h w item heads_short together)
 
-    pub together_given : (new : ScoreWriterState) → AreHeadsShort → GoTogether h w → ((w.part ≡ part.Body) → ⊥) → (new.part ≡ part.Body → IsBodyPast w.part from_heads) → IsSteady w new → GoTogether now new
-    together_given new heads_short together not_body past steady =
+    pub together_given : (new : ScoreWriterState) → AreHeadsShort → GoTogether h w → w.writer.written.headed ≡ false
+        → (headed_past w.writer.written.headed from_heads ≡ false → new.writer.written.headed ≡ false) → IsSteady w new → GoTogether now new
+    together_given new heads_short together unheaded past steady =
         subst (λ (s : HeaderStageState). GoTogether s new) (sym is_now)
-        (together_by_heads h w new item heads_short together not_body (λ e. subst (λ (events : List HeadEvent). IsBodyPast w.part events) step.is (past e)) steady)
+        (together_by_heads h w new item heads_short together unheaded (λ none. past (ap (headed_past w.writer.written.headed) step.is ∙ none)) steady)
 
     pub writes_given : (new : ScoreWriterState) → WritesAll w from_heads book new → WritesItems h w (item ∷ []) now new
     writes_given new writes =

@@ -1,5 +1,5 @@
 -- The end of an input, or the failure of its source, brings what was still to come.
-use Rattle.std.proofs.Common.{◌≡◌, ℕ, List, [], ◌∷◌, ◌++◌, false, Result, Ok, Err, refl, ap, sym, ◌∙◌, subst}
+use Rattle.std.proofs.Common.{◌≡◌, ℕ, inr, List, [], ◌∷◌, ◌++◌, Result, Ok, Err, ap, sym, ◌∙◌, subst}
 use Rattle.gabc_places.specs.BoundedList.{extended_by}
 use Rattle.gabc_places.specs.StageLaw.{concat_of}
 use Rattle.gabc_places.specs.declared.code.Fault.{Fault}
@@ -11,18 +11,14 @@ use Rattle.gabc_headers.specs.declared.heads.Heads.{Heads}
 use Rattle.gabc_headers.specs.declared.heads.HeadFault.{HeadFault}
 use Rattle.gabc_headers.specs.Heads.{heads_of}
 use Rattle.gabc_headers.specs.declared.head_event.HeadEvent.{HeadEvent}
-use Rattle.gabc_headers.specs.HeadEvents.{emitted_by}
 use Rattle.gabc_headers.specs.witness.HeadEvents.{HeaderStageState, HeadProgress, reading, behind, over, events_at_end, events_of_end, stage_at}
-use Rattle.gregorio.specs.declared.run_part.RunPart.{RunPart}
-use Rattle.gregorio.specs.declared.run_part.RunPart.TheVariants as part
 use Rattle.gregorio.specs.declared.source_ending.SourceEnding.{SourceEnding}
 use Rattle.gregorio.specs.declared.source_ending.SourceEnding.TheVariants.{Whole as Ended}
-use Rattle.gregorio.specs.Engine.{is_running_in}
 use Rattle.gregorio.specs.Streams.{Streams, behind_bytes, ended_with}
-use Rattle.gregorio.specs.witness.Engine.{book_behind, head_events_left, streams_by_part}
-use Rattle.gregorio.specs.Outcome.{is_whole}
-use Rattle.gregorio.specs.machine.ScoreWriter.{ScoreWriterState, FitsEvents, IsReserved, IsShortBook, WritesLast, streams_of}
+use Rattle.gregorio.specs.witness.Engine.{book_behind, head_events_left}
+use Rattle.gregorio.specs.machine.ScoreWriter.{ScoreWriterState, FitsEvents, IsOver, IsReserved, IsShortBook, IsSteady, WritesLast, streams_of}
 use Rattle.gregorio.specs.machine.Engine.{AreBooksAt, GoTogether, IsEmpty, IsSettled, WritesAll, WritesItems, streams_of_items}
+use Rattle.gregorio.proofs.StreamsOfOutputs.{over_is_last}
 use Rattle.gregorio.proofs.pieces.BytesAreJoined.{behind_both, extended_by_both, waits_now}
 use Rattle.gregorio.proofs.pieces.RoomIsLeft.{none_are_few, room_for_none, room_with_end}
 use Rattle.gregorio_jobs.specs.declared.job.Status.{Status}
@@ -56,31 +52,25 @@ ends_now s w new status e empty =
 
 -- ---- behind the end
 
-pub over_is_last : (d : DecoderState) (h : HeaderStageState) (w : ScoreWriterState) (status : Status) → w.part ≡ part.Over status → (bytes : List ℕ) (ending : SourceEnding)
-    → streams_of_items h w ending (emitted_by (is_whole ending) bytes (decoder.events_left d bytes)) ≡ ended_with status
-over_is_last d h w status over_now bytes ending =
-    let items = emitted_by (is_whole ending) bytes (decoder.events_left d bytes) in
-    ap (λ (p : RunPart). streams_by_part p w.score w.writer.written (book_behind h items) (head_events_left h ending items)) over_now
+pub over_of_items : (h : HeaderStageState) (w : ScoreWriterState) (status : Status) → IsOver w.writer.written w.score status → (ending : SourceEnding) (items : List (Result Char Fault))
+    → streams_of_items h w ending items ≡ ended_with status
+over_of_items h w status o ending items = over_is_last w.writer.written w.score status o (book_behind h items) (head_events_left h ending items)
 
-settled_part : (p : RunPart) (w : ScoreWriterState) → is_running_in p ≡ false → (book other : List (List ℕ × List ℕ)) (from_heads more : List HeadEvent)
-    → streams_by_part p w.score w.writer.written book from_heads ≡ streams_by_part p w.score w.writer.written other more
-settled_part part.Heads w h book other from_heads more = absurd (cc h)
-settled_part part.Body w h book other from_heads more = absurd (cc h)
-settled_part (part.Over status) w h book other from_heads more = refl
+pub over_is_settled : (w : ScoreWriterState) (status : Status) → IsOver w.writer.written w.score status → IsSettled w
+over_is_settled w status o book other from_heads more = over_is_last w.writer.written w.score status o book from_heads ∙ sym (over_is_last w.writer.written w.score status o other more)
 
-pub over_is_settled : (w : ScoreWriterState) → is_running_in w.part ≡ false → IsSettled w
-over_is_settled w h = settled_part w.part w h
-
--- behind the end, the streams are those of nothing more
-pub ends_again : (h : HeaderStageState) (w new : ScoreWriterState) (status : Status) (ending : SourceEnding) (items : List (Result Char Fault)) → is_running_in w.part ≡ false → WritesLast w new status
-    → EndsWith (streams_of_items h w ending items) w new status
-ends_again h w new status ending items stopped a = record {
-  output = a.output;
-  lines = a.lines;
-  out = a.out;
-  messages = a.messages;
-  law = over_is_settled w stopped _ [] _ [] ∙ a.law [];
+-- a writer that is over goes together with a stage that has the same limits
+pub over_together : (h : HeaderStageState) (old new : ScoreWriterState) (status : Status) → GoTogether h old → IsSteady old new → IsOver new.writer.written new.score status → GoTogether h new
+over_together h old new status together steady o = record {
+  limits = together.limits ∙ sym steady.limits;
+  headed = λ e. inr (over_is_settled new status o);
+  book = together.book;
+  short = together.short;
 }
+
+-- with that stage behind its last event too
+pub over_stage : (h : HeaderStageState) (w : ScoreWriterState) → IsSettled w → GoTogether h w → GoTogether (stage_at h over) w
+over_stage h w settled together = record { limits = together.limits; headed = λ e. inr settled; book = tt; short = together.short }
 
 -- ---- the end of the input
 

@@ -1,5 +1,7 @@
 -- An item that is read, by way of the stage of headers or behind the line `%%` without it, brings what was to come for it.
-use Rattle.std.proofs.Common.{◌≡◌, ℕ, ◌⊎◌, inl, inr, List, [], ◌∷◌, ◌++◌, map, Bool, true, false, cond, Result, Ok, Err, refl, ap, sym, ◌∙◌, subst}
+use Rattle.std.proofs.Common.{◌≡◌, ℕ, ◌⊎◌, inl, inr, List, [], ◌∷◌, ◌++◌, map, Bool, true, false, ◌||◌, cond, Result, Ok, Err, refl, ap, sym, ◌∙◌, subst}
+use Rattle.std.proofs.lemmas.Bool.{true≢false}
+use Rattle.std.specs.List.{list_any}
 use Rattle.gabc_places.specs.StageLaw.{concat_of}
 use Rattle.gabc_places.specs.declared.code.Fault.{Fault}
 use Rattle.gabc_places.specs.declared.code.Finding.{Finding}
@@ -13,15 +15,13 @@ use Rattle.gabc_headers.specs.Heads.{heads_of}
 use Rattle.gabc_headers.specs.HeadEvents.{event_of_book}
 use Rattle.gabc_headers.specs.witness.HeadEvents.{HeaderStageState, HeadProgress, reading, behind, over, IsBehind, book_at, events_by, events_of_input, new_findings, progress_after, progress_by, stage_after, stage_past}
 use Rattle.gabc_score.specs.witness.ScoreStage.{ScoreStageState, left_of}
-use Rattle.gabc_score.specs.ScoreEvents.{ScoreOutput}
-use Rattle.gregorio.specs.declared.run_part.RunPart.{RunPart}
-use Rattle.gregorio.specs.declared.run_part.RunPart.TheVariants as part
 use Rattle.gregorio.specs.declared.source_ending.SourceEnding.{SourceEnding}
 use Rattle.gregorio.specs.declared.source_ending.SourceEnding.TheVariants.{Whole as Ended, Broken}
 use Rattle.gregorio.specs.Streams.{Streams, behind_bytes}
-use Rattle.gregorio.specs.witness.Engine.{book_behind, head_events_left, streams_by_part, streams_in}
+use Rattle.gregorio.specs.witness.Engine.{book_behind, head_events_left, is_heads, streams_in}
 use Rattle.gregorio.specs.machine.ScoreWriter.{ScoreWriterState, IsBookAt, IsShortBook, IsSteady, WritesAt, streams_of}
-use Rattle.gregorio.specs.machine.Engine.{AreBooksAt, GoTogether, HasMark, IsBodyPast, IsBookRead, IsSettled, WritesAll, WritesItems, event_of_item}
+use Rattle.gregorio.specs.machine.Engine.{AreBooksAt, GoTogether, IsBookRead, IsSettled, WritesAll, WritesItems, event_of_item, headed_past}
+use Rattle.gregorio.proofs.StreamsOfOutputs.{in_body}
 use Rattle.gregorio.proofs.pieces.BytesAreJoined.{behind_same, extended_by_none}
 
 -- ---- the stage of headers
@@ -82,29 +82,25 @@ items_by_heads h w new item a = record {
 
 -- ---- what holds of it then
 
-no_mark_found : (fs : List Finding) → HasMark (map (λ f. head_event.Found f) fs) → ⊥
-no_mark_found [] h = h
-no_mark_found (f ∷ fs) h = no_mark_found fs h
+just_found : (fs : List Finding) → list_any is_heads (map (λ f. head_event.Found f) fs) ≡ false
+just_found [] = refl
+just_found (f ∷ fs) = just_found fs
 
-mark_by : (t : List ℕ) (found : List Finding) (r : Result Heads HeadFault) → HasMark (events_by found r) → IsBehind (progress_by t r)
-mark_by t found (Ok heads) h = tt
-mark_by t found (Err stopped) h = by stopped.at_end h
+-- the stage of headers is behind the line `%%`, or no headers are whole among what it gives
+behind_by : (t : List ℕ) (found : List Finding) (r : Result Heads HeadFault) → IsBehind (progress_by t r) ⊎ (list_any is_heads (events_by found r) ≡ false)
+behind_by t found (Ok heads) = inl tt
+behind_by t found (Err stopped) = inr (by stopped.at_end)
   where
-    by : (at_end : Bool) → HasMark (cond at_end (map (λ f. head_event.Found f) found) (head_event.Stop stopped.fault ∷ [])) → IsBehind (cond at_end (reading t) over)
-    by true mark = absurd (no_mark_found found mark)
-    by false mark = absurd mark
+    by : (at_end : Bool) → list_any is_heads (cond at_end (map (λ f. head_event.Found f) found) (head_event.Stop stopped.fault ∷ [])) ≡ false
+    by true = just_found found
+    by false = refl
 
-mark_is_behind : (limits : Limits) (progress : HeadProgress) (item : Result Char Fault) → HasMark (events_of_input limits progress item) → IsBehind (progress_after limits progress item)
-mark_is_behind limits (reading t) (Ok c) h = mark_by (t ++ c.c ∷ []) (new_findings limits t (t ++ c.c ∷ [])) (heads_of limits (t ++ c.c ∷ [])) h
-mark_is_behind limits (reading t) (Err fault) h = absurd h
-mark_is_behind limits (behind book) (Ok c) h = tt
-mark_is_behind limits (behind book) (Err fault) h = absurd h
-mark_is_behind limits over item h = absurd h
-
-mark_past : (p : RunPart) (events : List HeadEvent) → ((p ≡ part.Body) → ⊥) → IsBodyPast p events → HasMark events
-mark_past part.Body events not_body h = absurd (not_body refl)
-mark_past part.Heads events not_body h = h
-mark_past (part.Over status) events not_body h = h
+behind_or_none : (limits : Limits) (progress : HeadProgress) (item : Result Char Fault) → IsBehind (progress_after limits progress item) ⊎ (list_any is_heads (events_of_input limits progress item) ≡ false)
+behind_or_none limits (reading t) (Ok c) = behind_by (t ++ c.c ∷ []) (new_findings limits t (t ++ c.c ∷ [])) (heads_of limits (t ++ c.c ∷ []))
+behind_or_none limits (reading t) (Err fault) = inr refl
+behind_or_none limits (behind book) (Ok c) = inl tt
+behind_or_none limits (behind book) (Err fault) = inr refl
+behind_or_none limits over item = inr refl
 
 book_is_read : (progress : HeadProgress) (old : List (List ℕ × List ℕ)) → IsBookRead progress (book_at progress old)
 book_is_read (reading t) old = tt
@@ -132,14 +128,18 @@ short_after heads_short limits (behind book) old (Ok c) read h = subst (λ (b : 
 short_after heads_short limits (behind book) old (Err fault) read h = h
 short_after heads_short limits over old item read h = h
 
-pub together_by_heads : (h : HeaderStageState) (w new : ScoreWriterState) (item : Result Char Fault) → AreHeadsShort → GoTogether h w → ((w.part ≡ part.Body) → ⊥)
-    → (new.part ≡ part.Body → IsBodyPast w.part (events_of_input h.limits h.progress item)) → IsSteady w new → GoTogether (stage_after h item) new
-together_by_heads h w new item heads_short together not_body past steady = record {
+pub together_by_heads : (h : HeaderStageState) (w new : ScoreWriterState) (item : Result Char Fault) → AreHeadsShort → GoTogether h w → w.writer.written.headed ≡ false
+    → (headed_past w.writer.written.headed (events_of_input h.limits h.progress item) ≡ false → new.writer.written.headed ≡ false) → IsSteady w new → GoTogether (stage_after h item) new
+together_by_heads h w new item heads_short together unheaded past steady = record {
   limits = together.limits ∙ sym steady.limits;
-  body = λ e. inl (mark_is_behind h.limits h.progress item (mark_past w.part (events_of_input h.limits h.progress item) not_body (past e)));
+  headed = λ e. inl (by e (behind_or_none h.limits h.progress item));
   book = book_is_read (progress_after h.limits h.progress item) h.book;
   short = short_after heads_short h.limits h.progress h.book item together.book together.short;
 }
+  where
+    by : new.writer.written.headed ≡ true → IsBehind (progress_after h.limits h.progress item) ⊎ (list_any is_heads (events_of_input h.limits h.progress item) ≡ false) → IsBehind (progress_after h.limits h.progress item)
+    by headed (inl is) = is
+    by headed (inr none) = absurd (true≢false (sym headed ∙ past (ap (λ (b : Bool). b || list_any is_heads (events_of_input h.limits h.progress item)) unheaded ∙ none)))
 
 pub short_stage_after : (h : HeaderStageState) (w : ScoreWriterState) (item : Result Char Fault) → AreHeadsShort → GoTogether h w → IsShortBook w.score.limits (stage_after h item).book
 short_stage_after h w item heads_short together =
@@ -151,12 +151,12 @@ short_stage_after h w item heads_short together =
 abbrev pub IsStopLast : Type 0
 IsStopLast = (s : ScoreStageState) (fault : Fault) (from_heads : List HeadEvent) → concat_of (left_of s (head_event.Stop fault ∷ from_heads)) ≡ concat_of (left_of s (head_event.Stop fault ∷ []))
 
-stop_in_body : IsStopLast → (w : ScoreWriterState) → w.part ≡ part.Body → (fault : Fault) (book other : List (List ℕ × List ℕ)) (from_heads more : List HeadEvent)
+stop_in_body : IsStopLast → (w : ScoreWriterState) → w.writer.written.headed ≡ true → (fault : Fault) (book other : List (List ℕ × List ℕ)) (from_heads more : List HeadEvent)
     → streams_of w book (head_event.Stop fault ∷ from_heads) ≡ streams_of w other (head_event.Stop fault ∷ more)
-stop_in_body last w body fault book other from_heads more =
-    ap (λ (p : RunPart). streams_by_part p w.score w.writer.written book (head_event.Stop fault ∷ from_heads)) body
-    ∙ (ap (λ (outputs : List ScoreOutput). streams_in w.writer.written [] true outputs) (last w.score fault from_heads ∙ sym (last w.score fault more))
-    ∙ ap (λ (p : RunPart). streams_by_part p w.score w.writer.written other (head_event.Stop fault ∷ more)) (sym body))
+stop_in_body last w headed fault book other from_heads more =
+    in_body w.writer.written book (head_event.Stop fault ∷ from_heads) (left_of w.score (head_event.Stop fault ∷ from_heads)) headed
+    ∙ (ap (streams_in w.writer.written) (last w.score fault from_heads ∙ sym (last w.score fault more))
+    ∙ sym (in_body w.writer.written other (head_event.Stop fault ∷ more) (left_of w.score (head_event.Stop fault ∷ more)) headed))
 
 -- an item of the body has no book
 no_book : (item : Result Char Fault) (book read : List (List ℕ × List ℕ)) → IsBookAt (event_of_item item) book read
@@ -189,7 +189,7 @@ module _ (w new : ScoreWriterState) (item : Result Char Fault) (a : WritesAt w (
               ∙ (a.law [] [] (no_book item [] [])
               ∙ ap (λ (s : Streams). behind_bytes a.output a.lines s) (after [] (book_behind h more) [] (head_events_left h ending more)));
         };
-        together = record { limits = together.limits ∙ sym steady.limits; body = λ e. inr after; book = together.book; short = together.short };
+        together = record { limits = together.limits ∙ sym steady.limits; headed = λ e. inr after; book = together.book; short = together.short };
       }
 
 character_read : (limits : Limits) (book : List (List ℕ × List ℕ)) (w new : ScoreWriterState) (c : Char) → WritesAt w (head_event.Body c) [] new
@@ -206,9 +206,9 @@ character_read limits book w new c a =
           ∙ a.law (book_behind h more) (head_events_left h ending more) tt;
     }
 
-stop_read : IsStopLast → (h : HeaderStageState) (book : List (List ℕ × List ℕ)) (w new : ScoreWriterState) (fault : Fault) → h.progress ≡ behind book → w.part ≡ part.Body → WritesAt w (head_event.Stop fault) [] new
+stop_read : IsStopLast → (h : HeaderStageState) (book : List (List ℕ × List ℕ)) (w new : ScoreWriterState) (fault : Fault) → h.progress ≡ behind book → WritesAt w (head_event.Stop fault) [] new
     → IsSettled new → WritesItems h w (Err fault ∷ []) h new
-stop_read last h book w new fault progress body a settled = record {
+stop_read last h book w new fault progress a settled = record {
   output = a.output;
   lines = a.lines;
   out = a.out;
@@ -221,7 +221,7 @@ stop_read last h book w new fault progress body a settled = record {
       ∙ ap (λ (s : Streams). behind_bytes a.output a.lines s) (settled (book_behind h (Err fault ∷ more)) (book_behind h more) rest (head_events_left h ending more)));
 }
 
-module _ (last : IsStopLast) (limits : Limits) (w new : ScoreWriterState) (body : w.part ≡ part.Body) (steady : IsSteady w new) where
+module _ (last : IsStopLast) (limits : Limits) (w new : ScoreWriterState) (headed : w.writer.written.headed ≡ true) (steady : IsSteady w new) where
   behind_item : (progress : HeadProgress) (book : List (List ℕ × List ℕ)) (item : Result Char Fault) → WritesAt w (event_of_item item) [] new → IsBehind progress
       → (let h : HeaderStageState = record { limits = limits; progress = progress; book = book } in GoTogether h w → ReadsItem h w item new)
   behind_item (reading t) book item a is together = absurd is
@@ -229,21 +229,21 @@ module _ (last : IsStopLast) (limits : Limits) (w new : ScoreWriterState) (body 
   behind_item (behind other) book (Ok c) a is together = record {
     writes = subst (λ (b : List (List ℕ × List ℕ)). let h : HeaderStageState = record { limits = limits; progress = behind b; book = book } in WritesItems h w (Ok c ∷ []) h new)
         (sym together.book) (character_read limits book w new c a);
-    together = record { limits = together.limits ∙ sym steady.limits; body = λ e. inl tt; book = together.book; short = together.short };
+    together = record { limits = together.limits ∙ sym steady.limits; headed = λ e. inl tt; book = together.book; short = together.short };
   }
   behind_item (behind other) book (Err fault) a is together =
-      let settled : IsSettled new = settled_behind w new (Err fault) a (stop_in_body last w body fault) in
+      let settled : IsSettled new = settled_behind w new (Err fault) a (stop_in_body last w headed fault) in
       record {
-        writes = stop_read last (record { limits = limits; progress = behind other; book = book }) other w new fault refl body a settled;
-        together = record { limits = together.limits ∙ sym steady.limits; body = λ e. inr settled; book = together.book; short = together.short };
+        writes = stop_read last (record { limits = limits; progress = behind other; book = book }) other w new fault refl a settled;
+        together = record { limits = together.limits ∙ sym steady.limits; headed = λ e. inr settled; book = together.book; short = together.short };
       }
 
-pub reads_item : IsStopLast → (h : HeaderStageState) (w new : ScoreWriterState) (item : Result Char Fault) → w.part ≡ part.Body → GoTogether h w → WritesAt w (event_of_item item) [] new → IsSteady w new
+pub reads_item : IsStopLast → (h : HeaderStageState) (w new : ScoreWriterState) (item : Result Char Fault) → w.writer.written.headed ≡ true → GoTogether h w → WritesAt w (event_of_item item) [] new → IsSteady w new
     → ReadsItem h w item new
-reads_item last h w new item body together a steady = by (together.body body)
+reads_item last h w new item headed together a steady = by (together.headed headed)
   where
     by : IsBehind h.progress ⊎ IsSettled w → ReadsItem h w item new
-    by (inl is) = behind_item last h.limits w new body steady h.progress h.book item a is together
+    by (inl is) = behind_item last h.limits w new headed steady h.progress h.book item a is together
     by (inr settled) = settled_item w new item a steady h together settled
 
 -- ---- no item

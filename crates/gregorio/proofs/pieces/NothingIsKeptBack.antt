@@ -1,5 +1,5 @@
 -- An engine keeps nothing back but the held syllable, and stops with the byte that brings a fault.
-use Rattle.std.proofs.Common.{◌≡◌, ℕ, ◌+◌, ◌-◌, ◌<◌, ◌≤◌, inl, inr, List, [], ◌∷◌, ◌++◌, length, map, take, drop, Bool, true, false, if◌then◌else◌, Option, Some, None, Result, Ok, Err, codes, refl, ap, sym, subst, ◌∙◌, arith, append-nil, length-append, take-add}
+use Rattle.std.proofs.Common.{rules, ◌≡◌, ℕ, ◌+◌, ◌-◌, ◌<◌, ◌≤◌, ◌⊎◌, ◌||◌, inl, inr, IsSome, List, [], ◌∷◌, ◌++◌, length, map, take, drop, Bool, true, false, if◌then◌else◌, Option, Some, None, Result, Ok, Err, codes, refl, ap, sym, subst, ◌∙◌, arith, append-nil, length-append, take-add}
 use Rattle.std.specs.List.{flat_map}
 use Rattle.gabc_places.specs.StageLaw.{concat_of}
 use Rattle.gabc_places.specs.declared.code.Fault.{Fault}
@@ -13,60 +13,56 @@ use Rattle.gabc_headers.specs.declared.head_event.HeadEvent.TheVariants as head_
 use Rattle.gabc_headers.specs.Heads.{heads_of}
 use Rattle.gabc_headers.specs.HeadEvents.{event_of_book}
 use Rattle.gabc_headers.specs.witness.HeadEvents.{HeadProgress, reading, behind, over, events_by, events_left, events_of_input, new_findings, progress_after}
-use Rattle.gabc_score.specs.ScoreEvents.{HasNoEnd, ScoreOutput, fault_in, findings_in, has_end, syllables_in}
+use Rattle.gabc_score.specs.ScoreEvents.{HasNoEnd, ScoreOutput, Found, Stop, Syllable, End, fault_in, has_end, syllables_in}
 use Rattle.gabc_score.specs.witness.ScoreStage.{ScoreStageState, left_of}
 use Rattle.gabc_places.specs.Message.{message_text}
 use Rattle.gregorio_jobs.specs.declared.job.Format.{Format}
+use Rattle.gregorio_jobs.specs.declared.job.Status.{Status}
 use Rattle.gregorio_jobs.specs.declared.job.Status.TheVariants.{ReadFault}
-use Rattle.gregorio.specs.declared.run_part.RunPart.{RunPart}
-use Rattle.gregorio.specs.declared.run_part.RunPart.TheVariants as part
 use Rattle.gregorio.specs.declared.source_ending.SourceEnding.TheVariants.{Broken}
-use Rattle.gregorio.specs.Outcome.{fault_line, shown_line, status_by}
-use Rattle.gregorio.specs.Engine.{IsPrompt, NothingWaits, is_running, is_running_in}
-use Rattle.gregorio.specs.witness.Engine.{EngineState, Written, book_behind, head_events_left, items_left, outputs_from_heads, streams_by_part, streams_left}
+use Rattle.gregorio.specs.Outcome.{fault_line, shown_line}
+use Rattle.gregorio.specs.Engine.{IsHeldText, IsPrompt, NothingWaits, is_running}
+use Rattle.gregorio.specs.witness.Engine.{EngineState, Written, behind_heads, behind_output, behind_outputs, book_behind, ceased_status, first_list, head_events_left, items_left, lines_of_outputs, streams_from, streams_left, writes_heads}
 use Rattle.gregorio.specs.Streams.{Streams, count_behind, last_text, texts_behind}
-use Rattle.gregorio.proofs.pieces.BytesAreTaken.{Takes, none_wait}
+use Rattle.gregorio.specs.machine.ScoreWriter.{IsOver, IsSilent}
+use Rattle.gregorio.proofs.StreamsOfOutputs.{concat_first, first_false, said, second_empty, second_false}
+use Rattle.gregorio.proofs.pieces.BytesAreTaken.{GivesNoLast, Takes, broken_is_said, goes_on, none_wait, over_left}
 
 -- ---- what is held
 
--- what a stage of scores gives where its inputs cease
-pub record GivesOneAtMost (outputs : List ScoreOutput) : Type 0 where
-  pub findings : findings_in outputs ≡ []
-  pub stop : fault_in outputs ≡ None
-  pub end : has_end outputs ≡ false
-  pub few : length (syllables_in outputs) ≤ 1
-
-prompt_in_part : (score : ScoreStageState) (w : Written) (book : List (List ℕ × List ℕ)) (p : RunPart) → GivesOneAtMost (concat_of (left_of score [])) → IsPrompt w.format (streams_by_part p score w book [])
-prompt_in_part score w book part.Heads held = record { messages = refl; output = inl refl }
-prompt_in_part score w book (part.Over status) held = record { messages = refl; output = inl refl }
-prompt_in_part score w book part.Body held =
-    let outputs = concat_of (left_of score []) in
-    let syllables = syllables_in outputs in
-    record {
-      messages =
-          ap (λ (fs : List Finding). flat_map (shown_line w.name w.all_warnings) fs ++ fault_line w.name (fault_in outputs)) held.findings
-          ∙ ap (λ (fault : Option Fault). fault_line w.name fault) held.stop;
-      output = inr (record {
-        count = w.count;
-        force = w.force;
-        held = syllables;
-        few = held.few;
-        is = ap (λ (whole : Bool). texts_behind w.format w.count w.force syllables ++ last_text w.format whole (count_behind w.count syllables)) held.end;
-      });
-    }
-
-pub prompt_now : (s : EngineState) → GivesOneAtMost (concat_of (left_of s.score [])) → IsPrompt s.written.format (streams_left s Broken [])
-prompt_now s held = prompt_in_part s.score s.written _ s.part held
-
-over_in_part : (score : ScoreStageState) (w : Written) (book : List (List ℕ × List ℕ)) (from_heads : List HeadEvent) (p : RunPart) → is_running_in p ≡ false
-    → IsPrompt w.format (streams_by_part p score w book from_heads)
-over_in_part score w book from_heads part.Heads h = absurd (cc h)
-over_in_part score w book from_heads part.Body h = absurd (cc h)
-over_in_part score w book from_heads (part.Over status) h = record { messages = refl; output = inl refl }
+-- where the headers are not written, nothing is
+held_text : (headed : Bool) (w : Written) (outputs : List ScoreOutput) → w.headed ≡ headed → has_end outputs ≡ false → length (syllables_in outputs) ≤ 1
+    → ((said w outputs).output ≡ []) ⊎ IsHeldText w.format (said w outputs).output
+held_text false w outputs headed end few = inl (ap (λ (b : Bool). if b then texts_behind w.format w.count w.force (syllables_in outputs) ++ last_text w.format (has_end outputs) (count_behind w.count (syllables_in outputs)) else []) headed)
+held_text true w outputs headed end few = inr (record {
+  count = w.count;
+  force = w.force;
+  held = syllables_in outputs;
+  few = few;
+  is = ap (λ (b : Bool). if b then texts_behind w.format w.count w.force (syllables_in outputs) ++ last_text w.format (has_end outputs) (count_behind w.count (syllables_in outputs)) else []) headed
+      ∙ ap (λ (whole : Bool). texts_behind w.format w.count w.force (syllables_in outputs) ++ last_text w.format whole (count_behind w.count (syllables_in outputs))) end;
+})
 
 -- where a run is over, nothing is held
-pub prompt_where_over : (s : EngineState) → is_running s ≡ false → IsPrompt s.written.format (streams_left s Broken [])
-prompt_where_over s h = over_in_part s.score s.written _ _ s.part h
+pub prompt_where_over : (s : EngineState) (status : Status) → IsOver s.written s.score status → IsPrompt s.written.format (streams_left s Broken [])
+prompt_where_over s status ended =
+    subst (λ (streams : Streams). IsPrompt s.written.format streams) (sym (over_left s status ended Broken [])) (record { messages = refl; output = inl refl })
+
+pub prompt_now : (s : EngineState) → GivesNoLast (concat_of (left_of s.score [])) → length (syllables_in (concat_of (left_of s.score []))) ≤ 1 → (IsSome s.written.ended → IsSilent s.score)
+    → IsPrompt s.written.format (streams_left s Broken [])
+prompt_now s gives few silent = by s.written.ended refl
+  where
+    by : (ended : Option Status) → s.written.ended ≡ ended → IsPrompt s.written.format (streams_left s Broken [])
+    by (Some status) ended = prompt_where_over s status (record { ended = ended; silent = silent (subst IsSome (sym ended) (search rules)) })
+    by None ended =
+        let outputs = concat_of (left_of s.score []) in
+        let w = s.written in
+        subst (λ (streams : Streams). IsPrompt w.format streams) (sym (broken_is_said s ended gives)) (record {
+          messages =
+              ap (λ (fs : List Finding). flat_map (shown_line w.name w.all_warnings) fs ++ fault_line w.name (fault_in outputs)) gives.findings
+              ∙ ap (λ (fault : Option Fault). fault_line w.name fault) gives.stop;
+          output = held_text w.headed w outputs refl gives.end few;
+        })
 
 -- ---- the last byte
 
@@ -99,16 +95,24 @@ prompt_further first now piece rest count more is so_far waits some format promp
 
 -- ---- a fault is told
 
-not_empty : (a b : List ℕ) (x : ℕ) (later : List ℕ) → a ++ (b ++ (x ∷ later)) ≡ [] → ⊥
-not_empty a b x later e =
+not_empty : (a : List ℕ) (x : ℕ) (later rest : List ℕ) → (a ++ (x ∷ later)) ++ rest ≡ [] → ⊥
+not_empty a x later rest e =
     let none = ap length e in
-    let first = length-append a (b ++ (x ∷ later)) in
-    let second = length-append b (x ∷ later) in
+    let first = length-append (a ++ (x ∷ later)) rest in
+    let second = length-append a (x ∷ later) in
     omega (arith, none, first, second)
 
-no_fault : (lines name : List ℕ) (fault : Option Fault) → lines ++ fault_line name fault ≡ [] → fault ≡ None
-no_fault lines name None e = refl
-no_fault lines name (Some fault) e = absurd (not_empty lines (name ++ codes ":" ++ message_text fault.place fault.code) 10 [] e)
+first_empty : (a b : List ℕ) → a ++ b ≡ [] → a ≡ []
+first_empty [] b e = refl
+first_empty (x ∷ a) b e = absurd (cc e)
+
+-- where no line is written, and there is no end, the run goes on
+no_fault : (w : Written) (outputs : List ScoreOutput) → lines_of_outputs w outputs ≡ [] → has_end outputs ≡ false → (behind_outputs w outputs).ended ≡ w.ended
+no_fault w [] none end = refl
+no_fault w (Found f ∷ outputs) none end = no_fault (behind_output w (Found f)) outputs (second_empty (shown_line w.name w.all_warnings f) _ none) end
+no_fault w (Stop fault ∷ outputs) none end = absurd (not_empty (w.name ++ codes ":" ++ message_text fault.place fault.code) 10 [] (lines_of_outputs (behind_output w (Stop fault)) outputs) none)
+no_fault w (Syllable s ∷ outputs) none end = no_fault (behind_output w (Syllable s)) outputs none end
+no_fault w (End ∷ outputs) none end = absurd (cc end)
 
 no_end_in_both : (xs ys : List HeadEvent) → HasNoEnd xs → HasNoEnd ys → HasNoEnd (xs ++ ys)
 no_end_in_both [] ys h k = k
@@ -147,33 +151,31 @@ no_end_left limits progress (x ∷ xs) =
 abbrev pub EndsAtTheEnd : Type 0
 EndsAtTheEnd = (s : ScoreStageState) (xs : List HeadEvent) → HasNoEnd xs → has_end (concat_of (left_of s xs)) ≡ false
 
-no_end_from_heads : EndsAtTheEnd → (score : ScoreStageState) (xs : List HeadEvent) → HasNoEnd xs → has_end (outputs_from_heads score xs) ≡ false
-no_end_from_heads end score [] h = refl
-no_end_from_heads end score (head_event.Heads lines macros canonical ∷ xs) h = end score (head_event.Heads lines macros canonical ∷ xs) h
-no_end_from_heads end score (head_event.Stop fault ∷ xs) h = refl
-no_end_from_heads end score (head_event.Found f ∷ xs) h = no_end_from_heads end score xs h
-no_end_from_heads end score (head_event.Body x ∷ xs) h = no_end_from_heads end score xs h
-no_end_from_heads end score (head_event.End ∷ xs) h = absurd h
+first_has_end : (outputs rest : List ScoreOutput) → has_end (outputs ++ rest) ≡ (has_end outputs || has_end rest)
+first_has_end [] rest = refl
+first_has_end (Found f ∷ outputs) rest = first_has_end outputs rest
+first_has_end (Stop fault ∷ outputs) rest = first_has_end outputs rest
+first_has_end (Syllable s ∷ outputs) rest = first_has_end outputs rest
+first_has_end (End ∷ outputs) rest = refl
 
-read_fault : (w : Written) (errors : Bool) (lines : List ℕ) (outputs : List ScoreOutput) → lines ++ fault_line w.name (fault_in outputs) ≡ [] → has_end outputs ≡ false
-    → status_by (fault_in outputs) (if has_end outputs then false else true) errors ≡ ReadFault
-read_fault w errors lines outputs none end =
-    ap (λ (fault : Option Fault). status_by fault (if has_end outputs then false else true) errors) (no_fault lines w.name (fault_in outputs) none)
-    ∙ ap (λ (b : Bool). status_by None (if b then false else true) errors) end
-
-told_in_part : EndsAtTheEnd → (score : ScoreStageState) (w : Written) (book : List (List ℕ × List ℕ)) (from_heads : List HeadEvent) → HasNoEnd from_heads → (p : RunPart) → is_running_in p ≡ true
-    → (streams_by_part p score w book from_heads).messages ≡ [] → (streams_by_part p score w book from_heads).status ≡ ReadFault
-told_in_part end score w book from_heads h part.Heads runs none =
-    let outputs = outputs_from_heads score from_heads in
-    read_fault w _ (flat_map (shown_line w.name w.all_warnings) (findings_in outputs)) outputs none (no_end_from_heads end score from_heads h)
-told_in_part end score w book from_heads h part.Body runs none =
-    let outputs = concat_of (left_of score from_heads) in
-    read_fault w _ (flat_map (shown_line w.name w.all_warnings) (findings_in outputs)) outputs none (end score from_heads h)
-told_in_part end score w book from_heads h (part.Over status) runs none = absurd (cc runs)
+told : (w : Written) (book : List (List ℕ × List ℕ)) (from_heads : List HeadEvent) (lists : List (List ScoreOutput)) → has_end (concat_of lists) ≡ false → w.ended ≡ None
+    → (streams_from w book from_heads lists).messages ≡ [] → (streams_from w book from_heads lists).status ≡ ReadFault
+told w book [] lists end runs none =
+    let outputs = concat_of lists in
+    ap ceased_status (no_fault w outputs (sym (append-nil (lines_of_outputs w outputs)) ∙ none) end ∙ runs)
+told w book (x ∷ from_heads) lists end runs none =
+    let v = behind_heads w (writes_heads w x) in
+    let outputs = first_list lists in
+    let rest = streams_from (behind_outputs v outputs) book from_heads (drop 1 lists) in
+    let ends : (has_end outputs || has_end (concat_of (drop 1 lists))) ≡ false = sym (ap has_end (concat_first lists) ∙ first_has_end outputs (concat_of (drop 1 lists))) ∙ end in
+    told (behind_outputs v outputs) book from_heads (drop 1 lists) (second_false (has_end outputs) _ ends)
+    (no_fault v outputs (first_empty (lines_of_outputs v outputs) rest.messages none) (first_false (has_end outputs) _ ends) ∙ runs)
+    (second_empty (lines_of_outputs v outputs) rest.messages none)
 
 -- Where a run that breaks off writes no message, no fault has stopped it.
 pub no_fault_is_kept_back : EndsAtTheEnd → (s : EngineState) → is_running s ≡ true → (bytes : List ℕ) → (streams_left s Broken bytes).messages ≡ []
     → (streams_left s Broken bytes).status ≡ ReadFault
 no_fault_is_kept_back end s runs bytes none =
     let items = items_left s Broken bytes in
-    told_in_part end s.score s.written (book_behind s.heads items) (head_events_left s.heads Broken items) (no_end_left s.heads.limits s.heads.progress items) s.part runs none
+    let from_heads = head_events_left s.heads Broken items in
+    told s.written (book_behind s.heads items) from_heads (left_of s.score from_heads) (end s.score from_heads (no_end_left s.heads.limits s.heads.progress items)) (goes_on s.written.ended runs) none

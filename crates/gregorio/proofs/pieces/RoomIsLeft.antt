@@ -1,5 +1,5 @@
 -- Where nothing waits there is room for what an item and the end bring.
-use Rattle.std.proofs.Common.{◌≡◌, ℕ, ◌+◌, ◌*◌, ◌≤◌, List, [], ◌∷◌, ◌++◌, length, map, Bool, true, false, cond, Result, Ok, Err, refl, ap, append_assoc, append-nil, arith}
+use Rattle.std.proofs.Common.{◌≡◌, ℕ, ◌+◌, ◌*◌, ◌≤◌, List, [], ◌∷◌, ◌++◌, length, map, Bool, true, false, if◌then◌else◌, cond, Result, Ok, Err, refl, ap, append_assoc, append-nil, arith}
 use Rattle.std.proofs.Math.Nat.{mul-le-mul_right}
 use Rattle.gabc_places.specs.declared.code.Fault.{Fault}
 use Rattle.gabc_places.specs.declared.code.Finding.{Finding}
@@ -12,10 +12,8 @@ use Rattle.gabc_headers.specs.declared.head_event.HeadEvent.TheVariants as head_
 use Rattle.gabc_headers.specs.Heads.{heads_of}
 use Rattle.gabc_headers.specs.HeadEvents.{event_of_book}
 use Rattle.gabc_headers.specs.witness.HeadEvents.{HeadProgress, reading, behind, over, events_by, events_at_end, events_of_end, events_of_input, new_findings}
-use Rattle.gregorio.specs.declared.run_part.RunPart.{RunPart}
-use Rattle.gregorio.specs.declared.run_part.RunPart.TheVariants as part
 use Rattle.gregorio.specs.machine.RunWriter.{heads_room, line_room, syllable_room}
-use Rattle.gregorio.specs.machine.ScoreWriter.{ScoreWriterState, FitsEvents, IsReserved, events_room, heads_left}
+use Rattle.gregorio.specs.machine.ScoreWriter.{ScoreWriterState, FitsEvents, IsReserved, events_room}
 use Rattle.gregorio.specs.machine.Engine.{IsEmpty, event_of_item}
 use Rattle.gregorio_jobs.specs.declared.job.Format.{Format}
 
@@ -58,10 +56,9 @@ pub record AreFew (format : Format) (limit : ℕ) (events : List HeadEvent) : Ty
   pub count : length events ≤ 2
   pub room : events_room format limit (events ++ head_event.End ∷ []) ≤ 4 * syllable_room format limit + 128
 
-heads_within : (p : RunPart) (format : Format) (limit : ℕ) → heads_left p format limit ≤ heads_room format limit
-heads_within part.Heads format limit = omega arith
-heads_within part.Body format limit = omega arith
-heads_within (part.Over status) format limit = omega arith
+heads_within : (headed : Bool) (most : ℕ) → (if headed then 0 else most) ≤ most
+heads_within true most = omega arith
+heads_within false most = omega arith
 
 length_with_end : (events : List HeadEvent) → length (events ++ head_event.End ∷ []) ≡ length events + 1
 length_with_end [] = refl
@@ -76,7 +73,7 @@ room_with_end w events reserved empty few =
     let messages = reserved.messages in
     let out = reserved.out in
     let room = few.room in
-    let heads = heads_within w.part w.writer.written.format w.score.limits.header in
+    let heads = heads_within w.writer.written.headed (heads_room w.writer.written.format w.score.limits.header) in
     let no_output : length w.writer.out.items ≡ 0 = ap (λ (xs : List ℕ). length xs) empty.output in
     let no_lines : length w.writer.messages.items ≡ 0 = ap (λ (xs : List ℕ). length xs) empty.messages in
     let lines : (length all + 1) * line ≤ 4 * line = mul-le-mul_right line (omega (arith, n, count)) in

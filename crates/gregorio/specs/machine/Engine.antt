@@ -1,16 +1,15 @@
 -- What an engine does with items, which are characters or the fault that stops the text, and what holds of it between two calls.
-use Rattle.std.specs.Prelude.{◌≡◌, ◌≤◌, ◌⊎◌, ℕ, List, [], ◌∷◌, ◌++◌, Result, Ok, Err}
+use Rattle.std.specs.Prelude.{◌≡◌, ◌≤◌, ◌⊎◌, ◌||◌, ℕ, List, [], ◌∷◌, ◌++◌, Bool, true, Result, Ok, Err}
+use Rattle.std.specs.List.{list_any}
 use Rattle.gabc_places.specs.BoundedList.{BoundedList, extended_by}
 use Rattle.gabc_places.specs.declared.code.Fault.{Fault}
 use Rattle.gabc_places.specs.declared.place.Char.{Char}
 use Rattle.gabc_headers.specs.declared.head_event.HeadEvent.{HeadEvent}
 use Rattle.gabc_headers.specs.declared.head_event.HeadEvent.TheVariants as head_event
 use Rattle.gabc_headers.specs.witness.HeadEvents.{HeaderStageState, HeadProgress, reading, behind, over, IsBehind}
-use Rattle.gregorio.specs.declared.run_part.RunPart.{RunPart}
-use Rattle.gregorio.specs.declared.run_part.RunPart.TheVariants as part
 use Rattle.gregorio.specs.declared.source_ending.SourceEnding.{SourceEnding}
 use Rattle.gregorio.specs.Streams.{Streams, behind_bytes}
-use Rattle.gregorio.specs.witness.Engine.{book_behind, head_events_left}
+use Rattle.gregorio.specs.witness.Engine.{book_behind, head_events_left, is_heads}
 use Rattle.gregorio.specs.machine.ScoreWriter.{ScoreWriterState, streams_of, IsBookAt, IsShortBook, IsReserved}
 
 -- ---- events of the headers, one after the other
@@ -28,20 +27,9 @@ pub record WritesAll (old : ScoreWriterState) (events : List HeadEvent) (read : 
   pub messages : new.writer.messages ≡ extended_by old.writer.messages lines
   pub law : (book : List (List ℕ × List ℕ)) (from_heads : List HeadEvent) → AreBooksAt events book read → streams_of old book (events ++ from_heads) ≡ behind_bytes output lines (streams_of new book from_heads)
 
--- the line `%%` is among these
-abbrev pub HasMark : List HeadEvent → Type 0
-HasMark [] = ⊥
-HasMark (head_event.Heads lines macros canonical ∷ events) = Unit {0}
-HasMark (head_event.Found f ∷ events) = HasMark events
-HasMark (head_event.Stop fault ∷ events) = HasMark events
-HasMark (head_event.Body x ∷ events) = HasMark events
-HasMark (head_event.End ∷ events) = HasMark events
-
--- a run that was in this part can be in the body behind these
-abbrev pub IsBodyPast : RunPart → List HeadEvent → Type 0
-IsBodyPast part.Body events = Unit {0}
-IsBodyPast part.Heads events = HasMark events
-IsBodyPast (part.Over status) events = HasMark events
+-- behind these the headers are written at most where they were before or are whole among these
+abbrev pub headed_past : Bool → List HeadEvent → Bool
+headed_past headed events = headed || list_any is_heads events
 
 -- ---- items
 
@@ -79,11 +67,11 @@ IsBookRead (behind book) read = book ≡ read
 IsBookRead (reading t) read = Unit {0}
 IsBookRead over read = Unit {0}
 
--- The stage of headers and the writer have the same limits. Where the writer is in the body, the stage of headers is behind the line `%%`
--- too, or it is no matter what comes.
+-- The stage of headers and the writer have the same limits. Where the headers are written, the stage of headers is behind the line `%%`, or it
+-- is no matter what comes.
 pub record GoTogether (h : HeaderStageState) (w : ScoreWriterState) : Type 0 where
   pub limits : h.limits ≡ w.score.limits
-  pub body : w.part ≡ part.Body → IsBehind h.progress ⊎ IsSettled w
+  pub headed : w.writer.written.headed ≡ true → IsBehind h.progress ⊎ IsSettled w
   pub book : IsBookRead h.progress h.book
   pub short : IsShortBook h.limits h.book
 

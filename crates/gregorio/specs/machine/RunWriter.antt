@@ -1,17 +1,12 @@
 -- What a writer of runs does with what it is given.
-use Rattle.std.specs.Prelude.{◌≡◌, ℕ, ◌+◌, ◌*◌, ◌≤◌, ◌||◌, List, [], ◌∷◌, Bool, length}
+use Rattle.std.specs.Prelude.{◌≡◌, ℕ, ◌+◌, ◌*◌, ◌≤◌, List, [], ◌∷◌, Bool, Some, length}
 use Rattle.std.specs.List.{All}
 use Rattle.gabc_places.specs.BoundedList.{BoundedList, extended_by}
-use Rattle.gabc_places.specs.declared.code.Fault.{Fault}
-use Rattle.gabc_places.specs.declared.code.Finding.{Finding}
 use Rattle.gabc_score.specs.ScoreEvents.{ScoreOutput, Found, Stop, Syllable, End, syllables_in}
-use Rattle.gabc_score.specs.Syllable.{PlacedSyllable}
 use Rattle.gabc_places.specs.declared.limits.Limits.{Limits}
 use Rattle.gabc_score.specs.ScoreStage.{IsWithin}
-use Rattle.gabc_write.specs.Message.{line_of}
-use Rattle.gregorio.specs.Outcome.{shown_line, is_error_finding}
-use Rattle.gregorio.specs.witness.Engine.{Written}
-use Rattle.gregorio.specs.Streams.{heads_text, syllable_text, force_behind, last_text, next_number}
+use Rattle.gregorio.specs.witness.Engine.{Written, behind_heads, behind_output, behind_outputs, ceased_status, ceased_text, if_headed, is_before_heads, lines_of_output, lines_of_outputs, text_of_heads, text_of_output, texts_of_outputs}
+use Rattle.gregorio.specs.Streams.{last_text}
 use Rattle.gregorio_jobs.specs.declared.job.Format.{Format}
 use Rattle.gregorio_jobs.specs.declared.job.Format.TheVariants.{Gabc, Dump}
 
@@ -22,30 +17,27 @@ pub record RunWriterState : Type 0 where
   pub out : BoundedList ℕ
   pub messages : BoundedList ℕ
 
-abbrev pub with_output : RunWriterState → List ℕ → RunWriterState
-with_output w text = record w { out = extended_by w.out text }
-
-abbrev pub with_message : RunWriterState → List ℕ → RunWriterState
-with_message w text = record w { messages = extended_by w.messages text }
+-- where it has written this text and these lines
+abbrev pub with_bytes : RunWriterState → List ℕ → List ℕ → RunWriterState
+with_bytes w text lines = record w { out = extended_by w.out text; messages = extended_by w.messages lines }
 
 abbrev pub with_heads : RunWriterState → List (List ℕ × List ℕ) → RunWriterState
-with_heads w book = with_output w (heads_text w.written.format book)
-
-abbrev pub with_found : RunWriterState → Finding → RunWriterState
-with_found w f = record (with_message w (shown_line w.written.name w.written.all_warnings f)) { written = record w.written { errors = w.written.errors || is_error_finding f } }
-
-abbrev pub with_fault : RunWriterState → Fault → RunWriterState
-with_fault w fault = with_message w (line_of w.written.name fault.place fault.code)
-
-abbrev pub with_syllable : RunWriterState → PlacedSyllable → RunWriterState
-with_syllable w s =
-    let number = next_number w.written.count in
-    record (with_output w (syllable_text w.written.format number w.written.force s)) {
-      written = record w.written { count = number; force = force_behind w.written.format w.written.force s };
-    }
+with_heads w book =
+    let writes = is_before_heads w.written in
+    record w { written = behind_heads w.written writes; out = extended_by w.out (text_of_heads w.written book writes) }
 
 abbrev pub with_last : RunWriterState → Bool → RunWriterState
-with_last w whole = with_output w (last_text w.written.format whole w.written.count)
+with_last w whole = record w { out = extended_by w.out (if_headed w.written (last_text w.written.format whole w.written.count)) }
+
+abbrev pub past_output : RunWriterState → ScoreOutput → RunWriterState
+past_output w o = record (with_bytes w (text_of_output w.written o) (lines_of_output w.written o)) { written = behind_output w.written o }
+
+abbrev pub past_outputs : RunWriterState → List ScoreOutput → RunWriterState
+past_outputs w outputs = record (with_bytes w (texts_of_outputs w.written outputs) (lines_of_outputs w.written outputs)) { written = behind_outputs w.written outputs }
+
+-- where its source has failed, if the run is not over
+abbrev pub past_end : RunWriterState → RunWriterState
+past_end w = record w { written = record w.written { ended = Some (ceased_status w.written.ended) }; out = extended_by w.out (ceased_text w.written.ended w.written) }
 
 -- ---- how much room is reserved, in bytes
 

@@ -1,6 +1,6 @@
 -- What a writer of scores does with what a stage of headers gives.
-use Rattle.std.specs.Prelude.{false, true, None, ◌≡◌, ℕ, ◌+◌, ◌*◌, ◌<◌, ◌≤◌, List, [], ◌∷◌, ◌++◌, length, map, encode_utf8_all}
-use Rattle.gabc_places.specs.BoundedList.{extended_by}
+use Rattle.std.specs.Prelude.{false, true, Some, None, IsSome, ◌≡◌, ℕ, ◌+◌, ◌*◌, ◌<◌, ◌≤◌, List, [], ◌∷◌, ◌++◌, length, map, encode_utf8_all, if◌then◌else◌}
+use Rattle.gabc_places.specs.BoundedList.{BoundedList, extended_by}
 use Rattle.gabc_places.specs.declared.limits.Limits.{Limits}
 use Rattle.gabc_places.specs.declared.place.Place.{Place}
 use Rattle.gabc_headers.specs.Canonical.{canonical_heads}
@@ -11,21 +11,18 @@ use Rattle.gabc_score.specs.declared.score_event.ScoreEvent.TheVariants as event
 use Rattle.gabc_neumes.specs.InForce.{nothing_in_force}
 use Rattle.gabc_score.specs.ScoreEvents.{ScoreOutput, Found, Stop, Syllable, End}
 use Rattle.gabc_score.specs.ScoreStage.{body_inputs, lent_in}
-use Rattle.gabc_score.specs.witness.ScoreStage.{ScoreStageState}
-use Rattle.gregorio.specs.declared.run_part.RunPart.{RunPart}
-use Rattle.gregorio.specs.declared.run_part.RunPart.TheVariants as part
-use Rattle.gregorio.specs.Outcome.{input_name, status_by}
-use Rattle.gregorio_jobs.specs.declared.job.Status.TheVariants.{Fatal as FatalFault}
+use Rattle.gabc_places.specs.StageLaw.{concat_of}
+use Rattle.gabc_score.specs.witness.ScoreStage.{ScoreStageState, left_of}
+use Rattle.gregorio.specs.Outcome.{input_name}
 use Rattle.gregorio_jobs.specs.declared.job.Job.{Job}
 use Rattle.gregorio.specs.Streams.{Streams, behind_bytes, ended_with}
-use Rattle.gregorio.specs.witness.Engine.{Written, streams_by_part}
-use Rattle.gregorio.specs.machine.RunWriter.{RunWriterState, with_found, with_fault, with_syllable, with_last, line_room, syllable_room, heads_room, last_room}
+use Rattle.gregorio.specs.witness.Engine.{Written, streams_from}
+use Rattle.gregorio.specs.machine.RunWriter.{RunWriterState, line_room, syllable_room, heads_room, last_room}
 use Rattle.gregorio_jobs.specs.declared.job.Format.{Format}
 use Rattle.gregorio_jobs.specs.declared.job.Status.{Status}
 
 pub record ScoreWriterState : Type 0 where
   pub score : ScoreStageState
-  pub part : RunPart
   pub writer : RunWriterState
 
 -- what an event says, where this stage lends its syllable
@@ -35,26 +32,12 @@ output_of_event s (event.Stop fault) = Stop fault
 output_of_event s (event.Syllable lent) = Syllable (lent_in lent s)
 output_of_event s event.End = End
 
--- What it writes of an output: a stop or the end ends the run.
-abbrev pub past_output : ScoreWriterState → ScoreOutput → ScoreWriterState
-past_output s (Found f) = record s { writer = with_found s.writer f }
-past_output s (Stop fault) = record s { part = part.Over FatalFault; writer = with_last (with_fault s.writer fault) false }
-past_output s (Syllable x) = record s { writer = with_syllable s.writer x }
-past_output s End = record s { part = part.Over (status_by None false s.writer.written.errors); writer = with_last s.writer true }
-
-abbrev pub past_outputs : ScoreWriterState → List ScoreOutput → ScoreWriterState
-past_outputs s [] = s
-past_outputs s (o ∷ outputs) = past_outputs (past_output s o) outputs
-
-abbrev pub writer_at : ScoreStageState → RunPart → RunWriterState → ScoreWriterState
-writer_at score at writer = record { score = score; part = at; writer = writer }
-
 abbrev pub outputs_of_events : ScoreStageState → List ScoreEvent → List ScoreOutput
 outputs_of_events s events = map (output_of_event s) events
 
 -- what it will still write, where these come and the headers are this book
 abbrev pub streams_of : ScoreWriterState → List (List ℕ × List ℕ) → List HeadEvent → Streams
-streams_of s book from_heads = streams_by_part s.part s.score s.writer.written book from_heads
+streams_of s book from_heads = streams_from s.writer.written book from_heads (left_of s.score from_heads)
 
 -- ---- a call
 
@@ -71,11 +54,9 @@ pub record WritesAt (old : ScoreWriterState) (x : HeadEvent) (read : List (List 
   pub messages : new.writer.messages ≡ extended_by old.writer.messages lines
   pub law : (book : List (List ℕ × List ℕ)) (from_heads : List HeadEvent) → IsBookAt x book read → streams_of old book (x ∷ from_heads) ≡ behind_bytes output lines (streams_of new book from_heads)
 
--- At these characters, the first of which stands at this place, it was in the body and wrote nothing, and it goes on in its part with what
--- follows.
+-- At these characters, the first of which stands at this place, it was behind the headers and wrote nothing, and it goes on with what follows.
 pub record WritesNothing (old : ScoreWriterState) (at : Place) (bytes : List ℕ) (new : ScoreWriterState) : Type 0 where
-  pub body : 0 < length bytes → old.part ≡ part.Body
-  pub part : new.part ≡ old.part
+  pub headed : 0 < length bytes → old.writer.written.headed ≡ true
   pub limits : new.score.limits ≡ old.score.limits
   pub writer : new.writer ≡ old.writer
   pub law : (book : List (List ℕ × List ℕ)) (from_heads : List HeadEvent) → streams_of old book (body_inputs at bytes ++ from_heads) ≡ streams_of new book from_heads
@@ -88,12 +69,19 @@ pub record WritesLast (old new : ScoreWriterState) (status : Status) : Type 0 wh
   pub messages : new.writer.messages ≡ extended_by old.writer.messages lines
   pub law : (book : List (List ℕ × List ℕ)) → streams_of old book [] ≡ behind_bytes output lines (ended_with status)
 
--- behind the line `%%`
-abbrev pub IsBodyBehind : RunPart → HeadEvent → Type 0
-IsBodyBehind part.Body x = Unit {0}
-IsBodyBehind part.Heads (head_event.Heads lines macros canonical) = Unit {0}
-IsBodyBehind part.Heads _ = ⊥
-IsBodyBehind (part.Over status) x = ⊥
+-- whatever comes, a stage gives nothing more
+abbrev pub IsSilent : ScoreStageState → Type 0
+IsSilent s = (xs : List HeadEvent) → concat_of (left_of s xs) ≡ []
+
+-- The run is over, and ended so.
+pub record IsOver (written : Written) (score : ScoreStageState) (status : Status) : Type 0 where
+  pub ended : written.ended ≡ Some status
+  pub silent : IsSilent score
+
+-- Between two calls there is room for the events of one, and where the run is over the stage gives nothing.
+pub record IsScoreWriter (score : ScoreStageState) (events : BoundedList ScoreEvent) (writer : RunWriterState) : Type 0 where
+  pub room : 16 ≤ events.limit
+  pub silent : IsSome writer.written.ended → IsSilent score
 
 -- what no call changes: the limits, the format and the name, and how much the rooms take
 pub record IsSteady (old new : ScoreWriterState) : Type 0 where
@@ -119,19 +107,17 @@ event_room format limit (head_event.Found f) = last_room
 event_room format limit (head_event.Heads lines macros canonical) = last_room
 
 abbrev pub events_room : Format → ℕ → List HeadEvent → ℕ
-events_room format limit [] = syllable_room format limit + last_room
+events_room format limit [] = syllable_room format limit + 2 * last_room
 events_room format limit (x ∷ events) = event_room format limit x + events_room format limit events
 
--- before the body, room is kept for the headers
-abbrev pub heads_left : RunPart → Format → ℕ → ℕ
-heads_left part.Heads format limit = heads_room format limit
-heads_left part.Body format limit = 0
-heads_left (part.Over status) format limit = 0
+-- until the headers are written, room is kept for them
+abbrev pub heads_left : Written → ℕ → ℕ
+heads_left w limit = if w.headed then 0 else heads_room w.format limit
 
 -- There is room for what these bring, and for what the end of what comes brings then.
 pub record FitsEvents (s : ScoreWriterState) (events : List HeadEvent) : Type 0 where
   pub lines : length s.writer.messages.items + (length events + 1) * (16 * line_room s.writer.written.name) ≤ s.writer.messages.limit
-  pub texts : length s.writer.out.items + (heads_left s.part s.writer.written.format s.score.limits.header + events_room s.writer.written.format s.score.limits.syllable events) ≤ s.writer.out.limit
+  pub texts : length s.writer.out.items + (heads_left s.writer.written s.score.limits.header + events_room s.writer.written.format s.score.limits.syllable events) ≤ s.writer.out.limit
   pub scratch : s.score.limits.syllable ≤ s.writer.scratch
 
 -- the rooms that a writer has
@@ -146,4 +132,4 @@ emptied s = record s { writer = record s.writer { out = record s.writer.out { it
 
 -- nothing was written
 abbrev pub fresh_writer : Job → Written
-fresh_writer job = record { format = job.format; name = input_name job.input; all_warnings = job.all_warnings; count = 0; force = nothing_in_force; errors = false }
+fresh_writer job = record { format = job.format; name = input_name job.input; all_warnings = job.all_warnings; headed = false; count = 0; force = nothing_in_force; errors = false; ended = None }

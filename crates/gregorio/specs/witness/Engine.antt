@@ -1,8 +1,6 @@
 -- What an engine will still write, in any state. Nobody has to believe it: `Engine::new` states it of a fresh one.
-use Rattle.std.specs.Prelude.{ℕ, ◌+◌, ◌||◌, List, [], ◌∷◌, ◌++◌, Bool, true, false, Result, if◌then◌else◌}
-use Rattle.std.specs.List.{flat_map, list_any}
+use Rattle.std.specs.Prelude.{ℕ, ◌||◌, ◌&&◌, not, List, [], ◌∷◌, ◌++◌, drop, Bool, true, false, Option, Some, None, is_some, Result, if◌then◌else◌}
 use Rattle.gabc_places.specs.declared.code.Fault.{Fault}
-use Rattle.gabc_places.specs.declared.code.Finding.{Finding}
 use Rattle.gabc_places.specs.declared.place.Char.{Char}
 use Rattle.gabc_places.specs.DecoderMachine.{DecoderState}
 use Rattle.gabc_places.specs.witness.DecoderEvents as decoder
@@ -13,32 +11,33 @@ use Rattle.gabc_headers.specs.witness.HeadEvents.{HeaderStageState, stage_past}
 use Rattle.gabc_headers.specs.HeadEvents as heads
 use Rattle.gabc_headers.specs.witness.HeadEvents as heads_left
 use Rattle.gabc_neumes.specs.InForce.{InForce}
-use Rattle.gabc_score.specs.ScoreEvents.{ScoreOutput, Found, Stop, findings_in, syllables_in, fault_in, has_end}
+use Rattle.gabc_score.specs.ScoreEvents.{ScoreOutput, Found, Stop, Syllable, End}
 use Rattle.gabc_score.specs.witness.ScoreStage.{ScoreStageState, left_of}
-use Rattle.gregorio.specs.declared.run_part.RunPart.{RunPart}
-use Rattle.gregorio.specs.declared.run_part.RunPart.TheVariants as part
 use Rattle.gregorio.specs.declared.source_ending.SourceEnding.{SourceEnding}
-use Rattle.gregorio.specs.Outcome.{is_whole, shown_line, fault_line, is_error_finding, status_by}
+use Rattle.gregorio.specs.Outcome.{is_whole, shown_line, is_error_finding, status_by}
 use Rattle.gregorio_jobs.specs.declared.job.Format.{Format}
 use Rattle.gregorio_jobs.specs.declared.job.Status.{Status}
-use Rattle.gregorio.specs.Streams.{Streams, ended_with, heads_text, last_text, texts_behind, count_behind}
+use Rattle.gregorio_jobs.specs.declared.job.Status.TheVariants.{Fatal, ReadFault}
+use Rattle.gabc_write.specs.Message.{line_of}
+use Rattle.gregorio.specs.Streams.{Streams, behind_bytes, heads_text, syllable_text, force_behind, last_text, next_number}
 
--- What an engine writes: the format, what messages call the input, whether warnings are wanted; how many syllables were written, a count
--- that saturates; what is in force behind them, in a dump; and whether an error was found.
+-- What an engine writes: the format, what messages call the input, whether warnings are wanted; whether the headers were written; how many
+-- syllables were, a count that saturates; what is in force behind them, in a dump; whether an error was found; and how the run ended, once it is over.
 pub record Written : Type 0 where
   pub format : Format
   pub name : List ℕ
   pub all_warnings : Bool
+  pub headed : Bool
   pub count : ℕ
   pub force : InForce
   pub errors : Bool
+  pub ended : Option Status
 
--- What an engine shows: its stages, the part of the run in which it is, what it writes, and the bytes that wait to be taken.
+-- What an engine shows: its stages, what it writes, and the bytes that wait to be taken.
 pub record EngineState : Type 0 where
   pub decoder : DecoderState
   pub heads : HeaderStageState
   pub score : ScoreStageState
-  pub part : RunPart
   pub written : Written
   pub output : List ℕ
   pub messages : List ℕ
@@ -55,55 +54,97 @@ head_events_left h ending items = heads.emitted_by (is_whole ending) items (head
 abbrev pub book_behind : HeaderStageState → List (Result Char Fault) → List (List ℕ × List ℕ)
 book_behind h items = (stage_past h items).book
 
--- whether the headers are whole among these
-abbrev pub has_heads : List HeadEvent → Bool
-has_heads [] = false
-has_heads (head_event.Heads lines macros canonical ∷ from_heads) = true
-has_heads (head_event.Stop fault ∷ from_heads) = false
-has_heads (head_event.Found f ∷ from_heads) = has_heads from_heads
-has_heads (head_event.Body x ∷ from_heads) = has_heads from_heads
-has_heads (head_event.End ∷ from_heads) = has_heads from_heads
+-- ---- what the score says
 
--- What the run will still say where these come before the body: what is found in the headers, and what stops them; from the line `%%` on
--- it is what the stage of the score will still give.
-abbrev pub outputs_from_heads : ScoreStageState → List HeadEvent → List ScoreOutput
-outputs_from_heads score [] = []
-outputs_from_heads score (head_event.Heads lines macros canonical ∷ from_heads) = concat_of (left_of score (head_event.Heads lines macros canonical ∷ from_heads))
-outputs_from_heads score (head_event.Stop fault ∷ from_heads) = Stop fault ∷ []
-outputs_from_heads score (head_event.Found f ∷ from_heads) = Found f ∷ outputs_from_heads score from_heads
-outputs_from_heads score (head_event.Body x ∷ from_heads) = outputs_from_heads score from_heads
-outputs_from_heads score (head_event.End ∷ from_heads) = outputs_from_heads score from_heads
+-- no output comes before the headers
+abbrev pub if_headed : Written → List ℕ → List ℕ
+if_headed w text = if w.headed then text else []
 
-abbrev pub has_errors : List Finding → Bool
-has_errors findings = list_any is_error_finding findings
+-- the text that is written of what the score says
+abbrev pub text_of_output : Written → ScoreOutput → List ℕ
+text_of_output w (Found f) = []
+text_of_output w (Stop fault) = if_headed w (last_text w.format false w.count)
+text_of_output w (Syllable s) = if_headed w (syllable_text w.format (next_number w.count) w.force s)
+text_of_output w End = if_headed w (last_text w.format true w.count)
 
--- A run that neither a stop nor the end has ended is one whose source failed.
-abbrev pub status_in : Bool → List ScoreOutput → Status
-status_in errors outputs = status_by (fault_in outputs) (if has_end outputs then false else true) errors
+abbrev pub lines_of_output : Written → ScoreOutput → List ℕ
+lines_of_output w (Found f) = shown_line w.name w.all_warnings f
+lines_of_output w (Stop fault) = line_of w.name fault.place fault.code
+lines_of_output w (Syllable s) = []
+lines_of_output w End = []
 
--- what stands behind the syllables among these, if the headers are whole
-abbrev pub last_in : Bool → Format → ℕ → List ScoreOutput → List ℕ
-last_in headed format count outputs = if headed then last_text format (has_end outputs) (count_behind count (syllables_in outputs)) else []
+-- A stop or the end ends the run.
+abbrev pub behind_output : Written → ScoreOutput → Written
+behind_output w (Found f) = record w { errors = w.errors || is_error_finding f }
+behind_output w (Stop fault) = record w { ended = Some Fatal }
+behind_output w (Syllable s) = record w { count = if w.headed then next_number w.count else w.count; force = if w.headed then force_behind w.format w.force s else w.force }
+behind_output w End = record w { ended = Some (status_by None false w.errors) }
 
--- The streams of these, behind this text of the headers.
-abbrev pub streams_in : Written → List ℕ → Bool → List ScoreOutput → Streams
-streams_in w head headed outputs = record {
-  output = head ++ (texts_behind w.format w.count w.force (syllables_in outputs) ++ last_in headed w.format w.count outputs);
-  messages = flat_map (shown_line w.name w.all_warnings) (findings_in outputs) ++ fault_line w.name (fault_in outputs);
-  status = status_in (w.errors || has_errors (findings_in outputs)) outputs;
-}
+abbrev pub texts_of_outputs : Written → List ScoreOutput → List ℕ
+texts_of_outputs w [] = []
+texts_of_outputs w (o ∷ outputs) = text_of_output w o ++ texts_of_outputs (behind_output w o) outputs
 
-abbrev pub head_text_in : Format → List (List ℕ × List ℕ) → List HeadEvent → List ℕ
-head_text_in format book from_heads = if has_heads from_heads then heads_text format book else []
+abbrev pub lines_of_outputs : Written → List ScoreOutput → List ℕ
+lines_of_outputs w [] = []
+lines_of_outputs w (o ∷ outputs) = lines_of_output w o ++ lines_of_outputs (behind_output w o) outputs
 
--- In each part of a run, where these come and the headers are this book: behind a run nothing follows.
-abbrev pub streams_by_part : RunPart → ScoreStageState → Written → List (List ℕ × List ℕ) → List HeadEvent → Streams
-streams_by_part part.Heads score w book from_heads = streams_in w (head_text_in w.format book from_heads) (has_heads from_heads) (outputs_from_heads score from_heads)
-streams_by_part part.Body score w book from_heads = streams_in w [] true (concat_of (left_of score from_heads))
-streams_by_part (part.Over status) score w book from_heads = ended_with status
+abbrev pub behind_outputs : Written → List ScoreOutput → Written
+behind_outputs w [] = w
+behind_outputs w (o ∷ outputs) = behind_outputs (behind_output w o) outputs
+
+-- ---- the headers
+
+abbrev pub is_heads : HeadEvent → Bool
+is_heads (head_event.Heads lines macros canonical) = true
+is_heads _ = false
+
+-- the headers are not written yet, and the run goes on
+abbrev pub is_before_heads : Written → Bool
+is_before_heads w = not (w.headed || is_some w.ended)
+
+abbrev pub writes_heads : Written → HeadEvent → Bool
+writes_heads w x = is_heads x && is_before_heads w
+
+-- where they are written, the headers are this book
+abbrev pub text_of_heads : Written → List (List ℕ × List ℕ) → Bool → List ℕ
+text_of_heads w book writes = if writes then heads_text w.format book else []
+
+abbrev pub behind_heads : Written → Bool → Written
+behind_heads w writes = record w { headed = w.headed || writes }
+
+-- ---- what comes
+
+-- Where the input ceases, and neither a stop nor the end has come, its source has failed.
+abbrev pub ceased_text : Option Status → Written → List ℕ
+ceased_text None w = if_headed w (last_text w.format false w.count)
+ceased_text (Some status) w = []
+
+abbrev pub ceased_status : Option Status → Status
+ceased_status None = ReadFault
+ceased_status (Some status) = status
+
+abbrev pub ceased : Written → Streams
+ceased w = record { output = ceased_text w.ended w; messages = []; status = ceased_status w.ended }
+
+-- the streams of these, behind which the input ceases
+abbrev pub streams_in : Written → List ScoreOutput → Streams
+streams_in w outputs = behind_bytes (texts_of_outputs w outputs) (lines_of_outputs w outputs) (ceased (behind_outputs w outputs))
+
+abbrev pub first_list : List (List ScoreOutput) → List ScoreOutput
+first_list [] = []
+first_list (outputs ∷ lists) = outputs
+
+-- The streams where these come from the stage of headers, and of each of them, and of their end, the score says one of the lists.
+abbrev pub streams_from : Written → List (List ℕ × List ℕ) → List HeadEvent → List (List ScoreOutput) → Streams
+streams_from w book [] lists = streams_in w (concat_of lists)
+streams_from w book (x ∷ from_heads) lists =
+    let v = behind_heads w (writes_heads w x) in
+    behind_bytes (text_of_heads w book (writes_heads w x) ++ texts_of_outputs v (first_list lists)) (lines_of_outputs v (first_list lists))
+    (streams_from (behind_outputs v (first_list lists)) book from_heads (drop 1 lists))
 
 -- What an engine will still write of these bytes, behind which the input ends so, beside what waits.
 abbrev pub streams_left : EngineState → SourceEnding → List ℕ → Streams
 streams_left s ending bytes =
     let items = items_left s ending bytes in
-    streams_by_part s.part s.score s.written (book_behind s.heads items) (head_events_left s.heads ending items)
+    let from_heads = head_events_left s.heads ending items in
+    streams_from s.written (book_behind s.heads items) from_heads (left_of s.score from_heads)

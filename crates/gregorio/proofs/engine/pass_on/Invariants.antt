@@ -1,6 +1,6 @@
-use Rattle.std.proofs.Common.{List, ◌++◌, drop}
+use Rattle.std.proofs.Common.{◌≡◌, List, ◌++◌, drop, false}
 use Rattle.gabc_headers.specs.declared.head_event.HeadEvent.{HeadEvent as HeadItem}
-use Rattle.gregorio.specs.machine.Engine.{IsBodyPast, WritesAll}
+use Rattle.gregorio.specs.machine.Engine.{WritesAll, headed_past}
 use Rattle.gregorio.specs.machine.ScoreWriter.{FitsEvents, IsSteady, ScoreWriterState}
 use Rattle.gregorio.proofs.engine.pass_on.Given as goal
 
@@ -12,5 +12,5 @@ invariant-loop-event l =
       writes : (new : ScoreWriterState) → WritesAll l.writer left l.book new → WritesAll l.initial.writer l.from_heads l.book new;
       room : (events : List HeadItem) → FitsEvents l.initial.writer (l.from_heads ++ events) → FitsEvents l.writer (left ++ events);
       steady : IsSteady l.initial.writer l.writer;
-      part : IsBodyPast l.writer.part left → IsBodyPast l.initial.writer.part l.from_heads;
+      headed : headed_past l.initial.writer.writer.written.headed l.from_heads ≡ false → headed_past l.writer.writer.written.headed left ≡ false;
     }

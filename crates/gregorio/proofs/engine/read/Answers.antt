@@ -1,36 +1,46 @@
-use Rattle.std.proofs.Common.{◌≡◌, [], ◌∷◌, sym, subst, ◌∙◌}
+use Rattle.std.proofs.Common.{◌≡◌, [], ◌∷◌, false, ◌&&◌, Bool, Result, Ok, Err, refl, ap, sym, subst, ◌∙◌}
+use Rattle.gabc_places.specs.declared.code.Fault.{Fault}
+use Rattle.gabc_places.specs.declared.place.Char.{Char}
 use Rattle.gabc_headers.specs.declared.head_event.HeadEvent.{HeadEvent as HeadItem}
 use Rattle.gabc_headers.specs.declared.head_event.HeadEvent.TheVariants.{End}
-use Rattle.gregorio.specs.declared.run_part.RunPart.TheVariants.{Body}
+use Rattle.gregorio.specs.witness.Engine.{is_before_heads, is_heads, writes_heads}
+use Rattle.gregorio.specs.machine.Engine.{event_of_item}
 use Rattle.gregorio.specs.machine.ScoreWriter.{FitsEvents, WritesAt}
 use Rattle.gregorio.proofs.pieces.ItemsAreRead.{reads_item}
 use Rattle.gregorio.proofs.pieces.RoomIsLeft.{item_is_few, room_for_first, room_with_end}
 use Rattle.gregorio.proofs.engine.read.Goals as goal
 
-pub push_in_body-requires-clause-room : goal.push_in_body-requires-clause-room
-push_in_body-requires-clause-room c =
+no_heads : (item : Result Char Fault) → is_heads (event_of_item item) ≡ false
+no_heads (Ok x) = refl
+no_heads (Err fault) = refl
+
+pub pass-requires-clause-room : goal.pass-requires-clause-room
+pass-requires-clause-room c =
     let w = c.args.writer.now in
     room_for_first w c.body_event.result (End ∷ [])
     (subst (λ (x : HeadItem). FitsEvents w (x ∷ End ∷ [])) (sym c.body_event.ensures)
     (room_with_end w _ c.requires.reserved c.requires.empty (item_is_few w.writer.written.format w.score.limits.syllable c.args.item)))
 
-pub returns-in-Body-clause-together : goal.returns-in-Body-clause-together
-returns-in-Body-clause-together c =
-    let w = c.args.writer.now in
-    let body : w.part ≡ Body = sym c.part.ensures ∙ c.in-Body.is in
-    (reads_item c.nothing_follows_a_stop.ensures c.args.heads.now w c.push_in_body.new.self c.args.item body c.requires.together
-    (subst (λ (x : HeadItem). WritesAt w x [] c.push_in_body.new.self) c.body_event.ensures c.push_in_body.ensures.writes) c.push_in_body.ensures.steady).together
+pub pass-requires-clause-heads : goal.pass-requires-clause-heads
+pass-requires-clause-heads c =
+    ap (λ (x : HeadItem). writes_heads c.args.writer.now.writer.written x) c.body_event.ensures
+    ∙ ap (λ (b : Bool). b && is_before_heads c.args.writer.now.writer.written) (no_heads c.args.item)
 
-pub returns-in-Body-clause-writes : goal.returns-in-Body-clause-writes
-returns-in-Body-clause-writes c =
+pub returns-clause-together : goal.returns-clause-together
+returns-clause-together c =
     let w = c.args.writer.now in
-    let body : w.part ≡ Body = sym c.part.ensures ∙ c.in-Body.is in
-    (reads_item c.nothing_follows_a_stop.ensures c.args.heads.now w c.push_in_body.new.self c.args.item body c.requires.together
-    (subst (λ (x : HeadItem). WritesAt w x [] c.push_in_body.new.self) c.body_event.ensures c.push_in_body.ensures.writes) c.push_in_body.ensures.steady).writes
+    (reads_item c.nothing_follows_a_stop.ensures c.args.heads.now w c.pass.new.self c.args.item (sym c.headed.ensures ∙ c.if-not-headed.false) c.requires.together
+    (subst (λ (x : HeadItem). WritesAt w x [] c.pass.new.self) c.body_event.ensures (c.pass.ensures.writes [])) c.pass.ensures.steady).together
 
-pub returns-in-Body-clause-room : goal.returns-in-Body-clause-room
-returns-in-Body-clause-room c =
+pub returns-clause-writes : goal.returns-clause-writes
+returns-clause-writes c =
     let w = c.args.writer.now in
-    c.push_in_body.ensures.room (End ∷ [])
+    (reads_item c.nothing_follows_a_stop.ensures c.args.heads.now w c.pass.new.self c.args.item (sym c.headed.ensures ∙ c.if-not-headed.false) c.requires.together
+    (subst (λ (x : HeadItem). WritesAt w x [] c.pass.new.self) c.body_event.ensures (c.pass.ensures.writes [])) c.pass.ensures.steady).writes
+
+pub returns-clause-room : goal.returns-clause-room
+returns-clause-room c =
+    let w = c.args.writer.now in
+    c.pass.ensures.room (End ∷ [])
     (subst (λ (x : HeadItem). FitsEvents w (x ∷ End ∷ [])) (sym c.body_event.ensures)
     (room_with_end w _ c.requires.reserved c.requires.empty (item_is_few w.writer.written.format w.score.limits.syllable c.args.item)))

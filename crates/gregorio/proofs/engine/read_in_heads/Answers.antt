@@ -18,7 +18,7 @@ pub returns-clause-together : goal.returns-clause-together
 returns-clause-together c =
     let step = given_of_input c.args.heads.now _ c.args.item c.args.from_heads.now c.clear.new.self c.push.new.out c.slice.result.now c.clear.ensures c.push.ensures.events c.slice.ensures in
     together_given c.args.heads.now c.args.writer.now c.args.item c.slice.result.now step c.push.new.self c.push.ensures.state c.book.result.now c.book.ensures
-    c.pass_on.new.writer (short_heads c.canonical_lines_are_within_the_limits.ensures) c.requires.together c.requires.heads c.pass_on.ensures.part c.pass_on.ensures.steady
+    c.pass_on.new.writer (short_heads c.canonical_lines_are_within_the_limits.ensures) c.requires.together c.requires.heads c.pass_on.ensures.headed c.pass_on.ensures.steady
 
 pub returns-clause-writes : goal.returns-clause-writes
 returns-clause-writes c =

@@ -2,7 +2,8 @@ use Rattle.std.proofs.Common.{[], ap, sym, ◌∙◌}
 use Rattle.gregorio.specs.declared.source_ending.SourceEnding.TheVariants.{Broken}
 use Rattle.gregorio.specs.witness.Engine.{EngineState, streams_left}
 use Rattle.gregorio.specs.machine.Engine.{IsEmpty}
-use Rattle.gregorio.proofs.pieces.InputsAreEnded.{ends_last, ends_now, over_is_last, room_for_last}
+use Rattle.gregorio.proofs.pieces.InputsAreEnded.{ends_last, ends_now, over_of_items, over_together, room_for_last}
+use Rattle.gregorio.proofs.pieces.BytesAreTaken.{still_reserved}
 use Rattle.gregorio.proofs.engine.Engine.broken.Goals as goal
 
 pub finish-requires : goal.finish-requires
@@ -23,5 +24,16 @@ returns-clause-law c =
     ∙ ends_now _ c.self.inside.writer c.finish.new.self c.finish.result
     (ends_last c.self.inside.writer c.finish.new.self c.finish.result c.self.inside.heads.book c.finish.ensures.writes) empty
 
+pub returns-in-Some-clause-last : goal.returns-in-Some-clause-last
+returns-in-Some-clause-last c = λ bytes ending.
+    ap (λ (s : EngineState). streams_left s ending bytes) (sym c.self.view_is) ∙ over_of_items c.self.inside.heads c.self.inside.writer c.in-Some.status c.in-Some.ensures.over ending _
+
+pub invariant_of-self : goal.invariant_of-self
+invariant_of-self c = record {
+  few = c.self.invariant.few;
+  together = over_together c.self.inside.heads c.self.inside.writer c.finish.new.self c.finish.result c.self.invariant.together c.finish.ensures.steady c.finish.ensures.over;
+  reserved = still_reserved c.self.inside.writer c.finish.new.self c.finish.ensures.steady c.self.invariant.reserved;
+}
+
 pub returns-clause-last : goal.returns-clause-last
-returns-clause-last c = λ bytes ending. over_is_last c.self.inside.decoder c.self.inside.heads c.finish.new.self c.finish.result c.finish.ensures.part bytes ending
+returns-clause-last c = λ bytes ending. over_of_items c.self.inside.heads c.finish.new.self c.finish.result c.finish.ensures.over ending _

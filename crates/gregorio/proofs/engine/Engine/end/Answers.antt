@@ -1,35 +1,27 @@
-use Rattle.std.proofs.Common.{List, [], option_to_list, ap, sym, subst, ◌∙◌, append-nil}
+use Rattle.std.proofs.Common.{List, [], option_to_list, ap, sym, subst, ◌∙◌, append-nil, arith}
 use Rattle.gabc_headers.specs.declared.head_event.HeadEvent.{HeadEvent as HeadItem}
-use Rattle.gregorio.specs.declared.engine.Engine.TheInside.{Inside}
+use Rattle.gabc_headers.specs.witness.HeadEvents.{HeaderStageState}
+use Rattle.gabc_places.specs.BoundedList.{BoundedList}
+use Rattle.gregorio.specs.Streams.{ended_with}
 use Rattle.gregorio.specs.declared.source_ending.SourceEnding.TheVariants.{Whole}
-use Rattle.gregorio.specs.Engine.{is_running}
 use Rattle.gregorio.specs.witness.Engine.{EngineState, streams_left}
-use Rattle.gregorio.specs.machine.Engine.{IsEmpty, streams_of_items}
-use Rattle.gregorio.specs.machine.ScoreWriter.{FitsEvents, WritesLast}
-use Rattle.gabc_places.specs.witness.DecoderEvents as decoder
-use Rattle.gabc_places.specs.StageLaw.{concat_of}
+use Rattle.gregorio.specs.machine.Engine.{GoTogether, IsEmpty}
+use Rattle.gregorio.specs.machine.ScoreWriter.{FitsEvents}
 use Rattle.gregorio.proofs.pieces.HeadersAreRead.{given_of_end}
 use Rattle.gregorio.proofs.pieces.RoomIsLeft.{room_for_end}
-use Rattle.gregorio.proofs.pieces.InputsAreEnded.{EndsWith, ends_again, ends_given, ends_items, ends_now, over_is_last, room_for_last}
-use Rattle.gregorio.proofs.engine.Engine.end.Goals.{then-running, else-running}
+use Rattle.gregorio.proofs.pieces.InputsAreEnded.{ends_given, ends_items, ends_now, over_is_settled, over_of_items, over_stage, over_together}
+use Rattle.gregorio.proofs.pieces.BytesAreTaken.{none_wait, still_reserved}
+use Rattle.gregorio.proofs.pieces.EventsAreWritten.{steady_both}
 use Rattle.gregorio.proofs.engine.Engine.end.Goals as goal
 
 pub finish-requires-2 : goal.finish-requires-2
 finish-requires-2 c =
-    let empty : IsEmpty c.self.inside.writer = record {
-      output = ap (λ (s : EngineState). s.output) c.self.view_is ∙ c.requires.waits.output;
-      messages = ap (λ (s : EngineState). s.messages) c.self.view_is ∙ c.requires.waits.messages;
-    } in
-    let room : FitsEvents c.if-running.self-inside.writer [] = elim c.if-running.branch [
-      | then-running w ↦ subst (λ (i : Inside). FitsEvents i.writer []) (sym w.self-inside-is)
-          (w.pass_on.ensures.room [] (subst (λ (events : List HeadItem). FitsEvents w.read_decoded.new.writer events) (sym (append-nil w.slice.result.now))
-          (subst (λ (events : List HeadItem). FitsEvents w.read_decoded.new.writer events)
-          (sym (given_of_end w.read_decoded.new.heads w.read_decoded.new.from_heads w.clear.new.self w.finish.new.out w.slice.result.now
-          w.clear.ensures w.finish.ensures.ends w.slice.ensures))
-          (room_for_end w.read_decoded.new.writer w.read_decoded.new.heads.limits w.read_decoded.new.heads.progress w.read_decoded.ensures.room))))
-      | else-running w ↦ subst (λ (i : Inside). FitsEvents i.writer []) (sym w.self-inside-is) (room_for_last c.self.inside.writer c.self.invariant.reserved empty)
-    ] in
-    record { room = room }
+    let w = c.read_decoded.new.writer in
+    let from_heads = given_of_end c.read_decoded.new.heads c.read_decoded.new.from_heads c.clear.new.self c.finish.new.out c.slice.result.now c.clear.ensures c.finish.ensures.ends c.slice.ensures in
+    record {
+      room = c.pass_on.ensures.room [] (subst (λ (events : List HeadItem). FitsEvents w events) (sym (append-nil c.slice.result.now))
+          (subst (λ (events : List HeadItem). FitsEvents w events) (sym from_heads) (room_for_end w c.read_decoded.new.heads.limits c.read_decoded.new.heads.progress c.read_decoded.ensures.room)));
+    }
 
 pub returns-clause-law : goal.returns-clause-law
 returns-clause-law c =
@@ -37,24 +29,36 @@ returns-clause-law c =
       output = ap (λ (s : EngineState). s.output) c.self.view_is ∙ c.requires.waits.output;
       messages = ap (λ (s : EngineState). s.messages) c.self.view_is ∙ c.requires.waits.messages;
     } in
-    let ends : EndsWith (streams_of_items c.self.inside.heads c.self.inside.writer Whole (concat_of (decoder.events_left c.self.inside.decoder []))) c.self.inside.writer c.finish-2.new.self c.finish-2.result
-    = elim c.if-running.branch [
-      | then-running w ↦
-          let last : WritesLast w.pass_on.new.writer c.finish-2.new.self c.finish-2.result =
-          subst (λ (i : Inside). WritesLast i.writer c.finish-2.new.self c.finish-2.result) w.self-inside-is c.finish-2.ensures.writes in
-          let from_heads = given_of_end w.read_decoded.new.heads w.read_decoded.new.from_heads w.clear.new.self w.finish.new.out w.slice.result.now
-          w.clear.ensures w.finish.ensures.ends w.slice.ensures in
-          ends_items c.self.inside.decoder c.self.inside.heads w.read_decoded.new.heads c.self.inside.writer w.read_decoded.new.writer c.finish-2.new.self c.finish-2.result
-          (option_to_list w.end-item.result) w.end-item.ensures.item w.read_decoded.ensures.writes
-          (ends_given w.read_decoded.new.heads w.read_decoded.new.writer w.pass_on.new.writer c.finish-2.new.self c.finish-2.result w.slice.result.now w.book.result.now from_heads w.pass_on.ensures.writes last)
-      | else-running w ↦
-          ends_again c.self.inside.heads c.self.inside.writer c.finish-2.new.self c.finish-2.result Whole (concat_of (decoder.events_left c.self.inside.decoder []))
-          (ap is_running c.self.view_is ∙ (sym c.running.ensures ∙ w.if-running.false))
-          (subst (λ (i : Inside). WritesLast i.writer c.finish-2.new.self c.finish-2.result) w.self-inside-is c.finish-2.ensures.writes)
-    ] in
+    let from_heads = given_of_end c.read_decoded.new.heads c.read_decoded.new.from_heads c.clear.new.self c.finish.new.out c.slice.result.now c.clear.ensures c.finish.ensures.ends c.slice.ensures in
+    let ends = ends_items c.self.inside.decoder c.self.inside.heads c.read_decoded.new.heads c.self.inside.writer c.read_decoded.new.writer c.finish-2.new.self c.finish-2.result
+    (option_to_list c.end-item.result) c.end-item.ensures.item c.read_decoded.ensures.writes
+    (ends_given c.read_decoded.new.heads c.read_decoded.new.writer c.pass_on.new.writer c.finish-2.new.self c.finish-2.result c.slice.result.now c.book.result.now from_heads c.pass_on.ensures.writes c.finish-2.ensures.writes) in
     ap (λ (s : EngineState). streams_left s Whole []) (sym c.self.view_is)
     ∙ ends_now _ c.self.inside.writer c.finish-2.new.self c.finish-2.result ends empty
 
+pub returns-in-Some-clause-last : goal.returns-in-Some-clause-last
+returns-in-Some-clause-last c = λ bytes ending.
+    ap (λ (s : EngineState). streams_left s ending bytes) (sym c.self.view_is) ∙ over_of_items c.self.inside.heads c.self.inside.writer c.in-Some.status c.in-Some.ensures.over ending _
+
+pub returns-in-Some-clause-law : goal.returns-in-Some-clause-law
+returns-in-Some-clause-law c =
+    ap (λ (s : EngineState). streams_left s Whole []) (sym c.self.view_is)
+    ∙ (over_of_items c.self.inside.heads c.self.inside.writer c.in-Some.status c.in-Some.ensures.over Whole _
+    ∙ sym (none_wait c.args.self.now c.requires.waits (ended_with c.in-Some.status)))
+
+pub invariant_of-self : goal.invariant_of-self
+invariant_of-self c =
+    let h = c.read_decoded.new.heads in
+    let w = c.read_decoded.new.writer in
+    let new = c.finish-2.new.self in
+    let steady = steady_both w c.pass_on.new.writer new c.pass_on.ensures.steady c.finish-2.ensures.steady in
+    let given = ap (λ (r : BoundedList HeadItem). r.limit) c.finish.ensures.ends.out in
+    let cleared = ap (λ (r : BoundedList HeadItem). r.limit) c.clear.ensures in
+    record {
+      few = omega (arith, c.self.invariant.few, c.read_decoded.ensures.few, given, cleared);
+      together = subst (λ (s : HeaderStageState). GoTogether s new) (sym c.finish.ensures.state) (over_stage h new (over_is_settled new c.finish-2.result c.finish-2.ensures.over) (over_together h w new c.finish-2.result c.read_decoded.ensures.together steady c.finish-2.ensures.over));
+      reserved = still_reserved c.self.inside.writer new (steady_both c.self.inside.writer w new c.read_decoded.ensures.steady steady) c.self.invariant.reserved;
+    }
+
 pub returns-clause-last : goal.returns-clause-last
-returns-clause-last c = λ bytes ending.
-    over_is_last c.if-running.self-inside.decoder c.if-running.self-inside.heads c.finish-2.new.self c.finish-2.result c.finish-2.ensures.part bytes ending
+returns-clause-last c = λ bytes ending. over_of_items c.finish.new.self c.finish-2.new.self c.finish-2.result c.finish-2.ensures.over ending _

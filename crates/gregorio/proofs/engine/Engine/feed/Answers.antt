@@ -1,9 +1,16 @@
-use Rattle.std.proofs.Common.{refl, inl, inr, length, length-drop, take, ap, sym, ◌∙◌, arith}
+use Rattle.std.proofs.Common.{◌≡◌, false, Option, Some, None, is_none, is_some, refl, inl, inr, length, length-drop, take, ap, sym, subst, ◌∙◌, arith}
+use Rattle.gregorio_jobs.specs.declared.job.Status.{Status}
+use Rattle.gregorio.specs.witness.Engine.{EngineState}
+use Rattle.gregorio.specs.machine.ScoreWriter.{IsOver}
 use Rattle.gregorio.proofs.PiecesAreSent.{all_behind}
-use Rattle.gregorio.proofs.pieces.BytesAreTaken.{read_fault_if_broken, stopped_takes, takes_none}
+use Rattle.gregorio.proofs.pieces.BytesAreTaken.{found_over, read_fault_if_broken, stopped_takes, takes_none}
 use Rattle.gregorio.proofs.pieces.FrontIsTaken.{takes_more}
 use Rattle.gregorio.proofs.pieces.NothingIsKeptBack.{no_fault_is_kept_back, prompt_further, prompt_where_over}
 use Rattle.gregorio.proofs.engine.Engine.feed.Goals as goal
+
+ran : (o : Option Status) → is_some o ≡ false → is_none o ≡ false → ⊥
+ran None some none = cc none
+ran (Some status) some none = cc some
 
 pub loop-count-init : goal.loop-count-init
 loop-count-init c = record {
@@ -38,10 +45,14 @@ pub returns-clause-law : goal.returns-clause-law
 returns-clause-law c = c.loop-count.invariant.taken
 
 pub returns-clause-running : goal.returns-clause-running
-returns-clause-running c = read_fault_if_broken c.inputs_that_cease_give_no_stop.ensures.stop c.inputs_that_cease_give_no_stop.ensures.end c.loop-count.self
+returns-clause-running c = λ runs.
+    let law = c.inputs_that_cease_give_no_stop.ensures in
+    let s = c.loop-count.self.score in
+    read_fault_if_broken c.loop-count.self runs (record { findings = law.findings s; stop = law.stop s; end = law.end s })
 
 pub returns-clause-over : goal.returns-clause-over
-returns-clause-over c = λ stopped. absurd (cc (sym c.if-not-running.false ∙ (c.running.ensures ∙ stopped)))
+returns-clause-over c = λ stopped. absurd (ran c.args.self.now.written.ended
+    (sym (c.is_some.ensures ∙ ap is_some (c.ended.ensures.ended ∙ ap (λ (s : EngineState). s.written.ended) c.self.view_is)) ∙ c.if-is_some.false) stopped)
 
 pub returns-clause-prompt : goal.returns-clause-prompt
 returns-clause-prompt c = c.keeps_nothing_back.ensures
@@ -53,18 +64,25 @@ pub returns-clause-fault : goal.returns-clause-fault
 returns-clause-fault c = λ runs something.
     no_fault_is_kept_back c.the_end_comes_with_the_end.ensures c.args.self.now runs _ (c.loop-count.invariant.stops something).messages
 
-pub returns-then-not-running-clause-prompt : goal.returns-then-not-running-clause-prompt
-returns-then-not-running-clause-prompt c = prompt_where_over c.args.self.now (sym c.running.ensures ∙ c.if-not-running.true)
+pub returns-then-is_some-clause-prompt : goal.returns-then-is_some-clause-prompt
+returns-then-is_some-clause-prompt c =
+    let over = found_over c.ended.result c.self.inside.writer.writer.written c.self.inside.writer.score (sym c.is_some.ensures ∙ c.if-is_some.true) c.ended.ensures.over in
+    prompt_where_over c.args.self.now over.0 (subst (λ (s : EngineState). IsOver s.written s.score over.0) c.self.view_is over.1)
 
-pub returns-then-not-running-clause-stops : goal.returns-then-not-running-clause-stops
-returns-then-not-running-clause-stops c = λ something. absurd (something c.requires.waits)
+pub returns-then-is_some-clause-stops : goal.returns-then-is_some-clause-stops
+returns-then-is_some-clause-stops c = λ something. absurd (something c.requires.waits)
 
-pub returns-then-not-running-clause-fault : goal.returns-then-not-running-clause-fault
-returns-then-not-running-clause-fault c = λ runs something. absurd (something c.requires.waits)
+pub returns-then-is_some-clause-fault : goal.returns-then-is_some-clause-fault
+returns-then-is_some-clause-fault c = λ runs something. absurd (something c.requires.waits)
 
-pub returns-then-not-running-clause-law : goal.returns-then-not-running-clause-law
-returns-then-not-running-clause-law c =
-    stopped_takes c.args.self.now (sym c.running.ensures ∙ c.if-not-running.true) c.requires.waits (take (length c.args.piece.now) c.args.piece.now)
+pub returns-then-is_some-clause-law : goal.returns-then-is_some-clause-law
+returns-then-is_some-clause-law c =
+    let over = found_over c.ended.result c.self.inside.writer.writer.written c.self.inside.writer.score (sym c.is_some.ensures ∙ c.if-is_some.true) c.ended.ensures.over in
+    stopped_takes c.args.self.now over.0 (subst (λ (s : EngineState). IsOver s.written s.score over.0) c.self.view_is over.1)
+    c.requires.waits (take (length c.args.piece.now) c.args.piece.now)
 
-pub returns-then-not-running-clause-running : goal.returns-then-not-running-clause-running
-returns-then-not-running-clause-running c = read_fault_if_broken c.inputs_that_cease_give_no_stop.ensures.stop c.inputs_that_cease_give_no_stop.ensures.end c.args.self.now
+pub returns-then-is_some-clause-running : goal.returns-then-is_some-clause-running
+returns-then-is_some-clause-running c = λ runs.
+    let law = c.inputs_that_cease_give_no_stop.ensures in
+    let s = c.args.self.now.score in
+    read_fault_if_broken c.args.self.now runs (record { findings = law.findings s; stop = law.stop s; end = law.end s })

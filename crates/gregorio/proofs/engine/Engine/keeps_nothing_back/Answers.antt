@@ -1,8 +1,9 @@
-use Rattle.std.proofs.Common.{[], ◌≤◌, length, subst}
+use Rattle.std.proofs.Common.{[], ◌≤◌, IsSome, length, subst}
 use Rattle.gabc_places.specs.StageLaw.{concat_of}
 use Rattle.gabc_score.specs.ScoreEvents.{syllables_in}
 use Rattle.gabc_score.specs.witness.ScoreStage.{left_of}
 use Rattle.gregorio.specs.witness.Engine.{EngineState}
+use Rattle.gregorio.specs.machine.ScoreWriter.{IsSilent}
 use Rattle.gregorio.proofs.pieces.NothingIsKeptBack.{prompt_now}
 use Rattle.gregorio.proofs.engine.Engine.keeps_nothing_back.Goals as goal
 
@@ -10,5 +11,6 @@ pub returns : goal.returns
 returns c =
     let s = c.args.self.now in
     let law = c.inputs_that_cease_give_no_stop.ensures in
-    let few = subst (λ (e : EngineState). length (syllables_in (concat_of (left_of e.score []))) ≤ 1) c.self.view_is c.at_most_one_is_held.ensures in
-    prompt_now s (record { findings = law.findings s.score; stop = law.stop s.score; end = law.end s.score; few = few })
+    let few = subst (λ (e : EngineState). length (syllables_in (concat_of (left_of e.score []))) ≤ 1) c.self.view_is c.at_most_one_is_held.ensures.held in
+    let over = subst (λ (e : EngineState). IsSome e.written.ended → IsSilent e.score) c.self.view_is c.at_most_one_is_held.ensures.over in
+    prompt_now s (record { findings = law.findings s.score; stop = law.stop s.score; end = law.end s.score }) few over

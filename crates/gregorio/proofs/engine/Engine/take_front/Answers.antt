@@ -27,6 +27,6 @@ returns-clause-law c = λ bytes ending.
     ∙ (ap (λ (s : EngineState). streams_left s ending (front ++ bytes)) (sym c.self.view_is)
     ∙ front_is_taken d c.skip.new.self c.self.inside.heads w new front writes c.self.invariant.together c.skip.ensures.joined bytes ending)
 
-pub returns-clause-format : goal.returns-clause-format
-returns-clause-format c =
-    ap (λ (w : RunWriterState). w.written.format) c.take_front-count.ensures.writes.writer ∙ ap (λ (s : EngineState). s.written.format) c.self.view_is
+pub returns-clause-written : goal.returns-clause-written
+returns-clause-written c =
+    ap (λ (w : RunWriterState). w.written) c.take_front-count.ensures.writes.writer ∙ ap (λ (s : EngineState). s.written) c.self.view_is

@@ -1,7 +1,7 @@
-use Rattle.std.proofs.Common.{ℕ, take, subst, ◌∙◌, arith}
+use Rattle.std.proofs.Common.{ℕ, take, ap, subst, ◌∙◌, arith}
 use Rattle.gregorio.specs.declared.source_ending.SourceEnding.TheVariants.{Broken}
 use Rattle.gregorio.specs.Engine.{IsPrompt}
-use Rattle.gregorio.specs.witness.Engine.{streams_left}
+use Rattle.gregorio.specs.witness.Engine.{Written, streams_left}
 use Rattle.gregorio.proofs.pieces.FrontIsTaken.{takes_front_and_byte}
 use Rattle.gregorio.proofs.pieces.NothingIsKeptBack.{one_more, prompt_behind}
 use Rattle.gregorio.proofs.engine.Engine.take_some.Goals as goal
@@ -23,4 +23,4 @@ returns-clause-stops c = λ something.
     let count = c.take_front-count.result in
     subst (λ (n : ℕ). IsPrompt c.args.self.now.written.format (streams_left c.args.self.now Broken (take n c.args.piece.now))) (one_more count)
     (prompt_behind c.args.self.now c.take_front-count.new.self (take count c.args.piece.now) (λ more. c.take_front-count.ensures.law more Broken)
-    c.take_front-count.ensures.format c.take.ensures.prompt)
+    (ap (λ (w : Written). w.format) c.take_front-count.ensures.written) c.take.ensures.prompt)

@@ -1,15 +1,33 @@
-use Rattle.std.proofs.Common.{[], sym, ap, ◌∙◌, subst}
-use Rattle.gregorio_jobs.specs.declared.job.Status.TheVariants.{ReadFault}
-use Rattle.gregorio.specs.declared.run_part.RunPart.TheVariants as part
-use Rattle.gregorio.specs.machine.ScoreWriter.{ScoreWriterState, WritesLast, writer_at}
-use Rattle.gregorio.proofs.HeadsAreWritten.{break_of_heads, nothing_is_written_last}
+use Rattle.std.proofs.Common.{ap, ◌∙◌, arith}
+use Rattle.gabc_places.specs.BoundedList.{BoundedList}
+use Rattle.gabc_score.specs.declared.score_event.ScoreEvent.{ScoreEvent}
+use Rattle.gregorio.specs.machine.RunWriter.{past_end}
+use Rattle.gregorio.proofs.AnEventIsWritten.{last_is_written, room_for_end, room_for_last}
+use Rattle.gregorio.proofs.OutputsOfEvents.{nothing_left}
 use Rattle.gregorio.proofs.score_writer.ScoreWriter.finish.Goals as goal
 
-pub returns-in-Heads-clause-writes : goal.returns-in-Heads-clause-writes
-returns-in-Heads-clause-writes c =
+pub write_events-requires : goal.write_events-requires
+write_events-requires c =
     let i = c.self.inside in
-    subst (λ (s : ScoreWriterState). WritesLast s (writer_at i.score (part.Over ReadFault) i.writer) ReadFault) c.self.view_is (break_of_heads (writer_at i.score i.part i.writer) [] c.in-Heads.is)
+    room_for_last i.score c.finish.new.self i.writer c.args.self.now c.self.view_is i.events c.clear.new.self c.finish.new.out c.clear.ensures c.slice.result.now c.slice.ensures c.finish.ensures.step c.finish.ensures.end c.requires.room
 
-pub returns-in-Over-clause-writes : goal.returns-in-Over-clause-writes
-returns-in-Over-clause-writes c =
-    nothing_is_written_last c.args.self.now c.in-Over.status (sym (ap (λ (s : ScoreWriterState). s.part) c.self.view_is) ∙ c.in-Over.is)
+pub cease-requires : goal.cease-requires
+cease-requires c =
+    let i = c.self.inside in
+    room_for_end i.score c.finish.new.self i.writer c.args.self.now c.self.view_is i.events c.clear.new.self c.finish.new.out c.clear.ensures c.slice.result.now c.slice.ensures c.finish.ensures.step c.finish.ensures.end c.requires.room
+    c.write_events.new.writer c.write_events.ensures.steady.out c.write_events.ensures.room
+
+pub returns-clause-writes : goal.returns-clause-writes
+returns-clause-writes c =
+    let i = c.self.inside in
+    last_is_written i.score c.finish.new.self i.writer c.args.self.now c.self.view_is i.events c.clear.new.self c.finish.new.out c.clear.ensures c.slice.result.now c.slice.ensures c.finish.ensures.step c.finish.ensures.end c.requires.room
+    c.cease.new.self c.cease.result (c.cease.ensures.writes ∙ ap past_end c.write_events.ensures.writes) c.cease.ensures.status
+
+pub returns-clause-over : goal.returns-clause-over
+returns-clause-over c = record { ended = c.cease.ensures.status; silent = λ xs. nothing_left c.finish.new.self xs c.finish.ensures.over }
+
+pub invariant_of-self : goal.invariant_of-self
+invariant_of-self c =
+    let given = ap (λ (r : BoundedList ScoreEvent). r.limit) c.finish.ensures.step.emitted.events in
+    let cleared = ap (λ (r : BoundedList ScoreEvent). r.limit) c.clear.ensures in
+    record { room = omega (arith, c.self.invariant.room, given, cleared); silent = λ over xs. nothing_left c.finish.new.self xs c.finish.ensures.over }

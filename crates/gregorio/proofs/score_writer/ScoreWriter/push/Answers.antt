@@ -1,11 +1,24 @@
-use Rattle.std.proofs.Common.{sym, ap, ◌∙◌}
-use Rattle.gregorio.specs.machine.ScoreWriter.{ScoreWriterState}
-use Rattle.gregorio.proofs.HeadsAreWritten.{nothing_is_written}
+use Rattle.std.proofs.Common.{sym, subst}
+use Rattle.gabc_headers.specs.declared.head_event.HeadEvent.{HeadEvent}
+use Rattle.gregorio.specs.machine.RunWriter.{RunWriterState, with_heads}
+use Rattle.gregorio.specs.machine.ScoreWriter.{ScoreWriterState, WritesAt}
+use Rattle.gregorio.proofs.AnEventIsWritten.{heads_are_written}
+use Rattle.gregorio.proofs.score_writer.ScoreWriter.push.Goals.{in-Heads, in_default}
 use Rattle.gregorio.proofs.score_writer.ScoreWriter.push.Goals as goal
 
-pub returns-in-Body-clause-writes : goal.returns-in-Body-clause-writes
-returns-in-Body-clause-writes c = c.push_in_body.ensures.any_book c.args.book.now
-
-pub returns-in-Over-clause-writes : goal.returns-in-Over-clause-writes
-returns-in-Over-clause-writes c =
-    nothing_is_written c.args.self.now c.in-Over.field-0 (sym (ap (λ (s : ScoreWriterState). s.part) c.self.view_is) ∙ c.in-Over.is) c.args.event c.args.book.now
+pub returns-clause-writes : goal.returns-clause-writes
+returns-clause-writes c =
+    let i = c.self.inside in
+    let old : ScoreWriterState = record { score = i.score; writer = i.writer } in
+    let read = c.args.book.now in
+    let new = c.pass.new.self in
+    elim c.match-event.branch [
+      | in-Heads w ↦
+          let passed = subst (λ (s : ScoreWriterState). WritesAt s c.args.event read new) w.self-is (c.pass.ensures.writes read) in
+          let behind = subst (λ (v : RunWriterState). WritesAt (record { score = i.score; writer = v }) c.args.event read new) w.heads.ensures.writes passed in
+          subst (λ (s : ScoreWriterState). WritesAt s c.args.event read new) c.self.view_is
+          (subst (λ (x : HeadEvent). WritesAt old x read new) (sym w.in-Heads.is)
+          (heads_are_written old w.in-Heads.nabc_lines w.in-Heads.macros w.in-Heads.canonical read new
+          (subst (λ (x : HeadEvent). WritesAt (record { score = i.score; writer = with_heads i.writer read }) x read new) w.in-Heads.is behind)))
+      | in_default w ↦ subst (λ (s : ScoreWriterState). WritesAt s c.args.event read new) w.self-is (c.pass.ensures.writes read)
+    ]

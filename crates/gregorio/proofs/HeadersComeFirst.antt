@@ -1,0 +1,76 @@
+-- The streams of what a stage of headers gives of a text, by what a score says of it that has taken nothing: first the headers, if they are whole.
+use Rattle.std.proofs.Common.{◌≡◌, ℕ, List, [], ◌∷◌, ◌++◌, map, drop, true, false, ◌||◌, Option, Some, None, is_some, Result, Ok, Err, inr, refl, sym, ap, ◌∙◌, append-nil}
+use Rattle.std.specs.List.{list_any}
+use Rattle.gabc_places.specs.StageLaw.{concat_of}
+use Rattle.gabc_places.specs.declared.code.Fault.{Fault}
+use Rattle.gabc_places.specs.declared.code.Finding.{Finding}
+use Rattle.gabc_places.specs.declared.limits.Limits.{Limits}
+use Rattle.gabc_headers.specs.declared.heads.Heads.{Heads}
+use Rattle.gabc_headers.specs.declared.heads.HeadFault.{HeadFault}
+use Rattle.gabc_headers.specs.declared.head_event.HeadEvent.{HeadEvent}
+use Rattle.gabc_headers.specs.declared.head_event.HeadEvent.TheVariants as head_event
+use Rattle.gabc_headers.specs.HeadEvents.{event_of_book}
+use Rattle.gabc_score.specs.Events.{Texts}
+use Rattle.gabc_score.specs.declared.ending.InputEnding.{InputEnding}
+use Rattle.gabc_score.specs.Score.{score_by, head_fault_by}
+use Rattle.gabc_score.specs.ScoreEvents.{ScoreOutput, Found, Stop, Syllable, End, score_outputs, stop_events, head_events_by, is_last}
+use Rattle.gregorio.specs.Outcome.{shown_line, is_error_finding}
+use Rattle.gregorio.specs.Streams.{Streams, behind_bytes, heads_text}
+use Rattle.gregorio.specs.witness.Engine.{Written, is_heads, streams_from, streams_in, text_of_heads}
+use Rattle.gregorio.proofs.StreamsOfOutputs.{EndsAtLast, going_on, in_body, one_and_rest, without_heads}
+
+-- ---- nothing stands behind the last
+
+abbrev pub NothingBehind : List ScoreOutput → Type 0
+NothingBehind outputs = (before behind : List ScoreOutput) (o : ScoreOutput) → outputs ≡ before ++ o ∷ behind → is_last o ≡ true → behind ≡ []
+
+behind_first : (x : ScoreOutput) (outputs : List ScoreOutput) → NothingBehind (x ∷ outputs) → NothingBehind outputs
+behind_first x outputs law before behind o e last = law (x ∷ before) behind o (ap (λ (l : List ScoreOutput). x ∷ l) e) last
+
+pub nothing_behind : (outputs : List ScoreOutput) → NothingBehind outputs → EndsAtLast (Unit {0}) outputs
+nothing_behind [] law = tt
+nothing_behind (Found f ∷ outputs) law = nothing_behind outputs (behind_first (Found f) outputs law)
+nothing_behind (Stop fault ∷ outputs) law = (law [] outputs (Stop fault) refl refl, tt)
+nothing_behind (Syllable s ∷ outputs) law = nothing_behind outputs (behind_first (Syllable s) outputs law)
+nothing_behind (End ∷ outputs) law = (law [] outputs End refl refl, tt)
+
+-- ---- the headers
+
+abbrev found_events : List Finding → List HeadEvent
+found_events fs = map (λ f. head_event.Found f) fs
+
+no_heads : (fs : List Finding) (o : Option Fault) → list_any is_heads (found_events fs ++ stop_events o) ≡ false
+no_heads [] None = refl
+no_heads [] (Some fault) = refl
+no_heads (f ∷ fs) o = no_heads fs o
+
+module _ (texts : Texts) (limits : Limits) (read : List (List ℕ × List ℕ)) where
+  abbrev says : List HeadEvent → List (List ScoreOutput)
+  says from_heads = score_outputs texts limits from_heads
+
+  -- what is found comes before them, and writes nothing behind them
+  heads_and_rest : (w : Written) (fs : List Finding) (book : List (List ℕ × List ℕ)) (rest : List HeadEvent)
+      → (let from_heads = found_events fs ++ event_of_book book ∷ rest in
+      streams_from (going_on false w) read from_heads (says from_heads) ≡ behind_bytes (heads_text w.format read) [] (streams_in (going_on true w) (concat_of (says from_heads))))
+  heads_and_rest w [] book rest =
+      let text = heads_text w.format read in
+      let v = going_on true w in
+      let lists = drop 1 (says (event_of_book book ∷ rest)) in
+      ap (λ (l : List ℕ). behind_bytes l [] (streams_from v read rest lists)) (append-nil text)
+      ∙ ap (λ (s : Streams). behind_bytes text [] s) (in_body v read rest lists refl)
+  heads_and_rest w (f ∷ fs) book rest =
+      let from_heads = found_events fs ++ event_of_book book ∷ rest in
+      let line = shown_line w.name w.all_warnings f in
+      let u : Written = record w { errors = w.errors || is_error_finding f } in
+      ap (λ (l : List ℕ). behind_bytes [] l (streams_from (going_on false u) read from_heads (says from_heads))) (append-nil line)
+      ∙ (ap (λ (s : Streams). behind_bytes [] line s) (heads_and_rest u fs book rest)
+      ∙ ap (λ (s : Streams). behind_bytes (heads_text w.format read) [] s) (sym (one_and_rest (going_on true w) (Found f) (concat_of (says from_heads)))))
+
+  pub heads_first : (w : Written) (ending : InputEnding) (t : List ℕ) (r : Result Heads HeadFault)
+      → (let from_heads = head_events_by ending t r in
+      let headed = is_some (score_by limits ending t r).book in
+      streams_from (going_on false w) read from_heads (says from_heads) ≡ behind_bytes (text_of_heads w read headed) [] (streams_in (going_on headed w) (concat_of (says from_heads))))
+  heads_first w ending t (Ok heads) = heads_and_rest w heads.findings heads.book _
+  heads_first w ending t (Err stop) =
+      let from_heads = head_events_by ending t (Err stop) in
+      without_heads (going_on false w) read from_heads (says from_heads) (inr (no_heads stop.findings (head_fault_by ending stop.at_end stop.fault)))

@@ -1,0 +1,197 @@
+-- The streams of what the score says, output by output, and with the headers.
+use Rattle.std.proofs.Common.{◌≡◌, ℕ, List, [], ◌∷◌, ◌++◌, drop, Bool, true, false, ◌||◌, ◌&&◌, not, Option, Some, None, is_some, ◌⊎◌, inl, inr, refl, sym, ap, ◌∙◌, subst, append-nil, append_assoc}
+use Rattle.std.proofs.Math.Bool.{or_assoc, or-false}
+use Rattle.std.proofs.lemmas.Bool.{false≢true}
+use Rattle.std.specs.List.{flat_map, list_any}
+use Rattle.gabc_places.specs.StageLaw.{concat_of}
+use Rattle.gabc_headers.specs.declared.head_event.HeadEvent.{HeadEvent}
+use Rattle.gabc_score.specs.ScoreEvents.{ScoreOutput, Found, Stop, Syllable, End, findings_in, syllables_in, fault_in, has_end}
+use Rattle.gabc_score.specs.witness.ScoreStage.{ScoreStageState, left_of}
+use Rattle.gabc_write.specs.Message.{line_of}
+use Rattle.gregorio_jobs.specs.declared.job.Status.{Status}
+use Rattle.gregorio.specs.Outcome.{shown_line, fault_line, is_error_finding, status_by}
+use Rattle.gregorio.specs.Streams.{Streams, behind_bytes, ended_with, syllable_text, force_behind, last_text, next_number, texts_behind, count_behind}
+use Rattle.gregorio.specs.witness.Engine.{Written, behind_heads, behind_output, behind_outputs, ceased, ceased_status, ceased_text, first_list, if_headed, is_before_heads, is_heads, lines_of_output, lines_of_outputs, streams_from, streams_in, text_of_heads, text_of_output, texts_of_outputs, writes_heads}
+use Rattle.gregorio.specs.machine.ScoreWriter.{IsOver}
+use Rattle.gregorio.proofs.pieces.BytesAreJoined.{behind_both, same_streams}
+
+-- ---- one output and those behind it
+
+pub one_and_rest : (w : Written) (o : ScoreOutput) (outputs : List ScoreOutput) → streams_in w (o ∷ outputs) ≡ behind_bytes (text_of_output w o) (lines_of_output w o) (streams_in (behind_output w o) outputs)
+one_and_rest w o outputs =
+    let v = behind_output w o in
+    behind_both (text_of_output w o) (lines_of_output w o) (texts_of_outputs v outputs) (lines_of_outputs v outputs) (ceased (behind_outputs v outputs))
+
+pub some_and_rest : (w : Written) (outputs rest : List ScoreOutput) → streams_in w (outputs ++ rest) ≡ behind_bytes (texts_of_outputs w outputs) (lines_of_outputs w outputs) (streams_in (behind_outputs w outputs) rest)
+some_and_rest w [] rest = refl
+some_and_rest w (o ∷ outputs) rest =
+    let v = behind_output w o in
+    one_and_rest w o (outputs ++ rest)
+    ∙ (ap (λ (s : Streams). behind_bytes (text_of_output w o) (lines_of_output w o) s) (some_and_rest v outputs rest)
+    ∙ sym (behind_both (text_of_output w o) (lines_of_output w o) (texts_of_outputs v outputs) (lines_of_outputs v outputs) (streams_in (behind_outputs v outputs) rest)))
+
+-- ---- what all of them say
+
+-- Behind a stop or the end nothing stands among these, and `P` holds.
+abbrev pub EndsAtLast : Type 0 → List ScoreOutput → Type 0
+EndsAtLast P [] = Unit {0}
+EndsAtLast P (Found f ∷ outputs) = EndsAtLast P outputs
+EndsAtLast P (Stop fault ∷ outputs) = (outputs ≡ []) × P
+EndsAtLast P (Syllable s ∷ outputs) = EndsAtLast P outputs
+EndsAtLast P (End ∷ outputs) = (outputs ≡ []) × P
+
+abbrev is_empty : {X : Type 0} → List X → Bool
+is_empty [] = true
+is_empty (x ∷ xs) = false
+
+-- a list with an item is not empty
+pub no_item : {X P : Type 0} (x : X) (xs : List X) → x ∷ xs ≡ [] → P
+no_item x xs e = absurd (false≢true (ap is_empty e))
+
+pub second_empty : {X : Type 0} (xs ys : List X) → xs ++ ys ≡ [] → ys ≡ []
+second_empty [] ys h = h
+second_empty (x ∷ xs) ys h = no_item x (xs ++ ys) h
+
+-- the streams of a run that goes on, by what is found, the syllables, the stop and the end
+abbrev pub said : Written → List ScoreOutput → Streams
+said w outputs = record {
+  output = if_headed w (texts_behind w.format w.count w.force (syllables_in outputs) ++ last_text w.format (has_end outputs) (count_behind w.count (syllables_in outputs)));
+  messages = flat_map (shown_line w.name w.all_warnings) (findings_in outputs) ++ fault_line w.name (fault_in outputs);
+  status = status_by (fault_in outputs) (not (has_end outputs)) (w.errors || list_any is_error_finding (findings_in outputs));
+}
+
+abbrev pub going_on : Bool → Written → Written
+going_on headed w = record w { headed = headed; ended = None }
+
+say : (P : Type 0) (headed : Bool) (w : Written) (outputs : List ScoreOutput) → EndsAtLast P outputs → streams_in (going_on headed w) outputs ≡ said (going_on headed w) outputs
+say P headed w [] ends = refl
+say P headed w (Found f ∷ outputs) ends =
+    let v = going_on headed w in
+    one_and_rest v (Found f) outputs
+    ∙ (ap (λ (s : Streams). behind_bytes [] (shown_line w.name w.all_warnings f) s) (say P headed (record w { errors = w.errors || is_error_finding f }) outputs ends)
+    ∙ same_streams _ _ refl
+    (sym (append_assoc (shown_line w.name w.all_warnings f) (flat_map (shown_line w.name w.all_warnings) (findings_in outputs)) (fault_line w.name (fault_in outputs))))
+    (ap (λ (errors : Bool). status_by (fault_in outputs) (not (has_end outputs)) errors) (or_assoc w.errors (is_error_finding f) (list_any is_error_finding (findings_in outputs)))))
+say P true w (Syllable s ∷ outputs) ends =
+    let v = going_on true w in
+    let text = syllable_text w.format (next_number w.count) w.force s in
+    let u : Written = record w { count = next_number w.count; force = force_behind w.format w.force s } in
+    one_and_rest v (Syllable s) outputs
+    ∙ (ap (λ (t : Streams). behind_bytes text [] t) (say P true u outputs ends)
+    ∙ same_streams _ _ (sym (append_assoc text (texts_behind w.format u.count u.force (syllables_in outputs)) (last_text w.format (has_end outputs) (count_behind u.count (syllables_in outputs))))) refl refl)
+say P false w (Syllable s ∷ outputs) ends = say P false w outputs ends
+say P headed w (Stop fault ∷ []) ends =
+    same_streams _ _ (append-nil (if_headed (going_on headed w) (last_text w.format false w.count) ++ []) ∙ append-nil (if_headed (going_on headed w) (last_text w.format false w.count)))
+    (append-nil (line_of w.name fault.place fault.code ++ []) ∙ append-nil (line_of w.name fault.place fault.code)) refl
+say P headed w (End ∷ []) ends =
+    same_streams _ _ (append-nil (if_headed (going_on headed w) (last_text w.format true w.count) ++ []) ∙ append-nil (if_headed (going_on headed w) (last_text w.format true w.count)))
+    refl (ap (status_by None false) (sym (or-false w.errors)))
+say P headed w (Stop fault ∷ (o ∷ outputs)) ends = no_item o outputs ends.0
+say P headed w (End ∷ (o ∷ outputs)) ends = no_item o outputs ends.0
+
+pub outputs_are_said : (P : Type 0) (w : Written) (outputs : List ScoreOutput) → w.ended ≡ None → EndsAtLast P outputs → streams_in w outputs ≡ said w outputs
+outputs_are_said P w outputs goes_on ends =
+    subst (λ (ended : Option Status). let v : Written = record w { ended = ended } in streams_in v outputs ≡ said v outputs) (sym goes_on) (say P w.headed w outputs ends)
+
+-- ---- the headers
+
+pub headed_stays : (w : Written) (outputs : List ScoreOutput) → (behind_outputs w outputs).headed ≡ w.headed
+headed_stays w [] = refl
+headed_stays w (Found f ∷ outputs) = headed_stays (behind_output w (Found f)) outputs
+headed_stays w (Stop fault ∷ outputs) = headed_stays (behind_output w (Stop fault)) outputs
+headed_stays w (Syllable s ∷ outputs) = headed_stays (behind_output w (Syllable s)) outputs
+headed_stays w (End ∷ outputs) = headed_stays (behind_output w End) outputs
+
+not_before : (headed : Bool) → not (headed || true) ≡ false
+not_before true = refl
+not_before false = refl
+
+-- where no headers are to be written, none are later
+never_later : (w : Written) (outputs : List ScoreOutput) → is_before_heads w ≡ false → is_before_heads (behind_outputs w outputs) ≡ false
+never_later w [] h = h
+never_later w (Found f ∷ outputs) h = never_later (behind_output w (Found f)) outputs h
+never_later w (Stop fault ∷ outputs) h = never_later (behind_output w (Stop fault)) outputs (not_before w.headed)
+never_later w (Syllable s ∷ outputs) h = never_later (behind_output w (Syllable s)) outputs h
+never_later w (End ∷ outputs) h = never_later (behind_output w End) outputs (not_before w.headed)
+
+-- at an event at which no headers are written
+pub no_heads_at : (w : Written) (book : List (List ℕ × List ℕ)) (x : HeadEvent) (from_heads : List HeadEvent) (lists : List (List ScoreOutput)) → writes_heads w x ≡ false
+    → streams_from w book (x ∷ from_heads) lists
+    ≡ behind_bytes (texts_of_outputs w (first_list lists)) (lines_of_outputs w (first_list lists)) (streams_from (behind_outputs w (first_list lists)) book from_heads (drop 1 lists))
+no_heads_at w book x from_heads lists none =
+    let outputs = first_list lists in
+    let at : Written → List ℕ → Streams = λ v text. behind_bytes (text ++ texts_of_outputs v outputs) (lines_of_outputs v outputs) (streams_from (behind_outputs v outputs) book from_heads (drop 1 lists)) in
+    ap (λ (writes : Bool). at (behind_heads w writes) (text_of_heads w book writes)) none
+    ∙ ap (λ (headed : Bool). at (record w { headed = headed }) []) (or-false w.headed)
+
+and-false : (b : Bool) → (b && false) ≡ false
+and-false true = refl
+and-false false = refl
+
+pub never_again : (headed over : Bool) → not ((headed || not (headed || over)) || over) ≡ false
+never_again true over = refl
+never_again false true = refl
+never_again false false = refl
+
+-- The headers are written first, if they are.
+pub heads_come_first : (w : Written) (book : List (List ℕ × List ℕ)) (x : HeadEvent) (from_heads : List HeadEvent) (lists : List (List ScoreOutput)) → is_heads x ≡ true
+    → streams_from w book (x ∷ from_heads) lists
+    ≡ behind_bytes (text_of_heads w book (is_before_heads w)) [] (streams_from (behind_heads w (is_before_heads w)) book (x ∷ from_heads) lists)
+heads_come_first w book x from_heads lists is =
+    let outputs = first_list lists in
+    let v = behind_heads w (is_before_heads w) in
+    let text = text_of_heads w book (is_before_heads w) in
+    let rest = streams_from (behind_outputs v outputs) book from_heads (drop 1 lists) in
+    let none : writes_heads v x ≡ false = ap (λ (b : Bool). b && is_before_heads v) is ∙ never_again w.headed (is_some w.ended) in
+    ap (λ (b : Bool). let u = behind_heads w (b && is_before_heads w) in
+    behind_bytes (text_of_heads w book (b && is_before_heads w) ++ texts_of_outputs u outputs) (lines_of_outputs u outputs) (streams_from (behind_outputs u outputs) book from_heads (drop 1 lists))) is
+    ∙ (behind_both text [] (texts_of_outputs v outputs) (lines_of_outputs v outputs) rest
+    ∙ ap (λ (s : Streams). behind_bytes text [] s) (sym (no_heads_at v book x from_heads lists none)))
+
+-- none come that are to be written
+abbrev pub NoHeadsCome : Written → List HeadEvent → Type 0
+NoHeadsCome w from_heads = (is_before_heads w ≡ false) ⊎ (list_any is_heads from_heads ≡ false)
+
+pub first_false : (b c : Bool) → (b || c) ≡ false → b ≡ false
+first_false false c h = refl
+first_false true c h = h
+
+none_now : (w : Written) (x : HeadEvent) (from_heads : List HeadEvent) → NoHeadsCome w (x ∷ from_heads) → writes_heads w x ≡ false
+none_now w x from_heads (inl h) = ap (λ (b : Bool). is_heads x && b) h ∙ and-false (is_heads x)
+none_now w x from_heads (inr h) = ap (λ (b : Bool). b && is_before_heads w) (first_false (is_heads x) (list_any is_heads from_heads) h)
+
+pub second_false : (b c : Bool) → (b || c) ≡ false → c ≡ false
+second_false false c h = h
+second_false true c h = absurd (false≢true (sym h))
+
+none_later : (w : Written) (x : HeadEvent) (from_heads : List HeadEvent) (outputs : List ScoreOutput) → NoHeadsCome w (x ∷ from_heads) → NoHeadsCome (behind_outputs w outputs) from_heads
+none_later w x from_heads outputs (inl h) = inl (never_later w outputs h)
+none_later w x from_heads outputs (inr h) = inr (second_false (is_heads x) (list_any is_heads from_heads) h)
+
+pub concat_first : (lists : List (List ScoreOutput)) → concat_of lists ≡ first_list lists ++ concat_of (drop 1 lists)
+concat_first [] = refl
+concat_first (outputs ∷ lists) = refl
+
+-- without headers, the streams are those of what the score says
+pub without_heads : (w : Written) (book : List (List ℕ × List ℕ)) (from_heads : List HeadEvent) (lists : List (List ScoreOutput)) → NoHeadsCome w from_heads
+    → streams_from w book from_heads lists ≡ streams_in w (concat_of lists)
+without_heads w book [] lists h = refl
+without_heads w book (x ∷ from_heads) lists h =
+    let outputs = first_list lists in
+    no_heads_at w book x from_heads lists (none_now w x from_heads h)
+    ∙ (ap (λ (s : Streams). behind_bytes (texts_of_outputs w outputs) (lines_of_outputs w outputs) s) (without_heads (behind_outputs w outputs) book from_heads (drop 1 lists) (none_later w x from_heads outputs h))
+    ∙ (sym (some_and_rest w outputs (concat_of (drop 1 lists))) ∙ ap (streams_in w) (sym (concat_first lists))))
+
+-- ---- behind the headers, and behind the end
+
+pub in_body : (w : Written) (book : List (List ℕ × List ℕ)) (from_heads : List HeadEvent) (lists : List (List ScoreOutput)) → w.headed ≡ true
+    → streams_from w book from_heads lists ≡ streams_in w (concat_of lists)
+in_body w book from_heads lists headed = without_heads w book from_heads lists (inl (ap (λ (b : Bool). not (b || is_some w.ended)) headed))
+
+-- where the run is over and the score says nothing more
+pub over_is_last : (w : Written) (score : ScoreStageState) (status : Status) → IsOver w score status → (book : List (List ℕ × List ℕ)) (from_heads : List HeadEvent)
+    → streams_from w book from_heads (left_of score from_heads) ≡ ended_with status
+over_is_last w score status over book from_heads =
+    without_heads w book from_heads (left_of score from_heads) (inl (ap (λ (o : Option Status). not (w.headed || is_some o)) over.ended ∙ not_before w.headed))
+    ∙ (ap (streams_in w) (over.silent from_heads)
+    ∙ ap (λ (o : Option Status). behind_bytes [] [] (record { output = ceased_text o w; messages = []; status = ceased_status o })) over.ended)

@@ -1,0 +1,43 @@
+use Rattle.std.proofs.Common.{ap, ◌∙◌, arith}
+use Rattle.gabc_places.specs.BoundedList.{BoundedList}
+use Rattle.gabc_score.specs.declared.score_event.ScoreEvent.{ScoreEvent}
+use Rattle.gregorio.specs.machine.RunWriter.{RunWriterState}
+use Rattle.gregorio.specs.machine.ScoreWriter.{ScoreWriterState, outputs_of_events}
+use Rattle.gregorio.proofs.AnEventIsWritten.{event_keeps_room, event_writes, room_for_event, silent_behind}
+use Rattle.gregorio.proofs.StreamsOfOutputs.{headed_stays}
+use Rattle.gregorio.proofs.score_writer.ScoreWriter.pass.Goals as goal
+
+pub write_events-requires : goal.write_events-requires
+write_events-requires c =
+    let i = c.self.inside in
+    room_for_event i.score c.push.new.self i.writer c.args.self.now c.self.view_is c.args.event i.events c.clear.new.self c.push.new.out c.clear.ensures c.slice.result.now c.slice.ensures c.push.ensures.step c.push.ensures.end
+    c.requires.room
+
+pub returns-clause-writes : goal.returns-clause-writes
+returns-clause-writes c =
+    let i = c.self.inside in
+    event_writes i.score c.push.new.self i.writer c.args.self.now c.self.view_is c.args.event i.events c.clear.new.self c.push.new.out c.clear.ensures c.slice.result.now c.slice.ensures c.push.ensures.step c.push.ensures.end
+    c.write_events.new.writer c.write_events.ensures.writes c.requires.heads
+
+pub returns-clause-room : goal.returns-clause-room
+returns-clause-room c =
+    let i = c.self.inside in
+    event_keeps_room i.score c.push.new.self i.writer c.args.self.now c.self.view_is c.args.event i.events c.clear.new.self c.push.new.out c.clear.ensures c.slice.result.now c.slice.ensures c.push.ensures.step c.push.ensures.end
+    c.write_events.new.writer c.write_events.ensures.writes c.write_events.ensures.steady c.write_events.ensures.room
+
+pub returns-clause-headed : goal.returns-clause-headed
+returns-clause-headed c =
+    let i = c.self.inside in
+    ap (λ (w : RunWriterState). w.written.headed) c.write_events.ensures.writes
+    ∙ (headed_stays i.writer.written (outputs_of_events c.push.new.self c.slice.result.now) ∙ ap (λ (s : ScoreWriterState). s.writer.written.headed) c.self.view_is)
+
+pub invariant_of-self : goal.invariant_of-self
+invariant_of-self c =
+    let i = c.self.inside in
+    let given = ap (λ (r : BoundedList ScoreEvent). r.limit) c.push.ensures.step.emitted.events in
+    let cleared = ap (λ (r : BoundedList ScoreEvent). r.limit) c.clear.ensures in
+    record {
+      room = omega (arith, c.self.invariant.room, given, cleared);
+      silent = silent_behind i.score c.push.new.self i.writer c.args.self.now c.self.view_is c.args.event i.events c.clear.new.self c.push.new.out c.clear.ensures c.slice.result.now c.slice.ensures c.push.ensures.step c.push.ensures.end
+          c.write_events.new.writer c.write_events.ensures.writes c.self.invariant.silent;
+    }
