@@ -221,7 +221,7 @@ class Source:
             holder = next((h for h in self.holders if h["from"] < it.start() < h["to"]), None)
             if re.fullmatch(r"\s*(pub(\([^)]*\))?\s+)?(const\s+|unsafe\s+|extern\s+\S*\s+)*", line):
                 function = Function(self, holder, it[1], it.start())
-                function.is_public = line.split()[:1] == ["pub"] or bool(holder and holder["trait"])
+                function.is_public = line.split()[:1] == ["pub"] or bool(holder and holder["trait"] and not holder["is_inner"])
                 self.functions.append(function)
         self.items = self.read_items()
 
@@ -255,6 +255,8 @@ class Source:
                     "name": name[0] if name else "",
                     "trait": trait_name[0] if trait_name else ("" if it[1] == "impl" else name[0]),
                     "is_trait": it[1] == "trait",
+                    # a trait that the crate keeps to itself
+                    "is_inner": it[1] == "trait" and not it[0].startswith("pub trait"),
                     "scope": scope,
                     "text": self.text[it.start() : end + 1],
                 }

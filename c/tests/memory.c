@@ -1,5 +1,5 @@
-/* Makes each allocation of a call fail in turn: the call answers that there is no memory, writes nothing and keeps nothing. Linked with
- * `malloc`, `realloc` and `free` wrapped.
+/* Makes each allocation of a call fail in turn, alone and with all behind it: the call answers that there is no memory, writes nothing and
+ * keeps nothing, and then succeeds with the same arguments. Linked with `malloc`, `realloc` and `free` wrapped.
  *
  * Usage: memory TABLE */
 #include <stdlib.h>
@@ -12,12 +12,16 @@ void *__real_malloc(size_t size);
 void *__real_realloc(void *block, size_t size);
 void __real_free(void *block);
 
-static bool is_counting;
+static bool is_counting, fails_from_there;
 static size_t asked, fails_at;
 static long held;
 
-/* Whether this is the allocation that fails. */
-static bool fails(void) { return is_counting && ++asked == fails_at; }
+/* Whether this allocation fails. */
+static bool fails(void) {
+  if (!is_counting) return false;
+  asked++;
+  return asked == fails_at || (fails_from_there && fails_at && asked > fails_at);
+}
 
 void *__wrap_malloc(size_t size) {
   if (fails()) return NULL;
@@ -39,31 +43,62 @@ void __wrap_free(void *block) {
 }
 
 static uint8_t output[1 << 16], messages[1 << 16];
+static struct gregorio_message records[1 << 12];
 
-/* Calls with the given allocation failing; 0 lets none fail. */
-static uint32_t call(const struct test_case *it, size_t failing, struct gregorio_lengths *lengths) {
+/* A call of the library on a case. Its lengths, or its number of records in the first of them, go into `lengths`. */
+typedef uint32_t (*made_call)(const struct test_case *it, struct gregorio_lengths *lengths);
+
+static uint32_t compile(const struct test_case *it, struct gregorio_lengths *lengths) {
+  return gregorio_compile(it->input.bytes, it->input.length, it->format, it->flags, NULL, 0, output, sizeof output, messages, sizeof messages,
+                          lengths);
+}
+
+static uint32_t list_messages(const struct test_case *it, struct gregorio_lengths *lengths) {
+  return gregorio_messages(it->input.bytes, it->input.length, it->flags, NULL, 0, records, sizeof records / sizeof *records, &lengths->output);
+}
+
+/* Makes the call with the given allocation failing; 0 lets none fail. */
+static uint32_t call(made_call made, const struct test_case *it, size_t failing, struct gregorio_lengths *lengths) {
   asked = 0;
   held = 0;
   fails_at = failing;
   is_counting = true;
-  uint32_t status = gregorio_compile(it->input.bytes, it->input.length, it->format, it->flags, NULL, 0, output, sizeof output,
-                                     messages, sizeof messages, lengths);
+  uint32_t status = made(it, lengths);
   is_counting = false;
   return status;
 }
 
-static void try_case(const struct test_case *it, size_t number) {
-  struct gregorio_lengths lengths = {0, 0};
-  check(call(it, 0, &lengths) == it->status, "status", number);
-  check(held == 0, "what was held", number);
-  size_t all = asked;
+/* Makes each allocation fail in turn, of which the call asks for `all`. */
+static void fail_each(made_call made, const struct test_case *it, size_t all, size_t number) {
   for (size_t failing = 1; failing <= all; failing++) {
-    lengths.output = 77;
+    struct gregorio_lengths lengths = {77, 77};
     output[0] = 0xA5;
-    check(call(it, failing, &lengths) == GREGORIO_NO_MEMORY, "no memory", number);
-    check(lengths.output == 77 && output[0] == 0xA5, "nothing written", number);
+    records[0].code = 0xA5;
+    check(call(made, it, failing, &lengths) == GREGORIO_NO_MEMORY, "no memory", number);
+    check(lengths.output == 77 && output[0] == 0xA5 && records[0].code == 0xA5, "nothing written", number);
     check(held == 0, "what was held without memory", number);
   }
+}
+
+static void try_call(made_call made, const struct test_case *it, size_t number) {
+  struct gregorio_lengths lengths = {0, 0}, again = {0, 0};
+  uint32_t status = call(made, it, 0, &lengths);
+  check(status != GREGORIO_NO_MEMORY && held == 0, "with memory enough", number);
+  size_t all = asked;
+  check(all > 0, "memory is asked for", number);
+  fails_from_there = false;
+  fail_each(made, it, all, number);
+  fails_from_there = true;
+  fail_each(made, it, all, number);
+  check(call(made, it, 0, &again) == status && held == 0, "with memory enough again", number);
+  check(again.output == lengths.output && again.messages == lengths.messages, "the same again", number);
+}
+
+static void try_case(const struct test_case *it, size_t number) {
+  struct gregorio_lengths lengths;
+  check(call(compile, it, 0, &lengths) == it->status, "status", number);
+  try_call(compile, it, number);
+  try_call(list_messages, it, number);
 }
 
 int main(int count, char **tables) {

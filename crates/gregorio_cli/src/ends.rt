@@ -1,5 +1,7 @@
 //! The ends of a run: standard streams and files.
 
+ghost use Rattle.std.specs.Io.{ReadsAtMost, WritesAtMost};
+
 use std::fs::File;
 use std::io::{Read, Stderr, Stdin, Stdout, Write};
 use std::os::fd::AsRawFd;
@@ -15,12 +17,28 @@ pub(crate) enum InputStream {
     File(File),
 }
 
-impl Read for InputStream {
-    fn read(&mut self, buf: &mut [u8]) -> io::Result<usize> {
+impl InputStream {
+    /// Reads once.
+    fn read_once(&mut self, buf: &mut [u8]) -> io::Result<usize>
+        ensures { ReadsAtMost result buf.new }
+    {
         match self {
             InputStream::Stdin(stdin) => stdin.read(buf),
             InputStream::File(file) => file.read(buf),
         }
+    }
+}
+
+impl Read for InputStream {
+    /// Reads, and again where a signal interrupts it.
+    fn read(&mut self, buf: &mut [u8]) -> io::Result<usize> {
+        for _ in 0..u64::MAX {
+            match self.read_once(buf) {
+                Err(error) if error.kind() == io::ErrorKind::Interrupted => {}
+                read => return read,
+            }
+        }
+        self.read_once(buf)
     }
 }
 
@@ -32,13 +50,29 @@ pub(crate) enum OutputStream {
     File(File),
 }
 
-impl Write for OutputStream {
-    fn write(&mut self, buf: &[u8]) -> io::Result<usize> {
+impl OutputStream {
+    /// Writes once.
+    fn write_once(&mut self, buf: &[u8]) -> io::Result<usize>
+        ensures { WritesAtMost result buf.now }
+    {
         match self {
             OutputStream::Stdout(stdout) => stdout.write(buf),
             OutputStream::Stderr(stderr) => stderr.write(buf),
             OutputStream::File(file) => file.write(buf),
         }
+    }
+}
+
+impl Write for OutputStream {
+    /// Writes, and again where a signal interrupts it.
+    fn write(&mut self, buf: &[u8]) -> io::Result<usize> {
+        for _ in 0..u64::MAX {
+            match self.write_once(buf) {
+                Err(error) if error.kind() == io::ErrorKind::Interrupted => {}
+                written => return written,
+            }
+        }
+        self.write_once(buf)
     }
 
     fn flush(&mut self) -> io::Result<()> {

@@ -5,6 +5,7 @@
 #![tactic(auto)]
 
 mod call;
+mod ends;
 mod nabc;
 mod neumes;
 mod notes;
@@ -18,6 +19,7 @@ mod texts;
 mod writes;
 
 use call::is_answered;
+use ends::{Known, fills_sinks};
 use gabc_places::Limits;
 use gregorio::Format;
 use pieces::{Wanted, agrees_in_pieces};
@@ -168,6 +170,48 @@ fn check_rows(rt: &HostRuntime, path: &str) -> io::Result<()> {
     println!(rt; "{path}: {agreed} of {rows} rows agree")
 }
 
+/// Returns whether runs on the row on this line of a file stop where a sink fails, with the bytes that it holds. Tells where they do not.
+fn row_fills_sinks(rt: &HostRuntime, path: &str, number: usize, line: &str) -> io::Result<bool> {
+    let Some(row) = row_of(rt.alloc(), line)? else {
+        return Ok(false);
+    };
+    let Some(asked) = request_of(&row) else {
+        return Ok(false);
+    };
+    let wanted = Wanted {
+        output: row.output.as_slice(),
+        messages: row.messages.as_slice(),
+    };
+    let status = row.status;
+    let known = Known {
+        asked,
+        wanted,
+        status,
+    };
+    let fills = fills_sinks(rt.alloc(), known)?;
+    if !fills {
+        println!(rt; "{path}: the run on line {number} differs where a sink fails")?;
+    }
+    Ok(fills)
+}
+
+/// Runs the rows of a file into sinks that fail.
+fn check_sinks(rt: &HostRuntime, path: &str) -> io::Result<()> {
+    let text = fs::read_to_string(rt, path)?;
+    let mut rows = 0u32;
+    let mut agreed = 0u32;
+    for (number, line) in text.as_str().lines().enumerate() {
+        if number == 0 {
+            continue;
+        }
+        rows = rows.saturating_add(1);
+        if row_fills_sinks(rt, path, number, line)? {
+            agreed = agreed.saturating_add(1);
+        }
+    }
+    println!(rt; "{path}: {agreed} of {rows} rows stop where a sink fails")
+}
+
 /// The file of a score with this ending.
 fn read_file(rt: &HostRuntime, name: &str, ending: &str) -> io::Result<String> {
     let path = format!(in rt.alloc(); "{name}.{ending}")?;
@@ -245,6 +289,8 @@ fn main(rt: HostRuntime) -> io::Result<()> {
     check_rows(&rt, "dump.tsv")?;
     check_rows(&rt, "dump2.tsv")?;
     check_rows(&rt, "nabc_lines.tsv")?;
+    check_rows(&rt, "sources.tsv")?;
+    check_sinks(&rt, "sinks.tsv")?;
     check_scores(&rt)?;
     for path in CALLS {
         check_calls(&rt, path)?;

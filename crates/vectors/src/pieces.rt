@@ -68,7 +68,7 @@ fn feed_all(engine: &mut Engine, bytes: &[u8], length: usize, wanted: &mut Wante
 }
 
 /// Ends the run of an input whose source has ended, or has failed if it is `broken`.
-fn end(engine: &mut Engine, broken: bool) -> Status
+pub(crate) fn end(engine: &mut Engine, broken: bool) -> Status
     requires waits { NothingWaits engine.old }
 {
     if broken {

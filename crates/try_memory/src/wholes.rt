@@ -1,0 +1,172 @@
+//! Whole forms, over the file of a score, and the outputs of its outcome.
+
+use crate::digest::digest_of;
+use crate::trial::{Trial, try_call};
+use gabc_headers::{headers_whole, headers_whole_with_hasher};
+use gabc_places::{Limits, Text, text_of};
+use gabc_score::{InputEnding, score_whole, score_whole_with_hasher};
+use gregorio::{Format, Outcome, SourceEnding};
+use std::alloc::{AllocError, Global};
+use std::hash::DefaultHasher;
+use std::{fs, io};
+
+/// A call on the bytes or the text of a score.
+#[derive(Clone, Copy)]
+enum Whole {
+    TextOf,
+    Headers,
+    HashedHeaders,
+    Score,
+    HashedScore,
+    Outcome,
+    HashedOutcome,
+}
+
+/// Returns the call with this name, if it is one on a score.
+fn named(name: &str) -> Option<Whole> {
+    Some(match name {
+        "gabc_places::text_of" => Whole::TextOf,
+        "gabc_headers::headers_whole" => Whole::Headers,
+        "gabc_headers::headers_whole_with_hasher" => Whole::HashedHeaders,
+        "gabc_score::score_whole" => Whole::Score,
+        "gabc_score::score_whole_with_hasher" => Whole::HashedScore,
+        "gregorio::Outcome::of" => Whole::Outcome,
+        "gregorio::Outcome::of_with_hasher" => Whole::HashedOutcome,
+        _ => return None,
+    })
+}
+
+/// Returns a digest of the text of `bytes`.
+fn decoded(alloc: Global, bytes: &[u8]) -> Result<u64, AllocError> {
+    Ok(digest_of(&text_of(alloc, bytes, true, Limits::DEFAULT)?))
+}
+
+/// Returns a digest of the headers of a text.
+fn headers(alloc: Global, text: &Text) -> Result<u64, AllocError> {
+    Ok(digest_of(&headers_whole(alloc, text, Limits::DEFAULT)?))
+}
+
+/// Returns a digest of the headers of a text, whose names are hashed by a hasher from outside.
+fn hashed_headers(alloc: Global, text: &Text) -> Result<u64, AllocError> {
+    let hasher = DefaultHasher::new();
+    let read = headers_whole_with_hasher(alloc, text, Limits::DEFAULT, hasher)?;
+    Ok(digest_of(&read))
+}
+
+/// Returns a digest of the score of a text.
+fn score(alloc: Global, text: &Text) -> Result<u64, AllocError> {
+    let score = score_whole(alloc, text, InputEnding::Whole, Limits::DEFAULT)?;
+    let digest = digest_of(&score);
+    drop(score);
+    Ok(digest)
+}
+
+/// Returns a digest of the score of a text, the names of whose headers are hashed by a hasher from outside.
+fn hashed_score(alloc: Global, text: &Text) -> Result<u64, AllocError> {
+    let hasher = DefaultHasher::new();
+    let score = score_whole_with_hasher(alloc, text, InputEnding::Whole, Limits::DEFAULT, hasher)?;
+    let digest = digest_of(&score);
+    drop(score);
+    Ok(digest)
+}
+
+/// Returns a digest of an outcome, which is let go.
+fn digest_of_outcome(outcome: Outcome) -> u64 {
+    let digest = digest_of(&outcome.score);
+    drop(outcome);
+    digest
+}
+
+/// Returns a digest of the outcome of `bytes`.
+fn outcome(alloc: Global, bytes: &[u8]) -> Result<u64, AllocError> {
+    let outcome = Outcome::of(alloc, bytes, SourceEnding::Whole, Limits::DEFAULT)?;
+    Ok(digest_of_outcome(outcome))
+}
+
+/// Returns a digest of the outcome of `bytes`, whose names of headers are hashed by a hasher from outside.
+fn hashed_outcome(alloc: Global, bytes: &[u8]) -> Result<u64, AllocError> {
+    let hasher = DefaultHasher::new();
+    let outcome = Outcome::of_with_hasher(
+        alloc,
+        bytes,
+        SourceEnding::Whole,
+        Limits::DEFAULT,
+        hasher,
+    )?;
+    Ok(digest_of_outcome(outcome))
+}
+
+/// A call and its score.
+#[derive(Drop)]
+struct OfScore {
+    call: Whole,
+    text: Text,
+}
+
+impl Trial for OfScore {
+    fn call(&mut self, alloc: Global) -> Result<u64, AllocError> {
+        let bytes = self.text.as_str().as_bytes();
+        match self.call {
+            Whole::TextOf => decoded(alloc, bytes),
+            Whole::Headers => headers(alloc, &self.text),
+            Whole::HashedHeaders => hashed_headers(alloc, &self.text),
+            Whole::Score => score(alloc, &self.text),
+            Whole::HashedScore => hashed_score(alloc, &self.text),
+            Whole::Outcome => outcome(alloc, bytes),
+            Whole::HashedOutcome => hashed_outcome(alloc, bytes),
+        }
+    }
+
+    fn arguments(&self) -> u64 {
+        digest_of(&self.text)
+    }
+}
+
+/// An outcome, whose output in a format is wanted, or with no format its messages.
+#[derive(Drop)]
+struct Written {
+    outcome: Outcome,
+    format: Option<Format>,
+}
+
+impl Trial for Written {
+    fn call(&mut self, alloc: Global) -> Result<u64, AllocError> {
+        let room = match self.format {
+            Some(format) => self.outcome.output(alloc, format)?,
+            None => self.outcome.messages(alloc, "x.gabc", true)?,
+        };
+        Ok(digest_of(&room))
+    }
+
+    fn arguments(&self) -> u64 {
+        digest_of(&self.outcome.score)
+    }
+}
+
+/// Tries a call that writes what an outcome has.
+fn try_written(rt: &HostRuntime, format: Option<Format>, bytes: &[u8]) -> io::Result<()> {
+    let outcome = Outcome::of(rt.alloc(), bytes, SourceEnding::Whole, Limits::DEFAULT)?;
+    let mut written = Written { outcome, format };
+    let tried = try_call(rt, &mut written);
+    drop(written);
+    tried
+}
+
+/// Tries a call on the score in the file with the name `input`. Returns whether there is such a call.
+pub(crate) fn is_tried(rt: &HostRuntime, name: &str, input: &str) -> io::Result<bool> {
+    if let Some(call) = named(name) {
+        let score = fs::read_to_string(rt, input)?;
+        let text = Text::from_str(rt.alloc(), score.as_str())?;
+        try_call(rt, &mut OfScore { call, text })?;
+        return Ok(true);
+    }
+    let format = match name {
+        "gregorio::Outcome::output gabc" => Some(Format::Gabc),
+        "gregorio::Outcome::output dump" => Some(Format::Dump),
+        "gregorio::Outcome::messages" => None,
+        _ => return Ok(false),
+    };
+    let score = fs::read_to_string(rt, input)?;
+    try_written(rt, format, score.as_bytes())?;
+    Ok(true)
+}
