@@ -7,6 +7,7 @@ from __future__ import annotations
 import bisect
 import re
 from dataclasses import dataclass
+from functools import cached_property
 
 from gregorio_chant import library
 from gregorio_chant.checking import check_data
@@ -92,13 +93,19 @@ class Document:
         parts += [page_of(it.code) for it in found]
         return "\n".join(parts) if parts else None
 
-    def _note_at(self, line: int, column: int) -> str | None:
+    @cached_property
+    def _read(self) -> tuple[Comparison, Score] | None:
+        """The score beside its canonical text, and as objects; nothing where a fatal fault stops it."""
         result = library.compile(self._score)
         if result.status is Status.FATAL:
             return None
-        comparison = Comparison(self._score, result.output, result.messages)
+        return Comparison(self._score, result.output, result.messages), Score.read(library.compile(self._score, Format.DUMP).output)
+
+    def _note_at(self, line: int, column: int) -> str | None:
+        if self._read is None:
+            return None
+        comparison, score = self._read
         at = comparison.written_offset(comparison.lines.offset(line, column))
-        score = Score.read(library.compile(self._score, Format.DUMP).output)
         number = bisect.bisect_right(score.syllables, at, key=lambda it: it.place.offset) - 1
         if number < 0:
             return None

@@ -127,8 +127,8 @@ class _Reader:
         return DumpError(f"line {self._at + 1} of the dump: {what}")
 
     def word(self) -> str:
-        """Returns the first word of the line that comes."""
-        return re.split("[ :]", self._lines[self._at], maxsplit=1)[0] if self._at < len(self._lines) - 1 else ""
+        """Returns the first word of the line that comes; nothing behind the last line."""
+        return self._lines[self._at].partition(" ")[0].partition(":")[0]
 
     def line(self) -> str:
         """Returns the line that comes, and does not take it."""

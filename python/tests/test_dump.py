@@ -122,6 +122,18 @@ class Refusals(unittest.TestCase):
             with self.subTest(told), self.assertRaisesRegex(DumpError, told):
                 Score.read(wrong)
 
+    def test_damaged_dumps(self) -> None:
+        """A dump with a line left out, given twice or cut is refused, or is one all the same; nothing else comes."""
+        lines = compile((EXAMPLES / "two-lines.gabc").read_bytes(), Format.DUMP).dump.split("\n")
+        refused = 0
+        for at, line in enumerate(lines[:-1]):
+            for put in ([], [line, line], [""], [line[: len(line) // 2]], [line.rpartition(" ")[0]], [line.replace(" ", ":")]):
+                try:
+                    Score.read("\n".join(lines[:at] + put + lines[at + 1 :]))
+                except DumpError:
+                    refused += 1
+        self.assertGreater(refused, 4 * len(lines))
+
     def test_headers_that_are_not_whole(self) -> None:
         with self.assertRaises(ScoreError) as caught:
             Score.parse("name: a;\n")
