@@ -11,6 +11,8 @@ from gregorio_chant import __version__
 from support import EXAMPLES, FAULTY, SCORE, InFolder, command, has, in_terminal
 
 WARNED = "name: Kyrie;\n%%\n(c4) <i>Ky(f)ri</i>(g)\n"
+# Words that write something.
+WRITING = [("check", "--output-format", it, "a.gabc") for it in ("lines", "json", "github", "sarif") + ("text",) * has("rich")] + [("explain", "--all")]
 SHOWN = """\
 a b.gabc:3:10: error: E1: character left out of the notes
     3 | (c4) Ky(g5)ri(g)
@@ -176,7 +178,7 @@ class Paths(InFolder):
     def test_names_that_are_not_utf8(self) -> None:
         self.put(b"\xff\xe9.gabc", FAULTY)
         self.assertEqual(self.lines("."), [b"./\xff\xe9.gabc"])
-        self.assertEqual(command("check", b"\xff").stderr.split(b"\n")[0], b"gregorio-chant: cannot read \xff: No such file or directory")
+        self.assertEqual(command("check", "--output-format", "lines", b"\xff").stderr.split(b"\n")[0], b"gregorio-chant: cannot read \xff: No such file or directory")
         self.assertIn(b'"./\\udcff\\udce9.gabc"', command("check", "--output-format", "json", ".").stdout)
         self.assertIn(b'"%FF%E9.gabc"', command("check", "--output-format", "sarif", ".").stdout)
         if has("rich"):
@@ -220,7 +222,7 @@ class BadInput(InFolder):
 
     def test_full_disk(self) -> None:
         self.put("a.gabc", FAULTY)
-        for words in (("check", "a.gabc"), ("check", "--output-format", "sarif", "a.gabc"), ("explain", "--all"), ("--help",), ("--version",)):
+        for words in (*WRITING, ("--help",), ("--version",)):
             full = os.open("/dev/full", os.O_WRONLY)
             ran = command(*words, output=full)
             os.close(full)
@@ -228,7 +230,7 @@ class BadInput(InFolder):
 
     def test_closed_pipe(self) -> None:
         self.put("a.gabc", FAULTY)
-        for words in (("check", "a.gabc"), ("explain", "--all")):
+        for words in WRITING:
             ours, its = os.pipe()
             os.close(ours)
             ran = command(*words, output=its)

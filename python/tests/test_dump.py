@@ -127,7 +127,8 @@ class Refusals(unittest.TestCase):
         lines = compile((EXAMPLES / "two-lines.gabc").read_bytes(), Format.DUMP).dump.split("\n")
         refused = 0
         for at, line in enumerate(lines[:-1]):
-            for put in ([], [line, line], [""], [line[: len(line) // 2]], [line.rpartition(" ")[0]], [line.replace(" ", ":")]):
+            changes: list[list[str]] = [[], [line, line], [""], [line[: len(line) // 2]], [line.rpartition(" ")[0]], [line.replace(" ", ":")]]
+            for put in changes:
                 try:
                     Score.read("\n".join(lines[:at] + put + lines[at + 1 :]))
                 except DumpError:
