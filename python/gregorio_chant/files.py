@@ -4,7 +4,6 @@ from __future__ import annotations
 import os
 import shutil
 import stat
-import sys
 import tempfile
 from collections.abc import Callable, Iterable
 from dataclasses import dataclass
@@ -56,7 +55,8 @@ def _below(folder: str, tell: _Tell) -> list[str]:
 def read(name: str) -> Content:
     """Returns what the file holds, or standard input. Raises `OSError`."""
     if name == STDIN:
-        return Content(sys.stdin.buffer.read())
+        with open(0, "rb", closefd=False) as file:
+            return Content(file.read())
     with open(name, "rb") as file:
         return Content(file.read(), os.fstat(file.fileno()))
 

@@ -44,6 +44,11 @@ def tell(line: str) -> None:
         pass
 
 
+def is_terminal() -> bool:
+    """Returns whether standard output is a terminal."""
+    return sys.__stdout__ is not None and sys.__stdout__.isatty()
+
+
 def printable(name: str) -> str:
     """Returns the name of a file as a terminal can show it: `\\xff` for a byte that is no UTF-8, and no control characters."""
     text = _bytes_of(name).decode("utf-8", "backslashreplace")

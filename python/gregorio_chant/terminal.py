@@ -2,7 +2,6 @@
 from __future__ import annotations
 
 import io
-import sys
 from collections.abc import Iterator
 from contextlib import contextmanager
 
@@ -14,7 +13,7 @@ from rich.text import Text
 from gregorio_chant.reports import Checked
 from gregorio_chant.results import Kind, Message
 from gregorio_chant.source import Lines
-from gregorio_chant.streams import printable
+from gregorio_chant.streams import is_terminal, printable
 
 _STYLES = {Kind.WARNING: "bold yellow", Kind.ERROR: "bold red", Kind.FATAL: "bold white on red"}
 _SHORT = 20
@@ -28,7 +27,7 @@ class TextReporter:
     def __init__(self) -> None:
         # What is printed is taken and sent as all else is, so that a full disk or a closed pipe is met in one place.
         self._printed = io.StringIO()
-        self._console = Console(file=self._printed, force_terminal=sys.stdout.isatty() or None, highlight=False, markup=False, emoji=False)
+        self._console = Console(file=self._printed, force_terminal=is_terminal() or None, highlight=False, markup=False, emoji=False)
 
     def _take(self) -> str:
         text = self._printed.getvalue()
@@ -79,7 +78,7 @@ class Bar:
 
     def __init__(self, progress: Progress | None) -> None:
         self._progress = progress
-        self._shares_terminal = sys.stdout.isatty()
+        self._shares_terminal = is_terminal()
 
     def advance(self) -> None:
         if self._progress:

@@ -237,6 +237,21 @@ class BadInput(InFolder):
             os.close(its)
             self.assertEqual((ran.returncode, ran.stderr), (4, b"gregorio-chant: cannot write: Broken pipe\n"), words)
 
+    def test_closed_streams(self) -> None:
+        self.put("a.gabc", FAULTY)
+        for words, redirection, status, told in (
+            ("check -", "<&-", 4, "cannot read <stdin>: Bad file descriptor"), ("check a.gabc", ">&-", 4, "cannot write: Bad file descriptor"),
+            ("check a.gabc --output-format lines", "2>&-", 1, ""), ("format -", "<&-", 4, "cannot read <stdin>: Bad file descriptor"),
+            ("format a.gabc", ">&- 2>&-", 1, ""), ("check a.gabc none", ">&- 2>&-", 4, ""),
+        ):
+            line = f'exec "$0" -m gregorio_chant {words} {redirection}'
+            ran = subprocess.run(["bash", "-c", line, sys.executable], stdout=subprocess.PIPE, stderr=subprocess.PIPE, check=False)
+            self.assertEqual(ran.returncode, status, (words, redirection, ran))
+            self.assertIn(told, ran.stderr.decode())
+            self.assertNotIn(b"Traceback", ran.stderr)
+        with open("a.gabc", encoding="utf-8") as file:
+            self.assertEqual(file.read(), FAULTY)
+
     def test_closed_error_output(self) -> None:
         with open("/dev/full", "wb") as full:
             ran = subprocess.run([sys.executable, "-m", "gregorio_chant", "check", "none"], stdout=subprocess.DEVNULL, stderr=full, check=False)
