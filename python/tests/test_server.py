@@ -94,6 +94,8 @@ class Serving(unittest.TestCase):
         self.assertEqual(self.change(SCORE), [])
         (message,) = self.change("%%\r\n(c4)\ufeff\U0001d11e\u00e9(g5) \r\n")[1:]
         self.assertEqual(message["range"]["start"], {"line": 1, "character": 10})
+        (message,) = self.change("name: a;\n%%\n(c4) a(g\ufeff5)")
+        self.assertEqual(message["range"]["start"], {"line": 2, "character": 9})
         self.assertEqual([it["severity"] for it in self.change("%%\n(c4f)")], [2])
         self.assertEqual([it["range"]["start"] for it in self.change("name: a;\r\n")], [{"line": 1, "character": 0}])
         self.tell("textDocument/didClose", {"textDocument": {"uri": URI}})
