@@ -4,6 +4,7 @@ from __future__ import annotations
 import os
 import pty
 import re
+import resource
 import shutil
 import subprocess
 import sys
@@ -29,17 +30,27 @@ def has(module: str) -> bool:
     return True
 
 
+def _nobody() -> int | None:
+    """Returns the number of a user without rights; none where the tests have none themselves."""
+    if os.geteuid() != 0:
+        return None
+    try:
+        subprocess.run([sys.executable, "-c", ""], user=_NOBODY, group=_NOBODY, check=True)
+    except (OSError, subprocess.SubprocessError):
+        raise unittest.SkipTest("this Python cannot be run by everybody") from None
+    return _NOBODY
+
+
 def command(
     *words: str | bytes | Path, data: bytes = b"", environment: Mapping[str, str] | None = None, as_nobody: bool = False,
     limit: int | None = None, output: int | None = None,
 ) -> subprocess.CompletedProcess[bytes]:
-    """Runs `gregorio-chant` with these words. `limit` is the most bytes of a file that it may write."""
+    """Runs `gregorio-chant` with these words. `limit` is the most bytes of a file that it may write; `as_nobody` it has no rights but everybody's."""
     def bound() -> None:
-        import resource
         if limit is not None:
             resource.setrlimit(resource.RLIMIT_FSIZE, (limit, limit))
 
-    user = _NOBODY if as_nobody and os.geteuid() == 0 else None
+    user = _nobody() if as_nobody else None
     return subprocess.run(
         [sys.executable, "-m", "gregorio_chant", *words], input=data, stdout=subprocess.PIPE if output is None else output,
         stderr=subprocess.PIPE, env={**os.environ, **(environment or {})}, preexec_fn=bound, timeout=120, check=False, user=user, group=user,
