@@ -37,10 +37,12 @@ class Forms(InFolder):
 
     @unittest.skipUnless(has("rich"), "there is no rich")
     def test_text_of_long_lines(self) -> None:
-        self.put("a.gabc", "name: a;\n%%\n(c4) " + "\u8056\u6b4c(f) \ta\u0301(g) " * 40 + "Ky(g5)ri(g)" + " e(h)" * 400)
+        self.put("a.gabc", "name: a;\n%%\n(c4) " + "\u8056\u6b4c\u8056(f) \ta\u0301(g) " * 40 + "Ky(g5)ri(g)" + " e(h)" * 400)
         shown = command("check", "a.gabc", environment={"COLUMNS": "60"}).stdout.decode().split("\n")
         self.assertRegex(shown[1], r"^    3 \| .{40,52}$")
-        self.assertEqual(shown[2].index("^") - shown[1].index("Ky(g5") - 4, sum(it in "\u8056\u6b4c" for it in shown[1]) - shown[1].count("\u0301"))
+        wide, narrow = sum(it in "\u8056\u6b4c" for it in shown[1]), shown[1].count("\u0301")
+        self.assertGreater(wide, narrow)
+        self.assertEqual(shown[2].index("^") - shown[1].index("Ky(g5") - 4, wide - narrow)
 
     @unittest.skipUnless(has("rich"), "there is no rich")
     def test_text_at_the_ends(self) -> None:
