@@ -1,7 +1,7 @@
-"""Builds the wheel with the standard library alone, so that `pip install` needs no network.
+"""Builds the wheel with the standard library alone (Python 3.11 or newer), so that `pip install` needs no network.
 
 The wheel holds the package and the library for C, which `tools/build_c` has to have built, and is tagged for this machine's platform. Its version is that of the
-file VERSION, its license that of the file LICENSE.
+file VERSION, its license that of the file LICENSE, and the rest of its metadata that of pyproject.toml.
 """
 from __future__ import annotations
 
@@ -9,8 +9,10 @@ import base64
 import hashlib
 import re
 import sysconfig
+import tomllib
 import zipfile
 from pathlib import Path
+from typing import Any
 
 HERE = Path(__file__).resolve().parent
 ROOT = HERE.parent
@@ -18,21 +20,33 @@ LIBRARY = ROOT / "crates" / "gregorio_c" / "out" / "c" / "libgregorio.so"
 PACKAGE = "gregorio_chant"
 
 
-def _field(name: str) -> str:
-    """Returns a field of pyproject.toml that is one quoted text."""
-    found = re.search(rf'^{name} = "(.*)"$', (HERE / "pyproject.toml").read_text(), re.MULTILINE)
-    if not found:
-        raise ValueError(f"pyproject.toml has no {name}")
-    return found[1]
+def _project() -> dict[str, Any]:
+    """Returns the table `project` of pyproject.toml."""
+    project: dict[str, Any] = tomllib.loads((HERE / "pyproject.toml").read_text(encoding="utf-8"))["project"]
+    return project
 
 
 def _files() -> dict[str, bytes]:
     """Returns the package's files by their names in the wheel."""
     if not LIBRARY.exists():
         raise FileNotFoundError(f"{LIBRARY} is not there: run tools/build_c first")
-    files = {f"{PACKAGE}/{it.name}": it.read_bytes() for it in sorted((HERE / PACKAGE).iterdir()) if it.suffix in (".py", ".typed") or it.name == "py.typed"}
+    files = {f"{PACKAGE}/{it.name}": it.read_bytes() for it in sorted((HERE / PACKAGE).iterdir()) if it.suffix == ".py" or it.name == "py.typed"}
     files[f"{PACKAGE}/{LIBRARY.name}"] = LIBRARY.read_bytes()
     return files
+
+
+def _metadata(project: dict[str, Any], version: str) -> str:
+    """Returns the text of METADATA."""
+    lines = [
+        "Metadata-Version: 2.1", f"Name: {project['name']}", f"Version: {version}", f"Summary: {project['description']}",
+        f"Keywords: {','.join(project['keywords'])}", f"License: {project['license']}", "License-File: LICENSE",
+        f"Requires-Python: {project['requires-python']}", "Description-Content-Type: text/markdown",
+    ]
+    lines += [f"Classifier: {it}" for it in project["classifiers"]]
+    for extra, packages in project["optional-dependencies"].items():
+        lines.append(f"Provides-Extra: {extra}")
+        lines += [f'Requires-Dist: {it}; extra == "{extra}"' for it in packages]
+    return "\n".join(lines) + "\n\n" + (HERE / "README.md").read_text(encoding="utf-8")
 
 
 def _row(name: str, content: bytes) -> str:
@@ -43,17 +57,14 @@ def _row(name: str, content: bytes) -> str:
 def build_wheel(wheel_directory: str, config_settings: object = None, metadata_directory: str | None = None) -> str:
     """Writes the wheel into `wheel_directory`, and returns its file name."""
     version = (ROOT / "VERSION").read_text().strip()
+    project = _project()
     tag = f"py3-none-{re.sub(r'[-.]', '_', sysconfig.get_platform())}"
     info = f"{PACKAGE}-{version}.dist-info"
     files = _files()
-    files[f"{info}/METADATA"] = (
-        f"Metadata-Version: 2.1\nName: {_field('name')}\nVersion: {version}\nSummary: {_field('description')}\n"
-        f"License: {_field('license')}\nLicense-File: LICENSE\nRequires-Python: {_field('requires-python')}\n"
-        f"Description-Content-Type: text/markdown\n\n{(HERE / 'README.md').read_text()}"
-    ).encode()
+    files[f"{info}/METADATA"] = _metadata(project, version).encode()
     files[f"{info}/licenses/LICENSE"] = (ROOT / "LICENSE").read_bytes()
-    script = "gregorio-chant"
-    files[f"{info}/entry_points.txt"] = f"[console_scripts]\n{script} = {_field(script)}\n".encode()
+    scripts = "".join(f"{name} = {call}\n" for name, call in project["scripts"].items())
+    files[f"{info}/entry_points.txt"] = f"[console_scripts]\n{scripts}".encode()
     files[f"{info}/WHEEL"] = f"Wheel-Version: 1.0\nGenerator: wheel_backend\nRoot-Is-Purelib: false\nTag: {tag}\n".encode()
     record = [_row(name, content) for name, content in files.items()]
     files[f"{info}/RECORD"] = "\n".join([*record, f"{info}/RECORD,,", ""]).encode()

@@ -1,4 +1,4 @@
-"""Compares the package with tables of cases, tries its examples and its command. Prints how many trials passed and failed last.
+"""Compares the package with tables of cases, and tries its calls. Prints how many trials passed and failed last; the other tests stand beside this file.
 
 Usage: python test_package.py TABLE..
 """
@@ -6,9 +6,7 @@ from __future__ import annotations
 
 import doctest
 import re
-import subprocess
 import sys
-import tempfile
 import threading
 from collections.abc import Iterator
 from pathlib import Path
@@ -76,22 +74,11 @@ def try_calls() -> None:
     check(answers == ["%%\n(f)\n"] * 4, "four threads")
 
 
-def try_command() -> None:
-    with tempfile.TemporaryDirectory() as room:
-        score = Path(room) / "a b.gabc"
-        score.write_text("%%\n(/./)")
-        ran = subprocess.run([sys.executable, "-m", "gregorio_chant", str(score)], capture_output=True, text=True)
-        check(ran.returncode == 1 and f"{score}:2:3: error: E1: character left out of the notes\n" in ran.stdout, "the command")
-        ran = subprocess.run([sys.executable, "-m", "gregorio_chant", f"{room}/none"], capture_output=True, text=True)
-        check(ran.returncode == 4 and "cannot read" in ran.stderr, "the command without a file")
-
-
 def main(tables: list[str]) -> int:
     for table in tables:
         for columns in cases(table):
             try_case(columns)
     try_calls()
-    try_command()
     examples = doctest.testmod(gregorio_chant)
     check(examples.attempted > 0 and examples.failed == 0, "the examples of the documentation")
     print(f"python: {passed} passed, {failed} failed")

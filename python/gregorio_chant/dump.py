@@ -1,0 +1,360 @@
+"""Reads a score into objects: each has its place in the canonical text, and its spelling there.
+
+>>> score = Score.parse("name: Kyrie;\\n%%\\n(c4) Ky(f)ri(gfg)")
+>>> for syllable in score.syllables:
+...     print(syllable.plain, [(note.degree, note.place.line, note.place.column) for note in syllable.notes])
+ []
+Ky [('fa', 4, 4)]
+ri [('sol', 4, 9), ('fa', 4, 10), ('sol', 4, 11)]
+
+The places are those of a file that is canonical. The reader takes `dump 2`, from `Score.parse` or of the program, and only its tests show that it reads
+it rightly.
+"""
+from __future__ import annotations
+
+import re
+from collections.abc import Callable
+from dataclasses import dataclass
+
+from gregorio_chant.items import (
+    Alteration, Attribute, Bar, Break, Clef, Custos, Descriptor, Element, Fusion, Glyph, Header, Item, NabcSnippet, Note, NoteSnippet, Snippet,
+    Space, Syllable, plain_text,
+)
+from gregorio_chant.library import compile
+from gregorio_chant.results import Format, Message
+from gregorio_chant.source import Place
+
+__all__ = [
+    "Alteration", "Attribute", "Bar", "Break", "Clef", "Custos", "Descriptor", "DumpError", "Element", "Fusion", "Glyph", "Header", "Item",
+    "NabcSnippet", "Note", "NoteSnippet", "Place", "Score", "ScoreError", "Snippet", "Space", "Syllable", "plain_text",
+]
+
+_VERSION = "2"
+_PITCHES = frozenset("abcdefghijklmnp")
+_DEGREES = frozenset(("ut", "re", "mi", "fa", "sol", "la", "si", "-"))
+_ALTERS = frozenset(("none", "flat", "natural", "sharp"))
+_POSITIONS = frozenset(("one", "beginning", "middle", "end"))
+_ESCAPE = re.compile(r"\\(.)", re.DOTALL)
+# A run of `;` that ends a value: such a value stands on lines of its own.
+_MARK = re.compile(r";[ \t]*(?:%|$)", re.MULTILINE)
+_BLANKS = re.compile(r"[ \t\n]+")
+
+
+class DumpError(ValueError):
+    """A text is no dump that this reader reads."""
+
+
+class ScoreError(ValueError):
+    """The headers of a score are not whole, so nothing of it was written. `message` is the fault."""
+
+    def __init__(self, message: Message) -> None:
+        super().__init__(f"{message.line}:{message.column}: {message.code}: {message.text}")
+        self.message = message
+
+
+@dataclass(frozen=True)
+class Score:
+    """A score, with its canonical text. Where a fault stopped the reading it is not whole, and has the syllables before that."""
+
+    canonical: str
+    headers: tuple[Header, ...]
+    syllables: tuple[Syllable, ...]
+    is_whole: bool
+
+    def header(self, name: str) -> str | None:
+        """Returns the value of the last header `name`, or `None` where there is none."""
+        return next((it.value for it in reversed(self.headers) if it.name == name), None)
+
+    @property
+    def notes(self) -> tuple[Note, ...]:
+        return tuple(note for it in self.syllables for note in it.notes)
+
+    @classmethod
+    def read(cls, dump: str) -> Score:
+        """Reads a dump. Raises `DumpError` where it is none, or of another version."""
+        return _Reader(dump).score()
+
+    @classmethod
+    def parse(cls, score: str | bytes | bytearray | memoryview) -> Score:
+        """Reads a score, and compares the canonical text of its dump with the compiler's. Raises `ScoreError` where its headers are not whole."""
+        result = compile(score, Format.DUMP)
+        if not result.output:
+            raise ScoreError(result.messages[-1])
+        read = cls.read(result.output)
+        if read.canonical != compile(score, all_warnings=False).output:
+            raise DumpError("the dump and the canonical text of the score differ")
+        return read
+
+
+def unescaped(text: str) -> str:
+    """Returns what `text` of a dump stands for."""
+    return _ESCAPE.sub(lambda found: "\n" if found[1] == "n" else found[1], text)
+
+
+class _Pen:
+    """Writes the canonical text, and knows where it stands."""
+
+    def __init__(self) -> None:
+        self.written: list[str] = []
+        self._offset, self._line, self._column = 0, 1, 1
+
+    def place(self) -> Place:
+        return Place(self._offset, self._line, self._column)
+
+    def write(self, text: str) -> Place:
+        """Writes `text`, and returns the place where it begins."""
+        begin = self.place()
+        self.written.append(text)
+        self._offset += len(text)
+        lines = text.count("\n")
+        if lines:
+            self._line += lines
+            self._column = len(text) - text.rindex("\n")
+        else:
+            self._column += len(text)
+        return begin
+
+
+class _Reader:
+    """Reads the lines of a dump in order, and writes the canonical text beside it."""
+
+    def __init__(self, dump: str) -> None:
+        self._lines = dump.split("\n")
+        self._at = 0
+        self.pen = _Pen()
+
+    def fail(self, what: str) -> DumpError:
+        return DumpError(f"line {self._at + 1} of the dump: {what}")
+
+    def word(self) -> str:
+        """Returns the first word of the line that comes; nothing behind the last line."""
+        return self._lines[self._at].partition(" ")[0].partition(":")[0]
+
+    def line(self) -> str:
+        """Returns the line that comes, and does not take it."""
+        return self._lines[self._at]
+
+    def words(self, count: int) -> list[str]:
+        """Takes a line of `count` words, of which the last one is the rest of the line."""
+        found = self._lines[self._at].split(" ", count - 1)
+        if len(found) != count:
+            raise self.fail(f"a line '{found[0]}' of {count} words was awaited")
+        self._at += 1
+        return found
+
+    def text(self) -> str:
+        """Takes a line, and returns what stands behind its first colon."""
+        _, colon, text = self._lines[self._at].partition(":")
+        if not colon:
+            raise self.fail("a colon was awaited")
+        self._at += 1
+        return unescaped(text)
+
+    def score(self) -> Score:
+        if self.word() != "dump" or self._lines[-1] != "":
+            raise self.fail(f"this is no dump: the first line is not 'dump {_VERSION}', or the last line is not whole")
+        if self.words(2)[1] != _VERSION:
+            raise DumpError(f"this reader reads dump {_VERSION}, and the text begins with '{self._lines[0]}'")
+        headers: list[Header] = []
+        syllables: list[Syllable] = []
+        while self.word() == "header":
+            headers.append(self._header())
+        self.pen.write("%%")
+        while self.word() == "syllable":
+            syllables.append(self._syllable(len(syllables) + 1))
+        self.pen.write("\n")
+        is_whole = self.word() == "end"
+        if is_whole and self.words(2)[1] != str(len(syllables)):
+            raise self.fail("another number of syllables was awaited")
+        if self.word():
+            raise self.fail(f"'{self.word()}' was not awaited")
+        return Score("".join(self.pen.written), tuple(headers), tuple(syllables), is_whole)
+
+    def _header(self) -> Header:
+        name, colon, value = self.words(2)[1].partition(":")
+        if not colon:
+            raise self.fail("a colon was awaited")
+        name, value = unescaped(name), unescaped(value)
+        if not value:
+            spelling = f"{name}:;"
+        elif "\n" in value or _MARK.search(value):
+            spelling = f"{name}:\n {value};;"
+        else:
+            spelling = f"{name}: {value};"
+        place = self.pen.write(spelling)
+        self.pen.write("\n")
+        return Header(place, spelling, name, value)
+
+    def _syllable(self, number: int) -> Syllable:
+        words = self._lines[self._at].split(" ")
+        if len(words) < 3 or words[1] != str(number) or words[2] not in _POSITIONS or not set(words[3:]) <= {"eu", "nlba"}:
+            raise self.fail("a syllable with the next number and its position was awaited")
+        self._at += 1
+        if words[2] in ("one", "beginning"):
+            self.pen.write("\n")
+        first = len(self.pen.written)
+        place = self.pen.place()
+        text = self.text() if self.word() == "text" else ""
+        translation = self.text() if self.word() == "translation" else None
+        self.pen.write(text if translation is None else f"{text}[{translation}]")
+        snippets: list[Snippet] = []
+        while self.word() in ("notes", "nabc"):
+            self.pen.write("|" if snippets else "(")
+            snippets.append(_NotesReader(self).snippet() if self.word() == "notes" else _read_nabc(self))
+        self.pen.write(")" if snippets else "()")
+        spelling = "".join(self.pen.written[first:])
+        return Syllable(place, spelling, number, words[2], "eu" in words[3:], "nlba" in words[3:], text, translation, tuple(snippets))
+
+
+def _read_nabc(reader: _Reader) -> NabcSnippet:
+    line = reader.line().partition(":")[0].removeprefix("nabc ")
+    if line not in ("1", "2", "3", "4"):
+        raise reader.fail("a line of NABC from 1 to 4 was awaited")
+    spelling = reader.text()
+    place = reader.pen.place()
+    items: list[Item] = []
+    while reader.word() in ("descriptor", "space"):
+        if reader.word() == "space":
+            text = unescaped(reader.words(2)[1])
+            items.append(Space(reader.pen.write(text), text))
+        else:
+            _, text, names = reader.words(3)
+            items.append(Descriptor(reader.pen.write(text), text, tuple(names.split("!"))))
+    if "".join(it.spelling for it in items) != spelling:
+        raise reader.fail("the snippet before this line is not spelled by its parts")
+    return NabcSnippet(place, spelling, int(line), tuple(items))
+
+
+class _NotesReader:
+    """Reads the items of one snippet of notes, and puts them into elements and glyphs."""
+
+    def __init__(self, reader: _Reader) -> None:
+        self._reader = reader
+        self._spelling = reader.text()
+        self._place = reader.pen.place()
+        self._items: list[Item] = []
+        self._elements: list[Element] = []
+        # The items and glyphs of the element that is open, and the kind, the notes that it still wants and the notes of the glyph that is open.
+        self._inside: list[Item] = []
+        self._glyphs: list[Glyph] = []
+        self._kind, self._wanted = "", 0
+        self._notes: list[Note] = []
+
+    def snippet(self) -> NoteSnippet:
+        while True:
+            word = self._reader.word()
+            if word == "element":
+                self._reader.words(1)
+                self._close_element()
+            elif word == "glyph":
+                self._open_glyph()
+            elif word in _ITEMS:
+                self._add(_ITEMS[word](self))
+            else:
+                break
+        self._close_element()
+        if "".join(it.spelling for it in self._items) != self._spelling:
+            raise self._reader.fail("the snippet before this line is not spelled by its items")
+        return NoteSnippet(self._place, self._spelling, tuple(self._items), tuple(self._elements))
+
+    def _between(self, first: Item, last: Item) -> str:
+        begin = self._place.offset
+        return self._spelling[first.place.offset - begin : last.place.offset - begin + len(last.spelling)]
+
+    def _open_glyph(self) -> None:
+        _, self._kind, count = self._reader.words(3)
+        if self._wanted or not count.isdigit() or count == "0":
+            raise self._reader.fail("a glyph was not awaited, or has no number of notes")
+        self._wanted = int(count)
+
+    def _add(self, item: Item) -> None:
+        self._items.append(item)
+        if isinstance(item, (Bar, Clef, Custos, Break)) or (isinstance(item, Space) and item.is_divider):
+            self._close_element()
+            return
+        self._inside.append(item)
+        if isinstance(item, Note):
+            self._add_note(item)
+
+    def _add_note(self, note: Note) -> None:
+        if not self._wanted:
+            raise self._reader.fail("the note before this line is in no glyph")
+        self._notes.append(note)
+        self._wanted -= 1
+        if not self._wanted:
+            first = self._notes[0]
+            self._glyphs.append(Glyph(first.place, self._between(first, note), self._kind, tuple(self._notes)))
+            self._notes = []
+
+    def _close_element(self) -> None:
+        if self._wanted:
+            raise self._reader.fail("the glyph before this line wants more notes")
+        if self._inside:
+            first = self._inside[0]
+            spelling = self._between(first, self._inside[-1])
+            self._elements.append(Element(first.place, spelling, tuple(self._inside), tuple(self._glyphs)))
+        self._inside, self._glyphs = [], []
+
+    # ---- the line of each item
+
+    def _rest(self) -> tuple[Place, str]:
+        """Takes a line of a keyword and a spelling, and writes this."""
+        text = unescaped(self._reader.words(2)[1])
+        return self._reader.pen.write(text), text
+
+    def _write(self, text: str) -> tuple[Place, str]:
+        return self._reader.pen.write(text), text
+
+    def _word_of(self, word: str, words: frozenset[str]) -> str:
+        if word not in words:
+            raise self._reader.fail(f"'{word}' before this line is not known")
+        return word
+
+    def note(self) -> Note:
+        _, pitch, shape, degree, alteration, spelling = self._reader.words(6)
+        sounds = self._word_of(degree, _DEGREES)
+        return Note(
+            *self._write(spelling), self._word_of(pitch, _PITCHES), shape, None if sounds == "-" else sounds, self._word_of(alteration, _ALTERS),
+        )
+
+    def alteration(self) -> Alteration:
+        _, pitch, sign, spelling = self._reader.words(4)
+        return Alteration(*self._write(spelling), self._word_of(pitch, _PITCHES), self._word_of(sign, _ALTERS))
+
+    def clef(self) -> Clef:
+        return Clef(*self._rest())
+
+    def bar(self) -> Bar:
+        _, name, spelling = self._reader.words(3)
+        return Bar(*self._write(spelling), name)
+
+    def space(self) -> Space:
+        text = unescaped(self._reader.words(2)[1])
+        if text == "blank":
+            here = self._reader.pen.place().offset - self._place.offset
+            blanks = _BLANKS.match(self._spelling, here)
+            text = blanks[0] if blanks else ""
+        return Space(*self._write(text))
+
+    def custos(self) -> Custos:
+        pitch = self._reader.words(2)[1]
+        if pitch == "auto":
+            return Custos(*self._write("z0"), None)
+        return Custos(*self._write(f"{pitch}+"), self._word_of(pitch, _PITCHES))
+
+    def line_end(self) -> Break:
+        return Break(*self._rest())
+
+    def attribute(self) -> Attribute:
+        raw = unescaped(self._reader.words(2)[1])
+        return Attribute(*self._write(f"[{raw}]"), raw)
+
+    def fusion(self) -> Fusion:
+        return Fusion(*self._rest())
+
+
+_ITEMS: dict[str, Callable[[_NotesReader], Item]] = {
+    "note": _NotesReader.note, "alteration": _NotesReader.alteration, "clef": _NotesReader.clef, "bar": _NotesReader.bar,
+    "space": _NotesReader.space, "custos": _NotesReader.custos, "break": _NotesReader.line_end, "attribute": _NotesReader.attribute,
+    "fusion": _NotesReader.fusion,
+}

@@ -1,0 +1,35 @@
+"""The command `explain`: what a code or a rule means, with a wrong line and its right one."""
+from __future__ import annotations
+
+import textwrap
+from collections.abc import Iterable
+
+from gregorio_chant.codes import CODES, shown
+from gregorio_chant.rules import RULES
+from gregorio_chant.selection import UnknownCode
+
+_WIDTH = 80
+
+
+def page_of(name: str) -> str:
+    """Returns the page of a code, in whichever case it is given, or of a rule. Raises `UnknownCode`."""
+    code, rule = CODES.get(name.upper()), RULES.get(name.lower())
+    if code is not None:
+        title, it = f"{code.name}: {code.kind.value}: {code.text}", code
+        return _page(title, it.meaning, it.wrong, it.right)
+    if rule is not None:
+        return _page(f"{rule.name}: {rule.kind.value}, by check --rules alone", rule.meaning, rule.wrong, rule.right)
+    raise UnknownCode(f"{name} is no code and no rule: gregorio-chant explain --all lists them")
+
+
+def _page(title: str, meaning: str, wrong: str, right: str) -> str:
+    parts = [title, "", textwrap.fill(meaning, _WIDTH, break_long_words=False, break_on_hyphens=False)]
+    for head, lines in (("Wrong:", wrong), ("Right:", right)):
+        parts += ["", head, *(f"    {shown(it)}" for it in lines.split("\n"))]
+    return "\n".join(parts) + "\n"
+
+
+def explain(names: Iterable[str]) -> str:
+    """Returns the pages of these codes and rules; of all where there is none. Raises `UnknownCode`."""
+    wanted = list(names) or [*CODES, *RULES]
+    return "\n".join(page_of(it) for it in wanted)

@@ -1,0 +1,108 @@
+"""The files that the words of the command name: found, read, and put in place of others."""
+from __future__ import annotations
+
+import os
+import shutil
+import stat
+import tempfile
+from collections.abc import Callable, Iterable
+from dataclasses import dataclass
+from pathlib import Path
+
+from gregorio_chant.streams import STDIN
+
+ENDING = ".gabc"
+_Tell = Callable[[str, OSError], None]
+
+
+class Changed(Exception):
+    """A file is no longer what was read."""
+
+
+@dataclass(frozen=True)
+class Content:
+    """What a file held, and the file's state when it was read; standard input has none."""
+
+    data: bytes
+    state: os.stat_result | None = None
+
+
+def find_scores(paths: Iterable[str], tell: _Tell) -> list[str]:
+    """Returns the names of the files: each path that is no folder, and the scores below each folder in order.
+
+    Links to files are taken, links to folders within a folder are not followed. `tell` is told of each folder that cannot be read.
+    """
+    names: list[str] = []
+    for path in paths:
+        if path != STDIN and os.path.isdir(path):
+            names.extend(_below(path, tell))
+        else:
+            names.append(path)
+    return names
+
+
+def _below(folder: str, tell: _Tell) -> list[str]:
+    def failed(error: OSError) -> None:
+        tell(os.fsdecode(error.filename) if error.filename else folder, error)
+
+    names: list[str] = []
+    for where, folders, files in os.walk(folder, onerror=failed):
+        folders.sort()
+        names.extend(os.path.join(where, it) for it in sorted(files) if it.endswith(ENDING))
+    return names
+
+
+def read(name: str) -> Content:
+    """Returns what the file holds, or standard input. Raises `OSError`."""
+    if name == STDIN:
+        with open(0, "rb", closefd=False) as file:
+            return Content(file.read())
+    with open(name, "rb") as file:
+        return Content(file.read(), os.fstat(file.fileno()))
+
+
+def _is_as_read(path: Path, state: os.stat_result) -> bool:
+    now = path.stat()
+    return (now.st_dev, now.st_ino, now.st_size, now.st_mtime_ns) == (state.st_dev, state.st_ino, state.st_size, state.st_mtime_ns)
+
+
+def replace(name: str, content: Content, data: bytes) -> None:
+    """Puts `data` in place of what was read of the file, in one step: at every moment the file is whole, the old or the new one.
+
+    The file that a link leads to is replaced, and keeps its mode and, where that is allowed, its owner. Raises `Changed` where the file was changed meanwhile, and
+    `OSError` where it has other names (hard links), which would keep the old content, or cannot be written.
+    """
+    path = Path(os.path.realpath(name))
+    state = content.state
+    if state is None or not stat.S_ISREG(state.st_mode):
+        raise OSError(0, "it is no plain file")
+    if state.st_nlink > 1:
+        raise OSError(0, "it has other names (hard links)")
+    descriptor, beside = tempfile.mkstemp(prefix=".gregorio-chant.", dir=path.parent)
+    try:
+        with os.fdopen(descriptor, "wb") as file:
+            file.write(data)
+            file.flush()
+            os.fsync(file.fileno())
+        _copy_owner(state, beside)
+        shutil.copymode(path, beside)
+        if not _is_as_read(path, state):
+            raise Changed("it was changed meanwhile")
+        os.replace(beside, path)
+    except BaseException:
+        _remove(beside)
+        raise
+
+
+def _copy_owner(state: os.stat_result, beside: str) -> None:
+    try:
+        os.chown(beside, state.st_uid, state.st_gid)
+    except OSError:
+        pass
+
+
+def _remove(name: str) -> None:
+    try:
+        os.unlink(name)
+    except OSError:
+        pass

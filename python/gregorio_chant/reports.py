@@ -1,0 +1,160 @@
+"""How messages are told: as lines, as text with the source line, as JSON, as annotations of a forge, as SARIF."""
+from __future__ import annotations
+
+import json
+import os
+from collections import Counter
+from dataclasses import dataclass
+from pathlib import PurePath
+from typing import Protocol
+from urllib.parse import quote
+
+from gregorio_chant.codes import CODES
+from gregorio_chant.results import Kind, Message
+from gregorio_chant.streams import STDIN
+
+_LEVELS = {Kind.WARNING: "warning", Kind.ERROR: "error", Kind.FATAL: "error"}
+_SCHEMA = "https://json.schemastore.org/sarif-2.1.0.json"
+
+
+@dataclass(frozen=True)
+class Checked:
+    """What was found in a file. `text` is the score's text, where there are messages; `failure` says why the file was not read."""
+
+    name: str
+    messages: tuple[Message, ...] = ()
+    text: str = ""
+    failure: str | None = None
+    status: int = 0
+
+    @property
+    def shown_name(self) -> str:
+        return "<stdin>" if self.name == STDIN else self.name
+
+
+class Reporter(Protocol):
+    """Makes a text of what was found."""
+
+    @property
+    def has_summary(self) -> bool:
+        """Whether the summary is part of that text."""
+
+    def add(self, checked: Checked) -> str:
+        """Returns what is written at once about a file."""
+
+    def end(self, summary: str | None) -> str:
+        """Returns what is written behind the last file; without a summary where none is wanted."""
+
+
+def line_of(name: str, message: Message) -> str:
+    """Returns a message as editors want it, as the program writes it."""
+    return f"{name}:{message.line}:{message.column}: {message.kind.value}: {message.code}: {message.text}\n"
+
+
+class Lines:
+    """Lines `NAME:LINE:COLUMN: KIND: CODE: TEXT`."""
+
+    has_summary = False
+
+    def add(self, checked: Checked) -> str:
+        return "".join(line_of(checked.shown_name, it) for it in checked.messages)
+
+    def end(self, summary: str | None) -> str:
+        return ""
+
+
+class Annotations:
+    """Commands of a forge's log, in GitHub's form."""
+
+    has_summary = False
+
+    def add(self, checked: Checked) -> str:
+        return "".join(self._command(checked.shown_name, it) for it in checked.messages)
+
+    def end(self, summary: str | None) -> str:
+        return ""
+
+    @staticmethod
+    def _command(name: str, message: Message) -> str:
+        file = _escaped(name).replace(":", "%3A").replace(",", "%2C")
+        text = _escaped(message.text)
+        return f"::{_LEVELS[message.kind]} file={file},line={message.line},col={message.column},title={message.code}::{text}\n"
+
+
+def _escaped(text: str) -> str:
+    return text.replace("%", "%25").replace("\r", "%0D").replace("\n", "%0A")
+
+
+class Json:
+    """One array, with an object for each message."""
+
+    has_summary = False
+
+    def __init__(self) -> None:
+        self._objects: list[dict[str, object]] = []
+
+    def add(self, checked: Checked) -> str:
+        for it in checked.messages:
+            self._objects.append(
+                {"file": checked.shown_name, "line": it.line, "column": it.column, "kind": it.kind.value, "code": it.code, "text": it.text}
+            )
+        return ""
+
+    def end(self, summary: str | None) -> str:
+        return json.dumps(self._objects, indent=2) + "\n"
+
+
+class Sarif:
+    """A log of SARIF 2.1.0."""
+
+    has_summary = False
+
+    def __init__(self, version: str, rules: dict[str, str]) -> None:
+        """Takes the package's version, and what each rule says."""
+        self._version = version
+        self._meanings = {name: it.meaning for name, it in CODES.items()} | rules
+        self._results: list[dict[str, object]] = []
+        self._failures: list[dict[str, object]] = []
+        self._used: set[str] = set()
+
+    def add(self, checked: Checked) -> str:
+        where = {"uri": "stdin" if checked.name == STDIN else _uri(checked.name)}
+        if checked.failure is not None:
+            location = {"physicalLocation": {"artifactLocation": where}}
+            self._failures.append({"level": "error", "message": {"text": checked.failure}, "locations": [location]})
+        for it in checked.messages:
+            self._used.add(it.code)
+            place = {"artifactLocation": where, "region": {"startLine": it.line, "startColumn": it.column}}
+            self._results.append(
+                {"ruleId": it.code, "level": _LEVELS[it.kind], "message": {"text": it.text}, "locations": [{"physicalLocation": place}]}
+            )
+        return ""
+
+    def end(self, summary: str | None) -> str:
+        rules = [{"id": it, "fullDescription": {"text": self._meanings[it]}} for it in sorted(self._used)]
+        run = {
+            "tool": {"driver": {"name": "gregorio-chant", "version": self._version, "rules": rules}},
+            "columnKind": "unicodeCodePoints",
+            "invocations": [{"executionSuccessful": not self._failures, "toolExecutionNotifications": self._failures}],
+            "results": self._results,
+        }
+        return json.dumps({"version": "2.1.0", "$schema": _SCHEMA, "runs": [run]}, indent=2) + "\n"
+
+
+def _uri(name: str) -> str:
+    """Returns the name as a reference of a URI: each byte that is none of its characters is escaped."""
+    reference = quote(os.fsencode(PurePath(name).as_posix()))
+    return f"file://{reference}" if os.path.isabs(name) else reference
+
+
+def counted(number: int, thing: str) -> str:
+    """Returns `1 thing`, or the number with the plural."""
+    return f"{number:,} {thing}" if number == 1 else f"{number:,} {thing}s"
+
+
+def summary_of(files: int, failed: int, kinds: Counter[Kind]) -> str:
+    """Returns a line on how many files were checked, how many of them failed, and how many messages of each kind there are."""
+    names = {Kind.FATAL: "fatal fault", Kind.ERROR: "error", Kind.WARNING: "warning"}
+    found = [counted(kinds[kind], name) for kind, name in names.items() if kinds[kind]]
+    line = f"{counted(files, 'file')}: {', '.join(found) if found else 'nothing found'}"
+    return f"{line}; {failed:,} could not be read" if failed else line

@@ -1,0 +1,187 @@
+"""Rules that the compiler leaves open, over the objects of a score. They are off unless they are asked for."""
+from __future__ import annotations
+
+import bisect
+from collections.abc import Callable, Iterator
+from dataclasses import dataclass
+
+from gregorio_chant import library
+from gregorio_chant.dump import Alteration, Attribute, Bar, Custos, Item, Note, NoteSnippet, Score, Space, Syllable
+from gregorio_chant.losses import Comparison
+from gregorio_chant.results import Format, Kind, Message, Status
+
+_PITCHES = "abcdefghijklmnp"
+_STAFFS = ("2", "3", "4", "5")
+_SCORE = "name: Kyrie;\n%%\n(c4) "
+
+
+@dataclass(frozen=True)
+class Found:
+    """What a rule finds: at an offset of the score's text."""
+
+    offset: int
+    text: str
+
+
+@dataclass(frozen=True)
+class Subject:
+    """A score that no fatal fault stops, in all the forms that rules read."""
+
+    score: Score
+    comparison: Comparison
+    messages: tuple[Message, ...]
+
+    def found(self, item: Item, text: str) -> Found:
+        return Found(self.comparison.source_offset(item.place.offset), text)
+
+
+@dataclass(frozen=True)
+class Rule:
+    """A rule. `wrong` is a line that breaks it, and `right` one that does not, where `before` stands before and `after` behind it."""
+
+    name: str
+    meaning: str
+    find: Callable[[Subject], Iterator[Found]]
+    wrong: str
+    right: str
+    before: str = _SCORE
+    after: str = "\n"
+    kind: Kind = Kind.WARNING
+
+    def score_with(self, line: str) -> bytes:
+        """Returns the whole score in which `line` stands."""
+        return (self.before + line + self.after).encode()
+
+
+def _items(score: Score) -> Iterator[Item]:
+    for syllable in score.syllables:
+        yield from syllable.items
+
+
+def _outside_staff(subject: Subject) -> Iterator[Found]:
+    lines = subject.score.header("staff-lines") or "4"
+    if lines not in _STAFFS:
+        return
+    highest = 2 * int(lines) + 4
+    for item in _items(subject.score):
+        if isinstance(item, (Note, Alteration, Custos)) and item.pitch and _PITCHES.index(item.pitch) > highest:
+            yield subject.found(item, f"pitch {item.pitch} is outside a staff of {lines} lines, which goes from a to {_PITCHES[highest]}")
+
+
+def _bracket_in_attribute(subject: Subject) -> Iterator[Found]:
+    for item in _items(subject.score):
+        if isinstance(item, Attribute) or isinstance(item, Space) and item.spelling.startswith("/["):
+            if "(" in item.spelling or ")" in item.spelling:
+                yield subject.found(item, "an attribute holds ( or ): look whether its ] is missing")
+
+
+def _nabc_behind_bars(subject: Subject) -> list[tuple[int, int]]:
+    """Returns, for each syllable with a `|` that was left out of the notes, the offsets of the first one and of the syllable's end."""
+    text = subject.comparison.lines.text
+    offsets = [subject.comparison.lines.offset(it.line, it.column) for it in subject.messages if it.code == "E1"]
+    bars = [it for it in offsets if text[it : it + 1] == "|"]
+    found: list[tuple[int, int]] = []
+    at = 0
+    for syllable in subject.comparison.source.syllables:
+        while at < len(bars) and bars[at] < syllable.end:
+            if not found or found[-1][1] != syllable.end:
+                found.append((bars[at], syllable.end))
+            at += 1
+    return found
+
+
+def _nabc_without_header(subject: Subject) -> Iterator[Found]:
+    if (subject.score.header("nabc-lines") or "0") != "0":
+        return
+    behind = _nabc_behind_bars(subject)
+    if behind:
+        yield Found(behind[0][0], f"a | stands in the notes of {len(behind):,} syllables, and there is no header nabc-lines: what follows it was left out")
+
+
+def _comment(subject: Subject) -> Iterator[Found]:
+    for it in subject.comparison.source.comments:
+        yield Found(it.begin, "the canonical form does not keep this comment")
+
+
+def _asterisk_without_bar(subject: Subject) -> Iterator[Found]:
+    syllables = subject.score.syllables
+    for syllable, after in zip(syllables, [*syllables[1:], None]):
+        at = syllable.text.find("*")
+        if "*" in syllable.plain and not _has_bar(syllable) and not (after and _begins_with_bar(after)):
+            place = subject.comparison.source_offset(syllable.place.offset + max(at, 0))
+            yield Found(place, "no bar follows this asterisk")
+
+
+def _has_bar(syllable: Syllable) -> bool:
+    return any(isinstance(it, Bar) for it in syllable.items)
+
+
+def _begins_with_bar(syllable: Syllable) -> bool:
+    """Returns whether a bar stands in the syllable before any note, and no text before it."""
+    first = next((it for it in syllable.items if isinstance(it, (Bar, Note))), None)
+    return isinstance(first, Bar) and not syllable.plain.strip()
+
+
+_ALL = (
+    Rule(
+        "outside-staff",
+        "A note, a sign or a custos is higher than the staff allows: three steps above its top line, by the header staff-lines, or 4 lines. "
+        "Look for a slip of the key.",
+        _outside_staff, "Ky(fn)", "Ky(fm)",
+    ),
+    Rule(
+        "bracket-in-attribute",
+        "An attribute or a spacing in brackets holds a ( or a ). Its ] may be missing, so that it takes what follows for its own.",
+        _bracket_in_attribute, "Ky(f[cs:a)ri(g])", "Ky(f[cs:a])ri(g)",
+    ),
+    Rule(
+        "nabc-without-header",
+        "A | stands in the notes, and there is no header nabc-lines. Write one, as nabc-lines: 1;. One line tells it, in place of an E1 for each "
+        "character behind the |.",
+        _nabc_without_header, "%%\n(c4) Ky(f|pu) ri(gh|pe)", "nabc-lines: 1;\n%%\n(c4) Ky(f|pu) ri(gh|pe)", "name: Kyrie;\n", kind=Kind.ERROR,
+    ),
+    Rule(
+        "comment",
+        "A comment stands in the score. The canonical form keeps none, so gregorio-chant format refuses the file unless it may drop comments.",
+        _comment, "Ky(f) % by hand", "Ky(f)",
+    ),
+    Rule(
+        "asterisk-without-bar",
+        "An asterisk in the text tells where the choir comes in, and a bar stands there: in its syllable, or as the next one. "
+        "Here there is none.",
+        _asterisk_without_bar, "Ky(f)ri(g)e(h) *() e(f)", "Ky(f)ri(g)e(h) *(,) e(f)",
+    ),
+)
+RULES: dict[str, Rule] = {it.name: it for it in _ALL}
+MEANINGS: dict[str, str] = {it.name: it.meaning for it in _ALL}
+
+
+def messages_with_rules(data: bytes) -> tuple[Message, ...]:
+    """Returns what the compiler and the rules find in a score, in the order of their places. Where a fatal fault stops it, no rule is tried."""
+    result = library.compile(data)
+    if result.status is Status.FATAL:
+        return result.messages
+    score = Score.read(library.compile(data, Format.DUMP).output)
+    messages = result.messages
+    subject = Subject(score, Comparison(data, result.output, messages), messages)
+    found = []
+    for rule in _ALL:
+        for it in rule.find(subject):
+            place = subject.comparison.lines.place(it.offset)
+            found.append(Message(place.line, place.column, rule.kind, rule.name, it.text))
+    if any(it.code == "nabc-without-header" for it in found):
+        messages = _without_nabc(subject)
+    return tuple(sorted([*messages, *found], key=lambda it: (it.line, it.column)))
+
+
+def _without_nabc(subject: Subject) -> tuple[Message, ...]:
+    """Returns the messages without each `E1` behind a `|` in its syllable."""
+    behind = _nabc_behind_bars(subject)
+    begins = [begin for begin, _ in behind]
+
+    def is_behind(message: Message) -> bool:
+        at = subject.comparison.lines.offset(message.line, message.column)
+        nearest = bisect.bisect_right(begins, at) - 1
+        return nearest >= 0 and at < behind[nearest][1]
+
+    return tuple(it for it in subject.messages if it.code != "E1" or not is_behind(it))

@@ -1,0 +1,54 @@
+"""Which codes are told, and which make the status 1."""
+from __future__ import annotations
+
+from collections.abc import Collection, Iterable
+from dataclasses import dataclass
+
+from gregorio_chant.results import Kind, Message, Status
+
+KINDS = ("E", "W", "F")
+RULES = "rules"
+
+
+class UnknownCode(ValueError):
+    """A word is no code, no kind of codes and no rule."""
+
+
+def codes_in(words: str, known: Collection[str]) -> frozenset[str]:
+    """Returns the codes in `words`, which stand between commas: one of those `known`, or E, W, F or rules for all of a kind. Raises `UnknownCode`."""
+    found = frozenset(it.strip() for it in words.split(",") if it.strip())
+    for word in sorted(found):
+        if word not in known and word not in KINDS and word != RULES:
+            raise UnknownCode(f"{word} is no code: gregorio-chant explain --all lists them")
+    return found
+
+
+def names(codes: frozenset[str], code: str) -> bool:
+    """Returns whether one of `codes` names `code`: it, its kind, or the rules for a code that has no number."""
+    return code in codes or (code[0] in codes if code[-1].isdigit() else RULES in codes)
+
+
+@dataclass(frozen=True)
+class Selection:
+    """What of the messages is told. A fatal fault always is, since behind it nothing was read."""
+
+    select: frozenset[str] | None = None
+    ignore: frozenset[str] = frozenset()
+    fail_on: frozenset[str] = frozenset()
+
+    def of(self, messages: Iterable[Message]) -> tuple[Message, ...]:
+        """Returns those of `messages` that are told."""
+        return tuple(it for it in messages if it.kind is Kind.FATAL or self._takes(it.code))
+
+    def _takes(self, code: str) -> bool:
+        return (self.select is None or names(self.select, code)) and not names(self.ignore, code)
+
+    def status_of(self, messages: Iterable[Message]) -> Status:
+        """Returns the status that messages make which are told: 2 for a fatal fault, 1 for an error or a code to fail on."""
+        status = Status.WHOLE
+        for it in messages:
+            if it.kind is Kind.FATAL:
+                return Status.FATAL
+            if it.kind is Kind.ERROR or names(self.fail_on, it.code):
+                status = Status.ERRORS
+        return status

@@ -1,0 +1,57 @@
+"""The text of a score as the compiler counts it, and how editors count it."""
+from __future__ import annotations
+
+import bisect
+from dataclasses import dataclass
+
+_MARK = "\ufeff"
+
+
+@dataclass(frozen=True, order=True)
+class Place:
+    """Where something stands in a text: `line` and `column` count from 1, `offset` counts the characters before it."""
+
+    offset: int
+    line: int
+    column: int
+
+
+def text_of(score: bytes) -> str:
+    """Returns the text of `score`: each line end is one LF, and a U+FEFF is nothing. Bytes that are no UTF-8 come out as U+FFFD."""
+    text = score.decode("utf-8", "replace")
+    return text.replace("\r\n", "\n").replace("\r", "\n").replace(_MARK, "")
+
+
+class Lines:
+    """The lines of a text, and the places of its characters."""
+
+    def __init__(self, text: str) -> None:
+        self.text = text
+        self._starts = [0]
+        at = text.find("\n")
+        while at >= 0:
+            self._starts.append(at + 1)
+            at = text.find("\n", at + 1)
+
+    def line(self, number: int) -> str:
+        """Returns the line `number`, from 1, without its LF; an empty one where there is none."""
+        if not 1 <= number <= len(self._starts):
+            return ""
+        end = self._starts[number] - 1 if number < len(self._starts) else len(self.text)
+        return self.text[self._starts[number - 1] : end]
+
+    def offset(self, line: int, column: int) -> int:
+        """Returns how many characters stand before this place."""
+        if line > len(self._starts):
+            return len(self.text)
+        return min(self._starts[max(line, 1) - 1] + max(column, 1) - 1, len(self.text))
+
+    def place(self, offset: int) -> Place:
+        """Returns the place of the character behind `offset` others."""
+        line = bisect.bisect_right(self._starts, offset)
+        return Place(offset, line, offset - self._starts[line - 1] + 1)
+
+
+def utf16_length(text: str) -> int:
+    """Returns how many units of UTF-16 `text` has."""
+    return len(text.encode("utf-16-le", "surrogatepass")) // 2

@@ -1,0 +1,108 @@
+"""Messages as text with the source line and a caret, and a bar, both by `rich`."""
+from __future__ import annotations
+
+import io
+from collections.abc import Iterator
+from contextlib import contextmanager
+
+from rich.cells import cell_len
+from rich.console import Console
+from rich.progress import BarColumn, MofNCompleteColumn, Progress, TextColumn, TimeRemainingColumn
+from rich.text import Text
+
+from gregorio_chant.reports import Checked
+from gregorio_chant.results import Kind, Message
+from gregorio_chant.source import Lines
+from gregorio_chant.streams import is_terminal, printable
+
+_STYLES = {Kind.WARNING: "bold yellow", Kind.ERROR: "bold red", Kind.FATAL: "bold white on red"}
+_SHORT = 20
+
+
+class TextReporter:
+    """A message on a line, below it the line of the score, with a caret below the character."""
+
+    has_summary = True
+
+    def __init__(self) -> None:
+        # What is printed is taken and sent as all else is, so that a full disk or a closed pipe is met in one place.
+        self._printed = io.StringIO()
+        self._console = Console(file=self._printed, force_terminal=is_terminal() or None, highlight=False, markup=False, emoji=False)
+
+    def _take(self) -> str:
+        text = self._printed.getvalue()
+        self._printed.seek(0)
+        self._printed.truncate()
+        return text
+
+    def add(self, checked: Checked) -> str:
+        lines = Lines(checked.text)
+        for it in checked.messages:
+            self._print(checked.shown_name, it, lines.line(it.line))
+        return self._take()
+
+    def end(self, summary: str | None) -> str:
+        if summary is None:
+            return ""
+        self._console.print(Text(summary, "bold"), soft_wrap=True)
+        return self._take()
+
+    def _print(self, name: str, message: Message, line: str) -> None:
+        style = _STYLES[message.kind]
+        head = Text.assemble(
+            (f"{printable(name)}:{message.line}:{message.column}", "bold"), ": ", (f"{message.kind.value}: {message.code}", style),
+            f": {message.text}",
+        )
+        gutter = f"{message.line:5} | "
+        shown, before = window(line, message.column, max(self._console.width - len(gutter), 20))
+        self._console.print(head, soft_wrap=True)
+        self._console.print(Text.assemble((gutter, "dim"), shown), soft_wrap=True)
+        self._console.print(Text.assemble((" " * (len(gutter) - 2) + "| ", "dim"), " " * before, ("^", style)), soft_wrap=True)
+
+
+def window(line: str, column: int, width: int) -> tuple[str, int]:
+    """Returns what of `line` is shown in `width` cells, and how many cells stand before the character in `column`.
+
+    A long line is cut on both sides of that character. A tab, and whatever cannot be printed, is shown as a blank.
+    """
+    at = min(column - 1, len(line))
+    begin = max(0, at - width // 2) if len(line) > width // 2 and cell_len(line[: 2 * width]) > width else 0
+    shown = "".join(it if it.isprintable() else " " for it in line[begin : begin + width])
+    while cell_len(shown) > width:
+        shown = shown[:-1]
+    return shown, cell_len(shown[: at - begin])
+
+
+class Bar:
+    """A bar on standard error for many files, where that is a terminal. Without one it does nothing."""
+
+    def __init__(self, progress: Progress | None) -> None:
+        self._progress = progress
+        self._shares_terminal = is_terminal()
+
+    def advance(self) -> None:
+        if self._progress:
+            self._progress.advance(self._progress.task_ids[0])
+
+    @contextmanager
+    def aside(self) -> Iterator[None]:
+        """Takes the bar away while something is written to the same terminal."""
+        if self._progress and self._shares_terminal:
+            self._progress.stop()
+            yield
+            self._progress.start()
+        else:
+            yield
+
+
+@contextmanager
+def bar(files: int) -> Iterator[Bar]:
+    """Gives a bar over so many files, which is gone afterwards."""
+    console = Console(stderr=True)
+    if files <= _SHORT or not console.is_terminal:
+        yield Bar(None)
+        return
+    columns = (TextColumn("checking"), BarColumn(), MofNCompleteColumn(), TimeRemainingColumn())
+    with Progress(*columns, console=console, transient=True, redirect_stdout=False, redirect_stderr=False) as progress:
+        progress.add_task("checking", total=files)
+        yield Bar(progress)

@@ -1,0 +1,64 @@
+"""Compares what the documents show with what the package does."""
+from __future__ import annotations
+
+import contextlib
+import io
+import os
+import re
+import unittest
+from dataclasses import fields
+
+from gregorio_chant import dump
+from gregorio_chant.rules import RULES
+from support import ROOT, command, has
+
+PAGE = (ROOT / "docs" / "PYTHON.md").read_text(encoding="utf-8")
+README = (ROOT / "README.md").read_text(encoding="utf-8")
+
+
+def block(text: str, begin: str) -> str:
+    """Returns the indented lines behind the line that begins a block of `text`."""
+    lines = text.split(begin)[1].lstrip("\n").split("\n")
+    end = next(at for at, line in enumerate(lines) if line and not line.startswith("    "))
+    return "\n".join(it[4:] for it in lines[:end]).rstrip("\n") + "\n"
+
+
+class Documents(unittest.TestCase):
+    @unittest.skipUnless(has("rich"), "there is no rich")
+    def test_picture(self) -> None:
+        """The screen of the README is what the command writes."""
+        first, shown = block(README, "<!-- picture: check -->").split("\n", 1)
+        self.assertTrue(first.startswith("$ gregorio-chant check "), first)
+        self.assertLess(shown.count("\n"), 30)
+        self.addCleanup(os.chdir, os.getcwd())
+        os.chdir(ROOT)
+        self.assertEqual(command(*first.split()[2:], environment={"COLUMNS": "100"}).stdout.decode(), shown)
+
+    def test_options(self) -> None:
+        """Each option of the command stands in the page, and no other."""
+        helps = "".join(command(it, "--help").stdout.decode() for it in ("check", "format", "explain", "server"))
+        self.assertEqual(set(re.findall(r"--[a-z][a-z-]+", helps)) - {"--help", "--"}, set(re.findall(r"(?<![\w.-])--[a-z][a-z-]+", PAGE)))
+
+    def test_example(self) -> None:
+        with contextlib.redirect_stdout(io.StringIO()) as written:
+            exec(block(PAGE, "since nothing is written then."), {})
+        self.assertEqual(written.getvalue().split("\n"), ["4 4 Ky f fa", "4 9 ri g sol", "4 10 ri f fa", "4 11 ri g sol", ""])
+
+    def test_classes(self) -> None:
+        """Each field of each class stands in the page, and each name that stands there is one."""
+        rows = {name: row for names, row in re.findall(r"^\| (`[A-Z]\w+`(?:, `[A-Z]\w+`)*) \| (.*) \|$", PAGE, re.MULTILINE) for name in re.findall(r"\w+", names)}
+        told = {it for it in dump.__all__ if isinstance(getattr(dump, it), type)} - {"DumpError", "ScoreError", "Item", "Place"}
+        self.assertEqual(set(rows), told)
+        for name, row in rows.items():
+            its = getattr(dump, name)
+            words = set(re.findall(r"`([a-z]\w*)[`(]", row)) - {"z0"}
+            self.assertLessEqual({it.name for it in fields(its)} - {"place", "spelling"}, words, name)
+            for word in words:
+                self.assertTrue(hasattr(its, word) or word in {it.name for it in fields(its)}, f"{name}.{word}")
+
+    def test_rules(self) -> None:
+        self.assertEqual(re.findall(r"^\| `([a-z]+-[a-z-]+|comment)` \|", PAGE, re.MULTILINE), list(RULES))
+
+    def test_each_help_says_what_is_not_proved(self) -> None:
+        for words in (["--help"], ["check", "--help"], ["format", "--help"], ["server", "--help"]):
+            self.assertRegex(command(*words).stdout.decode().replace("\n", " "), "outside (that|the) +proof", words)

@@ -1,0 +1,86 @@
+"""Compares the table of codes with the man page, the compiler and FORMATS.md, and tries each wrong line and its right one."""
+from __future__ import annotations
+
+import re
+import shlex
+import unittest
+
+from gregorio_chant import check
+from gregorio_chant.codes import CODES
+from gregorio_chant.rules import RULES, messages_with_rules
+from support import ROOT, command
+
+
+def meanings_of_man_page() -> dict[str, str]:
+    """Returns what the man page says of each code, as plain text."""
+    found: dict[str, list[str]] = {}
+    code, before = None, ""
+    for line in (ROOT / "docs" / "gregorio.1").read_text(encoding="utf-8").split("\n"):
+        heading = re.fullmatch(r"\.B ([EWF]\d+)", line)
+        if heading and before == ".TP":
+            code = heading[1]
+            found[code] = []
+        elif line == ".TP" or line.startswith((".S", ".P")):
+            code = None
+        elif code is not None:
+            found[code].append(_plain(line))
+        before = line
+    return {code: " ".join(it) for code, it in found.items()}
+
+
+def _plain(line: str) -> str:
+    """Returns a line of the man page as it is shown: a macro of two fonts joins its words."""
+    if line.startswith("."):
+        macro, *words = shlex.split(line)
+        line = ("" if len(macro) == 3 else " ").join(words)
+    return line.replace("\\-", "-")
+
+
+class Table(unittest.TestCase):
+    def test_man_page(self) -> None:
+        self.assertEqual(meanings_of_man_page(), {name: it.meaning for name, it in CODES.items()})
+
+    def test_formats(self) -> None:
+        rows = re.findall(r"^\| ([EWF]\d+) \| `(.*)` \|$", (ROOT / "docs" / "FORMATS.md").read_text(encoding="utf-8"), re.MULTILINE)
+        self.assertEqual(dict(rows), {name: it.text for name, it in CODES.items()})
+
+    def test_language(self) -> None:
+        rows = re.findall(r"^\| ([EWF]\d+) \|", (ROOT / "docs" / "LANGUAGE.md").read_text(encoding="utf-8"), re.MULTILINE)
+        self.assertEqual(set(rows), set(CODES))
+
+    def test_lines(self) -> None:
+        for code in CODES.values():
+            with self.subTest(code.name):
+                if not code.is_tried:
+                    self.skipTest(f"{code.name} wants a score of more than 4 GB")
+                found = check(code.score_with(code.wrong)).messages
+                self.assertIn((code.name, code.text, code.kind), [(it.code, it.text, it.kind) for it in found])
+                self.assertEqual([it.code for it in check(code.score_with(code.right)).messages], [], code.right[:100])
+
+    def test_lines_of_rules(self) -> None:
+        for rule in RULES.values():
+            with self.subTest(rule.name):
+                self.assertIn(rule.name, [it.code for it in messages_with_rules(rule.score_with(rule.wrong))])
+                self.assertEqual(messages_with_rules(rule.score_with(rule.right)), ())
+
+
+class Command(unittest.TestCase):
+    def test_page(self) -> None:
+        ran = command("explain", "e1")
+        self.assertEqual(
+            ran.stdout.decode(),
+            "E1: error: character left out of the notes\n\nA character of the notes fits nowhere and was left out. Look for a slip of the\n"
+            "key, as a capital letter or a digit behind the wrong note.\n\nWrong:\n    Ky(g5)ri(g)\n\nRight:\n    Ky(g.)ri(g)\n",
+        )
+        self.assertEqual((ran.returncode, ran.stderr), (0, b""))
+
+    def test_all(self) -> None:
+        shown = command("explain", "--all").stdout.decode()
+        for name in [*CODES, *RULES]:
+            self.assertRegex(shown, rf"(?m)^{name}: ")
+
+    def test_unknown(self) -> None:
+        for words in (("explain", "E99"), ("explain",)):
+            ran = command(*words)
+            self.assertEqual((ran.returncode, ran.stdout), (3, b""))
+            self.assertIn(b"--all", ran.stderr)

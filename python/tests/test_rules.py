@@ -1,0 +1,83 @@
+"""Tries the rules: what each finds, and at which place of a score that is not canonical."""
+from __future__ import annotations
+
+import json
+import unittest
+
+from gregorio_chant import compile
+from gregorio_chant.rules import RULES, messages_with_rules
+from support import EXAMPLES, InFolder, command
+
+
+def found(score: str, name: str) -> list[tuple[int, int, str]]:
+    """Returns the places and texts of what a rule finds."""
+    return [(it.line, it.column, it.text) for it in messages_with_rules(score.encode()) if it.code == name]
+
+
+class Rules(unittest.TestCase):
+    def test_outside_staff(self) -> None:
+        told = "pitch {} is outside a staff of {} lines, which goes from a to {}"
+        for lines, highest, over in (("2", "i", "j"), ("3", "k", "l"), ("4", "m", "n")):
+            score = f"name: a; % b\nstaff-lines:{lines};\n%%\n(c1)  a ({highest}x{highest}5{over}) ({over}+) ({over}#)\n"
+            text = told.format(over, lines, highest)
+            self.assertEqual(found(score, "outside-staff"), [(4, 13, text), (4, 18, text), (4, 23, text)])
+        self.assertEqual(found("staff-lines: 5;\n%%\n(c1) (p)", "outside-staff"), [])
+        self.assertEqual(found("staff-lines: x;\n%%\n(c1) (p)", "outside-staff"), [])
+        self.assertEqual(found("%%\n(c1) (nz0a)", "outside-staff"), [(2, 7, told.format("n", "4", "m"))])
+
+    def test_bracket_in_attribute(self) -> None:
+        score = "%%\n(c4) a(f[cs:x)b(g]h)  c (f/[(]g [a])[d)](f)"
+        self.assertEqual([it[:2] for it in found(score, "bracket-in-attribute")], [(2, 9), (2, 27)])
+
+    def test_nabc_without_header(self) -> None:
+        body = "%%\n(c4) a(f&|vi) b(gh)\nc(f[|]|pe!clsu2|) d(f)"
+        messages = messages_with_rules(f"name: a;\n{body}".encode())
+        self.assertEqual([(it.line, it.column, it.code) for it in messages if it.code != "outside-staff"], [(3, 9, "E1"), (3, 10, "nabc-without-header")])
+        self.assertIn("in the notes of 2 syllables", messages[1].text)
+        self.assertGreater(len(compile(f"name: a;\n{body}").messages), 4)
+        self.assertEqual(found(f"nabc-lines: 1;\n{body}", "nabc-without-header"), [])
+        self.assertEqual(len(found(f"nabc-lines: 0;\n{body}", "nabc-without-header")), 1)
+
+    def test_comment(self) -> None:
+        score = "% a\nname: b%c\n;; % d\n%% e\n(c4%f\n) $%g(f[%]) <v>%</v>(h%i)\n)[%]%j"
+        self.assertEqual([it[:2] for it in found(score, "comment")], [(1, 1), (3, 4), (4, 4), (5, 4), (6, 23), (7, 5)])
+
+    def test_asterisk_without_bar(self) -> None:
+        for notes, is_well in (
+            ("*(;)", True), ("*() (;)", True), ("*() (z0::c3)", True), ("a*(f) (,)", True), ("<i>*</i>(`)", True), ("**(f,)", True),
+            ("*()", False), ("*() b(;)", False), ("*(f) (g;)", False), ("a(f) <b>b*</b>(g) c(,)", False), ("<sp>*</sp>()", False),
+        ):
+            score = f"name: a;\n%%\n(c4)  {notes}   c(f)"
+            places = [it[:2] for it in found(score, "asterisk-without-bar")]
+            self.assertEqual(places, [] if is_well else [(3, 7 + notes.index("*"))], notes)
+
+    def test_off_unless_asked(self) -> None:
+        for score in sorted(EXAMPLES.glob("*.gabc")):
+            for line in json.loads(command("check", "--output-format", "json", score).stdout):
+                self.assertNotIn(line["code"], RULES)
+
+    def test_fatal_fault(self) -> None:
+        self.assertEqual([it.code for it in messages_with_rules(b"name: a;\n%%\n(c4) a(n")], ["F6"])
+
+    def test_order(self) -> None:
+        messages = messages_with_rules(b"%%\n(c4) <x>a</x>(n&) % b\n*(f)")
+        self.assertEqual(
+            [(it.line, it.column, it.code) for it in messages],
+            [(1, 1, "W1"), (2, 6, "W6"), (2, 10, "W6"), (2, 15, "outside-staff"), (2, 16, "E1"), (2, 19, "comment"), (3, 1, "asterisk-without-bar")],
+        )
+
+
+class Command(InFolder):
+    def test_rules(self) -> None:
+        self.put("a.gabc", "name: a;\n%%\n(c4) a(n) % b\n")
+        words = ["check", "--output-format", "lines", "--quiet"]
+        self.assertEqual(command(*words, "a.gabc").stdout, b"")
+        lines = command(*words, "--rules", "a.gabc").stdout.decode()
+        self.assertEqual([it.split(": ")[1:3] for it in lines.split("\n")[:-1]], [["warning", "outside-staff"], ["warning", "comment"]])
+        self.assertEqual(command(*words, "--rules", "--fail-on", "outside-staff", "a.gabc").returncode, 1)
+        self.assertEqual(command(*words, "--rules", "--fail-on", "rules", "a.gabc").returncode, 1)
+        self.assertEqual(command(*words, "--rules", "a.gabc").returncode, 0)
+        self.assertEqual(command(*words, "--rules", "--ignore", "rules", "a.gabc").stdout, b"")
+        self.assertIn(b"outside-staff", command(*words, "--rules", "--select", "outside-staff", "a.gabc").stdout)
+        self.put("b.gabc", "name: a;\n%%\n(c4) a(f|vi)\n")
+        self.assertEqual(command(*words, "--rules", "b.gabc").returncode, 1)

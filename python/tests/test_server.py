@@ -1,0 +1,141 @@
+"""Tries the language server by a client that says what editors say."""
+from __future__ import annotations
+
+import json
+import subprocess
+import sys
+import unittest
+from typing import Any
+
+from support import CANONICAL, FAULTY, SCORE, has
+
+URI = "file:///a%20b.gabc"
+
+
+@unittest.skipUnless(has("pylsp_jsonrpc"), "there is no python-lsp-jsonrpc")
+class Serving(unittest.TestCase):
+    def setUp(self) -> None:
+        self.start()
+
+    def start(self, *words: str) -> None:
+        self.server = subprocess.Popen(
+            [sys.executable, "-m", "gregorio_chant", "server", *words], stdin=subprocess.PIPE, stdout=subprocess.PIPE, stderr=subprocess.PIPE
+        )
+        self.addCleanup(self.stop, self.server)
+        self.number = 0
+        self.told: list[dict[str, Any]] = []
+        self.capabilities = self.ask("initialize", {"processId": None, "rootUri": None, "capabilities": {}})["capabilities"]
+        self.tell("initialized", {})
+
+    @staticmethod
+    def stop(server: subprocess.Popen[bytes]) -> None:
+        server.kill()
+        server.wait()
+        for it in (server.stdin, server.stdout, server.stderr):
+            if it is not None:
+                it.close()
+
+    def send(self, message: dict[str, Any]) -> None:
+        body = json.dumps({"jsonrpc": "2.0", **message}).encode()
+        assert self.server.stdin
+        self.server.stdin.write(b"Content-Length: %d\r\n\r\n%s" % (len(body), body))
+        self.server.stdin.flush()
+
+    def receive(self) -> dict[str, Any]:
+        length = 0
+        assert self.server.stdout
+        while line := self.server.stdout.readline().strip():
+            if line.lower().startswith(b"content-length:"):
+                length = int(line.split(b":")[1])
+        received: dict[str, Any] = json.loads(self.server.stdout.read(length))
+        return received
+
+    def tell(self, method: str, params: object) -> None:
+        self.send({"method": method, "params": params})
+
+    def ask(self, method: str, params: object) -> Any:
+        self.number += 1
+        self.send({"id": self.number, "method": method, "params": params})
+        while "id" not in (answer := self.receive()):
+            self.told.append(answer)
+        self.assertEqual(answer["id"], self.number)
+        return answer["result"]
+
+    def open(self, text: str) -> list[dict[str, Any]]:
+        """Opens a score, and returns the messages that come."""
+        self.tell("textDocument/didOpen", {"textDocument": {"uri": URI, "languageId": "gabc", "version": 1, "text": text}})
+        return self.shown()
+
+    def change(self, text: str) -> list[dict[str, Any]]:
+        self.tell("textDocument/didChange", {"textDocument": {"uri": URI, "version": 2}, "contentChanges": [{"text": text}]})
+        return self.shown()
+
+    def shown(self) -> list[dict[str, Any]]:
+        message = self.receive()
+        self.assertEqual((message["method"], message["params"]["uri"]), ("textDocument/publishDiagnostics", URI))
+        diagnostics: list[dict[str, Any]] = message["params"]["diagnostics"]
+        return diagnostics
+
+    def format(self) -> Any:
+        return self.ask("textDocument/formatting", {"textDocument": {"uri": URI}, "options": {"tabSize": 2, "insertSpaces": True}})
+
+    def hover(self, line: int, character: int) -> str | None:
+        answer = self.ask("textDocument/hover", {"textDocument": {"uri": URI}, "position": {"line": line, "character": character}})
+        return None if answer is None else answer["contents"]["value"]
+
+    def test_messages(self) -> None:
+        self.assertEqual(self.capabilities["textDocumentSync"], {"openClose": True, "change": 1})
+        (message,) = self.open(FAULTY)
+        place = {"start": {"line": 2, "character": 9}, "end": {"line": 2, "character": 10}}
+        self.assertEqual(
+            message,
+            {"range": place, "severity": 1, "code": "E1", "source": "gregorio-chant", "message": "character left out of the notes"},
+        )
+        self.assertEqual(self.change(SCORE), [])
+        (message,) = self.change("%%\r\n(c4)\ufeff\U0001d11e\u00e9(g5) \r\n")[1:]
+        self.assertEqual(message["range"]["start"], {"line": 1, "character": 10})
+        (message,) = self.change("name: a;\n%%\n(c4) a(g\ufeff5)")
+        self.assertEqual(message["range"]["start"], {"line": 2, "character": 9})
+        self.assertEqual([it["severity"] for it in self.change("%%\n(c4f)")], [2])
+        self.assertEqual([it["range"]["start"] for it in self.change("name: a;\r\n")], [{"line": 1, "character": 0}])
+        self.tell("textDocument/didClose", {"textDocument": {"uri": URI}})
+        self.assertEqual(self.shown(), [])
+
+    def test_formatting(self) -> None:
+        self.open(SCORE.replace("\n", "\r\n"))
+        (edit,) = self.format()
+        self.assertEqual(edit, {"range": {"start": {"line": 0, "character": 0}, "end": {"line": 3, "character": 0}}, "newText": CANONICAL})
+        self.change(FAULTY)
+        self.assertEqual(self.format(), [])
+        self.assertIn("line 3, column 10: E1: character left out of the notes", self.told[-1]["params"]["message"])
+        self.change("name: a")
+        self.assertEqual(self.format(), [])
+        self.assertIn("1:1: F3", self.told[-1]["params"]["message"])
+
+    def test_hover(self) -> None:
+        self.open("name: a;  % b\n%%\n(cb3) \U0001d11e(f)ri(gi.g&)\n")
+        self.assertEqual(self.hover(2, 14), "g: si flat, punctum\ngig: torculus\n".replace("gig", "gi.g"))
+        self.assertEqual(self.hover(2, 16), "i.: re, punctum\ngi.g: torculus\n")
+        self.assertIsNone(self.hover(2, 12))
+        self.assertIsNone(self.hover(9, 0))
+        self.assertTrue((self.hover(2, 18) or "").endswith("Ky(g.)ri(g)\n"))
+
+    def test_rules(self) -> None:
+        self.start("--rules")
+        self.assertEqual([it["code"] for it in self.open("name: a;\n%%\n(c4) a(n)\n")], ["outside-staff"])
+
+    def test_end(self) -> None:
+        self.assertIsNone(self.ask("shutdown", None))
+        self.tell("exit", None)
+        self.assertEqual(self.server.wait(20), 0)
+
+    def test_client_that_goes(self) -> None:
+        self.open(FAULTY)
+        assert self.server.stdin
+        self.server.stdin.close()
+        self.assertEqual(self.server.wait(20), 1)
+
+    def test_unknown_method(self) -> None:
+        self.send({"id": 9, "method": "textDocument/none", "params": {}})
+        self.assertEqual(self.receive()["error"]["code"], -32601)
+        self.assertEqual(self.open(SCORE), [])
