@@ -20,24 +20,16 @@ impl BodyStage {
     pub(crate) fn openers(&self) -> Openers
         ensures { result ≡ openers_of self.now.part }
     {
-        match &self.part {
-            BodyPart::Comment => Openers {
-                notes: None,
-                inner: None,
-            },
-            BodyPart::Text(stage) => Openers {
-                notes: None,
-                inner: stage.opener(),
-            },
-            BodyPart::Notes { opened, stage } => Openers {
-                notes: Some(*opened),
-                inner: stage.opener(),
-            },
-            BodyPart::Nabc { opened, .. } => Openers {
-                notes: Some(*opened),
-                inner: None,
-            },
-        }
+        let notes = match &self.part {
+            BodyPart::Comment | BodyPart::Text(_) => None,
+            BodyPart::Notes { opened, .. } | BodyPart::Nabc { opened, .. } => Some(*opened),
+        };
+        let inner = match &self.part {
+            BodyPart::Text(stage) => stage.opener(),
+            BodyPart::Notes { stage, .. } => stage.opener(),
+            BodyPart::Comment | BodyPart::Nabc { .. } => None,
+        };
+        Openers { notes, inner }
     }
 
     /// Returns whether a comment is open.
