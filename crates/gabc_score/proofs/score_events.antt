@@ -18,3 +18,4 @@ pub mod PlainScores
 pub mod ScoreOutputs
 pub mod TextsAreReadInFull
 pub mod WhatOutputsSay
+pub mod WhatPrecedes

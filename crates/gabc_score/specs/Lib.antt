@@ -1,5 +1,6 @@
 pub mod machine
 pub mod witness
+pub mod Before
 pub mod Body
 pub mod Canonical
 pub mod Events
@@ -10,6 +11,7 @@ pub mod NoteBeforeClef
 pub mod Score
 pub mod ScoreEvents
 pub mod ScoreStage
+pub mod ScoreTells
 pub mod Stops
 pub mod Syllable
 pub mod SyllablesOfUnits

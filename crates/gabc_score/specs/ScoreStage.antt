@@ -7,10 +7,14 @@ use Rattle.gabc_places.specs.declared.place.Place.{Place}
 use Rattle.gabc_places.specs.Skip.{characters_at}
 use Rattle.gabc_headers.specs.declared.head_event.HeadEvent.{HeadEvent}
 use Rattle.gabc_headers.specs.declared.head_event.HeadEvent.TheVariants as head_event
+use Rattle.gabc_score.specs.declared.before.Preceding.{Preceding}
 use Rattle.gabc_score.specs.declared.score_event.LentSyllable.{LentSyllable}
 use Rattle.gabc_score.specs.declared.score_event.LentSyllable.TheVariants.{First, Second}
 use Rattle.gabc_score.specs.declared.score_event.ScoreEvent.{ScoreEvent}
 use Rattle.gabc_score.specs.declared.score_event.ScoreEvent.TheVariants as event
+use Rattle.gabc_score.specs.Before.{no_syllable, with_placed}
+use Rattle.gabc_score.specs.declared.score_machine.ScorePart.{ScorePart}
+use Rattle.gabc_score.specs.declared.score_machine.ScorePart.TheVariants as score_part
 use Rattle.gabc_score.specs.ScoreEvents.{ScoreOutput, Found, Stop, Syllable, End, syllables_in}
 use Rattle.gabc_score.specs.Canonical.{canonical_in_place}
 use Rattle.gabc_score.specs.Syllable.{PlacedSyllable}
@@ -52,11 +56,17 @@ most_lent head_event.End = 2
 most_lent (head_event.Found f) = 0
 most_lent (head_event.Heads lines macros canonical) = 0
 
+-- What stands before the first syllable that was not given, behind an input at which these were given: behind the headers no syllable was.
+abbrev pub preceding_past : ScorePart → HeadEvent → List ScoreOutput → Preceding → Preceding
+preceding_past score_part.Heads (head_event.Heads lines macros canonical) outputs p = no_syllable canonical
+preceding_past part x outputs p = with_placed p (syllables_in outputs)
+
 -- At an input it gave what was to come for it, and goes on with what follows under the same limits.
 pub record GivesAt (before : ScoreStageState) (x : HeadEvent) (after : ScoreStageState) (old new : BoundedList ScoreEvent) : Type 0 where
   pub outputs : List ScoreOutput
   pub lends : Lends before.limits (most_lent x) outputs
   pub limits : after.limits ≡ before.limits
+  pub before_held : after.part ≡ score_part.Body → after.before ≡ preceding_past before.part x outputs before.before
   pub law : (xs : List HeadEvent) → left_of before (x ∷ xs) ≡ outputs ∷ left_of after xs
   pub emitted : GivesOutputs outputs old new after.first after.second
 
@@ -82,6 +92,7 @@ nothing_each bytes = map (λ (byte : ℕ). []) bytes
 pub record GivesNothing (before : ScoreStageState) (at : Place) (bytes : List ℕ) (after : ScoreStageState) : Type 0 where
   pub limits : after.limits ≡ before.limits
   pub part : after.part ≡ before.part
+  pub before_held : after.before ≡ before.before
   pub law : (xs : List HeadEvent) → left_of before (body_inputs at bytes ++ xs) ≡ nothing_each bytes ++ left_of after xs
 
 -- ---- counts that have not reached their last value

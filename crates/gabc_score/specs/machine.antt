@@ -3,6 +3,7 @@ pub mod Collected
 pub mod Gatherer
 pub mod PartCounts
 pub mod PartPushes
+pub mod Preceded
 pub mod Quiet
 pub mod ScoreMachine
 pub mod ScoreStage

@@ -61,9 +61,9 @@ pub(crate) enum Emitter {
 /// Reads the body of a score a character at a time, and emits what its texts and notes emit. It asks for no memory once made.
 #[derive(Drop)]
 pub struct BodyStage {
-    nabc_lines: u8,
-    macros: u16,
-    part: BodyPart,
+    pub(crate) nabc_lines: u8,
+    pub(crate) macros: u16,
+    pub(crate) part: BodyPart,
     /// Whether the input has ended.
     over: bool,
     emitter: Emitter,

@@ -14,8 +14,11 @@
 //! ```
 #![tactic(auto)]
 
+mod before;
 mod body_result;
 mod body_stage;
+mod body_tells;
+mod bounds;
 mod build_body;
 mod canonical;
 mod context;
@@ -40,7 +43,9 @@ mod syllable;
 mod syllables;
 mod whole;
 
+pub use before::{Before, Spans};
 pub use body_stage::BodyStage;
+pub use body_tells::Openers;
 pub use canonical::{canon_len, canon_syllable};
 pub use ending::InputEnding;
 pub use events::BodyEvent;

@@ -1,6 +1,6 @@
 //! A machine from what a stage of headers emits to the score.
 
-ghost use Rattle.std.specs.Prelude.{◌≡◌, ◌≢◌, ◌+◌, ◌<◌, ◌≤◌, ◌^◌, List, [], ◌∷◌, ◌++◌, true, false, length, take, None, IfOk};
+ghost use Rattle.std.specs.Prelude.{◌≡◌, ◌≢◌, ◌+◌, ◌<◌, ◌≤◌, ◌^◌, List, [], ◌∷◌, ◌++◌, true, false, length, take, None, Some, IfOk, MatchOption};
 ghost use Rattle.std.specs.List.{All};
 ghost use Rattle.gabc_places.specs.Skip.{IsPrintable};
 ghost use Rattle.gabc_headers.specs.declared.head_event.HeadEvent.{HeadEvent as HeadItem};
@@ -10,15 +10,20 @@ ghost use Rattle.gabc_places.specs.BoundedList.{Fits};
 ghost use Rattle.gabc_places.specs.StageLaw.{concat_of};
 ghost use Rattle.gabc_score.specs.ScoreEvents.{outputs_of, Stop, characters_in, syllables_in};
 ghost use Rattle.gabc_score.specs.ScoreStage.{GivesOutputs, GivesAt, GivesLast, GivesNothing};
+ghost use Rattle.gabc_score.specs.ScoreTells.{before_with, held_of, reading_of};
+ghost use Rattle.gabc_score.specs.Syllable.{unplaced_of};
 ghost use Rattle.gabc_score.specs.witness.ScoreStage.{left_of};
 ghost use Rattle.gabc_score.specs.machine.ScoreStage.{placed_behind, begun_score, body_left};
 ghost use Rattle.gabc_score.specs.machine.ScoreMachine.{shown, IsInBody, IsBeforeBody, IsScore, IsFreed, PassesQuietly};
 ghost use Rattle.gabc_score.specs.machine.SlotPair.{is_made};
 
+use crate::before::Before;
 use crate::body_stage::{BodyPart, BodyStage};
+use crate::bounds::Bounds;
 use crate::giving::{find_first, give_broken, give_end, give_point, give_stop};
 use crate::score_event::ScoreEvent;
 use crate::slot_pair::{SlotPair, SlotUse};
+use crate::syllable::Syllable;
 use gabc_headers::HeadEvent;
 use gabc_places::{Char, Fault, Finding, Limits, Place, Room, is_printable};
 use std::alloc::{AllocError, Global};
@@ -44,6 +49,8 @@ pub(crate) struct ScoreMachine {
     pub(crate) next: Place,
     /// Whether a syllable was lent.
     pub(crate) has_lent: bool,
+    /// What stands before and behind what is held.
+    pub(crate) bounds: Bounds,
 }
 
 /// Returns how many of `count` columns, the first of which is `column`, fit a `u64` with the one behind them.
@@ -75,6 +82,7 @@ impl ScoreMachine {
         let mut pair = SlotPair::with_limit(alloc, limits.syllable as usize)?;
         pair.start(head);
         let found = Room::with_limit(alloc, 9)?;
+        let bounds = Bounds::behind_headers(head);
         Ok(ScoreMachine {
             limits,
             part: ScorePart::Body,
@@ -83,6 +91,7 @@ impl ScoreMachine {
             found,
             next: at,
             has_lent: false,
+            bounds,
         })
     }
 
@@ -124,8 +133,10 @@ impl ScoreMachine {
                 out,
             ),
             None => {
+                let is_whole = self.pair.is_whole();
                 let gave = give_point(&mut self.pair, self.has_lent, &mut self.found, out);
                 self.has_lent = self.has_lent || gave;
+                self.bounds.pass(is_whole, gave, &self.pair);
                 self.next = x.place.saturating_after(x.c);
             }
         }
@@ -197,6 +208,7 @@ impl ScoreMachine {
             } => {
                 self.body.restart(nabc_lines, macros);
                 self.pair.start(canonical as usize);
+                self.bounds = Bounds::behind_headers(canonical as usize);
                 self.next = Place::START;
                 self.part = ScorePart::Body;
             }
@@ -285,6 +297,43 @@ impl ScoreMachine {
         match self.pair.code(self.limits) {
             Some(_) => 0,
             None => self.take_printable(at, bytes),
+        }
+    }
+
+    /// Returns what stands before the syllable that is held, or before the one that is read where none is held.
+    pub(crate) fn before(&self) -> Before
+        ensures { result ≡ before_with self.now.body self.now.bounds.before }
+    {
+        let before = self.bounds.before;
+        Before {
+            nabc_lines: self.body.nabc_lines(),
+            macros: self.body.macros(),
+            syllables: before.syllables,
+            canonical: before.canonical,
+            spans: before.spans,
+            sounded: before.sounded,
+        }
+    }
+
+    /// Returns the syllable that is held, if one is.
+    pub(crate) fn held(&self) -> Option<&Syllable>
+        requires rests { IsScore self.now }
+        ensures { MatchOption result (held_of (shown self.now) ≡ None)
+            (λ s. held_of (shown self.now) ≡ Some (unplaced_of s.now)) }
+    {
+        match self.part {
+            ScorePart::Body => self.pair.held(),
+            ScorePart::Heads | ScorePart::Over => None,
+        }
+    }
+
+    /// Returns the kept text of the syllable that is read.
+    pub(crate) fn reading(&self) -> &str
+        ensures { result.now ≡ reading_of (shown self.now) }
+    {
+        match self.part {
+            ScorePart::Body => self.pair.reading(),
+            ScorePart::Heads | ScorePart::Over => "",
         }
     }
 

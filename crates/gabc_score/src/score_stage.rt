@@ -1,6 +1,6 @@
 //! A stage from what a stage of headers emits to the score.
 
-ghost use Rattle.std.specs.Prelude.{◌≡◌, ◌≤◌, List, [], length, take, IfOk};
+ghost use Rattle.std.specs.Prelude.{◌≡◌, ◌≤◌, List, [], length, take, None, Some, IfOk, MatchOption};
 ghost use Rattle.gabc_headers.specs.declared.head_event.HeadEvent.{HeadEvent};
 ghost use Rattle.gabc_score.specs.witness.BodyStage.{texts_by_stage};
 ghost use Rattle.gabc_places.specs.StageLaw.{concat_of};
@@ -9,9 +9,13 @@ ghost use Rattle.std.specs.List.{All};
 ghost use Rattle.gabc_places.specs.Skip.{IsPrintable};
 ghost use Rattle.gabc_score.specs.ScoreStage.{AreCountsBelow, GivesNothing, lent_in};
 ghost use Rattle.gabc_score.specs.witness.ScoreStage.{left_of};
-ghost use Rattle.gabc_score.specs.Syllable.{placed_of};
+ghost use Rattle.gabc_score.specs.ScoreTells.{before_of, held_of, in_body, is_in_comment, openers_of, reading_of};
+ghost use Rattle.gabc_score.specs.Syllable.{placed_of, unplaced_of};
 
+use crate::before::Before;
 use crate::body_stage::BodyStage;
+use crate::body_tells::Openers;
+use crate::bounds::Bounds;
 use crate::score_event::{LentSyllable, ScoreEvent};
 use crate::score_machine::{ScoreMachine, ScorePart};
 use crate::slot_pair::SlotPair;
@@ -51,6 +55,7 @@ impl ScoreStage {
         let body = BodyStage::new(alloc, 0, 0)?;
         let pair = SlotPair::with_limit(alloc, limits.syllable as usize)?;
         let found = Room::with_limit(alloc, 9)?;
+        let bounds = Bounds::behind_headers(0);
         Ok(ScoreStage {
             machine: ScoreMachine {
                 limits,
@@ -60,6 +65,7 @@ impl ScoreStage {
                 found,
                 next: Place::START,
                 has_lent: false,
+                bounds,
             },
         })
     }
@@ -81,6 +87,53 @@ impl ScoreStage {
         ensures { length (syllables_in (concat_of (left_of self.now []))) ≤ 1 }
     {
         self.machine.at_most_one_is_held();
+    }
+
+    /// Returns what stands before the syllable that is held, or before the one that is read where none is held. Before the headers are whole, and
+    /// behind the last event, it returns `None`.
+    pub fn before(&self) -> Option<Before>
+        ensures { result ≡ before_of self.now }
+    {
+        match self.machine.part {
+            ScorePart::Body => Some(self.machine.before()),
+            ScorePart::Heads | ScorePart::Over => None,
+        }
+    }
+
+    /// Returns the whole syllable that is held, if one is: it is given when the next one is whole, or at the last event. Outside the body it
+    /// returns `None`. The syllable's position is not known yet, and what it says of it counts for nothing.
+    pub fn held(&self) -> Option<&Syllable>
+        ensures { MatchOption result (held_of self.now ≡ None)
+            (λ s. held_of self.now ≡ Some (unplaced_of s.now)) }
+    {
+        self.machine.held()
+    }
+
+    /// Returns the kept text of the syllable that is read. Outside the body it returns an empty text.
+    pub fn reading(&self) -> &str
+        ensures { result.now ≡ reading_of self.now }
+    {
+        self.machine.reading()
+    }
+
+    /// Returns the places of what is open. Outside the body it returns `None`.
+    pub fn openers(&self) -> Option<Openers>
+        ensures { result ≡ in_body self.now.part (openers_of self.now.body.part) }
+    {
+        match self.machine.part {
+            ScorePart::Body => Some(self.machine.body.openers()),
+            ScorePart::Heads | ScorePart::Over => None,
+        }
+    }
+
+    /// Returns whether a comment is open. Outside the body it returns `None`.
+    pub fn in_comment(&self) -> Option<bool>
+        ensures { result ≡ in_body self.now.part (is_in_comment self.now.body.part) }
+    {
+        match self.machine.part {
+            ScorePart::Body => Some(self.machine.body.in_comment()),
+            ScorePart::Heads | ScorePart::Over => None,
+        }
     }
 
     /// Returns the syllable that the last call gave as `lent`. What it returns where none was given is not said.

@@ -4,6 +4,7 @@ ghost use Rattle.std.specs.Prelude.{◌<◌, ◌^◌};
 ghost use Rattle.std.specs.Prelude.{IfOk};
 ghost use Rattle.gabc_score.specs.machine.SyllableBuilder.{nothing_open};
 
+use crate::before::Spans;
 use crate::canonical::canonical_len;
 use crate::slot::Slot;
 use crate::syllable::Syllable;
@@ -90,11 +91,12 @@ impl Model for SlotPair {
 }
 
 impl SlotPair {
-    ghost use Rattle.std.specs.Prelude.{◌≡◌, ◌≢◌, ◌||◌, ◌-◌, ◌<◌, ◌≤◌, ◌^◌, not, nat_lt, [], take, length, false, IfOk, IsTrue, if◌then◌else◌};
+    ghost use Rattle.std.specs.Prelude.{◌≡◌, ◌≢◌, ◌||◌, ◌-◌, ◌<◌, ◌≤◌, ◌^◌, not, nat_lt, [], ◌∷◌, take, length, false, IfOk, IsTrue, MatchOption, if◌then◌else◌};
     ghost use Rattle.gabc_score.specs.Body.{has_text, is_none};
-    ghost use Rattle.gabc_score.specs.Syllable.{placed_of};
+    ghost use Rattle.gabc_score.specs.Syllable.{placed_of, unplaced_of};
     ghost use Rattle.gabc_score.specs.machine.BodyBuilder.{code_in, end_fault};
     ghost use Rattle.gabc_score.specs.machine.Gatherer.{nothing_gathered, with_mark, with_mark_of, with_view_part, with_text_end, with_text, with_syllable, with_note_end, with_note, with_last, awaits, awaits_in, first_past};
+    ghost use Rattle.gabc_score.specs.machine.Preceded.{spans_of};
     ghost use Rattle.gabc_score.specs.machine.ScoreStage.{placed_behind, with_held};
     ghost use Rattle.gabc_score.specs.machine.Slot.{FitsText, FitsNote, FitsKept, FitsPiece, FitsSnippet};
     ghost use Rattle.gabc_score.specs.machine.SlotPair.{is_made, used_past, lent_syllables};
@@ -151,6 +153,37 @@ impl SlotPair {
         ensures { length self.now.gathered.made ≤ 1 }
     {
         let _ = &self.held;
+    }
+
+    /// Returns whether a syllable has become whole since it was last asked for what is held.
+    #[inline(always)]
+    pub(crate) fn is_whole(&self) -> bool
+        ensures used { result ≡ is_made self.now.used }
+        ensures made { result ≡ nat_lt (length self.now.held) (length self.now.gathered.made) }
+    {
+        match self.used {
+            SlotUse::Made => true,
+            SlotUse::Filling | SlotUse::Lent => false,
+        }
+    }
+
+    /// Returns the bytes of the canonical headers and of all syllables that were made, a count that saturates.
+    #[inline(always)]
+    pub(crate) fn canonical(&self) -> usize
+        ensures { result ≡ self.now.gathered.total }
+    {
+        self.total
+    }
+
+    /// Returns the spans that are open.
+    #[inline(always)]
+    pub(crate) fn spans(&self) -> Spans
+        ensures { result ≡ spans_of self.now.gathered }
+    {
+        Spans {
+            eu: self.eu,
+            nlba: self.nlba,
+        }
     }
 
     /// Adds what a text emits next.
@@ -449,6 +482,29 @@ impl SlotPair {
             self.reader.place(position_by(!has_lent || starts, true));
             swap(&mut self.reader, &mut self.holder);
             1
+        }
+    }
+
+    /// Returns the syllable that is held, if one is.
+    pub(crate) fn held(&self) -> Option<&Syllable>
+        requires { is_made self.now.used ≡ false }
+        ensures { MatchOption result (self.now.gathered.made ≡ [])
+            (λ s. self.now.gathered.made ≡ unplaced_of s.now ∷ []) }
+    {
+        if self.held {
+            Some(self.holder.syllable())
+        } else {
+            None
+        }
+    }
+
+    /// Returns the kept text of the syllable that is read.
+    pub(crate) fn reading(&self) -> &str
+        ensures { result.now ≡ self.now.gathered.builder.kept }
+    {
+        match self.used {
+            SlotUse::Filling => self.reader.syllable().kept.as_str(),
+            SlotUse::Made | SlotUse::Lent => "",
         }
     }
 

@@ -80,6 +80,54 @@ fn push_all(
     finish(alloc, stage, lines)
 }
 
+/// Prints what a stage tells of where it stands: what stands before the syllable that is held, the kept texts of this one and of the one that is
+/// read, the places of what is open, and whether a comment is.
+fn told(alloc: Global, stage: &ScoreStage) -> Result<String, AllocError> {
+    let Some(before) = stage.before() else {
+        return String::from_str(alloc, "nothing");
+    };
+    let mut line = format!(in alloc;
+        "{} {} {} {} {}",
+        before.syllables,
+        before.canonical,
+        before.spans.eu,
+        before.spans.nlba,
+        before.sounded
+    )?;
+    if let Some(held) = stage.held() {
+        line.push_str(format!(in alloc; " {:?}", held.kept.as_str())?.as_str())?;
+    }
+    line.push_str(format!(in alloc; " {:?}", stage.reading())?.as_str())?;
+    if let Some(openers) = stage.openers() {
+        line.push_str(format!(in alloc; " {:?} {:?}", openers.notes, openers.inner)?.as_str())?;
+    }
+    if let Some(true) = stage.in_comment() {
+        line.push_str(" %")?;
+    }
+    Ok(line)
+}
+
+/// Whether a new stage tells this once it has read `body`, which begins at 2:1.
+fn tells(alloc: Global, body: &str, wanted: &str) -> Result<bool, AllocError> {
+    let mut stage = ScoreStage::with_limits(alloc, Limits::DEFAULT)?;
+    let mut out = Room::with_limit(alloc, 16)?;
+    let heads = HeadEvent::Heads {
+        nabc_lines: 1,
+        macros: 0,
+        canonical: 3,
+    };
+    stage.push(heads, &mut out);
+    let mut place = Place { line: 2, column: 1 };
+    for c in body.chars() {
+        out.clear();
+        stage.push(HeadEvent::Body(Char { c, place }), &mut out);
+        place = place.saturating_after(c);
+    }
+    let line = told(alloc, &stage)?;
+    drop(stage);
+    Ok(line.as_str() == wanted)
+}
+
 /// Whether a stage gives this of a body, which ended so.
 fn emits(
     alloc: Global,
@@ -118,5 +166,44 @@ fn gives_a_syllable_with_the_next(rt: HostRuntime) -> Result<(), AllocError> {
 fn gives_the_held_syllable_where_the_source_fails(rt: HostRuntime) -> Result<(), AllocError> {
     let wanted = "||||||2:1: warning: W12: note before any clef\n|First \" a(f)\" One\n";
     assert!(rt; is_written(rt.alloc(), "\na(f)b", None, wanted)?);
+    Ok(())
+}
+
+#[test]
+fn tells_nothing_before_the_body_and_behind_the_end(rt: HostRuntime) -> Result<(), AllocError> {
+    let mut stage = ScoreStage::with_limits(rt.alloc(), Limits::DEFAULT)?;
+    assert!(rt; told(rt.alloc(), &stage)?.as_str() == "nothing");
+    assert!(rt; stage.held().is_none() && stage.reading().is_empty());
+    assert!(rt; stage.openers().is_none() && stage.in_comment().is_none());
+    let mut out = Room::with_limit(rt.alloc(), 16)?;
+    stage.finish(&mut out);
+    assert!(rt; told(rt.alloc(), &stage)?.as_str() == "nothing");
+    drop(stage);
+    Ok(())
+}
+
+/// Bodies, and what a stage tells behind them.
+const TOLD: [(&str, &str); 14] = [
+    ("", "0 3 false false false \"\" None None %"),
+    (" %x", "0 3 false false false \"\" None None %"),
+    ("\na", "0 3 false false false \" a\" None None"),
+    ("\na(f", "0 3 false false false \" a(f\" Some(Place { line: 3, column: 2 }) None"),
+    ("\na(f)", "0 3 false false false \" a(f)\" \"\" None None"),
+    ("\na(f)b%(", "0 3 false false false \" a(f)\" \"b\" None None %"),
+    ("\na(f)b(|vi", "0 3 false false false \" a(f)\" \"b(|vi\" Some(Place { line: 3, column: 6 }) None"),
+    ("\na(f)b(g)", "1 8 false false true \"b(g)\" \"\" None None"),
+    ("\na()b(g)", "1 7 false false false \"b(g)\" \"\" None None"),
+    ("\na()b(|g)", "1 7 false false false \"b(|)\" \"\" None None"),
+    ("\n<eu>a()b(g|)c(f)", "2 16 true false true \"c(f)\" \"\" None None"),
+    ("\n<eu>a()</eu>b(c4)<nlba>c(", "1 11 true false false \"</eu>b(c4)\" \"<nlba>c(\" Some(Place { line: 3, column: 25 }) None"),
+    ("\na(f) <b>b<i", "0 3 false false false \" a(f)\" \" <b>b<i\" None Some(Place { line: 3, column: 10 })"),
+    ("\na(f)(g[x", "0 3 false false false \" a(f)\" \"(g[x\" Some(Place { line: 3, column: 5 }) Some(Place { line: 3, column: 7 })"),
+];
+
+#[test]
+fn tells_where_it_stands(rt: HostRuntime) -> Result<(), AllocError> {
+    for (body, wanted) in TOLD {
+        assert!(rt; tells(rt.alloc(), body, wanted)?);
+    }
     Ok(())
 }

@@ -147,7 +147,7 @@ pub placed_count : (first : Bool) (ms : List UnplacedSyllable) → length (place
 placed_count first [] = refl
 placed_count first (m ∷ ms) = let e = placed_count false ms in omega (arith, e)
 
-given_syllables : (ss : List PlacedSyllable) (tail : List ScoreOutput) → syllables_in tail ≡ [] → syllables_in (map (λ s. Syllable s) ss ++ tail) ≡ ss
+pub given_syllables : (ss : List PlacedSyllable) (tail : List ScoreOutput) → syllables_in tail ≡ [] → syllables_in (map (λ s. Syllable s) ss ++ tail) ≡ ss
 given_syllables [] tail h = h
 given_syllables (s ∷ ss) tail h = ap (λ (l : List PlacedSyllable). s ∷ l) (given_syllables ss tail h)
 

@@ -40,6 +40,7 @@ gives_more : (a b c : ScoreStageState) (at : Place) (bytes : List ℕ) (byte : �
 gives_more a b c at bytes byte step passes = record {
   limits = passes.limits ∙ step.limits;
   part = passes.part ∙ step.part;
+  before_held = passes.before_held ∙ step.before_held;
   law = λ xs.
       let x = head_event.Body (char_behind at (length bytes) byte) in
       ap (λ (is : List HeadEvent). left_of a (is ++ xs)) (inputs_one_more at bytes byte)

@@ -4,6 +4,7 @@ use Rattle.std.specs.List.{All}
 use Rattle.gabc_places.specs.declared.place.Char.{Char}
 use Rattle.gabc_headers.specs.declared.head_event.HeadEvent.{HeadEvent}
 use Rattle.gabc_headers.specs.declared.head_event.HeadEvent.TheVariants as head_event
+use Rattle.gabc_score.specs.Before.{with_each}
 use Rattle.gabc_score.specs.Canonical.{canonical}
 use Rattle.gabc_score.specs.Syllable.{UnplacedSyllable}
 use Rattle.gabc_score.specs.declared.score_machine.ScoreMachine.{ScoreMachine}
@@ -14,6 +15,7 @@ use Rattle.gabc_score.specs.witness.ScoreStage.{ScoreStageState, left_of}
 use Rattle.gabc_score.specs.machine.BodyBuilder.{code_in}
 use Rattle.gabc_score.specs.machine.Gatherer.{nothing_gathered}
 use Rattle.gabc_score.specs.machine.PartCounts.{CountsHold}
+use Rattle.gabc_score.specs.machine.Preceded.{IsPreceded}
 use Rattle.gabc_score.specs.machine.ScoreStage.{HeldScore}
 use Rattle.gabc_score.specs.machine.SlotPair.{is_made}
 
@@ -22,7 +24,7 @@ abbrev pub held_score : ScoreMachine → HeldScore
 held_score m = record { next = m.next; gathered = m.pair.gathered; has_lent = m.has_lent }
 
 abbrev pub shown : ScoreMachine → ScoreStageState
-shown m = record { limits = m.limits; part = m.part; held = held_score m; body = m.body; first = m.pair.first; second = m.pair.second }
+shown m = record { limits = m.limits; part = m.part; before = m.bounds.before; held = held_score m; body = m.body; first = m.pair.first; second = m.pair.second }
 
 -- a syllable is within the limit, its canonical text without the LF before it
 pub record IsShort (limit : ℕ) (m : UnplacedSyllable) : Type 0 where
@@ -49,6 +51,8 @@ pub record IsInBody (m : ScoreMachine) : Type 0 where
   pub rests : IsAtRest m
   pub counts : CountsHold m.body.part m.pair.gathered.builder
   pub kept : length m.pair.gathered.builder.kept ≤ m.limits.syllable
+  pub preceded : IsPreceded m.bounds.before m.pair.gathered
+  pub behind : m.bounds.behind ≡ with_each m.bounds.before m.pair.gathered.made
 
 -- in the body, where nothing is lent, no limit is passed and one whole syllable is held at most
 pub record IsFreed (m : ScoreMachine) : Type 0 where
@@ -62,6 +66,7 @@ pub record IsFreed (m : ScoreMachine) : Type 0 where
 pub record PassesQuietly (before : ScoreStageState) (x : Char) (after : ScoreStageState) : Type 0 where
   pub limits : after.limits ≡ before.limits
   pub part : after.part ≡ before.part
+  pub before_held : after.before ≡ before.before
   pub law : (xs : List HeadEvent) → left_of before (head_event.Body x ∷ xs) ≡ [] ∷ left_of after xs
 
 abbrev pub IsScoreAt : ScorePart → ScoreMachine → Type 0

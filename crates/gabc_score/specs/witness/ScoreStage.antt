@@ -2,17 +2,19 @@
 use Rattle.std.specs.Prelude.{List}
 use Rattle.gabc_places.specs.declared.limits.Limits.{Limits}
 use Rattle.gabc_headers.specs.declared.head_event.HeadEvent.{HeadEvent}
+use Rattle.gabc_score.specs.declared.before.Preceding.{Preceding}
 use Rattle.gabc_score.specs.declared.score_machine.ScorePart.{ScorePart}
 use Rattle.gabc_score.specs.witness.BodyStage.{BodyStageState}
 use Rattle.gabc_score.specs.machine.ScoreStage.{HeldScore, outputs_left}
 use Rattle.gabc_score.specs.ScoreEvents.{ScoreOutput}
 use Rattle.gabc_score.specs.Syllable.{PlacedSyllable}
 
--- What a stage shows: its limits, the part of the score in which it stands, what it holds of the body and its machine, and the two
--- syllables that it may lend.
+-- What a stage shows: its limits, the part of the score in which it stands, what stands before the first syllable that was not given, what it
+-- holds of the body and its machine, and the two syllables that it may lend.
 pub record ScoreStageState : Type 0 where
   pub limits : Limits
   pub part : ScorePart
+  pub before : Preceding
   pub held : HeldScore
   pub body : BodyStageState
   pub first : PlacedSyllable

@@ -10,6 +10,7 @@ returns-in-Found-clause-step c =
       outputs = Found c.in-Found.finding ∷ [];
       lends = lends_none c.args.self.now.limits _ (Found c.in-Found.finding ∷ []) refl;
       limits = refl;
+      before_held = λ body. refl;
       law = λ xs. refl;
       emitted = record { events = c.push.ensures; few = omega arith; lent = refl };
     })
@@ -22,6 +23,18 @@ returns-in-Stop-clause-step c =
       outputs = outputs_of [] (placed_behind c.args.self.now.has_lent held) ++ Stop c.in-Stop.fault ∷ [];
       lends = rw c.in-Stop.is (held_lends c.args.self.now.limits 1 c.args.self.now.has_lent held c.args.self.now.pair.gathered.made (Stop c.in-Stop.fault ∷ []) refl c.free.ensures.held rests.short c.stop.ensures.few (omega arith));
       limits = c.stop.ensures.limits;
+      before_held = λ body. absurd (cc (body, c.stop.ensures.part));
       law = search rules;
       emitted = c.stop.ensures.emitted;
     }
+
+pub returns-in-Heads-clause-step : goal.returns-in-Heads-clause-step
+returns-in-Heads-clause-step c =
+    rw (c.requires.part, c.in-Heads.is) (record {
+      outputs = [];
+      lends = lends_none c.args.self.now.limits _ [] refl;
+      limits = refl;
+      before_held = λ body. refl;
+      law = λ xs. refl;
+      emitted = search rules;
+    })

@@ -9,6 +9,7 @@ returns-in-Found-clause-step c =
       outputs = Found c.in-Found.finding ∷ [];
       lends = lends_none c.args.self.now.limits _ (Found c.in-Found.finding ∷ []) refl;
       limits = refl;
+      before_held = λ body. absurd (cc body);
       law = λ xs. refl;
       emitted = record { events = c.push.ensures; few = omega arith; lent = refl };
     })
@@ -19,6 +20,7 @@ returns-in-Stop-clause-step c =
       outputs = Stop c.in-Stop.fault ∷ [];
       lends = lends_none c.args.self.now.limits _ (Stop c.in-Stop.fault ∷ []) refl;
       limits = refl;
+      before_held = λ body. absurd (cc body);
       law = λ xs. refl;
       emitted = record { events = c.push-in-Stop.ensures; few = omega arith; lent = refl };
     })
@@ -29,6 +31,7 @@ returns-in-End-clause-step c =
       outputs = End ∷ [];
       lends = lends_none c.args.self.now.limits _ (End ∷ []) refl;
       limits = refl;
+      before_held = λ body. absurd (cc body);
       law = λ xs. refl;
       emitted = record { events = c.push-in-End.ensures; few = omega arith; lent = refl };
     })
@@ -38,6 +41,7 @@ returns-in-Heads-clause-step c = record {
   outputs = [];
   lends = lends_none c.args.self.now.limits _ [] refl;
   limits = refl;
+  before_held = search rules;
   law = search rules;
   emitted = search rules;
 }

@@ -1,17 +1,23 @@
-use Rattle.std.proofs.Common.{rules, ◌≡◌, ◌-◌, ◌++◌, ◌∷◌, [], List, None, length, not, take, refl, sym, ap, subst, ◌∙◌, append-nil, arith}
+use Rattle.std.proofs.Common.{rules, ◌≡◌, ◌-◌, ◌++◌, ◌∷◌, [], List, None, length, not, take, nat_lt, refl, sym, ap, subst, ◌∙◌, append-nil, arith}
 use Rattle.std.specs.List.{All}
 use Rattle.std.proofs.lemmas.List.Elements.{All-drop, All-take}
+use Rattle.gabc_headers.specs.declared.head_event.HeadEvent.TheVariants as head_event
+use Rattle.gabc_score.specs.declared.bounds.Bounds.{Bounds}
+use Rattle.gabc_score.specs.Before.{with_each}
 use Rattle.gabc_score.specs.Body.{fault_at}
 use Rattle.gabc_score.specs.ScoreEvents.{ScoreOutput, Stop, outputs_of}
 use Rattle.gabc_score.specs.ScoreStage.{IsWithin, Lends}
 use Rattle.gabc_score.specs.machine.ScoreMachine.{IsShort}
-use Rattle.gabc_score.specs.machine.ScoreStage.{placed_behind}
+use Rattle.gabc_score.specs.machine.ScoreStage.{placed_behind, with_held}
+use Rattle.gabc_score.specs.machine.Preceded.{IsPreceded, past_point}
+use Rattle.gabc_score.specs.Syllable.{UnplacedSyllable}
 use Rattle.gabc_score.proofs.score_events.FewAndShortAreLent.{short_now, held_lends, lends_these, not_over, placed_within}
 use Rattle.gabc_places.specs.declared.code.Finding.{Finding}
 use Rattle.gabc_places.specs.BoundedList.{BoundedList}
 use Rattle.gabc_score.specs.machine.BodyBuilder.{code_in, with_all}
 use Rattle.gabc_score.specs.machine.Gatherer.{Gathered}
 use Rattle.gabc_score.specs.machine.PartCounts.{CountsHold}
+use Rattle.gabc_score.proofs.score_events.WhatPrecedes.{turned, past_in_body}
 use Rattle.gabc_score.proofs.score_events.EventsStayWithinBounds.{few_found, few_with_first, limit_stays, within}
 use Rattle.gabc_score.proofs.score_machine.ScoreMachine.read.Goals as goal
 
@@ -37,12 +43,18 @@ returns-in-Some-clause-step c =
       outputs = outputs_of [] (placed_behind c.args.self.now.has_lent held) ++ Stop fault ∷ [];
       lends = held_lends c.args.self.now.limits 1 c.args.self.now.has_lent held c.args.self.now.pair.gathered.made (Stop fault ∷ []) refl same rests.short c.stop.ensures.few (omega arith);
       limits = c.stop.ensures.limits;
+      before_held = λ body. absurd (cc (body, c.stop.ensures.part));
       law = search rules;
       emitted = c.stop.ensures.emitted;
     }
 
 pub returns-after-self-clause-step : goal.returns-after-self-clause-step
 returns-after-self-clause-step c =
+    let b = c.args.self.now.bounds in
+    let turns = turned b c.args.self.now.pair.gathered c.free.new.self.gathered c.hold.new.pair.gathered c.take.new.self.events c.hold.new.pair.held c.free.new.self.held c.args.self.now.has_lent c.is_whole-is_whole.result c.give_point-gave.result
+        c.free.ensures.gathered c.free.ensures.one c.hold.ensures.gathered c.hold.ensures.held c.free.ensures.held c.requires.rests.preceded c.requires.rests.behind c.take.ensures.once c.is_whole-is_whole.ensures.made c.give_point-gave.ensures.gave in
+    let passed : c.pass.new.self ≡ past_point c.is_whole-is_whole.result c.give_point-gave.result b c.hold.new.pair.gathered =
+        c.pass.ensures ∙ ap (past_point c.is_whole-is_whole.result c.give_point-gave.result b) c.give_point-gave.ensures.gathered in
     let made = c.hold.new.pair.gathered.made in
     let fs = c.find_first.new.found.items in
     let lent = take (length made - 1) (placed_behind c.args.self.now.has_lent made) in
@@ -58,12 +70,19 @@ returns-after-self-clause-step c =
       outputs = outputs_of fs lent;
       lends = subst (λ (outputs : List ScoreOutput). Lends limits 1 outputs) (append-nil (outputs_of fs lent)) (lends_these limits 1 fs lent [] refl c.give_point-gave.ensures.few within);
       limits = refl;
+      before_held = λ body. past_in_body c.args.self.now.part (head_event.Body c.args.x) fs lent c.args.self.now.bounds.before c.pass.new.self.before c.requires.part
+          (ap (λ (k : Bounds). k.before) passed ∙ turns.given);
       law = search rules;
       emitted = c.give_point-gave.ensures.emitted;
     }
 
 pub returns-after-self-clause-rests : goal.returns-after-self-clause-rests
 returns-after-self-clause-rests c =
+    let b = c.args.self.now.bounds in
+    let turns = turned b c.args.self.now.pair.gathered c.free.new.self.gathered c.hold.new.pair.gathered c.take.new.self.events c.hold.new.pair.held c.free.new.self.held c.args.self.now.has_lent c.is_whole-is_whole.result c.give_point-gave.result
+        c.free.ensures.gathered c.free.ensures.one c.hold.ensures.gathered c.hold.ensures.held c.free.ensures.held c.requires.rests.preceded c.requires.rests.behind c.take.ensures.once c.is_whole-is_whole.ensures.made c.give_point-gave.ensures.gave in
+    let passed : c.pass.new.self ≡ past_point c.is_whole-is_whole.result c.give_point-gave.result b c.hold.new.pair.gathered =
+        c.pass.ensures ∙ ap (past_point c.is_whole-is_whole.result c.give_point-gave.result b) c.give_point-gave.ensures.gathered in
     let old = c.requires.rests in
     let t = c.give_point-gave.ensures in
     let h = c.hold.ensures in
@@ -92,4 +111,10 @@ returns-after-self-clause-rests c =
           (sym (ap (λ (k : Gathered). k.builder) t.gathered ∙ ap (λ (k : Gathered). k.builder) h.gathered ∙ ap (λ (k : Gathered). (with_all k now).builder) c.free.ensures.gathered))
           (c.take.ensures.bounds.counts c.args.self.now.pair.gathered old.counts);
       kept = rw (ap (λ (k : Gathered). k.builder.kept) t.gathered) (omega (arith, kept, limit));
+      preceded = subst (λ (k : Gathered). IsPreceded c.pass.new.self.before k) (sym t.gathered) (subst (λ (k : Bounds). IsPreceded k.before (with_held g)) (sym passed) turns.preceded);
+      behind =
+          ap (λ (k : Bounds). k.behind) passed
+          ∙ turns.behind
+          ∙ ap (λ (k : Bounds). with_each k.before (with_held g).made) (sym passed)
+          ∙ ap (λ (k : Gathered). with_each c.pass.new.self.before k.made) (sym t.gathered);
     })

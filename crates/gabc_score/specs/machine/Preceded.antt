@@ -1,0 +1,45 @@
+-- What a score has gathered behind the syllables that were given.
+use Rattle.std.specs.Prelude.{◌≡◌, ◌||◌, ℕ, ◌+◌, ◌<◌, ◌≤◌, min, Bool, List, [], length, is_some, if◌then◌else◌}
+use Rattle.std.specs.List.{All}
+use Rattle.gabc_score.specs.declared.before.Preceding.{Preceding}
+use Rattle.gabc_score.specs.declared.before.Spans.{Spans}
+use Rattle.gabc_score.specs.declared.bounds.Bounds.{Bounds}
+use Rattle.gabc_score.specs.declared.snippets.Snippet.{Snippet}
+use Rattle.gabc_score.specs.Before.{most, no_syllable, sounds_in, with_each}
+use Rattle.gabc_score.specs.machine.Gatherer.{Gathered}
+
+-- the spans that are open
+abbrev pub spans_of : Gathered → Spans
+spans_of g = record { eu = g.eu; nlba = g.nlba }
+
+-- what stands behind all that was gathered, where so many syllables stand before the one that was made last
+abbrev pub behind_gathered : ℕ → Gathered → Preceding
+behind_gathered syllables g = record { syllables = min (syllables + 1) most; canonical = g.total; spans = spans_of g; sounded = is_some g.first_kind }
+
+-- what stands before what is held, where a syllable has become whole or not, and the one held before was given or not
+abbrev pub before_past : Bool → Bool → Bounds → Preceding
+before_past whole gave b = if whole then (if gave then b.behind else b.before) else b.before
+
+-- what stands before and behind it then
+abbrev pub past_point : Bool → Bool → Bounds → Gathered → Bounds
+past_point whole gave b g = record {
+  before = before_past whole gave b;
+  behind = if whole then behind_gathered (before_past whole gave b).syllables g else b.behind;
+}
+
+-- before the first syllable, where the canonical headers have so many bytes
+abbrev pub behind_headers : ℕ → Bounds
+behind_headers head = record { before = no_syllable head; behind = no_syllable head }
+
+-- a snippet ends before so many bytes
+abbrev pub EndsBefore : ℕ → Snippet → Type 0
+EndsBefore n s = s.span.to < n
+
+-- Behind the syllables given, of which `before` tells, what was gathered counts and sounds as those that were made and are not given, and the
+-- snippets that have ended of the syllable that is read.
+pub record IsPreceded (before : Preceding) (g : Gathered) : Type 0 where
+  pub first : g.made ≡ [] → before.syllables ≡ 0
+  pub total : g.total ≡ (with_each before g.made).canonical
+  pub sounded : is_some g.first_kind ≡ ((with_each before g.made).sounded || sounds_in g.builder.kept g.builder.snippets)
+  pub snippets : All (EndsBefore g.builder.from) g.builder.snippets
+  pub from : g.builder.from ≤ length g.builder.kept

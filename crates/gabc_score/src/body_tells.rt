@@ -1,0 +1,60 @@
+//! What a stage over a body tells of the part in which it stands.
+
+ghost use Rattle.std.specs.Prelude.{◌≡◌};
+ghost use Rattle.gabc_score.specs.ScoreTells.{is_in_comment, openers_of};
+
+use crate::body_stage::{BodyPart, BodyStage};
+use gabc_places::Place;
+
+/// Where that begins which is open.
+#[derive(Clone, Copy, Debug, PartialEq, Eq)]
+pub struct Openers {
+    /// The place of the `(` of the notes that are read.
+    pub notes: Option<Place>,
+    /// The place of the `<` or `[` of a tag, a raw part, a translation or a raw bracket of GABC that is read.
+    pub inner: Option<Place>,
+}
+
+impl BodyStage {
+    /// Returns the places of what is open.
+    pub(crate) fn openers(&self) -> Openers
+        ensures { result ≡ openers_of self.now.part }
+    {
+        let notes = match &self.part {
+            BodyPart::Comment | BodyPart::Text(_) => None,
+            BodyPart::Notes { opened, .. } | BodyPart::Nabc { opened, .. } => Some(*opened),
+        };
+        let inner = match &self.part {
+            BodyPart::Text(stage) => stage.opener(),
+            BodyPart::Notes { stage, .. } => stage.opener(),
+            BodyPart::Comment | BodyPart::Nabc { .. } => None,
+        };
+        Openers { notes, inner }
+    }
+
+    /// Returns whether a comment is open.
+    pub(crate) fn in_comment(&self) -> bool
+        ensures { result ≡ is_in_comment self.now.part }
+    {
+        match &self.part {
+            BodyPart::Comment => true,
+            BodyPart::Text(stage) => stage.in_comment(),
+            BodyPart::Notes { stage, .. } => stage.in_comment(),
+            BodyPart::Nabc { stage, .. } => stage.in_comment(),
+        }
+    }
+
+    /// Returns the number of NABC lines under each GABC snippet.
+    pub(crate) fn nabc_lines(&self) -> u8
+        ensures { result ≡ self.now.nabc_lines }
+    {
+        self.nabc_lines
+    }
+
+    /// Returns the bits of the macros that are defined.
+    pub(crate) fn macros(&self) -> u16
+        ensures { result ≡ self.now.macros }
+    {
+        self.macros
+    }
+}

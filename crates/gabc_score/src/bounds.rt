@@ -1,0 +1,54 @@
+//! What stands before and behind the syllable that is held.
+
+ghost use Rattle.std.specs.Prelude.{◌≡◌};
+ghost use Rattle.gabc_score.specs.machine.Preceded.{behind_headers, past_point};
+
+use crate::before::{Preceding, Spans};
+use crate::slot_pair::SlotPair;
+
+/// What stands before the syllable that is held, and what behind it. Where none is held, the same stands there.
+#[derive(Clone, Copy)]
+pub(crate) struct Bounds {
+    pub(crate) before: Preceding,
+    pub(crate) behind: Preceding,
+}
+
+impl Bounds {
+    /// Returns what stands before the first syllable, where the canonical headers have `canonical` bytes.
+    pub(crate) fn behind_headers(canonical: usize) -> Bounds
+        ensures { result ≡ behind_headers canonical }
+    {
+        let preceding = Preceding {
+            syllables: 0,
+            canonical,
+            spans: Spans {
+                eu: false,
+                nlba: false,
+            },
+            sounded: false,
+        };
+        Bounds {
+            before: preceding,
+            behind: preceding,
+        }
+    }
+
+    /// Goes past a point at which a syllable has become whole, which is held from then on, or none has. `gave` tells whether the one that was held
+    /// before is given; `pair` has gathered what is behind this point.
+    pub(crate) fn pass(&mut self, is_whole: bool, gave: bool, pair: &SlotPair)
+        ensures { self.new ≡ past_point is_whole gave self.old pair.now.gathered }
+    {
+        if !is_whole {
+            return;
+        }
+        if gave {
+            self.before = self.behind;
+        }
+        self.behind = Preceding {
+            syllables: self.before.syllables.saturating_add(1),
+            canonical: pair.canonical(),
+            spans: pair.spans(),
+            sounded: pair.first_kind().is_some(),
+        };
+    }
+}
