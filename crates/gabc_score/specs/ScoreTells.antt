@@ -1,6 +1,5 @@
 -- What a stage over a score tells of where it stands in the body. Before the body and behind the last event it tells nothing.
-use Rattle.std.specs.Prelude.{ℕ, List, [], ◌∷◌, Bool, true, false, Option, Some, None}
-use Rattle.gabc_places.specs.declared.place.Place.{Place}
+use Rattle.std.specs.Prelude.{ℕ, List, [], ◌∷◌, Bool, true, Option, Some, None}
 use Rattle.gabc_text.specs.StageTells as text
 use Rattle.gabc_notes.specs.StageTells as notes
 use Rattle.gabc_nabc.specs.witness.Keeps as nabc

@@ -1,18 +1,16 @@
 -- The spans of a score's snippets begin and end between characters of the kept text.
-use Rattle.std.proofs.Common.{◌≡◌, ℕ, ◌+◌, ◌/◌, ◌%◌, ◌≤◌, inl, inr, List, [], ◌∷◌, ◌++◌, Bool, true, false, cond, nat_lt, length, length-append, drop, drop_at, map, refl, sym, ap, ◌∙◌, subst, append_assoc, arith}
+use Rattle.std.proofs.Common.{◌≡◌, ℕ, inl, inr, List, [], ◌∷◌, ◌++◌, true, length, length-append, drop, drop_at, map, refl, sym, ap, ◌∙◌, subst, append_assoc, arith}
 use Rattle.std.specs.List.{All}
-use Rattle.std.proofs.lemmas.Bool.{le-leb}
-use Rattle.std.proofs.lemmas.Bool.Decides.{nat_tests}
 use Rattle.std.proofs.lemmas.List.Elements.{All-nil, All-cons, All-head, All-tail}
 use Rattle.std.proofs.lemmas.Str.{encodes-append}
-use lib.Utf8.{encode, encodes}
+use lib.Utf8.{encodes}
 use Rattle.gabc_places.specs.declared.place.Span.{Span}
 use Rattle.gabc_text.specs.ViewFacts.{StandsFor}
 use Rattle.gabc_score.proofs.holding.SeamsOfText.{first_byte, text_is}
 use Rattle.gabc_score.proofs.holding.SnippetsAreHeld.{bytes_are_size}
 use Rattle.gabc_score.specs.Body.{empty_snippet}
 use Rattle.gabc_score.specs.Holding.{ReadSnippet, HoldsParts, HasWholeSnippets}
-use Rattle.gabc_score.specs.Syllable.{UnplacedSyllable, PlacedSyllable, begins_character, is_seam, slice, text_at}
+use Rattle.gabc_score.specs.Syllable.{UnplacedSyllable, PlacedSyllable, is_seam, slice, text_at}
 use Rattle.gabc_score.specs.declared.snippets.Snippet.{Snippet}
 
 seam_of : (t : List ℕ) → is_seam (encodes t) ≡ true

@@ -32,7 +32,7 @@ use Rattle.gabc_nabc.specs.Events as nabc
 use Rattle.gabc_score.specs.declared.events.BodyEvent.TheVariants as event
 use Rattle.gabc_score.specs.declared.ending.InputEnding.{InputEnding}
 use Rattle.gabc_score.specs.Events.{PartAhead, InComment, InText, InNotes, is_text_end, is_next, is_close, note_event, first_list, other_lists, events_in, events_at_end, texts_by_definition, text_from, snippet_from, next_line, behind_mark, part_at, part_behind, events_from, body_events}
-use Rattle.gabc_score.specs.NoteBeforeClef.{with_first_each, score_events}
+use Rattle.gabc_score.specs.NoteBeforeClef.{score_events}
 use Rattle.gabc_score.specs.Score.{heads_text, behind_heads, score_of, score_by}
 use Rattle.gabc_score.proofs.order.CodesOfSnippets.{AreLow, AreLowEach, notes_low, nabc_low}
 use Rattle.gabc_score.proofs.order.FirstNotesOfParts.{all_with_first}

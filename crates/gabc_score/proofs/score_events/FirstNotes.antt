@@ -9,7 +9,7 @@ use Rattle.gabc_places.specs.declared.limits.Limits.{Limits}
 use Rattle.gabc_places.specs.declared.place.Char.{Char}
 use Rattle.gabc_places.specs.declared.place.Place.{Place}
 use Rattle.gabc_notes.specs.declared.stage.NoteEvent.TheVariants as note
-use Rattle.gabc_score.specs.Body.{events_onto, code_by, code_at, fault_at, findings_of, EventsToStop, stopped_events, events_to_stop, has_text, empty_snippet, all_units, cut_of, fault_of_end, result_by_fault, result_at_end, result_by, body_of}
+use Rattle.gabc_score.specs.Body.{events_onto, code_by, code_at, fault_at, findings_of, EventsToStop, stopped_events, events_to_stop, has_text, empty_snippet, cut_of, fault_of_end, result_by_fault, result_at_end, result_by, body_of}
 use Rattle.gabc_score.specs.Canonical.{canonical_bytes, with_positions}
 use Rattle.gabc_score.specs.NoteBeforeClef.{first_of, is_first_note, found_first, with_first, with_first_each}
 use Rattle.gabc_score.specs.ScoreEvents.{findings_now}

@@ -1,10 +1,9 @@
 -- Where what comes in just ceases, a stage of scores gives no finding, no stop and no end; and it gives the end only at the end.
-use Rattle.std.proofs.Common.{◌≡◌, ℕ, ◌≤◌, not, List, [], ◌∷◌, ◌++◌, length, Option, Some, None, false, refl, ap, ◌∙◌, arith, append-nil, append_assoc}
+use Rattle.std.proofs.Common.{◌≡◌, ◌≤◌, not, List, [], ◌∷◌, ◌++◌, length, Option, Some, None, false, refl, ap, ◌∙◌, arith, append-nil, append_assoc}
 use Rattle.gabc_places.proofs.PushesAreOne.{joined_silence}
 use Rattle.gabc_places.specs.StageLaw.{concat_of, silence}
 use Rattle.gabc_places.specs.declared.code.Code.{Code}
 use Rattle.gabc_places.specs.declared.code.Fault.{Fault}
-use Rattle.gabc_places.specs.declared.code.Finding.{Finding}
 use Rattle.gabc_places.specs.declared.limits.Limits.{Limits}
 use Rattle.gabc_places.specs.declared.place.Char.{Char}
 use Rattle.gabc_headers.specs.declared.head_event.HeadEvent.{HeadEvent}
@@ -19,7 +18,7 @@ use Rattle.gabc_score.specs.ScoreEvents.{HasNoEnd, ScoreOutput, Stop, characters
 use Rattle.gabc_score.specs.witness.ScoreStage.{ScoreStageState, left_of}
 use Rattle.gabc_score.specs.Syllable.{PlacedSyllable}
 use Rattle.gabc_score.specs.machine.BodyBuilder.{code_in, with_all}
-use Rattle.gabc_score.specs.machine.ScoreStage.{HeldScore, body_left, fresh_score, held_outputs, left_by, outputs_left, placed_behind, point_outputs, score_left, score_past, stop_outputs}
+use Rattle.gabc_score.specs.machine.ScoreStage.{HeldScore, body_left, fresh_score, left_by, outputs_left, placed_behind, point_outputs, score_left, score_past, stop_outputs}
 use Rattle.gabc_score.proofs.score_events.FewAndShortAreLent.{placed_count}
 use Rattle.gabc_score.proofs.score_events.WhatOutputsSay.{Said, said_by, said_of}
 

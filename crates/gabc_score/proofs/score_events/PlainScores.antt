@@ -1,5 +1,5 @@
 -- A score without what is found beside its body: it has the same book, syllables and fault.
-use Rattle.std.proofs.Common.{◌≡◌, ℕ, List, [], Option, Some, None, Result, Ok, Err, refl}
+use Rattle.std.proofs.Common.{◌≡◌, ℕ, List, Result, Ok, Err, refl}
 use Rattle.gabc_places.specs.declared.limits.Limits.{Limits}
 use Rattle.gabc_places.specs.Place.{place_after, placed_characters_behind}
 use Rattle.gabc_headers.specs.declared.heads.Heads.{Heads}
@@ -13,7 +13,7 @@ use Rattle.gabc_score.specs.declared.ending.InputEnding.{InputEnding}
 use Rattle.gabc_score.specs.declared.score.Score.{Score}
 use Rattle.gabc_score.specs.Body.{body_of}
 use Rattle.gabc_score.specs.Events.{body_events}
-use Rattle.gabc_score.specs.Score.{heads_text, behind_heads, with_body, head_fault_by, score_by, score_of}
+use Rattle.gabc_score.specs.Score.{heads_text, behind_heads, with_body, score_by, score_of}
 use Rattle.gabc_score.proofs.score_events.FirstNotes.{body_alike}
 
 abbrev pub plain_in : Limits → InputEnding → List ℕ → Heads → BodyResult

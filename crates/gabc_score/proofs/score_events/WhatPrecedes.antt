@@ -1,7 +1,7 @@
 -- What was gathered behind the syllables given stays what these tell, with each event more.
-use Rattle.std.proofs.Common.{◌≡◌, ℕ, suc, zero, ◌+◌, ◌-◌, ◌^◌, ◌≤◌, ◌<◌, ◌==◌, ◌&&◌, ◌||◌, ◌⊎◌, inl, inr, min, not, nat_le, nat_lt, if◌then◌else◌, Bool, true, false, cond, List, [], ◌∷◌, ◌++◌, map, length, take, drop, encode_utf8, Option, Some, None, refl, sym, ap, subst, ◌∙◌, arith, append-nil, length-append, length-drop, length-take}
+use Rattle.std.proofs.Common.{◌≡◌, ℕ, ◌+◌, ◌-◌, ◌≤◌, ◌<◌, ◌==◌, ◌&&◌, ◌||◌, ◌⊎◌, inl, inr, min, not, nat_le, nat_lt, Bool, true, false, cond, List, [], ◌∷◌, ◌++◌, map, length, take, drop, encode_utf8, Option, Some, None, refl, sym, ap, subst, ◌∙◌, arith, append-nil, length-append, length-drop, length-take}
 use Rattle.std.specs.Prelude.{is_some}
-use Rattle.std.specs.List.{All, list_any}
+use Rattle.std.specs.List.{All}
 use Rattle.std.proofs.lemmas.Bool.Decides.{nat_tests}
 use Rattle.std.proofs.lemmas.List.{drop-append-le, take-append-le, take-append-drop}
 use Rattle.std.proofs.lemmas.List.Elements.{All-nil, All-cons, All-head, All-tail, All-append}
@@ -41,7 +41,7 @@ use Rattle.gabc_score.specs.machine.Preceded.{EndsBefore, IsPreceded, behind_gat
 use Rattle.gabc_score.specs.machine.ScoreStage.{placed_behind, with_held}
 use Rattle.gabc_score.proofs.score_events.FewAndShortAreLent.{given_syllables}
 use Rattle.gabc_score.proofs.score_events.OutputsOfLentSyllables.{found_syllables}
-use Rattle.gabc_score.specs.machine.SyllableBuilder.{OpenSyllable, made_from, past_mark, past_text, past_snippet, snippet_from, nothing_open}
+use Rattle.gabc_score.specs.machine.SyllableBuilder.{OpenSyllable, made_from, past_text, snippet_from, nothing_open}
 
 -- ---- a snippet that has ended sounds the same with more text behind it
 
@@ -309,7 +309,7 @@ behind_is before h ms m p made eu nlba builder =
     let e : with_each before h.made ≡ with_one q m = ap (with_each before) made ∙ each_then before ms m in
     let canonical_is : h.total ≡ (with_one q m).canonical = p.total ∙ ap (λ (k : Preceding). k.canonical) e in
     let sounded_is : is_some h.first_kind ≡ (with_one q m).sounded =
-        p.sounded ∙ ap (λ (o : OpenSyllable). (with_each before h.made).sounded || sounds_in o.kept o.snippets) builder ∙ ap (λ (k : Preceding). k.sounded || false) e ∙ sym (last_false q.sounded (sounds m)) in
+    p.sounded ∙ ap (λ (o : OpenSyllable). (with_each before h.made).sounded || sounds_in o.kept o.snippets) builder ∙ ap (λ (k : Preceding). k.sounded || false) e ∙ sym (last_false q.sounded (sounds m)) in
     ap (λ (n : ℕ). by_fields (min (q.syllables + 1) most) n h.eu h.nlba (is_some h.first_kind)) canonical_is
     ∙ ap (λ b. by_fields (min (q.syllables + 1) most) (with_one q m).canonical b h.nlba (is_some h.first_kind)) (sym eu)
     ∙ ap (λ b. by_fields (min (q.syllables + 1) most) (with_one q m).canonical m.eu b (is_some h.first_kind)) (sym nlba)

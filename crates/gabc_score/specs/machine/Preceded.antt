@@ -1,5 +1,5 @@
 -- What a score has gathered behind the syllables that were given.
-use Rattle.std.specs.Prelude.{◌≡◌, ◌||◌, ℕ, ◌+◌, ◌<◌, ◌≤◌, min, Bool, List, [], length, is_some, if◌then◌else◌}
+use Rattle.std.specs.Prelude.{◌≡◌, ◌||◌, ℕ, ◌+◌, ◌<◌, ◌≤◌, min, Bool, [], length, is_some, if◌then◌else◌}
 use Rattle.std.specs.List.{All}
 use Rattle.gabc_score.specs.declared.before.Preceding.{Preceding}
 use Rattle.gabc_score.specs.declared.before.Spans.{Spans}

@@ -1,4 +1,4 @@
-use Rattle.std.proofs.Common.{rules, ◌≡◌, ◌-◌, ◌++◌, ◌∷◌, [], List, None, length, not, take, nat_lt, refl, sym, ap, subst, ◌∙◌, append-nil, arith}
+use Rattle.std.proofs.Common.{rules, ◌≡◌, ◌-◌, ◌++◌, ◌∷◌, [], List, None, length, not, take, refl, sym, ap, subst, ◌∙◌, append-nil, arith}
 use Rattle.std.specs.List.{All}
 use Rattle.std.proofs.lemmas.List.Elements.{All-drop, All-take}
 use Rattle.gabc_headers.specs.declared.head_event.HeadEvent.TheVariants as head_event
@@ -10,7 +10,6 @@ use Rattle.gabc_score.specs.ScoreStage.{IsWithin, Lends}
 use Rattle.gabc_score.specs.machine.ScoreMachine.{IsShort}
 use Rattle.gabc_score.specs.machine.ScoreStage.{placed_behind, with_held}
 use Rattle.gabc_score.specs.machine.Preceded.{IsPreceded, past_point}
-use Rattle.gabc_score.specs.Syllable.{UnplacedSyllable}
 use Rattle.gabc_score.proofs.score_events.FewAndShortAreLent.{short_now, held_lends, lends_these, not_over, placed_within}
 use Rattle.gabc_places.specs.declared.code.Finding.{Finding}
 use Rattle.gabc_places.specs.BoundedList.{BoundedList}
@@ -52,9 +51,9 @@ pub returns-after-self-clause-step : goal.returns-after-self-clause-step
 returns-after-self-clause-step c =
     let b = c.args.self.now.bounds in
     let turns = turned b c.args.self.now.pair.gathered c.free.new.self.gathered c.hold.new.pair.gathered c.take.new.self.events c.hold.new.pair.held c.free.new.self.held c.args.self.now.has_lent c.is_whole-is_whole.result c.give_point-gave.result
-        c.free.ensures.gathered c.free.ensures.one c.hold.ensures.gathered c.hold.ensures.held c.free.ensures.held c.requires.rests.preceded c.requires.rests.behind c.take.ensures.once c.is_whole-is_whole.ensures.made c.give_point-gave.ensures.gave in
+    c.free.ensures.gathered c.free.ensures.one c.hold.ensures.gathered c.hold.ensures.held c.free.ensures.held c.requires.rests.preceded c.requires.rests.behind c.take.ensures.once c.is_whole-is_whole.ensures.made c.give_point-gave.ensures.gave in
     let passed : c.pass.new.self ≡ past_point c.is_whole-is_whole.result c.give_point-gave.result b c.hold.new.pair.gathered =
-        c.pass.ensures ∙ ap (past_point c.is_whole-is_whole.result c.give_point-gave.result b) c.give_point-gave.ensures.gathered in
+    c.pass.ensures ∙ ap (past_point c.is_whole-is_whole.result c.give_point-gave.result b) c.give_point-gave.ensures.gathered in
     let made = c.hold.new.pair.gathered.made in
     let fs = c.find_first.new.found.items in
     let lent = take (length made - 1) (placed_behind c.args.self.now.has_lent made) in
@@ -80,9 +79,9 @@ pub returns-after-self-clause-rests : goal.returns-after-self-clause-rests
 returns-after-self-clause-rests c =
     let b = c.args.self.now.bounds in
     let turns = turned b c.args.self.now.pair.gathered c.free.new.self.gathered c.hold.new.pair.gathered c.take.new.self.events c.hold.new.pair.held c.free.new.self.held c.args.self.now.has_lent c.is_whole-is_whole.result c.give_point-gave.result
-        c.free.ensures.gathered c.free.ensures.one c.hold.ensures.gathered c.hold.ensures.held c.free.ensures.held c.requires.rests.preceded c.requires.rests.behind c.take.ensures.once c.is_whole-is_whole.ensures.made c.give_point-gave.ensures.gave in
+    c.free.ensures.gathered c.free.ensures.one c.hold.ensures.gathered c.hold.ensures.held c.free.ensures.held c.requires.rests.preceded c.requires.rests.behind c.take.ensures.once c.is_whole-is_whole.ensures.made c.give_point-gave.ensures.gave in
     let passed : c.pass.new.self ≡ past_point c.is_whole-is_whole.result c.give_point-gave.result b c.hold.new.pair.gathered =
-        c.pass.ensures ∙ ap (past_point c.is_whole-is_whole.result c.give_point-gave.result b) c.give_point-gave.ensures.gathered in
+    c.pass.ensures ∙ ap (past_point c.is_whole-is_whole.result c.give_point-gave.result b) c.give_point-gave.ensures.gathered in
     let old = c.requires.rests in
     let t = c.give_point-gave.ensures in
     let h = c.hold.ensures in
