@@ -1,19 +1,14 @@
 -- There is room for what an event brings.
-use Rattle.std.proofs.Common.{◌≡◌, ℕ, suc, ◌+◌, ◌*◌, ◌≤◌, List, [], ◌∷◌, length, refl, sym, ap, ◌∙◌, arith, Bool, true, false, not, ◌||◌, is_some, encode_utf8_all, length-append, if◌then◌else◌}
+use Rattle.std.proofs.Common.{◌≡◌, ℕ, suc, ◌+◌, ◌*◌, ◌≤◌, List, [], ◌∷◌, length, ap, ◌∙◌, arith, Bool, if◌then◌else◌}
 use Rattle.std.proofs.Math.Nat.{suc-mul, mul-le-mul_right}
 use Rattle.gabc_places.specs.declared.limits.Limits.{Limits}
 use Rattle.gabc_headers.specs.declared.head_event.HeadEvent.{HeadEvent}
 use Rattle.gabc_headers.specs.declared.head_event.HeadEvent.TheVariants as head_event
 use Rattle.gabc_score.specs.ScoreEvents.{ScoreOutput, Found, Stop, Syllable, End, syllables_in}
 use Rattle.gregorio_jobs.specs.declared.job.Format.{Format}
-use Rattle.gregorio_jobs.specs.declared.job.Format.TheVariants.{Gabc, Dump}
-use Rattle.gabc_headers.specs.Canonical.{canonical_heads}
-use Rattle.gabc_places.specs.BoundedList.{Fits}
-use Rattle.gregorio.specs.Streams.{heads_text}
-use Rattle.gregorio.specs.witness.Engine.{is_before_heads, text_of_heads}
 use Rattle.gabc_score.specs.ScoreStage.{Lends, most_lent}
-use Rattle.gregorio.specs.machine.RunWriter.{RunWriterState, IsInRoom, HasRoomFor, heads_len, heads_room, line_room, lines_room, texts_room, syllable_room, last_room, with_heads}
-use Rattle.gregorio.specs.machine.ScoreWriter.{ScoreWriterState, FitsEvents, IsShortBook, IsSteady, event_room, events_room, heads_left}
+use Rattle.gregorio.specs.machine.RunWriter.{RunWriterState, IsInRoom, HasRoomFor, heads_room, line_room, lines_room, texts_room, syllable_room, last_room}
+use Rattle.gregorio.specs.machine.ScoreWriter.{ScoreWriterState, FitsEvents, IsSteady, event_room, events_room, heads_left}
 use Rattle.gregorio.proofs.StreamsOfOutputs.{EndsAtLast}
 
 -- ---- numbers

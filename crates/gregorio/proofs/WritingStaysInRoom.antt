@@ -2,8 +2,6 @@
 use Rattle.std.proofs.Common.{◌≡◌, ℕ, ◌+◌, ◌≤◌, List, [], ◌∷◌, length, length-append, arith, ap, ◌∙◌}
 use Rattle.std.specs.List.{All}
 use Rattle.std.proofs.lemmas.List.Elements.{All-cons, All-head, All-nil, All-tail}
-use Rattle.gabc_places.specs.BoundedList.{Fits}
-use Rattle.gabc_places.specs.declared.code.Fault.{Fault}
 use Rattle.gabc_places.specs.declared.limits.Limits.{Limits}
 use Rattle.gabc_score.specs.Canonical.{canonical_in_place}
 use Rattle.gabc_score.specs.ScoreEvents.{ScoreOutput, Found, Stop, Syllable, End, syllables_in}
@@ -12,7 +10,7 @@ use Rattle.gregorio_jobs.specs.declared.job.Format.{Format}
 use Rattle.gregorio_jobs.specs.declared.job.Format.TheVariants.{Gabc, Dump}
 use Rattle.gabc_score.specs.ScoreStage.{IsWithin}
 use Rattle.gregorio.specs.witness.Engine.{Written, lines_of_output, text_of_output}
-use Rattle.gregorio.specs.machine.RunWriter.{RunWriterState, with_bytes, line_room, lines_room, last_room, syllable_len, syllable_room, text_room, texts_room, IsInRoom, HasRoomFor, IsSteadyWriter}
+use Rattle.gregorio.specs.machine.RunWriter.{RunWriterState, with_bytes, line_room, lines_room, syllable_len, syllable_room, text_room, texts_room, IsInRoom, IsSteadyWriter}
 
 -- a shorter canonical text takes no more room
 longer : (format : Format) (n limit : ℕ) → n ≤ limit + 1 → syllable_len format n ≤ syllable_room format limit
