@@ -88,11 +88,7 @@ fn told(alloc: Global, stage: &ScoreStage) -> Result<String, AllocError> {
     };
     let mut line = format!(in alloc;
         "{} {} {} {} {}",
-        before.syllables,
-        before.canonical,
-        before.spans.eu,
-        before.spans.nlba,
-        before.sounded
+        before.syllables, before.canonical, before.spans.eu, before.spans.nlba, before.sounded
     )?;
     if let Some(held) = stage.held() {
         line.push_str(format!(in alloc; " {:?}", held.kept.as_str())?.as_str())?;
@@ -187,17 +183,41 @@ const TOLD: [(&str, &str); 14] = [
     ("", "0 3 false false false \"\" None None %"),
     (" %x", "0 3 false false false \"\" None None %"),
     ("\na", "0 3 false false false \" a\" None None"),
-    ("\na(f", "0 3 false false false \" a(f\" Some(Place { line: 3, column: 2 }) None"),
+    (
+        "\na(f",
+        "0 3 false false false \" a(f\" Some(Place { line: 3, column: 2 }) None",
+    ),
     ("\na(f)", "0 3 false false false \" a(f)\" \"\" None None"),
-    ("\na(f)b%(", "0 3 false false false \" a(f)\" \"b\" None None %"),
-    ("\na(f)b(|vi", "0 3 false false false \" a(f)\" \"b(|vi\" Some(Place { line: 3, column: 6 }) None"),
+    (
+        "\na(f)b%(",
+        "0 3 false false false \" a(f)\" \"b\" None None %",
+    ),
+    (
+        "\na(f)b(|vi",
+        "0 3 false false false \" a(f)\" \"b(|vi\" Some(Place { line: 3, column: 6 }) None",
+    ),
     ("\na(f)b(g)", "1 8 false false true \"b(g)\" \"\" None None"),
     ("\na()b(g)", "1 7 false false false \"b(g)\" \"\" None None"),
-    ("\na()b(|g)", "1 7 false false false \"b(|)\" \"\" None None"),
-    ("\n<eu>a()b(g|)c(f)", "2 16 true false true \"c(f)\" \"\" None None"),
-    ("\n<eu>a()</eu>b(c4)<nlba>c(", "1 11 true false false \"</eu>b(c4)\" \"<nlba>c(\" Some(Place { line: 3, column: 25 }) None"),
-    ("\na(f) <b>b<i", "0 3 false false false \" a(f)\" \" <b>b<i\" None Some(Place { line: 3, column: 10 })"),
-    ("\na(f)(g[x", "0 3 false false false \" a(f)\" \"(g[x\" Some(Place { line: 3, column: 5 }) Some(Place { line: 3, column: 7 })"),
+    (
+        "\na()b(|g)",
+        "1 7 false false false \"b(|)\" \"\" None None",
+    ),
+    (
+        "\n<eu>a()b(g|)c(f)",
+        "2 16 true false true \"c(f)\" \"\" None None",
+    ),
+    (
+        "\n<eu>a()</eu>b(c4)<nlba>c(",
+        "1 11 true false false \"</eu>b(c4)\" \"<nlba>c(\" Some(Place { line: 3, column: 25 }) None",
+    ),
+    (
+        "\na(f) <b>b<i",
+        "0 3 false false false \" a(f)\" \" <b>b<i\" None Some(Place { line: 3, column: 10 })",
+    ),
+    (
+        "\na(f)(g[x",
+        "0 3 false false false \" a(f)\" \"(g[x\" Some(Place { line: 3, column: 5 }) Some(Place { line: 3, column: 7 })",
+    ),
 ];
 
 #[test]
