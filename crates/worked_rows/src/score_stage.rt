@@ -106,22 +106,26 @@ fn told(alloc: Global, stage: &ScoreStage) -> Result<String, AllocError> {
 /// Whether a new stage tells this once it has read `body`, which begins at 2:1.
 fn tells(alloc: Global, body: &str, wanted: &str) -> Result<bool, AllocError> {
     let mut stage = ScoreStage::with_limits(alloc, Limits::DEFAULT)?;
-    let mut out = Room::with_limit(alloc, 16)?;
+    let line = told_behind(alloc, &mut stage, body);
+    drop(stage);
+    Ok(line?.as_str() == wanted)
+}
+
+/// Pushes `body`, which begins at 2:1, to a new stage, and prints what it tells then.
+fn told_behind(alloc: Global, stage: &mut ScoreStage, body: &str) -> Result<String, AllocError> {
+    let mut given = String::new(alloc);
     let heads = HeadEvent::Heads {
         nabc_lines: 1,
         macros: 0,
         canonical: 3,
     };
-    stage.push(heads, &mut out);
+    push(alloc, stage, heads, &mut given)?;
     let mut place = Place { line: 2, column: 1 };
     for c in body.chars() {
-        out.clear();
-        stage.push(HeadEvent::Body(Char { c, place }), &mut out);
+        push(alloc, stage, HeadEvent::Body(Char { c, place }), &mut given)?;
         place = place.saturating_after(c);
     }
-    let line = told(alloc, &stage)?;
-    drop(stage);
-    Ok(line.as_str() == wanted)
+    told(alloc, stage)
 }
 
 /// Whether a stage gives this of a body, which ended so.
