@@ -23,7 +23,7 @@ ghost use Rattle.gabc_text.specs.BuiltText.{with_events, empty_text, text_built_
 ghost use Rattle.gabc_text.specs.Ends.{EndsOnce};
 ghost use Rattle.std.specs.Prelude.{◌*◌, ◌≤◌, ◌==◌, is_some};
 ghost use Rattle.gabc_places.specs.BoundedList.{Fits, extended_by};
-ghost use Rattle.gabc_text.specs.witness.Keeps.{Keeps, is_open_behind, begins_comment, kept_with};
+ghost use Rattle.gabc_text.specs.witness.Keeps.{Keeps, is_open_behind, begins_comment, ends_behind, kept_with};
 ghost use Rattle.gabc_text.specs.StageTells.{opener_of, is_in_comment, next_of, moved_to, told};
 
 use crate::stage::TextStage;
@@ -182,11 +182,13 @@ pub fn what_is_open_follows_from_the_kept_text()
     ensures apart { (k : List ℕ) → begins_comment k ≡ true → is_open_behind k ≡ false }
 {}
 
-/// Of a text that a stage keeps, each character is kept again behind those before it. The `%` of a comment is not kept.
+/// Of a text that a stage keeps, each character is kept again behind those before it. The `%` of a comment is not kept, nor is the `(` that
+/// ends a text.
 pub fn a_kept_character_is_kept_again()
     ensures characters { (s : TextStage) (a b : List ℕ) (c : ℕ) → Keeps s (a ++ c ∷ b) →
         kept_with a c ≡ c ∷ [] }
     ensures comments { (k : List ℕ) → begins_comment k ≡ true → kept_with k 37 ≡ [] }
+    ensures ends { (k : List ℕ) → ends_behind k ≡ true → kept_with k 40 ≡ [] }
 {}
 
 /// A stage in a comment that has kept nothing passes over the comment. The LF behind it is the first character of a text that begins there.

@@ -22,7 +22,7 @@ use Rattle.gabc_text.specs.BuiltText.{kept_in}
 use Rattle.gabc_text.specs.End.{is_end}
 use Rattle.gabc_text.specs.Events.{option_list_of, count_by}
 use Rattle.gabc_text.specs.witness.EventsLeft.{findings_there, codes_last, parts_by}
-use Rattle.gabc_text.specs.witness.Keeps.{parts_in, end_text}
+use Rattle.gabc_text.specs.witness.Keeps.{said, end_text, EndsInNotes}
 use Rattle.gabc_text.specs.StageTells.{is_comment}
 use Rattle.gabc_text.specs.View.{piece_kind, centre_by}
 use Rattle.gabc_text.specs.machine.Resuming.{kept_at}
@@ -30,9 +30,9 @@ use Rattle.gabc_text.specs.machine.TokenState.{settled_kind, next_step, keep, is
 use Rattle.gabc_text.specs.machine.TextStage.{settle_stage, settle_stage_by, events_of_settling_by, stage_past_char, stage_after_step, read_stage, events_of_reading, end_stage, events_of_end, push_stage, events_of_push}
 use Rattle.std.proofs.lemmas.List.Folds.{list_any-append}
 use Rattle.gabc_text.proofs.events.EventsBuildText.{kept_more, none_kept}
-use Rattle.gabc_text.proofs.resuming.PlacesAside.{said, said_of_char, said_of_step, token_said, reading_said}
+use Rattle.gabc_text.proofs.resuming.PlacesAside.{said_append, said_found, said_of_char, said_of_step, token_said, reading_said}
 
--- ---- what is said has the same characters, parts and end
+-- ---- what is said has the same characters and end
 
 pub kept_said : (es : List TextEvent) → kept_in (said es) ≡ kept_in es
 kept_said [] = refl
@@ -41,26 +41,12 @@ kept_said (out.Part p ∷ es) = kept_said es
 kept_said (out.Found f ∷ es) = kept_said es
 kept_said (out.Ended h ∷ es) = kept_said es
 
-pub parts_said : (es : List TextEvent) → parts_in (said es) ≡ parts_in es
-parts_said [] = refl
-parts_said (out.Kept c ∷ es) = parts_said es
-parts_said (out.Part p ∷ es) = ap (λ (t : List TextPart). p ∷ t) (parts_said es)
-parts_said (out.Found f ∷ es) = parts_said es
-parts_said (out.Ended h ∷ es) = parts_said es
-
 ends_said : (es : List TextEvent) → end_text (said es) ≡ end_text es
 ends_said [] = refl
 ends_said (out.Kept c ∷ es) = ends_said es
 ends_said (out.Part p ∷ es) = ends_said es
 ends_said (out.Found f ∷ es) = ends_said es
 ends_said (out.Ended h ∷ es) = refl
-
-pub parts_append : (xs ys : List TextEvent) → parts_in (xs ++ ys) ≡ parts_in xs ++ parts_in ys
-parts_append [] ys = refl
-parts_append (out.Kept c ∷ xs) ys = parts_append xs ys
-parts_append (out.Part p ∷ xs) ys = ap (λ (t : List TextPart). p ∷ t) (parts_append xs ys)
-parts_append (out.Found f ∷ xs) ys = parts_append xs ys
-parts_append (out.Ended h ∷ xs) ys = parts_append xs ys
 
 no_kept : (ps : List TextPart) → kept_in (map (λ (x : TextPart). out.Part x) ps) ≡ []
 no_kept = none_kept (λ x. out.Part x) (λ x. refl)
@@ -177,6 +163,46 @@ none_kept_at_end s c on = by s.done on (settled_kind s.state c) (c == 40 && is_p
         ≡ []
     by true e o b over = absurd (true≢false e)
     by false e o true over = kept_more (events_of_settling_by s o) _ ∙ rw (settling_kept s o) (end_kept (settle_stage_by s o).facts (settle_stage_by s o).progress)
+    by false e o false over = absurd (true≢false (sym over ∙ read_done (settle_stage_by s o) c (next_step (settle_stage_by s o).state c) ∙ settled_done s o ∙ on))
+
+-- what is said then are parts and the end
+parts_more : (ps qs : List TextPart) → map (λ (p : TextPart). out.Part p) ps ++ (map (λ (p : TextPart). out.Part p) qs ++ out.Ended text_ending.Notes ∷ [])
+    ≡ map (λ (p : TextPart). out.Part p) (ps ++ qs) ++ out.Ended text_ending.Notes ∷ []
+parts_more [] qs = refl
+parts_more (p ∷ ps) qs = ap (λ (os : List TextEvent). out.Part p ∷ os) (parts_more ps qs)
+
+centre_said : (o : Option Span) → EndsInNotes (said (map (λ (c : Span). out.Part (part.Centre c)) (option_list_of o) ++ out.Ended text_ending.Notes ∷ []))
+centre_said None = record { parts = []; is = refl }
+centre_said (Some s) = record { parts = part.Centre s ∷ []; is = refl }
+
+end_said : (facts : TextFacts) (p : Progress) → EndsInNotes (said (events_of_end facts p text_ending.Notes))
+end_said facts p =
+    let o = centre_by (count_by p.pieces p.blank) p.begin p.end in
+    let h = centre_said o in
+    record {
+      parts = h.parts;
+      is = said_append (findings_there p.next (codes_last facts)) (map (λ (c : Span). out.Part (part.Centre c)) (option_list_of o) ++ out.Ended text_ending.Notes ∷ [])
+          ∙ rw (said_found p.next (codes_last facts)) h.is;
+    }
+
+settling_said : (s : TextStage) (o : Option TokenKind) → (ps : List TextPart) × (said (events_of_settling_by s o) ≡ map (λ (p : TextPart). out.Part p) ps)
+settling_said s None = ([], refl)
+settling_said s (Some k) = (parts_by s.facts s.progress k s.progress.start s.progress.kept (piece_kind k tag.Other), token_said s.facts s.progress k tag.Other s.progress.start)
+
+pub notes_at_end : (s : TextStage) (c : ℕ) → s.done ≡ false → (push_stage s c).done ≡ true → EndsInNotes (said (events_of_push s c))
+notes_at_end s c on = by s.done on (settled_kind s.state c) (c == 40 && is_plain (settle_stage s c).state)
+  where
+    by : (d : Bool) → d ≡ false → (o : Option TokenKind) (b : Bool) → (cond d s (cond b (end_stage (settle_stage_by s o)) (read_stage (settle_stage_by s o) c))).done ≡ true
+        → EndsInNotes (said (cond d [] (events_of_settling_by s o ++ cond b (events_of_end (settle_stage_by s o).facts (settle_stage_by s o).progress text_ending.Notes) (events_of_reading (settle_stage_by s o) c))))
+    by true e o b over = absurd (true≢false e)
+    by false e o true over =
+        let first = settling_said s o in
+        let last = end_said (settle_stage_by s o).facts (settle_stage_by s o).progress in
+        record {
+          parts = first.0 ++ last.parts;
+          is = said_append (events_of_settling_by s o) (events_of_end (settle_stage_by s o).facts (settle_stage_by s o).progress text_ending.Notes)
+              ∙ rw (first.1, last.is) (parts_more first.0 last.parts);
+        }
     by false e o false over = absurd (true≢false (sym over ∙ read_done (settle_stage_by s o) c (next_step (settle_stage_by s o).state c) ∙ settled_done s o ∙ on))
 
 -- a text ends at a `(`, where absurd (true≢false comment) is open

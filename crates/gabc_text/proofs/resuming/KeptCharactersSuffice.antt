@@ -27,7 +27,8 @@ use Rattle.gabc_text.specs.machine.TagPrefix.{next_name}
 use Rattle.gabc_text.specs.machine.TokenState.{first_step, step_at_tag_end, wanted_char, keep}
 use Rattle.gabc_text.specs.machine.TextStage.{progress_past, token_stage, stage_past_char, stage_after_step, push_stage, events_of_push, events_of_token, events_of_settled_push}
 use Rattle.gabc_text.proofs.tokens.CasesOfCharacters.{by_case}
-use Rattle.gabc_text.proofs.resuming.PlacesAside.{said, IsPlaced, said_append, token_said, said_of_char, said_of_token, reading_said, push_placed, push_same}
+use Rattle.gabc_text.specs.witness.Keeps.{said}
+use Rattle.gabc_text.proofs.resuming.PlacesAside.{IsPlaced, said_append, token_said, said_of_char, said_of_token, reading_said, push_placed, push_same}
 
 -- s does with a character what r does with its kept form, or nothing where it is not kept
 abbrev pub StepAlike : TextStage → ℕ → TextStage → Option ℕ → Type 0

@@ -21,19 +21,12 @@ use Rattle.gabc_text.specs.Events.{option_list_of, count_by}
 use Rattle.gabc_text.specs.witness.EventsLeft.{findings_there, parts_by, codes_by, codes_last}
 use Rattle.gabc_text.specs.View.{piece_kind, centre_by}
 use Rattle.gabc_text.specs.machine.Resuming.{nowhere, placed}
+use Rattle.gabc_text.specs.witness.Keeps.{said}
 use Rattle.gabc_text.specs.machine.TextFacts.{early_at}
 use Rattle.gabc_text.specs.machine.TokenState.{settled_kind, next_step, keep, is_plain}
 use Rattle.gabc_text.specs.machine.TextStage.{char_event, token_stage, events_of_token, settle_stage_by, events_of_settling_by, stage_past_char, stage_after_step, events_of_step, read_stage, events_of_reading, end_stage, events_of_end, settled_push_stage, events_of_settled_push, push_stage, events_of_push}
 
 -- ---- what is said
-
--- what is said, but for the findings and places
-abbrev pub said : List TextEvent → List TextEvent
-said [] = []
-said (out.Kept x ∷ os) = out.Kept (record { c = x.c; place = nowhere }) ∷ said os
-said (out.Part p ∷ os) = out.Part p ∷ said os
-said (out.Found f ∷ os) = said os
-said (out.Ended h ∷ os) = out.Ended h ∷ said os
 
 pub said_append : (xs ys : List TextEvent) → said (xs ++ ys) ≡ said xs ++ said ys
 said_append [] ys = refl
@@ -42,7 +35,7 @@ said_append (out.Part p ∷ xs) ys = ap (λ (os : List TextEvent). out.Part p �
 said_append (out.Found f ∷ xs) ys = said_append xs ys
 said_append (out.Ended h ∷ xs) ys = ap (λ (os : List TextEvent). out.Ended h ∷ os) (said_append xs ys)
 
-said_found : (p : Place) (cs : List Code) → said (findings_there p cs) ≡ []
+pub said_found : (p : Place) (cs : List Code) → said (findings_there p cs) ≡ []
 said_found p [] = refl
 said_found p (c ∷ cs) = said_found p cs
 

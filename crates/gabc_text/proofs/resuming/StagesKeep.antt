@@ -1,33 +1,32 @@
 -- A stage keeps the text that it has kept.
 use Rattle.std.proofs.lemmas.Bool.{eqb-true, false≢true}
-use Rattle.std.proofs.Common.{◌≡◌, ◌==◌, ◌&&◌, ℕ, List, [], ◌∷◌, ◌++◌, Bool, true, false, Option, Some, None, option_to_list, refl, sym, ap, ◌∙◌, subst, append-nil, append_assoc, if◌then◌else◌}
+use Rattle.std.proofs.Common.{◌≡◌, ◌==◌, ◌&&◌, ℕ, List, [], ◌∷◌, ◌++◌, Bool, true, false, cond, Option, Some, None, option_to_list, refl, sym, ap, ◌∙◌, subst, append-nil, append_assoc, if◌then◌else◌}
 use Rattle.gabc_places.specs.declared.place.Place.{Place}
 use Rattle.gabc_text.specs.declared.token_state.TokenState.{TokenState}
 use Rattle.gabc_text.specs.declared.token_state.TokenState.TheVariants.{Plain, Dollar, Comment, Tag, Raw, Translation}
-use Rattle.gabc_text.specs.declared.text_event.TextPart.{TextPart}
 use Rattle.gabc_text.specs.declared.text_event.TextEvent.{TextEvent}
 use Rattle.gabc_text.specs.declared.text_event.TextEvent.TheVariants as out
 use Rattle.gabc_text.specs.declared.text_event.TextEnd.TheVariants as text_ending
 use Rattle.gabc_text.specs.declared.stage.TextStage.{TextStage}
 use Rattle.gabc_text.specs.BuiltText.{kept_in}
 use Rattle.gabc_text.specs.witness.EventsLeft.{events_left}
-use Rattle.gabc_text.specs.witness.Keeps.{parts_in, end_text, stage_behind, Keeps, parts_of, is_open_behind, begins_comment, kept_with, ends_behind, last_parts_of, comment_with, GoesOn, EndsBehind, KeepsOn}
+use Rattle.gabc_text.specs.witness.Keeps.{said, end_text, EndsInNotes, stage_behind, Keeps, said_of, is_open_behind, begins_comment, kept_with, ends_behind, said_at_end, comment_with, GoesOn, EndsBehind, KeepsOn}
 use Rattle.gabc_text.specs.StageTells.{is_open, is_comment, opener_of, is_in_comment, next_of, moved_to, place_told, told}
 use Rattle.gabc_text.specs.TextStage.{fresh_stage}
 use Rattle.gabc_text.specs.machine.RawPart.{stage_past, events_of_pushes}
 use Rattle.gabc_text.specs.machine.Resuming.{nowhere, placed, outside, IsAlike, kept_at, kept_past}
 use Rattle.gabc_text.specs.machine.TokenState.{is_plain}
-use Rattle.gabc_text.specs.machine.TextStage.{push_stage, events_of_push}
+use Rattle.gabc_text.specs.machine.TextStage.{settle_stage, events_of_settling, events_of_settled_push, push_stage, events_of_push}
 use Rattle.gabc_places.specs.Place.{saturating_next_place}
 use Rattle.gabc_text.proofs.machine.EventsLeftAreThoseAhead.{rest_is}
 use Rattle.gabc_text.proofs.machine.EventsStepByStep.{stepwise}
 use Rattle.std.proofs.Math.Bool.{and-false}
 use Rattle.std.proofs.Common.{not, ◌≤◌, length, suc, is_some, arith}
-use Rattle.gabc_text.proofs.resuming.PlacesAside.{push_placed, push_same}
+use Rattle.gabc_text.proofs.resuming.PlacesAside.{said_append, push_placed, push_same}
 use Rattle.gabc_text.proofs.resuming.KeptCharactersSuffice.{StepAlike, step_alike, stays_outside}
 use Rattle.gabc_text.proofs.resuming.ReachedStages.{push_reached, fresh_reached, moved_reached, goes_on}
 use Rattle.gabc_text.proofs.resuming.ToldSuffices.{told_suffices}
-use Rattle.gabc_text.proofs.resuming.EndsAndKept.{kept_said, parts_said, parts_append, done_is, kept_is, read_kept, none_kept_at_end, EndsAt, ended_at}
+use Rattle.gabc_text.proofs.resuming.EndsAndKept.{kept_said, done_is, kept_is, read_kept, none_kept_at_end, notes_at_end, EndsAt, ended_at}
 use Rattle.gabc_text.proofs.resuming.WhatStagesTell.{next_goes, opener_goes, comment_goes}
 
 -- ---- one character more
@@ -59,9 +58,9 @@ some_same a b e = cc
 
 -- ---- what follows from a kept text
 
-parts_are : (k : List ℕ) → parts_of k ≡ parts_in (events_of_pushes (fresh_stage nowhere) k)
-unfolding parts_of
-parts_are k = refl
+said_is : (k : List ℕ) → said_of k ≡ said (events_of_pushes (fresh_stage nowhere) k)
+unfolding said_of
+said_is k = refl
 
 open_is : (k : List ℕ) → is_open_behind k ≡ is_open (stage_behind k).state
 unfolding is_open_behind
@@ -79,9 +78,9 @@ ends_are : (k : List ℕ) → ends_behind k ≡ (push_stage (stage_behind k) 40)
 unfolding ends_behind
 ends_are k = refl
 
-last_are : (k : List ℕ) → last_parts_of k ≡ parts_in (events_of_push (stage_behind k) 40)
-unfolding last_parts_of
-last_are k = refl
+last_is : (k : List ℕ) → said_at_end k ≡ said (events_of_push (stage_behind k) 40)
+unfolding said_at_end
+last_is k = refl
 
 pub fresh_keeps : (at : Place) → Keeps (fresh_stage at) []
 fresh_keeps at = record { goes_on = refl; reached = fresh_reached at; alike = record { place = nowhere; next = nowhere; same = refl }; whole = refl }
@@ -134,7 +133,7 @@ module _ (s : TextStage) (c : ℕ) (k : List ℕ) (keeps : Keeps s k) where
       by : (o : Option ℕ) → kept_in (events_of_push s c) ≡ option_to_list o → StepAlike s c (stage_behind k) o → GoesOn s k c (events_of_push s c) (push_stage s c)
       by None f h = record {
         keeps = subst (Keeps (push_stage s c)) (sym (ap (λ (t : List ℕ). k ++ t) f ∙ append-nil k)) (record { goes_on = goes; reached = push_reached s c keeps.reached; alike = h.0; whole = keeps.whole });
-        parts = ap (λ (t : List ℕ). parts_of (k ++ t)) f ∙ ap parts_of (append-nil k) ∙ sym (ap (λ (t : List TextPart). parts_of k ++ t) (sym (parts_said (events_of_push s c)) ∙ ap parts_in h.1) ∙ append-nil (parts_of k));
+        said = ap (λ (t : List ℕ). said_of (k ++ t)) f ∙ ap said_of (append-nil k) ∙ sym (ap (λ (os : List TextEvent). said_of k ++ os) h.1 ∙ append-nil (said_of k));
         opener = opener_goes s c keeps.goes_on keeps.reached;
         comment = comment_here goes;
         next = next_goes s c keeps.goes_on goes;
@@ -146,12 +145,12 @@ module _ (s : TextStage) (c : ℕ) (k : List ℕ) (keeps : Keeps s k) where
           alike = subst (IsAlike (push_stage s c)) (sym (past_more (fresh_stage nowhere) k d)) h.0;
           whole = kept_more (fresh_stage nowhere) k d ∙ ap (λ (t : List ℕ). t ++ option_to_list (kept_at (stage_behind k) d)) keeps.whole ∙ ap (λ (t : List ℕ). k ++ t) kept_same;
         });
-        parts = ap (λ (t : List ℕ). parts_of (k ++ t)) f
-            ∙ parts_are (k ++ d ∷ [])
-            ∙ ap parts_in (events_more (fresh_stage nowhere) k d)
-            ∙ parts_append (events_of_pushes (fresh_stage nowhere) k) (events_of_push (stage_behind k) d)
-            ∙ ap (λ (t : List TextPart). parts_in (events_of_pushes (fresh_stage nowhere) k) ++ t) (sym (parts_said (events_of_push (stage_behind k) d)) ∙ ap parts_in (sym h.1) ∙ parts_said (events_of_push s c))
-            ∙ ap (λ (t : List TextPart). t ++ parts_in (events_of_push s c)) (sym (parts_are k));
+        said = ap (λ (t : List ℕ). said_of (k ++ t)) f
+            ∙ said_is (k ++ d ∷ [])
+            ∙ ap said (events_more (fresh_stage nowhere) k d)
+            ∙ said_append (events_of_pushes (fresh_stage nowhere) k) (events_of_push (stage_behind k) d)
+            ∙ ap (λ (os : List TextEvent). said (events_of_pushes (fresh_stage nowhere) k) ++ os) (sym h.1)
+            ∙ ap (λ (os : List TextEvent). os ++ said (events_of_push s c)) (sym (said_is k));
         opener = opener_goes s c keeps.goes_on keeps.reached;
         comment = comment_here goes;
         next = next_goes s c keeps.goes_on goes;
@@ -174,12 +173,8 @@ module _ (s : TextStage) (c : ℕ) (k : List ℕ) (keeps : Keeps s k) where
   ended_behind : end_text (events_of_push s c) ≡ true → EndsBehind k (events_of_push s c) (push_stage s c)
   ended_behind e = record {
     kept = none_kept_at_end s c keeps.goes_on over;
-    parts = ap (λ (x : ℕ). parts_in (events_of_push s x)) at.mark
-        ∙ sym (parts_said (events_of_push s 40))
-        ∙ ap parts_in (sym (push_same keeps.alike.place keeps.alike.next s 40))
-        ∙ parts_said (events_of_push (placed keeps.alike.place keeps.alike.next s) 40)
-        ∙ ap (λ (x : TextStage). parts_in (events_of_push x 40)) (sym (placed_alike at.no_comment))
-        ∙ sym (last_are k);
+    said = said_last;
+    notes = subst EndsInNotes said_last (notes_at_end s c keeps.goes_on over);
     over = over;
   }
     where
@@ -188,6 +183,13 @@ module _ (s : TextStage) (c : ℕ) (k : List ℕ) (keeps : Keeps s k) where
 
       at : EndsAt s c
       at = ended_at s c keeps.goes_on over
+
+      said_last : said (events_of_push s c) ≡ said_at_end k
+      said_last =
+          ap (λ (x : ℕ). said (events_of_push s x)) at.mark
+          ∙ sym (push_same keeps.alike.place keeps.alike.next s 40)
+          ∙ ap (λ (x : TextStage). said (events_of_push x 40)) (sym (placed_alike at.no_comment))
+          ∙ sym (last_is k)
 
 -- what a push does
 pub push_keeps : (s next : TextStage) (c : ℕ) (events : List TextEvent) → next ≡ push_stage s c → events ≡ events_of_push s c → KeepsOn s c events next
@@ -295,6 +297,13 @@ comment_not_kept k e = kept_with_is k 37 ∙ by (stage_behind k).state (stage_be
     by (Tag name) d h = absurd (false≢true h)
     by (Raw part m) d h = absurd (false≢true h)
     by Translation d h = absurd (false≢true h)
+
+pub end_not_kept : (k : List ℕ) → ends_behind k ≡ true → kept_with k 40 ≡ []
+end_not_kept k e = kept_with_is k 40 ∙ by (stage_behind k).done refl
+  where
+    by : (d : Bool) → (stage_behind k).done ≡ d → kept_in (events_of_push (stage_behind k) 40) ≡ []
+    by true f = ap (λ (x : Bool). kept_in (cond x [] (events_of_settling (stage_behind k) 40 ++ events_of_settled_push (settle_stage (stage_behind k) 40) 40))) f
+    by false f = none_kept_at_end (stage_behind k) 40 f (sym (ends_are k) ∙ e)
 
 -- ---- stages that keep and tell the same
 

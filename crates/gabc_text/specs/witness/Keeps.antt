@@ -1,8 +1,9 @@
 -- A stage keeps a text: it stands where the characters lead that it has kept, whatever it has read.
-use Rattle.std.specs.Prelude.{◌≡◌, ◌⊎◌, ◌==◌, ◌&&◌, not, ℕ, List, [], ◌∷◌, ◌++◌, Bool, true, false, Some, if◌then◌else◌}
+use Rattle.std.specs.Prelude.{◌≡◌, ◌⊎◌, ◌==◌, ◌&&◌, not, ℕ, List, [], ◌∷◌, ◌++◌, map, Bool, true, false, Some, if◌then◌else◌}
 use Rattle.std.specs.List.{list_any}
 use Rattle.gabc_places.specs.Place.{saturating_next_place}
 use Rattle.gabc_places.specs.declared.place.Place.{Place}
+use Rattle.gabc_text.specs.declared.text_event.TextEnd.TheVariants as ending
 use Rattle.gabc_text.specs.declared.text_event.TextPart.{TextPart}
 use Rattle.gabc_text.specs.declared.text_event.TextEvent.{TextEvent}
 use Rattle.gabc_text.specs.declared.text_event.TextEvent.TheVariants as out
@@ -16,11 +17,13 @@ use Rattle.gabc_text.specs.machine.Resuming.{nowhere, IsAlike, IsReached, kept_p
 use Rattle.gabc_text.specs.machine.TextStage.{push_stage, events_of_push}
 use Rattle.gabc_text.specs.machine.TokenState.{is_plain}
 
--- the parts of the view among these
-abbrev pub parts_in : List TextEvent → List TextPart
-parts_in [] = []
-parts_in (out.Part p ∷ os) = p ∷ parts_in os
-parts_in (o ∷ os) = parts_in os
+-- what is said by these, but for findings and places: the characters kept, the parts of the view and the end
+abbrev pub said : List TextEvent → List TextEvent
+said [] = []
+said (out.Kept x ∷ os) = out.Kept (record { c = x.c; place = nowhere }) ∷ said os
+said (out.Part p ∷ os) = out.Part p ∷ said os
+said (out.Found f ∷ os) = said os
+said (out.Ended h ∷ os) = out.Ended h ∷ said os
 
 -- the text ends with one of these
 abbrev pub end_text : List TextEvent → Bool
@@ -39,9 +42,9 @@ pub record Keeps (s : TextStage) (k : List ℕ) : Type 0 where
 
 -- ---- what follows from the text that is kept
 
--- the parts that were emitted
-unfoldable pub parts_of : List ℕ → List TextPart
-parts_of k = parts_in (events_of_pushes (fresh_stage nowhere) k)
+-- what was said of it
+unfoldable pub said_of : List ℕ → List TextEvent
+said_of k = said (events_of_pushes (fresh_stage nowhere) k)
 
 -- a tag, a raw part or a translation is open behind it
 unfoldable pub is_open_behind : List ℕ → Bool
@@ -55,12 +58,12 @@ begins_comment k = is_plain (stage_behind k).state
 unfoldable pub kept_with : List ℕ → ℕ → List ℕ
 kept_with k c = kept_in (events_of_push (stage_behind k) c)
 
--- a `(` behind it ends the text, where no comment is open, and the parts that are emitted with it
+-- a `(` behind it ends the text, where no comment is open, and what is said with it
 unfoldable pub ends_behind : List ℕ → Bool
 ends_behind k = (push_stage (stage_behind k) 40).done
 
-unfoldable pub last_parts_of : List ℕ → List TextPart
-last_parts_of k = parts_in (events_of_push (stage_behind k) 40)
+unfoldable pub said_at_end : List ℕ → List TextEvent
+said_at_end k = said (events_of_push (stage_behind k) 40)
 
 -- a comment is open behind a character: as one was, up to an LF, or as a `%` begins one
 abbrev pub comment_with : List ℕ → Bool → ℕ → Bool
@@ -71,15 +74,21 @@ comment_with k is_open c = if is_open then not (c == 10) else (c == 37 && begins
 -- The text k goes on with a character: the stage keeps what is kept more. The opener is the one before, or the character.
 pub record GoesOn (before : TextStage) (k : List ℕ) (c : ℕ) (events : List TextEvent) (after : TextStage) : Type 0 where
   pub keeps : Keeps after (k ++ kept_in events)
-  pub parts : parts_of (k ++ kept_in events) ≡ parts_of k ++ parts_in events
+  pub said : said_of (k ++ kept_in events) ≡ said_of k ++ said events
   pub opener : (p : Place) → opener_of after ≡ Some p → (opener_of before ≡ Some p) ⊎ (next_of before ≡ p)
   pub comment : is_in_comment after ≡ comment_with k (is_in_comment before) c
   pub next : next_of after ≡ saturating_next_place (next_of before) c
 
+-- parts, and then the end of a text at its `(`
+pub record EndsInNotes (events : List TextEvent) : Type 0 where
+  pub parts : List TextPart
+  pub is : events ≡ map (λ (p : TextPart). out.Part p) parts ++ out.Ended ending.Notes ∷ []
+
 -- It ends with it: nothing is kept, and the stage keeps no text any more.
 pub record EndsBehind (k : List ℕ) (events : List TextEvent) (after : TextStage) : Type 0 where
   pub kept : kept_in events ≡ []
-  pub parts : parts_in events ≡ last_parts_of k
+  pub said : said events ≡ said_at_end k
+  pub notes : EndsInNotes (said_at_end k)
   pub over : after.done ≡ true
 
 -- By the text that a stage keeps, whether a character ends it, what is kept of it, and which of the two it does.
