@@ -7,6 +7,8 @@ pub mod EventsOfSyllableParts
 pub mod BuilderHoldsDefinition
 pub mod FirstKinds
 pub mod OneListEachCharacter
+pub mod PartsKeepOn
+pub mod PartsOfKeptText
 pub mod QuietParts
 pub mod QuietTexts
 pub mod SnippetsAsKept

@@ -2,6 +2,7 @@ pub mod BodyBuilder
 pub mod Collected
 pub mod Gatherer
 pub mod PartCounts
+pub mod PartKeeps
 pub mod PartPushes
 pub mod Preceded
 pub mod Quiet

@@ -11,6 +11,7 @@ ghost use Rattle.gabc_score.specs.Events.{InComment, events_from, body_events, b
 ghost use Rattle.gabc_text.specs.Events.{CountsFit};
 ghost use Rattle.gabc_score.specs.machine.Gatherer.{Gathered};
 ghost use Rattle.gabc_score.specs.machine.PartCounts.{CountsInNotes, CountsHold, PartGoesOn};
+ghost use Rattle.gabc_score.specs.machine.PartKeeps.{in_text, BeginsSnippet, PartKeeps, PartKeepsOn};
 ghost use Rattle.gabc_score.specs.machine.Quiet.{TakesQuietly};
 ghost use Rattle.gabc_score.specs.machine.SyllableBuilder.{OpenSyllable, nothing_open};
 ghost use Rattle.gabc_score.specs.machine.Slot.{FitEach};
@@ -21,7 +22,7 @@ ghost use Rattle.gabc_score.specs.witness.BodyStage.{part_with, events_left, run
 use crate::BodyEvent;
 use crate::part_ends::{ends_at_close, ends_at_next, ends_text};
 use crate::part_events::{emit_notes, emit_text, hold_notes, hold_text};
-use crate::part_pushes::{finish_part, push_notes, push_text};
+use crate::part_pushes::{finish_part, push_gabc, push_nabc, push_text};
 use crate::slot_pair::{SlotPair, SlotUse};
 use gabc_nabc::NabcStage;
 use gabc_notes::{NoteEnd, NoteEvent, NoteStage};
@@ -100,6 +101,7 @@ fn text_behind(mark: Place) -> BodyPart
     ensures part { (xs : List Char) → part_with result xs
         ≡ text_from texts_by_stage (behind_mark mark) xs }
     ensures counts { CountsHold result nothing_open }
+    ensures keeps { (lines macros : ℕ) → PartKeeps lines macros result (in_text []) }
 {
     BodyPart::Text(TextStage::new(mark.saturating_after(')')))
 }
@@ -154,6 +156,7 @@ impl BodyStage {
         ensures part { (xs : List Char) → part_with result xs
             ≡ snippet_from self.now.nabc_lines self.now.macros line opened xs }
         ensures counts { (o : OpenSyllable) → CountsInNotes o → CountsHold result o }
+        ensures keeps { BeginsSnippet self.now.nabc_lines self.now.macros line result }
     {
         if line == 0 {
             BodyPart::Notes {
@@ -175,6 +178,8 @@ impl BodyStage {
             ≡ snippet_from self.now.nabc_lines self.now.macros
             (line_after self.now.nabc_lines line) opened xs }
         ensures counts { (o : OpenSyllable) → CountsInNotes o → CountsHold result o }
+        ensures keeps { BeginsSnippet self.now.nabc_lines self.now.macros
+            (line_after self.now.nabc_lines line) result }
     {
         self.snippet(next_line(self.nabc_lines, line), opened)
     }
@@ -188,6 +193,10 @@ impl BodyStage {
             (running_events_left self.new) x 8 self.new.events }
         ensures once { ClosesLast self.new.events }
         ensures bounds { PartGoesOn self.old.part self.new.part self.new.events }
+        ensures lines { self.new.nabc_lines ≡ self.old.nabc_lines }
+        ensures macros { self.new.macros ≡ self.old.macros }
+        ensures keeps { PartKeepsOn self.old.nabc_lines self.old.macros
+            self.old.part self.new.part self.new.events }
         ensures over { self.new.over ≡ self.old.over }
     {
         match &mut self.part {
@@ -202,7 +211,7 @@ impl BodyStage {
             }
             BodyPart::Notes { opened, stage } => {
                 let opened = *opened;
-                push_notes(stage, x, &mut self.notes);
+                push_gabc(stage, x, &mut self.notes);
                 let next = ends_at_next(self.notes.slice());
                 let close = ends_at_close(self.notes.slice());
                 self.emitter = Emitter::Notes { line: 0, opened };
@@ -218,7 +227,7 @@ impl BodyStage {
                 stage,
             } => {
                 let (line, opened) = (*line, *opened);
-                push_notes(stage, x, &mut self.notes);
+                push_nabc(stage, x, &mut self.notes);
                 let next = ends_at_next(self.notes.slice());
                 let close = ends_at_close(self.notes.slice());
                 self.emitter = Emitter::Notes { line, opened };
@@ -237,6 +246,10 @@ impl BodyStage {
             (running_events_left self.new) x 8 self.new.events }
         ensures once { ClosesLast self.new.events }
         ensures bounds { PartGoesOn self.old.part self.new.part self.new.events }
+        ensures lines { self.new.nabc_lines ≡ self.old.nabc_lines }
+        ensures macros { self.new.macros ≡ self.old.macros }
+        ensures keeps { PartKeepsOn self.old.nabc_lines self.old.macros
+            self.old.part self.new.part self.new.events }
         ensures over { self.new.over ≡ self.old.over }
     {
         if let BodyPart::Comment = self.part {

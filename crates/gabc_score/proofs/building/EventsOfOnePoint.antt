@@ -19,7 +19,7 @@ use Rattle.gabc_score.proofs.building.BuilderHoldsDefinition.{gathered, gathered
 
 -- ---- lists
 
-with_all_append : (g : Gathered) (xs ys : List BodyEvent) → with_all g (xs ++ ys) ≡ with_all (with_all g xs) ys
+pub with_all_append : (g : Gathered) (xs ys : List BodyEvent) → with_all g (xs ++ ys) ≡ with_all (with_all g xs) ys
 with_all_append g [] ys = refl
 with_all_append g (x ∷ xs) ys = with_all_append (with_event g x) xs ys
 

@@ -12,7 +12,7 @@ use Rattle.gabc_notes.specs.declared.stage.NoteEvent.TheVariants as note
 use Rattle.gabc_score.specs.declared.events.BodyEvent.TheVariants.{Text}
 use Rattle.gabc_notes.specs.Ends.{is_ended}
 use Rattle.gabc_text.specs.End.{is_end}
-use Rattle.gabc_score.specs.Events.{is_text_end, is_close, note_event}
+use Rattle.gabc_score.specs.Events.{is_text_end, is_close, is_next, note_event}
 use Rattle.gabc_score.specs.Syllable.{closes}
 use Rattle.gabc_score.specs.machine.PartPushes.{EndsLast, ClosesLast}
 
@@ -48,6 +48,12 @@ pub close_ends : (x : NoteEvent) → is_close x ≡ true → is_ended x ≡ true
 close_ends (note.Kept c) h = absurd (cc)
 close_ends (note.Found f) h = absurd (cc)
 close_ends (note.Ended how n) h = refl
+
+-- so does the `|`
+pub next_ends : (x : NoteEvent) → is_next x ≡ true → is_ended x ≡ true
+next_ends (note.Ended how n) e = refl
+next_ends (note.Kept c) e = absurd (cc)
+next_ends (note.Found f) e = absurd (cc)
 
 pub text_end_ends : (x : TextEvent) → is_text_end x ≡ true → is_end x ≡ true
 text_end_ends (text.Kept c) h = absurd (cc)

@@ -1,12 +1,14 @@
-use Rattle.std.proofs.Common.{◌≡◌, ℕ, ◌≤◌, true, false, List, map, length, refl, sym, ap, ◌∙◌, arith}
+use Rattle.std.proofs.Common.{◌≡◌, ℕ, ◌≤◌, true, false, List, [], map, length, refl, sym, ap, ◌∙◌, arith}
 use Rattle.std.proofs.lemmas.List.{length-map}
 use Rattle.std.specs.List.{list_any}
 use Rattle.gabc_places.specs.declared.place.Place.{Place}
 use Rattle.gabc_notes.specs.witness.ItemMachine as notes
 use Rattle.gabc_notes.specs.declared.stage.NoteEvent.{NoteEvent}
-use Rattle.gabc_score.specs.Events.{is_next, is_close, note_event}
+use Rattle.gabc_score.specs.Events.{is_text_end, is_next, is_close, note_event}
 use Rattle.gabc_score.proofs.building.EventsOfSnippets.{snippet_emits}
 use Rattle.gabc_score.proofs.building.CountsOfParts.{text_goes, text_ends, notes_go, notes_close}
+use Rattle.gabc_score.proofs.building.PartsOfKeptText.{text_keeps_on, text_ends_on}
+use Rattle.gabc_score.proofs.building.PartsKeepOn.{gabc_keeps_on, gabc_ends_on, gabc_closes_on, nabc_keeps_on, nabc_ends_on, nabc_closes_on}
 use Rattle.gabc_score.proofs.building.SyllableEndsLast.{notes_close_last, texts_close_last}
 use Rattle.gabc_score.proofs.body_stage.BodyStage.push_part.Goals as goal
 
@@ -17,22 +19,22 @@ pub returns-else-ended-clause-once : goal.returns-else-ended-clause-once
 returns-else-ended-clause-once c = texts_close_last c.push_text.new.events.items
 
 pub returns-then-next-clause-once : goal.returns-then-next-clause-once
-returns-then-next-clause-once c = notes_close_last 0 c.in-Notes.opened c.push_notes.new.events.items c.push_notes.ensures.once
+returns-then-next-clause-once c = notes_close_last 0 c.in-Notes.opened c.push_gabc.new.events.items c.push_gabc.ensures.once
 
 pub returns-then-close-clause-once : goal.returns-then-close-clause-once
-returns-then-close-clause-once c = notes_close_last 0 c.in-Notes.opened c.push_notes.new.events.items c.push_notes.ensures.once
+returns-then-close-clause-once c = notes_close_last 0 c.in-Notes.opened c.push_gabc.new.events.items c.push_gabc.ensures.once
 
 pub returns-else-close-clause-once : goal.returns-else-close-clause-once
-returns-else-close-clause-once c = notes_close_last 0 c.in-Notes.opened c.push_notes.new.events.items c.push_notes.ensures.once
+returns-else-close-clause-once c = notes_close_last 0 c.in-Notes.opened c.push_gabc.new.events.items c.push_gabc.ensures.once
 
 pub returns-then-next-2-clause-once : goal.returns-then-next-2-clause-once
-returns-then-next-2-clause-once c = notes_close_last c.in-Nabc.line c.in-Nabc.opened c.push_notes-in-Nabc.new.events.items c.push_notes-in-Nabc.ensures.once
+returns-then-next-2-clause-once c = notes_close_last c.in-Nabc.line c.in-Nabc.opened c.push_nabc.new.events.items c.push_nabc.ensures.once
 
 pub returns-then-close-2-clause-once : goal.returns-then-close-2-clause-once
-returns-then-close-2-clause-once c = notes_close_last c.in-Nabc.line c.in-Nabc.opened c.push_notes-in-Nabc.new.events.items c.push_notes-in-Nabc.ensures.once
+returns-then-close-2-clause-once c = notes_close_last c.in-Nabc.line c.in-Nabc.opened c.push_nabc.new.events.items c.push_nabc.ensures.once
 
 pub returns-else-close-2-clause-once : goal.returns-else-close-2-clause-once
-returns-else-close-2-clause-once c = notes_close_last c.in-Nabc.line c.in-Nabc.opened c.push_notes-in-Nabc.new.events.items c.push_notes-in-Nabc.ensures.once
+returns-else-close-2-clause-once c = notes_close_last c.in-Nabc.line c.in-Nabc.opened c.push_nabc.new.events.items c.push_nabc.ensures.once
 
 -- ---- the counts
 
@@ -50,36 +52,36 @@ returns-else-ended-clause-bounds c =
 pub returns-then-next-clause-bounds : goal.returns-then-next-clause-bounds
 returns-then-next-clause-bounds c =
     rw (← c.self.view_is, c.in-Notes.is)
-    (notes_go 0 c.in-Notes.opened _ c.push_notes.new.events.items c.push_notes.ensures.pushes.few (λ o h. h)
+    (notes_go 0 c.in-Notes.opened _ c.push_gabc.new.events.items c.push_gabc.ensures.pushes.few (λ o h. h)
     c.next_snippet-self-inside.result c.next_snippet-self-inside.ensures.counts)
 
 pub returns-then-close-clause-bounds : goal.returns-then-close-clause-bounds
 returns-then-close-clause-bounds c =
     rw (← c.self.view_is, c.in-Notes.is)
-    (notes_close 0 c.in-Notes.opened _ c.push_notes.new.events.items c.push_notes.ensures.pushes.few (λ o h. h)
-    c.text_behind-self-inside.result c.text_behind-self-inside.ensures.counts c.push_notes.ensures.once (sym (c.ends_at_close-close.ensures ∙ ap (list_any is_close) c.slice-in-Notes-2.ensures) ∙ c.if-close.true))
+    (notes_close 0 c.in-Notes.opened _ c.push_gabc.new.events.items c.push_gabc.ensures.pushes.few (λ o h. h)
+    c.text_behind-self-inside.result c.text_behind-self-inside.ensures.counts c.push_gabc.ensures.once (sym (c.ends_at_close-close.ensures ∙ ap (list_any is_close) c.slice-in-Notes-2.ensures) ∙ c.if-close.true))
 
 pub returns-else-close-clause-bounds : goal.returns-else-close-clause-bounds
 returns-else-close-clause-bounds c =
     rw (← c.self.view_is, c.in-Notes.is)
-    (notes_go 0 c.in-Notes.opened _ c.push_notes.new.events.items c.push_notes.ensures.pushes.few (λ o h. h) _ (λ o h. h))
+    (notes_go 0 c.in-Notes.opened _ c.push_gabc.new.events.items c.push_gabc.ensures.pushes.few (λ o h. h) _ (λ o h. h))
 
 pub returns-then-next-2-clause-bounds : goal.returns-then-next-2-clause-bounds
 returns-then-next-2-clause-bounds c =
     rw (← c.self.view_is, c.in-Nabc.is)
-    (notes_go c.in-Nabc.line c.in-Nabc.opened _ c.push_notes-in-Nabc.new.events.items c.push_notes-in-Nabc.ensures.pushes.few (λ o h. h)
+    (notes_go c.in-Nabc.line c.in-Nabc.opened _ c.push_nabc.new.events.items c.push_nabc.ensures.pushes.few (λ o h. h)
     c.next_snippet-self-inside-then-next-2.result c.next_snippet-self-inside-then-next-2.ensures.counts)
 
 pub returns-then-close-2-clause-bounds : goal.returns-then-close-2-clause-bounds
 returns-then-close-2-clause-bounds c =
     rw (← c.self.view_is, c.in-Nabc.is)
-    (notes_close c.in-Nabc.line c.in-Nabc.opened _ c.push_notes-in-Nabc.new.events.items c.push_notes-in-Nabc.ensures.pushes.few (λ o h. h)
-    c.text_behind-self-inside-then-close-2.result c.text_behind-self-inside-then-close-2.ensures.counts c.push_notes-in-Nabc.ensures.once (sym (c.ends_at_close-close-in-Nabc.ensures ∙ ap (list_any is_close) c.slice-in-Nabc-2.ensures) ∙ c.if-close-2.true))
+    (notes_close c.in-Nabc.line c.in-Nabc.opened _ c.push_nabc.new.events.items c.push_nabc.ensures.pushes.few (λ o h. h)
+    c.text_behind-self-inside-then-close-2.result c.text_behind-self-inside-then-close-2.ensures.counts c.push_nabc.ensures.once (sym (c.ends_at_close-close-in-Nabc.ensures ∙ ap (list_any is_close) c.slice-in-Nabc-2.ensures) ∙ c.if-close-2.true))
 
 pub returns-else-close-2-clause-bounds : goal.returns-else-close-2-clause-bounds
 returns-else-close-2-clause-bounds c =
     rw (← c.self.view_is, c.in-Nabc.is)
-    (notes_go c.in-Nabc.line c.in-Nabc.opened _ c.push_notes-in-Nabc.new.events.items c.push_notes-in-Nabc.ensures.pushes.few (λ o h. h) _ (λ o h. h))
+    (notes_go c.in-Nabc.line c.in-Nabc.opened _ c.push_nabc.new.events.items c.push_nabc.ensures.pushes.few (λ o h. h) _ (λ o h. h))
 
 -- ---- the events
 
@@ -88,32 +90,82 @@ few es line opened h = rw (length-map es (note_event line opened)) (omega (arith
 
 pub returns-then-next-clause-events : goal.returns-then-next-clause-events
 returns-then-next-clause-events c =
-    let p = c.push_notes.ensures.pushes in
-    let es = c.push_notes.new.events.items in
+    let p = c.push_gabc.ensures.pushes in
+    let es = c.push_gabc.new.events.items in
     let next : list_any is_next es ≡ true = sym (c.ends_at_next-next.ensures ∙ ap (list_any is_next) c.slice-in-Notes.ensures) ∙ c.if-next.true in
     rw (← c.self.view_is, c.in-Notes.is) (record {
       few = few es 0 c.in-Notes.opened p.few;
-      law = snippet_emits c.self.inside.nabc_lines c.self.inside.macros 0 c.in-Notes.opened c.args.x es (notes.events_left c.in-Notes.stage) (notes.events_left c.push_notes.new.stage) p.law _ (λ xs. rw next (c.next_snippet-self-inside.ensures.part xs));
+      law = snippet_emits c.self.inside.nabc_lines c.self.inside.macros 0 c.in-Notes.opened c.args.x es (notes.events_left c.in-Notes.stage) (notes.events_left c.push_gabc.new.stage) p.law _ (λ xs. rw next (c.next_snippet-self-inside.ensures.part xs));
     })
 
 pub returns-then-close-clause-events : goal.returns-then-close-clause-events
 returns-then-close-clause-events c =
-    let p = c.push_notes.ensures.pushes in
-    let es = c.push_notes.new.events.items in
+    let p = c.push_gabc.ensures.pushes in
+    let es = c.push_gabc.new.events.items in
     let next : list_any is_next es ≡ false = sym (c.ends_at_next-next.ensures ∙ ap (list_any is_next) c.slice-in-Notes.ensures) ∙ c.if-next.false in
     let close : list_any is_close es ≡ true = sym (c.ends_at_close-close.ensures ∙ ap (list_any is_close) c.slice-in-Notes-2.ensures) ∙ c.if-close.true in
     rw (← c.self.view_is, c.in-Notes.is) (record {
       few = few es 0 c.in-Notes.opened p.few;
-      law = snippet_emits c.self.inside.nabc_lines c.self.inside.macros 0 c.in-Notes.opened c.args.x es (notes.events_left c.in-Notes.stage) (notes.events_left c.push_notes.new.stage) p.law _ (λ xs. rw (next, close) (c.text_behind-self-inside.ensures.part xs));
+      law = snippet_emits c.self.inside.nabc_lines c.self.inside.macros 0 c.in-Notes.opened c.args.x es (notes.events_left c.in-Notes.stage) (notes.events_left c.push_gabc.new.stage) p.law _ (λ xs. rw (next, close) (c.text_behind-self-inside.ensures.part xs));
     })
 
 pub returns-else-close-clause-events : goal.returns-else-close-clause-events
 returns-else-close-clause-events c =
-    let p = c.push_notes.ensures.pushes in
-    let es = c.push_notes.new.events.items in
+    let p = c.push_gabc.ensures.pushes in
+    let es = c.push_gabc.new.events.items in
     let next : list_any is_next es ≡ false = sym (c.ends_at_next-next.ensures ∙ ap (list_any is_next) c.slice-in-Notes.ensures) ∙ c.if-next.false in
     let close : list_any is_close es ≡ false = sym (c.ends_at_close-close.ensures ∙ ap (list_any is_close) c.slice-in-Notes-2.ensures) ∙ c.if-close.false in
     rw (← c.self.view_is, c.in-Notes.is) (record {
       few = few es 0 c.in-Notes.opened p.few;
-      law = snippet_emits c.self.inside.nabc_lines c.self.inside.macros 0 c.in-Notes.opened c.args.x es (notes.events_left c.in-Notes.stage) (notes.events_left c.push_notes.new.stage) p.law _ (λ xs. rw (next, close) refl);
+      law = snippet_emits c.self.inside.nabc_lines c.self.inside.macros 0 c.in-Notes.opened c.args.x es (notes.events_left c.in-Notes.stage) (notes.events_left c.push_gabc.new.stage) p.law _ (λ xs. rw (next, close) refl);
     })
+
+-- ---- the parts of the kept text
+
+pub returns-then-ended-clause-keeps : goal.returns-then-ended-clause-keeps
+returns-then-ended-clause-keeps c =
+    rw (← c.self.view_is, c.in-Text.is)
+    (text_ends_on c.self.inside.nabc_lines c.self.inside.macros c.in-Text.stage c.push_text.new.stage c.args.x.c c.push_text.new.events.items c.snippet-self-inside.result c.push_text.ensures.keeps
+    (sym (c.ends_text-ended.ensures ∙ ap (list_any is_text_end) c.slice.ensures) ∙ c.if-ended.true) (λ u b. c.snippet-self-inside.ensures.keeps u [] b))
+
+pub returns-else-ended-clause-keeps : goal.returns-else-ended-clause-keeps
+returns-else-ended-clause-keeps c =
+    rw (← c.self.view_is, c.in-Text.is)
+    (text_keeps_on c.self.inside.nabc_lines c.self.inside.macros c.in-Text.stage c.push_text.new.stage c.args.x.c c.push_text.new.events.items c.push_text.ensures.keeps
+    (sym (c.ends_text-ended.ensures ∙ ap (list_any is_text_end) c.slice.ensures) ∙ c.if-ended.false))
+
+pub returns-then-next-clause-keeps : goal.returns-then-next-clause-keeps
+returns-then-next-clause-keeps c =
+    rw (← c.self.view_is, c.in-Notes.is)
+    (gabc_ends_on c.self.inside.nabc_lines c.self.inside.macros c.in-Notes.opened c.in-Notes.stage c.push_gabc.new.stage c.args.x c.push_gabc.new.events.items c.push_gabc.ensures.keeps c.next_snippet-self-inside.result
+    (sym (c.ends_at_next-next.ensures ∙ ap (list_any is_next) c.slice-in-Notes.ensures) ∙ c.if-next.true) c.next_snippet-self-inside.ensures.keeps)
+
+pub returns-then-close-clause-keeps : goal.returns-then-close-clause-keeps
+returns-then-close-clause-keeps c =
+    rw (← c.self.view_is, c.in-Notes.is)
+    (gabc_closes_on c.self.inside.nabc_lines c.self.inside.macros c.in-Notes.opened c.in-Notes.stage c.push_gabc.new.stage c.args.x c.push_gabc.new.events.items c.push_gabc.ensures.keeps c.text_behind-self-inside.result
+    (sym (c.ends_at_close-close.ensures ∙ ap (list_any is_close) c.slice-in-Notes-2.ensures) ∙ c.if-close.true) (c.text_behind-self-inside.ensures.keeps c.self.inside.nabc_lines c.self.inside.macros))
+
+pub returns-else-close-clause-keeps : goal.returns-else-close-clause-keeps
+returns-else-close-clause-keeps c =
+    rw (← c.self.view_is, c.in-Notes.is)
+    (gabc_keeps_on c.self.inside.nabc_lines c.self.inside.macros c.in-Notes.opened c.in-Notes.stage c.push_gabc.new.stage c.args.x c.push_gabc.new.events.items c.push_gabc.ensures.keeps
+    (sym (c.ends_at_next-next.ensures ∙ ap (list_any is_next) c.slice-in-Notes.ensures) ∙ c.if-next.false) (sym (c.ends_at_close-close.ensures ∙ ap (list_any is_close) c.slice-in-Notes-2.ensures) ∙ c.if-close.false))
+
+pub returns-then-next-2-clause-keeps : goal.returns-then-next-2-clause-keeps
+returns-then-next-2-clause-keeps c =
+    rw (← c.self.view_is, c.in-Nabc.is)
+    (nabc_ends_on c.self.inside.nabc_lines c.self.inside.macros c.in-Nabc.line c.in-Nabc.opened c.in-Nabc.stage c.push_nabc.new.stage c.args.x c.push_nabc.new.events.items c.push_nabc.ensures.keeps c.next_snippet-self-inside-then-next-2.result
+    (sym (c.ends_at_next-next-in-Nabc.ensures ∙ ap (list_any is_next) c.slice-in-Nabc.ensures) ∙ c.if-next-2.true) c.next_snippet-self-inside-then-next-2.ensures.keeps)
+
+pub returns-then-close-2-clause-keeps : goal.returns-then-close-2-clause-keeps
+returns-then-close-2-clause-keeps c =
+    rw (← c.self.view_is, c.in-Nabc.is)
+    (nabc_closes_on c.self.inside.nabc_lines c.self.inside.macros c.in-Nabc.line c.in-Nabc.opened c.in-Nabc.stage c.push_nabc.new.stage c.args.x c.push_nabc.new.events.items c.push_nabc.ensures.keeps c.text_behind-self-inside-then-close-2.result
+    (sym (c.ends_at_close-close-in-Nabc.ensures ∙ ap (list_any is_close) c.slice-in-Nabc-2.ensures) ∙ c.if-close-2.true) (c.text_behind-self-inside-then-close-2.ensures.keeps c.self.inside.nabc_lines c.self.inside.macros))
+
+pub returns-else-close-2-clause-keeps : goal.returns-else-close-2-clause-keeps
+returns-else-close-2-clause-keeps c =
+    rw (← c.self.view_is, c.in-Nabc.is)
+    (nabc_keeps_on c.self.inside.nabc_lines c.self.inside.macros c.in-Nabc.line c.in-Nabc.opened c.in-Nabc.stage c.push_nabc.new.stage c.args.x c.push_nabc.new.events.items c.push_nabc.ensures.keeps
+    (sym (c.ends_at_next-next-in-Nabc.ensures ∙ ap (list_any is_next) c.slice-in-Nabc.ensures) ∙ c.if-next-2.false) (sym (c.ends_at_close-close-in-Nabc.ensures ∙ ap (list_any is_close) c.slice-in-Nabc-2.ensures) ∙ c.if-close-2.false))

@@ -1,0 +1,195 @@
+-- The parts of the kept text go on with what a stage emits, by what it keeps.
+use Rattle.std.proofs.Common.{◌≡◌, ◌≢◌, ◌==◌, ◌||◌, ℕ, zero, suc, ◌-◌, ◌^◌, min, nat_lt, Bool, true, false, List, [], ◌∷◌, ◌++◌, refl, sym, ap, subst, ◌∙◌, if◌then◌else◌}
+use Rattle.std.proofs.lemmas.Bool.{true≢false}
+use Rattle.std.specs.List.{list_any}
+use Rattle.gabc_places.specs.declared.place.Char.{Char}
+use Rattle.gabc_places.specs.declared.place.Place.{Place}
+use Rattle.gabc_patterns.specs.Function.{trim}
+use Rattle.gabc_patterns.specs.Kept.{Trims}
+use Rattle.gabc_patterns.specs.LongestItems.{IsSnippet}
+use Rattle.gabc_patterns.proofs.FunctionsMeetRelations.{trim_trims}
+use Rattle.gabc_notes.specs.Events.{end_by_mark}
+use Rattle.gabc_notes.specs.SnippetRead.{kept_of, ends_of}
+use Rattle.gabc_notes.specs.StageTells as tells
+use Rattle.gabc_notes.specs.Table.{gabc}
+use Rattle.gabc_notes.specs.witness.Keeps as notes
+use Rattle.gabc_notes.specs.declared.stage.NoteEnd.{NoteEnd}
+use Rattle.gabc_notes.specs.declared.stage.NoteEnd.TheVariants as note_end
+use Rattle.gabc_notes.specs.declared.stage.NoteEvent.{NoteEvent}
+use Rattle.gabc_notes.specs.declared.stage.NoteEvent.TheVariants as note
+use Rattle.gabc_notes.specs.declared.stage.NoteStage.{NoteStage}
+use Rattle.gabc_nabc.specs.Table.{nabc as nabc_table}
+use Rattle.gabc_nabc.specs.witness.Keeps as nabc
+use Rattle.gabc_nabc.specs.declared.stage.NabcStage.{NabcStage}
+use Rattle.gabc_score.specs.declared.body_stage.BodyPart.{BodyPart}
+use Rattle.gabc_score.specs.declared.body_stage.BodyPart.TheVariants as part
+use Rattle.gabc_score.specs.Events.{is_close, is_next, next_line}
+use Rattle.gabc_score.specs.machine.PartKeeps.{KeptParts, in_text, in_notes, IsEnded, IsEndedOn, AreBehind, PartKeeps, PartKeepsOn}
+use Rattle.gabc_score.proofs.building.PartsOfKeptText.{of_notes, InNotes, EndsSnippet, ClosesSnippet, notes_keep_on, notes_end_on, notes_close_on}
+use Rattle.gabc_score.proofs.texts_of_body.SeamsOfCharacters.{size_is_sum}
+
+-- ---- how a snippet ended
+
+abbrev is_next_end : NoteEnd → Bool
+is_next_end note_end.Next = true
+is_next_end how = false
+
+abbrev is_close_end : NoteEnd → Bool
+is_close_end note_end.Close = true
+is_close_end how = false
+
+any_next : (es : List NoteEvent) → list_any is_next es ≡ list_any (λ (e : NoteEnd × ℕ). is_next_end e.0) (ends_of es)
+any_next [] = refl
+any_next (note.Kept c ∷ es) = any_next es
+any_next (note.Found f ∷ es) = any_next es
+any_next (note.Ended note_end.Next n ∷ es) = refl
+any_next (note.Ended note_end.Close n ∷ es) = any_next es
+any_next (note.Ended (note_end.Cut p) n ∷ es) = any_next es
+
+any_close : (es : List NoteEvent) → list_any is_close es ≡ list_any (λ (e : NoteEnd × ℕ). is_close_end e.0) (ends_of es)
+any_close [] = refl
+any_close (note.Kept c ∷ es) = any_close es
+any_close (note.Found f ∷ es) = any_close es
+any_close (note.Ended note_end.Next n ∷ es) = any_close es
+any_close (note.Ended note_end.Close n ∷ es) = refl
+any_close (note.Ended (note_end.Cut p) n ∷ es) = any_close es
+
+-- none, or one by the mark at which the snippet ended
+module _ (es : List NoteEvent) (c n : ℕ) where
+  none_next : ends_of es ≡ [] → list_any is_next es ≡ false
+  none_next e = any_next es ∙ ap (list_any (λ (e : NoteEnd × ℕ). is_next_end e.0)) e
+
+  none_close : ends_of es ≡ [] → list_any is_close es ≡ false
+  none_close e = any_close es ∙ ap (list_any (λ (e : NoteEnd × ℕ). is_close_end e.0)) e
+
+  one_ends : ends_of es ≡ (end_by_mark c, n) ∷ [] → list_any is_next es ≡ false → list_any is_close es ≡ false → ⊥
+  one_ends e f g = by (c == 124) (sym (any_next es ∙ ap (list_any (λ (e : NoteEnd × ℕ). is_next_end e.0)) e) ∙ f) (sym (any_close es ∙ ap (list_any (λ (e : NoteEnd × ℕ). is_close_end e.0)) e) ∙ g)
+    where
+      by : (b : Bool) → list_any (λ (e : NoteEnd × ℕ). is_next_end e.0) ((if b then note_end.Next else note_end.Close, n) ∷ []) ≡ false
+          → list_any (λ (e : NoteEnd × ℕ). is_close_end e.0) ((if b then note_end.Next else note_end.Close, n) ∷ []) ≡ false → ⊥
+      by true h k = true≢false h
+      by false h k = true≢false k
+
+  next_ends : ends_of es ≡ (end_by_mark c, n) ∷ [] → list_any is_next es ≡ true → ends_of es ≡ (note_end.Next, n) ∷ []
+  next_ends e f = e ∙ ap (λ (how : NoteEnd). (how, n) ∷ []) (by (c == 124) (sym (any_next es ∙ ap (list_any (λ (e : NoteEnd × ℕ). is_next_end e.0)) e) ∙ f))
+    where
+      by : (b : Bool) → list_any (λ (e : NoteEnd × ℕ). is_next_end e.0) ((if b then note_end.Next else note_end.Close, n) ∷ []) ≡ true → (if b then note_end.Next else note_end.Close) ≡ note_end.Next
+      by true h = refl
+      by false h = absurd (true≢false (sym h))
+
+  close_ends : ends_of es ≡ (end_by_mark c, n) ∷ [] → list_any is_close es ≡ true → ends_of es ≡ (note_end.Close, n) ∷ []
+  close_ends e f = e ∙ ap (λ (how : NoteEnd). (how, n) ∷ []) (by (c == 124) (sym (any_close es ∙ ap (list_any (λ (e : NoteEnd × ℕ). is_close_end e.0)) e) ∙ f))
+    where
+      by : (b : Bool) → list_any (λ (e : NoteEnd × ℕ). is_close_end e.0) ((if b then note_end.Next else note_end.Close, n) ∷ []) ≡ true → (if b then note_end.Next else note_end.Close) ≡ note_end.Close
+      by true h = absurd (true≢false (sym h))
+      by false h = refl
+
+-- ---- a snippet of GABC
+
+module _ (lines macros : ℕ) (opened : Place) (s t : NoteStage) (x : Char) (es : List NoteEvent) (on : notes.KeepsOn s x es t) where
+  abbrev Keep : NoteStage → List ℕ → Type 0
+  Keep stage k = notes.Keeps (nat_lt 0 lines) macros stage k
+
+  found : (p : KeptParts) → PartKeeps lines macros (part.Notes opened s) p → InNotes lines macros 0 (Keep s) p
+  found (in_text k) h = absurd h
+  found (in_notes u earlier k) h = record { t = u; earlier = earlier; k = k; is = refl; behind = h.0; keeps = h.1 }
+
+  pub gabc_keeps_on : list_any is_next es ≡ false → list_any is_close es ≡ false → PartKeepsOn lines macros (part.Notes opened s) (part.Notes opened t) (of_notes 0 opened es)
+  gabc_keeps_on next close =
+      notes_keep_on lines macros 0 opened (part.Notes opened s) (Keep s) found es (part.Notes opened t) (Keep t) goes (λ u earlier k b h. (b, h))
+    where
+      goes : (k : List ℕ) → Keep s k → (ends_of es ≡ []) × Keep t (k ++ kept_of es)
+      goes k h = by (notes.is_end_behind (nat_lt 0 lines) k (tells.comment_of s) x.c) refl
+        where
+          by : (b : Bool) → notes.is_end_behind (nat_lt 0 lines) k (tells.comment_of s) x.c ≡ b → (ends_of es ≡ []) × Keep t (k ++ kept_of es)
+          by false e = let g = on.goes (nat_lt 0 lines) macros k h e in (g.no_end, g.keeps)
+          by true e = absurd (one_ends es x.c _ (on.ends (nat_lt 0 lines) macros k h e).end next close)
+
+  ended : (k : List ℕ) → Keep s k → (ends_of es ≡ [] → ⊥) → notes.EndsBehind k x.c es
+  ended k h some = by (notes.is_end_behind (nat_lt 0 lines) k (tells.comment_of s) x.c) refl
+    where
+      by : (b : Bool) → notes.is_end_behind (nat_lt 0 lines) k (tells.comment_of s) x.c ≡ b → notes.EndsBehind k x.c es
+      by false e = absurd (some (on.goes (nat_lt 0 lines) macros k h e).no_end)
+      by true e = on.ends (nat_lt 0 lines) macros k h e
+
+  pub gabc_ends_on : (after : BodyPart) → list_any is_next es ≡ true → ((u : List ℕ) (earlier : List (List ℕ)) → AreBehind lines macros (next_line lines 0) u earlier → PartKeeps lines macros after (in_notes u earlier []))
+      → PartKeepsOn lines macros (part.Notes opened s) after (of_notes 0 opened es)
+  gabc_ends_on after next begins = notes_end_on lines macros 0 opened (part.Notes opened s) (Keep s) found es after ends begins
+    where
+      ends : (k : List ℕ) → Keep s k → EndsSnippet lines macros 0 es k
+      ends k h =
+          let e : notes.EndsBehind k x.c es = ended k h (λ none. true≢false (sym next ∙ none_next es x.c 0 none)) in
+          let cut : Trims gabc k (trim gabc k) = trim_trims gabc refl k in
+          record {
+            s = trim gabc k;
+            rest = cut.rest;
+            cut = cut.cut;
+            ended = record { stage = s; rest = cut.rest; keeps = subst (Keep s) cut.cut h; whole = cut.longest.has };
+            none_kept = e.none_kept;
+            end = next_ends es x.c _ e.end next ∙ ap (λ (n : ℕ). (note_end.Next, min n (2 ^ 64 - 1)) ∷ []) (size_is_sum (trim gabc k));
+          }
+
+  pub gabc_closes_on : (after : BodyPart) → list_any is_close es ≡ true → PartKeeps lines macros after (in_text []) → PartKeepsOn lines macros (part.Notes opened s) after (of_notes 0 opened es)
+  gabc_closes_on after close begins = notes_close_on lines macros 0 opened (part.Notes opened s) (Keep s) found es after closes begins
+    where
+      closes : (k : List ℕ) → Keep s k → ClosesSnippet lines macros es
+      closes k h =
+          let e : notes.EndsBehind k x.c es = ended k h (λ none. true≢false (sym close ∙ none_close es x.c 0 none)) in
+          record { count = _; none_kept = e.none_kept; end = close_ends es x.c _ e.end close }
+
+-- ---- a snippet of NABC
+
+module _ (lines macros line : ℕ) (opened : Place) (s t : NabcStage) (x : Char) (es : List NoteEvent) (on : nabc.KeepsOn s x es t) where
+  abbrev KeepNabc : NabcStage → List ℕ → Type 0
+  KeepNabc stage k = (line ≢ 0) × nabc.Keeps stage k
+
+  found_nabc : (p : KeptParts) → PartKeeps lines macros (part.Nabc line opened s) p → InNotes lines macros line (KeepNabc s) p
+  found_nabc (in_text k) h = absurd h
+  found_nabc (in_notes u earlier k) h = record { t = u; earlier = earlier; k = k; is = refl; behind = h.0; keeps = h.1 }
+
+  pub nabc_keeps_on : list_any is_next es ≡ false → list_any is_close es ≡ false → PartKeepsOn lines macros (part.Nabc line opened s) (part.Nabc line opened t) (of_notes line opened es)
+  nabc_keeps_on next close =
+      notes_keep_on lines macros line opened (part.Nabc line opened s) (KeepNabc s) found_nabc es (part.Nabc line opened t) (KeepNabc t) goes (λ u earlier k b h. (b, h))
+    where
+      goes : (k : List ℕ) → KeepNabc s k → (ends_of es ≡ []) × KeepNabc t (k ++ kept_of es)
+      goes k h = by (nabc.is_end_behind (nabc.comment_of s) x.c) refl
+        where
+          by : (b : Bool) → nabc.is_end_behind (nabc.comment_of s) x.c ≡ b → (ends_of es ≡ []) × KeepNabc t (k ++ kept_of es)
+          by false e = let g = on.goes k h.1 e in (g.no_end, (h.0, g.keeps))
+          by true e = absurd (one_ends es x.c _ (on.ends k h.1 e).end next close)
+
+  ended_nabc : (k : List ℕ) → KeepNabc s k → (ends_of es ≡ [] → ⊥) → nabc.EndsBehind k x.c es
+  ended_nabc k h some = by (nabc.is_end_behind (nabc.comment_of s) x.c) refl
+    where
+      by : (b : Bool) → nabc.is_end_behind (nabc.comment_of s) x.c ≡ b → nabc.EndsBehind k x.c es
+      by false e = absurd (some (on.goes k h.1 e).no_end)
+      by true e = on.ends k h.1 e
+
+  on_line : (l : ℕ) (k : List ℕ) → l ≢ 0 → IsEnded nabc.Keeps (IsSnippet nabc_table) k → IsEndedOn lines macros l k
+  on_line zero k some h = absurd (some refl)
+  on_line (suc l) k some h = h
+
+  pub nabc_ends_on : (after : BodyPart) → list_any is_next es ≡ true → ((u : List ℕ) (earlier : List (List ℕ)) → AreBehind lines macros (next_line lines line) u earlier → PartKeeps lines macros after (in_notes u earlier []))
+      → PartKeepsOn lines macros (part.Nabc line opened s) after (of_notes line opened es)
+  nabc_ends_on after next begins = notes_end_on lines macros line opened (part.Nabc line opened s) (KeepNabc s) found_nabc es after ends begins
+    where
+      ends : (k : List ℕ) → KeepNabc s k → EndsSnippet lines macros line es k
+      ends k h =
+          let e : nabc.EndsBehind k x.c es = ended_nabc k h (λ none. true≢false (sym next ∙ none_next es x.c 0 none)) in
+          let cut : Trims nabc_table k (trim nabc_table k) = trim_trims nabc_table refl k in
+          record {
+            s = trim nabc_table k;
+            rest = cut.rest;
+            cut = cut.cut;
+            ended = on_line line (trim nabc_table k) h.0 (record { stage = s; rest = cut.rest; keeps = subst (nabc.Keeps s) cut.cut h.1; whole = cut.longest.has });
+            none_kept = e.none_kept;
+            end = next_ends es x.c _ e.end next;
+          }
+
+  pub nabc_closes_on : (after : BodyPart) → list_any is_close es ≡ true → PartKeeps lines macros after (in_text []) → PartKeepsOn lines macros (part.Nabc line opened s) after (of_notes line opened es)
+  nabc_closes_on after close begins = notes_close_on lines macros line opened (part.Nabc line opened s) (KeepNabc s) found_nabc es after closes begins
+    where
+      closes : (k : List ℕ) → KeepNabc s k → ClosesSnippet lines macros es
+      closes k h =
+          let e : nabc.EndsBehind k x.c es = ended_nabc k h (λ none. true≢false (sym close ∙ none_close es x.c 0 none)) in
+          record { count = _; none_kept = e.none_kept; end = close_ends es x.c _ e.end close }

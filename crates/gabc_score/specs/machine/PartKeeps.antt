@@ -1,0 +1,155 @@
+-- The kept text of the syllable that is read is cut into its parts: a part of the body keeps the last of them, and what was gathered is what
+-- they say.
+use Rattle.std.specs.Prelude.{◌≡◌, ◌≢◌, ◌<◌, ◌^◌, ℕ, zero, suc, nat_lt, List, [], ◌∷◌, ◌++◌, map, length, Bool, true, false, cond, encode_utf8_all}
+use Rattle.std.specs.List.{flat_map}
+use Rattle.gabc_places.specs.declared.place.Char.{Char}
+use Rattle.gabc_patterns.specs.LongestItems.{IsSnippet}
+use Rattle.gabc_text.specs.witness.Keeps as text
+use Rattle.gabc_text.specs.declared.stage.TextStage.{TextStage}
+use Rattle.gabc_text.specs.declared.text_event.TextEvent.{TextEvent}
+use Rattle.gabc_notes.specs.Table.{gabc}
+use Rattle.gabc_notes.specs.witness.Keeps as notes
+use Rattle.gabc_notes.specs.declared.stage.NoteEnd.TheVariants.{Next}
+use Rattle.gabc_notes.specs.declared.stage.NoteEvent.TheVariants.{Kept, Ended}
+use Rattle.gabc_notes.specs.declared.stage.NoteStage.{NoteStage}
+use Rattle.gabc_nabc.specs.Table.{nabc}
+use Rattle.gabc_nabc.specs.witness.Keeps as nabc
+use Rattle.gabc_nabc.specs.declared.stage.NabcStage.{NabcStage}
+use Rattle.gabc_score.specs.declared.before.Spans.{Spans}
+use Rattle.gabc_score.specs.declared.body_stage.BodyPart.{BodyPart}
+use Rattle.gabc_score.specs.declared.body_stage.BodyPart.TheVariants as part
+use Rattle.gabc_score.specs.declared.events.BodyEvent.{BodyEvent}
+use Rattle.gabc_score.specs.declared.events.BodyEvent.TheVariants as event
+use Rattle.gabc_score.specs.Events.{next_line}
+use Rattle.gabc_score.specs.machine.BodyBuilder.{with_all}
+use Rattle.gabc_score.specs.machine.Gatherer.{Gathered, nothing_gathered}
+use Rattle.gabc_score.specs.machine.Preceded.{spans_of}
+
+-- ---- the parts of a kept text
+
+-- a text; or behind a text that has ended the kept texts of the snippets that have ended, and that of the one that is read
+pub data KeptParts : Type 0 where
+  in_text : List ℕ → KeptParts
+  in_notes : List ℕ → List (List ℕ) → List ℕ → KeptParts
+
+-- snippets, each with the `|` behind it
+abbrev pub barred : List (List ℕ) → List ℕ
+barred snippets = flat_map (λ s. s ++ 124 ∷ []) snippets
+
+-- what stands before the part that is read
+abbrev pub text_before : KeptParts → List ℕ
+text_before (in_text k) = []
+text_before (in_notes t earlier k) = t ++ 40 ∷ barred earlier
+
+-- the kept text of the part that is read
+abbrev pub last_part : KeptParts → List ℕ
+last_part (in_text k) = k
+last_part (in_notes t earlier k) = k
+
+-- the whole kept text
+abbrev pub joined : KeptParts → List ℕ
+joined p = text_before p ++ last_part p
+
+-- the line behind these snippets, the first of which is of that line
+abbrev pub line_behind : ℕ → ℕ → List (List ℕ) → ℕ
+line_behind lines line [] = line
+line_behind lines line (s ∷ earlier) = line_behind lines (next_line lines line) earlier
+
+-- ---- what the parts say
+
+abbrev pub kept_char : ℕ → Char
+kept_char c = record { c = c; place = record { line = 0; column = 0 } }
+
+abbrev pub text_events : List TextEvent → List BodyEvent
+text_events events = map (λ (o : TextEvent). event.Text o) events
+
+-- a snippet, and one that has ended at its `|`
+abbrev pub snippet_events : ℕ → List ℕ → List BodyEvent
+snippet_events line k = map (λ (c : ℕ). event.Notes line (Kept (kept_char c))) k
+
+abbrev pub ended_events : ℕ → List ℕ → List BodyEvent
+ended_events line s = snippet_events line s ++ event.Notes line (Ended Next (length (encode_utf8_all s))) ∷ []
+
+abbrev pub earlier_events : ℕ → ℕ → List (List ℕ) → List BodyEvent
+earlier_events lines line [] = []
+earlier_events lines line (s ∷ earlier) = ended_events line s ++ earlier_events lines (next_line lines line) earlier
+
+-- a text that has ended at its `(`, and these snippets
+abbrev pub events_before : ℕ → List ℕ → List (List ℕ) → List BodyEvent
+events_before lines t earlier = text_events (text.said_of t ++ text.said_at_end t) ++ earlier_events lines 0 earlier
+
+abbrev pub said_by : ℕ → KeptParts → List BodyEvent
+said_by lines (in_text k) = text_events (text.said_of k)
+said_by lines (in_notes t earlier k) = events_before lines t earlier ++ snippet_events (line_behind lines 0 earlier) k
+
+-- ---- what keeps them
+
+-- A text that a stage kept has ended at its `(`.
+pub record IsEndedText (t : List ℕ) : Type 0 where
+  pub stage : TextStage
+  pub keeps : text.Keeps stage t
+  pub ends : text.ends_behind t ≡ true
+
+-- A snippet of a table has ended at its `|`: of the text that a stage kept it is what stands before an unfinished end.
+pub record IsEnded {S : Type 0} (Keeps : S → List ℕ → Type 0) (IsWhole : List ℕ → Type 0) (s : List ℕ) : Type 0 where
+  pub stage : S
+  pub rest : List ℕ
+  pub keeps : Keeps stage (s ++ rest)
+  pub whole : IsWhole s
+
+abbrev pub IsEndedOn : ℕ → ℕ → ℕ → List ℕ → Type 0
+IsEndedOn lines macros zero s = IsEnded (notes.Keeps (nat_lt 0 lines) macros) (IsSnippet gabc) s
+IsEndedOn lines macros (suc line) s = IsEnded nabc.Keeps (IsSnippet nabc) s
+
+abbrev pub AreEnded : ℕ → ℕ → ℕ → List (List ℕ) → Type 0
+AreEnded lines macros line [] = Unit {0}
+AreEnded lines macros line (s ∷ earlier) = IsEndedOn lines macros line s × AreEnded lines macros (next_line lines line) earlier
+
+-- behind a text that has ended these snippets have ended, and one of that line is read
+pub record AreBehind (lines macros line : ℕ) (t : List ℕ) (earlier : List (List ℕ)) : Type 0 where
+  pub text_ended : IsEndedText t
+  pub snippets_ended : AreEnded lines macros 0 earlier
+  pub line_is : line_behind lines 0 earlier ≡ line
+
+-- in the comment behind the `%%` nothing is kept
+abbrev pub PartKeeps : ℕ → ℕ → BodyPart → KeptParts → Type 0
+PartKeeps lines macros part.Comment p = p ≡ in_text []
+PartKeeps lines macros (part.Text stage) (in_text k) = text.Keeps stage k
+PartKeeps lines macros (part.Notes opened stage) (in_notes t earlier k) = AreBehind lines macros 0 t earlier × notes.Keeps (nat_lt 0 lines) macros stage k
+PartKeeps lines macros (part.Nabc line opened stage) (in_notes t earlier k) = AreBehind lines macros line t earlier × ((line ≢ 0) × nabc.Keeps stage k)
+PartKeeps lines macros part p = ⊥
+
+-- a part reads a snippet of that line, of which nothing was read
+abbrev pub BeginsSnippet : ℕ → ℕ → ℕ → BodyPart → Type 0
+BeginsSnippet lines macros line part = (t : List ℕ) (earlier : List (List ℕ)) → AreBehind lines macros line t earlier → PartKeeps lines macros part (in_notes t earlier [])
+
+-- ---- what is gathered of them
+
+-- nothing of a syllable, where these spans are open
+abbrev pub begun : Spans → Gathered
+begun spans = record (nothing_gathered 0 0) { eu = spans.eu; nlba = spans.nlba }
+
+-- the same was gathered of the syllable that is read
+pub record ReadAlike (g h : Gathered) : Type 0 where
+  pub builder : g.builder ≡ h.builder
+  pub eu : g.eu ≡ h.eu
+  pub nlba : g.nlba ≡ h.nlba
+
+-- Of the syllable that is read, before which these spans are open, a part keeps the last of the parts of its kept text, and what was gathered
+-- is what they say.
+pub record IsReading (lines macros : ℕ) (part : BodyPart) (spans : Spans) (g : Gathered) : Type 0 where
+  pub parts : KeptParts
+  pub keeps : PartKeeps lines macros part parts
+  pub said : ReadAlike g (with_all (begun spans) (said_by lines parts))
+  pub kept : g.builder.kept ≡ encode_utf8_all (joined parts)
+  pub from : g.builder.from ≡ length (encode_utf8_all (text_before parts))
+
+-- which spans are open before the syllable that is read, where h was gathered behind g: another one is read where one was made
+abbrev pub spans_past : Spans → Gathered → Gathered → Spans
+spans_past spans g h = cond (nat_lt (length g.made) (length h.made)) (spans_of h) spans
+
+-- With these events a part goes on as this one, and the parts of the kept text with it.
+abbrev pub PartKeepsOn : ℕ → ℕ → BodyPart → BodyPart → List BodyEvent → Type 0
+PartKeepsOn lines macros before after now =
+    (spans : Spans) (g : Gathered) → length g.builder.kept < 2 ^ 64 → IsReading lines macros before spans g
+    → IsReading lines macros after (spans_past spans g (with_all g now)) (with_all g now)
