@@ -17,5 +17,6 @@ pub mod OutputsOfLentSyllables
 pub mod PlainScores
 pub mod ScoreOutputs
 pub mod TextsAreReadInFull
+pub mod WhatIsRead
 pub mod WhatOutputsSay
 pub mod WhatPrecedes

@@ -238,7 +238,7 @@ cut_is from n kept before s rest k f c =
 no_more : (n : ℕ) → nat_lt n n ≡ false
 no_more n = grind (arith, nat_tests)
 
-stays : (spans : Spans) (g h : Gathered) → h.made ≡ g.made → spans_past spans g h ≡ spans
+pub stays : (spans : Spans) (g h : Gathered) → h.made ≡ g.made → spans_past spans g h ≡ spans
 stays spans g h e = ap (λ (made : List UnplacedSyllable). cond (nat_lt (length g.made) (length made)) (record { eu = h.eu; nlba = h.nlba }) spans) e ∙ ap (λ (b : Bool). cond b (record { eu = h.eu; nlba = h.nlba }) spans) (no_more (length g.made))
 
 module _ (lines macros : ℕ) where

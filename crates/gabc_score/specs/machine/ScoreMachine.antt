@@ -15,6 +15,7 @@ use Rattle.gabc_score.specs.witness.ScoreStage.{ScoreStageState, left_of}
 use Rattle.gabc_score.specs.machine.BodyBuilder.{code_in}
 use Rattle.gabc_score.specs.machine.Gatherer.{nothing_gathered}
 use Rattle.gabc_score.specs.machine.PartCounts.{CountsHold}
+use Rattle.gabc_score.specs.machine.PartKeeps.{IsReading}
 use Rattle.gabc_score.specs.machine.Preceded.{IsPreceded}
 use Rattle.gabc_score.specs.machine.ScoreStage.{HeldScore}
 use Rattle.gabc_score.specs.machine.SlotPair.{is_made}
@@ -46,13 +47,14 @@ pub record IsBeforeBody (m : ScoreMachine) : Type 0 where
   pub nothing : m.pair.gathered ≡ nothing_gathered m.limits.syllable 0
   pub none_lent : m.has_lent ≡ false
 
--- in the body what is counted holds, and the kept text is within the limit
+-- in the body what is counted holds, the kept text is within the limit, and what is gathered is what its parts say
 pub record IsInBody (m : ScoreMachine) : Type 0 where
   pub rests : IsAtRest m
   pub counts : CountsHold m.body.part m.pair.gathered.builder
   pub kept : length m.pair.gathered.builder.kept ≤ m.limits.syllable
   pub preceded : IsPreceded m.bounds.before m.pair.gathered
   pub behind : m.bounds.behind ≡ with_each m.bounds.before m.pair.gathered.made
+  pub reading : IsReading m.body.nabc_lines m.body.macros m.body.part m.bounds.behind.spans m.pair.gathered
 
 -- in the body, where nothing is lent, no limit is passed and one whole syllable is held at most
 pub record IsFreed (m : ScoreMachine) : Type 0 where

@@ -1,4 +1,4 @@
-use Rattle.std.proofs.Common.{rules, ◌≡◌, ◌-◌, ◌++◌, ◌∷◌, [], List, None, length, not, take, refl, sym, ap, subst, ◌∙◌, append-nil, arith}
+use Rattle.std.proofs.Common.{rules, ◌≡◌, ◌-◌, ◌++◌, ◌∷◌, [], List, None, length, nat_lt, not, take, refl, sym, ap, subst, ◌∙◌, append-nil, arith}
 use Rattle.std.specs.List.{All}
 use Rattle.std.proofs.lemmas.List.Elements.{All-drop, All-take}
 use Rattle.gabc_headers.specs.declared.head_event.HeadEvent.TheVariants as head_event
@@ -16,6 +16,8 @@ use Rattle.gabc_places.specs.BoundedList.{BoundedList}
 use Rattle.gabc_score.specs.machine.BodyBuilder.{code_in, with_all}
 use Rattle.gabc_score.specs.machine.Gatherer.{Gathered}
 use Rattle.gabc_score.specs.machine.PartCounts.{CountsHold}
+use Rattle.gabc_score.specs.Syllable.{UnplacedSyllable}
+use Rattle.gabc_score.proofs.score_events.WhatIsRead.{reading_past}
 use Rattle.gabc_score.proofs.score_events.WhatPrecedes.{turned, past_in_body}
 use Rattle.gabc_score.proofs.score_events.EventsStayWithinBounds.{few_found, few_with_first, limit_stays, within}
 use Rattle.gabc_score.proofs.score_machine.ScoreMachine.read.Goals as goal
@@ -116,4 +118,8 @@ returns-after-self-clause-rests c =
           ∙ turns.behind
           ∙ ap (λ (k : Bounds). with_each k.before (with_held g).made) (sym passed)
           ∙ ap (λ (k : Gathered). with_each c.pass.new.self.before k.made) (sym t.gathered);
+      reading = reading_past c.args.self.now.body.nabc_lines c.args.self.now.body.macros c.take.new.self.nabc_lines c.take.new.self.macros c.args.self.now.body.part c.take.new.self.part b c.pass.new.self was g c.give_point-gave.new.pair.gathered now
+          c.is_whole-is_whole.result c.give_point-gave.result (let few = old.kept in let most = c.args.self.now.limits.in_range.syllable_most in omega (arith, few, most)) is t.gathered
+          (c.is_whole-is_whole.ensures.made ∙ ap (λ (ms : List UnplacedSyllable). nat_lt (length ms) (length g.made)) (c.hold.ensures.held ∙ c.free.ensures.held))
+          passed c.take.ensures.lines c.take.ensures.macros c.take.ensures.keeps old.reading;
     })
