@@ -1,6 +1,6 @@
 -- The parts of the kept text go on with what a stage emits, by what it keeps.
-use Rattle.std.proofs.Common.{◌≡◌, ◌≢◌, ◌==◌, ◌||◌, ℕ, zero, suc, ◌-◌, ◌^◌, min, nat_lt, Bool, true, false, List, [], ◌∷◌, ◌++◌, refl, sym, ap, subst, ◌∙◌, if◌then◌else◌}
-use Rattle.std.proofs.lemmas.Bool.{true≢false}
+use Rattle.std.proofs.Common.{◌≡◌, ◌≢◌, ◌==◌, ◌&&◌, ◌||◌, ℕ, zero, suc, ◌-◌, ◌^◌, min, nat_lt, Bool, true, false, List, [], ◌∷◌, ◌++◌, refl, sym, ap, subst, ◌∙◌, if◌then◌else◌}
+use Rattle.std.proofs.lemmas.Bool.{eqb-true, true≢false}
 use Rattle.std.specs.List.{list_any}
 use Rattle.gabc_places.specs.declared.place.Char.{Char}
 use Rattle.gabc_places.specs.declared.place.Place.{Place}
@@ -77,6 +77,13 @@ module _ (es : List NoteEvent) (c n : ℕ) where
       by true h = refl
       by false h = absurd (true≢false (sym h))
 
+  next_mark : ends_of es ≡ (end_by_mark c, n) ∷ [] → list_any is_next es ≡ true → c ≡ 124
+  next_mark e f = by (c == 124) refl (sym (any_next es ∙ ap (list_any (λ (e : NoteEnd × ℕ). is_next_end e.0)) e) ∙ f)
+    where
+      by : (b : Bool) → (c == 124) ≡ b → list_any (λ (e : NoteEnd × ℕ). is_next_end e.0) ((if b then note_end.Next else note_end.Close, n) ∷ []) ≡ true → c ≡ 124
+      by true g h = eqb-true c 124 g
+      by false g h = absurd (true≢false (sym h))
+
   close_ends : ends_of es ≡ (end_by_mark c, n) ∷ [] → list_any is_close es ≡ true → ends_of es ≡ (note_end.Close, n) ∷ []
   close_ends e f = e ∙ ap (λ (how : NoteEnd). (how, n) ∷ []) (by (c == 124) (sym (any_close es ∙ ap (list_any (λ (e : NoteEnd × ℕ). is_close_end e.0)) e) ∙ f))
     where
@@ -105,12 +112,22 @@ module _ (lines macros : ℕ) (opened : Place) (s t : NoteStage) (x : Char) (es 
           by false e = let g = on.goes (nat_lt 0 lines) macros k h e in (g.no_end, g.keeps)
           by true e = absurd (one_ends es x.c _ (on.ends (nat_lt 0 lines) macros k h e).end next close)
 
-  ended : (k : List ℕ) → Keep s k → (ends_of es ≡ [] → ⊥) → notes.EndsBehind k x.c es
+  ended : (k : List ℕ) → Keep s k → (ends_of es ≡ [] → ⊥) → (notes.is_end_behind (nat_lt 0 lines) k (tells.comment_of s) x.c ≡ true) × notes.EndsBehind k x.c es
   ended k h some = by (notes.is_end_behind (nat_lt 0 lines) k (tells.comment_of s) x.c) refl
     where
-      by : (b : Bool) → notes.is_end_behind (nat_lt 0 lines) k (tells.comment_of s) x.c ≡ b → notes.EndsBehind k x.c es
+      by : (b : Bool) → notes.is_end_behind (nat_lt 0 lines) k (tells.comment_of s) x.c ≡ b → (notes.is_end_behind (nat_lt 0 lines) k (tells.comment_of s) x.c ≡ true) × notes.EndsBehind k x.c es
       by false e = absurd (some (on.goes (nat_lt 0 lines) macros k h e).no_end)
-      by true e = on.ends (nat_lt 0 lines) macros k h e
+      by true e = (e, on.ends (nat_lt 0 lines) macros k h e)
+
+  -- a `|` ends it only where snippets are split
+  splits : (b r : Bool) → x.c ≡ 124 → (b && (r && ((x.c == 41) || (nat_lt 0 lines && (x.c == 124))))) ≡ true → nat_lt 0 lines ≡ true
+  splits b r c = subst (λ (c : ℕ). (b && (r && ((c == 41) || (nat_lt 0 lines && (c == 124))))) ≡ true → nat_lt 0 lines ≡ true) (sym c) (by b r (nat_lt 0 lines))
+    where
+      by : (b r s : Bool) → (b && (r && (s && true))) ≡ true → s ≡ true
+      by true true true e = refl
+      by true true false e = absurd (true≢false (sym e))
+      by true false s e = absurd (true≢false (sym e))
+      by false r s e = absurd (true≢false (sym e))
 
   pub gabc_ends_on : (after : BodyPart) → list_any is_next es ≡ true → ((u : List ℕ) (earlier : List (List ℕ)) → AreBehind lines macros (next_line lines 0) u earlier → PartKeeps lines macros after (in_notes u earlier []))
       → PartKeepsOn lines macros (part.Notes opened s) after (of_notes 0 opened es)
@@ -118,13 +135,14 @@ module _ (lines macros : ℕ) (opened : Place) (s t : NoteStage) (x : Char) (es 
     where
       ends : (k : List ℕ) → Keep s k → EndsSnippet lines macros 0 es k
       ends k h =
-          let e : notes.EndsBehind k x.c es = ended k h (λ none. true≢false (sym next ∙ none_next es x.c 0 none)) in
+          let over = ended k h (λ none. true≢false (sym next ∙ none_next es x.c 0 none)) in
+          let e : notes.EndsBehind k x.c es = over.1 in
           let cut : Trims gabc k (trim gabc k) = trim_trims gabc refl k in
           record {
             s = trim gabc k;
             rest = cut.rest;
             cut = cut.cut;
-            ended = record { stage = s; rest = cut.rest; keeps = subst (Keep s) cut.cut h; whole = cut.longest.has };
+            ended = (splits _ _ (next_mark es x.c _ e.end next) over.0, record { stage = s; rest = cut.rest; keeps = subst (Keep s) cut.cut h; whole = cut.longest.has });
             none_kept = e.none_kept;
             end = next_ends es x.c _ e.end next ∙ ap (λ (n : ℕ). (note_end.Next, min n (2 ^ 64 - 1)) ∷ []) (size_is_sum (trim gabc k));
           }
@@ -134,7 +152,7 @@ module _ (lines macros : ℕ) (opened : Place) (s t : NoteStage) (x : Char) (es 
     where
       closes : (k : List ℕ) → Keep s k → ClosesSnippet lines macros es
       closes k h =
-          let e : notes.EndsBehind k x.c es = ended k h (λ none. true≢false (sym close ∙ none_close es x.c 0 none)) in
+          let e : notes.EndsBehind k x.c es = (ended k h (λ none. true≢false (sym close ∙ none_close es x.c 0 none))).1 in
           record { count = _; none_kept = e.none_kept; end = close_ends es x.c _ e.end close }
 
 -- ---- a snippet of NABC

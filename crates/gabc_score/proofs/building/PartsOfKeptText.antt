@@ -87,37 +87,36 @@ pub record Grows (g h : Gathered) (more : List ℕ) : Type 0 where
   pub kept : h.builder.kept ≡ g.builder.kept ++ encode_utf8_all more
   pub from : h.builder.from ≡ g.builder.from
   pub made : h.made ≡ g.made
+  pub cut : h.cut ≡ g.cut
 
-unchanged : (g h : Gathered) → h.builder.kept ≡ g.builder.kept → h.builder.from ≡ g.builder.from → h.made ≡ g.made → Grows g h []
-unchanged g h k f m = record { kept = k ∙ sym (append-nil g.builder.kept); from = f; made = m }
+unchanged : (g h : Gathered) → h.builder.kept ≡ g.builder.kept → h.builder.from ≡ g.builder.from → h.made ≡ g.made → h.cut ≡ g.cut → Grows g h []
+unchanged g h k f m c = record { kept = k ∙ sym (append-nil g.builder.kept); from = f; made = m; cut = c }
 
 grows_through : (g h i : Gathered) (a b : List ℕ) → Grows g h a → Grows h i b → Grows g i (a ++ b)
 grows_through g h i a b r s = record {
   kept = s.kept ∙ ap (λ t. t ++ encode_utf8_all b) r.kept ∙ append_assoc g.builder.kept (encode_utf8_all a) (encode_utf8_all b) ∙ ap (λ t. g.builder.kept ++ t) (sym (encodes-append a b));
   from = s.from ∙ r.from;
   made = s.made ∙ r.made;
+  cut = s.cut ∙ r.cut;
 }
 
 kept_grows : (g : Gathered) (c : ℕ) → Grows g (record g { builder = record g.builder { kept = g.builder.kept ++ encode_utf8 c } }) (c ∷ [])
-kept_grows g c = record { kept = ap (λ t. g.builder.kept ++ t) (sym (append-nil (encode_utf8 c))); from = refl; made = refl }
+kept_grows g c = record { kept = ap (λ t. g.builder.kept ++ t) (sym (append-nil (encode_utf8 c))); from = refl; made = refl; cut = refl }
 
-text_grows : (es : List TextEvent) (g : Gathered) → list_any is_text_end es ≡ false → Grows g (with_all g (text_events es)) (kept_in es)
-text_grows [] g e = unchanged g g refl refl refl
+text_grows : (es : List TextEvent) (g : Gathered) → text.end_text es ≡ false → Grows g (with_all g (text_events es)) (kept_in es)
+text_grows [] g e = unchanged g g refl refl refl refl
 text_grows (text_out.Kept c ∷ es) g e =
     grows_through g _ _ (c.c ∷ []) (kept_in es) (kept_grows g c.c) (text_grows es (with_event g (event.Text (text_out.Kept c))) e)
 text_grows (text_out.Part p ∷ es) g e =
     grows_through g _ _ [] (kept_in es) (by p) (text_grows es (with_event g (event.Text (text_out.Part p))) e)
   where
     by : (p : TextPart) → Grows g (with_event g (event.Text (text_out.Part p))) []
-    by text_part.WordStart = unchanged g _ refl refl refl
-    by (text_part.Piece p) = unchanged g _ refl refl refl
-    by (text_part.Centre s) = unchanged g _ refl refl refl
-    by (text_part.Translation s) = unchanged g _ refl refl refl
+    by text_part.WordStart = unchanged g _ refl refl refl refl
+    by (text_part.Piece p) = unchanged g _ refl refl refl refl
+    by (text_part.Centre s) = unchanged g _ refl refl refl refl
+    by (text_part.Translation s) = unchanged g _ refl refl refl refl
 text_grows (text_out.Found f ∷ es) g e = text_grows es g e
-text_grows (text_out.Ended text_end.Notes ∷ es) g e = absurd (true≢false e)
-text_grows (text_out.Ended text_end.Finished ∷ es) g e = text_grows es g e
-text_grows (text_out.Ended (text_end.Cut p) ∷ es) g e =
-    grows_through g _ _ [] (kept_in es) (unchanged g _ refl refl refl) (text_grows es (with_event g (event.Text (text_out.Ended (text_end.Cut p)))) e)
+text_grows (text_out.Ended how ∷ es) g e = absurd (true≢false e)
 
 -- parts keep nothing
 abbrev out_parts : List TextPart → List TextEvent
@@ -130,6 +129,10 @@ parts_keep (p ∷ ps) = parts_keep ps
 parts_end : (ps : List TextPart) → list_any is_text_end (out_parts ps) ≡ false
 parts_end [] = refl
 parts_end (p ∷ ps) = parts_end ps
+
+parts_go_on : (ps : List TextPart) → text.end_text (out_parts ps) ≡ false
+parts_go_on [] = refl
+parts_go_on (p ∷ ps) = parts_go_on ps
 
 -- a text ended
 ended_said : (es : List TextEvent) → list_any is_text_end (text.said es) ≡ list_any is_text_end es
@@ -156,6 +159,7 @@ pub record IsMarked (g h : Gathered) (mark : ℕ) : Type 0 where
   pub kept : h.builder.kept ≡ g.builder.kept ++ encode_utf8 mark
   pub from : h.builder.from ≡ length h.builder.kept
   pub made : h.made ≡ g.made
+  pub cut : h.cut ≡ g.cut
 
 end_marks : (g : Gathered) (es : List TextEvent) → text.EndsInNotes es → IsMarked g (with_all g (text_events es)) 40
 end_marks g es h =
@@ -166,10 +170,11 @@ end_marks g es h =
       kept = ap (λ (t : List ℕ). t ++ encode_utf8 40) same;
       from = refl;
       made = grown.made;
+      cut = grown.cut;
     })))
   where
     grown : Grows g (with_all g (text_events (out_parts h.parts))) (kept_in (out_parts h.parts))
-    grown = text_grows (out_parts h.parts) g (parts_end h.parts)
+    grown = text_grows (out_parts h.parts) g (parts_go_on h.parts)
 
     same : (with_all g (text_events (out_parts h.parts))).builder.kept ≡ g.builder.kept
     same = grown.kept ∙ ap (λ (t : List ℕ). g.builder.kept ++ encode_utf8_all t) (parts_keep h.parts) ∙ append-nil g.builder.kept
@@ -216,7 +221,7 @@ module _ (line : ℕ) (opened : Place) where
       same_count = ap (count_of m) e
 
 snippet_grows : (line : ℕ) (k : List ℕ) (g : Gathered) → Grows g (with_all g (snippet_events line k)) k
-snippet_grows line [] g = unchanged g g refl refl refl
+snippet_grows line [] g = unchanged g g refl refl refl refl
 snippet_grows line (c ∷ k) g = grows_through g _ _ (c ∷ []) k (kept_grows g c) (snippet_grows line k (with_event g (event.Notes line (note.Kept (kept_char c)))))
 
 -- nothing else changes
@@ -267,6 +272,7 @@ module _ (lines macros : ℕ) where
             (subst (λ (p : KeptParts). ReadAlike g (with_all (begun spans) (said_by lines p))) here.is r.said)));
         kept = grown.kept ∙ ap (λ (b : List ℕ). b ++ encode_utf8_all (kept_in es)) (r.kept ∙ ap (λ (p : KeptParts). encode_utf8_all (joined p)) here.is) ∙ sym (encodes-append k (kept_in es));
         from = grown.from ∙ r.from ∙ ap (λ (p : KeptParts). size (text_before p)) here.is;
+        uncut = grown.cut ∙ r.uncut;
       })
     where
       here : InText s r.parts
@@ -288,7 +294,7 @@ module _ (lines macros : ℕ) where
       goes = on.goes k here.keeps none_ends
 
       grown : Grows g (with_all g (text_events es)) (kept_in es)
-      grown = text_grows es g goes_on
+      grown = text_grows es g none_ends
 
       said_more : with_all (begun spans) (text_events (text.said_of (k ++ kept_in es))) ≡ with_all (with_all (begun spans) (text_events (text.said_of k))) (text_events (text.said es))
       said_more =
@@ -309,6 +315,7 @@ module _ (lines macros : ℕ) where
             (subst (λ (p : KeptParts). ReadAlike g (with_all (begun spans) (said_by lines p))) here.is r.said)));
         kept = kept_is ∙ ap encode_utf8_all (sym (append-nil (k ++ 40 ∷ [])));
         from = marked.from ∙ ap length kept_is;
+        uncut = marked.cut ∙ r.uncut;
       })
     where
       here : InText s r.parts
@@ -402,6 +409,7 @@ module _ (lines macros : ℕ) where
               ∙ sym (encodes-append (joined (in_notes here.t here.earlier here.k)) (kept_of es))
               ∙ ap encode_utf8_all (append_assoc (text_before (in_notes here.t here.earlier here.k)) here.k (kept_of es));
           from = ap (λ (i : Gathered). i.builder.from) gathered_is ∙ grown.from ∙ r.from ∙ ap (λ (p : KeptParts). size (text_before p)) here.is;
+          uncut = ap (λ (i : Gathered). i.cut) gathered_is ∙ grown.cut ∙ r.uncut;
         })
       where
         here : InNotes line Keep r.parts
@@ -429,7 +437,7 @@ module _ (lines macros : ℕ) where
     notes_close_on es after closes begins spans g fits r =
         subst (λ (i : Gathered). IsReading lines macros after (spans_past spans g i) i) (sym (notes_ended line opened es g note_end.Close closed.count closed.none_kept closed.end))
         (subst (λ (b : Bool). IsReading lines macros after (cond b (spans_of closing) spans) closing) (sym more)
-        (record { parts = in_text []; keeps = begins; said = record { builder = refl; eu = refl; nlba = refl }; kept = refl; from = refl }))
+        (record { parts = in_text []; keeps = begins; said = record { builder = refl; eu = refl; nlba = refl }; kept = refl; from = refl; uncut = r.uncut }))
       where
         here : InNotes line Keep r.parts
         here = found r.parts r.keeps
@@ -462,6 +470,7 @@ module _ (lines macros : ℕ) where
           });
           kept = kept_is;
           from = ap length kept_is ∙ ap size (append-nil (text_before (in_notes here.t earlier [])));
+          uncut = r.uncut;
         }))
       where
         here : InNotes line Keep r.parts

@@ -20,7 +20,7 @@ use Rattle.gabc_score.proofs.building.PartsOfKeptText.{stays}
 
 -- what is held is not read
 turned_reads : (lines macros : ℕ) (part : BodyPart) (spans : Spans) (g : Gathered) → IsReading lines macros part spans g → IsReading lines macros part spans (with_held g)
-turned_reads lines macros part spans g r = record { parts = r.parts; keeps = r.keeps; said = record { builder = r.said.builder; eu = r.said.eu; nlba = r.said.nlba }; kept = r.kept; from = r.from }
+turned_reads lines macros part spans g r = record { parts = r.parts; keeps = r.keeps; said = record { builder = r.said.builder; eu = r.said.eu; nlba = r.said.nlba }; kept = r.kept; from = r.from; uncut = r.uncut }
 
 spans_there : (whole gave : Bool) (b : Bounds) (g : Gathered) → (past_point whole gave b g).behind.spans ≡ cond whole (spans_of g) b.behind.spans
 spans_there true gave b g = refl
@@ -49,7 +49,7 @@ reading_quietly spans old new x pair next fits q r =
 -- in the comment in front of a body nothing is gathered
 fresh_reads : (lines macros head limit count : ℕ) → IsReading lines macros part.Comment (behind_headers head).behind.spans (nothing_gathered limit count)
 unfolding text.said_of
-fresh_reads lines macros head limit count = record { parts = in_text []; keeps = refl; said = record { builder = refl; eu = refl; nlba = refl }; kept = refl; from = refl }
+fresh_reads lines macros head limit count = record { parts = in_text []; keeps = refl; said = record { builder = refl; eu = refl; nlba = refl }; kept = refl; from = refl; uncut = refl }
 
 pub comment_reads : (lines macros head limit count : ℕ) (p : BodyPart) (b : Bounds) (g : Gathered) → p ≡ part.Comment → b ≡ behind_headers head → g ≡ nothing_gathered limit count → IsReading lines macros p b.behind.spans g
 comment_reads lines macros head limit count p b g is bounds nothing =

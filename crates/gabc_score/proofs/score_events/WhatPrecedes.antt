@@ -1,5 +1,5 @@
 -- What was gathered behind the syllables given stays what these tell, with each event more.
-use Rattle.std.proofs.Common.{◌≡◌, ℕ, ◌+◌, ◌-◌, ◌≤◌, ◌<◌, ◌==◌, ◌&&◌, ◌||◌, ◌⊎◌, inl, inr, min, not, nat_le, nat_lt, Bool, true, false, cond, List, [], ◌∷◌, ◌++◌, map, length, take, drop, encode_utf8, Option, Some, None, refl, sym, ap, subst, ◌∙◌, arith, append-nil, length-append, length-drop, length-take}
+use Rattle.std.proofs.Common.{◌≡◌, ℕ, suc, ◌+◌, ◌-◌, ◌≤◌, ◌<◌, ◌==◌, ◌&&◌, ◌||◌, ◌⊎◌, inl, inr, min, not, nat_le, nat_lt, Bool, true, false, cond, List, [], ◌∷◌, ◌++◌, map, length, take, drop, encode_utf8, Option, Some, None, refl, sym, ap, subst, ◌∙◌, arith, append-nil, length-append, length-drop, length-take}
 use Rattle.std.specs.Prelude.{is_some}
 use Rattle.std.specs.List.{All}
 use Rattle.std.proofs.lemmas.Bool.Decides.{nat_tests}
@@ -424,3 +424,38 @@ given_are fs ss = found_syllables fs (map (λ s. Syllable s) ss) ∙ ap syllable
 -- in the body an input goes past the syllables that are given at it
 pub past_in_body : (part : ScorePart) (x : HeadEvent) (fs : List Finding) (ss : List PlacedSyllable) (p q : Preceding) → part ≡ score_part.Body → q ≡ with_placed p ss → q ≡ preceding_past part x (outputs_of fs ss) p
 past_in_body part x fs ss p q body e = subst (λ (k : ScorePart). q ≡ preceding_past k x (outputs_of fs ss) p) (sym body) (e ∙ ap (with_placed p) (sym (given_are fs ss)))
+
+-- ---- whether one was given
+
+each_some : (p : Preceding) (ms : List UnplacedSyllable) → 1 ≤ p.syllables → 1 ≤ (with_each p ms).syllables
+each_some p [] h = h
+each_some p (m ∷ ms) h = each_some (with_one p m) ms (omega (arith, h))
+
+-- one was exactly if one stands before the syllable that is held
+pub lent_past : (before passed : Preceding) (has_lent gave : Bool) (made : List UnplacedSyllable) → has_lent ≡ nat_lt 0 before.syllables → passed ≡ with_placed before (take (length made - 1) (placed_behind has_lent made))
+    → gave ≡ nat_lt 1 (length made) → (has_lent || gave) ≡ nat_lt 0 passed.syllables
+lent_past before passed has_lent gave [] l p g = rw (g, p) (or_none has_lent ∙ l)
+  where
+    or_none : (b : Bool) → (b || false) ≡ b
+    or_none true = refl
+    or_none false = refl
+lent_past before passed has_lent gave (m ∷ []) l p g = rw (g, p) (or_none has_lent ∙ l)
+  where
+    or_none : (b : Bool) → (b || false) ≡ b
+    or_none true = refl
+    or_none false = refl
+lent_past before passed has_lent gave (m ∷ n ∷ made) l p g =
+    ap (λ b. has_lent || b) (g ∙ more) ∙ or_some has_lent ∙ sym (ap (λ (k : Preceding). nat_lt 0 k.syllables) p ∙ ap (λ k. nat_lt 0 (with_placed before (take k (placed_behind has_lent (m ∷ n ∷ made)))).syllables) count ∙ some)
+  where
+    or_some : (b : Bool) → (b || true) ≡ true
+    or_some true = refl
+    or_some false = refl
+
+    more : nat_lt 1 (length (m ∷ n ∷ made)) ≡ true
+    more = grind (arith, nat_tests)
+
+    count : length (m ∷ n ∷ made) - 1 ≡ suc (length made)
+    count = omega arith
+
+    some : nat_lt 0 (with_placed before (take (suc (length made)) (placed_behind has_lent (m ∷ n ∷ made)))).syllables ≡ true
+    some = let h = each_some (with_one before m) (map (λ (s : PlacedSyllable). s.made) (take (length made) (placed_behind true (n ∷ made)))) (omega arith) in grind (arith, nat_tests, h)

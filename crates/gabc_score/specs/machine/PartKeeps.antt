@@ -1,6 +1,6 @@
 -- The kept text of the syllable that is read is cut into its parts: a part of the body keeps the last of them, and what was gathered is what
 -- they say.
-use Rattle.std.specs.Prelude.{◌≡◌, ◌≢◌, ◌<◌, ◌^◌, ℕ, zero, suc, nat_lt, List, [], ◌∷◌, ◌++◌, map, length, Bool, true, false, cond, encode_utf8_all}
+use Rattle.std.specs.Prelude.{◌≡◌, ◌≢◌, ◌<◌, ◌^◌, ℕ, zero, suc, nat_lt, List, [], ◌∷◌, ◌++◌, map, length, Bool, true, false, cond, None, encode_utf8_all}
 use Rattle.std.specs.List.{flat_map}
 use Rattle.gabc_places.specs.declared.place.Char.{Char}
 use Rattle.gabc_patterns.specs.LongestItems.{IsSnippet}
@@ -98,7 +98,7 @@ pub record IsEnded {S : Type 0} (Keeps : S → List ℕ → Type 0) (IsWhole : L
   pub whole : IsWhole s
 
 abbrev pub IsEndedOn : ℕ → ℕ → ℕ → List ℕ → Type 0
-IsEndedOn lines macros zero s = IsEnded (notes.Keeps (nat_lt 0 lines) macros) (IsSnippet gabc) s
+IsEndedOn lines macros zero s = (nat_lt 0 lines ≡ true) × IsEnded (notes.Keeps (nat_lt 0 lines) macros) (IsSnippet gabc) s
 IsEndedOn lines macros (suc line) s = IsEnded nabc.Keeps (IsSnippet nabc) s
 
 abbrev pub AreEnded : ℕ → ℕ → ℕ → List (List ℕ) → Type 0
@@ -143,6 +143,7 @@ pub record IsReading (lines macros : ℕ) (part : BodyPart) (spans : Spans) (g :
   pub said : ReadAlike g (with_all (begun spans) (said_by lines parts))
   pub kept : g.builder.kept ≡ encode_utf8_all (joined parts)
   pub from : g.builder.from ≡ length (encode_utf8_all (text_before parts))
+  pub uncut : g.cut ≡ None
 
 -- which spans are open before the syllable that is read, where h was gathered behind g: another one is read where one was made
 abbrev pub spans_past : Spans → Gathered → Gathered → Spans

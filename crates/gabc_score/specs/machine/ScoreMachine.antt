@@ -1,5 +1,5 @@
 -- What a machine over a score shows, and what holds of it between two calls.
-use Rattle.std.specs.Prelude.{◌≡◌, ℕ, ◌≤◌, false, List, [], ◌∷◌, length, None}
+use Rattle.std.specs.Prelude.{◌≡◌, ℕ, ◌≤◌, nat_lt, false, List, [], ◌∷◌, length, None}
 use Rattle.std.specs.List.{All}
 use Rattle.gabc_places.specs.declared.place.Char.{Char}
 use Rattle.gabc_headers.specs.declared.head_event.HeadEvent.{HeadEvent}
@@ -54,6 +54,7 @@ pub record IsInBody (m : ScoreMachine) : Type 0 where
   pub kept : length m.pair.gathered.builder.kept ≤ m.limits.syllable
   pub preceded : IsPreceded m.bounds.before m.pair.gathered
   pub behind : m.bounds.behind ≡ with_each m.bounds.before m.pair.gathered.made
+  pub lent : m.has_lent ≡ nat_lt 0 m.bounds.before.syllables
   pub reading : IsReading m.body.nabc_lines m.body.macros m.body.part m.bounds.behind.spans m.pair.gathered
 
 -- in the body, where nothing is lent, no limit is passed and one whole syllable is held at most
