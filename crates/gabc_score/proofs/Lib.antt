@@ -1,6 +1,7 @@
 pub mod building
 pub mod holding
 pub mod order
+pub mod resuming
 pub mod score_events
 pub mod snippets_of_body
 pub mod stopped_scores

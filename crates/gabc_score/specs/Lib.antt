@@ -5,6 +5,7 @@ pub mod Body
 pub mod Canonical
 pub mod Events
 pub mod FoundInParts
+pub mod HeldAside
 pub mod Holding
 pub mod Marks
 pub mod NoteBeforeClef

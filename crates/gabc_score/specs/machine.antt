@@ -1,6 +1,7 @@
 pub mod BodyBuilder
 pub mod Collected
 pub mod Gatherer
+pub mod HeldAside
 pub mod PartCounts
 pub mod PartKeeps
 pub mod PartPushes

@@ -1,0 +1,44 @@
+-- What a stage gives, but for the syllable that it holds: the same with one syllable in the place of another.
+use Rattle.std.specs.Prelude.{◌≡◌, ◌⊎◌, ◌||◌, List, [], ◌∷◌, Bool, Option, Some, None}
+use Rattle.gabc_score.specs.Before.{sounds}
+use Rattle.gabc_score.specs.Canonical.{canonical}
+use Rattle.gabc_score.specs.ScoreEvents.{ScoreOutput, Found, Stop, Syllable, End}
+use Rattle.gabc_score.specs.Syllable.{UnplacedSyllable}
+
+-- they begin a word alike, have one canonical text, leave the same spans open, and sound alike; `first` tells whether no syllable stands before them
+pub record SaysTheSame (first : Bool) (m n : UnplacedSyllable) : Type 0 where
+  pub starts : (first || m.text.word_start) ≡ (first || n.text.word_start)
+  pub canonical : canonical (first || m.text.word_start) m ≡ canonical (first || n.text.word_start) n
+  pub eu : m.eu ≡ n.eu
+  pub nlba : m.nlba ≡ n.nlba
+  pub sounds : sounds m ≡ sounds n
+
+module _ (m n : UnplacedSyllable) where
+  -- the same, or the one syllable in the place of the other
+  abbrev pub IsSameOutput : ScoreOutput → ScoreOutput → Type 0
+  IsSameOutput (Found f) (Found g) = f ≡ g
+  IsSameOutput (Stop f) (Stop g) = f ≡ g
+  IsSameOutput (Syllable s) (Syllable t) = (s ≡ t) ⊎ ((s.made ≡ m) × ((t.made ≡ n) × (s.position ≡ t.position)))
+  IsSameOutput End End = Unit {0}
+  IsSameOutput _ _ = ⊥
+
+  abbrev pub AreSameOutputs : List ScoreOutput → List ScoreOutput → Type 0
+  AreSameOutputs [] [] = Unit {0}
+  AreSameOutputs (o ∷ os) (p ∷ ps) = IsSameOutput o p × AreSameOutputs os ps
+  AreSameOutputs _ _ = ⊥
+
+  abbrev pub AreSameLists : List (List ScoreOutput) → List (List ScoreOutput) → Type 0
+  AreSameLists [] [] = Unit {0}
+  AreSameLists (os ∷ lists) (ps ∷ others) = AreSameOutputs os ps × AreSameLists lists others
+  AreSameLists _ _ = ⊥
+
+-- of a syllable that is held or none: none is, or they say the same
+abbrev pub HoldTheSame : Bool → Option UnplacedSyllable → Option UnplacedSyllable → Type 0
+HoldTheSame first None None = Unit {0}
+HoldTheSame first (Some m) (Some n) = SaysTheSame first m n
+HoldTheSame first _ _ = ⊥
+
+-- the same is given, but that the syllable held by the one may stand in the place of that held by the other
+abbrev pub GiveTheSame : Option UnplacedSyllable → Option UnplacedSyllable → List (List ScoreOutput) → List (List ScoreOutput) → Type 0
+GiveTheSame (Some m) (Some n) lists others = AreSameLists m n lists others
+GiveTheSame _ _ lists others = lists ≡ others
