@@ -174,12 +174,16 @@ pub fn an_opener_is_told_inside_raw(stage: &NoteStage)
         comment_of stage.now ≡ true → in_raw k ≡ false }
 {}
 
-/// A kept text gives the stage back. A fresh stage keeps it again whole, and behind it, each character placed at the bracket that is open,
-/// and a `%` where a comment is open, it emits the same of whatever follows.
+/// Of a text that a stage keeps, each character is kept again behind those before it, and none of them ends the snippet.
+pub fn a_kept_character_is_kept_again()
+    ensures { (split : Bool) (macros : ℕ) (s : NoteStage) (k more : List ℕ) (c : ℕ) →
+        Keeps split macros s (k ++ c ∷ more) → IsKeptAgain split k c }
+{}
+
+/// A kept text gives the stage back. Behind it, each character placed at the bracket that is open, and a `%` where a comment is open, a fresh
+/// stage emits the same of whatever follows.
 pub fn a_kept_text_gives_the_stage_back(stage: &NoteStage)
-    ensures whole { (split : Bool) (macros : ℕ) (k more : List ℕ) (c : ℕ) →
-        Keeps split macros stage.now (k ++ c ∷ more) → IsKeptAgain split k c }
-    ensures back { (split : Bool) (macros : ℕ) (k : List ℕ) (at : Place) →
+    ensures { (split : Bool) (macros : ℕ) (k : List ℕ) (at : Place) →
         Keeps split macros stage.now k → OpensAt at stage.now →
         (xs : List Char) → let down = set_down at k (comment_of stage.now) in
         drop (length down) (note_events split macros (down ++ xs)) ≡ events_left stage.now xs }

@@ -1,1 +1,2 @@
+pub mod PartsAreOne
 pub mod SameButHeld

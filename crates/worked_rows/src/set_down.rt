@@ -215,6 +215,7 @@ fn laws_of_kept_texts_are_called(rt: HostRuntime) {
     gabc_notes::laws::stages_that_tell_the_same_agree(&one, &one);
     gabc_notes::laws::stages_behind_one_text_agree(&one, &other);
     gabc_notes::laws::an_opener_is_told_inside_raw(&one);
+    gabc_notes::laws::a_kept_character_is_kept_again();
     gabc_notes::laws::a_kept_text_gives_the_stage_back(&one);
     assert!(rt; one.opener().is_none() && !other.in_comment());
     let one = NabcStage::new();
