@@ -1,2 +1,3 @@
 pub mod PartsAreOne
 pub mod SameButHeld
+pub mod StagesAgree

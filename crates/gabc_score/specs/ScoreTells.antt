@@ -1,5 +1,6 @@
 -- What a stage over a score tells of where it stands in the body. Before the body and behind the last event it tells nothing.
-use Rattle.std.specs.Prelude.{ℕ, List, [], ◌∷◌, Bool, true, Option, Some, None}
+use Rattle.std.specs.Prelude.{◌≡◌, ℕ, List, [], ◌∷◌, Bool, true, false, Option, Some, None}
+use Rattle.gabc_places.specs.declared.place.Place.{Place}
 use Rattle.gabc_text.specs.StageTells as text
 use Rattle.gabc_notes.specs.StageTells as notes
 use Rattle.gabc_nabc.specs.witness.Keeps as nabc
@@ -62,3 +63,29 @@ is_in_comment part.Comment = true
 is_in_comment (part.Text stage) = text.is_in_comment stage
 is_in_comment (part.Notes opened stage) = notes.comment_of stage
 is_in_comment (part.Nabc line opened stage) = nabc.comment_of stage
+
+-- the comment behind the `%%` is open, in front of the first text
+abbrev pub is_in_front : BodyPart → Bool
+is_in_front part.Comment = true
+is_in_front part = false
+
+-- the place that a text has counted for the next character
+abbrev pub next_in : BodyPart → Option Place
+next_in (part.Text stage) = Some (text.next_of stage)
+next_in part = None
+
+-- the place of the next character in the body
+abbrev pub next_of : ScoreStageState → Option Place
+next_of s = in_body s.part s.held.next
+
+-- a text has counted this place for the next character
+abbrev pub StandsAt : Place → BodyPart → Type 0
+StandsAt place (part.Text stage) = text.next_of stage ≡ place
+StandsAt place part = Unit {0}
+
+-- two parts of bodies tell the same, beside their kept texts
+pub record TellTheSame (a b : BodyPart) : Type 0 where
+  pub openers : openers_of a ≡ openers_of b
+  pub comment : is_in_comment a ≡ is_in_comment b
+  pub front : is_in_front a ≡ is_in_front b
+  pub next : next_in a ≡ next_in b

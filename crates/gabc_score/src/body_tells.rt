@@ -1,7 +1,10 @@
 //! What a stage over a body tells of the part in which it stands.
 
-ghost use Rattle.std.specs.Prelude.{◌≡◌};
-ghost use Rattle.gabc_score.specs.ScoreTells.{is_in_comment, openers_of};
+ghost use Rattle.std.specs.Prelude.{◌≡◌, List};
+ghost use Rattle.gabc_places.specs.declared.place.Char.{Char};
+ghost use Rattle.gabc_score.specs.ScoreTells.{is_in_comment, openers_of, TellTheSame};
+ghost use Rattle.gabc_score.specs.machine.PartKeeps.{KeepTheSame};
+ghost use Rattle.gabc_score.specs.witness.BodyStage.{running_events_left};
 
 use crate::body_stage::{BodyPart, BodyStage};
 use gabc_places::Place;
@@ -41,6 +44,35 @@ impl BodyStage {
             BodyPart::Text(stage) => stage.in_comment(),
             BodyPart::Notes { stage, .. } => stage.in_comment(),
             BodyPart::Nabc { stage, .. } => stage.in_comment(),
+        }
+    }
+
+    /// Does nothing but call laws. Its contract is one: two stages that keep the same parts and tell the same emit the same of whatever follows.
+    pub(crate) fn agrees(&self, other: &BodyStage)
+        requires lines { self.now.nabc_lines ≡ other.now.nabc_lines }
+        requires macros { self.now.macros ≡ other.now.macros }
+        requires keep { KeepTheSame self.now.nabc_lines self.now.macros self.now.part other.now.part }
+        requires tell { TellTheSame self.now.part other.now.part }
+        ensures { (xs : List Char) → running_events_left self.now xs
+            ≡ running_events_left other.now xs }
+    {
+        match &self.part {
+            BodyPart::Comment => {}
+            BodyPart::Text(one) => {
+                if let BodyPart::Text(other) = &other.part {
+                    gabc_text::laws::stages_behind_one_text_agree(one, other);
+                }
+            }
+            BodyPart::Notes { stage: one, .. } => {
+                if let BodyPart::Notes { stage: other, .. } = &other.part {
+                    gabc_notes::laws::stages_behind_one_text_agree(one, other);
+                }
+            }
+            BodyPart::Nabc { stage: one, .. } => {
+                if let BodyPart::Nabc { stage: other, .. } = &other.part {
+                    gabc_nabc::laws::stages_behind_one_text_agree(one, other);
+                }
+            }
         }
     }
 
