@@ -1,3 +1,4 @@
 pub mod PartsAreOne
 pub mod SameButHeld
+pub mod ScoresAgree
 pub mod StagesAgree
