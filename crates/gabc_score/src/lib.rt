@@ -14,6 +14,7 @@
 //! ```
 #![tactic(auto)]
 
+mod agreeing;
 mod before;
 mod body_result;
 mod body_stage;

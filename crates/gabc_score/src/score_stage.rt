@@ -29,7 +29,7 @@ use std::marker::Model;
 /// reading (GregorioRef, "Syllable Text Syntax"). It asks for no memory once made.
 #[derive(Drop)]
 pub struct ScoreStage {
-    machine: ScoreMachine,
+    pub(crate) machine: ScoreMachine,
 }
 
 impl Model for ScoreStage {

@@ -1,6 +1,6 @@
 //! Laws of a stage over a score. Each function's contract is a law. Its body drives a stage, gives it one input, calls other laws, or does nothing.
 
-ghost use Rattle.std.specs.Prelude.{◌≡◌, ◌+◌, ◌*◌, ◌<◌, ◌≤◌, ◌^◌, ℕ, List, [], ◌∷◌, None, false, length, map, encode_utf8_all, IfOk, OnOk};
+ghost use Rattle.std.specs.Prelude.{◌≡◌, ◌==◌, ◌+◌, ◌*◌, ◌<◌, ◌≤◌, ◌^◌, ℕ, List, [], ◌∷◌, None, true, false, length, map, is_some, encode_utf8_all, IfOk, OnOk};
 ghost use Rattle.gabc_headers.specs.declared.head_event.HeadEvent.{HeadEvent};
 ghost use Rattle.gabc_headers.specs.declared.head_event.HeadEvent.TheVariants.{Stop};
 ghost use Rattle.gabc_places.specs.declared.code.Fault.{Fault};
@@ -11,6 +11,8 @@ ghost use Rattle.gabc_score.specs.witness.BodyStage.{texts_by_stage};
 ghost use Rattle.gabc_score.specs.declared.ending.InputEnding.{InputEnding};
 ghost use Rattle.gabc_score.specs.Events.{texts_by_definition};
 ghost use Rattle.gabc_score.specs.ScoreEvents.{HasNoEnd, ScoreOutput, fault_in, findings_in, has_end, head_events, outputs_of_text, score_outputs, syllables_in};
+ghost use Rattle.gabc_score.specs.HeldAside.{HoldTheSame, GiveTheSame};
+ghost use Rattle.gabc_score.specs.ScoreTells.{before_of, held_of, reading_of, openers_of, is_in_comment, is_in_front, StandsAt};
 ghost use Rattle.gabc_score.specs.ScoreStage.{AreCountsBelow, GivesAt, events_of};
 ghost use Rattle.gabc_score.specs.witness.ScoreStage.{ScoreStageState, left_of};
 
@@ -96,4 +98,24 @@ pub fn a_fresh_stage_reads_texts(alloc: Global, limits: Limits) -> Result<ScoreS
 {
     texts_are_read_in_full();
     ScoreStage::with_limits(alloc, limits)
+}
+
+/// Two stages in the body that run under the same limits and tell the same give the same of whatever follows. Only the syllable that the one holds
+/// stands where the other gives its own, which says the same. The next character stands where a text that is read has counted it.
+pub fn stages_that_tell_the_same_agree(one: &ScoreStage, other: &ScoreStage)
+    requires runs { is_some (before_of one.now) ≡ true }
+    requires limits { one.now.limits ≡ other.now.limits }
+    requires before { before_of one.now ≡ before_of other.now }
+    requires held { HoldTheSame (one.now.before.syllables == 0) (held_of one.now) (held_of other.now) }
+    requires reading { reading_of one.now ≡ reading_of other.now }
+    requires openers { openers_of one.now.body.part ≡ openers_of other.now.body.part }
+    requires comment { is_in_comment one.now.body.part ≡ is_in_comment other.now.body.part }
+    requires front { is_in_front one.now.body.part ≡ is_in_front other.now.body.part }
+    requires next { one.now.held.next ≡ other.now.held.next }
+    requires stands { StandsAt one.now.held.next one.now.body.part }
+    requires other_stands { StandsAt other.now.held.next other.now.body.part }
+    ensures { (xs : List HeadEvent) → GiveTheSame (held_of one.now) (held_of other.now)
+        (left_of one.now xs) (left_of other.now xs) }
+{
+    one.agrees(other);
 }

@@ -18,12 +18,13 @@ use Rattle.gabc_score.specs.declared.before.Preceding.{Preceding}
 use Rattle.gabc_score.specs.declared.before.Spans.{Spans}
 use Rattle.gabc_score.specs.declared.events.BodyEvent.{BodyEvent}
 use Rattle.gabc_score.specs.declared.score_machine.ScoreMachine.{ScoreMachine}
+use Rattle.gabc_score.specs.declared.score_machine.ScorePart.{ScorePart}
 use Rattle.gabc_score.specs.declared.score_machine.ScorePart.TheVariants as score_part
 use Rattle.gabc_score.specs.Before.{most, sounds_in, with_each}
 use Rattle.gabc_score.specs.Canonical.{canonical}
 use Rattle.gabc_score.specs.HeldAside.{SaysTheSame, IsSameOutput, AreSameOutputs, AreSameLists, HoldTheSame, GiveTheSame}
 use Rattle.gabc_score.specs.ScoreEvents.{ScoreOutput, Found, Stop, Syllable, End, characters_in}
-use Rattle.gabc_score.specs.ScoreTells.{before_with, held_in_body}
+use Rattle.gabc_score.specs.ScoreTells.{before_with, held_in_body, reading_in_body}
 use Rattle.gabc_score.specs.Syllable.{UnplacedSyllable, PlacedSyllable}
 use Rattle.gabc_score.specs.machine.BodyBuilder.{with_all}
 use Rattle.gabc_score.specs.machine.Gatherer.{Gathered}
@@ -136,6 +137,18 @@ each_same p ms ns h = by h.held
     by : ((ms ≡ []) × (ns ≡ [])) ⊎ ((m : UnplacedSyllable) × ((n : UnplacedSyllable) × ((ms ≡ m ∷ []) × ((ns ≡ n ∷ []) × SaysTheSame (p.syllables == 0) m n)))) → with_each p ms ≡ with_each p ns
     by (inl e) = ap (with_each p) (e.0 ∙ sym e.1)
     by (inr e) = ap (with_each p) e.1.1.0 ∙ says_behind p e.0 e.1.0 e.1.1.1.1 ∙ ap (with_each p) (sym e.1.1.1.0)
+
+-- ---- what is told in the body
+
+pub reads_in_body : (p : ScorePart) (kept : List ℕ) → p ≡ score_part.Body → reading_in_body p kept ≡ kept
+reads_in_body p kept e = ap (λ (k : ScorePart). reading_in_body k kept) e
+
+pub held_in_bodies : (first : Bool) (p q : ScorePart) (ms ns : List UnplacedSyllable) → p ≡ score_part.Body → q ≡ score_part.Body → length ms ≤ 1 → length ns ≤ 1
+    → HoldTheSame first (held_in_body p ms) (held_in_body q ns) → HeldAlike first ms ns
+held_in_bodies first p q ms ns e f a b h =
+    held_alike first ms ns a b
+    (subst (λ (k : ScorePart). HoldTheSame first (held_in_body score_part.Body ms) (held_in_body k ns)) f
+    (subst (λ (k : ScorePart). HoldTheSame first (held_in_body k ms) (held_in_body q ns)) e h))
 
 -- ---- two machines in the body
 
