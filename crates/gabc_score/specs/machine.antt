@@ -1,5 +1,6 @@
 pub mod BodyBuilder
 pub mod Collected
+pub mod Fronts
 pub mod Gatherer
 pub mod HeldAside
 pub mod PartCounts

@@ -44,11 +44,9 @@ impl Bounds {
         if gave {
             self.before = self.behind;
         }
-        self.behind = Preceding {
-            syllables: self.before.syllables.saturating_add(1),
-            canonical: pair.canonical(),
-            spans: pair.spans(),
-            sounded: pair.first_kind().is_some(),
-        };
+        self.behind.syllables = self.before.syllables.saturating_add(1);
+        self.behind.canonical = pair.canonical();
+        self.behind.spans = pair.spans();
+        self.behind.sounded = pair.first_kind().is_some();
     }
 }

@@ -2,6 +2,7 @@
 
 ghost use Rattle.std.specs.Prelude.{◌≡◌, ◌≢◌, ◌+◌, ◌<◌, ◌≤◌, ◌^◌, List, [], ◌∷◌, ◌++◌, true, false, length, take, None, Some, IfOk, MatchOption};
 ghost use Rattle.std.specs.List.{All};
+ghost use Rattle.gabc_places.specs.Place.{saturating_next_place};
 ghost use Rattle.gabc_places.specs.Skip.{IsPrintable};
 ghost use Rattle.gabc_headers.specs.declared.head_event.HeadEvent.{HeadEvent as HeadItem};
 ghost use Rattle.gabc_score.specs.declared.body_stage.BodyPart.{BodyPart};
@@ -14,6 +15,7 @@ ghost use Rattle.gabc_score.specs.ScoreTells.{before_with, held_of, reading_of};
 ghost use Rattle.gabc_score.specs.Syllable.{unplaced_of};
 ghost use Rattle.gabc_score.specs.witness.ScoreStage.{left_of};
 ghost use Rattle.gabc_score.specs.machine.ScoreStage.{placed_behind, begun_score, body_left};
+ghost use Rattle.gabc_score.specs.machine.Fronts.{shown_before};
 ghost use Rattle.gabc_score.specs.machine.ScoreMachine.{shown, IsInBody, IsBeforeBody, IsScore, IsFreed, PassesQuietly};
 ghost use Rattle.gabc_score.specs.machine.SlotPair.{is_made};
 
@@ -238,23 +240,22 @@ impl ScoreMachine {
         }
     }
 
-    /// Takes a character at which nothing is given, and returns whether it did. Where it did not, nothing has changed.
+    /// Takes a character at which nothing is given, and returns whether it did. Where it did not, nothing has changed. The place behind it is left
+    /// as it was, for `take_printable`.
     #[inline(always)]
     fn take_quietly(&mut self, x: Char) -> bool
         requires ascii { x.c < 128 }
         requires freed { IsFreed self.old }
-        ensures taken { result ≡ true → PassesQuietly (shown self.old) x (shown self.new) }
+        ensures taken { result ≡ true → (at : Place) → PassesQuietly (shown_before self.old at) x
+            (shown_before self.new (saturating_next_place x.place x.c)) }
         ensures same { result ≡ false → shown self.new ≡ shown self.old }
+        ensures next { self.new.next ≡ self.old.next }
         ensures freed { IsFreed self.new }
     {
         if !self.pair.has_room() {
             return false;
         }
-        let taken = self.body.take_quietly(x, &mut self.pair);
-        if taken {
-            self.next = x.place.saturating_after(x.c);
-        }
-        taken
+        self.body.take_quietly(x, &mut self.pair)
     }
 
     /// Takes printable characters from the front of `bytes`, as `take_front` does, where nothing is lent and no limit is passed.
@@ -277,6 +278,12 @@ impl ScoreMachine {
                 break;
             }
             count += 1;
+        }
+        if count > 0 {
+            self.next = Place {
+                line: at.line,
+                column: at.column + count as u64,
+            };
         }
         count
     }

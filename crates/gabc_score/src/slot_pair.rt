@@ -261,6 +261,7 @@ impl SlotPair {
         }
     }
 
+    #[inline(always)]
     fn end_snippet(&mut self, line: u8, how: NoteEnd, count: usize)
         requires reads { self.old.used ≡ SlotUse.Filling }
         requires kept { FitsKept self.old.gathered.limit self.old.gathered.builder 4 }

@@ -41,18 +41,18 @@ impl Model for ScoreWriter {
 
 /// Writes what `event` of `score` brings. A stop or the end ends the run.
 #[inline(never)]
-fn write_event(writer: &mut RunWriter, score: &ScoreStage, event: ScoreEvent)
-    requires { HasRoomFor score.now.limits writer.old (output_of_event score.now event ∷ []) }
-    ensures writes { writer.new ≡ past_output writer.old (output_of_event score.now event) }
+fn write_event(writer: &mut RunWriter, score: &ScoreStage, event: &ScoreEvent)
+    requires { HasRoomFor score.now.limits writer.old (output_of_event score.now event.now ∷ []) }
+    ensures writes { writer.new ≡ past_output writer.old (output_of_event score.now event.now) }
     ensures room { (lines texts : ℕ) (outputs : List ScoreOutput) →
-        IsInRoom score.now.limits lines texts writer.old (output_of_event score.now event ∷ outputs) →
+        IsInRoom score.now.limits lines texts writer.old (output_of_event score.now event.now ∷ outputs) →
         IsInRoom score.now.limits lines texts writer.new outputs }
     ensures steady { IsSteadyWriter writer.old writer.new }
 {
     match event {
-        ScoreEvent::Found(finding) => writer.found(finding),
-        ScoreEvent::Stop(fault) => writer.fault(fault),
-        ScoreEvent::Syllable(lent) => writer.syllable(score.syllable(lent)),
+        ScoreEvent::Found(finding) => writer.found(*finding),
+        ScoreEvent::Stop(fault) => writer.fault(*fault),
+        ScoreEvent::Syllable(lent) => writer.syllable(score.syllable(*lent)),
         ScoreEvent::End => writer.end(),
     }
 }
@@ -68,7 +68,7 @@ fn write_events(writer: &mut RunWriter, score: &ScoreStage, events: &[ScoreEvent
     ensures steady { IsSteadyWriter writer.old writer.new }
 {
     for event in events {
-        write_event(writer, score, *event);
+        write_event(writer, score, event);
     }
 }
 

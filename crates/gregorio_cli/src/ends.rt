@@ -31,6 +31,7 @@ impl InputStream {
 
 impl Read for InputStream {
     /// Reads, and again where a signal interrupts it.
+    #[inline(never)]
     fn read(&mut self, buf: &mut [u8]) -> io::Result<usize> {
         for _ in 0..u64::MAX {
             match self.read_once(buf) {
@@ -65,6 +66,7 @@ impl OutputStream {
 
 impl Write for OutputStream {
     /// Writes, and again where a signal interrupts it.
+    #[inline(never)]
     fn write(&mut self, buf: &[u8]) -> io::Result<usize> {
         for _ in 0..u64::MAX {
             match self.write_once(buf) {
