@@ -1,4 +1,4 @@
-use Rattle.std.proofs.Common.{rules, ◌≡◌, ◌⊎◌, inl, inr, ◌||◌, Bool, true, false, ◌-◌, ◌++◌, ◌∷◌, [], List, None, length, nat_lt, not, take, refl, sym, ap, subst, ◌∙◌, append-nil, arith}
+use Rattle.std.proofs.Common.{rules, ◌≡◌, ◌-◌, ◌++◌, ◌∷◌, [], List, None, length, nat_lt, not, take, refl, sym, ap, subst, ◌∙◌, append-nil, arith}
 use Rattle.std.specs.List.{All}
 use Rattle.std.proofs.lemmas.List.Elements.{All-drop, All-take}
 use Rattle.gabc_headers.specs.declared.head_event.HeadEvent.TheVariants as head_event
@@ -77,14 +77,6 @@ returns-after-self-clause-step c =
       emitted = c.give_point-gave.ensures.emitted;
     }
 
-one_or : (a b r : Bool) → (r ≡ true → (a ≡ true) ⊎ ((a ≡ false) × (b ≡ true))) → (r ≡ false → (a ≡ false) × (b ≡ false)) → r ≡ (a || b)
-one_or a b true e f = by (e refl)
-  where
-    by : (a ≡ true) ⊎ ((a ≡ false) × (b ≡ true)) → true ≡ (a || b)
-    by (inl g) = ap (λ (x : Bool). x || b) (sym g)
-    by (inr g) = ap (λ (x : Bool). false || x) (sym g.1) ∙ ap (λ (x : Bool). x || b) (sym g.0)
-one_or a b false e f = ap (λ (x : Bool). false || x) (sym (f refl).1) ∙ ap (λ (x : Bool). x || b) (sym (f refl).0)
-
 pub returns-after-self-clause-rests : goal.returns-after-self-clause-rests
 returns-after-self-clause-rests c =
     let b = c.args.self.now.bounds in
@@ -126,7 +118,7 @@ returns-after-self-clause-rests c =
           ∙ turns.behind
           ∙ ap (λ (k : Bounds). with_each k.before (with_held g).made) (sym passed)
           ∙ ap (λ (k : Gathered). with_each c.pass.new.self.before k.made) (sym t.gathered);
-      lent = one_or c.args.self.now.has_lent c.give_point-gave.result c.if-self.self c.if-self.self-true c.if-self.self-false ∙ lent_past b.before c.pass.new.self.before c.args.self.now.has_lent c.give_point-gave.result g.made old.lent (ap (λ (k : Bounds). k.before) passed ∙ turns.given) c.give_point-gave.ensures.gave;
+      lent = (let e = lent_past b.before c.pass.new.self.before c.args.self.now.has_lent c.give_point-gave.result g.made old.lent (ap (λ (k : Bounds). k.before) passed ∙ turns.given) c.give_point-gave.ensures.gave in search (rules, e));
       reading = reading_past c.args.self.now.body.nabc_lines c.args.self.now.body.macros c.take.new.self.nabc_lines c.take.new.self.macros c.args.self.now.body.part c.take.new.self.part b c.pass.new.self was g c.give_point-gave.new.pair.gathered now
           c.is_whole-is_whole.result c.give_point-gave.result (let few = old.kept in let most = c.args.self.now.limits.in_range.syllable_most in omega (arith, few, most)) is t.gathered
           (c.is_whole-is_whole.ensures.made ∙ ap (λ (ms : List UnplacedSyllable). nat_lt (length ms) (length g.made)) (c.hold.ensures.held ∙ c.free.ensures.held))
