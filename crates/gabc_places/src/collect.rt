@@ -9,7 +9,7 @@ use crate::{Char, Place, Room, Sequence, Stage};
 use std::alloc::{AllocError, Global};
 
 /// Pushes the characters of `text` to `stage`, ends them, and returns all that it emitted, in order. The first character stands at
-/// `at`.
+/// `at`. It fails only for want of memory: the stage then stands behind some of the characters, or behind their end.
 pub fn outputs_of<S: Stage<Input = Char>>(
     alloc: Global,
     stage: &mut S,

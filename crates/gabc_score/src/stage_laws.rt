@@ -1,6 +1,6 @@
 //! Laws of a stage over a score. Each function's contract is a law. Its body drives a stage, gives it one input, calls other laws, or does nothing.
 
-ghost use Rattle.std.specs.Prelude.{◌≡◌, ◌+◌, ◌*◌, ◌<◌, ◌≤◌, ◌^◌, ℕ, List, [], ◌∷◌, None, false, length, map, encode_utf8_all, IfOk, OnOk};
+ghost use Rattle.std.specs.Prelude.{◌≡◌, ◌+◌, ◌*◌, ◌<◌, ◌≤◌, ◌^◌, ℕ, List, [], ◌∷◌, None, false, length, map, encode_utf8_all, IfOk, OnErr, OnOk};
 ghost use Rattle.gabc_headers.specs.declared.head_event.HeadEvent.{HeadEvent};
 ghost use Rattle.gabc_headers.specs.declared.head_event.HeadEvent.TheVariants.{Stop};
 ghost use Rattle.gabc_places.specs.declared.code.Fault.{Fault};
@@ -21,7 +21,7 @@ use gabc_places::{Limits, Room, Stage, drive};
 use std::alloc::{AllocError, Global};
 
 /// A fresh stage over a score, driven over `inputs` of which no count reaches its last value, gives what the definition gives of them,
-/// each syllable as the event that lends it.
+/// each syllable as the event that lends it. For want of memory nothing is given.
 pub fn a_fresh_stage_emits(
     alloc: Global,
     limits: Limits,
@@ -30,9 +30,10 @@ pub fn a_fresh_stage_emits(
 ) -> Result<(), AllocError>
     requires counts { AreCountsBelow inputs.items }
     requires fits { Fits out.old (16 * (length inputs.items + 1)) }
-    ensures { OnOk result (out.new ≡ extended_by out.old (concat_of
+    ensures given { OnOk result (out.new ≡ extended_by out.old (concat_of
         (map (λ (outputs : List ScoreOutput). events_of outputs)
         (score_outputs texts_by_stage limits inputs.items)))) }
+    ensures unchanged { OnErr result (out.new ≡ out.old) }
 {
     let mut stage = ScoreStage::with_limits(alloc, limits)?;
     drive(&mut stage, inputs, out);
