@@ -1,4 +1,6 @@
 pub mod LastTagOpensTheSpan
 pub mod SyllablesAreThoseOfUnits
 mod SyllablesOfUnitsExamples
+pub mod UnitGivesOneSyllable
+mod UnitReadExamples
 pub mod UnitsGiveSyllables

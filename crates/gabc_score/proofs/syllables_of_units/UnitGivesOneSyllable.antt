@@ -1,0 +1,281 @@
+-- A unit gives one syllable, with its last character.
+use Rattle.std.proofs.Common.{◌≡◌, ℕ, suc, ◌+◌, ◌<◌, ◌≤◌, ◌^◌, nat_lt, Bool, true, false, cond, if◌then◌else◌, List, [], ◌∷◌, ◌++◌, map, length, take, refl, sym, ap, subst, ◌∙◌, arith, append_assoc, length-append, take_at, codes, encode_utf8_all}
+use Rattle.std.specs.Prelude.{filter, bytes_eq}
+use Rattle.std.specs.List.{All}
+use Rattle.std.proofs.lemmas.Bool.{lt-ltb}
+use Rattle.std.proofs.lemmas.List.{take-append-le}
+use Rattle.std.proofs.lemmas.List.Elements.{All-nil, All-append}
+use lib.Utf8.{encodes}
+use Rattle.gabc_places.specs.StageLaw.{concat_of}
+use Rattle.gabc_places.specs.declared.code.Finding.{Finding}
+use Rattle.gabc_places.specs.declared.place.Place.{Place}
+use Rattle.gabc_places.specs.declared.place.Char.{Char}
+use Rattle.gabc_text.specs.BuiltText.{with_events, empty_text, text_built_at, found_in}
+use Rattle.gabc_text.specs.declared.view.Piece.{Piece}
+use Rattle.gabc_text.specs.declared.view.PieceKind.{PieceKind}
+use Rattle.gabc_text.specs.declared.view.PieceKind.TheVariants as piece
+use Rattle.gabc_text.specs.Ends.{EndsOnce}
+use Rattle.gabc_text.specs.Events.{codes_of, events_of, events_by_point}
+use Rattle.gabc_text.specs.View.{PieceFacts, kept, findings}
+use Rattle.gabc_text.specs.ViewFacts.{StandsForView, ArePiecesOf, kept_of_piece}
+use Rattle.gabc_text.specs.TextRead.{view_in}
+use Rattle.gabc_notes.specs.ReadAgain.{IsWarning}
+use Rattle.gabc_notes.specs.SnippetRead.{findings_of as notes_found}
+use Rattle.gabc_score.specs.declared.events.BodyEvent.{BodyEvent}
+use Rattle.gabc_score.specs.Body.{events_onto, findings_of}
+use Rattle.gabc_score.specs.Events.{PartAhead, InText, texts_by_definition, text_from, snippet_from, next_line, behind_mark, events_from}
+use Rattle.gabc_score.specs.FoundInParts.{TextWarns, SnippetsWarn, snippet_events}
+use Rattle.gabc_score.specs.Syllable.{UnplacedSyllable, closes, since_close, all_syllables, syllable_by, is_eu, is_nlba, slice, is_mark, is_open_after}
+use Rattle.gabc_score.specs.Units.{Opens, Closes, CutPart, EndedPart, BodyUnit, LastUnit, cut_part, whole, events_through, snippets_with, units_pieces, last_characters, Cuts, events_of_cutting}
+use Rattle.gabc_score.specs.SpansPast.{open_past, eu_past, nlba_past}
+use Rattle.gabc_score.specs.SyllablesOfUnits.{with_ends, snippets_in, characters_in, characters_from, ScoreUnit, score_unit, span_tags, count_within, HoldsUnit}
+use Rattle.gabc_score.specs.UnitRead.{first_events, GivesOneSyllable}
+use Rattle.gabc_score.proofs.texts_of_body.SeamsOfCharacters.{size}
+use Rattle.gabc_score.proofs.holding.SnippetsAreHeld.{bytes_stand}
+use Rattle.gabc_score.proofs.order.FindingsOfParts.{found, found_onto, found_append, joined_append}
+use Rattle.gabc_score.proofs.order.PartsThatWarn.{joined_found, text_some, snippet_some}
+use Rattle.gabc_score.proofs.stopped_scores.PrefixesAreReadAlike.{through_length}
+use Rattle.gabc_score.proofs.stopped_scores.ClosedWithin.{close_of, close_count, count_one, pieces_count, units_within_are}
+use Rattle.gabc_score.proofs.syllables_of_units.LastTagOpensTheSpan.{behind_tags}
+use Rattle.gabc_score.proofs.syllables_of_units.UnitsGiveSyllables.{UnitGives, Continues, through_more, snippets_whole, unit_whole, units_whole, unit_emits}
+use Rattle.gabc_score.proofs.units.BodyHasOneCutting.{cuts_emitted}
+
+-- ---- events
+
+tail_same : (t : BodyEvent) (a b : List BodyEvent) → t ∷ a ≡ t ∷ b → a ≡ b
+tail_same t a b e = cc
+
+-- what was emitted before is known from all
+onto_cancel : (ts a b : List BodyEvent) → events_onto ts a ≡ events_onto ts b → a ≡ b
+onto_cancel [] a b e = e
+onto_cancel (t ∷ ts) a b e = tail_same t a b (onto_cancel ts (t ∷ a) (t ∷ b) e)
+
+-- where no `)` is emitted no syllable is made
+none_made : (ts before : List BodyEvent) → close_count ts ≡ 0 → all_syllables (events_onto ts before) ≡ all_syllables before
+none_made [] before h = refl
+none_made (t ∷ ts) before h =
+    let all : close_count (t ∷ ts) ≡ close_of t + close_count ts = count_one t ts in
+    let here : close_of t ≡ 0 = omega arith in
+    let later : close_count ts ≡ 0 = omega arith in
+    none_made ts (t ∷ before) later ∙ by (closes t) here
+  where
+    by : (b : Bool) → (let n : ℕ = cond b 1 0 in n ≡ 0) → cond b (all_syllables before ++ syllable_by (t ∷ since_close before) (is_eu before) (is_nlba before) ∷ []) (all_syllables before) ≡ all_syllables before
+    by true e = absurd (omega (arith, e))
+    by false e = refl
+
+-- ---- spans
+
+abbrev tags_of : List PieceFacts → List (List ℕ)
+tags_of qs = map (λ (p : PieceFacts). p.text) (filter (λ (p : PieceFacts). is_mark p.kind) qs)
+
+module _ (opening closing whole : List ℕ) where
+  piece_past : (p : Piece) (q : PieceFacts) (was : Bool) → p.kind ≡ q.kind → slice p.span (encodes whole) ≡ encodes (kept_of_piece q)
+      → is_open_after opening closing was p.kind (slice p.span (encodes whole)) ≡ behind_tags opening closing was (tags_of (q ∷ []))
+  piece_past p q was kind spelled =
+      ap (λ (k : PieceKind). is_open_after opening closing was k (slice p.span (encodes whole))) kind
+      ∙ ap (is_open_after opening closing was q.kind) spelled ∙ by q.kind
+    where
+      by : (kind : PieceKind) → (let r = record q { kind = kind } in is_open_after opening closing was kind (encodes (kept_of_piece r)) ≡ behind_tags opening closing was (tags_of (r ∷ [])))
+      by piece.Char = refl
+      by piece.Blank = refl
+      by piece.Raw = refl
+      by piece.Tag = refl
+      by piece.Mark = refl
+
+  tags_past : (was : Bool) (q : PieceFacts) (qs : List PieceFacts) → behind_tags opening closing (behind_tags opening closing was (tags_of (q ∷ []))) (tags_of qs) ≡ behind_tags opening closing was (tags_of (q ∷ qs))
+  tags_past was q qs = by (is_mark q.kind)
+    where
+      by : (b : Bool) → behind_tags opening closing (behind_tags opening closing was (map (λ (p : PieceFacts). p.text) (cond b (q ∷ []) []))) (tags_of qs)
+          ≡ behind_tags opening closing was (map (λ (p : PieceFacts). p.text) (cond b (q ∷ filter (λ (p : PieceFacts). is_mark p.kind) qs) (filter (λ (p : PieceFacts). is_mark p.kind) qs)))
+      by true = refl
+      by false = refl
+
+  -- behind pieces a span is open as behind the tags among what they say
+  pieces_past : (ps : List Piece) (qs : List PieceFacts) (was : Bool) → ArePiecesOf whole ps qs → open_past opening closing (encodes whole) ps was ≡ behind_tags opening closing was (tags_of qs)
+  pieces_past [] [] was h = refl
+  pieces_past [] (q ∷ qs) was h = absurd h
+  pieces_past (p ∷ ps) [] was h = absurd h
+  pieces_past (p ∷ ps) (q ∷ qs) was h =
+      pieces_past ps qs (is_open_after opening closing was p.kind (slice p.span (encodes whole))) h.1
+      ∙ ap (λ (b : Bool). behind_tags opening closing b (tags_of qs)) (piece_past p q was h.0.kind_is (bytes_stand whole p.span (kept_of_piece q) h.0.stands))
+      ∙ tags_past was q qs
+
+-- behind a syllable of a unit a span is open as behind the tags of the unit's text
+pub unit_past : (opening closing : List ℕ) (lines : ℕ) (u : ScoreUnit) (m : UnplacedSyllable) (was : Bool) → HoldsUnit lines u m
+    → open_past opening closing m.kept m.text.pieces was ≡ behind_tags opening closing was (span_tags u.text)
+unit_past opening closing lines u m was h =
+    ap (λ (k : List ℕ). open_past opening closing k m.text.pieces was) h.kept_is ∙ pieces_past opening closing h.whole m.text.pieces _ was h.stands.pieces
+
+-- ---- the lists of a unit
+
+abbrev Warn : List Finding → Type 0
+Warn fs = All IsWarning fs
+
+-- these lists are one for each of n characters and then those, and what is found in the first are warnings, if so much is known
+record Front (n : ℕ) (Known : Type 0) (all later : List (List BodyEvent)) : Type 0 where
+  front : List (List BodyEvent)
+  all_is : all ≡ front ++ later
+  count : length front ≡ n
+  warns : Known → Warn (found (concat_of front))
+
+module _ (all_found : (at : Place) (t : List ℕ) → found_in (concat_of (events_by_point at t)) ≡ findings at t) (lines macros : ℕ) where
+  abbrev lists_of : PartAhead → List CutPart → List Char → List (List BodyEvent)
+  lists_of part pieces last = events_of_cutting texts_by_definition lines macros part pieces last
+
+  notes_front : (nexts : List EndedPart) (final : EndedPart) (more : List CutPart) (last : List Char) (line : ℕ) (opened : Place)
+      → (let pieces = snippets_with lines line opened nexts (cut_part final Closes ∷ more) in
+      Front (length (with_ends (nexts ++ final ∷ []))) (SnippetsWarn lines macros line (nexts ++ final ∷ []) (whole more last)) (lists_of (snippet_from lines macros line opened (whole pieces last)) pieces last)
+      (lists_of (text_from texts_by_definition (behind_mark final.end.place) (whole more last)) more last))
+  notes_front [] final more last line opened =
+      let xs = final.characters ++ final.end ∷ whole more last in
+      let part = snippet_from lines macros line opened xs in
+      let size_is : length (events_through part final.characters) ≡ suc (length final.characters) = through_length part final.characters in
+      let all : length (final.characters ++ final.end ∷ []) ≡ length final.characters + 1 = length-append final.characters (final.end ∷ []) in
+      record {
+        front = events_through part final.characters;
+        all_is = refl;
+        count = omega arith;
+        warns = λ h. snippet_some line opened (snippet_events lines macros line xs) final.characters h.0;
+      }
+  notes_front (e ∷ nexts) final more last line opened =
+      let next = next_line lines line in
+      let pieces = snippets_with lines next opened nexts (cut_part final Closes ∷ more) in
+      let rest = whole pieces last in
+      let xs = e.characters ++ e.end ∷ rest in
+      let part = snippet_from lines macros line opened xs in
+      let first = events_through part e.characters in
+      let r = notes_front nexts final more last next opened in
+      let rest_is : rest ≡ with_ends (nexts ++ final ∷ []) ++ whole more last = snippets_whole lines next opened nexts final more last in
+      let size_is : length first ≡ suc (length e.characters) = through_length part e.characters in
+      let all : length (e.characters ++ e.end ∷ with_ends (nexts ++ final ∷ [])) ≡ length e.characters + suc (length (with_ends (nexts ++ final ∷ []))) = length-append e.characters (e.end ∷ with_ends (nexts ++ final ∷ [])) in
+      let both : length (first ++ r.front) ≡ length first + length r.front = length-append first r.front in
+      let later = r.count in
+      record {
+        front = first ++ r.front;
+        all_is = ap (λ (ls : List (List BodyEvent)). first ++ ls) r.all_is ∙ sym (append_assoc first r.front _);
+        count = omega arith;
+        warns = λ h. subst Warn (sym (joined_found first r.front))
+            (All-append IsWarning (found (concat_of first)) (found (concat_of r.front))
+            (snippet_some line opened (snippet_events lines macros line xs) e.characters
+            (subst (λ (ys : List Char). Warn (notes_found (concat_of (snippet_events lines macros line (e.characters ++ e.end ∷ ys))))) (sym rest_is) h.0))
+            (r.warns h.1));
+      }
+
+  unit_front : (at : Place) (u : BodyUnit) (more : List CutPart) (last : List Char)
+      → (let pieces = cut_part u.text Opens ∷ snippets_with lines 0 u.text.end.place u.nexts (cut_part u.final Closes ∷ more) in
+      Front (length (characters_in u)) (TextWarns (score_unit u (whole more last)).text × SnippetsWarn lines macros 0 (snippets_in u) (whole more last)) (lists_of (text_from texts_by_definition at (whole pieces last)) pieces last)
+      (lists_of (text_from texts_by_definition (behind_mark u.final.end.place) (whole more last)) more last))
+  unit_front at u more last =
+      let pieces = snippets_with lines 0 u.text.end.place u.nexts (cut_part u.final Closes ∷ more) in
+      let xs = u.text.characters ++ u.text.end ∷ whole pieces last in
+      let part = text_from texts_by_definition at xs in
+      let first = events_through part u.text.characters in
+      let r = notes_front u.nexts u.final more last 0 u.text.end.place in
+      let text_is : codes_of xs ≡ (score_unit u (whole more last)).text = ap codes_of (unit_whole lines u more last) in
+      let size_is : length first ≡ suc (length u.text.characters) = through_length part u.text.characters in
+      let all : length (characters_in u) ≡ length u.text.characters + suc (length (with_ends (snippets_in u))) = length-append u.text.characters (u.text.end ∷ with_ends (snippets_in u)) in
+      let both : length (first ++ r.front) ≡ length first + length r.front = length-append first r.front in
+      let later = r.count in
+      record {
+        front = first ++ r.front;
+        all_is = ap (λ (ls : List (List BodyEvent)). first ++ ls) r.all_is ∙ sym (append_assoc first r.front _);
+        count = omega arith;
+        warns = λ h. subst Warn (sym (joined_found first r.front))
+            (All-append IsWarning (found (concat_of first)) (found (concat_of r.front))
+            (text_some (events_by_point at (codes_of xs)) u.text.characters (subst Warn (sym (all_found at (codes_of xs) ∙ ap (findings at) text_is)) (h.0 at)))
+            (r.warns h.1));
+      }
+
+  -- they are what its characters emit
+  first_is : (xs : List Char) (n : ℕ) (at : Place) (front later : List (List BodyEvent)) → events_from texts_by_definition lines macros (text_from texts_by_definition at xs) xs ≡ front ++ later → length front ≡ n
+      → first_events lines macros at xs n ≡ concat_of front
+  first_is xs n at front later e k = ap (λ (ls : List (List BodyEvent)). concat_of (take n ls)) e ∙ ap concat_of (take_at front later n k)
+
+module _ (ends : (at : Place) (t : List ℕ) → EndsOnce at t) (emits : (at : Place) (t : List ℕ) → with_events empty_text (concat_of (events_by_point at t)) ≡ text_built_at at t)
+    (spans : (t : List ℕ) → StandsForView (kept t) (view_in t) t) (in_order : (at : Place) (t : List ℕ) → concat_of (events_by_point at t) ≡ events_of at t)
+    (all_found : (at : Place) (t : List ℕ) → found_in (concat_of (events_by_point at t)) ≡ findings at t) (lines macros : ℕ) where
+  module _ (at : Place) (u : BodyUnit) (units : List BodyUnit) (last : LastUnit) (fits : size (codes_of (characters_from (u ∷ units) last)) < 2 ^ 63)
+      (cuts : Cuts texts_by_definition lines macros (text_from texts_by_definition at (characters_from (u ∷ units) last)) (units_pieces lines (u ∷ units) last) (last_characters last)) where
+    abbrev behind : List Char
+    behind = characters_from units last
+
+    abbrev all : List Char
+    all = characters_in u ++ behind
+
+    abbrev more : List CutPart
+    more = units_pieces lines units last
+
+    abbrev pieces : List CutPart
+    pieces = units_pieces lines (u ∷ units) last
+
+    abbrev end : List Char
+    end = last_characters last
+
+    whole_is : whole pieces end ≡ all
+    whole_is = units_whole lines (u ∷ units) last
+
+    behind_is : whole more end ≡ behind
+    behind_is = units_whole lines units last
+
+    cut : Cuts texts_by_definition lines macros (text_from texts_by_definition at (whole pieces end)) pieces end
+    cut = subst (λ (ys : List Char). Cuts texts_by_definition lines macros (text_from texts_by_definition at ys) pieces end) (sym whole_is) cuts
+
+    short : size (codes_of (whole pieces end)) < 2 ^ 63
+    short = subst (λ (ys : List Char). size (codes_of ys) < 2 ^ 63) (sym whole_is) fits
+
+    lists_are : events_from texts_by_definition lines macros (text_from texts_by_definition at all) all ≡ lists_of all_found lines macros (text_from texts_by_definition at (whole pieces end)) pieces end
+    lists_are =
+        ap (λ (ys : List Char). events_from texts_by_definition lines macros (text_from texts_by_definition at ys) ys) (sym whole_is)
+        ∙ cuts_emitted texts_by_definition lines macros (text_from texts_by_definition at (whole pieces end)) pieces end tt cut
+
+    parts : Front (length (characters_in u)) (TextWarns (score_unit u (whole more end)).text × SnippetsWarn lines macros 0 (snippets_in u) (whole more end))
+        (lists_of all_found lines macros (text_from texts_by_definition at (whole pieces end)) pieces end)
+        (lists_of all_found lines macros (text_from texts_by_definition (behind_mark u.final.end.place) (whole more end)) more end)
+    parts = unit_front all_found lines macros at u more end
+
+    emitted_is : first_events lines macros at all (length (characters_in u)) ≡ concat_of parts.front
+    emitted_is = first_is all_found lines macros all (length (characters_in u)) at parts.front _ (lists_are ∙ parts.all_is) parts.count
+
+    pub unit_warns : TextWarns (score_unit u behind).text → SnippetsWarn lines macros 0 (snippets_in u) behind → Warn (findings_of (events_onto (first_events lines macros at all (length (characters_in u))) []))
+    unit_warns h k =
+        subst Warn (sym (ap (λ (ts : List BodyEvent). findings_of (events_onto ts [])) emitted_is ∙ found_onto (concat_of parts.front) []))
+        (parts.warns (subst (λ (ys : List Char). TextWarns (score_unit u ys).text × SnippetsWarn lines macros 0 (snippets_in u) ys) (sym behind_is) (h, k)))
+
+    pub one_syllable : (before : List BodyEvent) → since_close before ≡ [] → GivesOneSyllable lines macros at u behind before
+    one_syllable before since =
+        let g = unit_emits ends emits spans in_order lines macros at u more end before since short cut in
+        let later = concat_of (lists_of all_found lines macros (text_from texts_by_definition (behind_mark u.final.end.place) (whole more end)) more end) in
+        let mid_is : events_onto (first_events lines macros at all (length (characters_in u))) before ≡ g.mid =
+        ap (λ (ts : List BodyEvent). events_onto ts before) emitted_is
+        ∙ onto_cancel later (events_onto (concat_of parts.front) before) g.mid
+        (sym (through_more parts.front (lists_of all_found lines macros (text_from texts_by_definition (behind_mark u.final.end.place) (whole more end)) more end) before)
+        ∙ ap (λ (ls : List (List BodyEvent)). events_onto (concat_of ls) before) (sym parts.all_is) ∙ g.events_are) in
+        let holds : HoldsUnit lines (score_unit u behind) g.step.made = subst (λ (ys : List Char). HoldsUnit lines (score_unit u ys) g.step.made) behind_is g.step.holds in
+        let tags : span_tags (score_unit u (whole more end)).text ≡ span_tags (score_unit u behind).text = ap (λ (ys : List Char). span_tags (score_unit u ys).text) behind_is in
+        let eu_is : g.step.made.eu ≡ eu_past g.step.made (is_eu before) =
+        g.step.made_eu ∙ ap (behind_tags (codes "<eu>") (codes "</eu>") (is_eu before)) tags ∙ sym (unit_past (codes "<eu>") (codes "</eu>") lines (score_unit u behind) g.step.made (is_eu before) holds) in
+        let nlba_is : g.step.made.nlba ≡ nlba_past g.step.made (is_nlba before) =
+        g.step.made_nlba ∙ ap (behind_tags (codes "<nlba>") (codes "</nlba>") (is_nlba before)) tags ∙ sym (unit_past (codes "<nlba>") (codes "</nlba>") lines (score_unit u behind) g.step.made (is_nlba before) holds) in
+        record {
+          made = g.step.made;
+          none_earlier = λ n few. none_made (first_events lines macros at all n) before (none_within n few);
+          given = ap all_syllables mid_is ∙ g.step.made_is;
+          nothing_behind = ap since_close mid_is ∙ g.step.since;
+          holds = holds;
+          eu_is = eu_is;
+          nlba_is = nlba_is;
+          open_eu = ap is_eu mid_is ∙ g.step.eu ∙ sym g.step.made_eu;
+          open_nlba = ap is_nlba mid_is ∙ g.step.nlba ∙ sym g.step.made_nlba;
+        }
+      where
+        within : (n w : ℕ) (k : ℕ) → n < w → (if nat_lt n w then 0 else k) ≡ 0
+        within n w k h = ap (λ (b : Bool). if b then 0 else k) (lt-ltb n w h)
+
+        none_within : (n : ℕ) → n < length (characters_in u) → close_count (first_events lines macros at all n) ≡ 0
+        none_within n few =
+            let size_is : length (whole pieces end) ≡ length (characters_in u) + length behind = ap (length {A = Char}) whole_is ∙ length-append (characters_in u) behind in
+            let some : n ≤ length (whole pieces end) = omega arith in
+            ap (λ (ls : List (List BodyEvent)). close_count (concat_of (take n ls))) lists_are
+            ∙ pieces_count lines macros (text_from texts_by_definition at (whole pieces end)) pieces end tt short cut n some
+            ∙ units_within_are lines (u ∷ units) last n
+            ∙ within n (length (characters_in u)) _ few

@@ -1,0 +1,49 @@
+//! Laws of a unit and its syllable, apart from the score in which they stand. Each function's contract is a law; its body calls the laws below that
+//! it stands on.
+
+ghost use Rattle.std.specs.Prelude.{◌≡◌, ◌<◌, ◌≤◌, ◌^◌, ℕ, List, [], ◌∷◌, length, encode_utf8_all};
+ghost use Rattle.std.specs.List.{All};
+ghost use Rattle.gabc_places.specs.declared.place.Char.{Char};
+ghost use Rattle.gabc_places.specs.declared.place.Place.{Place};
+ghost use Rattle.gabc_text.specs.Events.{codes_of};
+ghost use Rattle.gabc_notes.specs.ReadAgain.{IsWarning};
+ghost use Rattle.gabc_score.specs.declared.events.BodyEvent.{BodyEvent};
+ghost use Rattle.gabc_score.specs.Body.{events_onto, findings_of};
+ghost use Rattle.gabc_score.specs.Events.{texts_by_definition, text_from};
+ghost use Rattle.gabc_score.specs.FoundInParts.{TextWarns, SnippetsWarn};
+ghost use Rattle.gabc_score.specs.Holding.{HoldsWithNotes};
+ghost use Rattle.gabc_score.specs.Syllable.{UnplacedSyllable, since_close};
+ghost use Rattle.gabc_score.specs.SyllablesOfUnits.{characters_in, characters_from, score_unit, snippets_in};
+ghost use Rattle.gabc_score.specs.UnitRead.{HoldsSomeUnit, GivesOneSyllable, first_events};
+ghost use Rattle.gabc_score.specs.Units.{BodyUnit, LastUnit, Cuts, units_pieces, last_characters};
+
+/// A unit gives one syllable, with its last character, wherever its text begins, whatever follows and whatever was emitted before. What is found in it
+/// are warnings, if that is so of its text and its snippets.
+pub fn a_unit_gives_one_syllable()
+    ensures given { (lines macros : ℕ) (at : Place) (u : BodyUnit) (units : List BodyUnit)
+        (last : LastUnit) (before : List BodyEvent) → let xs = characters_from (u ∷ units) last in
+        length (encode_utf8_all (codes_of xs)) < 2 ^ 63 → Cuts texts_by_definition lines macros
+        (text_from texts_by_definition at xs) (units_pieces lines (u ∷ units) last) (last_characters last)
+        → since_close before ≡ []
+        → GivesOneSyllable lines macros at u (characters_from units last) before }
+    ensures warns { (lines macros : ℕ) (at : Place) (u : BodyUnit) (units : List BodyUnit)
+        (last : LastUnit) → let xs = characters_from (u ∷ units) last in
+        let behind = characters_from units last in
+        length (encode_utf8_all (codes_of xs)) < 2 ^ 63 → Cuts texts_by_definition lines macros
+        (text_from texts_by_definition at xs) (units_pieces lines (u ∷ units) last) (last_characters last)
+        → TextWarns (score_unit u behind).text → SnippetsWarn lines macros 0 (snippets_in u) behind
+        → All IsWarning (findings_of (events_onto
+        (first_events lines macros at xs (length (characters_in u))) [])) }
+{
+    gabc_text::laws::a_text_ends_once();
+    gabc_text::laws::events_build_the_text();
+    gabc_text::laws::events_by_point_are_the_events();
+    gabc_text::laws::spans_stand_for_the_view();
+    gabc_text::laws::findings_lie_within();
+}
+
+/// A syllable that holds its parts in some input, with its notes, holds a unit, if it has but one snippet where there are no NABC lines.
+pub fn a_syllable_with_its_parts_holds_a_unit()
+    ensures { (input : List ℕ) (lines : ℕ) (m : UnplacedSyllable) → HoldsWithNotes input lines m →
+        (lines ≡ 0 → length m.snippets ≤ 1) → HoldsSomeUnit lines m }
+{}
