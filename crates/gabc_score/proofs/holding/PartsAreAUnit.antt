@@ -3,9 +3,9 @@ use Rattle.std.proofs.Common.{◌≡◌, ◌≢◌, ℕ, ◌≤◌, List, [], �
 use Rattle.std.proofs.lemmas.List.{length-map}
 use Rattle.gabc_places.specs.declared.place.Char.{Char}
 use Rattle.gabc_score.specs.declared.snippets.Snippet.{Snippet}
-use Rattle.gabc_score.specs.Holding.{ReadSnippet, HoldsNotes, HoldsWithNotes}
+use Rattle.gabc_score.specs.Holding.{ReadSnippet, HoldsWithNotes}
 use Rattle.gabc_score.specs.Syllable.{UnplacedSyllable}
-use Rattle.gabc_score.specs.SyllablesOfUnits.{ScoreUnit, NotesAre, HoldsUnit}
+use Rattle.gabc_score.specs.SyllablesOfUnits.{ScoreUnit, NotesAre}
 use Rattle.gabc_score.specs.UnitRead.{HoldsSomeUnit}
 
 some_last : (earlier : List ReadSnippet) (last : ReadSnippet) → map (λ (s : ReadSnippet). s.characters) (earlier ++ last ∷ []) ≢ []

@@ -1,10 +1,9 @@
 -- A unit gives one syllable, with its last character.
-use Rattle.std.proofs.Common.{◌≡◌, ℕ, suc, ◌+◌, ◌<◌, ◌≤◌, ◌^◌, nat_lt, Bool, true, false, cond, if◌then◌else◌, List, [], ◌∷◌, ◌++◌, map, length, take, refl, sym, ap, subst, ◌∙◌, arith, append_assoc, length-append, take_at, codes, encode_utf8_all}
-use Rattle.std.specs.Prelude.{filter, bytes_eq}
+use Rattle.std.proofs.Common.{◌≡◌, ℕ, suc, ◌+◌, ◌<◌, ◌≤◌, ◌^◌, nat_lt, Bool, true, false, cond, if◌then◌else◌, List, [], ◌∷◌, ◌++◌, map, length, take, refl, sym, ap, subst, ◌∙◌, arith, append_assoc, length-append, take_at, codes}
+use Rattle.std.specs.Prelude.{filter}
 use Rattle.std.specs.List.{All}
 use Rattle.std.proofs.lemmas.Bool.{lt-ltb}
-use Rattle.std.proofs.lemmas.List.{take-append-le}
-use Rattle.std.proofs.lemmas.List.Elements.{All-nil, All-append}
+use Rattle.std.proofs.lemmas.List.Elements.{All-append}
 use lib.Utf8.{encodes}
 use Rattle.gabc_places.specs.StageLaw.{concat_of}
 use Rattle.gabc_places.specs.declared.code.Finding.{Finding}
@@ -23,21 +22,21 @@ use Rattle.gabc_notes.specs.ReadAgain.{IsWarning}
 use Rattle.gabc_notes.specs.SnippetRead.{findings_of as notes_found}
 use Rattle.gabc_score.specs.declared.events.BodyEvent.{BodyEvent}
 use Rattle.gabc_score.specs.Body.{events_onto, findings_of}
-use Rattle.gabc_score.specs.Events.{PartAhead, InText, texts_by_definition, text_from, snippet_from, next_line, behind_mark, events_from}
+use Rattle.gabc_score.specs.Events.{PartAhead, texts_by_definition, text_from, snippet_from, next_line, behind_mark, events_from}
 use Rattle.gabc_score.specs.FoundInParts.{TextWarns, SnippetsWarn, snippet_events}
 use Rattle.gabc_score.specs.Syllable.{UnplacedSyllable, closes, since_close, all_syllables, syllable_by, is_eu, is_nlba, slice, is_mark, is_open_after}
 use Rattle.gabc_score.specs.Units.{Opens, Closes, CutPart, EndedPart, BodyUnit, LastUnit, cut_part, whole, events_through, snippets_with, units_pieces, last_characters, Cuts, events_of_cutting}
 use Rattle.gabc_score.specs.SpansPast.{open_past, eu_past, nlba_past}
-use Rattle.gabc_score.specs.SyllablesOfUnits.{with_ends, snippets_in, characters_in, characters_from, ScoreUnit, score_unit, span_tags, count_within, HoldsUnit}
+use Rattle.gabc_score.specs.SyllablesOfUnits.{with_ends, snippets_in, characters_in, characters_from, ScoreUnit, score_unit, span_tags, HoldsUnit}
 use Rattle.gabc_score.specs.UnitRead.{first_events, GivesOneSyllable}
 use Rattle.gabc_score.proofs.texts_of_body.SeamsOfCharacters.{size}
 use Rattle.gabc_score.proofs.holding.SnippetsAreHeld.{bytes_stand}
-use Rattle.gabc_score.proofs.order.FindingsOfParts.{found, found_onto, found_append, joined_append}
+use Rattle.gabc_score.proofs.order.FindingsOfParts.{found, found_onto}
 use Rattle.gabc_score.proofs.order.PartsThatWarn.{joined_found, text_some, snippet_some}
 use Rattle.gabc_score.proofs.stopped_scores.PrefixesAreReadAlike.{through_length}
 use Rattle.gabc_score.proofs.stopped_scores.ClosedWithin.{close_of, close_count, count_one, pieces_count, units_within_are}
 use Rattle.gabc_score.proofs.syllables_of_units.LastTagOpensTheSpan.{behind_tags}
-use Rattle.gabc_score.proofs.syllables_of_units.UnitsGiveSyllables.{UnitGives, Continues, through_more, snippets_whole, unit_whole, units_whole, unit_emits}
+use Rattle.gabc_score.proofs.syllables_of_units.UnitsGiveSyllables.{through_more, snippets_whole, unit_whole, units_whole, unit_emits}
 use Rattle.gabc_score.proofs.units.BodyHasOneCutting.{cuts_emitted}
 
 -- ---- events

@@ -1,5 +1,5 @@
 -- Worked rows of the definitions of specs/UnitRead.antt and specs/SpansPast.antt: the texts ` <eu>b(h)` and LF `<eu>b(h)`, each by itself.
-use Rattle.std.proofs.Common.{◌≡◌, ℕ, List, [], ◌∷◌, map, Bool, true, false, refl, codes}
+use Rattle.std.proofs.Common.{◌≡◌, ℕ, List, [], ◌∷◌, map, true, false, refl, codes}
 use lib.Utf8.{encode}
 use Rattle.gabc_places.specs.declared.place.Place.{Place}
 use Rattle.gabc_places.specs.Place.{placed_characters_from}

@@ -1,5 +1,5 @@
 -- The canonical text of a syllable that holds a unit is read by itself as a syllable that says the same.
-use Rattle.std.proofs.Common.{◌≡◌, ◌≢◌, ℕ, suc, ◌<◌, ◌≤◌, ◌^◌, List, [], ◌∷◌, ◌++◌, map, length, Bool, false, codes, refl, sym, ap, ap₂, subst, ◌∙◌, append-nil, arith}
+use Rattle.std.proofs.Common.{◌≡◌, ℕ, suc, ◌<◌, ◌≤◌, ◌^◌, List, [], ◌∷◌, ◌++◌, map, length, Bool, false, codes, refl, sym, ap, ap₂, subst, ◌∙◌, append-nil, arith}
 use Rattle.std.specs.List.{All}
 use Rattle.std.proofs.lemmas.List.{length-map}
 use lib.Utf8.{encodes}
@@ -17,20 +17,19 @@ use Rattle.gabc_text.specs.View.{findings}
 use Rattle.gabc_text.specs.ViewFacts.{ViewFacts, view_facts, StandsFor, StandsForView, has_error}
 use Rattle.gabc_notes.specs.ReadAgain.{IsWarning}
 use Rattle.gabc_score.specs.declared.events.BodyEvent.{BodyEvent}
-use Rattle.gabc_score.specs.declared.syllable.Position.{Position}
 use Rattle.gabc_score.specs.declared.syllable.Position.TheVariants as position
 use Rattle.gabc_score.specs.Body.{events_onto, findings_of}
 use Rattle.gabc_score.specs.Canonical.{canonical}
 use Rattle.gabc_score.specs.Events.{texts_by_definition, text_from, next_line}
 use Rattle.gabc_score.specs.FoundInParts.{TextWarns, SnippetsWarn}
-use Rattle.gabc_score.specs.SpansPast.{open_past, eu_past, nlba_past}
+use Rattle.gabc_score.specs.SpansPast.{open_past}
 use Rattle.gabc_score.specs.Syllable.{UnplacedSyllable, slice, since_close, all_syllables, is_eu, is_nlba, is_open_after}
 use Rattle.gabc_score.specs.SyllablesOfUnits.{ScoreUnit, HoldsUnit, characters_in, characters_from, score_unit, snippets_in}
 use Rattle.gabc_score.specs.UnitRead.{HoldsSomeUnit, GivesOneSyllable, first_events}
 use Rattle.gabc_score.specs.Units.{EndedPart, BodyUnit, LastUnit, JustText, Cuts, units_pieces, last_characters}
-use Rattle.gabc_write.specs.SyllableAgain.{printed_syllable, kept_snippets, AreSnippets, AreSnippetsAgain, AreUnitsFrom, SaysAgain, IsPrinted, IsOneUnit}
+use Rattle.gabc_write.specs.SyllableAgain.{printed_syllable, AreSnippets, AreSnippetsAgain, AreUnitsFrom, SaysAgain, IsPrinted, IsOneUnit}
 use Rattle.gabc_write.specs.BodyAgain.{SyllableFacts}
-use Rattle.gabc_write.specs.SyllableMeaning.{PieceMeaning, meaning_of_piece, SyllableMeaning, meaning_of}
+use Rattle.gabc_write.specs.SyllableMeaning.{PieceMeaning, meaning_of_piece, SyllableMeaning}
 use Rattle.gabc_write.specs.SyllableRead.{SaysTheSame, IsReadByItself, IsReadFromItsText}
 use Rattle.gabc_write.proofs.reading_again.NoErrorIsFoundAgain.{snippets_warn}
 use Rattle.gabc_write.proofs.reading_again.PlacedCharacters.{codes_placed}
