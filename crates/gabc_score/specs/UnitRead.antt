@@ -6,10 +6,11 @@ use Rattle.gabc_places.specs.StageLaw.{concat_of}
 use Rattle.gabc_score.specs.declared.events.BodyEvent.{BodyEvent}
 use Rattle.gabc_score.specs.Body.{events_onto}
 use Rattle.gabc_score.specs.Events.{texts_by_definition, text_from, events_from}
-use Rattle.gabc_score.specs.Syllable.{UnplacedSyllable, since_close, all_syllables, is_eu, is_nlba}
+use Rattle.gabc_score.specs.Syllable.{UnplacedSyllable, since_close, kept_of, all_syllables, is_eu, is_nlba}
 use Rattle.gabc_score.specs.SyllablesOfUnits.{ScoreUnit, characters_in, score_unit, HoldsUnit}
 use Rattle.gabc_score.specs.SpansPast.{eu_past, nlba_past}
 use Rattle.gabc_score.specs.Units.{BodyUnit}
+use Rattle.gabc_score.specs.WithinLimits.{KeepsWithin}
 
 -- A syllable holds some unit with notes: one snippet, where there are no NABC lines. That is said of the syllable alone, whatever it was
 -- read from.
@@ -25,13 +26,16 @@ first_events lines macros at xs n = concat_of (take n (events_from texts_by_defi
 
 -- A unit whose text begins at this place, with those characters behind it, gives one syllable behind what was emitted before. It gives
 -- it with its last character, and nothing of the next one. The syllable holds the unit; which spans are open behind it follows from
--- those before.
+-- those before. No more is kept on the way, nor of the syllable, than the unit keeps.
 pub record GivesOneSyllable (lines macros : ℕ) (at : Place) (u : BodyUnit) (behind : List Char) (before : List BodyEvent) : Type 0 where
   pub made : UnplacedSyllable
   pub none_earlier : (n : ℕ) → n < length (characters_in u) → all_syllables (events_onto (first_events lines macros at (characters_in u ++ behind) n) before) ≡ all_syllables before
   pub given : all_syllables (events_onto (first_events lines macros at (characters_in u ++ behind) (length (characters_in u))) before) ≡ all_syllables before ++ made ∷ []
   pub nothing_behind : since_close (events_onto (first_events lines macros at (characters_in u ++ behind) (length (characters_in u))) before) ≡ []
   pub holds : HoldsUnit lines (score_unit u behind) made
+  pub few_on_the_way : (limit n : ℕ) → KeepsWithin limit (score_unit u behind) → n ≤ length (characters_in u)
+      → length (kept_of (since_close (events_onto (first_events lines macros at (characters_in u ++ behind) n) before))) ≤ limit
+  pub few : (limit : ℕ) → KeepsWithin limit (score_unit u behind) → length made.kept ≤ limit
   pub eu_is : made.eu ≡ eu_past made (is_eu before)
   pub nlba_is : made.nlba ≡ nlba_past made (is_nlba before)
   pub open_eu : is_eu (events_onto (first_events lines macros at (characters_in u ++ behind) (length (characters_in u))) before) ≡ made.eu

@@ -11,14 +11,14 @@ ghost use Rattle.gabc_score.specs.declared.events.BodyEvent.{BodyEvent};
 ghost use Rattle.gabc_score.specs.Body.{events_onto, findings_of};
 ghost use Rattle.gabc_score.specs.Events.{texts_by_definition, text_from};
 ghost use Rattle.gabc_score.specs.FoundInParts.{TextWarns, SnippetsWarn};
-ghost use Rattle.gabc_score.specs.Holding.{HoldsWithNotes};
+ghost use Rattle.gabc_score.specs.Holding.{HoldsWithNotes, HasWholeSnippets};
 ghost use Rattle.gabc_score.specs.Syllable.{UnplacedSyllable, since_close};
 ghost use Rattle.gabc_score.specs.SyllablesOfUnits.{characters_in, characters_from, score_unit, snippets_in};
 ghost use Rattle.gabc_score.specs.UnitRead.{HoldsSomeUnit, GivesOneSyllable, first_events};
 ghost use Rattle.gabc_score.specs.Units.{BodyUnit, LastUnit, Cuts, units_pieces, last_characters};
 
-/// A unit gives one syllable, with its last character, wherever its text begins, whatever follows and whatever was emitted before. What is found in it
-/// are warnings, if that is so of its text and its snippets.
+/// A unit gives one syllable, with its last character, wherever its text begins, whatever follows and whatever was emitted before. It keeps
+/// no more on the way than it keeps in all. What is found in it are warnings, if that is so of its text and its snippets.
 pub fn a_unit_gives_one_syllable()
     ensures given { (lines macros : ℕ) (at : Place) (u : BodyUnit) (units : List BodyUnit)
         (last : LastUnit) (before : List BodyEvent) → let xs = characters_from (u ∷ units) last in
@@ -41,6 +41,11 @@ pub fn a_unit_gives_one_syllable()
     gabc_text::laws::spans_stand_for_the_view();
     gabc_text::laws::findings_lie_within();
 }
+
+/// The spans of the snippets of a syllable that holds a unit begin and end between characters: each has its text.
+pub fn snippets_of_a_unit_stand_between_characters()
+    ensures { (lines : ℕ) (m : UnplacedSyllable) → HoldsSomeUnit lines m → HasWholeSnippets m }
+{}
 
 /// A syllable that holds its parts in some input, with its notes, holds a unit, if it has but one snippet where there are no NABC lines.
 pub fn a_syllable_with_its_parts_holds_a_unit()

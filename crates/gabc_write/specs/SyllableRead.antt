@@ -1,5 +1,5 @@
 -- A syllable that is read again from its own canonical text, apart from the score in which it stands.
-use Rattle.std.specs.Prelude.{◌≡◌, ℕ, ◌<◌, List, [], ◌∷◌, ◌++◌, length, encode_utf8_all}
+use Rattle.std.specs.Prelude.{◌≡◌, ℕ, ◌<◌, ◌≤◌, List, [], ◌∷◌, ◌++◌, length, encode_utf8_all}
 use Rattle.std.specs.List.{All}
 use Rattle.gabc_places.specs.declared.place.Place.{Place}
 use Rattle.gabc_places.specs.Place.{placed_characters_from}
@@ -9,7 +9,7 @@ use Rattle.gabc_score.specs.declared.syllable.Position.{Position}
 use Rattle.gabc_score.specs.Body.{events_onto, findings_of}
 use Rattle.gabc_score.specs.Canonical.{canonical}
 use Rattle.gabc_score.specs.SpansPast.{eu_past, nlba_past}
-use Rattle.gabc_score.specs.Syllable.{UnplacedSyllable, since_close, all_syllables, is_eu, is_nlba}
+use Rattle.gabc_score.specs.Syllable.{UnplacedSyllable, since_close, kept_of, all_syllables, is_eu, is_nlba}
 use Rattle.gabc_score.specs.UnitRead.{HoldsSomeUnit, first_events}
 use Rattle.gabc_write.specs.SyllableMeaning.{meaning_of}
 
@@ -20,13 +20,15 @@ SaysTheSame n m =
 
 -- This text of a syllable, read by itself from this place on, behind what was emitted before, is one syllable, whole with the last
 -- character. It says the same, and behind the same spans it leaves the same open. It holds a unit, too, and has the same canonical text. What
--- is found are warnings.
+-- is found are warnings. No more bytes are kept on the way, nor of the syllable, than the text has.
 pub record IsReadByItself (lines macros : ℕ) (m : UnplacedSyllable) (text : List ℕ) (at : Place) (before : List BodyEvent) : Type 0 where
   pub again : UnplacedSyllable
   pub none_earlier : (n : ℕ) → n < length text → all_syllables (events_onto (first_events lines macros at (placed_characters_from at text) n) before) ≡ all_syllables before
   pub one : all_syllables (events_onto (first_events lines macros at (placed_characters_from at text) (length text)) before) ≡ all_syllables before ++ again ∷ []
   pub nothing_behind : since_close (events_onto (first_events lines macros at (placed_characters_from at text) (length text)) before) ≡ []
   pub warnings : All IsWarning (findings_of (events_onto (first_events lines macros at (placed_characters_from at text) (length text)) []))
+  pub few_on_the_way : (n : ℕ) → n ≤ length text → length (kept_of (since_close (events_onto (first_events lines macros at (placed_characters_from at text) n) before))) ≤ length (encode_utf8_all text)
+  pub few : length again.kept ≤ length (encode_utf8_all text)
   pub holds : HoldsSomeUnit lines again
   pub says : SaysTheSame again m
   pub eu_is : again.eu ≡ eu_past m (is_eu before)

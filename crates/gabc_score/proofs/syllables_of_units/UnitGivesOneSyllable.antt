@@ -1,9 +1,9 @@
 -- A unit gives one syllable, with its last character.
-use Rattle.std.proofs.Common.{◌≡◌, ℕ, suc, ◌+◌, ◌<◌, ◌≤◌, ◌^◌, nat_lt, Bool, true, false, cond, if◌then◌else◌, List, [], ◌∷◌, ◌++◌, map, length, take, refl, sym, ap, subst, ◌∙◌, arith, append_assoc, length-append, take_at, codes}
+use Rattle.std.proofs.Common.{◌≡◌, ℕ, suc, ◌+◌, ◌<◌, ◌≤◌, ◌^◌, nat_lt, Bool, true, false, cond, if◌then◌else◌, List, [], ◌∷◌, ◌++◌, map, length, refl, sym, ap, subst, ◌∙◌, arith, append_assoc, length-append, append-nil, take, drop, take_at, drop_at, take-take, take-append-drop, codes}
 use Rattle.std.specs.Prelude.{filter}
 use Rattle.std.specs.List.{All}
 use Rattle.std.proofs.lemmas.Bool.{lt-ltb}
-use Rattle.std.proofs.lemmas.List.Elements.{All-append}
+use Rattle.std.proofs.lemmas.List.Elements.{All-nil, All-cons, All-head, All-append}
 use lib.Utf8.{encodes}
 use Rattle.gabc_places.specs.StageLaw.{concat_of}
 use Rattle.gabc_places.specs.declared.code.Finding.{Finding}
@@ -13,6 +13,7 @@ use Rattle.gabc_text.specs.BuiltText.{with_events, empty_text, text_built_at, fo
 use Rattle.gabc_text.specs.declared.view.Piece.{Piece}
 use Rattle.gabc_text.specs.declared.view.PieceKind.{PieceKind}
 use Rattle.gabc_text.specs.declared.view.PieceKind.TheVariants as piece
+use Rattle.gabc_text.specs.declared.text_event.TextEnd.TheVariants as text_end
 use Rattle.gabc_text.specs.Ends.{EndsOnce}
 use Rattle.gabc_text.specs.Events.{codes_of, events_of, events_by_point}
 use Rattle.gabc_text.specs.View.{PieceFacts, kept, findings}
@@ -24,19 +25,25 @@ use Rattle.gabc_score.specs.declared.events.BodyEvent.{BodyEvent}
 use Rattle.gabc_score.specs.Body.{events_onto, findings_of}
 use Rattle.gabc_score.specs.Events.{PartAhead, texts_by_definition, text_from, snippet_from, next_line, behind_mark, events_from}
 use Rattle.gabc_score.specs.FoundInParts.{TextWarns, SnippetsWarn, snippet_events}
-use Rattle.gabc_score.specs.Syllable.{UnplacedSyllable, closes, since_close, all_syllables, syllable_by, is_eu, is_nlba, slice, is_mark, is_open_after}
-use Rattle.gabc_score.specs.Units.{Opens, Closes, CutPart, EndedPart, BodyUnit, LastUnit, cut_part, whole, events_through, snippets_with, units_pieces, last_characters, Cuts, events_of_cutting}
+use Rattle.gabc_score.specs.Syllable.{UnplacedSyllable, closes, since_close, kept_of, all_syllables, syllable_by, is_eu, is_nlba, slice, is_mark, is_open_after}
+use Rattle.gabc_score.specs.WithinLimits.{KeepsWithin}
+use Rattle.gabc_score.specs.Units.{Opens, Next, Closes, CutPart, EndedPart, BodyUnit, LastUnit, cut_part, whole, events_through, snippets_with, units_pieces, last_characters, Cuts, events_of_cutting}
 use Rattle.gabc_score.specs.SpansPast.{open_past, eu_past, nlba_past}
 use Rattle.gabc_score.specs.SyllablesOfUnits.{with_ends, snippets_in, characters_in, characters_from, ScoreUnit, score_unit, span_tags, HoldsUnit}
 use Rattle.gabc_score.specs.UnitRead.{first_events, GivesOneSyllable}
 use Rattle.gabc_score.proofs.texts_of_body.SeamsOfCharacters.{size}
 use Rattle.gabc_score.proofs.holding.SnippetsAreHeld.{bytes_stand}
-use Rattle.gabc_score.proofs.order.FindingsOfParts.{found, found_onto}
+use Rattle.gabc_score.proofs.order.FindingsOfParts.{found, found_onto, joined_append}
 use Rattle.gabc_score.proofs.order.PartsThatWarn.{joined_found, text_some, snippet_some}
 use Rattle.gabc_score.proofs.stopped_scores.PrefixesAreReadAlike.{through_length}
 use Rattle.gabc_score.proofs.stopped_scores.ClosedWithin.{close_of, close_count, count_one, pieces_count, units_within_are}
 use Rattle.gabc_score.proofs.syllables_of_units.LastTagOpensTheSpan.{behind_tags}
 use Rattle.gabc_score.proofs.syllables_of_units.UnitsGiveSyllables.{through_more, snippets_whole, unit_whole, units_whole, unit_emits}
+use Rattle.gabc_score.proofs.snippets_of_body.SnippetEmitsThroughEnd.{line_emitted}
+use Rattle.gabc_score.proofs.texts_of_body.TextEmitsThroughEnd.{text_ended}
+use Rattle.gabc_score.proofs.holding.SyllablesHoldParts.{fits_prefix, fits_back}
+use Rattle.gabc_score.proofs.within_limits.KeptSoFar.{bytes_kept, all_kept, kept_append, kept_few, since_on}
+use Rattle.gabc_score.proofs.within_limits.UnitsKeepFew.{line_few, text_few, size_with_end}
 use Rattle.gabc_score.proofs.units.BodyHasOneCutting.{cuts_emitted}
 
 -- ---- events
@@ -61,6 +68,50 @@ none_made (t ∷ ts) before h =
     by : (b : Bool) → (let n : ℕ = cond b 1 0 in n ≡ 0) → cond b (all_syllables before ++ syllable_by (t ∷ since_close before) (is_eu before) (is_nlba before) ∷ []) (all_syllables before) ≡ all_syllables before
     by true e = absurd (omega (arith, e))
     by false e = refl
+
+-- no syllable that is made by these events keeps more than that, if they do not, with what has been kept since the last `)`
+record MadeFew (limit : ℕ) (ts before : List BodyEvent) : Type 0 where
+  more : List UnplacedSyllable
+  made_are : all_syllables (events_onto ts before) ≡ all_syllables before ++ more
+  few : All (λ (m : UnplacedSyllable). length m.kept ≤ limit) more
+
+one_few : (limit : ℕ) (t : BodyEvent) (before : List BodyEvent) → bytes_kept t + all_kept (since_close before) ≤ limit → MadeFew limit (t ∷ []) before
+one_few limit t before h = record { more = made.0; made_are = made.1.0; few = made.1.1 }
+  where
+    Few : UnplacedSyllable → Type 0
+    Few m = length m.kept ≤ limit
+
+    by : (b : Bool) → (let one : UnplacedSyllable = syllable_by (t ∷ since_close before) (is_eu before) (is_nlba before) in Few one
+        → (more : List UnplacedSyllable) × ((cond b (all_syllables before ++ one ∷ []) (all_syllables before) ≡ all_syllables before ++ more) × All Few more))
+    by true k = (syllable_by (t ∷ since_close before) (is_eu before) (is_nlba before) ∷ [], (refl, All-cons Few _ [] k (All-nil Few)))
+    by false k = ([], (sym (append-nil (all_syllables before)), All-nil Few))
+
+    made : (more : List UnplacedSyllable) × ((all_syllables (t ∷ before) ≡ all_syllables before ++ more) × All Few more)
+    made = by (closes t) (let k : length (kept_of (t ∷ since_close before)) ≤ all_kept (t ∷ since_close before) = kept_few (t ∷ since_close before) in omega arith)
+
+made_few : (limit : ℕ) (ts before : List BodyEvent) → all_kept (since_close before) + all_kept ts ≤ limit → MadeFew limit ts before
+made_few limit [] before h = record { more = []; made_are = sym (append-nil (all_syllables before)); few = All-nil (λ (m : UnplacedSyllable). length m.kept ≤ limit) }
+made_few limit (t ∷ ts) before h =
+    let one = one_few limit t before (omega (arith, h)) in
+    let on : all_kept (since_close (events_onto (t ∷ []) before)) ≤ all_kept (since_close before) + all_kept (t ∷ []) = since_on (t ∷ []) before in
+    let r = made_few limit ts (t ∷ before) (omega (arith, h, on)) in
+    record {
+      more = one.more ++ r.more;
+      made_are = r.made_are ∙ ap (λ (ms : List UnplacedSyllable). ms ++ r.more) one.made_are ∙ append_assoc (all_syllables before) one.more r.more;
+      few = All-append (λ (m : UnplacedSyllable). length m.kept ≤ limit) one.more r.more one.few r.few;
+    }
+
+-- what stands behind a list is known from all
+rest_same : (ms xs ys : List UnplacedSyllable) → ms ++ xs ≡ ms ++ ys → xs ≡ ys
+rest_same ms xs ys e = sym (drop_at ms xs (length ms) refl) ∙ ap (drop (length ms)) e ∙ drop_at ms ys (length ms) refl
+
+-- some of the events keep no more than all
+some_kept : (n : ℕ) (lists : List (List BodyEvent)) → all_kept (concat_of (take n lists)) ≤ all_kept (concat_of lists)
+some_kept n lists =
+    let parts : all_kept (concat_of (take n lists) ++ concat_of (drop n lists)) ≡ all_kept (concat_of (take n lists)) + all_kept (concat_of (drop n lists)) = kept_append (concat_of (take n lists)) (concat_of (drop n lists)) in
+    let all : all_kept (concat_of (take n lists) ++ concat_of (drop n lists)) ≡ all_kept (concat_of lists) =
+    ap all_kept (sym (joined_append (take n lists) (drop n lists))) ∙ ap (λ (ls : List (List BodyEvent)). all_kept (concat_of ls)) (take-append-drop n lists) in
+    omega (arith, parts, all)
 
 -- ---- spans
 
@@ -185,6 +236,55 @@ module _ (all_found : (at : Place) (t : List ℕ) → found_in (concat_of (event
             (r.warns h.1));
       }
 
+  notes_few : (nexts : List EndedPart) (final : EndedPart) (more : List CutPart) (last : List Char) (line : ℕ) (opened : Place)
+      → (let pieces = snippets_with lines line opened nexts (cut_part final Closes ∷ more) in let xs = whole pieces last in
+      size (codes_of xs) < 2 ^ 63 → Cuts texts_by_definition lines macros (snippet_from lines macros line opened xs) pieces last
+      → all_kept (concat_of (notes_front nexts final more last line opened).front) ≤ size (codes_of (with_ends (nexts ++ final ∷ []))))
+  unfolding notes_front
+  notes_few [] final more last line opened fits h =
+      let rest = whole more last in
+      let events = concat_of (events_through (snippet_from lines macros line opened (final.characters ++ final.end ∷ rest)) final.characters) in
+      let l = line_emitted lines macros opened line final.characters final.end rest Closes (fits_prefix final.characters (final.end ∷ rest) fits) h.0 in
+      let now : all_kept events ≤ size (codes_of final.characters) + 1 = line_few lines line opened final.characters final.end Closes events l in
+      let size_is : size (codes_of final.characters) + 1 + size (codes_of []) ≤ size (codes_of (with_ends (final ∷ []))) = size_with_end final.characters final.end [] in
+      omega (arith, now, size_is)
+  notes_few (e ∷ nexts) final more last line opened fits h =
+      let next = next_line lines line in
+      let pieces = snippets_with lines next opened nexts (cut_part final Closes ∷ more) in
+      let rest = whole pieces last in
+      let first = events_through (snippet_from lines macros line opened (e.characters ++ e.end ∷ rest)) e.characters in
+      let r = notes_front nexts final more last next opened in
+      let l = line_emitted lines macros opened line e.characters e.end rest (Next next opened) (fits_prefix e.characters (e.end ∷ rest) fits) h.0 in
+      let now : all_kept (concat_of first) ≤ size (codes_of e.characters) + 1 = line_few lines line opened e.characters e.end (Next next opened) (concat_of first) l in
+      let size_is : size (codes_of e.characters) + 1 + size (codes_of (with_ends (nexts ++ final ∷ []))) ≤ size (codes_of (with_ends ((e ∷ nexts) ++ final ∷ []))) =
+      size_with_end e.characters e.end (with_ends (nexts ++ final ∷ [])) in
+      let on : all_kept (concat_of r.front) ≤ size (codes_of (with_ends (nexts ++ final ∷ []))) = notes_few nexts final more last next opened (fits_back (e.end ∷ []) rest (fits_back e.characters (e.end ∷ rest) fits)) h.1 in
+      let both : all_kept (concat_of (first ++ r.front)) ≡ all_kept (concat_of first) + all_kept (concat_of r.front) = ap all_kept (joined_append first r.front) ∙ kept_append (concat_of first) (concat_of r.front) in
+      omega (arith, now, size_is, on, both)
+
+  unit_few : (ends : (at : Place) (t : List ℕ) → EndsOnce at t) (emits : (at : Place) (t : List ℕ) → with_events empty_text (concat_of (events_by_point at t)) ≡ text_built_at at t)
+      (limit : ℕ) (at : Place) (u : BodyUnit) (more : List CutPart) (last : List Char)
+      → (let pieces = cut_part u.text Opens ∷ snippets_with lines 0 u.text.end.place u.nexts (cut_part u.final Closes ∷ more) in let xs = whole pieces last in
+      size (codes_of xs) < 2 ^ 63 → Cuts texts_by_definition lines macros (text_from texts_by_definition at xs) pieces last → KeepsWithin limit (score_unit u (whole more last))
+      → all_kept (concat_of (unit_front at u more last).front) ≤ limit)
+  unfolding unit_front
+  unit_few ends emits limit at u more last fits h few =
+      let prefix = u.text.characters in
+      let end = u.text.end in
+      let pieces = snippets_with lines 0 end.place u.nexts (cut_part u.final Closes ∷ more) in
+      let rest = whole pieces last in
+      let xs = prefix ++ end ∷ rest in
+      let first = events_through (text_from texts_by_definition at xs) prefix in
+      let v = score_unit u (whole more last) in
+      let r = notes_front u.nexts u.final more last 0 end.place in
+      let e = text_ended ends emits lines at prefix end rest Opens h.0 in
+      let now : all_kept (concat_of first) ≤ size (kept (codes_of xs)) + 1 = text_few (codes_of xs) text_end.Notes (concat_of first) e.0 in
+      let text_is : size (kept v.text) ≡ size (kept (codes_of xs)) = ap (λ (t : List ℕ). size (kept t)) (ap codes_of (sym (unit_whole lines u more last))) in
+      let notes_are : size (codes_of []) + 1 + size (codes_of (with_ends (snippets_in u))) ≤ size v.notes = size_with_end [] end (with_ends (snippets_in u)) in
+      let on : all_kept (concat_of r.front) ≤ size (codes_of (with_ends (snippets_in u))) = notes_few u.nexts u.final more last 0 end.place (fits_back (end ∷ []) rest (fits_back prefix (end ∷ rest) fits)) h.1 in
+      let both : all_kept (concat_of (first ++ r.front)) ≡ all_kept (concat_of first) + all_kept (concat_of r.front) = ap all_kept (joined_append first r.front) ∙ kept_append (concat_of first) (concat_of r.front) in
+      omega (arith, now, text_is, notes_are, on, both, few)
+
   -- they are what its characters emit
   first_is : (xs : List Char) (n : ℕ) (at : Place) (front later : List (List BodyEvent)) → events_from texts_by_definition lines macros (text_from texts_by_definition at xs) xs ≡ front ++ later → length front ≡ n
       → first_events lines macros at xs n ≡ concat_of front
@@ -227,7 +327,7 @@ module _ (ends : (at : Place) (t : List ℕ) → EndsOnce at t) (emits : (at : P
         ap (λ (ys : List Char). events_from texts_by_definition lines macros (text_from texts_by_definition at ys) ys) (sym whole_is)
         ∙ cuts_emitted texts_by_definition lines macros (text_from texts_by_definition at (whole pieces end)) pieces end tt cut
 
-    parts : Front (length (characters_in u)) (TextWarns (score_unit u (whole more end)).text × SnippetsWarn lines macros 0 (snippets_in u) (whole more end))
+    abbrev parts : Front (length (characters_in u)) (TextWarns (score_unit u (whole more end)).text × SnippetsWarn lines macros 0 (snippets_in u) (whole more end))
         (lists_of all_found lines macros (text_from texts_by_definition at (whole pieces end)) pieces end)
         (lists_of all_found lines macros (text_from texts_by_definition (behind_mark u.final.end.place) (whole more end)) more end)
     parts = unit_front all_found lines macros at u more end
@@ -261,6 +361,8 @@ module _ (ends : (at : Place) (t : List ℕ) → EndsOnce at t) (emits : (at : P
           given = ap all_syllables mid_is ∙ g.step.made_is;
           nothing_behind = ap since_close mid_is ∙ g.step.since;
           holds = holds;
+          few_on_the_way = λ limit n few small. few_kept limit n few small;
+          few = λ limit k. few_made limit k g.step.made (ap all_syllables mid_is ∙ g.step.made_is);
           eu_is = eu_is;
           nlba_is = nlba_is;
           open_eu = ap is_eu mid_is ∙ g.step.eu ∙ sym g.step.made_eu;
@@ -269,6 +371,34 @@ module _ (ends : (at : Place) (t : List ℕ) → EndsOnce at t) (emits : (at : P
       where
         within : (n w : ℕ) (k : ℕ) → n < w → (if nat_lt n w then 0 else k) ≡ 0
         within n w k h = ap (λ (b : Bool). if b then 0 else k) (lt-ltb n w h)
+
+        total : (limit : ℕ) → KeepsWithin limit (score_unit u behind) → all_kept (first_events lines macros at all (length (characters_in u))) ≤ limit
+        total limit few =
+            let all_few = unit_few all_found lines macros ends emits limit at u more end short cut (subst (λ (ys : List Char). KeepsWithin limit (score_unit u ys)) (sym behind_is) few) in
+            subst (λ (ts : List BodyEvent). all_kept ts ≤ limit) (sym emitted_is) all_few
+
+        none_kept : all_kept (since_close before) ≡ 0
+        none_kept = ap all_kept since
+
+        few_kept : (limit n : ℕ) → KeepsWithin limit (score_unit u behind) → n ≤ length (characters_in u) → length (kept_of (since_close (events_onto (first_events lines macros at all n) before))) ≤ limit
+        few_kept limit n few small =
+            let lists = events_from texts_by_definition lines macros (text_from texts_by_definition at all) all in
+            let ts = first_events lines macros at all n in
+            let after : length (kept_of (since_close (events_onto ts before))) ≤ all_kept (since_close (events_onto ts before)) = kept_few (since_close (events_onto ts before)) in
+            let on : all_kept (since_close (events_onto ts before)) ≤ all_kept (since_close before) + all_kept ts = since_on ts before in
+            let shorter : take n (take (length (characters_in u)) lists) ≡ take n lists = take-take n (length (characters_in u)) lists small in
+            let some : all_kept (concat_of (take n (take (length (characters_in u)) lists))) ≤ all_kept (first_events lines macros at all (length (characters_in u))) = some_kept n (take (length (characters_in u)) lists) in
+            let same : all_kept (concat_of (take n (take (length (characters_in u)) lists))) ≡ all_kept ts = ap (λ (ls : List (List BodyEvent)). all_kept (concat_of ls)) shorter in
+            let bound : all_kept (first_events lines macros at all (length (characters_in u))) ≤ limit = total limit few in
+            omega (arith, after, on, some, same, bound, none_kept)
+
+        few_made : (limit : ℕ) → KeepsWithin limit (score_unit u behind) → (made : UnplacedSyllable)
+            → all_syllables (events_onto (first_events lines macros at all (length (characters_in u))) before) ≡ all_syllables before ++ made ∷ [] → length made.kept ≤ limit
+        few_made limit few made given =
+            let bound : all_kept (first_events lines macros at all (length (characters_in u))) ≤ limit = total limit few in
+            let m = made_few limit (first_events lines macros at all (length (characters_in u))) before (omega (arith, bound, none_kept)) in
+            let Few : UnplacedSyllable → Type 0 = λ (m : UnplacedSyllable). length m.kept ≤ limit in
+            All-head Few made [] (subst (All Few) (rest_same (all_syllables before) m.more (made ∷ []) (sym m.made_are ∙ given)) m.few)
 
         none_within : (n : ℕ) → n < length (characters_in u) → close_count (first_events lines macros at all n) ≡ 0
         none_within n few =

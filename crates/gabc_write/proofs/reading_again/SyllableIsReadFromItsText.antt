@@ -23,7 +23,7 @@ use Rattle.gabc_score.specs.Canonical.{canonical}
 use Rattle.gabc_score.specs.Events.{texts_by_definition, text_from, next_line}
 use Rattle.gabc_score.specs.FoundInParts.{TextWarns, SnippetsWarn}
 use Rattle.gabc_score.specs.SpansPast.{open_past}
-use Rattle.gabc_score.specs.Syllable.{UnplacedSyllable, slice, since_close, all_syllables, is_eu, is_nlba, is_open_after}
+use Rattle.gabc_score.specs.Syllable.{UnplacedSyllable, slice, since_close, kept_of, all_syllables, is_eu, is_nlba, is_open_after}
 use Rattle.gabc_score.specs.SyllablesOfUnits.{ScoreUnit, HoldsUnit, characters_in, characters_from, score_unit, snippets_in}
 use Rattle.gabc_score.specs.UnitRead.{HoldsSomeUnit, GivesOneSyllable, first_events}
 use Rattle.gabc_score.specs.Units.{EndedPart, BodyUnit, LastUnit, JustText, Cuts, units_pieces, last_characters}
@@ -32,6 +32,8 @@ use Rattle.gabc_write.specs.BodyAgain.{SyllableFacts}
 use Rattle.gabc_write.specs.SyllableMeaning.{PieceMeaning, meaning_of_piece, SyllableMeaning}
 use Rattle.gabc_write.specs.SyllableRead.{SaysTheSame, IsReadByItself, IsReadFromItsText}
 use Rattle.gabc_write.proofs.reading_again.NoErrorIsFoundAgain.{snippets_warn}
+use Rattle.gabc_score.specs.WithinLimits.{KeepsWithin}
+use Rattle.gabc_write.proofs.reading_again.NoLimitIsPassedAgain.{one_keeps}
 use Rattle.gabc_write.proofs.reading_again.PlacedCharacters.{codes_placed}
 use Rattle.gabc_write.proofs.reading_again.ScoreReadAgainIsTheSame.{kept_again, some_parts}
 use Rattle.gabc_write.proofs.reading_again.SyllablesSayTheSame.{one_said}
@@ -128,6 +130,9 @@ module _ (starts : (t : List ℕ) → (view_in t).word_start ≡ (view_facts t).
       snippets_are : again_printed.snippets ≡ own.snippets
       snippets_are = again_printed.own (some_parts lines macros unit.nexts unit.final) ∙ kept_again lines macros 0 (snippets_in unit) [] own.snippets says_again.snippets
 
+      keeps : KeepsWithin (length (encodes text)) read_unit
+      keeps = one_keeps lines macros (length (encodes text)) unit [] (view_facts h.unit.text) own.snippets says_again (omega arith)
+
       says : SaysTheSame g.made m
       says position =
           let facts : SyllableFacts = record { view = view_facts h.unit.text; snippets = own.snippets } in
@@ -144,6 +149,9 @@ module _ (starts : (t : List ℕ) → (view_in t).word_start ≡ (view_facts t).
             nothing_behind = ap₂ (λ (ys : List Char) (n : ℕ). since_close (events_onto (first_events lines macros at ys n) before)) (sym xs_are) (sym size_is) ∙ g.nothing_behind;
             warnings = subst (All IsWarning) (ap₂ (λ (ys : List Char) (n : ℕ). findings_of (events_onto (first_events lines macros at ys n) [])) xs_are size_is)
                 (warns lines macros at unit [] (JustText []) fits cuts (λ place. text_warns place read_unit.text (says_again.errors place)) (snippets_warn text_warns lines macros 0 (snippets_in unit) [] own.snippets says_again.snippets));
+            few_on_the_way = λ n small. subst (λ (ys : List Char). length (kept_of (since_close (events_onto (first_events lines macros at ys n) before))) ≤ length (encodes text)) xs_are
+                (g.few_on_the_way (length (encodes text)) n keeps (subst (λ (k : ℕ). n ≤ k) (sym size_is) small));
+            few = g.few (length (encodes text)) keeps;
             holds = record { unit = read_unit; noted = some_parts lines macros unit.nexts unit.final; single = single; holds = g.holds };
             says = says;
             eu_is = g.eu_is ∙ same_past (codes "<eu>") (codes "</eu>") g.made m (is_eu before) says;
