@@ -1,4 +1,5 @@
 pub mod LastTagOpensTheSpan
+pub mod SpansFollowOneAnother
 pub mod SyllablesAreThoseOfUnits
 mod SyllablesOfUnitsExamples
 pub mod UnitGivesOneSyllable

@@ -1,7 +1,7 @@
 //! Laws of a unit and its syllable, apart from the score in which they stand. Each function's contract is a law; its body calls the laws below that
 //! it stands on.
 
-ghost use Rattle.std.specs.Prelude.{◌≡◌, ◌<◌, ◌≤◌, ◌^◌, ℕ, List, [], ◌∷◌, length, encode_utf8_all};
+ghost use Rattle.std.specs.Prelude.{◌≡◌, ◌<◌, ◌≤◌, ◌^◌, ◌++◌, ℕ, List, [], ◌∷◌, false, length, encode_utf8_all};
 ghost use Rattle.std.specs.List.{All};
 ghost use Rattle.gabc_places.specs.declared.place.Char.{Char};
 ghost use Rattle.gabc_places.specs.declared.place.Place.{Place};
@@ -12,8 +12,9 @@ ghost use Rattle.gabc_score.specs.Body.{events_onto, findings_of};
 ghost use Rattle.gabc_score.specs.Events.{texts_by_definition, text_from};
 ghost use Rattle.gabc_score.specs.FoundInParts.{TextWarns, SnippetsWarn};
 ghost use Rattle.gabc_score.specs.Holding.{HoldsWithNotes, HasWholeSnippets};
-ghost use Rattle.gabc_score.specs.Syllable.{UnplacedSyllable, since_close};
-ghost use Rattle.gabc_score.specs.SyllablesOfUnits.{characters_in, characters_from, score_unit, snippets_in};
+ghost use Rattle.gabc_score.specs.SpansPast.{eu_past, nlba_past};
+ghost use Rattle.gabc_score.specs.Syllable.{UnplacedSyllable, PlacedSyllable, since_close};
+ghost use Rattle.gabc_score.specs.SyllablesOfUnits.{ScoreUnit, AreSyllablesOf, characters_in, characters_from, score_unit, snippets_in};
 ghost use Rattle.gabc_score.specs.UnitRead.{HoldsSomeUnit, GivesOneSyllable, first_events};
 ghost use Rattle.gabc_score.specs.Units.{BodyUnit, LastUnit, Cuts, units_pieces, last_characters};
 
@@ -45,6 +46,18 @@ pub fn a_unit_gives_one_syllable()
 /// The spans of the snippets of a syllable that holds a unit begin and end between characters: each has its text.
 pub fn snippets_of_a_unit_stand_between_characters()
     ensures { (lines : ℕ) (m : UnplacedSyllable) → HoldsSomeUnit lines m → HasWholeSnippets m }
+{}
+
+/// Which spans are open behind a syllable of units follows from its text and from those that are open behind the one before it. Before the first none is.
+pub fn spans_follow_one_another()
+    ensures first { (lines : ℕ) (units : List ScoreUnit) (syllables after : List PlacedSyllable)
+        (s : PlacedSyllable) → AreSyllablesOf lines units syllables → syllables ≡ s ∷ after
+        → (s.made.eu ≡ eu_past s.made false) × (s.made.nlba ≡ nlba_past s.made false) }
+    ensures next { (lines : ℕ) (units : List ScoreUnit)
+        (syllables before after : List PlacedSyllable) (s next : PlacedSyllable)
+        → AreSyllablesOf lines units syllables → syllables ≡ before ++ s ∷ next ∷ after
+        → (next.made.eu ≡ eu_past next.made s.made.eu)
+        × (next.made.nlba ≡ nlba_past next.made s.made.nlba) }
 {}
 
 /// A syllable that holds its parts in some input, with its notes, holds a unit, if it has but one snippet where there are no NABC lines.
