@@ -24,19 +24,26 @@ pub record HoldsSomeUnit (lines : ℕ) (m : UnplacedSyllable) : Type 0 where
 abbrev pub first_events : ℕ → ℕ → Place → List Char → ℕ → List BodyEvent
 first_events lines macros at xs n = concat_of (take n (events_from texts_by_definition lines macros (text_from texts_by_definition at xs) xs))
 
--- A unit whose text begins at this place, with those characters behind it, gives one syllable behind what was emitted before. It gives
--- it with its last character, and nothing of the next one. The syllable holds the unit; which spans are open behind it follows from
--- those before. No more is kept on the way, nor of the syllable, than the unit keeps.
-pub record GivesOneSyllable (lines macros : ℕ) (at : Place) (u : BodyUnit) (behind : List Char) (before : List BodyEvent) : Type 0 where
-  pub made : UnplacedSyllable
-  pub none_earlier : (n : ℕ) → n < length (characters_in u) → all_syllables (events_onto (first_events lines macros at (characters_in u ++ behind) n) before) ≡ all_syllables before
-  pub given : all_syllables (events_onto (first_events lines macros at (characters_in u ++ behind) (length (characters_in u))) before) ≡ all_syllables before ++ made ∷ []
-  pub nothing_behind : since_close (events_onto (first_events lines macros at (characters_in u ++ behind) (length (characters_in u))) before) ≡ []
-  pub holds : HoldsUnit lines (score_unit u behind) made
-  pub few_on_the_way : (limit n : ℕ) → KeepsWithin limit (score_unit u behind) → n ≤ length (characters_in u)
-      → length (kept_of (since_close (events_onto (first_events lines macros at (characters_in u ++ behind) n) before))) ≤ limit
-  pub few : (limit : ℕ) → KeepsWithin limit (score_unit u behind) → length made.kept ≤ limit
-  pub eu_is : made.eu ≡ eu_past made (is_eu before)
-  pub nlba_is : made.nlba ≡ nlba_past made (is_nlba before)
-  pub open_eu : is_eu (events_onto (first_events lines macros at (characters_in u ++ behind) (length (characters_in u))) before) ≡ made.eu
-  pub open_nlba : is_nlba (events_onto (first_events lines macros at (characters_in u ++ behind) (length (characters_in u))) before) ≡ made.nlba
+module _ (lines macros : ℕ) (at : Place) (u : BodyUnit) (behind : List Char) (before : List BodyEvent) where
+  -- what was emitted, the nearest first, behind the first n characters of a unit whose text begins at this place, with those characters
+  -- behind it and this before it
+  abbrev pub emitted_within : ℕ → List BodyEvent
+  emitted_within n = events_onto (first_events lines macros at (characters_in u ++ behind) n) before
+
+  abbrev pub emitted_through : List BodyEvent
+  emitted_through = emitted_within (length (characters_in u))
+
+  -- The unit gives one syllable. It gives it with its last character, and nothing of the next one. The syllable holds the unit; which
+  -- spans are open behind it follows from those before. No more is kept on the way, nor of the syllable, than the unit keeps.
+  pub record GivesOneSyllable : Type 0 where
+    pub made : UnplacedSyllable
+    pub none_earlier : (n : ℕ) → n < length (characters_in u) → all_syllables (emitted_within n) ≡ all_syllables before
+    pub given : all_syllables emitted_through ≡ all_syllables before ++ made ∷ []
+    pub nothing_behind : since_close emitted_through ≡ []
+    pub holds : HoldsUnit lines (score_unit u behind) made
+    pub few_on_the_way : (limit n : ℕ) → KeepsWithin limit (score_unit u behind) → n ≤ length (characters_in u) → length (kept_of (since_close (emitted_within n))) ≤ limit
+    pub few : (limit : ℕ) → KeepsWithin limit (score_unit u behind) → length made.kept ≤ limit
+    pub eu_is : made.eu ≡ eu_past made (is_eu before)
+    pub nlba_is : made.nlba ≡ nlba_past made (is_nlba before)
+    pub open_eu : is_eu emitted_through ≡ made.eu
+    pub open_nlba : is_nlba emitted_through ≡ made.nlba

@@ -156,6 +156,8 @@ module _ (starts : (t : List ℕ) → (view_in t).word_start ≡ (view_facts t).
             says = says;
             eu_is = g.eu_is ∙ same_past (codes "<eu>") (codes "</eu>") g.made m (is_eu before) says;
             nlba_is = g.nlba_is ∙ same_past (codes "<nlba>") (codes "</nlba>") g.made m (is_nlba before) says;
+            open_eu = ap₂ (λ (ys : List Char) (n : ℕ). is_eu (events_onto (first_events lines macros at ys n) before)) (sym xs_are) (sym size_is) ∙ g.open_eu;
+            open_nlba = ap₂ (λ (ys : List Char) (n : ℕ). is_nlba (events_onto (first_events lines macros at ys n) before)) (sym xs_are) (sym size_is) ∙ g.open_nlba;
             same_text = again_printed.bytes ∙ ap₂ (λ (v : ViewFacts) (ss : List (List ℕ)). encodes (printed_syllable v ss)) says_again.view_stays snippets_are ∙ sym own.bytes;
           }
 
