@@ -1,6 +1,6 @@
 //! Laws of a stage of headers. Each function's contract is a law. Its body drives a stage, gives it one input, calls other laws, or does nothing.
 
-ghost use Rattle.std.specs.Prelude.{◌≡◌, ◌+◌, ◌*◌, ◌≤◌, List, [], ◌∷◌, true, false, length, map, None, OnOk, Result};
+ghost use Rattle.std.specs.Prelude.{◌≡◌, ◌+◌, ◌*◌, ◌≤◌, List, [], ◌∷◌, true, false, length, map, None, OnErr, OnOk, Result};
 ghost use Rattle.std.specs.Char.{IsScalar};
 ghost use Rattle.std.specs.List.{All};
 ghost use Rattle.gabc_places.specs.declared.place.Char.{Char};
@@ -20,7 +20,7 @@ use crate::header_stage::HeaderStage;
 use gabc_places::{Chain, Char, Decoder, Fault, Limits, Room, Stage, drive};
 use std::alloc::{AllocError, Global};
 
-/// A fresh stage of headers, driven over `inputs`, emits what the definition says of them.
+/// A fresh stage of headers, driven over `inputs`, emits what the definition says of them. For want of memory nothing is emitted.
 pub fn a_fresh_stage_emits(
     alloc: Global,
     limits: Limits,
@@ -28,8 +28,9 @@ pub fn a_fresh_stage_emits(
     out: &mut Room<HeadEvent>,
 ) -> Result<(), AllocError>
     requires { Fits out.old (2 * (length inputs.items + 1)) }
-    ensures { OnOk result (out.new
+    ensures emitted { OnOk result (out.new
         ≡ extended_by out.old (concat_of (events_left limits (reading []) inputs.items))) }
+    ensures unchanged { OnErr result (out.new ≡ out.old) }
 {
     let mut stage = HeaderStage::with_limits(alloc, limits)?;
     drive(&mut stage, inputs, out);
@@ -38,7 +39,7 @@ pub fn a_fresh_stage_emits(
 
 /// A fresh stage of headers behind a fresh decoder, driven over the `bytes` of an input that ended, emits what the definition says
 /// of the characters and the fault that `text_of` returns. Without a fault that is what `headers_whole` returns for the text, then the
-/// characters of its body and the end.
+/// characters of its body and the end. For want of memory nothing is emitted.
 pub fn a_fresh_stage_reads_bytes(
     alloc: Global,
     limits: Limits,
@@ -51,6 +52,7 @@ pub fn a_fresh_stage_reads_bytes(
     ensures text { OnOk result ((decoded_of limits true bytes.items).fault ≡ None →
         let t = (decoded_of limits true bytes.items).text in
         out.new ≡ extended_by out.old (events_of_heads t (heads_of limits t))) }
+    ensures unchanged { OnErr result (out.new ≡ out.old) }
 {
     let between = Room::with_limit(alloc, 1)?;
     let stage = HeaderStage::with_limits(alloc, limits)?;

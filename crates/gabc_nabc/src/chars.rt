@@ -22,6 +22,6 @@ pub fn kept_chars(alloc: Global, body: &str, at: Place) -> Result<Sequence<Char>
 {
     kept_characters_are_the_kept_text();
     let read = nabc_whole(alloc, body, at)?;
-    let mut stage = NabcStage::new();
-    kept_chars_by(alloc, &mut stage, body, at, &read.kept)
+    let stage = NabcStage::new();
+    kept_chars_by(alloc, stage, body, at, &read.kept)
 }

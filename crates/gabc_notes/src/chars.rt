@@ -51,20 +51,20 @@ fn characters(text: &str) -> usize
 }
 
 /// Returns the first of the characters that `stage` emits as kept, driven over `body` and then ended: as many as `kept` has, or all
-/// if there are fewer. The first character of `body` stands at `at`. It fails only for want of memory.
+/// if there are fewer. The first character of `body` stands at `at`. It fails only for want of memory. The stage is spent either way.
 pub fn kept_chars_by<S>(
     alloc: Global,
-    stage: &mut S,
+    mut stage: S,
     body: &str,
     at: Place,
     kept: &str,
 ) -> Result<Sequence<Char>, AllocError>
 where
-    S: Stage<Input = Char, Output = NoteEvent>,
+    S: Stage<Input = Char, Output = NoteEvent> + Drop,
     requires line { at.line + length body.now < 2 ^ 64 }
     requires column { at.column + length body.now < 2 ^ 64 }
     ensures { let events = concat_of
-        (S.rest stage.old (placed_characters_from at (chars body.now))) in
+        (S.rest stage (placed_characters_from at (chars body.now))) in
         IfOk result (λ cs. cs ≡ take (length (chars kept.now)) (kept_chars_of events)) }
 {
     let count = characters(kept);
@@ -102,6 +102,6 @@ pub fn kept_chars(
         IfOk result (λ cs. map (λ x. x.c) cs ≡ kept_by s.mark s.back) }
 {
     let read = snippet_whole(alloc, body, at, split, macros)?;
-    let mut stage = NoteStage::new(split, macros);
-    kept_chars_by(alloc, &mut stage, body, at, &read.kept)
+    let stage = NoteStage::new(split, macros);
+    kept_chars_by(alloc, stage, body, at, &read.kept)
 }

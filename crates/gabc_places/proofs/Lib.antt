@@ -9,3 +9,4 @@ pub mod GatheredOfAText
 pub mod NothingBehindAnEnd
 pub mod PlacesOfAText
 pub mod PushesAreOne
+pub mod TakenInTurn

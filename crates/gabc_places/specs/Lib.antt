@@ -12,6 +12,7 @@ pub mod FilledPieceByPiece
 pub mod Findings
 pub mod GhostCalls
 pub mod GhostCallsDepth
+pub mod GivenUp
 pub mod LargerLimits
 pub mod Limits
 pub mod Message

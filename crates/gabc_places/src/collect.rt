@@ -1,15 +1,16 @@
 //! All that a stage emits of a text.
 
-ghost use Rattle.std.specs.Prelude.{◌≡◌, ◌+◌, ◌^◌, ◌<◌, length, IfOk, OnOk};
+ghost use Rattle.std.specs.Prelude.{◌≡◌, ◌+◌, ◌^◌, ◌<◌, ◌⊎◌, length, IfOk, OnErr, OnOk};
 ghost use Rattle.std.specs.Str.{chars};
 ghost use Rattle.gabc_places.specs.StageLaw.{concat_of, EmitsNothing};
+ghost use Rattle.gabc_places.specs.GivenUp.{HasTaken};
 ghost use Rattle.gabc_places.specs.Place.{placed_characters_from};
 
 use crate::{Char, Place, Room, Sequence, Stage};
 use std::alloc::{AllocError, Global};
 
 /// Pushes the characters of `text` to `stage`, ends them, and returns all that it emitted, in order. The first character stands at
-/// `at`.
+/// `at`. It fails only for want of memory: the stage then stands behind some of the characters, or behind their end.
 pub fn outputs_of<S: Stage<Input = Char>>(
     alloc: Global,
     stage: &mut S,
@@ -21,6 +22,8 @@ pub fn outputs_of<S: Stage<Input = Char>>(
     ensures all { IfOk result (λ all. all
         ≡ concat_of (S.rest stage.old (placed_characters_from at (chars text.now)))) }
     ensures over { OnOk result (EmitsNothing (S.rest stage.new)) }
+    ensures left { OnErr result (HasTaken (S.rest stage.old) (S.rest stage.new)
+        (placed_characters_from at (chars text.now)) ⊎ EmitsNothing (S.rest stage.new)) }
 {
     let mut room = Room::with_limit(alloc, stage.most())?;
     let mut all = Sequence::new(alloc);

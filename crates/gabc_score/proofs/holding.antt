@@ -1,3 +1,4 @@
+pub mod PartsAreAUnit
 pub mod ScoreHoldsParts
 pub mod SeamsOfText
 pub mod SnippetsAreHeld

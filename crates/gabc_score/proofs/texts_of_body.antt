@@ -3,4 +3,5 @@ pub mod SeamsOfCharacters
 pub mod SlicesOfTexts
 pub mod StageAndDefinitionAgree
 pub mod TextEmitsThroughEnd
+pub mod TextFromItsBeginning
 pub mod ViewStandsInLongerText

@@ -13,8 +13,10 @@ pub mod Score
 pub mod ScoreEvents
 pub mod ScoreStage
 pub mod ScoreTells
+pub mod SpansPast
 pub mod Stops
 pub mod Syllable
 pub mod SyllablesOfUnits
+pub mod UnitRead
 pub mod Units
 pub mod WithinLimits

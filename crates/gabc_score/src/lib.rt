@@ -42,6 +42,7 @@ mod snippets;
 pub mod stage_laws;
 mod syllable;
 mod syllables;
+pub mod unit_laws;
 mod whole;
 
 pub use before::{Before, Spans};

@@ -1,15 +1,20 @@
 //! Laws of a stage over a score. Each function's contract is a law. Its body drives a stage, gives it one input, calls other laws, or does nothing.
 
-ghost use Rattle.std.specs.Prelude.{◌≡◌, ◌==◌, ◌+◌, ◌*◌, ◌<◌, ◌≤◌, ◌^◌, ℕ, List, [], ◌∷◌, None, true, false, length, map, is_some, encode_utf8_all, IfOk, OnOk};
+ghost use Rattle.std.specs.Prelude.{◌≡◌, ◌==◌, ◌+◌, ◌*◌, ◌<◌, ◌≤◌, ◌^◌, ℕ, List, [], ◌∷◌, None, true, false, length, map, is_some, encode_utf8_all, IfOk, OnErr, OnOk};
 ghost use Rattle.gabc_headers.specs.declared.head_event.HeadEvent.{HeadEvent};
 ghost use Rattle.gabc_headers.specs.declared.head_event.HeadEvent.TheVariants.{Stop};
 ghost use Rattle.gabc_places.specs.declared.code.Fault.{Fault};
 ghost use Rattle.gabc_places.specs.declared.limits.Limits.{Limits};
 ghost use Rattle.gabc_places.specs.BoundedList.{Fits, extended_by};
+ghost use Rattle.gabc_places.specs.declared.place.Place.{Place};
+ghost use Rattle.gabc_places.specs.Place.{placed_characters_from};
 ghost use Rattle.gabc_places.specs.StageLaw.{concat_of};
-ghost use Rattle.gabc_score.specs.witness.BodyStage.{texts_by_stage};
+ghost use Rattle.gabc_text.specs.Events.{CountsFit};
+ghost use Rattle.gabc_text.specs.TextStage.{fresh_stage};
+ghost use Rattle.gabc_score.specs.declared.body_stage.BodyPart.TheVariants.{Text};
+ghost use Rattle.gabc_score.specs.witness.BodyStage.{BodyStageState, running_events_left, texts_by_stage};
 ghost use Rattle.gabc_score.specs.declared.ending.InputEnding.{InputEnding};
-ghost use Rattle.gabc_score.specs.Events.{texts_by_definition};
+ghost use Rattle.gabc_score.specs.Events.{texts_by_definition, text_from, events_from};
 ghost use Rattle.gabc_score.specs.ScoreEvents.{HasNoEnd, ScoreOutput, fault_in, findings_in, has_end, head_events, outputs_of_text, score_outputs, syllables_in};
 ghost use Rattle.gabc_score.specs.HeldAside.{HoldTheSame, GiveTheSame};
 ghost use Rattle.gabc_score.specs.ScoreTells.{before_of, held_of, reading_of, openers_of, is_in_comment, is_in_front, StandsAt};
@@ -23,7 +28,7 @@ use gabc_places::{Limits, Room, Stage, drive};
 use std::alloc::{AllocError, Global};
 
 /// A fresh stage over a score, driven over `inputs` of which no count reaches its last value, gives what the definition gives of them,
-/// each syllable as the event that lends it.
+/// each syllable as the event that lends it. For want of memory nothing is given.
 pub fn a_fresh_stage_emits(
     alloc: Global,
     limits: Limits,
@@ -32,9 +37,10 @@ pub fn a_fresh_stage_emits(
 ) -> Result<(), AllocError>
     requires counts { AreCountsBelow inputs.items }
     requires fits { Fits out.old (16 * (length inputs.items + 1)) }
-    ensures { OnOk result (out.new ≡ extended_by out.old (concat_of
+    ensures given { OnOk result (out.new ≡ extended_by out.old (concat_of
         (map (λ (outputs : List ScoreOutput). events_of outputs)
         (score_outputs texts_by_stage limits inputs.items)))) }
+    ensures unchanged { OnErr result (out.new ≡ out.old) }
 {
     let mut stage = ScoreStage::with_limits(alloc, limits)?;
     drive(&mut stage, inputs, out);
@@ -86,6 +92,18 @@ pub fn texts_are_read_in_full()
         ≡ score_outputs texts_by_definition limits (head_events limits ending t) }
 {
     gabc_headers::laws::canonical_lines_are_within_the_limits();
+    gabc_text::laws::a_fresh_stage_emits_the_events_by_point();
+}
+
+/// A stage over a body that stands at the beginning of a text emits of the characters from there on what the definition says of a text that begins
+/// there, if no count of theirs reaches its last value.
+pub fn a_text_is_read_from_its_beginning()
+    ensures { (r : BodyStageState) (at : Place) (t : List ℕ) →
+        r.part ≡ Text (fresh_stage at) → CountsFit at t →
+        (let xs = placed_characters_from at t in running_events_left r xs
+        ≡ events_from texts_by_definition r.nabc_lines r.macros
+        (text_from texts_by_definition at xs) xs) }
+{
     gabc_text::laws::a_fresh_stage_emits_the_events_by_point();
 }
 

@@ -10,4 +10,6 @@ pub mod PrintedSyllableIsOneUnit
 pub mod ScoreIsPrinted
 pub mod ScoreReadAgainIsTheSame
 pub mod SnippetsAreReadAgain
+pub mod SyllableIsReadFromItsText
+pub mod SyllablesHoldUnits
 pub mod SyllablesSayTheSame

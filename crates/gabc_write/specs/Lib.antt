@@ -11,3 +11,4 @@ pub mod PlainText
 pub mod SyllableMeaning
 pub mod ScoreAgain
 pub mod SyllableAgain
+pub mod SyllableRead

@@ -1,6 +1,6 @@
 //! Laws of the definitions alone. Each function's contract is a law; its body calls the laws below that it stands on.
 
-ghost use Rattle.std.specs.Prelude.{◌≡◌, ◌≤◌, ◌<◌, ◌+◌, ◌*◌, ◌^◌, ℕ, List, length, Some, Ok, encode_utf8_all, IsUtf8};
+ghost use Rattle.std.specs.Prelude.{◌≡◌, ◌≤◌, ◌<◌, ◌+◌, ◌*◌, ◌^◌, ◌⊎◌, ◌++◌, ◌∷◌, ℕ, List, length, Some, Ok, encode_utf8_all, IsUtf8};
 ghost use Rattle.std.specs.List.{All};
 ghost use Rattle.gabc_places.specs.declared.place.Place.{Place};
 ghost use Rattle.gabc_places.specs.declared.place.Char.{Char};
@@ -18,6 +18,7 @@ ghost use Rattle.gabc_score.specs.Syllable.{UnplacedSyllable, PlacedSyllable};
 ghost use Rattle.gabc_score.specs.Canonical.{canonical, starts_word};
 ghost use Rattle.gabc_score.specs.declared.snippets.Snippet.{Snippet};
 ghost use Rattle.gabc_score.specs.Units.{BodyCutting, IsCut};
+ghost use Rattle.gabc_score.specs.UnitRead.{HoldsSomeUnit};
 ghost use Rattle.gabc_score.specs.SyllablesOfUnits.{ScoreUnit, HoldsUnit, AreSyllablesOf, score_units};
 ghost use Rattle.gabc_write.specs.SyllableAgain.{AreSnippets, IsPrinted, IsOneUnit};
 ghost use Rattle.gabc_write.specs.BodyAgain.{SyllableFacts, AreSyllables, FirstBeginsWord, FirstTextBeginsWord, ArePrinted, IsBodyAgain};
@@ -25,7 +26,8 @@ ghost use Rattle.gabc_write.specs.FileAgain.{IsFileAgain};
 ghost use Rattle.gabc_write.specs.ScoreAgain.{IsPrintedScore, IsScoreAgain};
 ghost use Rattle.gabc_write.specs.PlainText.{IsText};
 ghost use Rattle.gabc_write.specs.SyllableMeaning.{AreSame};
-ghost use Rattle.gabc_score.specs.Holding.{HasWholeSnippets};
+ghost use Rattle.gabc_write.specs.SyllableRead.{IsReadFromItsText};
+ghost use Rattle.gabc_score.specs.Holding.{HasWholeSnippets, Holds, HoldsNoNotes};
 ghost use Rattle.gabc_write.specs.DumpOfSyllables.{lines_of_syllable, lines_of_syllables};
 
 /// A printed syllable is read again, whatever follows its `)`, as one unit with the same text, the same snippets and the same
@@ -43,6 +45,21 @@ pub fn syllable_again()
     gabc_notes::laws::kept_again();
     gabc_nabc::laws::kept_again();
     gabc_score::laws::a_syllable_holds_its_parts();
+}
+
+/// A syllable that holds a unit with notes is read again from its own canonical text, by itself: wherever this text stands and whatever was emitted
+/// before, it is one syllable, whole with its last character, that says the same, leaves the same spans open and has the same
+/// canonical text. No error is found in it.
+pub fn a_syllable_is_read_from_its_own_text()
+    ensures { (lines macros : ℕ) (m : UnplacedSyllable) → HoldsSomeUnit lines m →
+        length (canonical m.text.word_start m) < 2 ^ 63 → IsReadFromItsText lines macros m }
+{
+    gabc_text::laws::spans_stand_for_the_view();
+    gabc_text::laws::canonical_is_printed();
+    gabc_text::laws::findings_lie_within();
+    gabc_score::laws::a_syllable_holds_its_parts();
+    gabc_score::unit_laws::a_unit_gives_one_syllable();
+    syllable_again();
 }
 
 /// The canonical texts of the syllables of a score's units, with the LF that ends a file, are a body of printed syllables, the
@@ -88,6 +105,29 @@ pub fn score_is_printed()
     gabc_score::laws::a_body_has_one_cutting();
     gabc_score::laws::units_end_at_their_marks();
     gabc_score::laws::the_syllables_are_those_of_the_units();
+    body_again();
+}
+
+/// Each syllable of a score whose headers are whole, also of one that is stopped, holds a unit with notes. Only the last may have none.
+pub fn syllables_hold_units()
+    ensures each { (limits : Limits) (ending : InputEnding) (t : List ℕ)
+        (book : List (List ℕ × List ℕ)) → length (encode_utf8_all t) < 2 ^ 63
+        → (let score = score_of limits ending t in
+        score.book ≡ Some book → (before after : List PlacedSyllable) (s : PlacedSyllable)
+        → score.syllables ≡ before ++ s ∷ after
+        → HoldsSomeUnit (nabc_lines_of book) s.made ⊎ Holds HoldsNoNotes t s.made) }
+    ensures earlier { (limits : Limits) (ending : InputEnding) (t : List ℕ)
+        (book : List (List ℕ × List ℕ)) → length (encode_utf8_all t) < 2 ^ 63
+        → (let score = score_of limits ending t in
+        score.book ≡ Some book → (before after : List PlacedSyllable) (s next : PlacedSyllable)
+        → score.syllables ≡ before ++ s ∷ next ∷ after
+        → HoldsSomeUnit (nabc_lines_of book) s.made) }
+{
+    gabc_score::laws::a_body_has_one_cutting();
+    gabc_score::laws::units_end_at_their_marks();
+    gabc_score::laws::the_syllables_are_those_of_the_units();
+    gabc_score::laws::a_syllable_holds_its_parts();
+    gabc_score::unit_laws::a_syllable_with_its_parts_holds_a_unit();
     body_again();
 }
 

@@ -48,8 +48,8 @@ fn snippet_chars(alloc: Global, input: &str) -> Result<u64, AllocError> {
 
 /// Returns a digest of the characters that a stage of notes keeps.
 fn chars_by_stage(alloc: Global, input: &str) -> Result<u64, AllocError> {
-    let mut stage = NoteStage::new(true, 0);
-    Ok(digest_of(&kept_chars_by(alloc, &mut stage, input, Place::START, input)?))
+    let stage = NoteStage::new(true, 0);
+    Ok(digest_of(&kept_chars_by(alloc, stage, input, Place::START, input)?))
 }
 
 /// Returns a digest of the items of a snippet of notes.

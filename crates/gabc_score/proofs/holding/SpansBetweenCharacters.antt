@@ -9,7 +9,10 @@ use Rattle.gabc_text.specs.ViewFacts.{StandsFor}
 use Rattle.gabc_score.proofs.holding.SeamsOfText.{first_byte, text_is}
 use Rattle.gabc_score.proofs.holding.SnippetsAreHeld.{bytes_are_size}
 use Rattle.gabc_score.specs.Body.{empty_snippet}
+use Rattle.gabc_places.specs.declared.place.Char.{Char}
 use Rattle.gabc_score.specs.Holding.{ReadSnippet, HoldsParts, HasWholeSnippets}
+use Rattle.gabc_score.specs.SyllablesOfUnits.{NotesAre}
+use Rattle.gabc_score.specs.UnitRead.{HoldsSomeUnit}
 use Rattle.gabc_score.specs.Syllable.{UnplacedSyllable, PlacedSyllable, is_seam, slice, text_at}
 use Rattle.gabc_score.specs.declared.snippets.Snippet.{Snippet}
 
@@ -55,6 +58,17 @@ end_seam (b ∷ bytes) = end_seam bytes
 
 empty_whole : (bytes : List ℕ) → IsWhole bytes (empty_snippet bytes)
 empty_whole bytes = text_is (empty_snippet bytes).span bytes (omega arith) (omega arith) (end_seam bytes) (end_seam bytes)
+
+-- each snippet of a syllable that holds a unit
+pub unit_snippets_whole : (lines : ℕ) (m : UnplacedSyllable) → HoldsSomeUnit lines m → HasWholeSnippets m
+unit_snippets_whole lines m h = by h.unit.snippets refl h.holds.notes
+  where
+    by : (xss : List (List Char)) → h.unit.snippets ≡ xss → NotesAre lines h.unit xss h.holds.whole m.snippets → HasWholeSnippets m
+    by [] e n = absurd (h.noted e)
+    by (xs ∷ xss) e n =
+        let k = n.holds in
+        subst (λ k. All (IsWhole k) m.snippets) (sym h.holds.kept_is)
+        (subst (All (IsWhole (encodes h.holds.whole))) (sym k.snippets_are) (each_whole h.holds.whole [] (k.earlier ++ k.last ∷ []) (λ a b s e. (k.each a b s e).stands)))
 
 -- each snippet of a syllable that holds its parts
 snippets_whole : (input : List ℕ) (lines : ℕ) (m : UnplacedSyllable) → HoldsParts input lines m → HasWholeSnippets m

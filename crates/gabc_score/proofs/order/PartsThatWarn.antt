@@ -38,18 +38,18 @@ use Rattle.gabc_score.proofs.units.UnitsEndAtMarks.{first_is}
 abbrev Warn : List Finding → Type 0
 Warn fs = All IsWarning fs
 
-joined_found : (xs ys : List (List BodyEvent)) → found (concat_of (xs ++ ys)) ≡ found (concat_of xs) ++ found (concat_of ys)
+pub joined_found : (xs ys : List (List BodyEvent)) → found (concat_of (xs ++ ys)) ≡ found (concat_of xs) ++ found (concat_of ys)
 joined_found xs ys = ap found (joined_append xs ys) ∙ found_append (concat_of xs) (concat_of ys)
 
 -- what is emitted of a part through some of its characters is found in it
-text_some : (lists : List (List TextEvent)) (xs : List Char) → Warn (found_in (concat_of lists)) → Warn (found (concat_of (events_through (InText lists) xs)))
+pub text_some : (lists : List (List TextEvent)) (xs : List Char) → Warn (found_in (concat_of lists)) → Warn (found (concat_of (events_through (InText lists) xs)))
 text_some lists xs h =
     let n = suc (length xs) in
     let parts : found_in (concat_of lists) ≡ found_in (concat_of (take n lists)) ++ found_in (concat_of (drop n lists)) =
     ap (λ ls. found_in (concat_of ls)) (sym (take-append-drop n lists)) ∙ ap found_in (joined_append (take n lists) (drop n lists)) ∙ text_found_append (concat_of (take n lists)) (concat_of (drop n lists)) in
     subst Warn (sym (text_through lists xs)) (all_first IsWarning (found_in (concat_of (take n lists))) (found_in (concat_of (drop n lists))) (subst Warn parts h))
 
-snippet_some : (line : ℕ) (opened : Place) (lists : List (List NoteEvent)) (xs : List Char) → Warn (notes_found (concat_of lists)) → Warn (found (concat_of (events_through (InNotes line opened lists) xs)))
+pub snippet_some : (line : ℕ) (opened : Place) (lists : List (List NoteEvent)) (xs : List Char) → Warn (notes_found (concat_of lists)) → Warn (found (concat_of (events_through (InNotes line opened lists) xs)))
 snippet_some line opened lists xs h =
     let n = suc (length xs) in
     let parts : notes_found (concat_of lists) ≡ notes_found (concat_of (take n lists)) ++ notes_found (concat_of (drop n lists)) =

@@ -31,7 +31,7 @@ use Rattle.gabc_score.proofs.holding.SyllablesHoldParts.{fits_prefix, fits_back}
 
 -- ---- how many syllables are ended
 
-abbrev close_of : BodyEvent → ℕ
+abbrev pub close_of : BodyEvent → ℕ
 close_of t = cond (closes t) 1 0
 
 abbrev pub close_count : List BodyEvent → ℕ
@@ -40,7 +40,7 @@ close_count ts = sum_by close_of ts
 count_append : (ts us : List BodyEvent) → close_count (ts ++ us) ≡ close_count ts + close_count us
 count_append ts us = sum_by-append close_of ts us
 
-count_one : (t : BodyEvent) (ts : List BodyEvent) → close_count (t ∷ ts) ≡ close_of t + close_count ts
+pub count_one : (t : BodyEvent) (ts : List BodyEvent) → close_count (t ∷ ts) ≡ close_of t + close_count ts
 count_one t ts = sum_by-cons close_of t ts
 
 -- what ends no syllable, before others

@@ -103,23 +103,23 @@ module _ (lines : ℕ) where
   from_each first us ss h [] after u (x ∷ earlier) later s e f n = absurd (omega (arith, n))
   from_each first us ss h (b ∷ before) after u [] later s e f n = absurd (omega (arith, n))
 
-  eu_opened : encodes (codes "<eu>") ≡ codes "<eu>"
+  pub eu_opened : encodes (codes "<eu>") ≡ codes "<eu>"
   unfolding encode
   eu_opened = refl
 
-  eu_closed : encodes (codes "</eu>") ≡ codes "</eu>"
+  pub eu_closed : encodes (codes "</eu>") ≡ codes "</eu>"
   unfolding encode
   eu_closed = refl
 
-  nlba_opened : encodes (codes "<nlba>") ≡ codes "<nlba>"
+  pub nlba_opened : encodes (codes "<nlba>") ≡ codes "<nlba>"
   unfolding encode
   nlba_opened = refl
 
-  nlba_closed : encodes (codes "</nlba>") ≡ codes "</nlba>"
+  pub nlba_closed : encodes (codes "</nlba>") ≡ codes "</nlba>"
   unfolding encode
   nlba_closed = refl
 
-  tags_push : (before : List ScoreUnit) (u : ScoreUnit) → tags_in (before ++ u ∷ []) ≡ tags_in before ++ span_tags u.text
+  pub tags_push : (before : List ScoreUnit) (u : ScoreUnit) → tags_in (before ++ u ∷ []) ≡ tags_in before ++ span_tags u.text
   tags_push before u = flat_map-append (λ (v : ScoreUnit). span_tags v.text) before (u ∷ []) ∙ ap (λ ts. tags_in before ++ ts) (append-nil (span_tags u.text))
 
   -- of the next unit

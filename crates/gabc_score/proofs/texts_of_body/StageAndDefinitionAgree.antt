@@ -64,7 +64,7 @@ body_fits t few =
     (fits_past (place_after []) (heads_text t) (behind_heads t) (subst (CountsFit (place_after [])) (sym (take-append-drop (head_len t + 2) t)) whole))
 
 module _ (step : (at : Place) (t : List ℕ) → CountsFit at t → events_left (fresh_stage at) t ≡ events_by_point at t) (lines macros : ℕ) where
-  same_texts : (at from : Place) (t : List ℕ) → CountsFit at t → texts_by_stage at (placed_characters_from from t) ≡ texts_by_definition at (placed_characters_from from t)
+  pub same_texts : (at from : Place) (t : List ℕ) → CountsFit at t → texts_by_stage at (placed_characters_from from t) ≡ texts_by_definition at (placed_characters_from from t)
   same_texts at from t f = rw (codes_placed from t) (step at t f)
 
   same_standing : (at : Place) (c : ℕ) (t : List ℕ) (part : PartAhead) → CountsFit at (c ∷ t)

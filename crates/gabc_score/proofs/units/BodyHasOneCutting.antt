@@ -151,7 +151,7 @@ module _ (texts : Texts) (lines macros : ℕ) where
 
 -- ---- what the parts emit
 
-abbrev IsPastComment : PartAhead → Type 0
+abbrev pub IsPastComment : PartAhead → Type 0
 IsPastComment InComment = ⊥
 IsPastComment (InText lists) = Unit
 IsPastComment (InNotes line opened lists) = Unit
@@ -209,7 +209,7 @@ module _ (texts : Texts) (lines macros : ℕ) where
       point_emitted part k x (prefix ++ end ∷ rest) ∙ ap (by_events part x (prefix ++ end ∷ rest)) h.0
       ∙ ap (λ ls. events_in part ∷ ls) (ends_emitted (part_onward part) prefix mark end rest (onward_read part k) h.1)
 
-  cuts_emitted : (part : PartAhead) (pieces : List CutPart) (last : List Char) → IsPastComment part → Cuts texts lines macros part pieces last
+  pub cuts_emitted : (part : PartAhead) (pieces : List CutPart) (last : List Char) → IsPastComment part → Cuts texts lines macros part pieces last
       → events_from texts lines macros part (whole pieces last) ≡ events_of_cutting texts lines macros part pieces last
   cuts_emitted part [] last k h = endless_emitted part last k h
   cuts_emitted part (p ∷ pieces) last k h =

@@ -82,7 +82,7 @@ mark_keeps line n note_end.Close = omega arith
 mark_keeps line n (note_end.Cut place) = omega arith
 
 -- a snippet keeps no more than its characters, and its mark
-line_few : (lines line : ℕ) (opened : Place) (prefix : List Char) (end : Char) (mark : Mark) (events : List BodyEvent) → LineEmitted lines line opened prefix end mark events
+pub line_few : (lines line : ℕ) (opened : Place) (prefix : List Char) (end : Char) (mark : Mark) (events : List BodyEvent) → LineEmitted lines line opened prefix end mark events
     → all_kept events ≤ size (codes_of prefix) + 1
 line_few lines line opened prefix end mark events l =
     let last = Notes line (note.Ended l.how (size l.kept)) in
@@ -105,7 +105,7 @@ one_byte : (c : ℕ) → 1 ≤ length (encode c)
 one_byte c = omega (arith, length-encode c, (len_utf8_bounds c).0)
 
 -- the bytes of characters, of a part that ends at a character
-size_with_end : (xs : List Char) (x : Char) (ys : List Char) → size (codes_of xs) + 1 + size (codes_of ys) ≤ size (codes_of (xs ++ x ∷ ys))
+pub size_with_end : (xs : List Char) (x : Char) (ys : List Char) → size (codes_of xs) + 1 + size (codes_of ys) ≤ size (codes_of (xs ++ x ∷ ys))
 size_with_end xs x ys =
     let all : size (codes_of (xs ++ x ∷ ys)) ≡ size (codes_of xs) + size (x.c ∷ codes_of ys) = ap size (codes_append xs (x ∷ ys)) ∙ size_append (codes_of xs) (x.c ∷ codes_of ys) in
     let one : size (x.c ∷ codes_of ys) ≡ length (encode x.c) + size (codes_of ys) = length-append (encode x.c) (encodes (codes_of ys)) in

@@ -37,7 +37,7 @@ lf_warns : TextWarns (10 ∷ [])
 lf_warns at = All-nil IsWarning
 
 module _ (text_warns : (at : Place) (t : List ℕ) → has_error (findings at t) ≡ false → All IsWarning (findings at t)) (lines macros : ℕ) where
-  snippets_warn : (line : ℕ) (es : List EndedPart) (behind : List Char) (ss : List (List ℕ)) → AreSnippetsAgain lines macros line es behind ss → SnippetsWarn lines macros line es behind
+  pub snippets_warn : (line : ℕ) (es : List EndedPart) (behind : List Char) (ss : List (List ℕ)) → AreSnippetsAgain lines macros line es behind ss → SnippetsWarn lines macros line es behind
   snippets_warn line [] behind ss h = tt
   snippets_warn line (e ∷ es) behind [] h = absurd h
   snippets_warn line (e ∷ es) behind (s ∷ ss) h = (h.0.warnings, snippets_warn (next_line lines line) es behind ss h.1)

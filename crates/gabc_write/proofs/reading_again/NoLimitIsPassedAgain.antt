@@ -75,7 +75,7 @@ kept_size v = by v.word_start refl
     by false e = rw e refl
 
 module _ (lines macros limit : ℕ) where
-  one_keeps : (u : BodyUnit) (behind : List Char) (v : ViewFacts) (ss : List (List ℕ)) → SaysAgain lines macros u behind v ss → size (printed_syllable v ss) ≤ limit → KeepsWithin limit (score_unit u behind)
+  pub one_keeps : (u : BodyUnit) (behind : List Char) (v : ViewFacts) (ss : List (List ℕ)) → SaysAgain lines macros u behind v ss → size (printed_syllable v ss) ≤ limit → KeepsWithin limit (score_unit u behind)
   one_keeps u behind v ss h few =
       let text : size (kept (score_unit u behind).text) ≡ size (print v) = ap size h.kept ∙ kept_size v in
       let notes : size (score_unit u behind).notes ≡ size (40 ∷ (barred ss ++ 41 ∷ [])) = ap size h.notes in

@@ -112,12 +112,12 @@ single_within n (Some u) h = All-take IsSingle (count_within n u.closed) (closed
 
 -- ---- the score
 
-record UnitsAre (t : List ℕ) (book : List (List ℕ × List ℕ)) (syllables : List PlacedSyllable) : Type 0 where
-  units : List ScoreUnit
-  syllables_are : AreSyllablesOf (nabc_lines_of book) units syllables
-  first : FirstTextBeginsWord units
-  single : nabc_lines_of book ≡ 0 → All IsSingle units
-  texts : IsText t → AreUnitTexts units
+pub record UnitsAre (t : List ℕ) (book : List (List ℕ × List ℕ)) (syllables : List PlacedSyllable) : Type 0 where
+  pub units : List ScoreUnit
+  pub syllables_are : AreSyllablesOf (nabc_lines_of book) units syllables
+  pub first : FirstTextBeginsWord units
+  pub single : nabc_lines_of book ≡ 0 → All IsSingle units
+  pub texts : IsText t → AreUnitTexts units
 
 record HeadsAre (limits : Limits) (t : List ℕ) (book : List (List ℕ × List ℕ)) : Type 0 where
   heads : Heads
@@ -184,11 +184,16 @@ module _ (one : (texts : Texts) (lines macros : ℕ) (xs : List Char) → (cut :
     units_are Broken h = stopped_units Broken h (λ p. absurd (let whole = p.0 in cc))
     units_are (At fault) h = stopped_units (At fault) h (λ p. absurd (let whole = p.0 in cc))
 
+  pub score_units_are : (limits : Limits) (ending : InputEnding) (t : List ℕ) (book : List (List ℕ × List ℕ)) → length (encodes t) < 2 ^ 63
+      → (score_of limits ending t).book ≡ Some book → UnitsAre t book (score_of limits ending t).syllables
+  score_units_are limits ending t book short h =
+      let (cut, is_cut) = one texts_by_definition (nabc_lines_of book) (macros_of book) (body_characters t) in
+      units_are limits t book cut is_cut short ending h
+
   pub score_printed : (limits : Limits) (ending : InputEnding) (t : List ℕ) (book : List (List ℕ × List ℕ)) → length (encodes t) < 2 ^ 63
       → (score_of limits ending t).book ≡ Some book → IsPrintedScore t book (score_of limits ending t).syllables
   score_printed limits ending t book short h =
-      let (cut, is_cut) = one texts_by_definition (nabc_lines_of book) (macros_of book) (body_characters t) in
-      let u = units_are limits t book cut is_cut short ending h in
+      let u = score_units_are limits ending t book short h in
       let p = printed (nabc_lines_of book) u.units (score_of limits ending t).syllables u.syllables_are u.first u.single in
       let heads = heads_are limits ending t book h in
       record {

@@ -22,7 +22,7 @@ use Rattle.gabc_write.specs.ScoreAgain.{IsSameScore}
 -- ---- what the units keep
 
 module _ (lines macros : ℕ) where
-  kept_again : (line : ℕ) (es : List EndedPart) (behind : List Char) (ss : List (List ℕ)) → AreSnippetsAgain lines macros line es behind ss
+  pub kept_again : (line : ℕ) (es : List EndedPart) (behind : List Char) (ss : List (List ℕ)) → AreSnippetsAgain lines macros line es behind ss
       → kept_snippets lines line (map (λ (e : EndedPart). e.characters) es) ≡ ss
   kept_again line [] behind [] h = refl
   kept_again line [] behind (s ∷ ss) h = absurd h
@@ -30,7 +30,7 @@ module _ (lines macros : ℕ) where
   kept_again line (e ∷ es) behind (s ∷ ss) h =
       ap₂ (λ (x : List ℕ) (xs : List (List ℕ)). x ∷ xs) h.0.kept (kept_again (next_line lines line) es behind ss h.1)
 
-  some_parts : (nexts : List EndedPart) (final : EndedPart) → map (λ (e : EndedPart). e.characters) (nexts ++ final ∷ []) ≢ []
+  pub some_parts : (nexts : List EndedPart) (final : EndedPart) → map (λ (e : EndedPart). e.characters) (nexts ++ final ∷ []) ≢ []
   some_parts [] final e = absurd (cc)
   some_parts (n ∷ nexts) final e = absurd (cc)
 

@@ -24,11 +24,11 @@ use Rattle.gabc_write.specs.SyllableMeaning.{PieceMeaning, meaning_of_piece, Syl
 
 -- ---- what facts say
 
-abbrev piece_of_facts : PieceFacts → PieceMeaning
+abbrev pub piece_of_facts : PieceFacts → PieceMeaning
 piece_of_facts p = record { kind = p.kind; styles = p.styles; text = encodes (kept_of_piece p) }
 
 -- snippets from that one on, with their lines
-abbrev lined : ℕ → ℕ → List (List ℕ) → List (ℕ × List ℕ)
+abbrev pub lined : ℕ → ℕ → List (List ℕ) → List (ℕ × List ℕ)
 lined lines i [] = []
 lined lines i (s ∷ ss) = (i % (lines + 1), s) ∷ lined lines (suc i) ss
 
@@ -43,7 +43,7 @@ tags_of f = map (λ (p : PieceFacts). p.text) (filter (λ (p : PieceFacts). is_m
 abbrev all_tags : List SyllableFacts → List (List ℕ)
 all_tags facts = flat_map tags_of facts
 
-abbrev said_by : ℕ → SyllableFacts → Position → Bool → Bool → SyllableMeaning
+abbrev pub said_by : ℕ → SyllableFacts → Position → Bool → Bool → SyllableMeaning
 said_by lines f position eu nlba = record {
   text = encodes (text_of_tokens (text_tokens f.view));
   word_start = f.view.word_start;
@@ -108,7 +108,7 @@ module _ (starts : (t : List ℕ) → (view_in t).word_start ≡ (view_facts t).
   translation_said whole (Some s) None h = absurd h
   translation_said whole (Some s) (Some t) h = ap (λ (b : List ℕ). Some b) (bytes whole s t h)
 
-  one_said : (u : ScoreUnit) (s : PlacedSyllable) (f : SyllableFacts) → HoldsUnit lines u s.made → f.view ≡ view_facts u.text
+  pub one_said : (u : ScoreUnit) (s : PlacedSyllable) (f : SyllableFacts) → HoldsUnit lines u s.made → f.view ≡ view_facts u.text
       → map (λ (x : Snippet). slice x.span s.made.kept) s.made.snippets ≡ map encodes f.snippets → meaning_of s ≡ said_by lines f s.position s.made.eu s.made.nlba
   one_said u s f h view texts =
       let position = s.position in

@@ -29,7 +29,7 @@ loop-c-preserved g c =
     let before : List (List NoteEvent) = g.S.Stage.rest c.loop-c.stage (placed_characters_from c.loop-c.place (chars (chars_rest c.loop-c.c-iterator))) in
     let law : before ≡ pushed.events ∷ later =
     ap (λ (t : List ℕ). g.S.Stage.rest c.loop-c.stage (placed_characters_from c.loop-c.place t)) past ∙ pushed.law (placed_characters_from (next_place c.loop-c.place c.in-Some.c) (chars (chars_rest c.next.new.self))) in
-    let total : List Char = take c.characters-count.result (kept_chars_of (concat_of (g.S.Stage.rest c.args.stage.now (placed_characters_from c.args.at (chars c.args.body.now))))) in
+    let total : List Char = take c.characters-count.result (kept_chars_of (concat_of (g.S.Stage.rest c.args.stage (placed_characters_from c.args.at (chars c.args.body.now))))) in
     let now = c.in_ok-add_all_kept.ensures ∙ ap (λ (l : List NoteEvent). take c.characters-count.result (c.loop-c.found ++ kept_chars_of l)) events in
     record {
       can = tt;
@@ -53,10 +53,10 @@ returns g c =
     let law : before ≡ ends.events ∷ [] = ap (λ (t : List ℕ). g.S.Stage.rest c.loop-c.stage (placed_characters_from c.loop-c.place t)) none ∙ ends.law in
     let now = c.in_ok-add_all_kept-2.ensures ∙ ap (λ (l : List NoteEvent). take c.characters-count.result (c.loop-c.found ++ kept_chars_of l)) events in
     let all = driven c.loop-c.found c.characters-count.result before [] law now i.law in
-    none_pushed c.characters-count.result c.add_all_kept-2.new.kept (no_longer c.characters-count.result c.add_all_kept-2.new.kept _ c.in_ok-add_all_kept-2.ensures) ∙ (sym all ∙ ap (λ (n : ℕ). take n (kept_chars_of (concat_of (g.S.Stage.rest c.args.stage.now (placed_characters_from c.args.at (chars c.args.body.now)))))) c.characters-count.ensures)
+    none_pushed c.characters-count.result c.add_all_kept-2.new.kept (no_longer c.characters-count.result c.add_all_kept-2.new.kept _ c.in_ok-add_all_kept-2.ensures) ∙ (sym all ∙ ap (λ (n : ℕ). take n (kept_chars_of (concat_of (g.S.Stage.rest c.args.stage (placed_characters_from c.args.at (chars c.args.body.now)))))) c.characters-count.ensures)
 
 pub returns-then-len-count : goal.returns-then-len-count
 returns-then-len-count g c =
     let i = c.loop-c.invariant in
     full c.characters-count.result c.loop-c.found _ (sym c.len.ensures ∙ c.if-len-count.true)
-    ∙ (sym i.law ∙ ap (λ (n : ℕ). take n (kept_chars_of (concat_of (g.S.Stage.rest c.args.stage.now (placed_characters_from c.args.at (chars c.args.body.now)))))) c.characters-count.ensures)
+    ∙ (sym i.law ∙ ap (λ (n : ℕ). take n (kept_chars_of (concat_of (g.S.Stage.rest c.args.stage (placed_characters_from c.args.at (chars c.args.body.now)))))) c.characters-count.ensures)

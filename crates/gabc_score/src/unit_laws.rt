@@ -1,0 +1,67 @@
+//! Laws of a unit and its syllable, apart from the score in which they stand. Each function's contract is a law; its body calls the laws below that
+//! it stands on.
+
+ghost use Rattle.std.specs.Prelude.{◌≡◌, ◌<◌, ◌≤◌, ◌^◌, ◌++◌, ℕ, List, [], ◌∷◌, false, length, encode_utf8_all};
+ghost use Rattle.std.specs.List.{All};
+ghost use Rattle.gabc_places.specs.declared.place.Char.{Char};
+ghost use Rattle.gabc_places.specs.declared.place.Place.{Place};
+ghost use Rattle.gabc_text.specs.Events.{codes_of};
+ghost use Rattle.gabc_notes.specs.ReadAgain.{IsWarning};
+ghost use Rattle.gabc_score.specs.declared.events.BodyEvent.{BodyEvent};
+ghost use Rattle.gabc_score.specs.Body.{events_onto, findings_of};
+ghost use Rattle.gabc_score.specs.Events.{texts_by_definition, text_from};
+ghost use Rattle.gabc_score.specs.FoundInParts.{TextWarns, SnippetsWarn};
+ghost use Rattle.gabc_score.specs.Holding.{HoldsWithNotes, HasWholeSnippets};
+ghost use Rattle.gabc_score.specs.SpansPast.{eu_past, nlba_past};
+ghost use Rattle.gabc_score.specs.Syllable.{UnplacedSyllable, PlacedSyllable, since_close};
+ghost use Rattle.gabc_score.specs.SyllablesOfUnits.{ScoreUnit, AreSyllablesOf, characters_in, characters_from, score_unit, snippets_in};
+ghost use Rattle.gabc_score.specs.UnitRead.{HoldsSomeUnit, GivesOneSyllable, first_events};
+ghost use Rattle.gabc_score.specs.Units.{BodyUnit, LastUnit, Cuts, units_pieces, last_characters};
+
+/// A unit gives one syllable, with its last character, wherever its text begins, whatever follows and whatever was emitted before. It keeps
+/// no more on the way than it keeps in all. What is found in it are warnings, if that is so of its text and its snippets.
+pub fn a_unit_gives_one_syllable()
+    ensures given { (lines macros : ℕ) (at : Place) (u : BodyUnit) (units : List BodyUnit)
+        (last : LastUnit) (before : List BodyEvent) → let xs = characters_from (u ∷ units) last in
+        length (encode_utf8_all (codes_of xs)) < 2 ^ 63 → Cuts texts_by_definition lines macros
+        (text_from texts_by_definition at xs) (units_pieces lines (u ∷ units) last) (last_characters last)
+        → since_close before ≡ []
+        → GivesOneSyllable lines macros at u (characters_from units last) before }
+    ensures warns { (lines macros : ℕ) (at : Place) (u : BodyUnit) (units : List BodyUnit)
+        (last : LastUnit) → let xs = characters_from (u ∷ units) last in
+        let behind = characters_from units last in
+        length (encode_utf8_all (codes_of xs)) < 2 ^ 63 → Cuts texts_by_definition lines macros
+        (text_from texts_by_definition at xs) (units_pieces lines (u ∷ units) last) (last_characters last)
+        → TextWarns (score_unit u behind).text → SnippetsWarn lines macros 0 (snippets_in u) behind
+        → All IsWarning (findings_of (events_onto
+        (first_events lines macros at xs (length (characters_in u))) [])) }
+{
+    gabc_text::laws::a_text_ends_once();
+    gabc_text::laws::events_build_the_text();
+    gabc_text::laws::events_by_point_are_the_events();
+    gabc_text::laws::spans_stand_for_the_view();
+    gabc_text::laws::findings_lie_within();
+}
+
+/// The spans of the snippets of a syllable that holds a unit begin and end between characters: each has its text.
+pub fn snippets_of_a_unit_stand_between_characters()
+    ensures { (lines : ℕ) (m : UnplacedSyllable) → HoldsSomeUnit lines m → HasWholeSnippets m }
+{}
+
+/// Which spans are open behind a syllable of units follows from its text and from those that are open behind the one before it. Before the first none is.
+pub fn spans_follow_one_another()
+    ensures first { (lines : ℕ) (units : List ScoreUnit) (syllables after : List PlacedSyllable)
+        (s : PlacedSyllable) → AreSyllablesOf lines units syllables → syllables ≡ s ∷ after
+        → (s.made.eu ≡ eu_past s.made false) × (s.made.nlba ≡ nlba_past s.made false) }
+    ensures next { (lines : ℕ) (units : List ScoreUnit)
+        (syllables before after : List PlacedSyllable) (s next : PlacedSyllable)
+        → AreSyllablesOf lines units syllables → syllables ≡ before ++ s ∷ next ∷ after
+        → (next.made.eu ≡ eu_past next.made s.made.eu)
+        × (next.made.nlba ≡ nlba_past next.made s.made.nlba) }
+{}
+
+/// A syllable that holds its parts in some input, with its notes, holds a unit, if it has but one snippet where there are no NABC lines.
+pub fn a_syllable_with_its_parts_holds_a_unit()
+    ensures { (input : List ℕ) (lines : ℕ) (m : UnplacedSyllable) → HoldsWithNotes input lines m →
+        (lines ≡ 0 → length m.snippets ≤ 1) → HoldsSomeUnit lines m }
+{}
