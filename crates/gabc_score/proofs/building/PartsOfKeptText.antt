@@ -48,7 +48,6 @@ same_alike g = record { builder = refl; eu = refl; nlba = refl }
 alike_through : (g h i : Gathered) → ReadAlike g h → ReadAlike h i → ReadAlike g i
 alike_through g h i a b = record { builder = a.builder ∙ b.builder; eu = a.eu ∙ b.eu; nlba = a.nlba ∙ b.nlba }
 
-
 piece_alike : (g h : Gathered) (p : TextPart) → ReadAlike g h → ReadAlike (with_event g (event.Text (text_out.Part p))) (with_event h (event.Text (text_out.Part p)))
 piece_alike g h text_part.WordStart r = record { builder = rw r.builder refl; eu = r.eu; nlba = r.nlba }
 piece_alike g h (text_part.Piece p) r = record { builder = rw r.builder refl; eu = rw (r.builder, r.eu) refl; nlba = rw (r.builder, r.nlba) refl }
