@@ -1,0 +1,3 @@
+pub mod Conditions
+pub mod Fields
+pub mod StateBytes

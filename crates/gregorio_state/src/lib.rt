@@ -1,0 +1,7 @@
+//! The fields of a saved state, and its bytes: written, and read. It runs nothing.
+#![tactic(auto)]
+
+mod fields;
+mod writing;
+
+pub use fields::{Phase, ScoreFields, StateFields};
