@@ -1,1 +1,3 @@
+mod LengthsOfStates
+mod PartsAreWritten
 mod StateExamples

@@ -56,9 +56,8 @@ alter_number alter.Sharp = 3
 
 -- ---- all fields
 
-abbrev pub score_bytes : ScoreFields → List ℕ
-score_bytes s =
-    concat_of (
+abbrev pub score_parts : ScoreFields → List (List ℕ)
+score_parts s =
     (s.nabc_lines ∷ [])
     ∷ number_bytes w16 s.macros
     ∷ number_bytes w32 s.syllables
@@ -72,7 +71,10 @@ score_bytes s =
     ∷ opener_bytes s.notes_opener
     ∷ opener_bytes s.inner_opener
     ∷ text_bytes s.kept
-    ∷ [])
+    ∷ []
+
+abbrev pub score_bytes : ScoreFields → List ℕ
+score_bytes s = concat_of (score_parts s)
 
 -- a byte for what the run reads, and its fields
 abbrev pub phase_bytes : PhaseFields → List ℕ
@@ -80,9 +82,8 @@ phase_bytes (InHeaders headers) = 0 ∷ text_bytes headers
 phase_bytes (InScore s) = 1 ∷ score_bytes s
 
 -- `GSAV`, the version 3, and the fields
-abbrev pub state_bytes : StateFields → List ℕ
-state_bytes s =
-    concat_of (
+abbrev pub state_parts : StateFields → List (List ℕ)
+state_parts s =
     codes "GSAV"
     ∷ (3 ∷ [])
     ∷ (format_number s.format ∷ [])
@@ -97,4 +98,7 @@ state_bytes s =
     ∷ flag_bytes s.after_cr
     ∷ flag_bytes s.has_error
     ∷ phase_bytes s.phase
-    ∷ [])
+    ∷ []
+
+abbrev pub state_bytes : StateFields → List ℕ
+state_bytes s = concat_of (state_parts s)

@@ -1,12 +1,15 @@
 //! The bytes of a saved state, written.
 
-ghost use Rattle.std.specs.Prelude.{◌≡◌, ◌++◌, ◌∷◌, [], ◌<◌, ◌≤◌, ◌^◌, map, length};
+ghost use Rattle.std.specs.Prelude.{◌≡◌, ◌+◌, ◌*◌, ◌<◌, ◌≤◌, ◌^◌, max, map, length};
 ghost use Rattle.std.specs.Int.{w16, w32, w64};
 ghost use Rattle.gregorio_state.specs.Fields.{score_of, phase_of, fields_of};
-ghost use Rattle.gregorio_state.specs.StateBytes.{number_bytes, flag_bytes, text_bytes, place_bytes, opener_bytes, format_number, clef_bytes, alter_number};
+ghost use Rattle.gregorio_state.specs.Conditions.{AreStateFields};
+ghost use Rattle.gregorio_state.specs.machine.Lengths.{AreShort};
+ghost use Rattle.gregorio_state.specs.StateBytes.{number_bytes, flag_bytes, text_bytes, place_bytes, opener_bytes, spans_number, format_number, clef_bytes, alter_number, score_bytes, phase_bytes, state_bytes};
 
+use crate::fields::{Phase, ScoreFields, StateFields};
 use gabc_neumes::{Alter, Clef};
-use gabc_places::{Limits, Place, Put};
+use gabc_places::{ByteCounter, Place, Put};
 use gregorio_jobs::Format;
 
 /// Puts `number` in 2 bytes, the highest first.
@@ -108,5 +111,90 @@ fn put_alters<S: Put>(alters: &[Alter], out: &mut S)
 {
     for alter in alters {
         out.put(&[number_of_alter(*alter)]);
+    }
+}
+
+/// Returns the number of the spans that are open: 1 for that of `<eu>`, and 2 for that of `<nlba>`.
+fn number_of_spans(eu: bool, nlba: bool) -> u8
+    ensures { result ≡ spans_number eu nlba }
+{
+    u8::from(eu) + 2 * u8::from(nlba)
+}
+
+impl ScoreFields<'_> {
+    /// Puts the fields in their order. Each text has to have less than 2 ^ 32 bytes.
+    fn write<S: Put>(&self, out: &mut S)
+        requires held { length self.now.held.now < 2 ^ 32 }
+        requires kept { length self.now.kept.now < 2 ^ 32 }
+        ensures { out.new ≡ S.taken out.old (score_bytes (score_of self.now)) }
+    {
+        out.put(&[self.nabc_lines]);
+        put_u16(self.macros, out);
+        put_u32(self.syllables, out);
+        put_u32(self.canonical, out);
+        out.put(&[number_of_spans(self.in_eu, self.in_nlba)]);
+        put_flag(self.sounded, out);
+        put_clef(self.clef, out);
+        put_alters(&self.alters, out);
+        put_text(self.held, out);
+        put_flag(self.in_comment, out);
+        put_opener(self.notes_opener, out);
+        put_opener(self.inner_opener, out);
+        put_text(self.kept, out);
+    }
+}
+
+impl Phase<'_> {
+    /// Puts 0 and the text of the headers, or 1 and the fields of the score. Each text has to have less than 2 ^ 32 bytes.
+    fn write<S: Put>(&self, out: &mut S)
+        requires { AreShort (phase_of self.now) }
+        ensures { out.new ≡ S.taken out.old (phase_bytes (phase_of self.now)) }
+    {
+        match self {
+            Phase::Headers(text) => {
+                out.put(&[0]);
+                put_text(text, out);
+            }
+            Phase::Score(fields) => {
+                out.put(&[1]);
+                fields.write(out);
+            }
+        }
+    }
+}
+
+impl StateFields<'_> {
+    /// Puts the bytes of the state, as many as `len` tells. The fields have to meet the conditions of a saved state.
+    pub fn write<S: Put>(&self, out: &mut S)
+        requires { AreStateFields (fields_of self.now) }
+        ensures { out.new ≡ S.taken out.old (state_bytes (fields_of self.now)) }
+    {
+        out.put(b"GSAV");
+        out.put(&[3]);
+        out.put(&[number_of_format(self.format)]);
+        put_flag(self.all_warnings, out);
+        put_u32(self.limits.header, out);
+        put_u32(self.limits.syllable, out);
+        put_u32(self.limits.input, out);
+        put_u32(self.taken, out);
+        put_place(self.place, out);
+        out.put(&[self.pending.len() as u8]);
+        out.put(self.pending);
+        put_flag(self.after_cr, out);
+        put_flag(self.has_error, out);
+        self.phase.write(out);
+    }
+
+    /// Returns the number of bytes of the state: at most 128, and with them the limit of the headers or twice that of a syllable, whichever
+    /// is more. The fields have to meet the conditions of a saved state.
+    pub fn len(&self) -> usize
+        requires { AreStateFields (fields_of self.now) }
+        ensures len { result ≡ length (state_bytes (fields_of self.now)) }
+        ensures short { result
+            ≤ max self.now.limits.header (2 * self.now.limits.syllable) + 128 }
+    {
+        let mut counter = ByteCounter::new();
+        self.write(&mut counter);
+        counter.count()
     }
 }
