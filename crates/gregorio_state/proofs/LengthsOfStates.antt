@@ -80,7 +80,7 @@ phase_length : (s : StateFields) (p : PhaseFields) → AreLimits s.header_limit 
 phase_length s (InHeaders t) limits fits =
     omega (arith, text_length t, within_length s.header_limit t limits.header_least fits.within, le-max_left s.header_limit (2 * s.syllable_limit))
 phase_length s (InScore f) limits fits =
-    omega (arith, score_length f fits.in_force.heights, fits.held.short, fits.kept_short, le-max_right s.header_limit (2 * s.syllable_limit))
+    omega (arith, score_length f fits.before.heights, fits.held.short, fits.kept_short, le-max_right s.header_limit (2 * s.syllable_limit))
 
 pub state_length : (s : StateFields) → AreStateFields s → length (state_bytes s) ≤ max s.header_limit (2 * s.syllable_limit) + 128
 state_length s fits =

@@ -1,7 +1,9 @@
 //! The fields of a saved state, and its bytes: written, and read. It runs nothing.
 #![tactic(auto)]
 
+mod conditions;
 mod fields;
+mod reading;
 mod writing;
 
 pub use fields::{Phase, ScoreFields, StateFields};
