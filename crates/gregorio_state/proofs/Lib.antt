@@ -1,4 +1,5 @@
 mod AltersAreRead
+mod FieldsAreRead
 mod FieldsAreTested
 mod LengthsOfStates
 mod NumbersAreRead

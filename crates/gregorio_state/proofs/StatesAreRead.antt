@@ -1,98 +1,95 @@
--- The bytes of fields are read as these fields.
-use Rattle.std.proofs.Common.{◌≡◌, ℕ, ◌^◌, ◌<◌, ◌≤◌, Bool, true, false, ltb, eqb, List, [], ◌∷◌, ◌++◌, length, map, Option, Some, None, IsUtf8, refl, sym, ap, ◌∙◌, arith, append_assoc, length-append}
-use Rattle.std.proofs.lemmas.Bool.{le-ltb, ne_eqb}
-use Rattle.std.proofs.lemmas.List.{append-nil, take_at, drop_at}
-use Rattle.std.specs.Int.{w16, w32, w64}
+-- The bytes of a state are read as its fields.
+use Rattle.std.proofs.Common.{◌≡◌, ℕ, ◌^◌, ◌<◌, List, [], ◌∷◌, ◌++◌, length, map, Option, Some, None, inl, inr, refl, sym, ap, ◌∙◌, arith}
+use Rattle.std.proofs.lemmas.List.{append-nil}
+use Rattle.std.specs.Int.{w32}
 use Rattle.std.specs.Prelude.{IfSome}
+use Rattle.gabc_places.specs.DecoderMachine.{IsReached}
 use Rattle.gabc_places.specs.declared.place.Place.{Place}
-use Rattle.gabc_neumes.specs.declared.sound.Alter.{Alter}
-use Rattle.gabc_neumes.specs.declared.sound.Alter.TheVariants as alter
-use Rattle.gabc_neumes.specs.declared.sound.Clef.{Clef}
-use Rattle.gregorio_jobs.specs.declared.job.Format.{Format}
-use Rattle.gregorio_jobs.specs.declared.job.Format.TheVariants as format
-use Rattle.gregorio_state.specs.StateBytes.{number_bytes, flag_bytes, text_bytes, place_bytes, opener_bytes, spans_number, format_number, clef_bytes, alter_number}
-use Rattle.gregorio_state.specs.machine.Reading.{number_at, front_at, flag_at, format_at, spans_at, text_at, pending_at, place_at, opener_of, opener_at, clef_at, alter_of, alters_of, last_text}
-use Rattle.gregorio_state.proofs.NumbersAreRead.{wide_16, wide_32, wide_64, number_again}
-use Rattle.gregorio_state.proofs.TextsAreRead.{text_read}
+use Rattle.gregorio_state.specs.Fields.{StateFields, ScoreFields, PhaseFields, InHeaders, InScore}
+use Rattle.gregorio_state.specs.StateBytes.{number_bytes, flag_bytes, text_bytes, place_bytes, opener_bytes, spans_number, format_number, clef_bytes, alter_number, score_bytes, phase_bytes, state_bytes}
+use Rattle.gregorio_state.specs.Conditions.{LiesBefore, IsEarlier, AreScoreFields, ArePhaseFields, AreStateFields}
+use Rattle.gregorio_state.specs.machine.Lengths.{AreShort}
+use Rattle.gregorio_state.specs.machine.Reading.{score_of_bytes, phase_of_bytes, state_of_bytes}
+use Rattle.gregorio_state.proofs.FieldsAreRead.{again_16, again_32, flag_again, format_again, spans_again, text_again, end_again, pending_again, place_again, FitsPlace, opener_again, clef_again, alters_again, tag_again, limits_again}
+use Rattle.gregorio_state.proofs.LengthsOfStates.{short_texts}
 
-again_16 : (n : ℕ) (rest : List ℕ) → n < 2 ^ 16 → number_at w16 (number_bytes w16 n ++ rest) ≡ Some (n, rest)
-again_16 n rest lt = number_again w16 (2 ^ 16) wide_16 n rest lt
-
-pub again_32 : (n : ℕ) (rest : List ℕ) → n < 2 ^ 32 → number_at w32 (number_bytes w32 n ++ rest) ≡ Some (n, rest)
-again_32 n rest lt = number_again w32 (2 ^ 32) wide_32 n rest lt
-
-again_64 : (n : ℕ) (rest : List ℕ) → n < 2 ^ 64 → number_at w64 (number_bytes w64 n ++ rest) ≡ Some (n, rest)
-again_64 n rest lt = number_again w64 (2 ^ 64) wide_64 n rest lt
-
-pub flag_again : (f : Bool) (rest : List ℕ) → flag_at (flag_bytes f ++ rest) ≡ Some (f, rest)
-unfolding flag_at
-flag_again true rest = refl
-flag_again false rest = refl
-
-pub format_again : (f : Format) (rest : List ℕ) → format_at (format_number f ∷ rest) ≡ Some (f, rest)
-unfolding format_at
-format_again format.Gabc rest = refl
-format_again format.Dump rest = refl
-
-spans_again : (eu nlba : Bool) (rest : List ℕ) → spans_at (spans_number eu nlba ∷ rest) ≡ Some ((eu, nlba), rest)
-unfolding spans_at
-spans_again true true rest = refl
-spans_again true false rest = refl
-spans_again false true rest = refl
-spans_again false false rest = refl
-
-front_again : (front rest : List ℕ) → front_at (length front) (front ++ rest) ≡ Some (front, rest)
-unfolding front_at
-front_again front rest =
-    let long : ltb (length (front ++ rest)) (length front) ≡ false = le-ltb _ _ (omega (arith, length-append front rest)) in rw (long, take_at front rest (length front) refl, drop_at front rest (length front) refl) refl
-
-text_again : (t rest : List ℕ) → IsUtf8 t → length t < 2 ^ 32 → text_at (text_bytes t ++ rest) ≡ Some (t, rest)
-unfolding text_at
-text_again t rest u lt = ap text_at (append_assoc (number_bytes w32 (length t)) t rest) ∙ rw (again_32 (length t) (t ++ rest) lt, front_again t rest, text_read t u) refl
-
-last_again : (t : List ℕ) → IsUtf8 t → length t < 2 ^ 32 → last_text (text_bytes t) ≡ Some t
-unfolding last_text
-last_again t u lt = ap last_text (sym (append-nil (text_bytes t))) ∙ rw (text_again t [] u lt) refl
-
-pub pending_again : (p rest : List ℕ) → pending_at (length p ∷ (p ++ rest)) ≡ Some (p, rest)
-unfolding pending_at
-pending_again p rest = front_again p rest
-
-pub place_again : (p : Place) (rest : List ℕ) → p.line < 2 ^ 64 → p.column < 2 ^ 64 → place_at (place_bytes p ++ rest) ≡ Some (p, rest)
-unfolding place_at
-place_again p rest line column =
-    ap place_at (append_assoc (number_bytes w64 p.line) (number_bytes w64 p.column) rest) ∙ rw (again_64 p.line (number_bytes w64 p.column ++ rest) line, again_64 p.column rest column) refl
-
-pub record FitsPlace (p : Place) : Type 0 where
-  pub first : 1 ≤ p.line
-  pub line : p.line < 2 ^ 64
-  pub column : p.column < 2 ^ 64
-
-opener_is : (line column : ℕ) → 1 ≤ line → opener_of (record { line = line; column = column }) ≡ Some (record { line = line; column = column })
-opener_is line column h = let e : eqb line 0 ≡ false = ne_eqb line 0 (λ z. omega (arith, h, z)) in rw e refl
-
-opener_again : (p : Option Place) (rest : List ℕ) → IfSome p FitsPlace → opener_at (opener_bytes p ++ rest) ≡ Some (p, rest)
-unfolding opener_at
-opener_again None rest fits = rw (place_again (record { line = 0; column = 0 }) rest (omega arith) (omega arith)) refl
-opener_again (Some p) rest fits = rw (place_again p rest fits.line fits.column, opener_is p.line p.column fits.first) refl
-
-clef_again : (c : Option Clef) (rest : List ℕ) → clef_at (clef_bytes c ++ rest) ≡ Some (c, rest)
-unfolding clef_at flag_at
-clef_again None rest = refl
-clef_again (Some c) rest = by_flags c.f c.flat
+fits_before : (next p : Place) → next.line < 2 ^ 64 → LiesBefore next p → FitsPlace p
+fits_before next p lt b = record { first = b.line; line = by_order b.earlier; column = b.in_64_bits }
   where
-    by_flags : (f flat : Bool) → clef_at (clef_bytes (Some (record { f = f; flat = flat; line = c.line })) ++ rest) ≡ Some (Some (record { f = f; flat = flat; line = c.line }), rest)
-    by_flags true true = refl
-    by_flags true false = refl
-    by_flags false true = refl
-    by_flags false false = refl
+    by_order : IsEarlier p next → p.line < 2 ^ 64
+    by_order (inl h) = omega (arith, h, lt)
+    by_order (inr h) = omega (arith, h.0, lt)
 
-alter_again : (a : Alter) → alter_of (alter_number a) ≡ Some a
-alter_again alter.None = refl
-alter_again alter.Flat = refl
-alter_again alter.Natural = refl
-alter_again alter.Sharp = refl
+opener_fits : (next : Place) (p : Option Place) → next.line < 2 ^ 64 → IfSome p (LiesBefore next) → IfSome p FitsPlace
+opener_fits next None lt h = tt
+opener_fits next (Some p) lt h = fits_before next p lt h
 
-each_again : (alters : List Alter) → alters_of (map alter_number alters) ≡ Some alters
-each_again [] = refl
-each_again (a ∷ alters) = rw (alter_again a, each_again alters) refl
+score_again : (s : StateFields) (f : ScoreFields) → s.taken < 2 ^ 32 → s.place.line < 2 ^ 64 → s.input_limit < 2 ^ 32 → s.syllable_limit < 2 ^ 32 → AreScoreFields s f → score_of_bytes (score_bytes f) ≡ Some f
+unfolding score_of_bytes
+score_again s f taken line input syllable fits =
+    let kept = text_bytes f.kept ++ [] in
+    let inner = opener_bytes f.inner_opener ++ kept in
+    let notes = opener_bytes f.notes_opener ++ inner in
+    let comment = flag_bytes f.in_comment ++ notes in
+    let held = text_bytes f.held ++ comment in
+    let alters = map alter_number f.in_force.alters ++ held in
+    let clef = clef_bytes f.in_force.clef ++ alters in
+    let sounded = flag_bytes f.sounded ++ clef in
+    let spans = spans_number f.in_eu f.in_nlba ∷ sounded in
+    let canonical = number_bytes w32 f.canonical ++ spans in
+    let syllables = number_bytes w32 f.syllables ++ canonical in
+    rw (
+      again_16 f.macros syllables (omega (arith, fits.counts.macros)),
+      again_32 f.syllables canonical (omega (arith, fits.counts.syllables, taken)),
+      again_32 f.canonical spans (omega (arith, fits.counts.below, input)),
+      spans_again f.in_eu f.in_nlba sounded,
+      flag_again f.sounded clef,
+      clef_again f.in_force.clef alters,
+      alters_again f.in_force.alters held fits.before.heights,
+      text_again f.held comment fits.held.is_text.utf8 (omega (arith, fits.held.short, syllable)),
+      flag_again f.in_comment notes,
+      opener_again f.notes_opener inner (opener_fits s.place f.notes_opener line fits.openers.notes),
+      opener_again f.inner_opener kept (opener_fits s.place f.inner_opener line fits.openers.inner),
+      end_again f.kept fits.kept.utf8 (omega (arith, fits.kept_short, syllable)),
+    )
+    refl
+
+phase_again : (s : StateFields) (p : PhaseFields) → s.taken < 2 ^ 32 → s.place.line < 2 ^ 64 → s.input_limit < 2 ^ 32 → s.syllable_limit < 2 ^ 32 → AreShort p → ArePhaseFields s p → phase_of_bytes (phase_bytes p ++ []) ≡ Some p
+phase_again s (InHeaders t) taken line input syllable short fits = rw (end_again t fits.is_text.utf8 short) refl
+phase_again s (InScore f) taken line input syllable short fits = rw (append-nil (score_bytes f), score_again s f taken line input syllable fits) refl
+
+-- the numbers of a decoder are below 2 ^ 64
+place_fits : (s : StateFields) → s.taken < 2 ^ 32 → IsReached s.place (length s.pending) s.taken → (s.place.line < 2 ^ 64) × (s.place.column < 2 ^ 64)
+place_fits s taken r = (omega (arith, r.bytes, taken), omega (arith, r.bytes, taken))
+
+pub state_again : (s : StateFields) → AreStateFields s → state_of_bytes (state_bytes s) ≡ Some s
+unfolding state_of_bytes
+state_again s fits =
+    let phase = phase_bytes s.phase ++ [] in
+    let error = flag_bytes s.has_error ++ phase in
+    let cr = flag_bytes s.after_cr ++ error in
+    let pending = length s.pending ∷ (s.pending ++ cr) in
+    let place = place_bytes s.place ++ pending in
+    let taken = number_bytes w32 s.taken ++ place in
+    let limits = number_bytes w32 s.header_limit ++ (number_bytes w32 s.syllable_limit ++ (number_bytes w32 s.input_limit ++ taken)) in
+    let warnings = flag_bytes s.all_warnings ++ limits in
+    let format = format_number s.format ∷ warnings in
+    let few : s.taken < 2 ^ 32 = omega (arith, fits.decoder.within, fits.limits.input_most) in
+    let at = place_fits s few fits.decoder.reached in
+    rw (
+      tag_again format,
+      format_again s.format warnings,
+      flag_again s.all_warnings limits,
+      limits_again s.header_limit s.syllable_limit s.input_limit taken fits.limits,
+      again_32 s.taken place few,
+      place_again s.place pending at.0 at.1,
+      pending_again s.pending cr,
+      flag_again s.after_cr error,
+      flag_again s.has_error phase,
+      phase_again s s.phase few at.0 (omega (arith, fits.limits.input_most)) (omega (arith, fits.limits.syllable_most)) (short_texts s fits) fits.phase,
+    )
+    refl
+
+-- what is read of the bytes of possible fields is these fields
+pub read_again : (bytes : List ℕ) (r : Option StateFields) (s : StateFields) → state_of_bytes bytes ≡ r → AreStateFields s → bytes ≡ state_bytes s → r ≡ Some s
+read_again bytes r s read fits e = sym read ∙ ap state_of_bytes e ∙ state_again s fits

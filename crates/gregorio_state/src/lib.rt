@@ -7,3 +7,4 @@ mod reading;
 mod writing;
 
 pub use fields::{Phase, ScoreFields, StateFields};
+pub use reading::read;

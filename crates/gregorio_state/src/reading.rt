@@ -1,10 +1,11 @@
 //! The fields of a saved state, read from its bytes.
 
-ghost use Rattle.std.specs.Prelude.{◌≡◌, [], ◌∷◌, ◌++◌, IfSome, codes, length, map};
+ghost use Rattle.std.specs.Prelude.{◌≡◌, [], ◌∷◌, ◌++◌, IfSome, Some, codes, length, map, option_map};
 ghost use Rattle.std.specs.Int.{w16, w32, w64};
 ghost use Rattle.std.specs.Str.{IsUtf8};
 ghost use Rattle.gregorio_state.specs.StateBytes.{number_bytes, flag_bytes, text_bytes, place_bytes, opener_bytes, spans_number, format_number, clef_bytes, alter_number, score_bytes, phase_bytes, state_bytes};
-ghost use Rattle.gregorio_state.specs.Fields.{score_of, phase_of, fields_of};
+ghost use Rattle.gregorio_state.specs.Fields.{StateFields as Fields, score_of, phase_of, fields_of};
+ghost use Rattle.gregorio_state.specs.Conditions.{AreStateFields};
 ghost use Rattle.gregorio_state.specs.machine.Reading.{Gives, byte_at, number_at, flag_of, flag_at, format_of, format_at, spans_of, spans_at, text_of, text_at, pending_at, place_at, opener_at, clef_of, clef_at, alter_of, alters_of, alters_at, behind_tag, limits_of, limits_at, last_text, score_of_bytes, phase_of_bytes, state_of_bytes};
 
 use crate::fields::{Phase, ScoreFields, StateFields};
@@ -389,4 +390,20 @@ fn state_of_bytes(bytes: &[u8]) -> Option<StateFields<'_>>
         has_error,
         phase,
     })
+}
+
+/// Reads the fields of a saved state from all of `bytes`. Returns `None` where the bytes are those of no fields that meet the conditions of a
+/// saved state; what a text of them says when it is read is not looked at.
+pub fn read(bytes: &[u8]) -> Option<StateFields<'_>>
+    ensures some { IfSome result
+        (λ s. (bytes.now ≡ state_bytes (fields_of s)) × AreStateFields (fields_of s)) }
+    ensures only { (s : Fields) → AreStateFields s → bytes.now ≡ state_bytes s →
+        option_map fields_of result ≡ Some s }
+{
+    let fields = state_of_bytes(bytes)?;
+    if fields.is_possible() {
+        Some(fields)
+    } else {
+        None
+    }
 }
