@@ -3,8 +3,10 @@
 
 mod conditions;
 mod fields;
+mod front;
 mod reading;
 mod writing;
 
 pub use fields::{Phase, ScoreFields, StateFields};
+pub use front::TooShort;
 pub use reading::read;

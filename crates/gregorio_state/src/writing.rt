@@ -1,13 +1,15 @@
 //! The bytes of a saved state, written.
 
-ghost use Rattle.std.specs.Prelude.{◌≡◌, ◌+◌, ◌*◌, ◌<◌, ◌≤◌, ◌^◌, max, map, length};
+ghost use Rattle.std.specs.Prelude.{◌≡◌, ◌++◌, ◌+◌, ◌*◌, ◌<◌, ◌≤◌, ◌^◌, max, map, length, drop, OnOk, OnErr, IfOk};
 ghost use Rattle.std.specs.Int.{w16, w32, w64};
 ghost use Rattle.gregorio_state.specs.Fields.{score_of, phase_of, fields_of};
 ghost use Rattle.gregorio_state.specs.Conditions.{AreStateFields};
+ghost use Rattle.gregorio_state.specs.machine.Front.{filled};
 ghost use Rattle.gregorio_state.specs.machine.Lengths.{AreShort};
 ghost use Rattle.gregorio_state.specs.StateBytes.{number_bytes, flag_bytes, text_bytes, place_bytes, opener_bytes, spans_number, format_number, clef_bytes, alter_number, score_bytes, phase_bytes, state_bytes};
 
 use crate::fields::{Phase, ScoreFields, StateFields};
+use crate::front::{Front, TooShort};
 use gabc_neumes::{Alter, Clef};
 use gabc_places::{ByteCounter, Place, Put};
 use gregorio_jobs::Format;
@@ -183,6 +185,33 @@ impl StateFields<'_> {
         put_flag(self.after_cr, out);
         put_flag(self.has_error, out);
         self.phase.write(out);
+    }
+
+    /// Writes the bytes of the state to the front of `buf`, as many as there is room for.
+    fn fill(&self, buf: &mut [u8])
+        requires { AreStateFields (fields_of self.now) }
+        ensures { buf.new ≡ filled buf.old 0 (state_bytes (fields_of self.now)) }
+    {
+        self.write(&mut Front { buf, len: 0 });
+    }
+
+    /// Writes the bytes of the state to the front of `buf`, and returns how many they are. The error is that of a `buf` that has fewer bytes than
+    /// the state, and then it is unchanged. The fields have to meet the conditions of a saved state.
+    pub fn save_into(&self, buf: &mut [u8]) -> Result<usize, TooShort>
+        requires { AreStateFields (fields_of self.now) }
+        ensures written { OnOk result (buf.new ≡ state_bytes (fields_of self.now)
+            ++ drop (length (state_bytes (fields_of self.now))) buf.old) }
+        ensures len { IfOk result (λ len. len ≡ length (state_bytes (fields_of self.now))) }
+        ensures longer { OnErr result
+            (length buf.old < length (state_bytes (fields_of self.now))) }
+        ensures unchanged { OnErr result (buf.new ≡ buf.old) }
+    {
+        let len = self.len();
+        if buf.len() < len {
+            return Err(TooShort);
+        }
+        self.fill(buf);
+        Ok(len)
     }
 
     /// Returns the number of bytes of the state: at most 128, and with them the limit of the headers or twice that of a syllable, whichever

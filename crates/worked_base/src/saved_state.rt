@@ -1,7 +1,7 @@
 //! Saved states from their bytes, and back.
 
 use gabc_places::{Place, Room};
-use gregorio_state::{Phase, StateFields, read};
+use gregorio_state::{Phase, StateFields, TooShort, read};
 use std::alloc::{AllocError, Global};
 use std::test::Fail;
 
@@ -107,4 +107,19 @@ fn no_prefix_is_a_state(rt: HostRuntime) {
     for len in 0..STATE.len() {
         assert!(rt; read(&STATE[..len]).is_none(), "{len}");
     }
+}
+
+#[test]
+fn a_buffer_holds_a_state_or_is_too_short(rt: HostRuntime) -> Result<(), Fail> {
+    let fields = read(&STATE).ok_or("the bytes are a state")?;
+    if !fields.is_possible() {
+        return Err("the fields that are read are possible".into());
+    }
+    let mut buf = [7; 120];
+    assert_eq!(rt; fields.save_into(&mut buf[..115]), Err(TooShort));
+    assert!(rt; buf == [7; 120]);
+    assert_eq!(rt; fields.save_into(&mut buf[..116]), Ok(116));
+    assert!(rt; buf.starts_with(&STATE) && buf.ends_with(&[7; 4]));
+    assert_eq!(rt; fields.save_into(&mut buf), Ok(116));
+    Ok(())
 }
