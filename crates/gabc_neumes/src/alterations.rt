@@ -1,6 +1,6 @@
 //! The clef and the alterations in force.
 
-ghost use Rattle.std.specs.Prelude.{◌≡◌, ◌≤◌, [], ◌∷◌, length, IfSome};
+ghost use Rattle.std.specs.Prelude.{◌≡◌, ◌↔◌, ◌≤◌, [], ◌∷◌, length, IsSome, IfSome};
 ghost use Rattle.gabc_notes.specs.Notes.{height_at};
 ghost use Rattle.gabc_neumes.specs.Sound.{line_at, clef_at, sign_of, told};
 ghost use Rattle.gabc_neumes.specs.InForce.{WordStart, AnItem, step_of, nothing_in_force, is_virgula, in_force_behind, own_alter, sound_of};
@@ -115,6 +115,18 @@ impl Alterations {
         }
     }
 
+    /// Returns what is in force where the clef is `clef`, if there is one, and `alters` are the alterations of the heights from 0 to 14,
+    /// without the `b` of the clef. Returns `None` where the line of `clef` is none of 1 to 5.
+    pub fn resume(clef: Option<Clef>, alters: [Alter; HEIGHTS]) -> Option<Alterations>
+        ensures some { IsSome result ↔ IfSome clef (λ c. (1 ≤ c.line) × (c.line ≤ 5)) }
+        ensures made { IfSome result (λ a. a ≡ record { clef = clef; alters = alters }) }
+    {
+        match clef {
+            Some(clef) if clef.line < 1 || 5 < clef.line => None,
+            _ => Some(Alterations { clef, alters }),
+        }
+    }
+
     /// Passes the start of a word: no alteration is in force behind it.
     pub fn start_word(&mut self)
         ensures { self.new ≡ in_force_behind self.old (WordStart ∷ []) }
@@ -178,6 +190,13 @@ impl Alterations {
         ensures range { IfSome result (λ clef. (1 ≤ clef.line) × (clef.line ≤ 5)) }
     {
         self.clef
+    }
+
+    /// Returns the alterations in force at the heights from 0 to 14, without the `b` of the clef.
+    pub fn alters(&self) -> [Alter; HEIGHTS]
+        ensures { result ≡ self.now.alters }
+    {
+        self.alters
     }
 
     /// Returns the alteration in force at `height`, without the `b` of the clef. A height above 14, that of `p`, has none.

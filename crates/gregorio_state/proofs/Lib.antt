@@ -1,0 +1,9 @@
+mod AltersAreRead
+mod FieldsAreRead
+mod FieldsAreTested
+mod LengthsOfStates
+mod NumbersAreRead
+mod PartsAreWritten
+mod StateExamples
+mod StatesAreRead
+mod TextsAreRead

@@ -1,0 +1,109 @@
+-- What holds of the fields of a saved state by themselves. That a text is read as it says stands with the engine that reads it: that the text of
+-- the headers ends there and gives this place and these errors; that the held text is a whole syllable, given back when it is read; that the
+-- kept text is given back, holds no whole syllable, and is inside what the openers say; that no comment is open behind an unpaired `$`.
+use Rattle.std.specs.Prelude.{◌≡◌, ◌≢◌, ◌↔◌, ◌⊎◌, ℕ, ◌+◌, ◌-◌, ◌^◌, ◌<◌, ◌≤◌, List, [], ◌∷◌, length, drop, Bool, true, false, Option, Some, None, codes, IfSome}
+use Rattle.std.specs.List.{All}
+use Rattle.std.specs.Str.{IsUtf8, chars}
+use Rattle.gabc_places.specs.DecoderTells.{MayBeTold}
+use Rattle.gabc_places.specs.Limits.{AreLimits}
+use Rattle.gabc_places.specs.declared.place.Place.{Place}
+use Rattle.gabc_neumes.specs.InForce.{nothing_in_force}
+use Rattle.gregorio_jobs.specs.declared.job.Format.{Format}
+use Rattle.gregorio_jobs.specs.declared.job.Format.TheVariants as formats
+use Rattle.gregorio_state.specs.Fields.{StateFields, ScoreFields, PhaseFields, InHeaders, InScore}
+
+-- a text of an input has no CR and no U+FEFF
+abbrev pub IsPlain : ℕ → Type 0
+IsPlain c = (c ≢ 13) × (c ≢ 0xFEFF)
+
+-- the bytes are those of a text of an input
+pub record IsText (bytes : List ℕ) : Type 0 where
+  pub utf8 : IsUtf8 bytes
+  pub plain : All IsPlain (chars bytes)
+
+-- A text of headers is within a limit, or one `%` that begins a line is above it.
+abbrev pub IsWithinHeaders : ℕ → List ℕ → Type 0
+IsWithinHeaders limit bytes = (length bytes ≤ limit) ⊎ (drop (limit - 1) bytes ≡ codes "\n%")
+
+abbrev pub IsEarlier : Place → Place → Type 0
+IsEarlier p q = (p.line < q.line) ⊎ ((p.line ≡ q.line) × (p.column < q.column))
+
+-- an opener is a place of the text before the next character
+pub record LiesBefore (next p : Place) : Type 0 where
+  pub line : 1 ≤ p.line
+  pub column : 1 ≤ p.column
+  pub in_64_bits : p.column < 2 ^ 64
+  pub earlier : IsEarlier p next
+
+-- of two openers the second stands behind the first
+abbrev pub AreInOrder : Option Place → Option Place → Type 0
+AreInOrder (Some p) (Some q) = IsEarlier p q
+AreInOrder _ _ = Unit {0}
+
+abbrev pub BeginsWithLf : List ℕ → Type 0
+BeginsWithLf [] = ⊥
+BeginsWithLf (b ∷ bs) = b ≡ 10
+
+-- the counts, within the bytes taken and the limit of the input
+pub record AreCounts (s : StateFields) (f : ScoreFields) : Type 0 where
+  pub nabc_lines : f.nabc_lines ≤ 4
+  pub macros : f.macros < 1024
+  pub syllables : f.syllables ≤ s.taken
+  pub canonical : 2 + length f.held ≤ f.canonical
+  pub below : f.canonical < s.input_limit
+
+-- nothing stands before the first syllable: no span is open, and nothing is in force
+pub record IsAtOutset (f : ScoreFields) : Type 0 where
+  pub eu : f.in_eu ≡ false
+  pub nlba : f.in_nlba ≡ false
+  pub sounded : f.sounded ≡ false
+  pub in_force : f.in_force ≡ nothing_in_force
+
+-- What stands before the held syllable. What is in force is tracked for a dump alone.
+pub record AreBeforeHeld (format : Format) (f : ScoreFields) : Type 0 where
+  pub line : IfSome f.in_force.clef (λ c. (1 ≤ c.line) × (c.line ≤ 5))
+  pub heights : length f.in_force.alters ≡ 15
+  pub sounded : f.sounded ≡ false → f.in_force.clef ≡ None
+  pub outset : f.syllables ≤ 1 → IsAtOutset f
+  pub untracked : format ≡ formats.Gabc → f.in_force ≡ nothing_in_force
+
+-- the held text is empty exactly where no syllable is whole; that of the first one begins with LF
+pub record IsHeldWithin (limit : ℕ) (f : ScoreFields) : Type 0 where
+  pub is_text : IsText f.held
+  pub short : length f.held ≤ limit
+  pub none : f.held ≡ [] ↔ f.syllables ≡ 0
+  pub first : f.syllables ≡ 1 → BeginsWithLf f.held
+
+-- each opener is a place before the next one, and the inner one stands behind the `(`
+pub record AreOpeners (next : Place) (f : ScoreFields) : Type 0 where
+  pub notes : IfSome f.notes_opener (LiesBefore next)
+  pub inner : IfSome f.inner_opener (LiesBefore next)
+  pub in_order : AreInOrder f.notes_opener f.inner_opener
+
+-- no comment is open directly behind a CR, or inside what an inner opener opens
+pub record MayBeInComment (after_cr : Bool) (f : ScoreFields) : Type 0 where
+  pub cr : after_cr ≡ true → f.in_comment ≡ false
+  pub inner : f.in_comment ≡ true → f.inner_opener ≡ None
+
+pub record AreScoreFields (s : StateFields) (f : ScoreFields) : Type 0 where
+  pub counts : AreCounts s f
+  pub before : AreBeforeHeld s.format f
+  pub held : IsHeldWithin s.syllable_limit f
+  pub openers : AreOpeners s.place f
+  pub comment : MayBeInComment s.after_cr f
+  pub kept : IsText f.kept
+  pub kept_short : length f.kept ≤ s.syllable_limit
+
+pub record AreHeaderFields (s : StateFields) (headers : List ℕ) : Type 0 where
+  pub is_text : IsText headers
+  pub within : IsWithinHeaders s.header_limit headers
+
+abbrev pub ArePhaseFields : StateFields → PhaseFields → Type 0
+ArePhaseFields s (InHeaders headers) = AreHeaderFields s headers
+ArePhaseFields s (InScore f) = AreScoreFields s f
+
+-- the fields may be those of a saved state; the decoder's are what a decoder may tell
+pub record AreStateFields (s : StateFields) : Type 0 where
+  pub limits : AreLimits s.header_limit s.syllable_limit s.input_limit
+  pub decoder : MayBeTold s.input_limit s.taken s.place s.pending s.after_cr
+  pub phase : ArePhaseFields s s.phase

@@ -1,0 +1,4 @@
+pub mod Conditions
+pub mod Fields
+pub mod StateBytes
+pub mod machine

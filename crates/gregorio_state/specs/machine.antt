@@ -1,0 +1,4 @@
+pub mod Front
+pub mod Lengths
+pub mod Reading
+pub mod Tests
