@@ -9,6 +9,7 @@ pub mod FirstKinds
 pub mod OneListEachCharacter
 pub mod PartsKeepOn
 pub mod PartsOfKeptText
+pub mod PartsStandOn
 pub mod QuietParts
 pub mod QuietTexts
 pub mod SnippetsAsKept

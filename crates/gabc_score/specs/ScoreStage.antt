@@ -1,9 +1,10 @@
 -- What a stage over a score gives: each syllable in a slot that it lends.
-use Rattle.std.specs.Prelude.{◌≡◌, ℕ, ◌+◌, ◌<◌, ◌≤◌, ◌^◌, List, [], ◌∷◌, ◌++◌, Bool, true, false, length, map, take}
+use Rattle.std.specs.Prelude.{◌≡◌, ℕ, zero, suc, ◌+◌, ◌<◌, ◌≤◌, ◌^◌, List, [], ◌∷◌, ◌++◌, Bool, true, false, length, map, take}
 use Rattle.gabc_places.specs.BoundedList.{BoundedList, extended_by}
 use Rattle.gabc_places.specs.declared.limits.Limits.{Limits}
 use Rattle.gabc_places.specs.declared.place.Char.{Char}
 use Rattle.gabc_places.specs.declared.place.Place.{Place}
+use Rattle.gabc_places.specs.Place.{saturating_next_place}
 use Rattle.gabc_places.specs.Skip.{characters_at}
 use Rattle.gabc_headers.specs.declared.head_event.HeadEvent.{HeadEvent}
 use Rattle.gabc_headers.specs.declared.head_event.HeadEvent.TheVariants as head_event
@@ -15,7 +16,8 @@ use Rattle.gabc_score.specs.declared.score_event.ScoreEvent.TheVariants as event
 use Rattle.gabc_score.specs.Before.{no_syllable, with_placed}
 use Rattle.gabc_score.specs.declared.score_machine.ScorePart.{ScorePart}
 use Rattle.gabc_score.specs.declared.score_machine.ScorePart.TheVariants as score_part
-use Rattle.gabc_score.specs.ScoreEvents.{ScoreOutput, Found, Stop, Syllable, End, syllables_in}
+use Rattle.gabc_score.specs.ScoreTells.{StandsAt}
+use Rattle.gabc_score.specs.ScoreEvents.{first_place, ScoreOutput, Found, Stop, Syllable, End, syllables_in}
 use Rattle.gabc_score.specs.Canonical.{canonical_in_place}
 use Rattle.gabc_score.specs.Syllable.{PlacedSyllable}
 use Rattle.std.specs.List.{All}
@@ -61,12 +63,29 @@ abbrev pub preceding_past : ScorePart → HeadEvent → List ScoreOutput → Pre
 preceding_past score_part.Heads (head_event.Heads lines macros canonical) outputs p = no_syllable canonical
 preceding_past part x outputs p = with_placed p (syllables_in outputs)
 
+-- the place of the next character behind an input: that of the first behind the headers
+abbrev pub next_past : ScorePart → HeadEvent → Place → Place
+next_past score_part.Heads (head_event.Heads lines macros canonical) next = first_place
+next_past score_part.Body (head_event.Body x) next = saturating_next_place x.place x.c
+next_past part x next = next
+
+-- an input that is a character stands at this place
+abbrev pub StandsHere : HeadEvent → Place → Type 0
+StandsHere (head_event.Body x) next = x.place ≡ next
+StandsHere x next = Unit {0}
+
+-- in the body a text has counted the place of the next character
+abbrev pub StandsInLine : ScoreStageState → Type 0
+StandsInLine s = s.part ≡ score_part.Body → StandsAt s.held.next s.body.part
+
 -- At an input it gave what was to come for it, and goes on with what follows under the same limits.
 pub record GivesAt (before : ScoreStageState) (x : HeadEvent) (after : ScoreStageState) (old new : BoundedList ScoreEvent) : Type 0 where
   pub outputs : List ScoreOutput
   pub lends : Lends before.limits (most_lent x) outputs
   pub limits : after.limits ≡ before.limits
   pub before_held : after.part ≡ score_part.Body → after.before ≡ preceding_past before.part x outputs before.before
+  pub next : after.part ≡ score_part.Body → after.held.next ≡ next_past before.part x before.held.next
+  pub stands : StandsHere x before.held.next → StandsInLine before → StandsInLine after
   pub law : (xs : List HeadEvent) → left_of before (x ∷ xs) ≡ outputs ∷ left_of after xs
   pub emitted : GivesOutputs outputs old new after.first after.second
 
@@ -88,11 +107,18 @@ body_inputs at bytes = map (λ (x : Char). head_event.Body x) (characters_at at 
 abbrev pub nothing_each : List ℕ → List (List ScoreOutput)
 nothing_each bytes = map (λ (byte : ℕ). []) bytes
 
+-- the place behind so many characters of one line, of which the first stands at `at`; behind none, where the next one stood before
+abbrev pub behind_front : Place → ℕ → Place → Place
+behind_front at zero before = before
+behind_front at (suc n) before = record { line = at.line; column = at.column + suc n }
+
 -- At these characters nothing was to come, nothing was given, and it goes on in its part with what follows under the same limits.
 pub record GivesNothing (before : ScoreStageState) (at : Place) (bytes : List ℕ) (after : ScoreStageState) : Type 0 where
   pub limits : after.limits ≡ before.limits
   pub part : after.part ≡ before.part
   pub before_held : after.before ≡ before.before
+  pub next : after.held.next ≡ behind_front at (length bytes) before.held.next
+  pub stands : at ≡ before.held.next → StandsInLine before → StandsInLine after
   pub law : (xs : List HeadEvent) → left_of before (body_inputs at bytes ++ xs) ≡ nothing_each bytes ++ left_of after xs
 
 -- ---- counts that have not reached their last value

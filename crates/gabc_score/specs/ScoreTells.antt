@@ -89,3 +89,13 @@ pub record TellTheSame (a b : BodyPart) : Type 0 where
   pub comment : is_in_comment a ≡ is_in_comment b
   pub front : is_in_front a ≡ is_in_front b
   pub next : next_in a ≡ next_in b
+
+-- ---- the next character stands elsewhere
+
+abbrev pub moved_part : Place → BodyPart → BodyPart
+moved_part place (part.Text stage) = part.Text (text.moved_to place stage)
+moved_part place part = part
+
+-- The next character stands at this place. What is open keeps the place where it began.
+abbrev pub moved_to : Place → ScoreStageState → ScoreStageState
+moved_to place s = record s { held = record s.held { next = place }; body = record s.body { part = moved_part place s.body.part } }

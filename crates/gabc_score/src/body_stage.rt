@@ -11,7 +11,8 @@ ghost use Rattle.gabc_score.specs.Events.{InComment, events_from, body_events, b
 ghost use Rattle.gabc_text.specs.Events.{CountsFit};
 ghost use Rattle.gabc_score.specs.machine.Gatherer.{Gathered};
 ghost use Rattle.gabc_score.specs.machine.PartCounts.{CountsInNotes, CountsHold, PartGoesOn};
-ghost use Rattle.gabc_score.specs.machine.PartKeeps.{in_text, BeginsSnippet, PartKeeps, PartKeepsOn};
+ghost use Rattle.gabc_score.specs.machine.PartKeeps.{in_text, BeginsSnippet, PartKeeps, PartKeepsOn, PartStandsOn};
+ghost use Rattle.gabc_score.specs.ScoreTells.{StandsAt};
 ghost use Rattle.gabc_score.specs.machine.Quiet.{TakesQuietly};
 ghost use Rattle.gabc_score.specs.machine.SyllableBuilder.{OpenSyllable, nothing_open};
 ghost use Rattle.gabc_score.specs.machine.Slot.{FitEach};
@@ -102,6 +103,7 @@ fn text_behind(mark: Place) -> BodyPart
         ≡ text_from texts_by_stage (behind_mark mark) xs }
     ensures counts { CountsHold result nothing_open }
     ensures keeps { (lines macros : ℕ) → PartKeeps lines macros result (in_text []) }
+    ensures stands { StandsAt (behind_mark mark) result }
 {
     BodyPart::Text(TextStage::new(mark.saturating_after(')')))
 }
@@ -197,6 +199,8 @@ impl BodyStage {
         ensures macros { self.new.macros ≡ self.old.macros }
         ensures keeps { PartKeepsOn self.old.nabc_lines self.old.macros
             self.old.part self.new.part self.new.events }
+        ensures stands { PartStandsOn self.old.nabc_lines self.old.macros
+            x self.old.part self.new.part }
         ensures over { self.new.over ≡ self.old.over }
     {
         match &mut self.part {
@@ -250,6 +254,8 @@ impl BodyStage {
         ensures macros { self.new.macros ≡ self.old.macros }
         ensures keeps { PartKeepsOn self.old.nabc_lines self.old.macros
             self.old.part self.new.part self.new.events }
+        ensures stands { PartStandsOn self.old.nabc_lines self.old.macros
+            x self.old.part self.new.part }
         ensures over { self.new.over ≡ self.old.over }
     {
         if let BodyPart::Comment = self.part {

@@ -1,9 +1,9 @@
 //! What a stage over a body tells of the part in which it stands.
 
-ghost use Rattle.std.specs.Prelude.{◌≡◌, List};
+ghost use Rattle.std.specs.Prelude.{◌≡◌, ℕ, List};
 ghost use Rattle.gabc_places.specs.declared.place.Char.{Char};
-ghost use Rattle.gabc_score.specs.ScoreTells.{is_in_comment, openers_of, TellTheSame};
-ghost use Rattle.gabc_score.specs.machine.PartKeeps.{KeepTheSame};
+ghost use Rattle.gabc_score.specs.ScoreTells.{is_in_comment, moved_part, openers_of, TellTheSame};
+ghost use Rattle.gabc_score.specs.machine.PartKeeps.{KeepTheSame, KeptParts, PartKeeps};
 ghost use Rattle.gabc_score.specs.witness.BodyStage.{running_events_left};
 
 use crate::body_stage::{BodyPart, BodyStage};
@@ -44,6 +44,17 @@ impl BodyStage {
             BodyPart::Text(stage) => stage.in_comment(),
             BodyPart::Notes { stage, .. } => stage.in_comment(),
             BodyPart::Nabc { stage, .. } => stage.in_comment(),
+        }
+    }
+
+    /// Says that the next character stands at `at`. What is open keeps the place where it began.
+    pub(crate) fn go_to(&mut self, at: Place)
+        ensures moved { self.new ≡ record self.old { part = moved_part at self.old.part } }
+        ensures keeps { (lines macros : ℕ) (p : KeptParts) →
+            PartKeeps lines macros self.old.part p → PartKeeps lines macros self.new.part p }
+    {
+        if let BodyPart::Text(stage) = &mut self.part {
+            stage.go_to(at);
         }
     }
 

@@ -28,6 +28,7 @@ mod events;
 mod giving;
 mod kept_text;
 pub mod laws;
+mod moving;
 mod part_ends;
 mod part_events;
 mod part_pushes;

@@ -9,7 +9,7 @@ ghost use Rattle.std.specs.List.{All};
 ghost use Rattle.gabc_places.specs.Skip.{IsPrintable};
 ghost use Rattle.gabc_score.specs.ScoreStage.{AreCountsBelow, GivesNothing, lent_in};
 ghost use Rattle.gabc_score.specs.witness.ScoreStage.{left_of};
-ghost use Rattle.gabc_score.specs.ScoreTells.{before_of, held_of, in_body, is_in_comment, openers_of, reading_of};
+ghost use Rattle.gabc_score.specs.ScoreTells.{before_of, held_of, in_body, is_in_comment, moved_to, next_of, openers_of, reading_of};
 ghost use Rattle.gabc_score.specs.Syllable.{placed_of, unplaced_of};
 
 use crate::before::Before;
@@ -134,6 +134,23 @@ impl ScoreStage {
             ScorePart::Body => Some(self.machine.body.in_comment()),
             ScorePart::Heads | ScorePart::Over => None,
         }
+    }
+
+    /// Returns the place of the next character. Outside the body it returns `None`.
+    pub fn next(&self) -> Option<Place>
+        ensures { result ≡ next_of self.now }
+    {
+        match self.machine.part {
+            ScorePart::Body => Some(self.machine.next),
+            ScorePart::Heads | ScorePart::Over => None,
+        }
+    }
+
+    /// Says that the next character stands at `at`. What is open keeps the place where it began.
+    pub fn go_to(&mut self, at: Place)
+        ensures { self.new ≡ moved_to at self.old }
+    {
+        self.machine.go_to(at);
     }
 
     /// Returns the syllable that the last call gave as `lent`. What it returns where none was given is not said.

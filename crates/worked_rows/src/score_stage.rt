@@ -231,3 +231,14 @@ fn tells_where_it_stands(rt: HostRuntime) -> Result<(), AllocError> {
     }
     Ok(())
 }
+
+#[test]
+fn goes_to_another_place(rt: HostRuntime) -> Result<(), AllocError> {
+    let mut stage = ScoreStage::with_limits(rt.alloc(), Limits::DEFAULT)?;
+    assert!(rt; stage.next().is_none());
+    let told = told_behind(rt.alloc(), &mut stage, "\na(f) <b")?;
+    let at = Place { line: 7, column: 5 };
+    stage.go_to(at);
+    assert!(rt; stage.next() == Some(at) && !told.as_str().is_empty());
+    Ok(())
+}

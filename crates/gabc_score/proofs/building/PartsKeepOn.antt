@@ -1,5 +1,5 @@
 -- The parts of the kept text go on with what a stage emits, by what it keeps.
-use Rattle.std.proofs.Common.{◌≡◌, ◌≢◌, ◌==◌, ◌&&◌, ◌||◌, ℕ, zero, suc, ◌-◌, ◌^◌, min, nat_lt, Bool, true, false, List, [], ◌∷◌, ◌++◌, refl, sym, ap, subst, ◌∙◌, if◌then◌else◌}
+use Rattle.std.proofs.Common.{◌≡◌, ◌≢◌, ◌==◌, ◌&&◌, ◌||◌, not, ℕ, zero, suc, ◌-◌, ◌^◌, min, nat_lt, Bool, true, false, List, [], ◌∷◌, ◌++◌, refl, sym, ap, subst, ◌∙◌, if◌then◌else◌}
 use Rattle.std.proofs.lemmas.Bool.{eqb-true, true≢false}
 use Rattle.std.specs.List.{list_any}
 use Rattle.gabc_places.specs.declared.place.Char.{Char}
@@ -84,6 +84,13 @@ module _ (es : List NoteEvent) (c n : ℕ) where
       by true g h = eqb-true c 124 g
       by false g h = absurd (true≢false (sym h))
 
+  not_next : ends_of es ≡ (end_by_mark c, n) ∷ [] → list_any is_close es ≡ true → (c == 124) ≡ false
+  not_next e f = by (c == 124) refl (sym (any_close es ∙ ap (list_any (λ (e : NoteEnd × ℕ). is_close_end e.0)) e) ∙ f)
+    where
+      by : (b : Bool) → (c == 124) ≡ b → list_any (λ (e : NoteEnd × ℕ). is_close_end e.0) ((if b then note_end.Next else note_end.Close, n) ∷ []) ≡ true → b ≡ false
+      by true g h = absurd (true≢false (sym h))
+      by false g h = refl
+
   close_ends : ends_of es ≡ (end_by_mark c, n) ∷ [] → list_any is_close es ≡ true → ends_of es ≡ (note_end.Close, n) ∷ []
   close_ends e f = e ∙ ap (λ (how : NoteEnd). (how, n) ∷ []) (by (c == 124) (sym (any_close es ∙ ap (list_any (λ (e : NoteEnd × ℕ). is_close_end e.0)) e) ∙ f))
     where
@@ -147,6 +154,19 @@ module _ (lines macros : ℕ) (opened : Place) (s t : NoteStage) (x : Char) (es 
             end = next_ends es x.c _ e.end next ∙ ap (λ (n : ℕ). (note_end.Next, min n (2 ^ 64 - 1)) ∷ []) (size_is_sum (trim gabc k));
           }
 
+  -- it closes at a `)` alone
+  pub close_mark : (k : List ℕ) → Keep s k → list_any is_close es ≡ true → x.c ≡ 41
+  close_mark k h close =
+      let over = ended k h (λ none. true≢false (sym close ∙ none_close es x.c 0 none)) in
+      eqb-true x.c 41 (by _ _ (x.c == 41) (nat_lt 0 lines) (x.c == 124) (not_next es x.c _ over.1.end close) over.0)
+    where
+      by : (a r b s d : Bool) → d ≡ false → (a && (r && (b || (s && d)))) ≡ true → b ≡ true
+      by true true true s d e f = refl
+      by true true false true d e f = absurd (true≢false (sym f ∙ e))
+      by true true false false d e f = absurd (true≢false (sym f))
+      by true false b s d e f = absurd (true≢false (sym f))
+      by false r b s d e f = absurd (true≢false (sym f))
+
   pub gabc_closes_on : (after : BodyPart) → list_any is_close es ≡ true → PartKeeps lines macros after (in_text []) → PartKeepsOn lines macros (part.Notes opened s) after (of_notes 0 opened es)
   gabc_closes_on after close begins = notes_close_on lines macros 0 opened (part.Notes opened s) (Keep s) found es after closes begins
     where
@@ -182,6 +202,20 @@ module _ (lines macros line : ℕ) (opened : Place) (s t : NabcStage) (x : Char)
       by : (b : Bool) → nabc.is_end_behind (nabc.comment_of s) x.c ≡ b → nabc.EndsBehind k x.c es
       by false e = absurd (some (on.goes k h.1 e).no_end)
       by true e = on.ends k h.1 e
+
+  pub nabc_close_mark : (k : List ℕ) → KeepNabc s k → list_any is_close es ≡ true → x.c ≡ 41
+  nabc_close_mark k h close =
+      let some : ends_of es ≡ [] → ⊥ = λ none. true≢false (sym close ∙ none_close es x.c 0 none) in
+      eqb-true x.c 41 (by (nabc.comment_of s) (x.c == 41) (x.c == 124) (not_next es x.c _ (ended_nabc k h some).end close) (over some (nabc.is_end_behind (nabc.comment_of s) x.c) refl))
+    where
+      over : (ends_of es ≡ [] → ⊥) → (b : Bool) → nabc.is_end_behind (nabc.comment_of s) x.c ≡ b → nabc.is_end_behind (nabc.comment_of s) x.c ≡ true
+      over some true e = e
+      over some false e = absurd (some (on.goes k h.1 e).no_end)
+
+      by : (a b d : Bool) → d ≡ false → (not a && (b || d)) ≡ true → b ≡ true
+      by false true d e f = refl
+      by false false d e f = absurd (true≢false (sym f ∙ e))
+      by true b d e f = absurd (true≢false (sym f))
 
   on_line : (l : ℕ) (k : List ℕ) → l ≢ 0 → IsEnded nabc.Keeps (IsSnippet nabc_table) k → IsEndedOn lines macros l k
   on_line zero k some h = absurd (some refl)

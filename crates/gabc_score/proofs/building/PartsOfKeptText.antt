@@ -153,6 +153,16 @@ ends_text (text_out.Ended how ∷ es) e = refl
 in_notes_ended : (es : List TextEvent) → text.EndsInNotes es → list_any is_text_end es ≡ true
 in_notes_ended es h = ap (list_any is_text_end) h.is ∙ list_any-append is_text_end (out_parts h.parts) (text_out.Ended text_end.Notes ∷ []) ∙ rw (parts_end h.parts) refl
 
+-- a text that does not end at its `(` does not end
+pub text_goes_on : (s t : TextStage) (c : ℕ) (es : List TextEvent) (k : List ℕ) → text.KeepsOn s c es t → text.Keeps s k → list_any is_text_end es ≡ false → text.end_text es ≡ false
+text_goes_on s t c es k on keeps goes_on = by (text.end_text es) refl
+  where
+    by : (b : Bool) → text.end_text es ≡ b → b ≡ false
+    by false e = refl
+    by true e =
+        let h = on.ends k keeps e in
+        absurd (true≢false (sym (in_notes_ended (text.said_at_end k) h.notes) ∙ ap (list_any is_text_end) (sym h.said) ∙ ended_said es ∙ goes_on))
+
 -- behind the end of a text
 pub record IsMarked (g h : Gathered) (mark : ℕ) : Type 0 where
   pub kept : h.builder.kept ≡ g.builder.kept ++ encode_utf8 mark
@@ -281,13 +291,7 @@ module _ (lines macros : ℕ) where
       k = here.k
 
       none_ends : text.end_text es ≡ false
-      none_ends = by (text.end_text es) refl
-        where
-          by : (b : Bool) → text.end_text es ≡ b → b ≡ false
-          by false e = refl
-          by true e =
-              let h = on.ends k here.keeps e in
-              absurd (true≢false (sym (in_notes_ended (text.said_at_end k) h.notes) ∙ ap (list_any is_text_end) (sym h.said) ∙ ended_said es ∙ goes_on))
+      none_ends = text_goes_on s t c es k on here.keeps goes_on
 
       goes : text.GoesOn s k c es t
       goes = on.goes k here.keeps none_ends

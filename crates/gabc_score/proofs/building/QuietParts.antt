@@ -30,11 +30,12 @@ use Rattle.gabc_score.specs.machine.BodyBuilder.{with_all}
 use Rattle.gabc_score.specs.machine.Gatherer.{Gathered, awaits, awaits_in, first_past, span_of}
 use Rattle.gabc_score.specs.machine.SyllableBuilder.{OpenSyllable, past_snippet}
 use Rattle.gabc_score.specs.machine.PartCounts.{CountsInNotes, CountsHold}
-use Rattle.gabc_score.specs.machine.PartKeeps.{BeginsSnippet, PartKeepsOn}
+use Rattle.gabc_score.specs.machine.PartKeeps.{BeginsSnippet, PartKeepsOn, PartStandsOn}
 use Rattle.gabc_score.specs.machine.Quiet.{TakesQuietly}
 use Rattle.gabc_score.specs.machine.SlotPair.{SlotPairState}
 use Rattle.gabc_score.proofs.building.FirstKinds.{empty_first}
 use Rattle.gabc_score.proofs.building.PartsOfKeptText.{text_ends_on}
+use Rattle.gabc_score.proofs.building.PartsStandOn.{snippet_stands}
 use Rattle.gabc_score.proofs.building.CountsOfParts.{text_ends, prefix_between, notes_go}
 
 -- a printable character adds one byte
@@ -72,8 +73,9 @@ module _ (before after : BodyStageState) (x : Char) (pair next : SlotPairState) 
   -- these events are taken quietly
   pub events_quiet : (es : List BodyEvent) → ((xs : List Char) → running_events_left before (x ∷ xs) ≡ es ∷ running_events_left after xs)
       → OnlyKeeps pair.gathered (with_all pair.gathered es) es → next.gathered ≡ with_all pair.gathered es → CountsHold after.part (with_all pair.gathered es).builder
-      → after.nabc_lines ≡ before.nabc_lines → after.macros ≡ before.macros → PartKeepsOn before.nabc_lines before.macros before.part after.part es → TakesQuietly before x pair after next
-  events_quiet es law keeps gathered counts lines macros parts = record {
+      → after.nabc_lines ≡ before.nabc_lines → after.macros ≡ before.macros → PartKeepsOn before.nabc_lines before.macros before.part after.part es → PartStandsOn before.nabc_lines before.macros x before.part after.part
+      → TakesQuietly before x pair after next
+  events_quiet es law keeps gathered counts lines macros parts stands = record {
     events = es;
     law = law;
     silent = keeps.silent;
@@ -91,6 +93,7 @@ module _ (before after : BodyStageState) (x : Char) (pair next : SlotPairState) 
     lines = lines;
     macros = macros;
     keeps = parts;
+    stands = stands;
   }
 
 module _ (before after : BodyStageState) (x : Char) (pair next : SlotPairState) (held : next.held ≡ pair.held) (used : next.used ≡ Filling)
@@ -110,19 +113,21 @@ module _ (before after : BodyStageState) (x : Char) (pair next : SlotPairState) 
       (subst (λ b. CountsHold b pair.gathered.builder) is counts)) lines macros
       (subst (λ b. PartKeepsOn before.nabc_lines before.macros b after.part (event.Text (text.Ended text_end.Notes) ∷ [])) (sym is)
       (text_ends_on before.nabc_lines before.macros s t 40 (text.Ended text_end.Notes ∷ []) after.part takes.keeps refl (λ u b. begins u [] b)))
+      (λ p kept at. snippet_stands before.nabc_lines before.macros 0 x.place _ after.part snippet)
 
   -- a character of a snippet
   pub note_quiet : (line : ℕ) (opened : Place) (from to : List Char → List (List NoteEvent))
       → ((xs : List Char) → part_with before.part xs ≡ InNotes line opened (from xs)) → ((xs : List Char) → part_with after.part xs ≡ InNotes line opened (to xs))
       → ((xs : List Char) → from (x ∷ xs) ≡ (note.Kept x ∷ []) ∷ to xs)
       → next.gathered ≡ with_all pair.gathered (event.Notes line (note.Kept x) ∷ []) → ((o : _) → CountsHold before.part o → CountsInNotes o) → ((o : _) → CountsInNotes o → CountsHold after.part o)
-      → PartKeepsOn before.nabc_lines before.macros before.part after.part (event.Notes line (note.Kept x) ∷ []) → CountsHold before.part pair.gathered.builder → TakesQuietly before x pair after next
-  note_quiet line opened from to is now law gathered out into parts counts =
+      → PartKeepsOn before.nabc_lines before.macros before.part after.part (event.Notes line (note.Kept x) ∷ []) → PartStandsOn before.nabc_lines before.macros x before.part after.part
+      → CountsHold before.part pair.gathered.builder → TakesQuietly before x pair after next
+  note_quiet line opened from to is now law gathered out into parts stands counts =
       events_quiet before after x pair next held used (event.Notes line (note.Kept x) ∷ [])
       (λ xs. rw (is (x ∷ xs), now xs, lines, macros)
       (ap (λ lists. events_from texts_by_stage before.nabc_lines before.macros (InNotes line opened lists) (x ∷ xs)) (law xs)))
       (record { silent = refl; made = refl; over = refl; total = refl; limit = refl; cut = refl; first_kind = refl; kept = one_byte pair.gathered.builder.kept x.c ascii }) gathered
-      ((notes_go line opened before.part (note.Kept x ∷ []) (omega arith) out after.part into).counts pair.gathered counts) lines macros parts
+      ((notes_go line opened before.part (note.Kept x ∷ []) (omega arith) out after.part into).counts pair.gathered counts) lines macros parts stands
 
   -- the `|` that ends a snippet, which brings no first note or clef
   pub next_quiet : (line : ℕ) (opened : Place) (count : ℕ) (from to : List Char → List (List NoteEvent))
@@ -141,3 +146,4 @@ module _ (before after : BodyStageState) (x : Char) (pair next : SlotPairState) 
       ∙ ap (λ p. (event.Notes line (note.Ended note_end.Next count) ∷ []) ∷ events_from texts_by_stage before.nabc_lines before.macros p xs) (sym (snippet xs))))
       (record { silent = refl; made = refl; over = refl; total = refl; limit = refl; cut = refl; first_kind = quiet_first pair.gathered.first_kind line open_now (span_of open_now line count) (past_snippet open_now line count 124).kept refl cut none; kept = omega (arith, cut, marked) }) gathered
       ((notes_go line opened before.part (note.Ended note_end.Next count ∷ []) (omega arith) out after.part into).counts pair.gathered counts) lines macros parts
+      (λ p kept at. snippet_stands before.nabc_lines before.macros (next_line before.nabc_lines line) opened _ after.part snippet)

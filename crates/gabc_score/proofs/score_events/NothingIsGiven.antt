@@ -1,5 +1,5 @@
 -- Characters of the body at which nothing is given, one after another.
-use Rattle.std.proofs.Common.{◌≡◌, ℕ, ◌+◌, ◌<◌, List, [], ◌∷◌, ◌++◌, map, length, take, slice_index_or, sym, ap, subst, ◌∙◌, arith, append_assoc, length-take, add-one}
+use Rattle.std.proofs.Common.{◌≡◌, ℕ, zero, suc, ◌+◌, ◌<◌, List, [], ◌∷◌, ◌++◌, map, length, take, slice_index_or, refl, sym, ap, subst, ◌∙◌, arith, append_assoc, length-append, length-take, add-one}
 use Rattle.std.proofs.lemmas.Bool.Decides.{nat_tests}
 use Rattle.std.proofs.lemmas.List.{map-append}
 use Rattle.std.proofs.Math.Seq.{take-suc}
@@ -11,7 +11,8 @@ use Rattle.gabc_places.specs.Skip.{IsPrintable}
 use Rattle.gabc_headers.specs.declared.head_event.HeadEvent.{HeadEvent}
 use Rattle.gabc_headers.specs.declared.head_event.HeadEvent.TheVariants as head_event
 use Rattle.gabc_score.specs.ScoreEvents.{ScoreOutput}
-use Rattle.gabc_score.specs.ScoreStage.{GivesNothing, body_inputs, nothing_each}
+use Rattle.gabc_score.specs.ScoreStage.{GivesNothing, behind_front, body_inputs, nothing_each}
+use Rattle.gabc_score.specs.ScoreTells.{StandsAt}
 use Rattle.gabc_score.specs.witness.ScoreStage.{ScoreStageState, left_of}
 use Rattle.gabc_score.specs.machine.ScoreMachine.{PassesQuietly}
 
@@ -36,11 +37,19 @@ inputs_one_more at bytes byte =
 nothing_one_more : (bytes : List ℕ) (byte : ℕ) → nothing_each (bytes ++ byte ∷ []) ≡ nothing_each bytes ++ [] ∷ []
 nothing_one_more bytes byte = map-append (λ (b : ℕ). []) bytes (byte ∷ [])
 
-gives_more : (a b c : ScoreStageState) (at : Place) (bytes : List ℕ) (byte : ℕ) → GivesNothing a at bytes b → PassesQuietly b (char_behind at (length bytes) byte) c → GivesNothing a at (bytes ++ byte ∷ []) c
-gives_more a b c at bytes byte step passes = record {
+-- the character behind these stands in their line
+stands_behind : (at next : Place) (n : ℕ) → at ≡ next → record { line = at.line; column = at.column + n } ≡ behind_front at n next
+stands_behind at next zero e = ap (λ (m : ℕ). record { line = at.line; column = m }) (omega arith) ∙ e
+stands_behind at next (suc n) e = refl
+
+gives_more : (a b c : ScoreStageState) (at : Place) (bytes : List ℕ) (byte : ℕ) → c.held.next ≡ behind_front at (length bytes + 1) a.held.next
+    → (StandsAt (char_behind at (length bytes) byte).place b.body.part → StandsAt c.held.next c.body.part) → GivesNothing a at bytes b → PassesQuietly b (char_behind at (length bytes) byte) c → GivesNothing a at (bytes ++ byte ∷ []) c
+gives_more a b c at bytes byte next stands step passes = record {
   limits = passes.limits ∙ step.limits;
   part = passes.part ∙ step.part;
   before_held = passes.before_held ∙ step.before_held;
+  next = next ∙ ap (λ (n : ℕ). behind_front at n a.held.next) (sym (length-append bytes (byte ∷ [])));
+  stands = λ here was body. stands (subst (λ (p : Place). StandsAt p b.body.part) (step.next ∙ sym (stands_behind at a.held.next (length bytes) here)) (step.stands here was (sym passes.part ∙ body)));
   law = λ xs.
       let x = head_event.Body (char_behind at (length bytes) byte) in
       ap (λ (is : List HeadEvent). left_of a (is ++ xs)) (inputs_one_more at bytes byte)
@@ -58,11 +67,13 @@ taken_length : (bytes : List ℕ) (count : ℕ) → count < length bytes → len
 taken_length bytes count within = let h = length-take count bytes in grind (arith, nat_tests)
 
 -- with the next byte as well
-pub gives_next : (a b c : ScoreStageState) (at : Place) (bytes : List ℕ) (count d : ℕ) → count < length bytes → GivesNothing a at (take count bytes) b
+pub gives_next : (a b c : ScoreStageState) (at : Place) (bytes : List ℕ) (count d : ℕ) → count < length bytes → c.held.next ≡ behind_front at (count + 1) a.held.next
+    → (StandsAt (char_behind at count (slice_index_or bytes count d)).place b.body.part → StandsAt c.held.next c.body.part) → GivesNothing a at (take count bytes) b
     → PassesQuietly b (char_behind at count (slice_index_or bytes count d)) c → GivesNothing a at (take (count + 1) bytes) c
-gives_next a b c at bytes count d within step passes =
+gives_next a b c at bytes count d within next stands step passes =
     subst (λ (l : List ℕ). GivesNothing a at l c) (sym (take_one_more bytes count d within))
-    (gives_more a b c at (take count bytes) (slice_index_or bytes count d) step
+    (gives_more a b c at (take count bytes) (slice_index_or bytes count d) (next ∙ ap (λ (n : ℕ). behind_front at (n + 1) a.held.next) (sym (taken_length bytes count within)))
+    (subst (λ (n : ℕ). StandsAt (char_behind at n (slice_index_or bytes count d)).place b.body.part → StandsAt c.held.next c.body.part) (sym (taken_length bytes count within)) stands) step
     (subst (λ (n : ℕ). PassesQuietly b (char_behind at n (slice_index_or bytes count d)) c) (sym (taken_length bytes count within)) passes))
 
 pub printable_next : (bytes : List ℕ) (count d : ℕ) → count < length bytes → All IsPrintable (take count bytes) → IsPrintable (slice_index_or bytes count d) → All IsPrintable (take (count + 1) bytes)

@@ -1,5 +1,4 @@
 -- Where a machine over a score stands that takes characters from the front of a piece.
-use Rattle.std.specs.Prelude.{ℕ, ◌+◌, zero, suc}
 use Rattle.gabc_places.specs.declared.place.Place.{Place}
 use Rattle.gabc_score.specs.declared.score_machine.ScoreMachine.{ScoreMachine}
 use Rattle.gabc_score.specs.witness.ScoreStage.{ScoreStageState}
@@ -8,8 +7,3 @@ use Rattle.gabc_score.specs.machine.ScoreMachine.{shown}
 -- what a machine shows where the body's next character stands at this place
 abbrev pub shown_before : ScoreMachine → Place → ScoreStageState
 shown_before m at = shown (record m { next = at })
-
--- behind so many characters of one line, of which the first stands at `at`; behind none, where it stood before
-abbrev pub behind_front : Place → ℕ → Place → Place
-behind_front at zero before = before
-behind_front at (suc n) before = record { line = at.line; column = at.column + suc n }

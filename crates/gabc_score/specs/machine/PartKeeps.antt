@@ -2,6 +2,7 @@
 -- they say.
 use Rattle.std.specs.Prelude.{◌≡◌, ◌≢◌, ◌<◌, ◌^◌, ℕ, zero, suc, nat_lt, List, [], ◌∷◌, ◌++◌, map, length, Bool, true, false, cond, None, encode_utf8_all}
 use Rattle.std.specs.List.{flat_map}
+use Rattle.gabc_places.specs.Place.{saturating_next_place}
 use Rattle.gabc_places.specs.declared.place.Char.{Char}
 use Rattle.gabc_patterns.specs.LongestItems.{IsSnippet}
 use Rattle.gabc_text.specs.witness.Keeps as text
@@ -21,6 +22,7 @@ use Rattle.gabc_score.specs.declared.body_stage.BodyPart.TheVariants as part
 use Rattle.gabc_score.specs.declared.events.BodyEvent.{BodyEvent}
 use Rattle.gabc_score.specs.declared.events.BodyEvent.TheVariants as event
 use Rattle.gabc_score.specs.Events.{next_line}
+use Rattle.gabc_score.specs.ScoreTells.{StandsAt}
 use Rattle.gabc_score.specs.machine.BodyBuilder.{with_all}
 use Rattle.gabc_score.specs.machine.Gatherer.{Gathered, nothing_gathered}
 use Rattle.gabc_score.specs.machine.Preceded.{spans_of}
@@ -160,3 +162,8 @@ abbrev pub PartKeepsOn : ℕ → ℕ → BodyPart → BodyPart → List BodyEven
 PartKeepsOn lines macros before after now =
     (spans : Spans) (g : Gathered) → length g.builder.kept < 2 ^ 64 → IsReading lines macros before spans g
     → IsReading lines macros after (spans_past spans g (with_all g now)) (with_all g now)
+
+-- where a part stands that keeps a text, it stands behind the character x with it
+abbrev pub PartStandsOn : ℕ → ℕ → Char → BodyPart → BodyPart → Type 0
+PartStandsOn lines macros x before after =
+    (p : KeptParts) → PartKeeps lines macros before p → StandsAt x.place before → StandsAt (saturating_next_place x.place x.c) after

@@ -9,6 +9,7 @@ use Rattle.gabc_score.proofs.building.EventsOfSnippets.{snippet_emits}
 use Rattle.gabc_score.proofs.building.CountsOfParts.{text_goes, text_ends, notes_go, notes_close}
 use Rattle.gabc_score.proofs.building.PartsOfKeptText.{text_keeps_on, text_ends_on}
 use Rattle.gabc_score.proofs.building.PartsKeepOn.{gabc_keeps_on, gabc_ends_on, gabc_closes_on, nabc_keeps_on, nabc_ends_on, nabc_closes_on}
+use Rattle.gabc_score.proofs.building.PartsStandOn.{snippet_stands, text_stands_on, gabc_closes_at, nabc_closes_at}
 use Rattle.gabc_score.proofs.building.SyllableEndsLast.{notes_close_last, texts_close_last}
 use Rattle.gabc_score.proofs.body_stage.BodyStage.push_part.Goals as goal
 
@@ -169,3 +170,34 @@ returns-else-close-2-clause-keeps c =
     rw (← c.self.view_is, c.in-Nabc.is)
     (nabc_keeps_on c.self.inside.nabc_lines c.self.inside.macros c.in-Nabc.line c.in-Nabc.opened c.in-Nabc.stage c.push_nabc.new.stage c.args.x c.push_nabc.new.events.items c.push_nabc.ensures.keeps
     (sym (c.ends_at_next-next-in-Nabc.ensures ∙ ap (list_any is_next) c.slice-in-Nabc.ensures) ∙ c.if-next-2.false) (sym (c.ends_at_close-close-in-Nabc.ensures ∙ ap (list_any is_close) c.slice-in-Nabc-2.ensures) ∙ c.if-close-2.false))
+
+-- ---- where the next character stands
+
+pub returns-then-ended-clause-stands : goal.returns-then-ended-clause-stands
+returns-then-ended-clause-stands c = λ p keeps at. snippet_stands c.self.inside.nabc_lines c.self.inside.macros 0 c.args.x.place _ c.snippet-self-inside.result c.snippet-self-inside.ensures.part
+
+pub returns-else-ended-clause-stands : goal.returns-else-ended-clause-stands
+returns-else-ended-clause-stands c =
+    rw (← c.self.view_is, c.in-Text.is)
+    (text_stands_on c.self.inside.nabc_lines c.self.inside.macros c.args.x c.in-Text.stage c.push_text.new.stage c.push_text.new.events.items c.push_text.ensures.keeps
+    (sym (c.ends_text-ended.ensures ∙ ap (list_any is_text_end) c.slice.ensures) ∙ c.if-ended.false))
+
+pub returns-then-next-clause-stands : goal.returns-then-next-clause-stands
+returns-then-next-clause-stands c =
+    λ p keeps at. snippet_stands c.self.inside.nabc_lines c.self.inside.macros _ c.in-Notes.opened _ c.next_snippet-self-inside.result c.next_snippet-self-inside.ensures.part
+
+pub returns-then-close-clause-stands : goal.returns-then-close-clause-stands
+returns-then-close-clause-stands c =
+    rw (← c.self.view_is, c.in-Notes.is)
+    (gabc_closes_at c.self.inside.nabc_lines c.self.inside.macros c.args.x c.in-Notes.opened c.in-Notes.stage c.push_gabc.new.stage c.push_gabc.new.events.items c.text_behind-self-inside.result c.push_gabc.ensures.keeps
+    (sym (c.ends_at_close-close.ensures ∙ ap (list_any is_close) c.slice-in-Notes-2.ensures) ∙ c.if-close.true) c.text_behind-self-inside.ensures.stands)
+
+pub returns-then-next-2-clause-stands : goal.returns-then-next-2-clause-stands
+returns-then-next-2-clause-stands c =
+    λ p keeps at. snippet_stands c.self.inside.nabc_lines c.self.inside.macros _ c.in-Nabc.opened _ c.next_snippet-self-inside-then-next-2.result c.next_snippet-self-inside-then-next-2.ensures.part
+
+pub returns-then-close-2-clause-stands : goal.returns-then-close-2-clause-stands
+returns-then-close-2-clause-stands c =
+    rw (← c.self.view_is, c.in-Nabc.is)
+    (nabc_closes_at c.self.inside.nabc_lines c.self.inside.macros c.args.x c.in-Nabc.line c.in-Nabc.opened c.in-Nabc.stage c.push_nabc.new.stage c.push_nabc.new.events.items c.text_behind-self-inside-then-close-2.result c.push_nabc.ensures.keeps
+    (sym (c.ends_at_close-close-in-Nabc.ensures ∙ ap (list_any is_close) c.slice-in-Nabc-2.ensures) ∙ c.if-close-2.true) c.text_behind-self-inside-then-close-2.ensures.stands)

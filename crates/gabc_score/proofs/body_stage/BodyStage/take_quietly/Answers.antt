@@ -35,7 +35,7 @@ returns-else-not-take_kept-clause-taken c h =
     (λ o counts. subst (λ (b : BodyPart). CountsHold b o) part_is counts) (λ o counts. counts)
     (subst (λ (b : BodyPart). PartKeepsOn c.args.self.now.nabc_lines c.args.self.now.macros b (part.Notes c.in-Notes.opened c.take_kept.new.self) (event.Notes 0 (note.Kept c.args.x) ∷ [])) (sym part_is)
     (gabc_keeps_on c.args.self.now.nabc_lines c.args.self.now.macros c.in-Notes.opened c.in-Notes.stage c.take_kept.new.self c.args.x (note.Kept c.args.x ∷ []) (c.if-not-take_kept.ensures.keeps refl) refl refl))
-    c.requires.counts
+    (λ p kept at. tt) c.requires.counts
 
 pub returns-else-not-take_kept-2-clause-taken : goal.returns-else-not-take_kept-2-clause-taken
 returns-else-not-take_kept-2-clause-taken c h =
@@ -47,4 +47,4 @@ returns-else-not-take_kept-2-clause-taken c h =
     (λ o counts. subst (λ (b : BodyPart). CountsHold b o) part_is counts) (λ o counts. counts)
     (subst (λ (b : BodyPart). PartKeepsOn c.args.self.now.nabc_lines c.args.self.now.macros b (part.Nabc c.in-Nabc.line c.in-Nabc.opened c.take_kept-in-Nabc.new.self) (event.Notes c.in-Nabc.line (note.Kept c.args.x) ∷ [])) (sym part_is)
     (nabc_keeps_on c.args.self.now.nabc_lines c.args.self.now.macros c.in-Nabc.line c.in-Nabc.opened c.in-Nabc.stage c.take_kept-in-Nabc.new.self c.args.x (note.Kept c.args.x ∷ []) (c.if-not-take_kept-2.ensures.keeps refl) refl refl))
-    c.requires.counts
+    (λ p kept at. tt) c.requires.counts

@@ -22,6 +22,8 @@ returns-in-Some-clause-step c =
       lends = held_lends c.args.self.now.limits 2 c.args.self.now.has_lent held c.args.self.now.pair.gathered.made (Stop c.in-Some.fault ∷ []) refl same rests.short c.stop.ensures.few (omega arith);
       limits = c.stop.ensures.limits;
       before_held = λ body. absurd (cc (body, c.stop.ensures.part));
+      next = λ body. absurd (cc (body, c.stop.ensures.part));
+      stands = λ here was body. absurd (cc (body, c.stop.ensures.part));
       law = search rules;
       emitted = c.stop.ensures.emitted;
     }
@@ -45,6 +47,8 @@ returns-in-None-clause-step c =
       lends = lends_these c.args.self.now.limits 2 found lent (End ∷ []) refl c.give_end.ensures.few (placed_within c.args.self.now.limits _ p.gathered.made short);
       limits = refl;
       before_held = λ body. absurd (cc body);
+      next = λ body. absurd (cc body);
+      stands = λ here was body. absurd (cc body);
       law = search rules;
       emitted = rw (sym c.slice-found.ensures) c.give_end.ensures.emitted;
     }

@@ -11,6 +11,8 @@ returns-in-Found-clause-step c =
       lends = lends_none c.args.self.now.limits _ (Found c.in-Found.finding ∷ []) refl;
       limits = refl;
       before_held = λ body. refl;
+      next = λ body. refl;
+      stands = λ here was. was;
       law = λ xs. refl;
       emitted = record { events = c.push.ensures; few = omega arith; lent = refl };
     })
@@ -24,6 +26,8 @@ returns-in-Stop-clause-step c =
       lends = rw c.in-Stop.is (held_lends c.args.self.now.limits 1 c.args.self.now.has_lent held c.args.self.now.pair.gathered.made (Stop c.in-Stop.fault ∷ []) refl c.free.ensures.held rests.short c.stop.ensures.few (omega arith));
       limits = c.stop.ensures.limits;
       before_held = λ body. absurd (cc (body, c.stop.ensures.part));
+      next = λ body. absurd (cc (body, c.stop.ensures.part));
+      stands = λ here was body. absurd (cc (body, c.stop.ensures.part));
       law = search rules;
       emitted = c.stop.ensures.emitted;
     }
@@ -35,6 +39,8 @@ returns-in-Heads-clause-step c =
       lends = lends_none c.args.self.now.limits _ [] refl;
       limits = refl;
       before_held = λ body. refl;
+      next = λ body. refl;
+      stands = λ here was. was;
       law = λ xs. refl;
       emitted = search rules;
     })

@@ -14,6 +14,8 @@ returns-in-Found-clause-step c =
       lends = lends_none c.args.self.now.limits _ (Found c.in-Found.finding ∷ []) refl;
       limits = refl;
       before_held = λ body. absurd (cc body);
+      next = λ body. absurd (cc body);
+      stands = λ here was body. absurd (cc body);
       law = λ xs. refl;
       emitted = record { events = c.push.ensures; few = omega arith; lent = refl };
     })
@@ -25,6 +27,8 @@ returns-in-Stop-clause-step c =
       lends = lends_none c.args.self.now.limits _ (Stop c.in-Stop.fault ∷ []) refl;
       limits = refl;
       before_held = λ body. absurd (cc body);
+      next = λ body. absurd (cc body);
+      stands = λ here was body. absurd (cc body);
       law = λ xs. refl;
       emitted = record { events = c.push-in-Stop.ensures; few = omega arith; lent = refl };
     })
@@ -36,8 +40,23 @@ returns-in-End-clause-step c =
       lends = lends_none c.args.self.now.limits _ (End ∷ []) refl;
       limits = refl;
       before_held = λ body. absurd (cc body);
+      next = λ body. absurd (cc body);
+      stands = λ here was body. absurd (cc body);
       law = λ xs. refl;
       emitted = record { events = c.push-in-End.ensures; few = omega arith; lent = refl };
+    })
+
+pub returns-in-Body-clause-step : goal.returns-in-Body-clause-step
+returns-in-Body-clause-step c =
+    rw (c.requires.part, c.in-Body.is) (record {
+      outputs = [];
+      lends = lends_none c.args.self.now.limits _ [] refl;
+      limits = refl;
+      before_held = λ body. absurd (cc body);
+      next = λ body. absurd (cc body);
+      stands = λ here was body. absurd (cc body);
+      law = λ xs. refl;
+      emitted = search rules;
     })
 
 pub returns-in-Heads-clause-step : goal.returns-in-Heads-clause-step
@@ -46,6 +65,8 @@ returns-in-Heads-clause-step c = record {
   lends = lends_none c.args.self.now.limits _ [] refl;
   limits = refl;
   before_held = search rules;
+  next = search rules;
+  stands = search rules;
   law = search rules;
   emitted = search rules;
 }

@@ -7,6 +7,7 @@ use Rattle.gabc_score.specs.Before.{with_each}
 use Rattle.gabc_score.specs.Body.{fault_at}
 use Rattle.gabc_score.specs.ScoreEvents.{ScoreOutput, Stop, outputs_of}
 use Rattle.gabc_score.specs.ScoreStage.{IsWithin, Lends}
+use Rattle.gabc_score.specs.ScoreTells.{StandsAt}
 use Rattle.gabc_score.specs.machine.ScoreMachine.{IsShort}
 use Rattle.gabc_score.specs.machine.ScoreStage.{placed_behind, with_held}
 use Rattle.gabc_score.specs.machine.Preceded.{IsPreceded, past_point}
@@ -45,6 +46,8 @@ returns-in-Some-clause-step c =
       lends = held_lends c.args.self.now.limits 1 c.args.self.now.has_lent held c.args.self.now.pair.gathered.made (Stop fault ∷ []) refl same rests.short c.stop.ensures.few (omega arith);
       limits = c.stop.ensures.limits;
       before_held = λ body. absurd (cc (body, c.stop.ensures.part));
+      next = λ body. absurd (cc (body, c.stop.ensures.part));
+      stands = λ here was body. absurd (cc (body, c.stop.ensures.part));
       law = search rules;
       emitted = c.stop.ensures.emitted;
     }
@@ -73,6 +76,9 @@ returns-after-self-clause-step c =
       limits = refl;
       before_held = λ body. past_in_body c.args.self.now.part (head_event.Body c.args.x) fs lent c.args.self.now.bounds.before c.pass.new.self.before c.requires.part
           (ap (λ (k : Bounds). k.before) passed ∙ turns.given);
+      next = search rules;
+      stands = λ here was body. subst (λ p. StandsAt p c.take.new.self.part) (sym c.saturating_after-self.ensures) (c.take.ensures.stands c.requires.rests.reading.parts c.requires.rests.reading.keeps
+          (subst (λ p. StandsAt p c.args.self.now.body.part) (sym here) (was c.requires.part)));
       law = search rules;
       emitted = c.give_point-gave.ensures.emitted;
     }

@@ -1,8 +1,8 @@
 use Rattle.std.proofs.Common.{◌≡◌, ◌+◌, ◌-◌, ◌<◌, ◌≤◌, ◌^◌, length, take}
 use Rattle.std.specs.List.{All}
 use Rattle.gabc_places.specs.Skip.{IsPrintable}
-use Rattle.gabc_score.specs.ScoreStage.{GivesNothing}
-use Rattle.gabc_score.specs.machine.Fronts.{behind_front, shown_before}
+use Rattle.gabc_score.specs.ScoreStage.{GivesNothing, behind_front}
+use Rattle.gabc_score.specs.machine.Fronts.{shown_before}
 use Rattle.gabc_score.specs.machine.ScoreMachine.{shown, IsFreed}
 use Rattle.gabc_score.proofs.score_machine.ScoreMachine.take_printable.Given as goal
 

@@ -33,3 +33,6 @@ returns-clause-freed c = by c.take_quietly.result refl
         let same = c.take_quietly.ensures.same e in
         subst (λ p. IsFreed (record c.args.self.now { body = c.take_quietly.new.self; pair = p })) (sym same.1)
         (subst (λ b. IsFreed (record c.args.self.now { body = b; pair = c.args.self.now.pair })) (sym same.0) c.requires.freed)
+
+pub returns-clause-stands : goal.returns-clause-stands
+returns-clause-stands c = λ e at. (c.take_quietly.ensures.taken e).stands c.requires.freed.body.reading.parts c.requires.freed.body.reading.keeps at

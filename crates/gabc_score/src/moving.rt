@@ -1,0 +1,20 @@
+//! Where the next character of a body stands.
+
+ghost use Rattle.std.specs.Prelude.{◌≡◌};
+ghost use Rattle.gabc_score.specs.ScoreTells.{moved_to};
+ghost use Rattle.gabc_score.specs.machine.ScoreMachine.{shown, IsScore};
+
+use crate::score_machine::ScoreMachine;
+use gabc_places::Place;
+
+impl ScoreMachine {
+    /// Says that the next character stands at `at`. What is open keeps the place where it began.
+    pub(crate) fn go_to(&mut self, at: Place)
+        requires rests { IsScore self.old }
+        ensures moved { shown self.new ≡ moved_to at (shown self.old) }
+        ensures rests { IsScore self.new }
+    {
+        self.next = at;
+        self.body.go_to(at);
+    }
+}
