@@ -39,6 +39,7 @@ mod score_stage;
 mod slice;
 mod slot;
 mod slot_pair;
+mod slot_tells;
 mod snippets;
 pub mod stage_laws;
 mod syllable;

@@ -4,10 +4,8 @@ ghost use Rattle.std.specs.Prelude.{◌<◌, ◌^◌};
 ghost use Rattle.std.specs.Prelude.{IfOk};
 ghost use Rattle.gabc_score.specs.machine.SyllableBuilder.{nothing_open};
 
-use crate::before::Spans;
 use crate::canonical::canonical_len;
 use crate::slot::Slot;
-use crate::syllable::Syllable;
 use crate::syllables::position_by;
 use gabc_notes::{ItemKind, NoteEnd, NoteEvent};
 use gabc_places::{Code, Fault, Limits, Place, Span};
@@ -32,22 +30,22 @@ pub(crate) enum SlotUse {
 pub(crate) struct SlotPair {
     /// The most bytes that a syllable may have.
     limit: usize,
-    reader: Box<Slot>,
-    used: SlotUse,
+    pub(crate) reader: Box<Slot>,
+    pub(crate) used: SlotUse,
     /// The last whole syllable, if it is held.
-    holder: Box<Slot>,
-    held: bool,
+    pub(crate) holder: Box<Slot>,
+    pub(crate) held: bool,
     /// Whether the span of `<eu>` is open, and that of `<nlba>`.
-    eu: bool,
-    nlba: bool,
+    pub(crate) eu: bool,
+    pub(crate) nlba: bool,
     /// The bytes of the canonical headers and of all syllables that were made, or the last value.
-    total: usize,
+    pub(crate) total: usize,
     /// Whether one of them is longer than the limit.
     over: bool,
     /// Where the bracket stands that the end of the input leaves open.
     cut: Option<Place>,
     /// Which came first in the GABC snippets that have ended, a note or a clef.
-    first_kind: Option<ItemKind>,
+    pub(crate) first_kind: Option<ItemKind>,
 }
 
 /// Returns a slot with room for a syllable of `limit` bytes, in memory of its own.
@@ -91,12 +89,10 @@ impl Model for SlotPair {
 }
 
 impl SlotPair {
-    ghost use Rattle.std.specs.Prelude.{◌≡◌, ◌≢◌, ◌||◌, ◌-◌, ◌<◌, ◌≤◌, ◌^◌, not, nat_lt, [], ◌∷◌, take, length, false, IfOk, IsTrue, MatchOption, if◌then◌else◌};
+    ghost use Rattle.std.specs.Prelude.{◌≡◌, ◌≢◌, ◌||◌, ◌-◌, ◌<◌, ◌≤◌, ◌^◌, not, nat_lt, [], ◌∷◌, take, length, false, IfOk, IsTrue, if◌then◌else◌};
     ghost use Rattle.gabc_score.specs.Body.{has_text, is_none};
-    ghost use Rattle.gabc_score.specs.Syllable.{placed_of, unplaced_of};
     ghost use Rattle.gabc_score.specs.machine.BodyBuilder.{code_in, end_fault};
     ghost use Rattle.gabc_score.specs.machine.Gatherer.{nothing_gathered, with_mark, with_mark_of, with_view_part, with_text_end, with_text, with_syllable, with_note_end, with_note, with_last, awaits, awaits_in, first_past};
-    ghost use Rattle.gabc_score.specs.machine.Preceded.{spans_of};
     ghost use Rattle.gabc_score.specs.machine.ScoreStage.{placed_behind, with_held};
     ghost use Rattle.gabc_score.specs.machine.Slot.{FitsText, FitsNote, FitsKept, FitsPiece, FitsSnippet};
     ghost use Rattle.gabc_score.specs.machine.SlotPair.{is_made, used_past, lent_syllables};
@@ -153,37 +149,6 @@ impl SlotPair {
         ensures { length self.now.gathered.made ≤ 1 }
     {
         let _ = &self.held;
-    }
-
-    /// Returns whether a syllable has become whole since it was last asked for what is held.
-    #[inline(always)]
-    pub(crate) fn is_whole(&self) -> bool
-        ensures used { result ≡ is_made self.now.used }
-        ensures made { result ≡ nat_lt (length self.now.held) (length self.now.gathered.made) }
-    {
-        match self.used {
-            SlotUse::Made => true,
-            SlotUse::Filling | SlotUse::Lent => false,
-        }
-    }
-
-    /// Returns the bytes of the canonical headers and of all syllables that were made, a count that saturates.
-    #[inline(always)]
-    pub(crate) fn canonical(&self) -> usize
-        ensures { result ≡ self.now.gathered.total }
-    {
-        self.total
-    }
-
-    /// Returns the spans that are open.
-    #[inline(always)]
-    pub(crate) fn spans(&self) -> Spans
-        ensures { result ≡ spans_of self.now.gathered }
-    {
-        Spans {
-            eu: self.eu,
-            nlba: self.nlba,
-        }
     }
 
     /// Adds what a text emits next.
@@ -301,14 +266,6 @@ impl SlotPair {
         line == 0 && self.first_kind.is_none()
     }
 
-    /// Returns which came first in the GABC snippets that have ended, a note or a clef.
-    #[inline(always)]
-    pub(crate) fn first_kind(&self) -> Option<ItemKind>
-        ensures { result ≡ self.now.gathered.first_kind }
-    {
-        self.first_kind
-    }
-
     /// Finds the first note or clef in the snippet of `line` that has ended, which has this span, where neither came before.
     #[inline(always)]
     fn add_first_kind(&mut self, line: u8, span: Span)
@@ -411,13 +368,6 @@ impl SlotPair {
         }
     }
 
-    /// Whether a span is open.
-    pub(crate) fn has_open(&self) -> bool
-        ensures { result ≡ (self.now.gathered.eu || self.now.gathered.nlba) }
-    {
-        self.eu || self.nlba
-    }
-
     /// Whether the syllable in the slot that reads begins a word.
     fn starts(&self) -> bool
         ensures { result ≡ self.now.second.made.text.word_start }
@@ -484,46 +434,6 @@ impl SlotPair {
             swap(&mut self.reader, &mut self.holder);
             1
         }
-    }
-
-    /// Returns the syllable that is held, if one is.
-    pub(crate) fn held(&self) -> Option<&Syllable>
-        requires { is_made self.now.used ≡ false }
-        ensures { MatchOption result (self.now.gathered.made ≡ [])
-            (λ s. self.now.gathered.made ≡ unplaced_of s.now ∷ []) }
-    {
-        if self.held {
-            Some(self.holder.syllable())
-        } else {
-            None
-        }
-    }
-
-    /// Returns the kept text of the syllable that is read.
-    pub(crate) fn reading(&self) -> &str
-        ensures { result.now ≡ self.now.gathered.builder.kept }
-    {
-        match self.used {
-            SlotUse::Filling => self.reader.syllable().kept.as_str(),
-            SlotUse::Made | SlotUse::Lent => "",
-        }
-    }
-
-    /// Returns the first syllable that may be lent.
-    pub(crate) fn first(&self) -> &Syllable
-        ensures { placed_of result.now ≡ self.now.first }
-    {
-        match self.used {
-            SlotUse::Lent => self.reader.syllable(),
-            _ => self.holder.syllable(),
-        }
-    }
-
-    /// Returns the second syllable that may be lent.
-    pub(crate) fn second(&self) -> &Syllable
-        ensures { placed_of result.now ≡ self.now.second }
-    {
-        self.reader.syllable()
     }
 }
 

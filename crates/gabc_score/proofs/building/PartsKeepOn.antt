@@ -25,7 +25,8 @@ use Rattle.gabc_score.specs.declared.body_stage.BodyPart.{BodyPart}
 use Rattle.gabc_score.specs.declared.body_stage.BodyPart.TheVariants as part
 use Rattle.gabc_score.specs.Events.{is_close, is_next, next_line}
 use Rattle.gabc_score.specs.machine.PartKeeps.{KeptParts, in_text, in_notes, IsEnded, IsEndedOn, AreBehind, PartKeeps, PartKeepsOn}
-use Rattle.gabc_score.proofs.building.PartsOfKeptText.{of_notes, InNotes, EndsSnippet, ClosesSnippet, notes_keep_on, notes_end_on, notes_close_on}
+use Rattle.gabc_score.proofs.building.PartsOfKeptNotes.{InNotes, EndsSnippet, ClosesSnippet, notes_keep_on, notes_end_on, notes_close_on}
+use Rattle.gabc_score.proofs.building.PartsOfKeptText.{of_notes}
 use Rattle.gabc_score.proofs.texts_of_body.SeamsOfCharacters.{size_is_sum}
 
 -- ---- how a snippet ended

@@ -1,16 +1,12 @@
 -- What was gathered stays what the parts of the kept text say, with the events of each part.
-use Rattle.std.proofs.Common.{◌≡◌, ℕ, zero, suc, ◌+◌, ◌-◌, ◌<◌, ◌≤◌, ◌^◌, min, nat_lt, Bool, true, false, cond, not, ◌&&◌, ◌==◌, List, [], ◌∷◌, ◌++◌, map, length, encode_utf8, encode_utf8_all, refl, sym, ap, subst, ◌∙◌, arith, sum_by, append-nil, append_assoc, length-append}
+use Rattle.std.proofs.Common.{◌≡◌, ℕ, ◌+◌, nat_lt, Bool, true, false, cond, not, ◌&&◌, ◌==◌, List, [], ◌∷◌, ◌++◌, map, length, encode_utf8, encode_utf8_all, refl, sym, ap, subst, ◌∙◌, arith, append-nil, append_assoc, length-append}
 use Rattle.std.proofs.lemmas.Bool.{true≢false}
 use Rattle.std.proofs.lemmas.Bool.Decides.{nat_tests}
-use Rattle.std.proofs.lemmas.List.{append_cancel_right, map-append}
+use Rattle.std.proofs.lemmas.List.{map-append}
 use Rattle.std.proofs.lemmas.List.Folds.{list_any-append}
-use Rattle.std.proofs.lemmas.List.Sums.{sum_by-cons}
-use Rattle.std.proofs.lemmas.Str.{encodes-append, length-encode}
-use Rattle.std.specs.Char.{len_utf8}
+use Rattle.std.proofs.lemmas.Str.{encodes-append}
 use Rattle.std.specs.List.{list_any}
 use Rattle.gabc_places.specs.declared.place.Place.{Place}
-use Rattle.gabc_patterns.specs.Kept.{Trims}
-use Rattle.gabc_patterns.specs.LongestItems.{IsSnippet}
 use Rattle.gabc_text.specs.BuiltText.{kept_in}
 use Rattle.gabc_text.specs.StageTells.{is_in_comment}
 use Rattle.gabc_text.specs.witness.Keeps as text
@@ -30,15 +26,13 @@ use Rattle.gabc_score.specs.declared.body_stage.BodyPart.{BodyPart}
 use Rattle.gabc_score.specs.declared.body_stage.BodyPart.TheVariants as part
 use Rattle.gabc_score.specs.declared.events.BodyEvent.{BodyEvent}
 use Rattle.gabc_score.specs.declared.events.BodyEvent.TheVariants as event
-use Rattle.gabc_score.specs.Events.{is_text_end, next_line, note_event}
+use Rattle.gabc_score.specs.Events.{is_text_end, note_event}
 use Rattle.gabc_score.specs.Syllable.{UnplacedSyllable, prefix_of}
 use Rattle.gabc_score.specs.machine.BodyBuilder.{with_all}
-use Rattle.gabc_score.specs.machine.Gatherer.{Gathered, with_event, with_snippet}
-use Rattle.gabc_score.specs.machine.PartKeeps.{KeptParts, in_text, in_notes, barred, text_before, joined, line_behind, kept_char, text_events, snippet_events, ended_events, earlier_events, events_before, said_by, IsEndedText, IsEndedOn, AreEnded, AreBehind, PartKeeps, begun, ReadAlike, IsReading, spans_past, PartKeepsOn}
-use Rattle.gabc_score.specs.machine.Preceded.{spans_of}
-use Rattle.gabc_score.specs.machine.SyllableBuilder.{OpenSyllable, made_from, past_mark, past_snippet, snippet_from}
+use Rattle.gabc_score.specs.machine.Gatherer.{Gathered, with_event}
+use Rattle.gabc_score.specs.machine.PartKeeps.{KeptParts, in_text, in_notes, text_before, joined, kept_char, text_events, snippet_events, said_by, AreBehind, PartKeeps, begun, ReadAlike, IsReading, spans_past, PartKeepsOn}
 use Rattle.gabc_score.proofs.building.EventsOfOnePoint.{with_all_append}
-use Rattle.gabc_score.proofs.texts_of_body.SeamsOfCharacters.{size, size_append, cut_between}
+use Rattle.gabc_score.proofs.texts_of_body.SeamsOfCharacters.{size, cut_between}
 
 -- ---- the same was gathered of the syllable that is read
 
@@ -67,7 +61,7 @@ event_alike g h (event.Notes line (note.Ended note_end.Next n)) r = record { bui
 event_alike g h (event.Notes line (note.Ended note_end.Close n)) r = record { builder = refl; eu = r.eu; nlba = r.nlba }
 event_alike g h (event.Notes line (note.Ended (note_end.Cut p) n)) r = record { builder = r.builder; eu = r.eu; nlba = r.nlba }
 
-all_alike : (es : List BodyEvent) (g h : Gathered) → ReadAlike g h → ReadAlike (with_all g es) (with_all h es)
+pub all_alike : (es : List BodyEvent) (g h : Gathered) → ReadAlike g h → ReadAlike (with_all g es) (with_all h es)
 all_alike [] g h r = r
 all_alike (e ∷ es) g h r = all_alike es (with_event g e) (with_event h e) (event_alike g h e r)
 
@@ -203,14 +197,14 @@ module _ (line : ℕ) (opened : Place) where
   of_notes es = map (note_event line opened) es
 
   -- a snippet that goes on
-  notes_said : (es : List NoteEvent) (g : Gathered) → ends_of es ≡ [] → with_all g (of_notes es) ≡ with_all g (snippet_events line (kept_of es))
+  pub notes_said : (es : List NoteEvent) (g : Gathered) → ends_of es ≡ [] → with_all g (of_notes es) ≡ with_all g (snippet_events line (kept_of es))
   notes_said [] g e = refl
   notes_said (note.Kept c ∷ es) g e = notes_said es (with_event g (event.Notes line (note.Kept c))) e
   notes_said (note.Found f ∷ es) g e = notes_said es g e
   notes_said (note.Ended how n ∷ es) g e = absurd (cc)
 
   -- one that ends
-  notes_ended : (es : List NoteEvent) (g : Gathered) (how : NoteEnd) (n : ℕ) → kept_of es ≡ [] → ends_of es ≡ (how, n) ∷ [] → with_all g (of_notes es) ≡ with_event g (note_event line opened (note.Ended how n))
+  pub notes_ended : (es : List NoteEvent) (g : Gathered) (how : NoteEnd) (n : ℕ) → kept_of es ≡ [] → ends_of es ≡ (how, n) ∷ [] → with_all g (of_notes es) ≡ with_event g (note_event line opened (note.Ended how n))
   notes_ended [] g how n k e = absurd (cc)
   notes_ended (note.Kept c ∷ es) g how n k e = absurd (cc)
   notes_ended (note.Found f ∷ es) g how n k e = notes_ended es g how n k e
@@ -229,19 +223,19 @@ module _ (line : ℕ) (opened : Place) where
       same_count : m ≡ n
       same_count = ap (count_of m) e
 
-snippet_grows : (line : ℕ) (k : List ℕ) (g : Gathered) → Grows g (with_all g (snippet_events line k)) k
+pub snippet_grows : (line : ℕ) (k : List ℕ) (g : Gathered) → Grows g (with_all g (snippet_events line k)) k
 snippet_grows line [] g = unchanged g g refl refl refl refl
 snippet_grows line (c ∷ k) g = grows_through g _ _ (c ∷ []) k (kept_grows g c) (snippet_grows line k (with_event g (event.Notes line (note.Kept (kept_char c)))))
 
 -- nothing else changes
-snippet_is : (line : ℕ) (k : List ℕ) (g : Gathered) → with_all g (snippet_events line k) ≡ record g { builder = record g.builder { kept = g.builder.kept ++ encode_utf8_all k } }
+pub snippet_is : (line : ℕ) (k : List ℕ) (g : Gathered) → with_all g (snippet_events line k) ≡ record g { builder = record g.builder { kept = g.builder.kept ++ encode_utf8_all k } }
 snippet_is line [] g = ap (λ (t : List ℕ). record g { builder = record g.builder { kept = t } }) (sym (append-nil g.builder.kept))
 snippet_is line (c ∷ k) g =
     snippet_is line k (with_event g (event.Notes line (note.Kept (kept_char c))))
     ∙ ap (λ (t : List ℕ). record g { builder = record g.builder { kept = t } }) (append_assoc g.builder.kept (encode_utf8 c) (encode_utf8_all k))
 
 -- the bytes of a snippet that ends are cut to those of its kept text without an unfinished end
-cut_is : (from n : ℕ) (kept before s rest : List ℕ) → kept ≡ encode_utf8_all (before ++ (s ++ rest)) → from ≡ size before → n ≡ size s → prefix_of (from + n) kept ≡ encode_utf8_all (before ++ s)
+pub cut_is : (from n : ℕ) (kept before s rest : List ℕ) → kept ≡ encode_utf8_all (before ++ (s ++ rest)) → from ≡ size before → n ≡ size s → prefix_of (from + n) kept ≡ encode_utf8_all (before ++ s)
 cut_is from n kept before s rest k f c =
     ap (λ (m : ℕ). prefix_of m kept) (ap (λ (m : ℕ). m + n) f ∙ ap (λ (m : ℕ). size before + m) c ∙ sym (length-append (encode_utf8_all before) (encode_utf8_all s)) ∙ ap length (sym (encodes-append before s)))
     ∙ ap (prefix_of (size (before ++ s))) (k ∙ ap encode_utf8_all (sym (append_assoc before s rest)))
@@ -257,7 +251,7 @@ stays spans g h e = ap (λ (made : List UnplacedSyllable). cond (nat_lt (length 
 
 module _ (lines macros : ℕ) where
   -- where nothing was made, the spans before the syllable stay
-  read_on : (before after : BodyPart) (spans : Spans) (g h : Gathered) → h.made ≡ g.made → IsReading lines macros after spans h → IsReading lines macros after (spans_past spans g h) h
+  pub read_on : (before after : BodyPart) (spans : Spans) (g h : Gathered) → h.made ≡ g.made → IsReading lines macros after spans h → IsReading lines macros after (spans_past spans g h) h
   read_on before after spans g h e r = subst (λ (s : Spans). IsReading lines macros after s h) (sym (stays spans g h e)) r
 
   -- a text keeps a text
@@ -355,219 +349,3 @@ module _ (lines macros : ℕ) where
       said_more =
           ap (with_all (begun spans)) (append-nil (text_events (text.said_of k ++ text.said_at_end k) ++ []) ∙ append-nil (text_events (text.said_of k ++ text.said_at_end k)) ∙ map-append (λ (o : TextEvent). event.Text o) (text.said_of k) (text.said_at_end k))
           ∙ with_all_append (begun spans) (text_events (text.said_of k)) (text_events (text.said_at_end k))
-
-  -- ---- a snippet goes on, or ends
-
-  -- a snippet of that line keeps a text, behind a text and snippets that have ended
-  pub record InNotes (line : ℕ) (Keep : List ℕ → Type 0) (p : KeptParts) : Type 0 where
-    pub t : List ℕ
-    pub earlier : List (List ℕ)
-    pub k : List ℕ
-    pub is : p ≡ in_notes t earlier k
-    pub behind : AreBehind lines macros line t earlier
-    pub keeps : Keep k
-
-  -- events that end a snippet at a `|`: what it kept is cut to the kept text of one that has ended
-  pub record EndsSnippet (line : ℕ) (es : List NoteEvent) (k : List ℕ) : Type 0 where
-    pub s : List ℕ
-    pub rest : List ℕ
-    pub cut : k ≡ s ++ rest
-    pub ended : IsEndedOn lines macros line s
-    pub none_kept : kept_of es ≡ []
-    pub end : ends_of es ≡ (note_end.Next, min (size s) (2 ^ 64 - 1)) ∷ []
-
-  -- and at a `)`
-  pub record ClosesSnippet (es : List NoteEvent) : Type 0 where
-    pub count : ℕ
-    pub none_kept : kept_of es ≡ []
-    pub end : ends_of es ≡ (note_end.Close, count) ∷ []
-
-  line_more : (line : ℕ) (earlier : List (List ℕ)) (s : List ℕ) → line_behind lines line (earlier ++ s ∷ []) ≡ next_line lines (line_behind lines line earlier)
-  line_more line [] s = refl
-  line_more line (u ∷ earlier) s = line_more (next_line lines line) earlier s
-
-  ended_more : (line : ℕ) (earlier : List (List ℕ)) (s : List ℕ) → AreEnded lines macros line earlier → IsEndedOn lines macros (line_behind lines line earlier) s → AreEnded lines macros line (earlier ++ s ∷ [])
-  ended_more line [] s h e = (e, tt)
-  ended_more line (u ∷ earlier) s h e = (h.0, ended_more (next_line lines line) earlier s h.1 e)
-
-  earlier_more : (line : ℕ) (earlier : List (List ℕ)) (s : List ℕ) → earlier_events lines line (earlier ++ s ∷ []) ≡ earlier_events lines line earlier ++ ended_events (line_behind lines line earlier) s
-  earlier_more line [] s = append-nil (ended_events line s)
-  earlier_more line (u ∷ earlier) s =
-      ap (λ (es : List BodyEvent). ended_events line u ++ es) (earlier_more (next_line lines line) earlier s)
-      ∙ sym (append_assoc (ended_events line u) (earlier_events lines (next_line lines line) earlier) (ended_events (line_behind lines (next_line lines line) earlier) s))
-
-  module _ (line : ℕ) (opened : Place) (before : BodyPart) (Keep : List ℕ → Type 0) (found : (p : KeptParts) → PartKeeps lines macros before p → InNotes line Keep p) where
-    pub notes_keep_on : (es : List NoteEvent) (after : BodyPart) (More : List ℕ → Type 0) → ((k : List ℕ) → Keep k → (ends_of es ≡ []) × More (k ++ kept_of es))
-        → ((t : List ℕ) (earlier : List (List ℕ)) (k : List ℕ) → AreBehind lines macros line t earlier → More k → PartKeeps lines macros after (in_notes t earlier k))
-        → PartKeepsOn lines macros before after (of_notes line opened es)
-    notes_keep_on es after More goes into spans g fits r =
-        read_on before after spans g (with_all g (of_notes line opened es)) (ap (λ (i : Gathered). i.made) gathered_is ∙ grown.made) (record {
-          parts = in_notes here.t here.earlier (here.k ++ kept_of es);
-          keeps = into here.t here.earlier (here.k ++ kept_of es) here.behind on.1;
-          said = subst (ReadAlike (with_all g (of_notes line opened es))) (sym said_more)
-              (subst (λ (i : Gathered). ReadAlike i (with_all (with_all (begun spans) (said_by lines (in_notes here.t here.earlier here.k))) (snippet_events line (kept_of es)))) (sym gathered_is)
-              (all_alike (snippet_events line (kept_of es)) g (with_all (begun spans) (said_by lines (in_notes here.t here.earlier here.k)))
-              (subst (λ (p : KeptParts). ReadAlike g (with_all (begun spans) (said_by lines p))) here.is r.said)));
-          kept = ap (λ (i : Gathered). i.builder.kept) gathered_is ∙ grown.kept ∙ ap (λ (b : List ℕ). b ++ encode_utf8_all (kept_of es)) (r.kept ∙ ap (λ (p : KeptParts). encode_utf8_all (joined p)) here.is)
-              ∙ sym (encodes-append (joined (in_notes here.t here.earlier here.k)) (kept_of es))
-              ∙ ap encode_utf8_all (append_assoc (text_before (in_notes here.t here.earlier here.k)) here.k (kept_of es));
-          from = ap (λ (i : Gathered). i.builder.from) gathered_is ∙ grown.from ∙ r.from ∙ ap (λ (p : KeptParts). size (text_before p)) here.is;
-          uncut = ap (λ (i : Gathered). i.cut) gathered_is ∙ grown.cut ∙ r.uncut;
-        })
-      where
-        here : InNotes line Keep r.parts
-        here = found r.parts r.keeps
-
-        on : (ends_of es ≡ []) × More (here.k ++ kept_of es)
-        on = goes here.k here.keeps
-
-        gathered_is : with_all g (of_notes line opened es) ≡ with_all g (snippet_events line (kept_of es))
-        gathered_is = notes_said line opened es g on.0
-
-        grown : Grows g (with_all g (snippet_events line (kept_of es))) (kept_of es)
-        grown = snippet_grows line (kept_of es) g
-
-        said_more : with_all (begun spans) (said_by lines (in_notes here.t here.earlier (here.k ++ kept_of es))) ≡ with_all (with_all (begun spans) (said_by lines (in_notes here.t here.earlier here.k))) (snippet_events line (kept_of es))
-        said_more =
-            ap (λ (ks : List BodyEvent). with_all (begun spans) (events_before lines here.t here.earlier ++ ks)) (map-append (λ (c : ℕ). event.Notes (line_behind lines 0 here.earlier) (note.Kept (kept_char c))) here.k (kept_of es))
-            ∙ ap (with_all (begun spans)) (sym (append_assoc (events_before lines here.t here.earlier) (snippet_events (line_behind lines 0 here.earlier) here.k) (snippet_events (line_behind lines 0 here.earlier) (kept_of es))))
-            ∙ with_all_append (begun spans) (said_by lines (in_notes here.t here.earlier here.k)) (snippet_events (line_behind lines 0 here.earlier) (kept_of es))
-            ∙ ap (λ (l : ℕ). with_all (with_all (begun spans) (said_by lines (in_notes here.t here.earlier here.k))) (snippet_events l (kept_of es))) here.behind.line_is
-
-    -- the `)`, behind which a text begins
-    pub notes_close_on : (es : List NoteEvent) (after : BodyPart) → ((k : List ℕ) → Keep k → ClosesSnippet es) → PartKeeps lines macros after (in_text []) → PartKeepsOn lines macros before after (of_notes line opened es)
-    unfolding text.said_of
-    notes_close_on es after closes begins spans g fits r =
-        subst (λ (i : Gathered). IsReading lines macros after (spans_past spans g i) i) (sym (notes_ended line opened es g note_end.Close closed.count closed.none_kept closed.end))
-        (subst (λ (b : Bool). IsReading lines macros after (cond b (spans_of closing) spans) closing) (sym more)
-        (record { parts = in_text []; keeps = begins; said = record { builder = refl; eu = refl; nlba = refl }; kept = refl; from = refl; uncut = r.uncut }))
-      where
-        here : InNotes line Keep r.parts
-        here = found r.parts r.keeps
-
-        closed : ClosesSnippet es
-        closed = closes here.k here.keeps
-
-        closing : Gathered
-        closing = with_event g (note_event line opened (note.Ended note_end.Close closed.count))
-
-        more : nat_lt (length g.made) (length closing.made) ≡ true
-        more = let l = length-append g.made (made_from (with_snippet g line closed.count 41).builder g.eu g.nlba ∷ []) in grind (arith, nat_tests, l)
-
-    -- the `|`, behind which the next snippet begins
-    pub notes_end_on : (es : List NoteEvent) (after : BodyPart) → ((k : List ℕ) → Keep k → EndsSnippet line es k)
-        → ((t : List ℕ) (earlier : List (List ℕ)) → AreBehind lines macros (next_line lines line) t earlier → PartKeeps lines macros after (in_notes t earlier [])) → PartKeepsOn lines macros before after (of_notes line opened es)
-    notes_end_on es after ends begins spans g fits r =
-        subst (λ (i : Gathered). IsReading lines macros after (spans_past spans g i) i) (sym (notes_ended line opened es g note_end.Next n e.none_kept e.end))
-        (read_on before after spans g ended refl (record {
-          parts = in_notes here.t earlier [];
-          keeps = begins here.t earlier (record {
-            text_ended = here.behind.text_ended;
-            snippets_ended = ended_more 0 here.earlier e.s here.behind.snippets_ended (subst (λ (l : ℕ). IsEndedOn lines macros l e.s) (sym here.behind.line_is) e.ended);
-            line_is = line_more 0 here.earlier e.s ∙ ap (next_line lines) here.behind.line_is;
-          });
-          said = subst (ReadAlike ended) (sym said_more) (record {
-            builder = ap (λ (o : OpenSyllable). past_snippet o line n 124) builder_is ∙ ap (λ (b : List ℕ). record (past_mark b 124 all) { snippets = all.snippets ++ snippet_from all line b ∷ [] }) cut_same;
-            eu = was.eu ∙ ap (λ (i : Gathered). i.eu) snippet_there;
-            nlba = was.nlba ∙ ap (λ (i : Gathered). i.nlba) snippet_there;
-          });
-          kept = kept_is;
-          from = ap length kept_is ∙ ap size (append-nil (text_before (in_notes here.t earlier [])));
-          uncut = r.uncut;
-        }))
-      where
-        here : InNotes line Keep r.parts
-        here = found r.parts r.keeps
-
-        e : EndsSnippet line es here.k
-        e = ends here.k here.keeps
-
-        n : ℕ
-        n = min (size e.s) (2 ^ 64 - 1)
-
-        earlier : List (List ℕ)
-        earlier = here.earlier ++ e.s ∷ []
-
-        ended : Gathered
-        ended = with_event g (event.Notes line (note.Ended note_end.Next n))
-
-        first : List ℕ
-        first = text_before (in_notes here.t here.earlier here.k)
-
-        -- what was said before the snippet
-        base : Gathered
-        base = with_all (begun spans) (events_before lines here.t here.earlier)
-
-        all : OpenSyllable
-        all = record base.builder { kept = base.builder.kept ++ encode_utf8_all here.k }
-
-        snippet_there : with_all base (snippet_events line here.k) ≡ record base { builder = all }
-        snippet_there = snippet_is line here.k base
-
-        was : ReadAlike g (with_all base (snippet_events line here.k))
-        was = subst (ReadAlike g) (with_all_append (begun spans) (events_before lines here.t here.earlier) (snippet_events line here.k))
-            (subst (λ (l : ℕ). ReadAlike g (with_all (begun spans) (events_before lines here.t here.earlier ++ snippet_events l here.k))) here.behind.line_is
-            (subst (λ (p : KeptParts). ReadAlike g (with_all (begun spans) (said_by lines p))) here.is r.said))
-
-        builder_is : g.builder ≡ all
-        builder_is = was.builder ∙ ap (λ (i : Gathered). i.builder) snippet_there
-
-        kept_here : g.builder.kept ≡ encode_utf8_all (first ++ here.k)
-        kept_here = r.kept ∙ ap (λ (p : KeptParts). encode_utf8_all (joined p)) here.is
-
-        from_here : g.builder.from ≡ size first
-        from_here = r.from ∙ ap (λ (p : KeptParts). size (text_before p)) here.is
-
-        all_kept : all.kept ≡ encode_utf8_all (first ++ (e.s ++ e.rest))
-        all_kept = ap (λ (o : OpenSyllable). o.kept) (sym builder_is) ∙ kept_here ∙ ap (λ (k : List ℕ). encode_utf8_all (first ++ k)) e.cut
-
-        all_from : all.from ≡ size first
-        all_from = ap (λ (o : OpenSyllable). o.from) (sym builder_is) ∙ from_here
-
-        base_kept : base.builder.kept ≡ encode_utf8_all first
-        base_kept = append_cancel_right base.builder.kept (encode_utf8_all first) (encode_utf8_all here.k)
-            (ap (λ (o : OpenSyllable). o.kept) (sym builder_is) ∙ kept_here ∙ encodes-append first here.k)
-
-        count_is : n ≡ size e.s
-        count_is =
-            let all_size : length g.builder.kept ≡ size first + size here.k = ap length kept_here ∙ size_append first here.k in
-            let part_size : size here.k ≡ size e.s + size e.rest = ap size e.cut ∙ size_append e.s e.rest in
-            omega (arith, fits, all_size, part_size)
-
-        cut_here : prefix_of (all.from + n) all.kept ≡ encode_utf8_all (first ++ e.s)
-        cut_here = cut_is all.from n all.kept first e.s e.rest all_kept all_from count_is
-
-        cut_there : prefix_of (all.from + size e.s) (base.builder.kept ++ encode_utf8_all e.s) ≡ encode_utf8_all (first ++ e.s)
-        cut_there = cut_is all.from (size e.s) (base.builder.kept ++ encode_utf8_all e.s) first e.s []
-            (ap (λ (b : List ℕ). b ++ encode_utf8_all e.s) base_kept ∙ sym (encodes-append first e.s) ∙ ap (λ (k : List ℕ). encode_utf8_all (first ++ k)) (sym (append-nil e.s))) all_from refl
-
-        cut_same : prefix_of (all.from + n) all.kept ≡ prefix_of (all.from + size e.s) (base.builder.kept ++ encode_utf8_all e.s)
-        cut_same = cut_here ∙ sym cut_there
-
-        barred_more : text_before (in_notes here.t earlier []) ≡ first ++ (e.s ++ 124 ∷ [])
-        barred_more =
-            ap (λ (b : List ℕ). here.t ++ 40 ∷ b) (more here.earlier)
-            ∙ sym (append_assoc here.t (40 ∷ barred here.earlier) (e.s ++ 124 ∷ []))
-          where
-            more : (ss : List (List ℕ)) → barred (ss ++ e.s ∷ []) ≡ barred ss ++ (e.s ++ 124 ∷ [])
-            more [] = append-nil (e.s ++ 124 ∷ [])
-            more (s ∷ ss) = ap (λ (b : List ℕ). (s ++ 124 ∷ []) ++ b) (more ss) ∙ sym (append_assoc (s ++ 124 ∷ []) (barred ss) (e.s ++ 124 ∷ []))
-
-        kept_is : ended.builder.kept ≡ encode_utf8_all (joined (in_notes here.t earlier []))
-        kept_is =
-            ap (λ (o : OpenSyllable). prefix_of (o.from + n) o.kept ++ encode_utf8 124) builder_is
-            ∙ ap (λ (b : List ℕ). b ++ encode_utf8 124) cut_here
-            ∙ ap (λ (b : List ℕ). encode_utf8_all (first ++ e.s) ++ b) (sym (append-nil (encode_utf8 124)))
-            ∙ sym (encodes-append (first ++ e.s) (124 ∷ []))
-            ∙ ap encode_utf8_all (append_assoc first e.s (124 ∷ []) ∙ sym barred_more ∙ sym (append-nil (text_before (in_notes here.t earlier []))))
-
-        said_more : with_all (begun spans) (said_by lines (in_notes here.t earlier [])) ≡ with_event (record base { builder = record base.builder { kept = base.builder.kept ++ encode_utf8_all e.s } }) (event.Notes line (note.Ended note_end.Next (size e.s)))
-        said_more =
-            ap (with_all (begun spans))
-            (append-nil (events_before lines here.t earlier)
-            ∙ ap (λ (es : List BodyEvent). text_events (text.said_of here.t ++ text.said_at_end here.t) ++ es) (earlier_more 0 here.earlier e.s)
-            ∙ sym (append_assoc (text_events (text.said_of here.t ++ text.said_at_end here.t)) (earlier_events lines 0 here.earlier) (ended_events (line_behind lines 0 here.earlier) e.s))
-            ∙ ap (λ (l : ℕ). events_before lines here.t here.earlier ++ ended_events l e.s) here.behind.line_is)
-            ∙ with_all_append (begun spans) (events_before lines here.t here.earlier) (ended_events line e.s)
-            ∙ with_all_append base (snippet_events line e.s) (event.Notes line (note.Ended note_end.Next (size e.s)) ∷ [])
-            ∙ ap (λ (i : Gathered). with_event i (event.Notes line (note.Ended note_end.Next (size e.s)))) (snippet_is line e.s base)

@@ -1,6 +1,5 @@
 -- A part stands behind each character with the place that it has counted.
-use Rattle.std.proofs.Common.{◌≡◌, ◌==◌, ◌&&◌, ◌||◌, not, ℕ, nat_lt, Bool, true, false, List, [], ◌∷◌, refl, sym, ap, subst, ◌∙◌}
-use Rattle.std.proofs.lemmas.Bool.{eqb-true, true≢false}
+use Rattle.std.proofs.Common.{◌≡◌, ℕ, true, false, List, [], sym, ap, subst, ◌∙◌}
 use Rattle.std.specs.List.{list_any}
 use Rattle.gabc_places.specs.Place.{saturating_next_place}
 use Rattle.gabc_places.specs.declared.place.Char.{Char}
@@ -10,7 +9,6 @@ use Rattle.gabc_text.specs.TextStage.{fresh_stage}
 use Rattle.gabc_text.specs.declared.stage.TextStage.{TextStage}
 use Rattle.gabc_text.specs.declared.text_event.TextEvent.{TextEvent}
 use Rattle.gabc_text.specs.witness.Keeps as text
-use Rattle.gabc_notes.specs.StageTells as notes_tells
 use Rattle.gabc_notes.specs.declared.stage.NoteEvent.{NoteEvent}
 use Rattle.gabc_notes.specs.declared.stage.NoteStage.{NoteStage}
 use Rattle.gabc_notes.specs.witness.Keeps as notes
@@ -20,7 +18,7 @@ use Rattle.gabc_score.specs.declared.body_stage.BodyPart.{BodyPart}
 use Rattle.gabc_score.specs.declared.body_stage.BodyPart.TheVariants as part
 use Rattle.gabc_score.specs.Events.{behind_mark, is_close, is_text_end, snippet_from}
 use Rattle.gabc_score.specs.ScoreTells.{StandsAt}
-use Rattle.gabc_score.specs.machine.PartKeeps.{KeptParts, in_text, in_notes, PartKeeps, PartStandsOn}
+use Rattle.gabc_score.specs.machine.PartKeeps.{in_text, in_notes, PartKeeps, PartStandsOn}
 use Rattle.gabc_score.specs.witness.BodyStage.{part_with}
 use Rattle.gabc_score.proofs.building.PartsKeepOn.{close_mark, nabc_close_mark}
 use Rattle.gabc_score.proofs.building.PartsOfKeptText.{text_goes_on}

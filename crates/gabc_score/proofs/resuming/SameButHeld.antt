@@ -1,5 +1,5 @@
 -- What a stage gives does not depend on the syllable that it holds, but for that syllable itself.
-use Rattle.std.proofs.Common.{◌≡◌, ◌⊎◌, inl, inr, ℕ, zero, suc, ◌+◌, ◌-◌, ◌<◌, ◌==◌, ◌&&◌, ◌||◌, not, nat_lt, List, [], ◌∷◌, ◌++◌, map, length, take, drop, Bool, true, false, cond, Option, Some, None, is_some, refl, sym, ap, ◌∙◌, subst, arith}
+use Rattle.std.proofs.Common.{◌≡◌, ◌⊎◌, inl, inr, ℕ, zero, suc, ◌-◌, ◌==◌, ◌&&◌, ◌||◌, not, nat_lt, List, [], ◌∷◌, ◌++◌, map, length, take, drop, Bool, true, false, cond, Option, Some, None, is_some, refl, sym, ap, ◌∙◌, subst, arith}
 use Rattle.std.proofs.lemmas.Bool.{true≢false}
 use Rattle.gabc_places.specs.declared.code.Code.{Code}
 use Rattle.gabc_places.specs.declared.code.Fault.{Fault}
@@ -18,7 +18,6 @@ use Rattle.gabc_text.specs.declared.text_event.TextEvent.TheVariants as text
 use Rattle.gabc_notes.specs.FirstNoteOrClef.{first_note_or_clef}
 use Rattle.gabc_notes.specs.Items.{items_of}
 use Rattle.gabc_notes.specs.declared.item.ItemKind.{ItemKind}
-use Rattle.gabc_notes.specs.declared.stage.NoteEnd.{NoteEnd}
 use Rattle.gabc_notes.specs.declared.stage.NoteEnd.TheVariants as note_end
 use Rattle.gabc_notes.specs.declared.stage.NoteEvent.TheVariants as note
 use Rattle.gabc_score.specs.declared.events.BodyEvent.{BodyEvent}
@@ -26,11 +25,11 @@ use Rattle.gabc_score.specs.declared.events.BodyEvent.TheVariants as event
 use Rattle.gabc_score.specs.Body.{has_text, fault_at}
 use Rattle.gabc_score.specs.Canonical.{position_by, next_starts}
 use Rattle.gabc_score.specs.HeldAside.{IsSameOutput, AreSameOutputs, AreSameLists}
-use Rattle.gabc_score.specs.NoteBeforeClef.{is_first_note, found_first}
+use Rattle.gabc_score.specs.NoteBeforeClef.{found_first}
 use Rattle.gabc_score.specs.ScoreEvents.{ScoreOutput, Found, Stop, Syllable, End, outputs_of, findings_now}
 use Rattle.gabc_score.specs.Syllable.{UnplacedSyllable, PlacedSyllable, text_at}
 use Rattle.gabc_score.specs.machine.BodyBuilder.{with_all, code_in, end_fault, end_fault_by, end_findings}
-use Rattle.gabc_score.specs.machine.Gatherer.{Gathered, awaits, first_past, span_of, with_event, with_syllable, with_no_notes, with_last}
+use Rattle.gabc_score.specs.machine.Gatherer.{Gathered, first_past, span_of, with_event, with_syllable, with_no_notes, with_last}
 use Rattle.gabc_score.specs.machine.HeldAside.{ComeAlike, IsKindred, IsSwapped, AreTwins, IsAside}
 use Rattle.gabc_score.specs.machine.SyllableBuilder.{past_snippet}
 use Rattle.gabc_score.specs.machine.ScoreStage.{HeldScore, placed_behind, held_outputs, stop_outputs, point_outputs, with_held, score_past, end_outputs_by, end_outputs, left_by, body_left}

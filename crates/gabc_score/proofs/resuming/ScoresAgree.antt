@@ -1,8 +1,7 @@
 -- Two stages over a score that hold and tell the same give the same, but for the syllable that is held.
-use Rattle.std.proofs.Common.{◌≡◌, ◌⊎◌, inl, inr, ℕ, ◌+◌, ◌<◌, ◌≤◌, ◌==◌, ◌||◌, not, nat_lt, min, List, [], ◌∷◌, ◌++◌, length, Bool, true, false, Option, Some, None, is_some, encode_utf8_all, refl, sym, ap, ◌∙◌, subst, arith}
+use Rattle.std.proofs.Common.{◌≡◌, ◌⊎◌, inl, inr, ℕ, ◌+◌, ◌≤◌, ◌==◌, ◌||◌, not, nat_lt, min, List, [], ◌∷◌, ◌++◌, length, Bool, true, false, Option, Some, None, is_some, refl, sym, ap, ◌∙◌, subst, arith}
 use Rattle.std.proofs.lemmas.Bool.Decides.{nat_tests}
 use Rattle.std.proofs.lemmas.Str.{encodes_same}
-use Rattle.gabc_places.specs.declared.code.Code.{Code}
 use Rattle.gabc_places.specs.declared.limits.Limits.{Limits}
 use Rattle.gabc_places.specs.declared.place.Char.{Char}
 use Rattle.gabc_places.specs.declared.place.Place.{Place}
@@ -22,10 +21,10 @@ use Rattle.gabc_score.specs.declared.score_machine.ScorePart.{ScorePart}
 use Rattle.gabc_score.specs.declared.score_machine.ScorePart.TheVariants as score_part
 use Rattle.gabc_score.specs.Before.{most, sounds_in, with_each}
 use Rattle.gabc_score.specs.Canonical.{canonical}
-use Rattle.gabc_score.specs.HeldAside.{SaysTheSame, IsSameOutput, AreSameOutputs, AreSameLists, HoldTheSame, GiveTheSame}
+use Rattle.gabc_score.specs.HeldAside.{MayStandFor, IsSameOutput, AreSameOutputs, AreSameLists, HoldTheSame, GiveTheSame}
 use Rattle.gabc_score.specs.ScoreEvents.{ScoreOutput, Found, Stop, Syllable, End, characters_in}
 use Rattle.gabc_score.specs.ScoreTells.{before_with, held_in_body, reading_in_body}
-use Rattle.gabc_score.specs.Syllable.{UnplacedSyllable, PlacedSyllable}
+use Rattle.gabc_score.specs.Syllable.{UnplacedSyllable}
 use Rattle.gabc_score.specs.machine.BodyBuilder.{with_all}
 use Rattle.gabc_score.specs.machine.Gatherer.{Gathered}
 use Rattle.gabc_score.specs.machine.HeldAside.{ComeAlike, IsAside}
@@ -103,7 +102,7 @@ before_is p q a b e = ap (λ (b : Before). preceding_of b) e
 
 -- ---- syllables that say the same, behind the same
 
-says_behind : (p : Preceding) (m n : UnplacedSyllable) → SaysTheSame (p.syllables == 0) m n → with_each p (m ∷ []) ≡ with_each p (n ∷ [])
+says_behind : (p : Preceding) (m n : UnplacedSyllable) → MayStandFor (p.syllables == 0) m n → with_each p (m ∷ []) ≡ with_each p (n ∷ [])
 says_behind p m n s =
     ap (λ (c : List ℕ). behind (min (p.canonical + min (length c) most) most) m.eu m.nlba (p.sounded || m_sounds)) s.canonical
     ∙ ap (λ (b : Bool). behind count b m.nlba (p.sounded || m_sounds)) s.eu
@@ -121,7 +120,7 @@ says_behind p m n s =
 
 -- held syllables, at most one each
 pub record HeldAlike (first : Bool) (ms ns : List UnplacedSyllable) : Type 0 where
-  pub held : ((ms ≡ []) × (ns ≡ [])) ⊎ ((m : UnplacedSyllable) × ((n : UnplacedSyllable) × ((ms ≡ m ∷ []) × ((ns ≡ n ∷ []) × SaysTheSame first m n))))
+  pub held : ((ms ≡ []) × (ns ≡ [])) ⊎ ((m : UnplacedSyllable) × ((n : UnplacedSyllable) × ((ms ≡ m ∷ []) × ((ns ≡ n ∷ []) × MayStandFor first m n))))
 
 held_alike : (first : Bool) (ms ns : List UnplacedSyllable) → length ms ≤ 1 → length ns ≤ 1 → HoldTheSame first (held_in_body score_part.Body ms) (held_in_body score_part.Body ns) → HeldAlike first ms ns
 held_alike first [] [] a b h = record { held = inl (refl, refl) }
@@ -134,7 +133,7 @@ held_alike first (m ∷ []) (n ∷ k ∷ ns) a b h = absurd (omega (arith, b))
 each_same : (p : Preceding) (ms ns : List UnplacedSyllable) → HeldAlike (p.syllables == 0) ms ns → with_each p ms ≡ with_each p ns
 each_same p ms ns h = by h.held
   where
-    by : ((ms ≡ []) × (ns ≡ [])) ⊎ ((m : UnplacedSyllable) × ((n : UnplacedSyllable) × ((ms ≡ m ∷ []) × ((ns ≡ n ∷ []) × SaysTheSame (p.syllables == 0) m n)))) → with_each p ms ≡ with_each p ns
+    by : ((ms ≡ []) × (ns ≡ [])) ⊎ ((m : UnplacedSyllable) × ((n : UnplacedSyllable) × ((ms ≡ m ∷ []) × ((ns ≡ n ∷ []) × MayStandFor (p.syllables == 0) m n)))) → with_each p ms ≡ with_each p ns
     by (inl e) = ap (with_each p) (e.0 ∙ sym e.1)
     by (inr e) = ap (with_each p) e.1.1.0 ∙ says_behind p e.0 e.1.0 e.1.1.1.1 ∙ ap (with_each p) (sym e.1.1.1.0)
 
@@ -225,7 +224,7 @@ module _ (text_kept : (s : TextStage) (a b : List ℕ) (c : ℕ) → text.Keeps 
         ap (λ (p : Place). record { next = p; gathered = b.pair.gathered; has_lent = b.has_lent }) (sym next)
         ∙ ap (λ (l : Bool). record { next = a.next; gathered = b.pair.gathered; has_lent = l }) (sym lent_same)
 
-    aside : (m n : UnplacedSyllable) → ((a.pair.gathered.made ≡ []) × (b.pair.gathered.made ≡ [])) ⊎ ((a.pair.gathered.made ≡ m ∷ []) × ((b.pair.gathered.made ≡ n ∷ []) × SaysTheSame (a.bounds.before.syllables == 0) m n))
+    aside : (m n : UnplacedSyllable) → ((a.pair.gathered.made ≡ []) × (b.pair.gathered.made ≡ [])) ⊎ ((a.pair.gathered.made ≡ m ∷ []) × ((b.pair.gathered.made ≡ n ∷ []) × MayStandFor (a.bounds.before.syllables == 0) m n))
         → IsAside m n a.has_lent a.pair.gathered b.pair.gathered
     aside m n (inl e) = (come_alike a.pair.gathered.first_kind b.pair.gathered.first_kind sounds_same, inl (record { kind = b.pair.gathered.first_kind; same = but_made ∙ ap (λ made. record a.pair.gathered { made = made; first_kind = b.pair.gathered.first_kind }) (e.1 ∙ sym e.0) }))
     aside m n (inr e) = (come_alike a.pair.gathered.first_kind b.pair.gathered.first_kind sounds_same, inr (record { rest = []; kind = b.pair.gathered.first_kind; made = e.0; same = but_made ∙ ap (λ made. record a.pair.gathered { made = made; first_kind = b.pair.gathered.first_kind }) e.1.0 }, twins))
@@ -258,7 +257,7 @@ module _ (text_kept : (s : TextStage) (a b : List ℕ) (c : ℕ) → text.Keeps 
         left : (m n : UnplacedSyllable) → IsAside m n a.has_lent a.pair.gathered b.pair.gathered → AreSameLists m n (body_left a.limits (held_score a) (running_events_left a.body (characters_in xs)) xs) (body_left b.limits (held_score b) (running_events_left b.body (characters_in xs)) xs)
         left m n h = subst (AreSameLists m n (body_left a.limits (held_score a) (running_events_left a.body (characters_in xs)) xs)) (sym (left_by_lists xs)) (left_same m n a.limits xs (running_events_left a.body (characters_in xs)) (held_score a) b.pair.gathered h)
 
-        by : ((a.pair.gathered.made ≡ []) × (b.pair.gathered.made ≡ [])) ⊎ ((m : UnplacedSyllable) × ((n : UnplacedSyllable) × ((a.pair.gathered.made ≡ m ∷ []) × ((b.pair.gathered.made ≡ n ∷ []) × SaysTheSame (a.bounds.before.syllables == 0) m n))))
+        by : ((a.pair.gathered.made ≡ []) × (b.pair.gathered.made ≡ [])) ⊎ ((m : UnplacedSyllable) × ((n : UnplacedSyllable) × ((a.pair.gathered.made ≡ m ∷ []) × ((b.pair.gathered.made ≡ n ∷ []) × MayStandFor (a.bounds.before.syllables == 0) m n))))
             → GiveTheSame (held_in_body score_part.Body a.pair.gathered.made) (held_in_body score_part.Body b.pair.gathered.made)
             (body_left a.limits (held_score a) (running_events_left a.body (characters_in xs)) xs) (body_left b.limits (held_score b) (running_events_left b.body (characters_in xs)) xs)
         by (inl e) = with_held_by [] [] e.0 e.1 (lists_are dummy _ _ (left dummy dummy (aside dummy dummy (inl e))))

@@ -1,5 +1,5 @@
 -- Two stages over a body whose texts keep the same and tell the same emit the same.
-use Rattle.std.proofs.Common.{◌≡◌, ℕ, List, refl, sym, ap, subst, ◌∙◌}
+use Rattle.std.proofs.Common.{◌≡◌, ℕ, List, sym, ap, subst, ◌∙◌}
 use Rattle.gabc_places.specs.declared.place.Char.{Char}
 use Rattle.gabc_text.specs.Events.{codes_of}
 use Rattle.gabc_text.specs.declared.stage.TextStage.{TextStage}

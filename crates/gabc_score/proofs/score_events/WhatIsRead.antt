@@ -1,8 +1,7 @@
 -- What was gathered of the syllable that is read stays what the parts of its kept text say, past a point and past a character taken quietly.
-use Rattle.std.proofs.Common.{◌≡◌, ℕ, ◌<◌, ◌^◌, nat_lt, Bool, true, false, cond, length, refl, sym, ap, subst, ◌∙◌, List, [], if◌then◌else◌}
+use Rattle.std.proofs.Common.{◌≡◌, ℕ, ◌<◌, ◌^◌, nat_lt, Bool, true, false, cond, length, refl, sym, ap, subst, ◌∙◌, List, []}
 use Rattle.gabc_places.specs.declared.place.Char.{Char}
 use Rattle.gabc_text.specs.witness.Keeps as text
-use Rattle.gabc_score.specs.declared.before.Preceding.{Preceding}
 use Rattle.gabc_score.specs.declared.before.Spans.{Spans}
 use Rattle.gabc_score.specs.declared.body_stage.BodyPart.{BodyPart}
 use Rattle.gabc_score.specs.declared.body_stage.BodyPart.TheVariants as part
@@ -11,7 +10,7 @@ use Rattle.gabc_score.specs.declared.events.BodyEvent.{BodyEvent}
 use Rattle.gabc_score.specs.machine.BodyBuilder.{with_all}
 use Rattle.gabc_score.specs.machine.Gatherer.{Gathered, nothing_gathered}
 use Rattle.gabc_score.specs.machine.PartKeeps.{in_text, IsReading, PartKeepsOn, spans_past}
-use Rattle.gabc_score.specs.machine.Preceded.{behind_gathered, behind_headers, before_past, past_point, spans_of}
+use Rattle.gabc_score.specs.machine.Preceded.{behind_headers, past_point, spans_of}
 use Rattle.gabc_score.specs.machine.Quiet.{TakesQuietly}
 use Rattle.gabc_score.specs.machine.ScoreStage.{with_held}
 use Rattle.gabc_score.specs.machine.SlotPair.{SlotPairState}

@@ -1,5 +1,4 @@
-use Rattle.std.proofs.Common.{◌≡◌, ◌==◌, List, sym, ◌∙◌}
-use Rattle.gabc_headers.specs.declared.head_event.HeadEvent.{HeadEvent}
+use Rattle.std.proofs.Common.{◌==◌, sym, ◌∙◌}
 use Rattle.gabc_score.proofs.resuming.ScoresAgree.{reads_in_body, held_in_bodies, bodies_keep, bodies_give}
 use Rattle.gabc_score.proofs.score_machine.ScoreMachine.agrees.Goals as goal
 

@@ -1,0 +1,99 @@
+//! What two slots tell of what was gathered.
+
+use crate::before::Spans;
+use crate::slot_pair::{SlotPair, SlotUse};
+use crate::syllable::Syllable;
+use gabc_notes::ItemKind;
+
+impl SlotPair {
+    ghost use Rattle.std.specs.Prelude.{◌≡◌, ◌||◌, nat_lt, [], ◌∷◌, length, false, MatchOption};
+    ghost use Rattle.gabc_score.specs.Syllable.{placed_of, unplaced_of};
+    ghost use Rattle.gabc_score.specs.machine.Preceded.{spans_of};
+    ghost use Rattle.gabc_score.specs.machine.SlotPair.{is_made};
+
+    /// Returns whether a syllable has become whole since it was last asked for what is held.
+    #[inline(always)]
+    pub(crate) fn is_whole(&self) -> bool
+        ensures used { result ≡ is_made self.now.used }
+        ensures made { result ≡ nat_lt (length self.now.held) (length self.now.gathered.made) }
+    {
+        match self.used {
+            SlotUse::Made => true,
+            SlotUse::Filling | SlotUse::Lent => false,
+        }
+    }
+
+    /// Returns the bytes of the canonical headers and of all syllables that were made, a count that saturates.
+    #[inline(always)]
+    pub(crate) fn canonical(&self) -> usize
+        ensures { result ≡ self.now.gathered.total }
+    {
+        self.total
+    }
+
+    /// Returns the spans that are open.
+    #[inline(always)]
+    pub(crate) fn spans(&self) -> Spans
+        ensures { result ≡ spans_of self.now.gathered }
+    {
+        Spans {
+            eu: self.eu,
+            nlba: self.nlba,
+        }
+    }
+
+    /// Returns which came first in the GABC snippets that have ended, a note or a clef.
+    #[inline(always)]
+    pub(crate) fn first_kind(&self) -> Option<ItemKind>
+        ensures { result ≡ self.now.gathered.first_kind }
+    {
+        self.first_kind
+    }
+
+    /// Returns whether a span is open.
+    pub(crate) fn has_open(&self) -> bool
+        ensures { result ≡ (self.now.gathered.eu || self.now.gathered.nlba) }
+    {
+        self.eu || self.nlba
+    }
+
+    /// Returns the syllable that is held, if one is.
+    pub(crate) fn held(&self) -> Option<&Syllable>
+        requires { is_made self.now.used ≡ false }
+        ensures { MatchOption result (self.now.gathered.made ≡ [])
+            (λ s. self.now.gathered.made ≡ unplaced_of s.now ∷ []) }
+    {
+        if self.held {
+            Some(self.holder.syllable())
+        } else {
+            None
+        }
+    }
+
+    /// Returns the kept text of the syllable that is read.
+    pub(crate) fn reading(&self) -> &str
+        ensures { result.now ≡ self.now.gathered.builder.kept }
+    {
+        match self.used {
+            SlotUse::Filling => self.reader.syllable().kept.as_str(),
+            SlotUse::Made | SlotUse::Lent => "",
+        }
+    }
+
+    /// Returns the first syllable that may be lent.
+    pub(crate) fn first(&self) -> &Syllable
+        ensures { placed_of result.now ≡ self.now.first }
+    {
+        match self.used {
+            SlotUse::Lent => self.reader.syllable(),
+            _ => self.holder.syllable(),
+        }
+    }
+
+    /// Returns the second syllable that may be lent.
+    pub(crate) fn second(&self) -> &Syllable
+        ensures { placed_of result.now ≡ self.now.second }
+    {
+        self.reader.syllable()
+    }
+}
