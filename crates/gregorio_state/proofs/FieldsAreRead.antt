@@ -35,7 +35,7 @@ unfolding format_at
 format_again format.Gabc rest = refl
 format_again format.Dump rest = refl
 
-pub spans_again : (eu nlba : Bool) (rest : List ℕ) → spans_at (spans_number eu nlba ∷ rest) ≡ Some ((eu, nlba), rest)
+pub spans_again : (eu nlba : Bool) (rest : List ℕ) → spans_at (spans_number eu nlba ∷ rest) ≡ Some (record { eu = eu; nlba = nlba }, rest)
 unfolding spans_at
 spans_again true true rest = refl
 spans_again true false rest = refl

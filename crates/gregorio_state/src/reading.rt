@@ -100,26 +100,35 @@ fn format_at(bytes: &[u8]) -> Option<(Format, &[u8])>
     Some((format, rest))
 }
 
+/// Which spans are open.
+#[derive(Clone, Copy)]
+pub(crate) struct OpenSpans {
+    /// Whether that of `<eu>` is.
+    pub(crate) eu: bool,
+    /// Whether that of `<nlba>` is.
+    pub(crate) nlba: bool,
+}
+
 /// Returns which spans are open by their number: 1 for that of `<eu>`, and 2 for that of `<nlba>`.
-fn spans_of(number: u8) -> Option<(bool, bool)>
+fn spans_of(number: u8) -> Option<OpenSpans>
     ensures read { result ≡ spans_of number }
-    ensures written { IfSome result (λ x. number ≡ spans_number x.0 x.1) }
+    ensures written { IfSome result (λ spans. number ≡ spans_number spans.eu spans.nlba) }
 {
     match number {
-        0 => Some((false, false)),
-        1 => Some((true, false)),
-        2 => Some((false, true)),
-        3 => Some((true, true)),
+        0..=3 => Some(OpenSpans {
+            eu: number % 2 == 1,
+            nlba: 2 <= number,
+        }),
         _ => None,
     }
 }
 
-/// Reads which spans are open, that of `<eu>` and that of `<nlba>`.
+/// Reads which spans are open.
 #[tactic(auto, unfolding(crate::specs::machine::Reading::spans_at))]
-fn spans_at(bytes: &[u8]) -> Option<((bool, bool), &[u8])>
+fn spans_at(bytes: &[u8]) -> Option<(OpenSpans, &[u8])>
     ensures read { Gives (λ x. (x.0, x.1.now)) result (spans_at bytes.now) }
     ensures written { IfSome result
-        (λ x. bytes.now ≡ spans_number x.0.0 x.0.1 ∷ x.1.now) }
+        (λ x. bytes.now ≡ spans_number x.0.eu x.0.nlba ∷ x.1.now) }
 {
     let (number, rest) = byte_at(bytes)?;
     let spans = spans_of(number)?;
@@ -308,7 +317,7 @@ fn score_of_bytes(bytes: &[u8]) -> Option<ScoreFields<'_>>
     let (macros, rest) = u16_at(rest)?;
     let (syllables, rest) = u32_at(rest)?;
     let (canonical, rest) = u32_at(rest)?;
-    let ((in_eu, in_nlba), rest) = spans_at(rest)?;
+    let (spans, rest) = spans_at(rest)?;
     let (sounded, rest) = flag_at(rest)?;
     let (clef, rest) = clef_at(rest)?;
     let (alters, rest) = alters_at(rest)?;
@@ -322,8 +331,8 @@ fn score_of_bytes(bytes: &[u8]) -> Option<ScoreFields<'_>>
         macros,
         syllables,
         canonical,
-        in_eu,
-        in_nlba,
+        in_eu: spans.eu,
+        in_nlba: spans.nlba,
         sounded,
         clef,
         alters,

@@ -8,6 +8,7 @@ use Rattle.gabc_neumes.specs.declared.sound.Alter.TheVariants as alter
 use Rattle.gabc_neumes.specs.declared.sound.Clef.{Clef}
 use Rattle.gregorio_jobs.specs.declared.job.Format.{Format}
 use Rattle.gregorio_jobs.specs.declared.job.Format.TheVariants as format
+use Rattle.gregorio_state.specs.declared.reading.OpenSpans.{OpenSpans}
 use Rattle.gregorio_state.specs.Fields.{StateFields, ScoreFields, PhaseFields, InHeaders, InScore}
 
 infixl 10 ◌>>=◌
@@ -55,14 +56,14 @@ format_at bytes = do
   f ← format_of b.0
   Some (f, b.1)
 
-abbrev pub spans_of : ℕ → Option (Bool × Bool)
-spans_of zero = Some (false, false)
-spans_of (suc zero) = Some (true, false)
-spans_of (suc (suc zero)) = Some (false, true)
-spans_of (suc (suc (suc zero))) = Some (true, true)
+abbrev pub spans_of : ℕ → Option OpenSpans
+spans_of zero = Some (record { eu = false; nlba = false })
+spans_of (suc zero) = Some (record { eu = true; nlba = false })
+spans_of (suc (suc zero)) = Some (record { eu = false; nlba = true })
+spans_of (suc (suc (suc zero))) = Some (record { eu = true; nlba = true })
 spans_of (suc (suc (suc (suc n)))) = None
 
-unfoldable pub spans_at : List ℕ → Option ((Bool × Bool) × List ℕ)
+unfoldable pub spans_at : List ℕ → Option (OpenSpans × List ℕ)
 spans_at bytes = do
   b ← byte_at bytes
   s ← spans_of b.0
@@ -166,8 +167,8 @@ score_of_bytes bytes = do
         macros = macros.0;
         syllables = syllables.0;
         canonical = canonical.0;
-        in_eu = spans.0.0;
-        in_nlba = spans.0.1;
+        in_eu = spans.0.eu;
+        in_nlba = spans.0.nlba;
         sounded = sounded.0;
         in_force = record { clef = clef.0; alters = alters.0 };
         held = held.0;
