@@ -6,7 +6,7 @@ ghost use Rattle.gregorio.specs.machine.Buffers.{IsTakenOver, nothing_buffered};
 ghost use Rattle.gregorio.specs.machine.Compile.{AreCut, AreSent};
 
 use crate::engine::Engine;
-use gabc_places::{Room, Sink, Unsent, send_all};
+use gabc_places::{Room, Sink, SinkFault, Unsent, send_all};
 use std::alloc::{AllocError, Global};
 use std::marker::Model;
 
@@ -58,7 +58,7 @@ impl Buffers {
         &mut self,
         out: &mut O,
         messages: &mut M,
-    ) -> Result<(), Unsent>
+    ) -> Result<(), SinkFault>
         ensures all { OnOk result (AreSent (used O.written O.calls out.old out.new)
             (used M.written M.calls messages.old messages.new)
             self.old.output self.old.messages) }
@@ -80,7 +80,7 @@ pub(crate) fn send_both<O: Sink, M: Sink>(
     lines: &[u8],
     out: &mut O,
     messages: &mut M,
-) -> Result<(), Unsent>
+) -> Result<(), SinkFault>
     ensures all { OnOk result (AreSent (used O.written O.calls out.old out.new)
         (used M.written M.calls messages.old messages.new)
         output.now lines.now) }
@@ -90,7 +90,11 @@ pub(crate) fn send_both<O: Sink, M: Sink>(
     ensures order { OnErr result ((O.calls out.old).failures < (O.calls out.new).failures →
         messages.new ≡ messages.old) }
 {
-    send_all(out, output)?;
-    send_all(messages, lines)?;
+    if let Err(Unsent { .. }) = send_all(out, output) {
+        return Err(SinkFault);
+    }
+    if let Err(Unsent { .. }) = send_all(messages, lines) {
+        return Err(SinkFault);
+    }
     Ok(())
 }

@@ -13,7 +13,7 @@ ghost use Rattle.gregorio.specs.machine.Compile.{AreCut, AreSent, IsFed, IsFedAl
 use crate::buffers::{Buffers, send_both};
 use crate::engine::Engine;
 use crate::source_ending::SourceEnding;
-use gabc_places::{Limits, Sink, Source, Unsent};
+use gabc_places::{Limits, Sink, SinkFault, Source};
 use gregorio_jobs::{Job, Status};
 use std::alloc::Global;
 use std::hash::DefaultHasher;
@@ -29,7 +29,7 @@ fn send_waiting<O: Sink, M: Sink>(
     engine: &mut Engine,
     out: &mut O,
     messages: &mut M,
-) -> Result<(), Unsent>
+) -> Result<(), SinkFault>
     ensures all { OnOk result (AreSent (used O.written O.calls out.old out.new)
         (used M.written M.calls messages.old messages.new)
         engine.old.output engine.old.messages) }
@@ -49,7 +49,7 @@ fn buffer_waiting<O: Sink, M: Sink>(
     buffers: &mut Buffers,
     out: &mut O,
     messages: &mut M,
-) -> Result<(), Unsent>
+) -> Result<(), SinkFault>
     ensures buffers { OnOk result (AreBuffered (used O.written O.calls out.old out.new)
         (used M.written M.calls messages.old messages.new)
         buffers.old engine.old buffers.new engine.new) }
@@ -72,7 +72,7 @@ fn feed_piece<O: Sink, M: Sink>(
     buffers: &mut Buffers,
     out: &mut O,
     messages: &mut M,
-) -> Result<(), Unsent>
+) -> Result<(), SinkFault>
     requires waits { NothingWaits engine.old }
     requires buffers { buffers.old ≡ nothing_buffered }
     ensures waits { OnOk result (NothingWaits engine.new) }
@@ -102,7 +102,7 @@ fn feed_all<S: Source, O: Sink, M: Sink>(
     source: &mut S,
     out: &mut O,
     messages: &mut M,
-) -> Result<SourceEnding, Unsent>
+) -> Result<SourceEnding, SinkFault>
     requires waits { NothingWaits engine.old }
     requires buffers { buffers.old ≡ nothing_buffered }
     ensures waits { OnOk result (NothingWaits engine.new) }
