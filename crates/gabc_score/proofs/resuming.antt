@@ -3,3 +3,10 @@ pub mod SameButHeld
 pub mod ScoresAgree
 pub mod StagesAgree
 pub mod StagesMove
+pub mod CharactersGathered
+pub mod ReadOneByOne
+pub mod MadeOfEvents
+pub mod OpenSpans
+pub mod HeldIsRead
+pub mod NothingIsRead
+pub mod HeldIsHeld

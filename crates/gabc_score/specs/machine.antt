@@ -8,6 +8,8 @@ pub mod PartKeeps
 pub mod PartPushes
 pub mod Preceded
 pub mod Quiet
+pub mod ReadAlone
+pub mod Resumed
 pub mod ScoreMachine
 pub mod ScoreStage
 pub mod Slot

@@ -48,7 +48,7 @@ piece_alike g h (text_part.Piece p) r = record { builder = rw r.builder refl; eu
 piece_alike g h (text_part.Centre s) r = record { builder = rw r.builder refl; eu = r.eu; nlba = r.nlba }
 piece_alike g h (text_part.Translation s) r = record { builder = rw r.builder refl; eu = r.eu; nlba = r.nlba }
 
-event_alike : (g h : Gathered) (e : BodyEvent) → ReadAlike g h → ReadAlike (with_event g e) (with_event h e)
+pub event_alike : (g h : Gathered) (e : BodyEvent) → ReadAlike g h → ReadAlike (with_event g e) (with_event h e)
 event_alike g h (event.Text (text_out.Kept c)) r = record { builder = rw r.builder refl; eu = r.eu; nlba = r.nlba }
 event_alike g h (event.Text (text_out.Part p)) r = piece_alike g h p r
 event_alike g h (event.Text (text_out.Found f)) r = r

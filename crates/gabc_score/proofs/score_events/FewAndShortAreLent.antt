@@ -53,7 +53,7 @@ without_start false m = omega arith
 short_made : (g : Gathered) (m : UnplacedSyllable) → g.limit < 2 ^ 32 → AreShort g → AreShort (with_made g m)
 short_made g m small h over =
     let e = either g.over _ _ over in
-    let starts = is_none g.made || m.text.word_start in
+    let starts = not g.follows || m.text.word_start in
     let k = counted g.limit (length (canonical starts m)) (length m.kept) small e.1.0 e.1.1 in
     let s = without_start starts m in
     let short = k.1 in

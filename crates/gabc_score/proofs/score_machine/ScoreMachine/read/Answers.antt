@@ -21,6 +21,9 @@ use Rattle.gabc_score.specs.Syllable.{UnplacedSyllable}
 use Rattle.gabc_score.proofs.score_events.WhatIsRead.{reading_past}
 use Rattle.gabc_score.proofs.score_events.WhatPrecedes.{lent_past, turned, past_in_body}
 use Rattle.gabc_score.proofs.score_events.EventsStayWithinBounds.{few_found, few_with_first, limit_stays, within}
+use Rattle.gabc_score.specs.NoteBeforeClef.{found_first}
+use Rattle.gabc_places.specs.BoundedList.{extended_by}
+use Rattle.gabc_score.proofs.resuming.CharactersGathered.{given_only, none_given}
 use Rattle.gabc_score.proofs.score_machine.ScoreMachine.read.Goals as goal
 
 pub find_first-requires : goal.find_first-requires
@@ -130,3 +133,46 @@ returns-after-self-clause-rests c =
           (c.is_whole-is_whole.ensures.made ∙ ap (λ (ms : List UnplacedSyllable). nat_lt (length ms) (length g.made)) (c.hold.ensures.held ∙ c.free.ensures.held))
           passed c.take.ensures.lines c.take.ensures.macros c.take.ensures.keeps old.reading;
     })
+
+pub returns-in-Some-clause-reads : goal.returns-in-Some-clause-reads
+returns-in-Some-clause-reads c =
+    let now = c.take.new.self.events in
+    let is : c.hold.new.pair.gathered ≡ with_all c.args.self.now.pair.gathered now = c.hold.ensures.gathered ∙ ap (λ (k : Gathered). with_all k now) c.free.ensures.gathered in
+    record {
+      now = now;
+      after = c.take.new.self;
+      law = c.take.ensures.events.law;
+      last = c.take.ensures.once;
+      limits = c.stop.ensures.limits;
+      gathers = λ none. absurd (cc (sym c.in-Some.is ∙ (c.code.ensures.code ∙ (ap (code_in c.args.self.now.limits) is ∙ none))));
+      stops = λ some. c.stop.ensures.part;
+    }
+
+pub returns-after-self-clause-reads : goal.returns-after-self-clause-reads
+returns-after-self-clause-reads c =
+    let b = c.args.self.now.bounds in
+    let old = c.args.self.now.pair.gathered in
+    let now = c.take.new.self.events in
+    let is : c.hold.new.pair.gathered ≡ with_all old now = c.hold.ensures.gathered ∙ ap (λ (k : Gathered). with_all k now) c.free.ensures.gathered in
+    let none : code_in c.args.self.now.limits (with_all old now) ≡ None = sym (ap (code_in c.args.self.now.limits) is) ∙ (sym c.code.ensures.code ∙ c.in-None.is) in
+    let passed : c.pass.new.self ≡ past_point c.is_whole-is_whole.result c.give_point-gave.result b c.hold.new.pair.gathered =
+    c.pass.ensures ∙ ap (past_point c.is_whole-is_whole.result c.give_point-gave.result b) c.give_point-gave.ensures.gathered in
+    record {
+      now = now;
+      after = c.take.new.self;
+      law = c.take.ensures.events.law;
+      last = c.take.ensures.once;
+      limits = refl;
+      gathers = λ fine. record {
+        part = c.requires.part;
+        body = refl;
+        gathered = c.give_point-gave.ensures.gathered ∙ ap with_held is;
+        lines = c.take.ensures.lines;
+        macros = c.take.ensures.macros;
+        before = λ few. ap (λ (k : Bounds). k.before) passed ∙ none_given c.is_whole-is_whole.result c.give_point-gave.result b c.hold.new.pair.gathered (c.give_point-gave.ensures.gave ∙ ap (λ (k : Gathered). nat_lt 1 (length k.made)) is) few;
+        found = λ few. given_only c.args.self.now.found c.hold.new.found c.find_first.new.found now c.args.out.now c.give_point-gave.new.out c.args.self.now.has_lent old (with_all old now) c.hold.new.pair.gathered c.args.x.place is few
+            c.requires.rests.rests.none c.hold.ensures.found (c.find_first.ensures ∙ ap (λ k. extended_by c.hold.new.found (found_first k c.first_kind.result c.args.x.place)) (c.first_kind-was.ensures ∙ ap (λ (k : Gathered). k.first_kind) c.free.ensures.gathered)
+            ∙ ap (λ k. extended_by c.hold.new.found (found_first old.first_kind k c.args.x.place)) (c.first_kind.ensures ∙ ap (λ (k : Gathered). k.first_kind) is)) c.give_point-gave.ensures.emitted.events;
+      };
+      stops = λ some. absurd (some none);
+    }
