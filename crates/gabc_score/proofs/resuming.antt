@@ -10,3 +10,4 @@ pub mod OpenSpans
 pub mod HeldIsRead
 pub mod NothingIsRead
 pub mod HeldIsHeld
+pub mod BehindSyllables

@@ -81,7 +81,8 @@ impl ScoreMachine {
         ensures stands { IfOk result (λ m. StandsBehind limits before (shown m)) }
         ensures rests { IfOk result (λ m. IsScore m) }
     {
-        let mut body = BodyStage::new(alloc, before.nabc_lines, before.macros)?;
+        let mut body = BodyStage::new(alloc, 0, 0)?;
+        body.restart(before.nabc_lines, before.macros);
         body.begin_text(Place::START);
         let mut pair = SlotPair::with_limit(alloc, limits.syllable as usize)?;
         pair.follow(before);

@@ -31,7 +31,7 @@ use Rattle.gabc_score.specs.machine.ScoreMachine.{shown, IsInBody}
 use Rattle.gabc_score.specs.machine.SyllableBuilder.{nothing_open}
 use Rattle.gabc_score.specs.witness.BodyStage.{BodyStageState, part_with, running_events_left, texts_by_stage}
 use Rattle.gabc_score.proofs.building.OneListEachCharacter.{events_each}
-use Rattle.gabc_score.proofs.resuming.HeldIsRead.{Found, found, alone}
+use Rattle.gabc_score.proofs.resuming.HeldIsRead.{found, alone}
 use Rattle.gabc_score.proofs.resuming.NothingIsRead.{nothing_alike}
 
 none_in_body : (p : ScorePart) (ms : List UnplacedSyllable) → p ≡ score_part.Body → held_in_body p ms ≡ None → ms ≡ []
@@ -43,6 +43,12 @@ none_in_body p ms e h = by ms (sym (ap (λ (q : ScorePart). held_in_body q ms) e
 
 nothing_in_body : (p : ScorePart) (kept : List ℕ) → p ≡ score_part.Body → reading_in_body p kept ≡ [] → kept ≡ []
 nothing_in_body p kept e h = sym (ap (λ (q : ScorePart). reading_in_body q kept) e) ∙ h
+
+-- the text is one syllable
+pub record FoundAlone (m : ScoreMachine) (text : List ℕ) : Type 0 where
+  pub syllable : UnplacedSyllable
+  pub made : (with_all m.pair.gathered (concat_of (lists_of m text))).made ≡ syllable ∷ []
+  pub may : MayBeHeld m.limits (before_with m.body m.bounds.before) text syllable
 
 module _ (m : ScoreMachine) (rests : IsInBody m) (begins : BeginsText (shown m)) (none_held : held_of (shown m) ≡ None) (text : List ℕ) (fits : CountsFit first_place text)
     (reads : (r : BodyStageState) (at : Place) (t : List ℕ) → r.part ≡ Text (fresh_stage at) → CountsFit at t
@@ -72,13 +78,11 @@ module _ (m : ScoreMachine) (rests : IsInBody m) (begins : BeginsText (shown m))
   are : (let xs = placed_characters_from first_place text in lists_of m text ≡ take (length text) (events_from texts_by_definition b.nabc_lines b.macros (text_from texts_by_definition first_place xs) xs))
   are = ap (take (length text)) (reads m.body first_place text begins.begins fits)
 
-  abbrev pub FoundAlone : Type 0
-  FoundAlone = Found m.limits b g rests.rests.limit alike.builder (alike.eu ∙ ap (λ (p : Preceding). p.spans.eu) behind_is) (alike.nlba ∙ ap (λ (p : Preceding). p.spans.nlba) behind_is) none rests.rests.over
-      (rests.preceded.total ∙ ap (λ ms. (with_each m.bounds.before ms).canonical) none) (rests.preceded.follows ∙ ap (λ ms. nat_lt 0 (with_each m.bounds.before ms).syllables) none) text (lists_of m text) are each
-
-  pub found_alone : is_alone m.limits g (lists_of m text) ≡ true → length (with_all g (concat_of (lists_of m text))).made ≤ 1 → FoundAlone
-  found_alone = found m.limits b g rests.rests.limit alike.builder (alike.eu ∙ ap (λ (p : Preceding). p.spans.eu) behind_is) (alike.nlba ∙ ap (λ (p : Preceding). p.spans.nlba) behind_is) none rests.rests.over
-      (rests.preceded.total ∙ ap (λ ms. (with_each m.bounds.before ms).canonical) none) (rests.preceded.follows ∙ ap (λ ms. nat_lt 0 (with_each m.bounds.before ms).syllables) none) text (lists_of m text) are each
+  pub found_alone : is_alone m.limits g (lists_of m text) ≡ true → length (with_all g (concat_of (lists_of m text))).made ≤ 1 → FoundAlone m text
+  found_alone e few =
+      let one = found m.limits b g rests.rests.limit alike.builder (alike.eu ∙ ap (λ (p : Preceding). p.spans.eu) behind_is) (alike.nlba ∙ ap (λ (p : Preceding). p.spans.nlba) behind_is) none rests.rests.over
+      (rests.preceded.total ∙ ap (λ ms. (with_each m.bounds.before ms).canonical) none) (rests.preceded.follows ∙ ap (λ ms. nat_lt 0 (with_each m.bounds.before ms).syllables) none) text (lists_of m text) are each e few in
+      record { syllable = one.m; made = one.made; may = one.may }
 
   pub is_found : (n : UnplacedSyllable) → MayBeHeld m.limits b text n → is_alone m.limits g (lists_of m text) ≡ true
   is_found = alone m.limits b g rests.rests.limit alike.builder (alike.eu ∙ ap (λ (p : Preceding). p.spans.eu) behind_is) (alike.nlba ∙ ap (λ (p : Preceding). p.spans.nlba) behind_is) none rests.rests.over

@@ -1,8 +1,3 @@
-use Rattle.gabc_score.proofs.resuming.HeldIsHeld.{found_alone, is_found}
-use Rattle.gabc_score.proofs.resuming.NothingIsRead.{nothing_alike, begins_again}
-use Rattle.gabc_score.proofs.resuming.HeldIsRead.{found, alone}
-use Rattle.gabc_score.proofs.resuming.MadeOfEvents.{counts_from, made_behind}
-use Rattle.gabc_score.proofs.resuming.ReadOneByOne.{alone_on, gathered_on, not_alone, held_then}
 use Rattle.std.proofs.Common.{[], arith}
 use Rattle.gabc_score.proofs.score_events.FewAndShortAreLent.{few_lent}
 use Rattle.gabc_score.proofs.score_events.OutputsOfLentSyllables.{now_emitted}

@@ -61,9 +61,9 @@ returns-clause-held c true-is =
     let kept = ap (λ (g : Gathered). g.builder.kept) on.gathered ∙ ap (λ (o : OpenSyllable). o.kept) nothing in
     let body = ap (λ (b : BodyStageState). b.part) c.begin_text.ensures.text in
     record {
-      m = found.m;
+      m = found.syllable;
       may = found.may;
-      held = held_there c.read_all.new.self.part c.read_all.new.self.pair.gathered.made found.m on.part made;
+      held = held_there c.read_all.new.self.part c.read_all.new.self.pair.gathered.made found.syllable on.part made;
       limits = on.limits;
       before_is = before_there was.part c.read_all.new.self.part was.body c.begin_text.new.self was.bounds.before c.read_all.new.self.bounds.before c.requires.begins.body on.part
           (ap (λ (b : BodyStageState). b.nabc_lines) c.begin_text.ensures.text ∙ on.lines) (ap (λ (b : BodyStageState). b.macros) c.begin_text.ensures.text ∙ on.macros) on.before;
