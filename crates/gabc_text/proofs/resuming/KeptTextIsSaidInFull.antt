@@ -1,5 +1,5 @@
 -- What was said of a text that a stage keeps is what is said of it in front of the `(` that ends it.
-use Rattle.std.proofs.Common.{◌≡◌, ℕ, List, [], ◌∷◌, ◌++◌, map, Bool, true, false, option_to_list, refl, sym, ap, subst, ◌∙◌, append_assoc, append-nil}
+use Rattle.std.proofs.Common.{◌≡◌, ℕ, List, [], ◌∷◌, ◌++◌, map, true, false, option_to_list, refl, sym, ap, subst, ◌∙◌, append_assoc, append-nil}
 use Rattle.std.proofs.lemmas.Bool.{true≢false}
 use Rattle.std.proofs.lemmas.List.Folds.{list_any-append}
 use Rattle.gabc_places.specs.StageLaw.{concat_of}
@@ -11,11 +11,9 @@ use Rattle.gabc_text.specs.declared.text_event.TextEvent.TheVariants as out
 use Rattle.gabc_text.specs.BuiltText.{BuiltText, with_event, with_events, with_part, empty_text, kept_in}
 use Rattle.gabc_text.specs.End.{is_end}
 use Rattle.gabc_text.specs.Ends.{ends_in}
-use Rattle.gabc_text.specs.Events.{CountsFit, events_by_point, no_events_each}
-use Rattle.gabc_text.specs.TextRead.{view_in}
+use Rattle.gabc_text.specs.Events.{CountsFit, events_by_point}
 use Rattle.gabc_text.specs.TextStage.{fresh_stage}
 use Rattle.gabc_text.specs.TextView.{ViewContent}
-use Rattle.gabc_text.specs.View.{kept}
 use Rattle.gabc_text.specs.witness.Keeps.{said, end_text, EndsInNotes, stage_behind, Keeps, said_of, ends_behind, said_at_end}
 use Rattle.gabc_text.specs.witness.SaidInFull.{IsSaidInFull}
 use Rattle.gabc_text.specs.machine.RawPart.{stage_past, events_of_pushes}
