@@ -10,6 +10,7 @@ use Rattle.gabc_score.specs.ScoreTells.{moved_part}
 use Rattle.gabc_score.specs.machine.BodyBuilder.{with_all}
 use Rattle.gabc_score.specs.machine.PartCounts.{CountsHold}
 use Rattle.gabc_score.specs.machine.PartKeeps.{KeptParts, PartKeeps, ReadAlike, begun, said_by}
+use Rattle.gabc_score.specs.machine.PartMakes.{HoldUnits}
 use Rattle.gabc_score.specs.machine.ScoreMachine.{IsAtRest, IsScoreAt}
 use Rattle.gabc_score.specs.machine.SyllableBuilder.{OpenSyllable}
 use Rattle.gabc_score.specs.witness.BodyStage.{BodyStageState}
@@ -45,4 +46,5 @@ module _ (m : ScoreMachine) (at : Place) (b : BodyStageState) (is : b ≡ record
       from = h.reading.from;
       uncut = h.reading.uncut;
     };
+    units = subst (λ (k : BodyStageState). HoldUnits k.nabc_lines m.pair.gathered.made) (sym is) h.units;
   }

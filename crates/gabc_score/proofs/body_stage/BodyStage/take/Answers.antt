@@ -11,3 +11,11 @@ returns-clause-stands c = elim c.match-self.branch [
       (ap (λ (s : BodyStageState). s.part) w.self-is) w.new.ensures.keeps w.new.ensures.fresh c.push_part.ensures.stands
   | in_default w ↦ subst (λ (s : BodyStageState). PartStandsOn s.nabc_lines s.macros c.args.x s.part c.push_part.new.self.part) w.self-is c.push_part.ensures.stands
 ]
+
+pub returns-clause-makes : goal.returns-clause-makes
+returns-clause-makes c = elim c.match-self.branch [
+  | in-Comment+else-x-ne10 w ↦ subst (λ (b : BodyPart). PartMakes c.args.self.now.nabc_lines c.args.self.now.macros b c.push_part.new.self.events) (sym w.self-comment)
+      (first_text_makes c.match-self.self.nabc_lines c.match-self.self.macros w.new.result c.match-self.self.part c.push_part.new.self.events
+      (ap (λ (s : BodyStageState). s.part) w.self-is) w.new.ensures.keeps c.push_part.ensures.makes)
+  | in_default w ↦ subst (λ (s : BodyStageState). PartMakes s.nabc_lines s.macros s.part c.push_part.new.self.events) w.self-is c.push_part.ensures.makes
+]
