@@ -77,15 +77,22 @@ pub notes_make_none : (lines macros line : ℕ) (opened : Place) (before : BodyP
 notes_make_none lines macros line opened before es e = none_makes lines macros before (of_notes line opened es) (notes_close_alike line opened es ∙ e)
 
 -- the text that begins behind a comment, in which nothing is kept
-pub first_text_makes : (lines macros : ℕ) (s : TextStage) (mid : BodyPart) (now : List BodyEvent) → mid ≡ part.Text s → text.Keeps s [] → PartMakes lines macros mid now → PartMakes lines macros part.Comment now
-first_text_makes lines macros s mid now is keeps makes spans g fits r h = makes spans g fits (record {
-  parts = in_text [];
-  keeps = subst (λ (b : BodyPart). PartKeeps lines macros b (in_text [])) (sym is) keeps;
-  said = subst (λ (p : KeptParts). ReadAlike g (with_all (begun spans) (said_by lines p))) r.keeps r.said;
-  kept = subst (λ (p : KeptParts). g.builder.kept ≡ encode_utf8_all (joined p)) r.keeps r.kept;
-  from = subst (λ (p : KeptParts). g.builder.from ≡ length (encode_utf8_all (text_before p))) r.keeps r.from;
-  uncut = r.uncut;
-}) h
+pub first_text_makes : (lines macros l m : ℕ) (s : TextStage) (before mid : BodyPart) (now : List BodyEvent) → before ≡ part.Comment → mid ≡ part.Text s → text.Keeps s [] → l ≡ lines → m ≡ macros
+    → PartMakes l m mid now → PartMakes lines macros before now
+first_text_makes lines macros l m s before mid now comment is keeps same_lines same_macros makes =
+    subst (λ (b : BodyPart). PartMakes lines macros b now) (sym comment)
+    (subst (λ (k : ℕ). PartMakes k macros part.Comment now) same_lines
+    (subst (λ (k : ℕ). PartMakes l k part.Comment now) same_macros on))
+  where
+    on : PartMakes l m part.Comment now
+    on spans g fits r = makes spans g fits (record {
+      parts = in_text [];
+      keeps = subst (λ (b : BodyPart). PartKeeps l m b (in_text [])) (sym is) keeps;
+      said = subst (λ (p : KeptParts). ReadAlike g (with_all (begun spans) (said_by l p))) r.keeps r.said;
+      kept = subst (λ (p : KeptParts). g.builder.kept ≡ encode_utf8_all (joined p)) r.keeps r.kept;
+      from = subst (λ (p : KeptParts). g.builder.from ≡ length (encode_utf8_all (text_before p))) r.keeps r.from;
+      uncut = r.uncut;
+    })
 
 -- ---- a syllable is made
 
