@@ -1,5 +1,5 @@
 -- What a part of a body makes with its events: a syllable that holds a unit, where a snippet closes, and else none.
-use Rattle.std.proofs.Common.{◌≡◌, ℕ, ◌+◌, ◌-◌, ◌<◌, ◌^◌, min, Bool, true, false, List, [], ◌∷◌, ◌++◌, length, nat_lt, encode_utf8_all, refl, sym, ap, subst, ◌∙◌, arith, append_assoc}
+use Rattle.std.proofs.Common.{◌≡◌, ℕ, ◌+◌, ◌-◌, ◌^◌, min, false, List, [], ◌∷◌, ◌++◌, length, nat_lt, encode_utf8_all, refl, sym, ap, subst, ◌∙◌, arith, append_assoc}
 use Rattle.std.proofs.lemmas.Bool.{true≢false}
 use Rattle.std.proofs.lemmas.List.Elements.{All-push}
 use Rattle.std.specs.List.{All, list_any}
@@ -16,19 +16,18 @@ use Rattle.gabc_notes.specs.SnippetRead.{kept_of, ends_of}
 use Rattle.gabc_notes.specs.declared.stage.NoteEnd.TheVariants as note_end
 use Rattle.gabc_notes.specs.declared.stage.NoteEvent.{NoteEvent}
 use Rattle.gabc_notes.specs.declared.stage.NoteEvent.TheVariants as note
-use Rattle.gabc_score.specs.declared.before.Spans.{Spans}
 use Rattle.gabc_score.specs.declared.body_stage.BodyPart.{BodyPart}
 use Rattle.gabc_score.specs.declared.body_stage.BodyPart.TheVariants as part
 use Rattle.gabc_score.specs.declared.events.BodyEvent.{BodyEvent}
 use Rattle.gabc_score.specs.declared.events.BodyEvent.TheVariants as event
-use Rattle.gabc_score.specs.Events.{is_close, note_event}
+use Rattle.gabc_score.specs.Events.{is_close}
 use Rattle.gabc_score.specs.Holding.{IsSnippetOf}
-use Rattle.gabc_score.specs.Syllable.{UnplacedSyllable, closes}
+use Rattle.gabc_score.specs.Syllable.{closes}
 use Rattle.gabc_score.specs.UnitRead.{HoldsSomeUnit}
 use Rattle.gabc_score.specs.machine.BodyBuilder.{with_all}
 use Rattle.gabc_score.specs.machine.Gatherer.{Gathered, with_event}
-use Rattle.gabc_score.specs.machine.PartKeeps.{KeptParts, in_text, in_notes, barred, text_before, joined, line_behind, text_events, snippet_events, earlier_events, events_before, said_by, AreEnded, PartKeeps, begun, ReadAlike, IsReading}
-use Rattle.gabc_score.specs.machine.PartMakes.{PartLaws, HoldUnits, PartMakes}
+use Rattle.gabc_score.specs.machine.PartKeeps.{KeptParts, in_text, barred, text_before, joined, line_behind, text_events, snippet_events, earlier_events, events_before, said_by, AreEnded, PartKeeps, begun, ReadAlike}
+use Rattle.gabc_score.specs.machine.PartMakes.{HoldUnits, PartMakes}
 use Rattle.gabc_score.specs.machine.SyllableBuilder.{OpenSyllable, made_from, past_snippet}
 use Rattle.gabc_score.proofs.building.EventsOfOnePoint.{with_all_append}
 use Rattle.gabc_score.proofs.building.PartsMakeUnits.{HasRead, with_more, text_read, earlier_read, close_holds}

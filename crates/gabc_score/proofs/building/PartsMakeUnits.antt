@@ -1,5 +1,5 @@
 -- A text and snippets that have ended make a syllable that holds a unit.
-use Rattle.std.proofs.Common.{◌≡◌, ℕ, zero, suc, ◌+◌, ◌<◌, ◌≤◌, ◌^◌, ◌%◌, nat_lt, Bool, true, false, List, [], ◌∷◌, ◌++◌, map, length, encode_utf8, encode_utf8_all, codes, refl, sym, ap, subst, ◌∙◌, arith, append_assoc, append-nil, length-append}
+use Rattle.std.proofs.Common.{◌≡◌, ℕ, zero, suc, ◌+◌, ◌%◌, Bool, List, [], ◌∷◌, ◌++◌, map, length, encode_utf8, encode_utf8_all, codes, refl, sym, ap, subst, ◌∙◌, arith, append_assoc, append-nil, length-append}
 use Rattle.std.proofs.lemmas.Grind.{flat_map-append}
 use Rattle.std.proofs.lemmas.List.{length-map, map-append}
 use Rattle.std.proofs.lemmas.Str.{encodes-append}
@@ -24,8 +24,7 @@ use Rattle.gabc_score.specs.declared.events.BodyEvent.{BodyEvent}
 use Rattle.gabc_score.specs.declared.events.BodyEvent.TheVariants as event
 use Rattle.gabc_score.specs.declared.snippets.Snippet.{Snippet}
 use Rattle.gabc_score.specs.Events.{next_line}
-use Rattle.gabc_score.specs.Holding.{ReadSnippet, IsSnippetOf, bracket_with, in_brackets, IsHeld, HoldsNotes}
-use Rattle.gabc_score.specs.Syllable.{prefix_of}
+use Rattle.gabc_score.specs.Holding.{ReadSnippet, IsSnippetOf, bracket_with, in_brackets, HoldsNotes}
 use Rattle.gabc_score.specs.UnitRead.{HoldsSomeUnit}
 use Rattle.gabc_score.specs.machine.BodyBuilder.{with_all}
 use Rattle.gabc_score.specs.machine.Gatherer.{Gathered, with_event}
@@ -37,7 +36,7 @@ use Rattle.gabc_score.proofs.building.PartsOfKeptText.{cut_is, snippet_is}
 use Rattle.gabc_score.proofs.holding.PartsAreAUnit.{notes_are_unit}
 use Rattle.gabc_score.proofs.holding.SyllableHoldsPartByPart.{first_turn}
 use Rattle.gabc_score.proofs.holding.SnippetsAreHeld.{Placed, PlacedFrom, placed_push, all_held, next_turn, whole_of, span_behind}
-use Rattle.gabc_score.proofs.texts_of_body.SeamsOfCharacters.{size, size_append}
+use Rattle.gabc_score.proofs.texts_of_body.SeamsOfCharacters.{size}
 use Rattle.gabc_score.proofs.texts_of_body.ViewStandsInLongerText.{view_more}
 
 abbrev kept_text : ReadSnippet → List ℕ
