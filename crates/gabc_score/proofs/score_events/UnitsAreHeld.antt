@@ -29,6 +29,7 @@ use Rattle.gabc_score.specs.declared.score_machine.ScoreMachine.{ScoreMachine}
 use Rattle.gabc_score.specs.declared.score_machine.ScorePart.{ScorePart}
 use Rattle.gabc_score.specs.declared.score_machine.ScorePart.TheVariants as score_part
 use Rattle.gabc_score.specs.Holding.{IsSnippetOf, kept_on_line}
+use Rattle.gabc_score.specs.ScoreStage.{IsWithinAnywhere}
 use Rattle.gabc_score.specs.ScoreTells.{held_in_body}
 use Rattle.gabc_score.specs.Syllable.{UnplacedSyllable}
 use Rattle.gabc_score.specs.UnitRead.{HoldsSomeUnit}
@@ -37,12 +38,13 @@ use Rattle.gabc_score.specs.machine.Gatherer.{Gathered}
 use Rattle.gabc_score.specs.machine.PartKeeps.{IsReading}
 use Rattle.gabc_score.specs.machine.PartMakes.{PartLaws, HoldUnits, PartMakes, characters_of}
 use Rattle.gabc_score.specs.machine.Quiet.{TakesQuietly}
-use Rattle.gabc_score.specs.machine.ScoreMachine.{IsScoreAt}
+use Rattle.gabc_score.specs.machine.ScoreMachine.{IsShort, IsScoreAt}
 use Rattle.gabc_score.specs.machine.ScoreStage.{with_held}
 use Rattle.gabc_score.specs.machine.SlotPair.{SlotPairState}
 use Rattle.gabc_score.specs.witness.BodyStage.{BodyStageState}
 use Rattle.gabc_score.proofs.holding.SnippetsAreHeld.{bytes_are_size}
 use Rattle.gabc_score.proofs.order.FindingsOfParts.{codes_placed}
+use Rattle.gabc_score.proofs.score_events.FewAndShortAreLent.{short_within}
 
 pub none_held : (lines : ℕ) (made : List UnplacedSyllable) → made ≡ [] → HoldUnits lines made
 none_held lines made e = subst (HoldUnits lines) (sym e) (λ laws. All-nil (HoldsSomeUnit lines))
@@ -67,6 +69,16 @@ held_unit m score_part.Body h laws = by m.pair.gathered.made (h.units laws)
     by : (made : List UnplacedSyllable) → All (HoldsSomeUnit m.body.nabc_lines) made → IfSome (held_in_body score_part.Body made) (HoldsSomeUnit m.body.nabc_lines)
     by [] a = tt
     by (s ∷ made) a = All-head (HoldsSomeUnit m.body.nabc_lines) s made a
+
+-- and it is within the limits
+pub held_within : (m : ScoreMachine) (p : ScorePart) → IsScoreAt p m → IfSome (held_in_body p m.pair.gathered.made) (IsWithinAnywhere m.limits)
+held_within m score_part.Heads h = tt
+held_within m score_part.Over h = tt
+held_within m score_part.Body h = by m.pair.gathered.made h.rests.short
+  where
+    by : (made : List UnplacedSyllable) → All (IsShort m.limits.syllable) made → IfSome (held_in_body score_part.Body made) (IsWithinAnywhere m.limits)
+    by [] a = tt
+    by (s ∷ made) a = λ position. short_within m.limits position s (All-head (IsShort m.limits.syllable) s made a)
 
 -- ---- the laws
 
