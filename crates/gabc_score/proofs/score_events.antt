@@ -20,3 +20,4 @@ pub mod TextsAreReadInFull
 pub mod WhatIsRead
 pub mod WhatOutputsSay
 pub mod WhatPrecedes
+pub mod UnitsAreHeld

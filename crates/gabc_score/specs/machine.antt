@@ -5,6 +5,7 @@ pub mod Gatherer
 pub mod HeldAside
 pub mod PartCounts
 pub mod PartKeeps
+pub mod PartMakes
 pub mod PartPushes
 pub mod Preceded
 pub mod Quiet

@@ -12,6 +12,7 @@ ghost use Rattle.gabc_text.specs.Events.{CountsFit};
 ghost use Rattle.gabc_score.specs.machine.Gatherer.{Gathered};
 ghost use Rattle.gabc_score.specs.machine.PartCounts.{CountsInNotes, CountsHold, PartGoesOn};
 ghost use Rattle.gabc_score.specs.machine.PartKeeps.{in_text, BeginsSnippet, PartKeeps, PartKeepsOn, PartStandsOn};
+ghost use Rattle.gabc_score.specs.machine.PartMakes.{PartMakes};
 ghost use Rattle.gabc_score.specs.ScoreTells.{StandsAt};
 ghost use Rattle.gabc_score.specs.machine.Quiet.{TakesQuietly};
 ghost use Rattle.gabc_score.specs.machine.SyllableBuilder.{OpenSyllable, nothing_open};
@@ -199,6 +200,8 @@ impl BodyStage {
         ensures macros { self.new.macros ≡ self.old.macros }
         ensures keeps { PartKeepsOn self.old.nabc_lines self.old.macros
             self.old.part self.new.part self.new.events }
+        ensures makes { PartMakes self.old.nabc_lines self.old.macros
+            self.old.part self.new.events }
         ensures stands { PartStandsOn self.old.nabc_lines self.old.macros
             x self.old.part self.new.part }
         ensures over { self.new.over ≡ self.old.over }
@@ -254,6 +257,8 @@ impl BodyStage {
         ensures macros { self.new.macros ≡ self.old.macros }
         ensures keeps { PartKeepsOn self.old.nabc_lines self.old.macros
             self.old.part self.new.part self.new.events }
+        ensures makes { PartMakes self.old.nabc_lines self.old.macros
+            self.old.part self.new.events }
         ensures stands { PartStandsOn self.old.nabc_lines self.old.macros
             x self.old.part self.new.part }
         ensures over { self.new.over ≡ self.old.over }

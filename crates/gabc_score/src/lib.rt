@@ -26,6 +26,7 @@ mod context;
 mod ending;
 mod events;
 mod giving;
+mod held_units;
 mod kept_text;
 pub mod laws;
 mod moving;

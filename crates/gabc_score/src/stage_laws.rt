@@ -1,6 +1,6 @@
 //! Laws of a stage over a score. Each function's contract is a law. Its body drives a stage, gives it one input, calls other laws, or does nothing.
 
-ghost use Rattle.std.specs.Prelude.{◌≡◌, ◌==◌, ◌+◌, ◌*◌, ◌<◌, ◌≤◌, ◌^◌, ℕ, List, [], ◌∷◌, None, true, false, length, map, is_some, encode_utf8_all, IfOk, OnErr, OnOk};
+ghost use Rattle.std.specs.Prelude.{◌≡◌, ◌==◌, ◌+◌, ◌*◌, ◌<◌, ◌≤◌, ◌^◌, ℕ, List, [], ◌∷◌, None, true, false, length, map, is_some, encode_utf8_all, IfOk, IfSome, OnErr, OnOk};
 ghost use Rattle.gabc_headers.specs.declared.head_event.HeadEvent.{HeadEvent};
 ghost use Rattle.gabc_headers.specs.declared.head_event.HeadEvent.TheVariants.{Stop};
 ghost use Rattle.gabc_places.specs.declared.code.Fault.{Fault};
@@ -18,7 +18,8 @@ ghost use Rattle.gabc_score.specs.Events.{texts_by_definition, text_from, events
 ghost use Rattle.gabc_score.specs.ScoreEvents.{HasNoEnd, ScoreOutput, fault_in, findings_in, has_end, head_events, outputs_of_text, score_outputs, syllables_in};
 ghost use Rattle.gabc_score.specs.HeldAside.{HoldTheSame, GiveTheSame};
 ghost use Rattle.gabc_score.specs.ScoreTells.{before_of, held_of, reading_of, openers_of, is_in_comment, is_in_front, StandsAt};
-ghost use Rattle.gabc_score.specs.ScoreStage.{AreCountsBelow, GivesAt, events_of};
+ghost use Rattle.gabc_score.specs.ScoreStage.{AreCountsBelow, GivesAt, IsWithinAnywhere, events_of};
+ghost use Rattle.gabc_score.specs.UnitRead.{HoldsSomeUnit};
 ghost use Rattle.gabc_score.specs.witness.ScoreStage.{ScoreStageState, left_of};
 
 use crate::score_event::ScoreEvent;
@@ -136,4 +137,19 @@ pub fn stages_that_tell_the_same_agree(one: &ScoreStage, other: &ScoreStage)
         (left_of one.now xs) (left_of other.now xs) }
 {
     one.agrees(other);
+}
+
+/// The whole syllable that a stage holds, whatever it has read, holds some unit: a text and its notes, with one snippet where there are no NABC
+/// lines.
+pub fn what_is_held_holds_a_unit(stage: &ScoreStage)
+    ensures { IfSome (held_of stage.now) (HoldsSomeUnit stage.now.body.nabc_lines) }
+{
+    stage.holds_a_unit();
+}
+
+/// The whole syllable that a stage holds, whatever it has read, is within the stage's limits, wherever it stands in its word.
+pub fn what_is_held_is_within_the_limits(stage: &ScoreStage)
+    ensures { IfSome (held_of stage.now) (IsWithinAnywhere stage.now.limits) }
+{
+    stage.holds_within_limits();
 }

@@ -8,7 +8,8 @@ use Rattle.gabc_score.specs.Events.{is_text_end, is_next, is_close, note_event}
 use Rattle.gabc_score.proofs.building.EventsOfSnippets.{snippet_emits}
 use Rattle.gabc_score.proofs.building.CountsOfParts.{text_goes, text_ends, notes_go, notes_close}
 use Rattle.gabc_score.proofs.building.PartsOfKeptText.{text_keeps_on, text_ends_on}
-use Rattle.gabc_score.proofs.building.PartsKeepOn.{gabc_keeps_on, gabc_ends_on, gabc_closes_on, nabc_keeps_on, nabc_ends_on, nabc_closes_on}
+use Rattle.gabc_score.proofs.building.PartsKeepOn.{gabc_keeps_on, gabc_ends_on, gabc_closes_on, gabc_next_makes, gabc_makes, nabc_keeps_on, nabc_ends_on, nabc_closes_on, nabc_next_makes, nabc_makes}
+use Rattle.gabc_score.proofs.building.PartsMakeSyllables.{text_makes, notes_make_none}
 use Rattle.gabc_score.proofs.building.PartsStandOn.{snippet_stands, text_stands_on, gabc_closes_at, nabc_closes_at}
 use Rattle.gabc_score.proofs.building.SyllableEndsLast.{notes_close_last, texts_close_last}
 use Rattle.gabc_score.proofs.body_stage.BodyStage.push_part.Goals as goal
@@ -201,3 +202,43 @@ returns-then-close-2-clause-stands c =
     rw (← c.self.view_is, c.in-Nabc.is)
     (nabc_closes_at c.self.inside.nabc_lines c.self.inside.macros c.args.x c.in-Nabc.line c.in-Nabc.opened c.in-Nabc.stage c.push_nabc.new.stage c.push_nabc.new.events.items c.text_behind-self-inside-then-close-2.result c.push_nabc.ensures.keeps
     (sym (c.ends_at_close-close-in-Nabc.ensures ∙ ap (list_any is_close) c.slice-in-Nabc-2.ensures) ∙ c.if-close-2.true) c.text_behind-self-inside-then-close-2.ensures.stands)
+
+-- ---- what is made
+
+pub returns-then-ended-clause-makes : goal.returns-then-ended-clause-makes
+returns-then-ended-clause-makes c = text_makes c.args.self.now.nabc_lines c.args.self.now.macros c.args.self.now.part c.push_text.new.events.items
+
+pub returns-else-ended-clause-makes : goal.returns-else-ended-clause-makes
+returns-else-ended-clause-makes c = text_makes c.args.self.now.nabc_lines c.args.self.now.macros c.args.self.now.part c.push_text.new.events.items
+
+pub returns-then-next-clause-makes : goal.returns-then-next-clause-makes
+returns-then-next-clause-makes c =
+    rw (← c.self.view_is, c.in-Notes.is)
+    (gabc_next_makes c.self.inside.nabc_lines c.self.inside.macros c.in-Notes.opened c.in-Notes.stage c.push_gabc.new.stage c.args.x c.push_gabc.new.events.items c.push_gabc.ensures.keeps
+    (sym (c.ends_at_next-next.ensures ∙ ap (list_any is_next) c.slice-in-Notes.ensures) ∙ c.if-next.true))
+
+pub returns-then-close-clause-makes : goal.returns-then-close-clause-makes
+returns-then-close-clause-makes c =
+    rw (← c.self.view_is, c.in-Notes.is)
+    (gabc_makes c.self.inside.nabc_lines c.self.inside.macros c.in-Notes.opened c.in-Notes.stage c.push_gabc.new.stage c.args.x c.push_gabc.new.events.items c.push_gabc.ensures.keeps
+    (sym (c.ends_at_close-close.ensures ∙ ap (list_any is_close) c.slice-in-Notes-2.ensures) ∙ c.if-close.true))
+
+pub returns-else-close-clause-makes : goal.returns-else-close-clause-makes
+returns-else-close-clause-makes c = notes_make_none c.args.self.now.nabc_lines c.args.self.now.macros 0 c.in-Notes.opened c.args.self.now.part c.push_gabc.new.events.items
+    (sym (c.ends_at_close-close.ensures ∙ ap (list_any is_close) c.slice-in-Notes-2.ensures) ∙ c.if-close.false)
+
+pub returns-then-next-2-clause-makes : goal.returns-then-next-2-clause-makes
+returns-then-next-2-clause-makes c =
+    rw (← c.self.view_is, c.in-Nabc.is)
+    (nabc_next_makes c.self.inside.nabc_lines c.self.inside.macros c.in-Nabc.line c.in-Nabc.opened c.in-Nabc.stage c.push_nabc.new.stage c.args.x c.push_nabc.new.events.items c.push_nabc.ensures.keeps
+    (sym (c.ends_at_next-next-in-Nabc.ensures ∙ ap (list_any is_next) c.slice-in-Nabc.ensures) ∙ c.if-next-2.true))
+
+pub returns-then-close-2-clause-makes : goal.returns-then-close-2-clause-makes
+returns-then-close-2-clause-makes c =
+    rw (← c.self.view_is, c.in-Nabc.is)
+    (nabc_makes c.self.inside.nabc_lines c.self.inside.macros c.in-Nabc.line c.in-Nabc.opened c.in-Nabc.stage c.push_nabc.new.stage c.args.x c.push_nabc.new.events.items c.push_nabc.ensures.keeps
+    (sym (c.ends_at_close-close-in-Nabc.ensures ∙ ap (list_any is_close) c.slice-in-Nabc-2.ensures) ∙ c.if-close-2.true))
+
+pub returns-else-close-2-clause-makes : goal.returns-else-close-2-clause-makes
+returns-else-close-2-clause-makes c = notes_make_none c.args.self.now.nabc_lines c.args.self.now.macros c.in-Nabc.line c.in-Nabc.opened c.args.self.now.part c.push_nabc.new.events.items
+    (sym (c.ends_at_close-close-in-Nabc.ensures ∙ ap (list_any is_close) c.slice-in-Nabc-2.ensures) ∙ c.if-close-2.false)

@@ -1,6 +1,7 @@
 use Rattle.std.proofs.Common.{◌≡◌, Bool, true, false, refl, rules, ◌∙◌, ap, subst, sym, arith}
 use Rattle.gabc_score.specs.Before.{with_each}
 use Rattle.gabc_score.specs.machine.ScoreMachine.{IsFreed}
+use Rattle.gabc_score.proofs.score_events.UnitsAreHeld.{units_quietly}
 use Rattle.gabc_score.proofs.score_events.WhatIsRead.{reading_quietly}
 use Rattle.gabc_score.proofs.score_events.WhatPrecedes.{quietly}
 use Rattle.gabc_score.proofs.score_machine.ScoreMachine.take_quietly.Goals as goal
@@ -24,6 +25,7 @@ returns-clause-freed c = by c.take_quietly.result refl
             lent = freed.body.lent;
             reading = reading_quietly c.args.self.now.bounds.behind.spans c.args.self.now.body c.take_quietly.new.self c.args.x c.args.self.now.pair c.take_quietly.new.pair
                 (let few = freed.body.kept in let most = c.args.self.now.limits.in_range.syllable_most in omega (arith, few, most)) quiet freed.body.reading;
+            units = units_quietly c.args.self.now.body c.take_quietly.new.self c.args.x c.args.self.now.pair c.take_quietly.new.pair quiet freed.body.units;
           };
           used = quiet.used;
           code = search rules;
