@@ -9,6 +9,7 @@ pub mod HeldAside
 pub mod Holding
 pub mod Marks
 pub mod NoteBeforeClef
+pub mod ReadAgain
 pub mod Score
 pub mod ScoreEvents
 pub mod ScoreStage

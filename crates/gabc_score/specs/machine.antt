@@ -8,6 +8,7 @@ pub mod PartKeeps
 pub mod PartPushes
 pub mod Preceded
 pub mod Quiet
+pub mod ReadAgain
 pub mod ScoreMachine
 pub mod ScoreStage
 pub mod Slot

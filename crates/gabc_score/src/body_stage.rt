@@ -14,6 +14,7 @@ ghost use Rattle.gabc_score.specs.machine.PartCounts.{CountsInNotes, CountsHold,
 ghost use Rattle.gabc_score.specs.machine.PartKeeps.{in_text, BeginsSnippet, PartKeeps, PartKeepsOn, PartStandsOn};
 ghost use Rattle.gabc_score.specs.ScoreTells.{StandsAt};
 ghost use Rattle.gabc_score.specs.machine.Quiet.{TakesQuietly};
+ghost use Rattle.gabc_score.specs.machine.ReadAgain.{ReadsAgain, OpensNotes};
 ghost use Rattle.gabc_score.specs.machine.SyllableBuilder.{OpenSyllable, nothing_open};
 ghost use Rattle.gabc_score.specs.machine.Slot.{FitEach};
 ghost use Rattle.gabc_score.specs.machine.BodyBuilder.{with_all, with_found};
@@ -159,6 +160,7 @@ impl BodyStage {
             ≡ snippet_from self.now.nabc_lines self.now.macros line opened xs }
         ensures counts { (o : OpenSyllable) → CountsInNotes o → CountsHold result o }
         ensures keeps { BeginsSnippet self.now.nabc_lines self.now.macros line result }
+        ensures tells { OpensNotes opened result }
     {
         if line == 0 {
             BodyPart::Notes {
@@ -182,6 +184,7 @@ impl BodyStage {
         ensures counts { (o : OpenSyllable) → CountsInNotes o → CountsHold result o }
         ensures keeps { BeginsSnippet self.now.nabc_lines self.now.macros
             (line_after self.now.nabc_lines line) result }
+        ensures tells { OpensNotes opened result }
     {
         self.snippet(next_line(self.nabc_lines, line), opened)
     }
@@ -201,6 +204,8 @@ impl BodyStage {
             self.old.part self.new.part self.new.events }
         ensures stands { PartStandsOn self.old.nabc_lines self.old.macros
             x self.old.part self.new.part }
+        ensures again { ReadsAgain self.old.nabc_lines self.old.macros
+            x self.old.part self.new.part self.new.events }
         ensures over { self.new.over ≡ self.old.over }
     {
         match &mut self.part {
@@ -256,6 +261,8 @@ impl BodyStage {
             self.old.part self.new.part self.new.events }
         ensures stands { PartStandsOn self.old.nabc_lines self.old.macros
             x self.old.part self.new.part }
+        ensures again { ReadsAgain self.old.nabc_lines self.old.macros
+            x self.old.part self.new.part self.new.events }
         ensures over { self.new.over ≡ self.old.over }
     {
         if let BodyPart::Comment = self.part {

@@ -32,6 +32,7 @@ mod moving;
 mod part_ends;
 mod part_events;
 mod part_pushes;
+mod reading_again;
 mod score;
 mod score_event;
 mod score_machine;

@@ -19,6 +19,7 @@ ghost use Rattle.gabc_score.specs.ScoreEvents.{HasNoEnd, ScoreOutput, fault_in, 
 ghost use Rattle.gabc_score.specs.HeldAside.{HoldTheSame, GiveTheSame};
 ghost use Rattle.gabc_score.specs.ScoreTells.{before_of, held_of, reading_of, openers_of, is_in_comment, is_in_front, StandsAt};
 ghost use Rattle.gabc_score.specs.ScoreStage.{AreCountsBelow, GivesAt, events_of};
+ghost use Rattle.gabc_score.specs.witness.ReadAgain.{CanBeReadAgain};
 ghost use Rattle.gabc_score.specs.witness.ScoreStage.{ScoreStageState, left_of};
 
 use crate::score_event::ScoreEvent;
@@ -136,4 +137,11 @@ pub fn stages_that_tell_the_same_agree(one: &ScoreStage, other: &ScoreStage)
         (left_of one.now xs) (left_of other.now xs) }
 {
     one.agrees(other);
+}
+
+/// Of a stage in the body the kept text of the syllable that it reads can be read again.
+pub fn what_is_read_can_be_read_again(stage: &ScoreStage)
+    ensures { is_some (before_of stage.now) ≡ true → CanBeReadAgain stage.now }
+{
+    stage.can_be_read_again();
 }
