@@ -1,5 +1,5 @@
 -- A machine in the body reads the next character of a kept text again: it passes no limit, and stays in the body.
-use Rattle.std.proofs.Common.{◌≡◌, ◌⊎◌, inl, inr, ◌&&◌, ◌||◌, not, ℕ, zero, suc, ◌+◌, ◌≤◌, ◌<◌, ◌^◌, nat_lt, Bool, true, false, cond, List, [], ◌∷◌, ◌++◌, length, Option, Some, None, encode_utf8, encode_utf8_all, refl, sym, ap, subst, ◌∙◌, arith, append-nil, append_assoc, length-append}
+use Rattle.std.proofs.Common.{◌≡◌, ◌⊎◌, inl, inr, ◌&&◌, ◌||◌, not, ℕ, zero, suc, ◌+◌, ◌≤◌, ◌<◌, ◌^◌, nat_lt, Bool, true, false, cond, List, [], ◌∷◌, ◌++◌, length, Option, Some, None, is_some, encode_utf8, encode_utf8_all, refl, sym, ap, subst, ◌∙◌, arith, append-nil, append_assoc, length-append}
 use Rattle.std.specs.List.{All}
 use Rattle.std.proofs.lemmas.Bool.{true≢false}
 use Rattle.std.proofs.lemmas.Bool.Decides.{nat_tests}
@@ -27,6 +27,7 @@ use Rattle.gabc_score.specs.declared.body_stage.BodyPart.TheVariants as part
 use Rattle.gabc_score.specs.declared.events.BodyEvent.{BodyEvent}
 use Rattle.gabc_score.specs.declared.events.BodyEvent.TheVariants as event
 use Rattle.gabc_score.specs.declared.score_machine.ScoreMachine.{ScoreMachine}
+use Rattle.gabc_score.specs.declared.score_machine.ScorePart.TheVariants as score_part
 use Rattle.gabc_score.specs.Before.{with_each}
 use Rattle.gabc_score.specs.Body.{is_longer, is_none}
 use Rattle.gabc_score.specs.ScoreTells.{StandsAt, is_in_comment, is_in_front}
@@ -36,7 +37,7 @@ use Rattle.gabc_score.specs.machine.Gatherer.{Gathered, with_event}
 use Rattle.gabc_score.specs.machine.PartCounts.{CountsHold, PartGoesOn}
 use Rattle.gabc_score.specs.machine.PartKeeps.{KeptParts, in_text, in_notes, joined, IsReading, PartKeeps, PartKeepsOn, spans_past}
 use Rattle.gabc_score.specs.machine.Preceded.{IsPreceded}
-use Rattle.gabc_score.specs.machine.ReadAgain.{Adds, BeginsComment, BeginsIn, IsNext, IsToldBy, OpenAt, Reads, ReadsAgain, place_in}
+use Rattle.gabc_score.specs.machine.ReadAgain.{Adds, BeginsComment, BeginsIn, GoesBy, IsNext, IsToldBy, OpenAt, Reads, ReadsAgain, place_in}
 use Rattle.gabc_score.specs.machine.ScoreMachine.{IsInBody, IsShort}
 use Rattle.gabc_score.specs.machine.SlotPair.{SlotPairState, is_made}
 use Rattle.gabc_score.specs.witness.BodyStage.{BodyStageState}
@@ -91,6 +92,10 @@ counted g now few = by (all_count now g)
 
 none_more : (g h : Gathered) → nat_lt (length g.made) (length h.made) ≡ false → length h.made ≤ length g.made
 none_more g h e = grind (arith, nat_tests, e)
+
+pub none_made : (g h : Gathered) (now : List BodyEvent) → h ≡ with_all g now → nat_lt (length g.made) (length h.made) ≡ false → h.made ≡ g.made
+none_made g h now is e =
+    ap (λ (k : Gathered). k.made) is ∙ (counted g now (none_more g (with_all g now) (ap (λ (k : Gathered). nat_lt (length g.made) (length k.made)) (sym is) ∙ e))).0
 
 -- no limit is passed with a kept text within its limit
 second : (a b : Bool) → cond a (Some F5) (cond b (Some F7) None) ≡ None → cond b (Some F7) None ≡ None
@@ -148,11 +153,11 @@ in_body_past m b p f now h is used fewer none items room lines macros goes keeps
     limit : p.gathered.limit ≡ m.limits.syllable
     limit = ap (λ (k : Gathered). k.limit) is ∙ limit_stays g now ∙ h.rests.limit
 
-    same : (with_all g now).made ≡ g.made
-    same = (counted g now (none_more g (with_all g now) (ap (λ (k : Gathered). nat_lt (length g.made) (length k.made)) (sym is) ∙ fewer))).0
-
     made : p.gathered.made ≡ g.made
-    made = ap (λ (k : Gathered). k.made) is ∙ same
+    made = none_made g p.gathered now is fewer
+
+    same : (with_all g now).made ≡ g.made
+    same = ap (λ (k : Gathered). k.made) (sym is) ∙ made
 
 -- ---- the next character
 
@@ -253,3 +258,25 @@ module _ (text_kept : (s : TextStage) (a b : List ℕ) (c : ℕ) → text.Keeps 
 
       few : length (old.builder.kept ++ encode_utf8_all []) ≤ m.limits.syllable
       few = let e = ap length (append-nil old.builder.kept) in let mine = h.kept in omega (arith, e, mine)
+
+-- so the machine goes on
+pub goes_by : (m n : ScoreMachine) (x : Char) (more : List ℕ) (comment : Bool) (h : Gathered) → n.part ≡ score_part.Body → n.pair.gathered ≡ h → PassesBy m x more comment n.body.part h → GoesBy m x more comment n
+goes_by m n x more comment h body is p = record {
+  body = body;
+  kept_is = ap (λ (k : Gathered). k.builder.kept) is ∙ p.kept_is;
+  comment_is = p.comment_is;
+  front = p.front;
+  openers = p.openers;
+}
+
+-- and no syllable is whole, nor is there a code
+pub none_whole : (held : List UnplacedSyllable) (g h old : Gathered) → g ≡ h → held ≡ old.made → h.made ≡ old.made → nat_lt (length held) (length g.made) ≡ true → ⊥
+none_whole held g h old is held_is made e = let a = ap length held_is in let b = ap (λ (k : Gathered). length k.made) is in let d = ap length made in grind (arith, nat_tests, e, a, b, d)
+
+pub none_coded : (code : Option Code) → code ≡ None → is_some code ≡ true → ⊥
+none_coded None e f = true≢false (sym f)
+none_coded (Some k) e f = true≢false (ap (λ (o : Option Code). is_some o) e)
+
+pub no_code_by : (code : Option Code) → is_some code ≡ false → code ≡ None
+no_code_by None e = refl
+no_code_by (Some k) e = absurd (true≢false e)

@@ -124,6 +124,13 @@ same_through a b c h g body =
     let first = h later.body in
     record { body = first.body; bounds = later.bounds ∙ first.bounds; has_lent = later.has_lent ∙ first.has_lent; made = later.made ∙ first.made }
 
+-- what is told of a text stays so
+pub told_alike : (a b : ScoreMachine) (told : BodyPart) (kept : List ℕ) → IsRunAlike a b → IsToldBy a.body.nabc_lines a.body.macros a.limits.syllable told kept → IsToldBy b.body.nabc_lines b.body.macros b.limits.syllable told kept
+told_alike a b told kept h t =
+    subst (λ (l : ℕ). IsToldBy l b.body.macros b.limits.syllable told kept) (sym h.lines)
+    (subst (λ (l : ℕ). IsToldBy a.body.nabc_lines l b.limits.syllable told kept) (sym h.macros)
+    (subst (λ (l : Limits). IsToldBy a.body.nabc_lines a.body.macros l.syllable told kept) (sym h.limits) t))
+
 -- what is told in the body
 told_in : {A : Type 0} (p : ScorePart) (x : A) → p ≡ score_part.Body → in_body p x ≡ Some x
 told_in {A = A} p x e = ap (λ (k : ScorePart). in_body k x) e

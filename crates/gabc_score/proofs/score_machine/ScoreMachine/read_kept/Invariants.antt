@@ -4,7 +4,7 @@ use Rattle.gabc_score.specs.declared.body_stage.BodyPart.{BodyPart}
 use Rattle.gabc_score.specs.declared.score_machine.ScorePart.TheVariants as score_part
 use Rattle.gabc_score.specs.machine.ReadAgain.{IsRunAlike, IsSameBut, IsToldBy, StandsSo}
 use Rattle.gabc_score.specs.machine.ScoreMachine.{IsScore}
-use Rattle.gabc_score.proofs.reading_again.ScoreMachine.read_kept.Given as goal
+use Rattle.gabc_score.proofs.score_machine.ScoreMachine.read_kept.Given as goal
 
 -- of a text that is told the characters so far were kept
 abbrev pub invariant-loop-c : goal.invariant-loop-c
