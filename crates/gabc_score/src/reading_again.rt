@@ -2,7 +2,7 @@
 
 ghost use Rattle.std.specs.Prelude.{◌≡◌, [], true, false, None, is_some};
 ghost use Rattle.gabc_score.specs.ReadAgain.{StandsBefore, TellsOfReading, TellsTheSameBut};
-ghost use Rattle.gabc_score.specs.ScoreTells.{before_of};
+ghost use Rattle.gabc_score.specs.ScoreTells.{before_of, is_in_comment, is_in_front};
 ghost use Rattle.gabc_score.specs.witness.ReadAgain.{CanBeReadAgain};
 ghost use Rattle.gabc_score.specs.witness.ScoreStage.{ScoreStageState};
 ghost use Rattle.gabc_score.specs.machine.ReadAgain.{outer_of, inner_of, place_in, IsRunAlike, IsSameBut, IsToldBy, PassesAgain, StandsSo, TakesAgain};
@@ -82,6 +82,23 @@ impl ScoreMachine {
         }
     }
 
+    /// Reads each character of `kept` again, and the `%` of a comment behind it if `in_comment`.
+    fn read_told(&mut self, kept: &str, openers: Openers, in_comment: bool)
+        requires rests { IsScore self.old }
+        ensures rests { IsScore self.new }
+        ensures run { IsRunAlike self.old self.new }
+        ensures same { self.new.part ≡ ScorePart.Body → IsSameBut self.old self.new }
+        ensures again { (told : BodyPart) → IsToldBy self.old.body.nabc_lines self.old.body.macros
+            self.old.limits.syllable told kept.now → is_in_front told ≡ false →
+            is_in_comment told ≡ in_comment → StandsSo self.old openers [] false →
+            StandsSo self.new openers kept.now in_comment }
+    {
+        self.read_kept(kept, openers);
+        if in_comment {
+            self.take_again('%', openers);
+        }
+    }
+
     /// Reads `kept` again, the kept text of a syllable, where nothing is read of it yet: behind it this is open at `openers`, a comment is open if
     /// `in_comment`, and the next character stands at `next`. Returns whether no syllable became whole, and no limit was passed. Where one
     /// was, the reading is over.
@@ -105,10 +122,7 @@ impl ScoreMachine {
         gabc_text::laws::what_is_open_follows_from_the_kept_text();
         gabc_text::laws::a_kept_character_is_kept_again();
         gabc_notes::laws::a_kept_character_is_kept_again();
-        self.read_kept(kept, openers);
-        if in_comment {
-            self.take_again('%', openers);
-        }
+        self.read_told(kept, openers, in_comment);
         self.go_to(next);
         match self.part {
             ScorePart::Body => true,
