@@ -1,4 +1,9 @@
+pub mod MachinesPassAgain
+pub mod MachinesReadAgain
+pub mod NextIsKept
+pub mod OpenersAreTold
 pub mod PartsAreOne
+pub mod PartsReadAgain
 pub mod SameButHeld
 pub mod ScoresAgree
 pub mod StagesAgree

@@ -11,6 +11,7 @@ pub mod Holding
 pub mod Marks
 pub mod NoteBeforeClef
 pub mod Resumed
+pub mod ReadAgain
 pub mod Score
 pub mod ScoreEvents
 pub mod ScoreStage

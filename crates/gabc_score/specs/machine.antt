@@ -11,6 +11,7 @@ pub mod Preceded
 pub mod Quiet
 pub mod ReadAlone
 pub mod Resumed
+pub mod ReadAgain
 pub mod ScoreMachine
 pub mod ScoreStage
 pub mod Slot

@@ -15,6 +15,7 @@ ghost use Rattle.gabc_score.specs.machine.PartKeeps.{in_text, BeginsSnippet, Par
 ghost use Rattle.gabc_score.specs.machine.PartMakes.{PartMakes};
 ghost use Rattle.gabc_score.specs.ScoreTells.{StandsAt};
 ghost use Rattle.gabc_score.specs.machine.Quiet.{TakesQuietly};
+ghost use Rattle.gabc_score.specs.machine.ReadAgain.{ReadsAgain, OpensNotes};
 ghost use Rattle.gabc_score.specs.machine.SyllableBuilder.{OpenSyllable, nothing_open};
 ghost use Rattle.gabc_score.specs.machine.Slot.{FitEach};
 ghost use Rattle.gabc_score.specs.machine.BodyBuilder.{with_all, with_found};
@@ -160,6 +161,7 @@ impl BodyStage {
             ≡ snippet_from self.now.nabc_lines self.now.macros line opened xs }
         ensures counts { (o : OpenSyllable) → CountsInNotes o → CountsHold result o }
         ensures keeps { BeginsSnippet self.now.nabc_lines self.now.macros line result }
+        ensures tells { OpensNotes opened result }
     {
         if line == 0 {
             BodyPart::Notes {
@@ -183,6 +185,7 @@ impl BodyStage {
         ensures counts { (o : OpenSyllable) → CountsInNotes o → CountsHold result o }
         ensures keeps { BeginsSnippet self.now.nabc_lines self.now.macros
             (line_after self.now.nabc_lines line) result }
+        ensures tells { OpensNotes opened result }
     {
         self.snippet(next_line(self.nabc_lines, line), opened)
     }
@@ -204,6 +207,8 @@ impl BodyStage {
             self.old.part self.new.events }
         ensures stands { PartStandsOn self.old.nabc_lines self.old.macros
             x self.old.part self.new.part }
+        ensures again { ReadsAgain self.old.nabc_lines self.old.macros
+            x self.old.part self.new.part self.new.events }
         ensures over { self.new.over ≡ self.old.over }
     {
         match &mut self.part {
@@ -261,6 +266,8 @@ impl BodyStage {
             self.old.part self.new.events }
         ensures stands { PartStandsOn self.old.nabc_lines self.old.macros
             x self.old.part self.new.part }
+        ensures again { ReadsAgain self.old.nabc_lines self.old.macros
+            x self.old.part self.new.part self.new.events }
         ensures over { self.new.over ≡ self.old.over }
     {
         if let BodyPart::Comment = self.part {

@@ -34,6 +34,7 @@ mod part_ends;
 mod part_events;
 mod part_pushes;
 mod resumed;
+mod reading_again;
 mod score;
 mod score_event;
 mod score_machine;

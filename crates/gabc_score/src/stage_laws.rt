@@ -20,6 +20,7 @@ ghost use Rattle.gabc_score.specs.HeldAside.{HoldTheSame, GiveTheSame};
 ghost use Rattle.gabc_score.specs.ScoreTells.{before_of, held_of, reading_of, openers_of, is_in_comment, is_in_front, StandsAt};
 ghost use Rattle.gabc_score.specs.ScoreStage.{AreCountsBelow, GivesAt, IsWithinAnywhere, events_of};
 ghost use Rattle.gabc_score.specs.UnitRead.{HoldsSomeUnit};
+ghost use Rattle.gabc_score.specs.witness.ReadAgain.{CanBeReadAgain};
 ghost use Rattle.gabc_score.specs.witness.ScoreStage.{ScoreStageState, left_of};
 
 use crate::score_event::ScoreEvent;
@@ -152,4 +153,11 @@ pub fn what_is_held_is_within_the_limits(stage: &ScoreStage)
     ensures { IfSome (held_of stage.now) (IsWithinAnywhere stage.now.limits) }
 {
     stage.holds_within_limits();
+}
+
+/// Of a stage in the body the kept text of the syllable that it reads can be read again.
+pub fn what_is_read_can_be_read_again(stage: &ScoreStage)
+    ensures { is_some (before_of stage.now) ≡ true → CanBeReadAgain stage.now }
+{
+    stage.can_be_read_again();
 }

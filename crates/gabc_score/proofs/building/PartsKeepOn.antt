@@ -60,13 +60,13 @@ any_close (note.Ended (note_end.Cut p) n ∷ es) = any_close es
 
 -- none, or one by the mark at which the snippet ended
 module _ (es : List NoteEvent) (c n : ℕ) where
-  none_next : ends_of es ≡ [] → list_any is_next es ≡ false
+  pub none_next : ends_of es ≡ [] → list_any is_next es ≡ false
   none_next e = any_next es ∙ ap (list_any (λ (e : NoteEnd × ℕ). is_next_end e.0)) e
 
-  none_close : ends_of es ≡ [] → list_any is_close es ≡ false
+  pub none_close : ends_of es ≡ [] → list_any is_close es ≡ false
   none_close e = any_close es ∙ ap (list_any (λ (e : NoteEnd × ℕ). is_close_end e.0)) e
 
-  one_ends : ends_of es ≡ (end_by_mark c, n) ∷ [] → list_any is_next es ≡ false → list_any is_close es ≡ false → ⊥
+  pub one_ends : ends_of es ≡ (end_by_mark c, n) ∷ [] → list_any is_next es ≡ false → list_any is_close es ≡ false → ⊥
   one_ends e f g = by (c == 124) (sym (any_next es ∙ ap (list_any (λ (e : NoteEnd × ℕ). is_next_end e.0)) e) ∙ f) (sym (any_close es ∙ ap (list_any (λ (e : NoteEnd × ℕ). is_close_end e.0)) e) ∙ g)
     where
       by : (b : Bool) → list_any (λ (e : NoteEnd × ℕ). is_next_end e.0) ((if b then note_end.Next else note_end.Close, n) ∷ []) ≡ false
@@ -74,7 +74,7 @@ module _ (es : List NoteEvent) (c n : ℕ) where
       by true h k = true≢false h
       by false h k = true≢false k
 
-  next_ends : ends_of es ≡ (end_by_mark c, n) ∷ [] → list_any is_next es ≡ true → ends_of es ≡ (note_end.Next, n) ∷ []
+  pub next_ends : ends_of es ≡ (end_by_mark c, n) ∷ [] → list_any is_next es ≡ true → ends_of es ≡ (note_end.Next, n) ∷ []
   next_ends e f = e ∙ ap (λ (how : NoteEnd). (how, n) ∷ []) (by (c == 124) (sym (any_next es ∙ ap (list_any (λ (e : NoteEnd × ℕ). is_next_end e.0)) e) ∙ f))
     where
       by : (b : Bool) → list_any (λ (e : NoteEnd × ℕ). is_next_end e.0) ((if b then note_end.Next else note_end.Close, n) ∷ []) ≡ true → (if b then note_end.Next else note_end.Close) ≡ note_end.Next
@@ -88,7 +88,7 @@ module _ (es : List NoteEvent) (c n : ℕ) where
       by true g h = eqb-true c 124 g
       by false g h = absurd (true≢false (sym h))
 
-  not_next : ends_of es ≡ (end_by_mark c, n) ∷ [] → list_any is_close es ≡ true → (c == 124) ≡ false
+  pub not_next : ends_of es ≡ (end_by_mark c, n) ∷ [] → list_any is_close es ≡ true → (c == 124) ≡ false
   not_next e f = by (c == 124) refl (sym (any_close es ∙ ap (list_any (λ (e : NoteEnd × ℕ). is_close_end e.0)) e) ∙ f)
     where
       by : (b : Bool) → (c == 124) ≡ b → list_any (λ (e : NoteEnd × ℕ). is_close_end e.0) ((if b then note_end.Next else note_end.Close, n) ∷ []) ≡ true → b ≡ false

@@ -38,6 +38,7 @@ module _ (m : ScoreMachine) (at : Place) (b : BodyStageState) (is : b ≡ record
     preceded = h.preceded;
     behind = h.behind;
     lent = h.lent;
+    code = h.code;
     reading = record {
       parts = h.reading.parts;
       keeps = keeps b.nabc_lines b.macros h.reading.parts (subst (λ (k : BodyStageState). PartKeeps k.nabc_lines k.macros m.body.part h.reading.parts) (sym is) h.reading.keeps);

@@ -1,4 +1,6 @@
 use Rattle.std.proofs.Common.{◌≡◌, ℕ, ◌≤◌, true, false, List, [], map, length, refl, sym, ap, ◌∙◌, arith}
+use Rattle.gabc_score.proofs.resuming.MachinesReadAgain.{tells_so}
+use Rattle.gabc_score.proofs.resuming.MachinesPassAgain.{next_passes}
 use Rattle.std.proofs.lemmas.List.{length-map}
 use Rattle.std.specs.List.{list_any}
 use Rattle.gabc_places.specs.declared.place.Place.{Place}
@@ -12,6 +14,7 @@ use Rattle.gabc_score.proofs.building.PartsKeepOn.{gabc_keeps_on, gabc_ends_on, 
 use Rattle.gabc_score.proofs.building.PartsMakeSyllables.{text_makes, notes_make_none}
 use Rattle.gabc_score.proofs.building.PartsStandOn.{snippet_stands, text_stands_on, gabc_closes_at, nabc_closes_at}
 use Rattle.gabc_score.proofs.building.SyllableEndsLast.{notes_close_last, texts_close_last}
+use Rattle.gabc_score.proofs.resuming.PartsReadAgain.{text_reads, text_end_reads, gabc_reads, gabc_end_reads, gabc_close_reads, nabc_reads, nabc_end_reads, nabc_close_reads}
 use Rattle.gabc_score.proofs.body_stage.BodyStage.push_part.Goals as goal
 
 pub returns-then-ended-clause-once : goal.returns-then-ended-clause-once
@@ -242,3 +245,53 @@ returns-then-close-2-clause-makes c =
 pub returns-else-close-2-clause-makes : goal.returns-else-close-2-clause-makes
 returns-else-close-2-clause-makes c = notes_make_none c.args.self.now.nabc_lines c.args.self.now.macros c.in-Nabc.line c.in-Nabc.opened c.args.self.now.part c.push_nabc.new.events.items
     (sym (c.ends_at_close-close-in-Nabc.ensures ∙ ap (list_any is_close) c.slice-in-Nabc-2.ensures) ∙ c.if-close-2.false)
+
+-- ---- a kept text that is read again
+
+pub returns-then-ended-clause-again : goal.returns-then-ended-clause-again
+returns-then-ended-clause-again c =
+    rw (← c.self.view_is, c.in-Text.is)
+    (text_end_reads c.self.inside.nabc_lines c.self.inside.macros c.args.x c.in-Text.stage c.push_text.new.stage c.push_text.new.events.items c.push_text.ensures.keeps c.snippet-self-inside.result
+    (sym (c.ends_text-ended.ensures ∙ ap (list_any is_text_end) c.slice.ensures) ∙ c.if-ended.true) c.snippet-self-inside.ensures.tells.0 c.snippet-self-inside.ensures.tells.1)
+
+pub returns-else-ended-clause-again : goal.returns-else-ended-clause-again
+returns-else-ended-clause-again c =
+    rw (← c.self.view_is, c.in-Text.is)
+    (text_reads c.self.inside.nabc_lines c.self.inside.macros c.args.x c.in-Text.stage c.push_text.new.stage c.push_text.new.events.items c.push_text.ensures.keeps
+    (sym (c.ends_text-ended.ensures ∙ ap (list_any is_text_end) c.slice.ensures) ∙ c.if-ended.false))
+
+pub returns-then-next-clause-again : goal.returns-then-next-clause-again
+returns-then-next-clause-again c =
+    rw (← c.self.view_is, c.in-Notes.is)
+    (gabc_end_reads c.self.inside.nabc_lines c.self.inside.macros c.in-Notes.opened c.in-Notes.stage c.push_gabc.new.stage c.args.x c.push_gabc.new.events.items c.push_gabc.ensures.keeps c.next_snippet-self-inside.result
+    (sym (c.ends_at_next-next.ensures ∙ ap (list_any is_next) c.slice-in-Notes.ensures) ∙ c.if-next.true) c.next_snippet-self-inside.ensures.tells.0 c.next_snippet-self-inside.ensures.tells.1)
+
+pub returns-then-close-clause-again : goal.returns-then-close-clause-again
+returns-then-close-clause-again c =
+    rw (← c.self.view_is, c.in-Notes.is)
+    (gabc_close_reads c.self.inside.nabc_lines c.self.inside.macros c.in-Notes.opened c.in-Notes.stage c.push_gabc.new.stage c.args.x c.push_gabc.new.events.items c.push_gabc.ensures.keeps c.text_behind-self-inside.result
+    (sym (c.ends_at_close-close.ensures ∙ ap (list_any is_close) c.slice-in-Notes-2.ensures) ∙ c.if-close.true))
+
+pub returns-else-close-clause-again : goal.returns-else-close-clause-again
+returns-else-close-clause-again c =
+    rw (← c.self.view_is, c.in-Notes.is)
+    (gabc_reads c.self.inside.nabc_lines c.self.inside.macros c.in-Notes.opened c.in-Notes.stage c.push_gabc.new.stage c.args.x c.push_gabc.new.events.items c.push_gabc.ensures.keeps
+    (sym (c.ends_at_next-next.ensures ∙ ap (list_any is_next) c.slice-in-Notes.ensures) ∙ c.if-next.false) (sym (c.ends_at_close-close.ensures ∙ ap (list_any is_close) c.slice-in-Notes-2.ensures) ∙ c.if-close.false))
+
+pub returns-then-next-2-clause-again : goal.returns-then-next-2-clause-again
+returns-then-next-2-clause-again c =
+    rw (← c.self.view_is, c.in-Nabc.is)
+    (nabc_end_reads c.self.inside.nabc_lines c.self.inside.macros c.in-Nabc.line c.in-Nabc.opened c.in-Nabc.stage c.push_nabc.new.stage c.args.x c.push_nabc.new.events.items c.push_nabc.ensures.keeps c.next_snippet-self-inside-then-next-2.result
+    (sym (c.ends_at_next-next-in-Nabc.ensures ∙ ap (list_any is_next) c.slice-in-Nabc.ensures) ∙ c.if-next-2.true) c.next_snippet-self-inside-then-next-2.ensures.tells.0 c.next_snippet-self-inside-then-next-2.ensures.tells.1)
+
+pub returns-then-close-2-clause-again : goal.returns-then-close-2-clause-again
+returns-then-close-2-clause-again c =
+    rw (← c.self.view_is, c.in-Nabc.is)
+    (nabc_close_reads c.self.inside.nabc_lines c.self.inside.macros c.in-Nabc.line c.in-Nabc.opened c.in-Nabc.stage c.push_nabc.new.stage c.args.x c.push_nabc.new.events.items c.push_nabc.ensures.keeps c.text_behind-self-inside-then-close-2.result
+    (sym (c.ends_at_close-close-in-Nabc.ensures ∙ ap (list_any is_close) c.slice-in-Nabc-2.ensures) ∙ c.if-close-2.true))
+
+pub returns-else-close-2-clause-again : goal.returns-else-close-2-clause-again
+returns-else-close-2-clause-again c =
+    rw (← c.self.view_is, c.in-Nabc.is)
+    (nabc_reads c.self.inside.nabc_lines c.self.inside.macros c.in-Nabc.line c.in-Nabc.opened c.in-Nabc.stage c.push_nabc.new.stage c.args.x c.push_nabc.new.events.items c.push_nabc.ensures.keeps
+    (sym (c.ends_at_next-next-in-Nabc.ensures ∙ ap (list_any is_next) c.slice-in-Nabc.ensures) ∙ c.if-next-2.false) (sym (c.ends_at_close-close-in-Nabc.ensures ∙ ap (list_any is_close) c.slice-in-Nabc-2.ensures) ∙ c.if-close-2.false))

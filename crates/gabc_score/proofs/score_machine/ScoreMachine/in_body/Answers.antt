@@ -13,6 +13,7 @@ returns-clause-rests c = record {
   preceded = search rules;
   behind = search rules;
   lent = search rules;
+  code = search rules;
   reading = comment_reads c.args.body.nabc_lines c.args.body.macros c.args.head c.args.limits.syllable c.args.head c.args.body.part c.behind_headers-bounds.result c.start.new.self.gathered
       c.requires c.behind_headers-bounds.ensures
       (ap (λ (s : SlotPairState). s.gathered) c.start.ensures ∙ ap (λ (g : Gathered). record g { total = c.args.head }) c.in_ok-pair.ensures.gathered);

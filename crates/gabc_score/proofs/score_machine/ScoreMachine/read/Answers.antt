@@ -21,10 +21,10 @@ use Rattle.gabc_score.specs.Syllable.{UnplacedSyllable}
 use Rattle.gabc_score.proofs.score_events.UnitsAreHeld.{units_past}
 use Rattle.gabc_score.proofs.score_events.WhatIsRead.{reading_past}
 use Rattle.gabc_score.proofs.score_events.WhatPrecedes.{lent_past, turned, past_in_body}
-use Rattle.gabc_score.proofs.score_events.EventsStayWithinBounds.{few_found, few_with_first, limit_stays, within}
 use Rattle.gabc_score.specs.NoteBeforeClef.{found_first}
 use Rattle.gabc_places.specs.BoundedList.{extended_by}
 use Rattle.gabc_score.proofs.resuming.CharactersGathered.{given_only, none_given}
+use Rattle.gabc_score.proofs.score_events.EventsStayWithinBounds.{code_turned, few_found, few_with_first, limit_stays, within}
 use Rattle.gabc_score.proofs.score_machine.ScoreMachine.read.Goals as goal
 
 pub find_first-requires : goal.find_first-requires
@@ -129,6 +129,7 @@ returns-after-self-clause-rests c =
           ∙ ap (λ (k : Bounds). with_each k.before (with_held g).made) (sym passed)
           ∙ ap (λ (k : Gathered). with_each c.pass.new.self.before k.made) (sym t.gathered);
       lent = (let e = lent_past b.before c.pass.new.self.before c.args.self.now.has_lent c.give_point-gave.result g.made old.lent (ap (λ (k : Bounds). k.before) passed ∙ turns.given) c.give_point-gave.ensures.gave in search (rules, e));
+      code = ap (code_in c.args.self.now.limits) t.gathered ∙ code_turned c.args.self.now.limits g (sym c.code.ensures.code ∙ c.in-None.is);
       reading = reading_past c.args.self.now.body.nabc_lines c.args.self.now.body.macros c.take.new.self.nabc_lines c.take.new.self.macros c.args.self.now.body.part c.take.new.self.part b c.pass.new.self was g c.give_point-gave.new.pair.gathered now
           c.is_whole-is_whole.result c.give_point-gave.result (let few = old.kept in let most = c.args.self.now.limits.in_range.syllable_most in omega (arith, few, most)) is t.gathered
           (c.is_whole-is_whole.ensures.made ∙ ap (λ (ms : List UnplacedSyllable). nat_lt (length ms) (length g.made)) (c.hold.ensures.held ∙ c.free.ensures.held))
