@@ -8,6 +8,7 @@ pub mod EmittedByHeaders
 pub mod GivenSyllables
 pub mod HeldScoreIsDefinition
 pub mod HeldSyllables
+pub mod HeldWithinLimits
 pub mod NoStopWhereInputsCease
 pub mod NothingBehindAStop
 pub mod NothingBehindTheEnd
@@ -15,8 +16,10 @@ pub mod NothingIsGiven
 pub mod OutputsAreCollected
 pub mod OutputsOfLentSyllables
 pub mod PlainScores
+pub mod QuietPoints
 pub mod ScoreOutputs
 pub mod TextsAreReadInFull
+pub mod ToldIsWithin
 pub mod WhatIsRead
 pub mod WhatOutputsSay
 pub mod WhatPrecedes

@@ -3,6 +3,7 @@ pub mod Collected
 pub mod Fronts
 pub mod Gatherer
 pub mod HeldAside
+pub mod HeldWithin
 pub mod PartCounts
 pub mod PartKeeps
 pub mod PartPushes

@@ -19,6 +19,7 @@ ghost use Rattle.gabc_score.specs.ScoreEvents.{HasNoEnd, ScoreOutput, fault_in, 
 ghost use Rattle.gabc_score.specs.HeldAside.{HoldTheSame, GiveTheSame};
 ghost use Rattle.gabc_score.specs.ScoreTells.{before_of, held_of, reading_of, openers_of, is_in_comment, is_in_front, StandsAt};
 ghost use Rattle.gabc_score.specs.ScoreStage.{AreCountsBelow, GivesAt, events_of};
+ghost use Rattle.gabc_score.specs.ToldWithin.{IsToldWithin};
 ghost use Rattle.gabc_score.specs.witness.ScoreStage.{ScoreStageState, left_of};
 
 use crate::score_event::ScoreEvent;
@@ -67,6 +68,16 @@ pub fn at_most_one_syllable_is_held(stage: &ScoreStage)
     ensures { length (syllables_in (concat_of (left_of stage.now []))) ≤ 1 }
 {
     stage.at_most_one_is_held();
+}
+
+/// In the body what a stage tells is within its limits, whatever it has read: the kept text of the syllable that is read, and of the one that is
+/// held the canonical text, also with what stands before it. Before the first syllable no span is open, and no comment is open inside an inner
+/// opener.
+pub fn what_is_told_is_within_the_limits(stage: &ScoreStage)
+    requires runs { is_some (before_of stage.now) ≡ true }
+    ensures { IsToldWithin stage.now }
+{
+    stage.tells_within();
 }
 
 /// A stage gives the end only where the end is among its inputs, whatever it has read.

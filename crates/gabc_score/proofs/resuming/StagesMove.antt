@@ -45,4 +45,5 @@ module _ (m : ScoreMachine) (at : Place) (b : BodyStageState) (is : b ≡ record
       from = h.reading.from;
       uncut = h.reading.uncut;
     };
+    within = h.within;
   }

@@ -14,6 +14,7 @@ use Rattle.gabc_score.specs.declared.slot_pair.SlotUse.TheVariants.{Filling}
 use Rattle.gabc_score.specs.witness.ScoreStage.{ScoreStageState, left_of}
 use Rattle.gabc_score.specs.machine.BodyBuilder.{code_in}
 use Rattle.gabc_score.specs.machine.Gatherer.{nothing_gathered}
+use Rattle.gabc_score.specs.machine.HeldWithin.{HoldsWithin}
 use Rattle.gabc_score.specs.machine.PartCounts.{CountsHold}
 use Rattle.gabc_score.specs.machine.PartKeeps.{IsReading}
 use Rattle.gabc_score.specs.machine.Preceded.{IsPreceded}
@@ -56,6 +57,7 @@ pub record IsInBody (m : ScoreMachine) : Type 0 where
   pub behind : m.bounds.behind ≡ with_each m.bounds.before m.pair.gathered.made
   pub lent : m.has_lent ≡ nat_lt 0 m.bounds.before.syllables
   pub reading : IsReading m.body.nabc_lines m.body.macros m.body.part m.bounds.behind.spans m.pair.gathered
+  pub within : HoldsWithin m.limits m.bounds.before m.pair.gathered
 
 -- in the body, where nothing is lent, no limit is passed and one whole syllable is held at most
 pub record IsFreed (m : ScoreMachine) : Type 0 where

@@ -1,8 +1,10 @@
 use Rattle.std.proofs.Common.{rules, [], ◌∷◌, refl, ap, ◌∙◌, arith}
 use Rattle.gabc_score.specs.ScoreEvents.{Found, Stop, End}
+use Rattle.gabc_score.specs.declared.bounds.Bounds.{Bounds}
 use Rattle.gabc_score.specs.machine.Gatherer.{Gathered}
 use Rattle.gabc_score.specs.machine.SlotPair.{SlotPairState}
 use Rattle.gabc_score.specs.witness.BodyStage.{BodyStageState}
+use Rattle.gabc_score.proofs.score_events.HeldWithinLimits.{within_begun}
 use Rattle.gabc_score.proofs.score_events.WhatIsRead.{comment_reads}
 use Rattle.gabc_score.proofs.score_events.FewAndShortAreLent.{lends_none}
 use Rattle.gabc_score.proofs.score_machine.ScoreMachine.push_in_heads.Goals as goal
@@ -82,4 +84,6 @@ returns-in-Heads-clause-rests c = record {
   reading = comment_reads c.restart.new.self.nabc_lines c.restart.new.self.macros c.in-Heads.canonical c.args.self.now.limits.syllable c.in-Heads.canonical c.restart.new.self.part c.behind_headers-self.result c.start.new.self.gathered
       (ap (λ (s : BodyStageState). s.part) c.restart.ensures) c.behind_headers-self.ensures
       (ap (λ (s : SlotPairState). s.gathered) c.start.ensures ∙ ap (λ (g : Gathered). record g { total = c.in-Heads.canonical }) c.requires.rests.nothing);
+  within = within_begun c.args.self.now.limits c.in-Heads.canonical c.behind_headers-self.result.before c.start.new.self.gathered (ap (λ (b : Bounds). b.before) c.behind_headers-self.ensures)
+      (ap (λ (g : Gathered). g.made) (ap (λ (s : SlotPairState). s.gathered) c.start.ensures ∙ ap (λ (g : Gathered). record g { total = c.in-Heads.canonical }) c.requires.rests.nothing));
 }

@@ -18,6 +18,7 @@ use Rattle.gabc_score.specs.machine.BodyBuilder.{code_in, with_all}
 use Rattle.gabc_score.specs.machine.Gatherer.{Gathered}
 use Rattle.gabc_score.specs.machine.PartCounts.{CountsHold}
 use Rattle.gabc_score.specs.Syllable.{UnplacedSyllable}
+use Rattle.gabc_score.proofs.score_events.HeldWithinLimits.{within_past}
 use Rattle.gabc_score.proofs.score_events.WhatIsRead.{reading_past}
 use Rattle.gabc_score.proofs.score_events.WhatPrecedes.{lent_past, turned, past_in_body}
 use Rattle.gabc_score.proofs.score_events.EventsStayWithinBounds.{few_found, few_with_first, limit_stays, within}
@@ -129,4 +130,6 @@ returns-after-self-clause-rests c =
           c.is_whole-is_whole.result c.give_point-gave.result (let few = old.kept in let most = c.args.self.now.limits.in_range.syllable_most in omega (arith, few, most)) is t.gathered
           (c.is_whole-is_whole.ensures.made ∙ ap (λ (ms : List UnplacedSyllable). nat_lt (length ms) (length g.made)) (c.hold.ensures.held ∙ c.free.ensures.held))
           passed c.take.ensures.lines c.take.ensures.macros c.take.ensures.keeps old.reading;
+      within = within_past c.args.self.now.limits b.before c.pass.new.self.before c.args.self.now.has_lent was g c.give_point-gave.new.pair.gathered now old.rests.limit old.rests.over old.preceded.first old.within is none
+          (ap (λ (k : Bounds). k.before) passed ∙ turns.given) t.gathered;
     })

@@ -1,0 +1,36 @@
+-- What a stage over a score tells in the body is within bounds.
+use Rattle.std.specs.Prelude.{◌≡◌, ℕ, ◌+◌, ◌<◌, ◌≤◌, ◌==◌, ◌||◌, List, length, true, None, IfSome}
+use Rattle.gabc_places.specs.declared.limits.Limits.{Limits}
+use Rattle.gabc_score.specs.declared.before.Preceding.{Preceding}
+use Rattle.gabc_score.specs.declared.body_stage.BodyPart.{BodyPart}
+use Rattle.gabc_score.specs.Before.{no_syllable}
+use Rattle.gabc_score.specs.Canonical.{canonical}
+use Rattle.gabc_score.specs.ScoreTells.{held_of, reading_of, openers_of, is_in_comment}
+use Rattle.gabc_score.specs.Syllable.{UnplacedSyllable}
+use Rattle.gabc_score.specs.witness.ScoreStage.{ScoreStageState}
+
+-- the canonical text of a syllable behind these: the first one begins a word
+abbrev pub written_behind : Preceding → UnplacedSyllable → List ℕ
+written_behind p m = canonical ((p.syllables == 0) || m.text.word_start) m
+
+-- The canonical text of a syllable behind these is within the limit, and with theirs and an LF behind it within that of the input.
+pub record IsHeldWithin (limits : Limits) (p : Preceding) (m : UnplacedSyllable) : Type 0 where
+  pub some : 2 ≤ length (written_behind p m)
+  pub short : length (written_behind p m) ≤ limits.syllable
+  pub file : p.canonical + length (written_behind p m) < limits.input
+
+-- before the first syllable no span is open and nothing has sounded
+abbrev pub IsAtOutset : Preceding → Type 0
+IsAtOutset p = p.syllables ≡ 0 → p ≡ no_syllable p.canonical
+
+-- no comment is open inside a tag, a raw part, a translation or a raw bracket
+abbrev pub HasNoCommentInside : BodyPart → Type 0
+HasNoCommentInside part = is_in_comment part ≡ true → (openers_of part).inner ≡ None
+
+-- what it tells is within its limits, whatever it has read
+pub record IsToldWithin (s : ScoreStageState) : Type 0 where
+  pub reading : length (reading_of s) ≤ s.limits.syllable
+  pub held : IfSome (held_of s) (IsHeldWithin s.limits s.before)
+  pub none_held : held_of s ≡ None → s.before.syllables ≡ 0
+  pub outset : IsAtOutset s.before
+  pub comment : HasNoCommentInside s.body.part
