@@ -2,6 +2,7 @@ pub mod AStageStops
 pub mod BodyIsCollected
 pub mod EventsStayWithinBounds
 pub mod BodyOutputs
+pub mod CountsGoOn
 pub mod FewAndShortAreLent
 pub mod FirstNotes
 pub mod EmittedByHeaders

@@ -3,6 +3,7 @@ use Rattle.std.specs.Prelude.{◌≡◌, ℕ, ◌+◌, ◌<◌, ◌≤◌, ◌==
 use Rattle.gabc_places.specs.declared.limits.Limits.{Limits}
 use Rattle.gabc_score.specs.declared.before.Preceding.{Preceding}
 use Rattle.gabc_score.specs.declared.body_stage.BodyPart.{BodyPart}
+use Rattle.gabc_score.specs.declared.score_machine.ScorePart.TheVariants as score_part
 use Rattle.gabc_score.specs.Before.{no_syllable}
 use Rattle.gabc_score.specs.Canonical.{canonical}
 use Rattle.gabc_score.specs.ScoreTells.{held_of, reading_of, openers_of, is_in_comment}
@@ -34,3 +35,20 @@ pub record IsToldWithin (s : ScoreStageState) : Type 0 where
   pub none_held : held_of s ≡ None → s.before.syllables ≡ 0
   pub outset : IsAtOutset s.before
   pub comment : HasNoCommentInside s.body.part
+
+-- ---- as long as what comes in is what a text gives
+
+-- the numbers that the headers give are those of headers within the limit of the input, with their `%%`
+pub record AreCountsWithin (limits : Limits) (lines macros canonical : ℕ) : Type 0 where
+  pub few_lines : lines ≤ 4
+  pub ten_macros : macros < 1024
+  pub headers : 2 ≤ canonical
+  pub below : canonical < limits.input
+
+-- what it tells is that of a text
+pub record IsToldOfText (s : ScoreStageState) : Type 0 where
+  pub counts : AreCountsWithin s.limits s.body.nabc_lines s.body.macros s.before.canonical
+
+-- in the body it is
+abbrev pub TellsOfText : ScoreStageState → Type 0
+TellsOfText s = s.part ≡ score_part.Body → IsToldOfText s

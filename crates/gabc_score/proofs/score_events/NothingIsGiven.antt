@@ -50,6 +50,9 @@ gives_more a b c at bytes byte next stands step passes = record {
   before_held = passes.before_held ∙ step.before_held;
   next = next ∙ ap (λ (n : ℕ). behind_front at n a.held.next) (sym (length-append bytes (byte ∷ [])));
   stands = λ here was body. stands (subst (λ (p : Place). StandsAt p b.body.part) (step.next ∙ sym (stands_behind at a.held.next (length bytes) here)) (step.stands here was (sym passes.part ∙ body)));
+  told = λ here was old body. record {
+    counts = rw (passes.limits, passes.lines, passes.macros, passes.before_held) (step.told here was old (sym passes.part ∙ body)).counts;
+  };
   law = λ xs.
       let x = head_event.Body (char_behind at (length bytes) byte) in
       ap (λ (is : List HeadEvent). left_of a (is ++ xs)) (inputs_one_more at bytes byte)

@@ -72,6 +72,8 @@ pub record PassesQuietly (before : ScoreStageState) (x : Char) (after : ScoreSta
   pub limits : after.limits ≡ before.limits
   pub part : after.part ≡ before.part
   pub before_held : after.before ≡ before.before
+  pub lines : after.body.nabc_lines ≡ before.body.nabc_lines
+  pub macros : after.body.macros ≡ before.body.macros
   pub law : (xs : List HeadEvent) → left_of before (head_event.Body x ∷ xs) ≡ [] ∷ left_of after xs
 
 abbrev pub IsScoreAt : ScorePart → ScoreMachine → Type 0

@@ -4,6 +4,7 @@ use Rattle.gabc_score.specs.declared.bounds.Bounds.{Bounds}
 use Rattle.gabc_score.specs.machine.Gatherer.{Gathered}
 use Rattle.gabc_score.specs.machine.SlotPair.{SlotPairState}
 use Rattle.gabc_score.specs.witness.BodyStage.{BodyStageState}
+use Rattle.gabc_score.proofs.score_events.CountsGoOn.{begins_of_text}
 use Rattle.gabc_score.proofs.score_events.HeldWithinLimits.{within_begun}
 use Rattle.gabc_score.proofs.score_events.WhatIsRead.{comment_reads}
 use Rattle.gabc_score.proofs.score_events.FewAndShortAreLent.{lends_none}
@@ -18,6 +19,7 @@ returns-in-Found-clause-step c =
       before_held = λ body. absurd (cc body);
       next = λ body. absurd (cc body);
       stands = λ here was body. absurd (cc body);
+      told = λ may here was body. absurd (cc body);
       law = λ xs. refl;
       emitted = record { events = c.push.ensures; few = omega arith; lent = refl };
     })
@@ -31,6 +33,7 @@ returns-in-Stop-clause-step c =
       before_held = λ body. absurd (cc body);
       next = λ body. absurd (cc body);
       stands = λ here was body. absurd (cc body);
+      told = λ may here was body. absurd (cc body);
       law = λ xs. refl;
       emitted = record { events = c.push-in-Stop.ensures; few = omega arith; lent = refl };
     })
@@ -44,6 +47,7 @@ returns-in-End-clause-step c =
       before_held = λ body. absurd (cc body);
       next = λ body. absurd (cc body);
       stands = λ here was body. absurd (cc body);
+      told = λ may here was body. absurd (cc body);
       law = λ xs. refl;
       emitted = record { events = c.push-in-End.ensures; few = omega arith; lent = refl };
     })
@@ -57,6 +61,7 @@ returns-in-Body-clause-step c =
       before_held = λ body. absurd (cc body);
       next = λ body. absurd (cc body);
       stands = λ here was body. absurd (cc body);
+      told = λ may here was body. absurd (cc body);
       law = λ xs. refl;
       emitted = search rules;
     })
@@ -69,6 +74,8 @@ returns-in-Heads-clause-step c = record {
   before_held = search rules;
   next = search rules;
   stands = search rules;
+  told = λ may here was body. begins_of_text c.args.self.now.limits c.args.self.now.next c.args.input c.in-Heads.nabc_lines c.in-Heads.macros c.in-Heads.canonical c.restart.new.self c.behind_headers-self.result c.in-Heads.is
+      c.restart.ensures c.behind_headers-self.ensures may _ refl refl refl;
   law = search rules;
   emitted = search rules;
 }

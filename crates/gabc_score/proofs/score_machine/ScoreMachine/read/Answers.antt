@@ -18,6 +18,7 @@ use Rattle.gabc_score.specs.machine.BodyBuilder.{code_in, with_all}
 use Rattle.gabc_score.specs.machine.Gatherer.{Gathered}
 use Rattle.gabc_score.specs.machine.PartCounts.{CountsHold}
 use Rattle.gabc_score.specs.Syllable.{UnplacedSyllable}
+use Rattle.gabc_score.proofs.score_events.CountsGoOn.{counts_past}
 use Rattle.gabc_score.proofs.score_events.HeldWithinLimits.{within_past}
 use Rattle.gabc_score.proofs.score_events.WhatIsRead.{reading_past}
 use Rattle.gabc_score.proofs.score_events.WhatPrecedes.{lent_past, turned, past_in_body}
@@ -49,6 +50,7 @@ returns-in-Some-clause-step c =
       before_held = λ body. absurd (cc (body, c.stop.ensures.part));
       next = λ body. absurd (cc (body, c.stop.ensures.part));
       stands = λ here was body. absurd (cc (body, c.stop.ensures.part));
+      told = λ may here was body. absurd (cc (body, c.stop.ensures.part));
       law = search rules;
       emitted = c.stop.ensures.emitted;
     }
@@ -78,6 +80,15 @@ returns-after-self-clause-step c =
       before_held = λ body. past_in_body c.args.self.now.part (head_event.Body c.args.x) fs lent c.args.self.now.bounds.before c.pass.new.self.before c.requires.part
           (ap (λ (k : Bounds). k.before) passed ∙ turns.given);
       next = search rules;
+      told = λ may here was body. record {
+        counts = rw (c.take.ensures.lines, c.take.ensures.macros)
+            (counts_past limits c.args.self.now.body.nabc_lines c.args.self.now.body.macros b.before c.pass.new.self.before c.args.self.now.has_lent c.hold.new.pair.gathered c.give_point-gave.new.pair.gathered
+            (ap (λ (k : Bounds). k.before) passed ∙ turns.given) c.give_point-gave.ensures.gathered
+            (subst (λ (k : Gathered). IsPreceded c.pass.new.self.before k) (sym c.give_point-gave.ensures.gathered) (subst (λ (k : Bounds). IsPreceded k.before (with_held c.hold.new.pair.gathered)) (sym passed) turns.preceded))
+            (within_past limits b.before c.pass.new.self.before c.args.self.now.has_lent old c.hold.new.pair.gathered c.give_point-gave.new.pair.gathered now rests.limit rests.over c.requires.rests.preceded.first c.requires.rests.within is none
+            (ap (λ (k : Bounds). k.before) passed ∙ turns.given) c.give_point-gave.ensures.gathered)
+            (was c.requires.part).counts);
+      };
       stands = λ here was body. subst (λ p. StandsAt p c.take.new.self.part) (sym c.saturating_after-self.ensures) (c.take.ensures.stands c.requires.rests.reading.parts c.requires.rests.reading.keeps
           (subst (λ p. StandsAt p c.args.self.now.body.part) (sym here) (was c.requires.part)));
       law = search rules;

@@ -48,5 +48,7 @@ returns-clause-taken c = λ e at.
       limits = refl;
       part = refl;
       before_held = refl;
+      lines = quiet.lines;
+      macros = quiet.macros;
       law = quiet_law m.limits m.part at m.has_lent m.body c.take_quietly.new.self c.args.x m.pair c.take_quietly.new.pair quiet c.requires.freed.part c.requires.freed.code (let freed = c.requires.freed in search rules) c.requires.freed.one;
     }
