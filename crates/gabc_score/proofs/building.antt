@@ -10,6 +10,7 @@ pub mod OneListEachCharacter
 pub mod PartsKeepOn
 pub mod PartsOfKeptNotes
 pub mod PartsOfKeptText
+pub mod PartsOpenOn
 pub mod PartsStandOn
 pub mod QuietParts
 pub mod QuietTexts

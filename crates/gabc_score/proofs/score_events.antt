@@ -10,10 +10,12 @@ pub mod GivenSyllables
 pub mod HeldScoreIsDefinition
 pub mod HeldSyllables
 pub mod HeldWithinLimits
+pub mod MovedIsTold
 pub mod NoStopWhereInputsCease
 pub mod NothingBehindAStop
 pub mod NothingBehindTheEnd
 pub mod NothingIsGiven
+pub mod OpenersInOrder
 pub mod OutputsAreCollected
 pub mod OutputsOfLentSyllables
 pub mod PlainScores

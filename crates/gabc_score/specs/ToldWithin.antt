@@ -1,8 +1,10 @@
 -- What a stage over a score tells in the body is within bounds.
-use Rattle.std.specs.Prelude.{◌≡◌, ℕ, ◌+◌, ◌<◌, ◌≤◌, ◌==◌, ◌||◌, List, length, true, None, IfSome}
+use Rattle.std.specs.Prelude.{◌≡◌, ◌⊎◌, ℕ, ◌+◌, ◌^◌, ◌<◌, ◌≤◌, ◌==◌, ◌||◌, List, length, true, Option, Some, None, IfSome}
 use Rattle.gabc_places.specs.declared.limits.Limits.{Limits}
+use Rattle.gabc_places.specs.declared.place.Place.{Place}
 use Rattle.gabc_score.specs.declared.before.Preceding.{Preceding}
 use Rattle.gabc_score.specs.declared.body_stage.BodyPart.{BodyPart}
+use Rattle.gabc_score.specs.declared.body_tells.Openers.{Openers}
 use Rattle.gabc_score.specs.declared.score_machine.ScorePart.TheVariants as score_part
 use Rattle.gabc_score.specs.Before.{no_syllable}
 use Rattle.gabc_score.specs.Canonical.{canonical}
@@ -45,9 +47,38 @@ pub record AreCountsWithin (limits : Limits) (lines macros canonical : ℕ) : Ty
   pub headers : 2 ≤ canonical
   pub below : canonical < limits.input
 
+abbrev pub IsEarlier : Place → Place → Type 0
+IsEarlier p q = (p.line < q.line) ⊎ ((p.line ≡ q.line) × (p.column < q.column))
+
+-- a place of a text, whose column 64 bits hold
+pub record IsPlace (p : Place) : Type 0 where
+  pub line : 1 ≤ p.line
+  pub column : 1 ≤ p.column
+  pub in_64_bits : p.column < 2 ^ 64
+
+-- a place of the text before the next character
+pub record LiesBefore (next p : Place) : Type 0 where
+  pub line : 1 ≤ p.line
+  pub column : 1 ≤ p.column
+  pub in_64_bits : p.column < 2 ^ 64
+  pub earlier : IsEarlier p next
+
+-- of two openers the second stands behind the first
+abbrev pub AreInOrder : Option Place → Option Place → Type 0
+AreInOrder (Some p) (Some q) = IsEarlier p q
+AreInOrder _ _ = Unit {0}
+
+-- what is open stands in its order before the next character
+pub record AreOpenersBefore (next : Place) (o : Openers) : Type 0 where
+  pub notes : IfSome o.notes (LiesBefore next)
+  pub inner : IfSome o.inner (LiesBefore next)
+  pub in_order : AreInOrder o.notes o.inner
+
 -- what it tells is that of a text
 pub record IsToldOfText (s : ScoreStageState) : Type 0 where
   pub counts : AreCountsWithin s.limits s.body.nabc_lines s.body.macros s.before.canonical
+  pub next : IsPlace s.held.next
+  pub openers : AreOpenersBefore s.held.next (openers_of s.body.part)
 
 -- in the body it is
 abbrev pub TellsOfText : ScoreStageState → Type 0

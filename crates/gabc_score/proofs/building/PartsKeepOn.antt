@@ -63,7 +63,7 @@ module _ (es : List NoteEvent) (c n : ℕ) where
   none_close : ends_of es ≡ [] → list_any is_close es ≡ false
   none_close e = any_close es ∙ ap (list_any (λ (e : NoteEnd × ℕ). is_close_end e.0)) e
 
-  one_ends : ends_of es ≡ (end_by_mark c, n) ∷ [] → list_any is_next es ≡ false → list_any is_close es ≡ false → ⊥
+  pub one_ends : ends_of es ≡ (end_by_mark c, n) ∷ [] → list_any is_next es ≡ false → list_any is_close es ≡ false → ⊥
   one_ends e f g = by (c == 124) (sym (any_next es ∙ ap (list_any (λ (e : NoteEnd × ℕ). is_next_end e.0)) e) ∙ f) (sym (any_close es ∙ ap (list_any (λ (e : NoteEnd × ℕ). is_close_end e.0)) e) ∙ g)
     where
       by : (b : Bool) → list_any (λ (e : NoteEnd × ℕ). is_next_end e.0) ((if b then note_end.Next else note_end.Close, n) ∷ []) ≡ false

@@ -75,7 +75,7 @@ returns-in-Heads-clause-step c = record {
   next = search rules;
   stands = search rules;
   told = λ may here was body. begins_of_text c.args.self.now.limits c.args.self.now.next c.args.input c.in-Heads.nabc_lines c.in-Heads.macros c.in-Heads.canonical c.restart.new.self c.behind_headers-self.result c.in-Heads.is
-      c.restart.ensures c.behind_headers-self.ensures may _ refl refl refl;
+      c.restart.ensures c.behind_headers-self.ensures may _ refl refl refl refl;
   law = search rules;
   emitted = search rules;
 }

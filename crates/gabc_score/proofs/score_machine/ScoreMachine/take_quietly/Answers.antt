@@ -52,3 +52,6 @@ returns-clause-taken c = λ e at.
       macros = quiet.macros;
       law = quiet_law m.limits m.part at m.has_lent m.body c.take_quietly.new.self c.args.x m.pair c.take_quietly.new.pair quiet c.requires.freed.part c.requires.freed.code (let freed = c.requires.freed in search rules) c.requires.freed.one;
     }
+
+pub returns-clause-opens : goal.returns-clause-opens
+returns-clause-opens c = λ e at. (c.take_quietly.ensures.taken e).opens c.requires.freed.body.reading.parts c.requires.freed.body.reading.keeps at
