@@ -12,6 +12,7 @@ pub mod PartsMakeSyllables
 pub mod PartsMakeUnits
 pub mod PartsOfKeptNotes
 pub mod PartsOfKeptText
+pub mod PartsOpenOn
 pub mod PartsStandOn
 pub mod QuietParts
 pub mod QuietTexts

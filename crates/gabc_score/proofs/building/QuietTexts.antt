@@ -19,6 +19,7 @@ use Rattle.gabc_score.specs.machine.Quiet.{TakesQuietly}
 use Rattle.gabc_score.specs.machine.SlotPair.{SlotPairState}
 use Rattle.gabc_score.proofs.building.CountsOfParts.{text_goes}
 use Rattle.gabc_score.proofs.building.PartsOfKeptText.{text_keeps_on}
+use Rattle.gabc_score.proofs.building.PartsOpenOn.{text_opens_on}
 use Rattle.gabc_score.proofs.building.PartsStandOn.{text_stands_on}
 use Rattle.gabc_score.proofs.building.QuietParts.{OnlyKeeps, events_quiet, one_byte}
 
@@ -33,6 +34,7 @@ module _ (before after : BodyStageState) (x : Char) (pair next : SlotPairState) 
       keeps gathered (rw now ((text_goes s t es few takes.pieces).counts pair.gathered (subst (λ b. CountsHold b pair.gathered.builder) is counts))) lines macros
       (rw (is, now) (text_keeps_on before.nabc_lines before.macros s t x.c es takes.keeps goes_on))
       (rw (is, now) (text_stands_on before.nabc_lines before.macros x s t es takes.keeps goes_on))
+      (rw (is, now) (text_opens_on before.nabc_lines before.macros x s t es takes.keeps goes_on))
     where
       goes : (xs : List Char) → events_from texts_by_stage before.nabc_lines before.macros (InText (es ∷ events_left t (codes_of xs))) (x ∷ xs)
           ≡ map (λ o. event.Text o) es ∷ events_from texts_by_stage before.nabc_lines before.macros (InText (events_left t (codes_of xs))) xs

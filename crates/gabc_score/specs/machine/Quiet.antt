@@ -8,6 +8,7 @@ use Rattle.gabc_score.specs.ScoreEvents.{findings_now}
 use Rattle.gabc_score.specs.machine.BodyBuilder.{with_all}
 use Rattle.gabc_score.specs.machine.PartCounts.{CountsHold}
 use Rattle.gabc_score.specs.machine.PartKeeps.{PartKeepsOn, PartStandsOn}
+use Rattle.gabc_score.specs.machine.PartOpens.{PartOpensOn}
 use Rattle.gabc_score.specs.machine.SlotPair.{SlotPairState}
 
 -- The body goes on behind x, and what it emits there is gathered: nothing is found, no syllable is made, no first note or clef comes, and one byte more is kept at most.
@@ -29,4 +30,5 @@ pub record TakesQuietly (before : BodyStageState) (x : Char) (pair : SlotPairSta
   pub macros : after.macros ≡ before.macros
   pub keeps : PartKeepsOn before.nabc_lines before.macros before.part after.part events
   pub stands : PartStandsOn before.nabc_lines before.macros x before.part after.part
+  pub opens : PartOpensOn before.nabc_lines before.macros x before.part after.part
   pub kept : length next.gathered.builder.kept ≤ length pair.gathered.builder.kept + 1

@@ -14,6 +14,7 @@ use Rattle.gabc_score.specs.declared.slot_pair.SlotUse.TheVariants.{Filling}
 use Rattle.gabc_score.specs.witness.ScoreStage.{ScoreStageState, left_of}
 use Rattle.gabc_score.specs.machine.BodyBuilder.{code_in}
 use Rattle.gabc_score.specs.machine.Gatherer.{nothing_gathered}
+use Rattle.gabc_score.specs.machine.HeldWithin.{HoldsWithin}
 use Rattle.gabc_score.specs.machine.PartCounts.{CountsHold}
 use Rattle.gabc_score.specs.machine.PartKeeps.{IsReading}
 use Rattle.gabc_score.specs.machine.PartMakes.{HoldUnits}
@@ -60,6 +61,7 @@ pub record IsInBody (m : ScoreMachine) : Type 0 where
   pub code : code_in m.limits m.pair.gathered ≡ None
   pub reading : IsReading m.body.nabc_lines m.body.macros m.body.part m.bounds.behind.spans m.pair.gathered
   pub units : HoldUnits m.body.nabc_lines m.pair.gathered.made
+  pub within : HoldsWithin m.limits m.bounds.before m.pair.gathered
 
 -- in the body, where nothing is lent, no limit is passed and one whole syllable is held at most
 pub record IsFreed (m : ScoreMachine) : Type 0 where
@@ -74,6 +76,9 @@ pub record PassesQuietly (before : ScoreStageState) (x : Char) (after : ScoreSta
   pub limits : after.limits ≡ before.limits
   pub part : after.part ≡ before.part
   pub before_held : after.before ≡ before.before
+  pub lines : after.body.nabc_lines ≡ before.body.nabc_lines
+  pub macros : after.body.macros ≡ before.body.macros
+  pub made : after.held.gathered.made ≡ before.held.gathered.made
   pub law : (xs : List HeadEvent) → left_of before (head_event.Body x ∷ xs) ≡ [] ∷ left_of after xs
 
 abbrev pub IsScoreAt : ScorePart → ScoreMachine → Type 0

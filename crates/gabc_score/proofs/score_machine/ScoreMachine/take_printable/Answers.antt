@@ -9,8 +9,8 @@ use Rattle.gabc_score.specs.witness.ScoreStage.{ScoreStageState}
 use Rattle.gabc_score.specs.ScoreTells.{StandsAt}
 use Rattle.gabc_score.specs.machine.Fronts.{shown_before}
 use Rattle.gabc_score.specs.machine.ScoreMachine.{shown, IsFreed, PassesQuietly}
-use Rattle.gabc_score.proofs.score_events.NothingIsGiven.{char_behind, gives_next, printable_next}
 use Rattle.gabc_score.proofs.resuming.StagesMove.{freed_moved}
+use Rattle.gabc_score.proofs.score_events.NothingIsGiven.{Opens, char_behind, gives_next, printable_next}
 use Rattle.gabc_score.proofs.score_machine.ScoreMachine.take_printable.Goals.{then-loop-count-test+else-is_printable, else-loop-count-test, then-loop-count-test+then-is_printable+then-not-take_quietly}
 use Rattle.gabc_score.proofs.score_machine.ScoreMachine.take_printable.Goals as goal
 
@@ -45,12 +45,14 @@ loop-count-preserved c =
     let passes = subst (λ (p : Place). PassesQuietly old (char_behind at count byte) (new p)) (next_in_line at count byte was printable (omega (arith, test, column))) taken in
     let stands = subst (λ (p : Place). StandsAt (in_line at (at.column + count)) c.loop-count.self.body.part → StandsAt p c.take_quietly.new.self.body.part) (next_in_line at count byte was printable (omega (arith, test, column)))
     (subst (λ (x : ℕ). StandsAt (in_line at (at.column + count)) c.loop-count.self.body.part → StandsAt (saturating_next_place (in_line at (at.column + count)) x) c.take_quietly.new.self.body.part) c.from-c.ensures (c.take_quietly.ensures.stands c.if-not-take_quietly.false)) in
+    let opens = subst (λ (x : ℕ). Opens (in_line at (at.column + count)) old (new (saturating_next_place (in_line at (at.column + count)) x))) c.from-c.ensures
+    (c.take_quietly.ensures.opens c.if-not-take_quietly.false) in
     record {
       within = omega (arith, test);
       most = i.most;
       column = i.column;
       printable = printable_next bytes count 0 within i.printable printable;
-      step = gives_next (shown c.args.self.now) old (new (behind_front at (count + 1) was)) at bytes count 0 within refl stands i.step passes;
+      step = gives_next (shown c.args.self.now) old (new (behind_front at (count + 1) was)) at bytes count 0 within refl stands opens (omega (arith, test, column)) i.step passes;
       next = c.take_quietly.ensures.next ∙ i.next;
       freed = c.take_quietly.ensures.freed;
     }
