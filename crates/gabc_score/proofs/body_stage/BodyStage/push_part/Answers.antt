@@ -1,6 +1,4 @@
 use Rattle.std.proofs.Common.{◌≡◌, ℕ, ◌≤◌, true, false, List, [], map, length, refl, sym, ap, ◌∙◌, arith}
-use Rattle.gabc_score.proofs.resuming.MachinesReadAgain.{tells_so}
-use Rattle.gabc_score.proofs.resuming.MachinesPassAgain.{next_passes}
 use Rattle.std.proofs.lemmas.List.{length-map}
 use Rattle.std.specs.List.{list_any}
 use Rattle.gabc_places.specs.declared.place.Place.{Place}
