@@ -38,7 +38,7 @@ use Rattle.gabc_score.proofs.score_events.HeldWithinLimits.{file_now}
 use Rattle.gabc_score.specs.machine.BodyBuilder.{code_in, with_all}
 use Rattle.gabc_score.specs.machine.Gatherer.{Gathered, with_event}
 use Rattle.gabc_score.specs.machine.PartCounts.{CountsHold, PartGoesOn}
-use Rattle.gabc_score.specs.machine.PartKeeps.{KeptParts, in_text, in_notes, joined, IsReading, PartKeeps, PartKeepsOn, spans_past}
+use Rattle.gabc_score.specs.machine.PartKeeps.{KeptParts, in_text, in_notes, joined, IsReading, PartKeeps, PartKeepsOn}
 use Rattle.gabc_score.specs.machine.Preceded.{IsPreceded}
 use Rattle.gabc_score.specs.machine.ReadAgain.{Adds, BeginsComment, BeginsIn, GoesBy, IsNext, IsToldBy, OpenAt, Reads, ReadsAgain, place_in}
 use Rattle.gabc_score.specs.machine.ScoreMachine.{IsInBody, IsShort}

@@ -1,7 +1,3 @@
-use Rattle.std.proofs.Common.{◌≡◌, ℕ, ◌≤◌, true, false, List, [], map, length, refl, sym, ap, ◌∙◌, arith}
-use Rattle.gabc_score.proofs.resuming.MachinesReadAgain.{tells_so}
-use Rattle.gabc_score.proofs.resuming.MachinesPassAgain.{next_passes}
-
 use Rattle.std.proofs.Common.{◌≡◌, ℕ, ◌≤◌, true, false, List, [], map, length, Some, refl, sym, ap, ◌∙◌, arith}
 use Rattle.std.proofs.lemmas.List.{length-map}
 use Rattle.std.specs.List.{list_any}
