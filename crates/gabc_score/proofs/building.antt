@@ -8,6 +8,7 @@ pub mod BuilderHoldsDefinition
 pub mod FirstKinds
 pub mod OneListEachCharacter
 pub mod PartsKeepOn
+pub mod PartsKeepOnly
 pub mod PartsOfKeptNotes
 pub mod PartsOfKeptText
 pub mod PartsOpenOn

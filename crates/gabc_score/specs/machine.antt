@@ -6,6 +6,7 @@ pub mod HeldAside
 pub mod HeldWithin
 pub mod PartCounts
 pub mod PartKeeps
+pub mod PartOnly
 pub mod PartOpens
 pub mod PartPushes
 pub mod Preceded
