@@ -10,6 +10,7 @@ pub mod OneListEachCharacter
 pub mod PartsKeepOn
 pub mod PartsMakeSyllables
 pub mod PartsMakeUnits
+pub mod PartsKeepOnly
 pub mod PartsOfKeptNotes
 pub mod PartsOfKeptText
 pub mod PartsOpenOn

@@ -21,6 +21,7 @@ pub mod OutputsOfLentSyllables
 pub mod PlainScores
 pub mod QuietPoints
 pub mod ScoreOutputs
+pub mod TextsArePlain
 pub mod TextsAreReadInFull
 pub mod ToldIsWithin
 pub mod WhatIsRead

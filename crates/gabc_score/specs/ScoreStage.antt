@@ -17,7 +17,7 @@ use Rattle.gabc_score.specs.Before.{no_syllable, with_placed}
 use Rattle.gabc_score.specs.declared.score_machine.ScorePart.{ScorePart}
 use Rattle.gabc_score.specs.declared.score_machine.ScorePart.TheVariants as score_part
 use Rattle.gabc_score.specs.ScoreTells.{StandsAt}
-use Rattle.gabc_score.specs.ToldWithin.{AreCountsWithin, TellsOfText}
+use Rattle.gabc_score.specs.ToldWithin.{AreCountsWithin, IsTextCharacter, TellsOfText}
 use Rattle.gabc_score.specs.ScoreEvents.{first_place, ScoreOutput, Found, Stop, Syllable, End, syllables_in}
 use Rattle.gabc_score.specs.Canonical.{canonical_in_place}
 use Rattle.gabc_score.specs.Syllable.{UnplacedSyllable, PlacedSyllable}
@@ -87,7 +87,7 @@ IsPlaceBelow x = (x.place.line + 1 < 2 ^ 64) × (x.place.column + 1 < 2 ^ 64)
 -- An input may come of a text where the next character stands at this place: the numbers of its headers, or this character.
 abbrev pub MayCome : Limits → Place → HeadEvent → Type 0
 MayCome limits next (head_event.Heads lines macros canonical) = AreCountsWithin limits lines macros canonical
-MayCome limits next (head_event.Body x) = (x.place ≡ next) × IsPlaceBelow x
+MayCome limits next (head_event.Body x) = (x.place ≡ next) × (IsPlaceBelow x × IsTextCharacter x.c)
 MayCome limits next x = Unit {0}
 
 -- in the body a text has counted the place of the next character

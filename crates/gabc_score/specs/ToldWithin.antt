@@ -1,5 +1,8 @@
 -- What a stage over a score tells in the body is within bounds.
-use Rattle.std.specs.Prelude.{◌≡◌, ◌⊎◌, ℕ, ◌+◌, ◌^◌, ◌<◌, ◌≤◌, ◌==◌, ◌||◌, List, length, true, Option, Some, None, IfSome}
+use Rattle.std.specs.Prelude.{◌≡◌, ◌≢◌, ◌⊎◌, ℕ, ◌+◌, ◌^◌, ◌<◌, ◌≤◌, ◌==◌, ◌||◌, List, length, true, Option, Some, None, IfSome}
+use Rattle.std.specs.Char.{IsScalar}
+use Rattle.std.specs.List.{All}
+use Rattle.std.specs.Str.{IsUtf8, chars}
 use Rattle.gabc_places.specs.declared.limits.Limits.{Limits}
 use Rattle.gabc_places.specs.declared.place.Place.{Place}
 use Rattle.gabc_score.specs.declared.before.Preceding.{Preceding}
@@ -73,12 +76,27 @@ pub record AreOpenersBefore (next : Place) (o : Openers) : Type 0 where
   pub inner : IfSome o.inner (LiesBefore next)
   pub in_order : AreInOrder o.notes o.inner
 
+-- a character that a text of an input may have: no CR and no U+FEFF
+abbrev pub IsPlain : ℕ → Type 0
+IsPlain c = (c ≢ 13) × (c ≢ 0xFEFF)
+
+pub record IsTextCharacter (c : ℕ) : Type 0 where
+  pub scalar : IsScalar c
+  pub plain : IsPlain c
+
+-- the bytes are those of a text of an input
+pub record IsText (bytes : List ℕ) : Type 0 where
+  pub utf8 : IsUtf8 bytes
+  pub plain : All IsPlain (chars bytes)
+
 -- what it tells is that of a text
 pub record IsToldOfText (s : ScoreStageState) : Type 0 where
   pub counts : AreCountsWithin s.limits s.body.nabc_lines s.body.macros s.before.canonical
   pub next : IsPlace s.held.next
   pub openers : AreOpenersBefore s.held.next (openers_of s.body.part)
   pub none_held : held_of s ≡ None → s.before.syllables ≡ 0
+  pub reading : IsText s.held.gathered.builder.kept
+  pub held : All (λ (m : UnplacedSyllable). IsText m.kept) s.held.gathered.made
 
 -- in the body it is
 abbrev pub TellsOfText : ScoreStageState → Type 0

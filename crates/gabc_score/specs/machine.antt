@@ -7,6 +7,7 @@ pub mod HeldWithin
 pub mod PartCounts
 pub mod PartKeeps
 pub mod PartMakes
+pub mod PartOnly
 pub mod PartOpens
 pub mod PartPushes
 pub mod Preceded

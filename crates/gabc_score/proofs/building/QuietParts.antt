@@ -1,6 +1,8 @@
 -- The `(` of the notes, a character of a snippet and the `|` behind it are taken quietly.
-use Rattle.std.proofs.Common.{◌≡◌, ℕ, ◌+◌, ◌<◌, ◌≤◌, List, [], ◌∷◌, ◌++◌, length, encode_utf8, ◌&&◌, nat_lt, Bool, true, false, cond, Option, Some, refl, sym, ap, subst, ◌∙◌, arith, length-append}
+use Rattle.std.proofs.Common.{◌≡◌, inl, ℕ, ◌+◌, ◌<◌, ◌≤◌, List, [], ◌∷◌, ◌++◌, length, encode_utf8, ◌&&◌, nat_lt, Bool, true, false, cond, Option, Some, refl, sym, ap, subst, ◌∙◌, arith, length-append}
+use Rattle.std.specs.List.{All}
 use Rattle.std.proofs.lemmas.Bool.Decides.{nat_tests}
+use Rattle.std.proofs.lemmas.List.Elements.{All-nil, All-cons}
 use Rattle.std.proofs.lemmas.Str.{length-encode, len_utf8_ascii}
 use Rattle.gabc_places.specs.declared.place.Char.{Char}
 use Rattle.gabc_places.specs.declared.place.Place.{Place}
@@ -32,6 +34,7 @@ use Rattle.gabc_score.specs.machine.Gatherer.{Gathered, awaits, awaits_in, first
 use Rattle.gabc_score.specs.machine.SyllableBuilder.{OpenSyllable, past_snippet}
 use Rattle.gabc_score.specs.machine.PartCounts.{CountsInNotes, CountsHold}
 use Rattle.gabc_score.specs.machine.PartKeeps.{BeginsSnippet, PartKeepsOn, PartStandsOn}
+use Rattle.gabc_score.specs.machine.PartOnly.{IsKeptOf, kept_codes}
 use Rattle.gabc_score.specs.machine.PartOpens.{PartOpensOn}
 use Rattle.gabc_score.specs.machine.Quiet.{TakesQuietly}
 use Rattle.gabc_score.specs.machine.SlotPair.{SlotPairState}
@@ -77,8 +80,8 @@ module _ (before after : BodyStageState) (x : Char) (pair next : SlotPairState) 
   pub events_quiet : (es : List BodyEvent) → ((xs : List Char) → running_events_left before (x ∷ xs) ≡ es ∷ running_events_left after xs)
       → OnlyKeeps pair.gathered (with_all pair.gathered es) es → next.gathered ≡ with_all pair.gathered es → CountsHold after.part (with_all pair.gathered es).builder
       → after.nabc_lines ≡ before.nabc_lines → after.macros ≡ before.macros → PartKeepsOn before.nabc_lines before.macros before.part after.part es → PartStandsOn before.nabc_lines before.macros x before.part after.part
-      → PartOpensOn before.nabc_lines before.macros x before.part after.part → TakesQuietly before x pair after next
-  events_quiet es law keeps gathered counts lines macros parts stands opens = record {
+      → PartOpensOn before.nabc_lines before.macros x before.part after.part → All (IsKeptOf x.c) (kept_codes es) → TakesQuietly before x pair after next
+  events_quiet es law keeps gathered counts lines macros parts stands opens only = record {
     events = es;
     law = law;
     silent = keeps.silent;
@@ -97,6 +100,7 @@ module _ (before after : BodyStageState) (x : Char) (pair next : SlotPairState) 
     macros = macros;
     keeps = parts;
     stands = stands;
+    only = only;
     opens = opens;
   }
 
@@ -118,7 +122,7 @@ module _ (before after : BodyStageState) (x : Char) (pair next : SlotPairState) 
       (subst (λ b. PartKeepsOn before.nabc_lines before.macros b after.part (event.Text (text.Ended text_end.Notes) ∷ [])) (sym is)
       (text_ends_on before.nabc_lines before.macros s t 40 (text.Ended text_end.Notes ∷ []) after.part takes.keeps refl (λ u b. begins u [] b)))
       (λ p kept at. snippet_stands before.nabc_lines before.macros 0 x.place _ after.part snippet)
-      (notes_open before.nabc_lines before.macros x before.part after.part opens)
+      (notes_open before.nabc_lines before.macros x before.part after.part opens) (All-nil (IsKeptOf x.c))
 
   -- a character of a snippet
   pub note_quiet : (line : ℕ) (opened : Place) (from to : List Char → List (List NoteEvent))
@@ -132,7 +136,7 @@ module _ (before after : BodyStageState) (x : Char) (pair next : SlotPairState) 
       (λ xs. rw (is (x ∷ xs), now xs, lines, macros)
       (ap (λ lists. events_from texts_by_stage before.nabc_lines before.macros (InNotes line opened lists) (x ∷ xs)) (law xs)))
       (record { silent = refl; made = refl; over = refl; total = refl; limit = refl; cut = refl; first_kind = refl; kept = one_byte pair.gathered.builder.kept x.c ascii }) gathered
-      ((notes_go line opened before.part (note.Kept x ∷ []) (omega arith) out after.part into).counts pair.gathered counts) lines macros parts stands opens
+      ((notes_go line opened before.part (note.Kept x ∷ []) (omega arith) out after.part into).counts pair.gathered counts) lines macros parts stands opens (All-cons (IsKeptOf x.c) x.c [] (inl refl) (All-nil (IsKeptOf x.c)))
 
   -- the `|` that ends a snippet, which brings no first note or clef
   pub next_quiet : (line : ℕ) (opened : Place) (count : ℕ) (from to : List Char → List (List NoteEvent))
@@ -151,4 +155,4 @@ module _ (before after : BodyStageState) (x : Char) (pair next : SlotPairState) 
       ∙ ap (λ p. (event.Notes line (note.Ended note_end.Next count) ∷ []) ∷ events_from texts_by_stage before.nabc_lines before.macros p xs) (sym (snippet xs))))
       (record { silent = refl; made = refl; over = refl; total = refl; limit = refl; cut = refl; first_kind = quiet_first pair.gathered.first_kind line open_now (span_of open_now line count) (past_snippet open_now line count 124).kept refl cut none; kept = omega (arith, cut, marked) }) gathered
       ((notes_go line opened before.part (note.Ended note_end.Next count ∷ []) (omega arith) out after.part into).counts pair.gathered counts) lines macros parts
-      (λ p kept at. snippet_stands before.nabc_lines before.macros (next_line before.nabc_lines line) opened _ after.part snippet) opens
+      (λ p kept at. snippet_stands before.nabc_lines before.macros (next_line before.nabc_lines line) opened _ after.part snippet) opens (All-nil (IsKeptOf x.c))

@@ -1,7 +1,9 @@
 -- The counts that a machine tells stay within the limits, past a point.
 use Rattle.std.proofs.Common.{◌≡◌, ◌⊎◌, inl, inr, ℕ, zero, suc, ◌++◌, None, ◌-◌, ◌≤◌, ◌<◌, ◌^◌, Bool, true, false, List, [], ◌∷◌, take, drop, map, length, refl, sym, ap, subst, ◌∙◌, arith}
 use Rattle.std.proofs.lemmas.Bool.{true≢false}
+use Rattle.std.specs.List.{All}
 use Rattle.std.proofs.lemmas.Bool.Decides.{nat_tests}
+use Rattle.std.proofs.lemmas.List.Elements.{All-nil}
 use Rattle.gabc_places.specs.declared.limits.Limits.{Limits}
 use Rattle.gabc_places.specs.declared.place.Place.{Place}
 use Rattle.gabc_headers.specs.declared.head_event.HeadEvent.{HeadEvent}
@@ -17,9 +19,10 @@ use Rattle.gabc_score.specs.Body.{is_none}
 use Rattle.gabc_score.specs.Syllable.{UnplacedSyllable, PlacedSyllable}
 use Rattle.gabc_score.specs.ScoreEvents.{first_place}
 use Rattle.gabc_score.specs.ScoreStage.{MayCome}
-use Rattle.gabc_score.specs.ToldWithin.{IsPlace, AreCountsWithin, IsToldOfText}
+use Rattle.gabc_score.specs.ToldWithin.{IsPlace, AreCountsWithin, IsText, IsToldOfText}
 use Rattle.gabc_score.specs.witness.BodyStage.{BodyStageState}
 use Rattle.gabc_score.specs.witness.ScoreStage.{ScoreStageState}
+use Rattle.gabc_score.proofs.score_events.TextsArePlain.{nothing_plain}
 use Rattle.gabc_score.specs.machine.Gatherer.{Gathered}
 use Rattle.gabc_score.specs.machine.BodyBuilder.{with_all}
 use Rattle.gabc_score.specs.machine.HeldWithin.{HoldsWithin}
@@ -100,12 +103,14 @@ none_past before behind has_lent g h turned now last there turns is was none =
 -- behind the headers the counts are those that they give
 pub begins_of_text : (limits : Limits) (next : Place) (input : HeadEvent) (lines macros canonical : ℕ) (body : BodyStageState) (bounds : Bounds) → input ≡ head_event.Heads lines macros canonical
     → body ≡ record { nabc_lines = lines; macros = macros; part = part.Comment; over = false; events = [] } → bounds ≡ behind_headers canonical → MayCome limits next input
-    → (s : ScoreStageState) → s.limits ≡ limits → s.body ≡ body → s.before ≡ bounds.before → s.held.next ≡ first_place → IsToldOfText s
-begins_of_text limits next input lines macros canonical body bounds is at begun may s l b p n =
+    → (s : ScoreStageState) → s.limits ≡ limits → s.body ≡ body → s.before ≡ bounds.before → s.held.next ≡ first_place → s.held.gathered.builder.kept ≡ [] → s.held.gathered.made ≡ [] → IsToldOfText s
+begins_of_text limits next input lines macros canonical body bounds is at begun may s l b p n none empty =
     let counts : AreCountsWithin limits lines macros canonical = subst (MayCome limits next) is may in
     record {
       counts = rw (l, b ∙ at, p ∙ ap (λ (k : Bounds). k.before) begun) counts;
       next = subst IsPlace (sym n) (record { line = omega arith; column = omega arith; in_64_bits = omega arith });
+      reading = subst IsText (sym none) nothing_plain;
+      held = subst (All (λ (m : UnplacedSyllable). IsText m.kept)) (sym empty) (All-nil (λ (m : UnplacedSyllable). IsText m.kept));
       openers = rw (b ∙ at) (record { notes = tt; inner = tt; in_order = tt });
       none_held = λ none. ap (λ (q : Preceding). q.syllables) (p ∙ ap (λ (k : Bounds). k.before) begun);
     }

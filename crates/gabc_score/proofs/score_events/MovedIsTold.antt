@@ -26,6 +26,8 @@ moved_is_told at s up is told body =
     record {
       counts = t.counts;
       next = is;
+      reading = t.reading;
+      held = t.held;
       openers = subst (AreOpenersBefore at) (sym (openers_stay at s.body.part)) (openers_moved s.held.next at (openers_of s.body.part) up t.openers);
       none_held = t.none_held;
     }

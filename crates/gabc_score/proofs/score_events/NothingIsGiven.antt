@@ -15,8 +15,9 @@ use Rattle.gabc_score.specs.ScoreStage.{GivesNothing, behind_front, body_inputs,
 use Rattle.gabc_score.specs.declared.score_machine.ScorePart.{ScorePart}
 use Rattle.gabc_score.specs.declared.before.Preceding.{Preceding}
 use Rattle.gabc_score.specs.ScoreTells.{StandsAt, held_in_body, openers_of}
-use Rattle.gabc_score.specs.ToldWithin.{IsPlace, IsEarlier, AreOpenersBefore}
+use Rattle.gabc_score.specs.ToldWithin.{IsPlace, IsEarlier, AreOpenersBefore, IsTextCharacter, IsToldOfText}
 use Rattle.gabc_score.specs.witness.ScoreStage.{ScoreStageState, left_of}
+use Rattle.gabc_score.specs.machine.PartOnly.{HoldsTexts}
 use Rattle.gabc_score.specs.machine.PartOpens.{OpensOn}
 use Rattle.gabc_score.specs.machine.ScoreMachine.{PassesQuietly}
 use Rattle.gabc_score.proofs.score_events.OpenersInOrder.{opens_in_order, column_behind}
@@ -52,9 +53,9 @@ abbrev pub Opens : Place → ScoreStageState → ScoreStageState → Type 0
 Opens at b c = StandsAt at b.body.part → OpensOn at (openers_of b.body.part) (openers_of c.body.part)
 
 gives_more : (a b c : ScoreStageState) (at : Place) (bytes : List ℕ) (byte : ℕ) → c.held.next ≡ behind_front at (length bytes + 1) a.held.next
-    → (StandsAt (char_behind at (length bytes) byte).place b.body.part → StandsAt c.held.next c.body.part) → Opens (char_behind at (length bytes) byte).place b c → at.column + length bytes + 1 < 2 ^ 64
+    → (StandsAt (char_behind at (length bytes) byte).place b.body.part → StandsAt c.held.next c.body.part) → Opens (char_behind at (length bytes) byte).place b c → at.column + length bytes + 1 < 2 ^ 64 → IsTextCharacter byte
     → GivesNothing a at bytes b → PassesQuietly b (char_behind at (length bytes) byte) c → GivesNothing a at (bytes ++ byte ∷ []) c
-gives_more a b c at bytes byte next stands opens column step passes = record {
+gives_more a b c at bytes byte next stands opens column is step passes = record {
   limits = passes.limits ∙ step.limits;
   part = passes.part ∙ step.part;
   before_held = passes.before_held ∙ step.before_held;
@@ -62,6 +63,8 @@ gives_more a b c at bytes byte next stands opens column step passes = record {
   stands = λ here was body. stands (subst (λ (p : Place). StandsAt p b.body.part) (there here) (step.stands here was (sym passes.part ∙ body)));
   told = λ here was old body. record {
     counts = rw (passes.limits, passes.lines, passes.macros, passes.before_held) (step.told here was old (sym passes.part ∙ body)).counts;
+    reading = (texts (step.told here was old (sym passes.part ∙ body))).0;
+    held = (texts (step.told here was old (sym passes.part ∙ body))).1;
     next = subst IsPlace (sym next) (behind (step.told here was old (sym passes.part ∙ body)).next here).0;
     openers = subst (λ (p : Place). AreOpenersBefore p (openers_of c.body.part)) (sym next)
         (opens_in_order (char_behind at (length bytes) byte).place (behind_front at (length bytes + 1) a.held.next) (behind (step.told here was old (sym passes.part ∙ body)).next here).1
@@ -81,6 +84,9 @@ gives_more a b c at bytes byte next stands opens column step passes = record {
       ∙ ap (λ (l : List (List ScoreOutput)). l ++ left_of c xs) (sym (nothing_one_more bytes byte));
 }
   where
+    texts : IsToldOfText b → HoldsTexts c.held.gathered
+    texts t = passes.texts is (t.reading, t.held)
+
     there : at ≡ a.held.next → b.held.next ≡ (char_behind at (length bytes) byte).place
     there here = step.next ∙ sym (stands_behind at a.held.next (length bytes) here)
 
@@ -95,14 +101,14 @@ taken_length bytes count within = let h = length-take count bytes in grind (arit
 
 -- with the next byte as well
 pub gives_next : (a b c : ScoreStageState) (at : Place) (bytes : List ℕ) (count d : ℕ) → count < length bytes → c.held.next ≡ behind_front at (count + 1) a.held.next
-    → (StandsAt (char_behind at count (slice_index_or bytes count d)).place b.body.part → StandsAt c.held.next c.body.part) → Opens (char_behind at count (slice_index_or bytes count d)).place b c → at.column + count + 1 < 2 ^ 64 → GivesNothing a at (take count bytes) b
+    → (StandsAt (char_behind at count (slice_index_or bytes count d)).place b.body.part → StandsAt c.held.next c.body.part) → Opens (char_behind at count (slice_index_or bytes count d)).place b c → at.column + count + 1 < 2 ^ 64 → IsTextCharacter (slice_index_or bytes count d) → GivesNothing a at (take count bytes) b
     → PassesQuietly b (char_behind at count (slice_index_or bytes count d)) c → GivesNothing a at (take (count + 1) bytes) c
-gives_next a b c at bytes count d within next stands opens column step passes =
+gives_next a b c at bytes count d within next stands opens column is step passes =
     subst (λ (l : List ℕ). GivesNothing a at l c) (sym (take_one_more bytes count d within))
     (gives_more a b c at (take count bytes) (slice_index_or bytes count d) (next ∙ ap (λ (n : ℕ). behind_front at (n + 1) a.held.next) (sym (taken_length bytes count within)))
     (subst (λ (n : ℕ). StandsAt (char_behind at n (slice_index_or bytes count d)).place b.body.part → StandsAt c.held.next c.body.part) (sym (taken_length bytes count within)) stands)
     (subst (λ (n : ℕ). Opens (char_behind at n (slice_index_or bytes count d)).place b c) (sym (taken_length bytes count within)) opens)
-    (subst (λ (n : ℕ). at.column + n + 1 < 2 ^ 64) (sym (taken_length bytes count within)) column) step
+    (subst (λ (n : ℕ). at.column + n + 1 < 2 ^ 64) (sym (taken_length bytes count within)) column) is step
     (subst (λ (n : ℕ). PassesQuietly b (char_behind at n (slice_index_or bytes count d)) c) (sym (taken_length bytes count within)) passes))
 
 pub printable_next : (bytes : List ℕ) (count d : ℕ) → count < length bytes → All IsPrintable (take count bytes) → IsPrintable (slice_index_or bytes count d) → All IsPrintable (take (count + 1) bytes)

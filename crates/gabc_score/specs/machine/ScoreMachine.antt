@@ -7,6 +7,7 @@ use Rattle.gabc_headers.specs.declared.head_event.HeadEvent.TheVariants as head_
 use Rattle.gabc_score.specs.Before.{with_each}
 use Rattle.gabc_score.specs.Canonical.{canonical}
 use Rattle.gabc_score.specs.Syllable.{UnplacedSyllable}
+use Rattle.gabc_score.specs.ToldWithin.{IsTextCharacter}
 use Rattle.gabc_score.specs.declared.score_machine.ScoreMachine.{ScoreMachine}
 use Rattle.gabc_score.specs.declared.score_machine.ScorePart.{ScorePart}
 use Rattle.gabc_score.specs.declared.score_machine.ScorePart.TheVariants as score_part
@@ -18,6 +19,7 @@ use Rattle.gabc_score.specs.machine.HeldWithin.{HoldsWithin}
 use Rattle.gabc_score.specs.machine.PartCounts.{CountsHold}
 use Rattle.gabc_score.specs.machine.PartKeeps.{IsReading}
 use Rattle.gabc_score.specs.machine.PartMakes.{HoldUnits}
+use Rattle.gabc_score.specs.machine.PartOnly.{HoldsTexts}
 use Rattle.gabc_score.specs.machine.Preceded.{IsPreceded}
 use Rattle.gabc_score.specs.machine.ScoreStage.{HeldScore}
 use Rattle.gabc_score.specs.machine.SlotPair.{is_made}
@@ -79,6 +81,7 @@ pub record PassesQuietly (before : ScoreStageState) (x : Char) (after : ScoreSta
   pub lines : after.body.nabc_lines ≡ before.body.nabc_lines
   pub macros : after.body.macros ≡ before.body.macros
   pub made : after.held.gathered.made ≡ before.held.gathered.made
+  pub texts : IsTextCharacter x.c → HoldsTexts before.held.gathered → HoldsTexts after.held.gathered
   pub law : (xs : List HeadEvent) → left_of before (head_event.Body x ∷ xs) ≡ [] ∷ left_of after xs
 
 abbrev pub IsScoreAt : ScorePart → ScoreMachine → Type 0

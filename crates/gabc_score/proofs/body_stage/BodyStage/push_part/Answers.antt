@@ -13,6 +13,7 @@ use Rattle.gabc_score.proofs.building.PartsKeepOn.{gabc_keeps_on, gabc_ends_on, 
 use Rattle.gabc_score.proofs.building.PartsMakeSyllables.{text_makes, notes_make_none}
 
 use Rattle.gabc_score.proofs.building.PartsKeepOn.{gabc_keeps_on, gabc_ends_on, gabc_closes_on, nabc_keeps_on, nabc_ends_on, nabc_closes_on}
+use Rattle.gabc_score.proofs.building.PartsKeepOnly.{text_keeps_only, gabc_keeps_only, nabc_keeps_only}
 use Rattle.gabc_score.proofs.building.PartsOpenOn.{opened_at, same_open, notes_open, next_opens, none_open, text_opens_on, gabc_opens_on}
 use Rattle.gabc_score.proofs.building.PartsStandOn.{snippet_stands, text_stands_on, gabc_closes_at, nabc_closes_at}
 use Rattle.gabc_score.proofs.building.SyllableEndsLast.{notes_close_last, texts_close_last}
@@ -336,3 +337,45 @@ pub returns-else-close-2-clause-opens : goal.returns-else-close-2-clause-opens
 returns-else-close-2-clause-opens c =
     rw (← c.self.view_is, c.in-Nabc.is)
     (λ p keeps at. same_open c.args.x.place (opened_at (Some c.in-Nabc.opened)))
+
+-- ---- what is kept
+
+pub returns-then-ended-clause-only : goal.returns-then-ended-clause-only
+returns-then-ended-clause-only c =
+    rw (← c.self.view_is, c.in-Text.is)
+    (text_keeps_only c.self.inside.nabc_lines c.self.inside.macros c.args.x c.in-Text.stage c.push_text.new.stage c.push_text.new.events.items c.push_text.ensures.keeps)
+
+pub returns-else-ended-clause-only : goal.returns-else-ended-clause-only
+returns-else-ended-clause-only c =
+    rw (← c.self.view_is, c.in-Text.is)
+    (text_keeps_only c.self.inside.nabc_lines c.self.inside.macros c.args.x c.in-Text.stage c.push_text.new.stage c.push_text.new.events.items c.push_text.ensures.keeps)
+
+pub returns-then-next-clause-only : goal.returns-then-next-clause-only
+returns-then-next-clause-only c =
+    rw (← c.self.view_is, c.in-Notes.is)
+    (gabc_keeps_only c.self.inside.nabc_lines c.self.inside.macros c.args.x c.in-Notes.opened c.in-Notes.stage c.push_gabc.new.stage c.push_gabc.new.events.items c.push_gabc.ensures.keeps)
+
+pub returns-then-close-clause-only : goal.returns-then-close-clause-only
+returns-then-close-clause-only c =
+    rw (← c.self.view_is, c.in-Notes.is)
+    (gabc_keeps_only c.self.inside.nabc_lines c.self.inside.macros c.args.x c.in-Notes.opened c.in-Notes.stage c.push_gabc.new.stage c.push_gabc.new.events.items c.push_gabc.ensures.keeps)
+
+pub returns-else-close-clause-only : goal.returns-else-close-clause-only
+returns-else-close-clause-only c =
+    rw (← c.self.view_is, c.in-Notes.is)
+    (gabc_keeps_only c.self.inside.nabc_lines c.self.inside.macros c.args.x c.in-Notes.opened c.in-Notes.stage c.push_gabc.new.stage c.push_gabc.new.events.items c.push_gabc.ensures.keeps)
+
+pub returns-then-next-2-clause-only : goal.returns-then-next-2-clause-only
+returns-then-next-2-clause-only c =
+    rw (← c.self.view_is, c.in-Nabc.is)
+    (nabc_keeps_only c.self.inside.nabc_lines c.self.inside.macros c.args.x c.in-Nabc.line c.in-Nabc.opened c.in-Nabc.stage c.push_nabc.new.stage c.push_nabc.new.events.items c.push_nabc.ensures.keeps)
+
+pub returns-then-close-2-clause-only : goal.returns-then-close-2-clause-only
+returns-then-close-2-clause-only c =
+    rw (← c.self.view_is, c.in-Nabc.is)
+    (nabc_keeps_only c.self.inside.nabc_lines c.self.inside.macros c.args.x c.in-Nabc.line c.in-Nabc.opened c.in-Nabc.stage c.push_nabc.new.stage c.push_nabc.new.events.items c.push_nabc.ensures.keeps)
+
+pub returns-else-close-2-clause-only : goal.returns-else-close-2-clause-only
+returns-else-close-2-clause-only c =
+    rw (← c.self.view_is, c.in-Nabc.is)
+    (nabc_keeps_only c.self.inside.nabc_lines c.self.inside.macros c.args.x c.in-Nabc.line c.in-Nabc.opened c.in-Nabc.stage c.push_nabc.new.stage c.push_nabc.new.events.items c.push_nabc.ensures.keeps)

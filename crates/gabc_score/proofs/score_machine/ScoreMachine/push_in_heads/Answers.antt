@@ -76,7 +76,9 @@ returns-in-Heads-clause-step c = record {
   next = search rules;
   stands = search rules;
   told = λ may here was body. begins_of_text c.args.self.now.limits c.args.self.now.next c.args.input c.in-Heads.nabc_lines c.in-Heads.macros c.in-Heads.canonical c.restart.new.self c.behind_headers-self.result c.in-Heads.is
-      c.restart.ensures c.behind_headers-self.ensures may _ refl refl refl refl;
+      c.restart.ensures c.behind_headers-self.ensures may _ refl refl refl refl
+      (ap (λ (g : Gathered). g.builder.kept) (ap (λ (s : SlotPairState). s.gathered) c.start.ensures ∙ ap (λ (g : Gathered). record g { total = c.in-Heads.canonical }) c.requires.rests.nothing))
+      (ap (λ (g : Gathered). g.made) (ap (λ (s : SlotPairState). s.gathered) c.start.ensures ∙ ap (λ (g : Gathered). record g { total = c.in-Heads.canonical }) c.requires.rests.nothing));
   law = search rules;
   emitted = search rules;
 }
