@@ -30,7 +30,7 @@ const REFUSED: u32 = 3;
 const NO_MEMORY: u32 = 5;
 
 /// From how many bytes on a score is run over by an engine. To make one takes longer than the whole form of a shorter score.
-const LONG: usize = 4096;
+const LONG: usize = 8192;
 
 /// Compiles `score`: puts its output into `output`, the lines of its messages into `messages`, and their exact lengths in bytes into
 /// `lengths`. A text that is longer than its buffer is left out whole, and the buffer stays as it was. `format` is 0 for canonical
