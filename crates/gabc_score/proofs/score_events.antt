@@ -27,3 +27,4 @@ pub mod ToldIsWithin
 pub mod WhatIsRead
 pub mod WhatOutputsSay
 pub mod WhatPrecedes
+pub mod WholeSyllables

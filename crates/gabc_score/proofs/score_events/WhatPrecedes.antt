@@ -284,7 +284,7 @@ after : (g k : Gathered) (now : List BodyEvent) → k.made ≡ g.made → ((with
 after g k now e (inl same) = inl (same ∙ e)
 after g k now e (inr c) = inr (record { m = c.m; made = c.made ∙ ap (λ ms. ms ++ c.m ∷ []) e; eu = c.eu; nlba = c.nlba; builder = c.builder })
 
-same_or_closed : (g : Gathered) (now : List BodyEvent) → ClosesLast now → ((with_all g now).made ≡ g.made) ⊎ Closed g (with_all g now)
+pub same_or_closed : (g : Gathered) (now : List BodyEvent) → ClosesLast now → ((with_all g now).made ≡ g.made) ⊎ Closed g (with_all g now)
 same_or_closed g [] c = inl refl
 same_or_closed g (event.Text (text.Kept x) ∷ now) c = let k = with_event g (event.Text (text.Kept x)) in after g k now refl (same_or_closed k now c.1)
 same_or_closed g (event.Text (text.Part part.WordStart) ∷ now) c = let k = with_event g (event.Text (text.Part part.WordStart)) in after g k now refl (same_or_closed k now c.1)

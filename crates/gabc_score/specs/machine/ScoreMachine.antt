@@ -76,6 +76,7 @@ pub record PassesQuietly (before : ScoreStageState) (x : Char) (after : ScoreSta
   pub before_held : after.before ≡ before.before
   pub lines : after.body.nabc_lines ≡ before.body.nabc_lines
   pub macros : after.body.macros ≡ before.body.macros
+  pub made : after.held.gathered.made ≡ before.held.gathered.made
   pub texts : IsTextCharacter x.c → HoldsTexts before.held.gathered → HoldsTexts after.held.gathered
   pub law : (xs : List HeadEvent) → left_of before (head_event.Body x ∷ xs) ≡ [] ∷ left_of after xs
 

@@ -1,4 +1,4 @@
-use Rattle.std.proofs.Common.{◌++◌, sym, ap, subst, ◌∙◌, take}
+use Rattle.std.proofs.Common.{◌++◌, ◌+◌, length, sym, ap, subst, ◌∙◌, take}
 use Rattle.std.specs.List.{All}
 use Rattle.gabc_score.specs.ScoreStage.{body_inputs}
 use Rattle.gabc_score.specs.Syllable.{UnplacedSyllable}
@@ -18,6 +18,7 @@ returns-in-None-clause-step c =
       before_held = s.before_held;
       next = s.next;
       stands = s.stands;
+      whole = s.whole ∙ ap (λ (g : Gathered). m.bounds.before.syllables + length g.made) same;
       told = λ here was old. s.told here was (λ body.
           let t = old body in
           record {

@@ -52,6 +52,7 @@ returns-clause-taken c = λ e at.
       before_held = refl;
       lines = quiet.lines;
       macros = quiet.macros;
+      made = quiet.made;
       texts = λ is h. subst HoldsTexts (sym quiet.gathered) (plain_all m.pair.gathered quiet.events (of_character c.args.x.c (kept_codes quiet.events) is quiet.only) h);
       law = quiet_law m.limits m.part at m.has_lent m.body c.take_quietly.new.self c.args.x m.pair c.take_quietly.new.pair quiet c.requires.freed.part c.requires.freed.code (let freed = c.requires.freed in search rules) c.requires.freed.one;
     }
