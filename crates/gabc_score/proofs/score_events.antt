@@ -7,6 +7,7 @@ pub mod FewAndShortAreLent
 pub mod FirstNotes
 pub mod EmittedByHeaders
 pub mod GivenSyllables
+pub mod HeadersMayCome
 pub mod HeldScoreIsDefinition
 pub mod HeldSyllables
 pub mod HeldWithinLimits
