@@ -1,4 +1,5 @@
 pub mod HeaderBytes
 pub mod HeadersEndInTwoPercents
 pub mod NameAndValueFitTheirLine
+pub mod NumbersAreInRange
 pub mod WantsLinesLeftToRight

@@ -1,6 +1,6 @@
 //! Laws of the definitions alone. Each function's contract is a law, and its body does nothing.
 
-ghost use Rattle.std.specs.Prelude.{◌≡◌, ◌+◌, ◌≤◌, ℕ, Bool, false, List, [], ◌∷◌, ◌++◌, length, take, Option, Ok, Err};
+ghost use Rattle.std.specs.Prelude.{◌≡◌, ◌+◌, ◌<◌, ◌≤◌, ℕ, Bool, false, List, [], ◌∷◌, ◌++◌, length, take, Option, Ok, Err};
 ghost use Rattle.std.specs.Char.{IsScalar};
 ghost use Rattle.std.specs.List.{All};
 ghost use Rattle.gabc_places.specs.declared.code.Fault.{Fault};
@@ -11,7 +11,7 @@ ghost use Rattle.gabc_places.specs.Place.{place_after};
 ghost use Rattle.gabc_places.specs.StageLaw.{concat_of};
 ghost use Rattle.gabc_headers.specs.declared.heads.Heads.{Heads};
 ghost use Rattle.gabc_headers.specs.Heads.{head_len, heads_of, findings_of, line_place};
-ghost use Rattle.gabc_headers.specs.Book.{standing_entries};
+ghost use Rattle.gabc_headers.specs.Book.{macros_of, nabc_lines_of, standing_entries};
 ghost use Rattle.gabc_headers.specs.Canonical.{canonical_heads, header_lines};
 ghost use Rattle.gabc_headers.specs.Lines.{bytes_len};
 ghost use Rattle.gabc_headers.specs.HeadsAgain.{heads_again};
@@ -96,6 +96,15 @@ pub fn canonical_lines_are_within_the_limits()
         (bytes_len (header_lines heads.book) ≤ limits.header)
         × (bytes_len (canonical_heads heads.book) + 1 ≤ limits.input) }
 {}
+
+/// The numbers that the headers of a book give are in range: at most 4 NABC lines, the macros of ten digits, and at least the two bytes of the `%%`.
+pub fn the_numbers_of_headers_are_in_range()
+    ensures lines { (book : List (List ℕ × List ℕ)) → nabc_lines_of book ≤ 4 }
+    ensures macros { (book : List (List ℕ × List ℕ)) → macros_of book < 1024 }
+    ensures mark { (book : List (List ℕ × List ℕ)) → 2 ≤ bytes_len (canonical_heads book) }
+{
+    nabc_lines_are_these();
+}
 
 /// Emitted character by character, the headers of a text are what they are when they are read whole, followed by the characters
 /// of its body and its end: no finding, stop or character comes twice, and none is left out.

@@ -7,6 +7,7 @@ pub mod FewAndShortAreLent
 pub mod FirstNotes
 pub mod EmittedByHeaders
 pub mod GivenSyllables
+pub mod HeadersMayCome
 pub mod HeldScoreIsDefinition
 pub mod HeldSyllables
 pub mod HeldWithinLimits
@@ -28,3 +29,4 @@ pub mod WhatIsRead
 pub mod WhatOutputsSay
 pub mod WhatPrecedes
 pub mod UnitsAreHeld
+pub mod WholeSyllables

@@ -17,7 +17,7 @@ use Rattle.gabc_score.specs.Before.{no_syllable, with_placed}
 use Rattle.gabc_score.specs.declared.score_machine.ScorePart.{ScorePart}
 use Rattle.gabc_score.specs.declared.score_machine.ScorePart.TheVariants as score_part
 use Rattle.gabc_score.specs.ScoreTells.{StandsAt}
-use Rattle.gabc_score.specs.ToldWithin.{AreCountsWithin, IsTextCharacter, TellsOfText}
+use Rattle.gabc_score.specs.ToldWithin.{AreCountsWithin, IsTextCharacter, TellsOfText, whole_syllables}
 use Rattle.gabc_score.specs.ScoreEvents.{first_place, ScoreOutput, Found, Stop, Syllable, End, syllables_in}
 use Rattle.gabc_score.specs.Canonical.{canonical_in_place}
 use Rattle.gabc_score.specs.Syllable.{UnplacedSyllable, PlacedSyllable}
@@ -75,6 +75,12 @@ next_past score_part.Heads (head_event.Heads lines macros canonical) next = firs
 next_past score_part.Body (head_event.Body x) next = saturating_next_place x.place x.c
 next_past part x next = next
 
+-- How many syllables may be whole behind an input, where so many were: none behind the headers, one more behind a character.
+abbrev pub most_whole : ScorePart → HeadEvent → ℕ → ℕ
+most_whole score_part.Heads (head_event.Heads lines macros canonical) n = 0
+most_whole score_part.Body (head_event.Body x) n = n + 1
+most_whole part x n = n
+
 -- an input that is a character stands at this place
 abbrev pub StandsHere : HeadEvent → Place → Type 0
 StandsHere (head_event.Body x) next = x.place ≡ next
@@ -102,6 +108,7 @@ pub record GivesAt (before : ScoreStageState) (x : HeadEvent) (after : ScoreStag
   pub before_held : after.part ≡ score_part.Body → after.before ≡ preceding_past before.part x outputs before.before
   pub next : after.part ≡ score_part.Body → after.held.next ≡ next_past before.part x before.held.next
   pub stands : StandsHere x before.held.next → StandsInLine before → StandsInLine after
+  pub whole : after.part ≡ score_part.Body → whole_syllables after ≤ most_whole before.part x (whole_syllables before)
   pub told : MayCome before.limits before.held.next x → StandsInLine before → TellsOfText before → TellsOfText after
   pub law : (xs : List HeadEvent) → left_of before (x ∷ xs) ≡ outputs ∷ left_of after xs
   pub emitted : GivesOutputs outputs old new after.first after.second
@@ -136,6 +143,7 @@ pub record GivesNothing (before : ScoreStageState) (at : Place) (bytes : List �
   pub before_held : after.before ≡ before.before
   pub next : after.held.next ≡ behind_front at (length bytes) before.held.next
   pub stands : at ≡ before.held.next → StandsInLine before → StandsInLine after
+  pub whole : whole_syllables after ≡ whole_syllables before
   pub told : at ≡ before.held.next → StandsInLine before → TellsOfText before → TellsOfText after
   pub law : (xs : List HeadEvent) → left_of before (body_inputs at bytes ++ xs) ≡ nothing_each bytes ++ left_of after xs
 

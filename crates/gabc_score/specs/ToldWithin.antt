@@ -40,6 +40,10 @@ pub record IsToldWithin (s : ScoreStageState) : Type 0 where
   pub outset : IsAtOutset s.before
   pub comment : HasNoCommentInside s.body.part
 
+-- how many syllables were whole: those that were given and those that were not
+abbrev pub whole_syllables : ScoreStageState → ℕ
+whole_syllables s = s.before.syllables + length s.held.gathered.made
+
 -- ---- as long as what comes in is what a text gives
 
 -- the numbers that the headers give are those of headers within the limit of the input, with their `%%`

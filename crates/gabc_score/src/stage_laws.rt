@@ -1,9 +1,12 @@
 //! Laws of a stage over a score. Each function's contract is a law. Its body drives a stage, gives it one input, calls other laws, or does nothing.
 
-ghost use Rattle.std.specs.Prelude.{◌≡◌, ◌==◌, ◌+◌, ◌*◌, ◌<◌, ◌≤◌, ◌^◌, ℕ, List, [], ◌∷◌, None, true, false, length, map, is_some, encode_utf8_all, IfOk, IfSome, OnErr, OnOk};
+ghost use Rattle.std.specs.Prelude.{◌≡◌, ◌==◌, ◌+◌, ◌*◌, ◌<◌, ◌≤◌, ◌^◌, ℕ, List, [], ◌∷◌, None, true, false, length, map, is_some, encode_utf8_all, IfOk, IfSome, OnErr, OnOk, Ok};
 ghost use Rattle.gabc_headers.specs.declared.head_event.HeadEvent.{HeadEvent};
 ghost use Rattle.gabc_headers.specs.declared.head_event.HeadEvent.TheVariants.{Stop};
+ghost use Rattle.std.specs.List.{All};
+ghost use Rattle.gabc_headers.specs.witness.HeadEvents.{events_of_input, reading};
 ghost use Rattle.gabc_places.specs.declared.code.Fault.{Fault};
+ghost use Rattle.gabc_places.specs.declared.place.Char.{Char};
 ghost use Rattle.gabc_places.specs.declared.limits.Limits.{Limits};
 ghost use Rattle.gabc_places.specs.BoundedList.{Fits, extended_by};
 ghost use Rattle.gabc_places.specs.declared.place.Place.{Place};
@@ -20,7 +23,7 @@ ghost use Rattle.gabc_score.specs.ScoreEvents.{HasNoEnd, ScoreOutput, fault_in, 
 ghost use Rattle.gabc_score.specs.HeldAside.{HoldTheSame, GiveTheSame};
 ghost use Rattle.gabc_score.specs.ReadAgain.{StandsBefore};
 ghost use Rattle.gabc_score.specs.ScoreTells.{before_of, held_of, reading_of, openers_of, is_in_comment, is_in_front, StandsAt};
-ghost use Rattle.gabc_score.specs.ScoreStage.{AreCountsBelow, GivesAt, IsWithinAnywhere, events_of};
+ghost use Rattle.gabc_score.specs.ScoreStage.{AreCountsBelow, GivesAt, IsWithinAnywhere, MayCome, events_of};
 ghost use Rattle.gabc_score.specs.UnitRead.{HoldsSomeUnit};
 ghost use Rattle.gabc_score.specs.witness.ReadAgain.{CanBeReadAgain};
 ghost use Rattle.gabc_score.specs.ToldWithin.{IsPlace, IsToldWithin, TellsOfText};
@@ -82,6 +85,15 @@ pub fn what_is_told_is_within_the_limits(stage: &ScoreStage)
     ensures { IsToldWithin stage.now }
 {
     stage.tells_within();
+}
+
+/// What a stage of headers gives before the body may come of a text, wherever the next character stands.
+pub fn headers_may_come()
+    ensures { (limits : Limits) (t : List ℕ) (x : Char) (next : Place) →
+        All (MayCome limits next) (events_of_input limits (reading t) (Ok x)) }
+{
+    gabc_headers::laws::canonical_lines_are_within_the_limits();
+    gabc_headers::laws::the_numbers_of_headers_are_in_range();
 }
 
 /// What a stage tells is still that of a text where its next character is said to stand there, if that is no earlier.

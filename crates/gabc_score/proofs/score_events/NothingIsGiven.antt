@@ -61,6 +61,7 @@ gives_more a b c at bytes byte next stands opens column is step passes = record 
   before_held = passes.before_held ∙ step.before_held;
   next = next ∙ ap (λ (n : ℕ). behind_front at n a.held.next) (sym (length-append bytes (byte ∷ [])));
   stands = λ here was body. stands (subst (λ (p : Place). StandsAt p b.body.part) (there here) (step.stands here was (sym passes.part ∙ body)));
+  whole = rw (passes.before_held, passes.made) step.whole;
   told = λ here was old body. record {
     counts = rw (passes.limits, passes.lines, passes.macros, passes.before_held) (step.told here was old (sym passes.part ∙ body)).counts;
     reading = (texts (step.told here was old (sym passes.part ∙ body))).0;

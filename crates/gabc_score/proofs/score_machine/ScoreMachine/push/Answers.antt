@@ -10,6 +10,7 @@ returns-in-Over-clause-step c = rw c.in-Over.is (record {
   before_held = λ body. absurd (cc body);
   next = λ body. absurd (cc body);
   stands = λ here was. was;
+  whole = λ body. absurd (cc body);
   told = λ may here was. was;
   law = λ xs. refl;
   emitted = search rules;

@@ -6,6 +6,7 @@ use Rattle.gabc_score.specs.machine.SlotPair.{SlotPairState}
 use Rattle.gabc_score.specs.witness.BodyStage.{BodyStageState}
 use Rattle.gabc_score.proofs.score_events.UnitsAreHeld.{none_held}
 use Rattle.gabc_score.proofs.score_events.CountsGoOn.{begins_of_text}
+use Rattle.gabc_score.proofs.score_events.WholeSyllables.{none_whole}
 use Rattle.gabc_score.proofs.score_events.HeldWithinLimits.{within_begun}
 use Rattle.gabc_score.proofs.score_events.WhatIsRead.{comment_reads}
 use Rattle.gabc_score.proofs.score_events.FewAndShortAreLent.{lends_none}
@@ -20,6 +21,7 @@ returns-in-Found-clause-step c =
       before_held = λ body. absurd (cc body);
       next = λ body. absurd (cc body);
       stands = λ here was body. absurd (cc body);
+      whole = λ body. absurd (cc body);
       told = λ may here was body. absurd (cc body);
       law = λ xs. refl;
       emitted = record { events = c.push.ensures; few = omega arith; lent = refl };
@@ -34,6 +36,7 @@ returns-in-Stop-clause-step c =
       before_held = λ body. absurd (cc body);
       next = λ body. absurd (cc body);
       stands = λ here was body. absurd (cc body);
+      whole = λ body. absurd (cc body);
       told = λ may here was body. absurd (cc body);
       law = λ xs. refl;
       emitted = record { events = c.push-in-Stop.ensures; few = omega arith; lent = refl };
@@ -48,6 +51,7 @@ returns-in-End-clause-step c =
       before_held = λ body. absurd (cc body);
       next = λ body. absurd (cc body);
       stands = λ here was body. absurd (cc body);
+      whole = λ body. absurd (cc body);
       told = λ may here was body. absurd (cc body);
       law = λ xs. refl;
       emitted = record { events = c.push-in-End.ensures; few = omega arith; lent = refl };
@@ -62,6 +66,7 @@ returns-in-Body-clause-step c =
       before_held = λ body. absurd (cc body);
       next = λ body. absurd (cc body);
       stands = λ here was body. absurd (cc body);
+      whole = λ body. absurd (cc body);
       told = λ may here was body. absurd (cc body);
       law = λ xs. refl;
       emitted = search rules;
@@ -75,6 +80,9 @@ returns-in-Heads-clause-step c = record {
   before_held = search rules;
   next = search rules;
   stands = search rules;
+  whole = λ body. rw (c.requires.part, c.in-Heads.is)
+      (none_whole c.behind_headers-self.result c.in-Heads.canonical c.start.new.self.gathered c.behind_headers-self.ensures
+      (ap (λ (g : Gathered). g.made) (ap (λ (s : SlotPairState). s.gathered) c.start.ensures ∙ ap (λ (g : Gathered). record g { total = c.in-Heads.canonical }) c.requires.rests.nothing)));
   told = λ may here was body. begins_of_text c.args.self.now.limits c.args.self.now.next c.args.input c.in-Heads.nabc_lines c.in-Heads.macros c.in-Heads.canonical c.restart.new.self c.behind_headers-self.result c.in-Heads.is
       c.restart.ensures c.behind_headers-self.ensures may _ refl refl refl refl
       (ap (λ (g : Gathered). g.builder.kept) (ap (λ (s : SlotPairState). s.gathered) c.start.ensures ∙ ap (λ (g : Gathered). record g { total = c.in-Heads.canonical }) c.requires.rests.nothing))

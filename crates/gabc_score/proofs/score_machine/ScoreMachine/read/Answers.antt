@@ -28,6 +28,7 @@ use Rattle.gabc_score.proofs.score_events.OpenersInOrder.{opens_in_order, place_
 use Rattle.gabc_score.proofs.score_events.HeldWithinLimits.{within_past}
 use Rattle.gabc_score.proofs.score_events.TextsArePlain.{plain_all, plain_held, of_character}
 use Rattle.gabc_score.proofs.score_events.WhatIsRead.{reading_past}
+use Rattle.gabc_score.proofs.score_events.WholeSyllables.{whole_past}
 use Rattle.gabc_score.proofs.score_events.WhatPrecedes.{lent_past, turned, past_in_body}
 use Rattle.gabc_score.specs.NoteBeforeClef.{found_first}
 use Rattle.gabc_places.specs.BoundedList.{extended_by}
@@ -60,6 +61,7 @@ returns-in-Some-clause-step c =
       before_held = λ body. absurd (cc (body, c.stop.ensures.part));
       next = λ body. absurd (cc (body, c.stop.ensures.part));
       stands = λ here was body. absurd (cc (body, c.stop.ensures.part));
+      whole = λ body. absurd (cc (body, c.stop.ensures.part));
       told = λ may here was body. absurd (cc (body, c.stop.ensures.part));
       law = search rules;
       emitted = c.stop.ensures.emitted;
@@ -95,6 +97,7 @@ returns-after-self-clause-step c =
       before_held = λ body. past_in_body c.args.self.now.part (head_event.Body c.args.x) fs lent c.args.self.now.bounds.before c.pass.new.self.before c.requires.part
           (ap (λ (k : Bounds). k.before) passed ∙ turns.given);
       next = search rules;
+      whole = λ body. rw c.requires.part (whole_past b.before c.pass.new.self.before c.args.self.now.has_lent old c.hold.new.pair.gathered c.give_point-gave.new.pair.gathered now c.take.ensures.once is (ap (λ (k : Bounds). k.before) passed ∙ turns.given) c.give_point-gave.ensures.gathered);
       told = λ may here was body. record {
         counts = rw (c.take.ensures.lines, c.take.ensures.macros)
             (counts_past limits c.args.self.now.body.nabc_lines c.args.self.now.body.macros b.before c.pass.new.self.before c.args.self.now.has_lent c.hold.new.pair.gathered c.give_point-gave.new.pair.gathered
