@@ -204,7 +204,8 @@ pub fn a_kept_text_gives_the_stage_back(told: &ScoreStage, again: &mut ScoreStag
     requires stands { StandsAt told.now.held.next told.now.body.part }
     requires limits { told.now.limits ≡ again.old.limits }
     requires before { before_of told.now ≡ before_of again.old }
-    requires held { HoldTheSame (told.now.before.syllables == 0) (held_of told.now) (held_of again.old) }
+    requires held { HoldTheSame (told.now.before.syllables == 0)
+        (held_of told.now) (held_of again.old) }
     requires first { StandsBefore again.old }
     ensures { (xs : List HeadEvent) → GiveTheSame (held_of told.now) (held_of again.new)
         (left_of told.now xs) (left_of again.new xs) }

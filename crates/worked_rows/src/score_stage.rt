@@ -243,7 +243,19 @@ fn goes_to_another_place(rt: HostRuntime) -> Result<(), AllocError> {
     Ok(())
 }
 
-/// Whether a stage behind `before` that reads again what a stage tells behind `body` tells the same.
+/// Pushes `rest` to a stage, and prints what is given.
+fn given_on(alloc: Global, stage: &mut ScoreStage, rest: &str) -> Result<String, AllocError> {
+    let mut given = String::new(alloc);
+    let mut place = stage.next().unwrap_or(Place::START);
+    for c in rest.chars() {
+        push(alloc, stage, HeadEvent::Body(Char { c, place }), &mut given)?;
+        place = place.saturating_after(c);
+    }
+    push(alloc, stage, HeadEvent::End, &mut given)?;
+    Ok(given)
+}
+
+/// Whether a stage behind `before` that reads again what a stage tells behind `body` tells the same, and gives the same from then on.
 fn reads_again(alloc: Global, before: &str, body: &str) -> Result<bool, AllocError> {
     let mut one = ScoreStage::with_limits(alloc, Limits::DEFAULT)?;
     let wanted = told_behind(alloc, &mut one, body)?;
@@ -258,7 +270,11 @@ fn reads_again(alloc: Global, before: &str, body: &str) -> Result<bool, AllocErr
     let in_comment = one.in_comment() == Some(true);
     let read = again.read_again(one.reading(), openers, in_comment, next);
     let line = told(alloc, &again)?;
-    Ok(read && !first.as_str().is_empty() && line.as_str() == wanted.as_str() && again.next() == Some(next))
+    let same = line.as_str() == wanted.as_str() && again.next() == Some(next);
+    let one_gives = given_on(alloc, &mut one, "\n</i>]|ta)c<b")?;
+    let again_gives = given_on(alloc, &mut again, "\n</i>]|ta)c<b")?;
+    let gives = one_gives.as_str() == again_gives.as_str() && !first.as_str().is_empty();
+    Ok(read && same && gives)
 }
 
 /// Bodies that end in a second syllable.

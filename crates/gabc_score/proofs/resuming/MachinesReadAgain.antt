@@ -11,15 +11,14 @@ use Rattle.gabc_text.specs.witness.Keeps as text
 use Rattle.gabc_notes.specs.declared.stage.NoteStage.{NoteStage}
 use Rattle.gabc_notes.specs.witness.Keeps as notes
 use Rattle.gabc_score.specs.declared.before.Before.{Before}
-use Rattle.gabc_score.specs.declared.bounds.Bounds.{Bounds}
 use Rattle.gabc_score.specs.declared.body_stage.BodyPart.{BodyPart}
 use Rattle.gabc_score.specs.declared.body_stage.BodyPart.TheVariants as part
 use Rattle.gabc_score.specs.declared.body_tells.Openers.{Openers}
 use Rattle.gabc_score.specs.declared.score_machine.ScoreMachine.{ScoreMachine}
 use Rattle.gabc_score.specs.declared.score_machine.ScorePart.{ScorePart}
 use Rattle.gabc_score.specs.declared.score_machine.ScorePart.TheVariants as score_part
-use Rattle.gabc_score.specs.ReadAgain.{StandsBefore, TellsOfReading, TellsTheSameBut}
-use Rattle.gabc_score.specs.ScoreTells.{StandsAt, before_of, before_with, held_in_body, in_body, is_in_comment, is_in_front, moved_part, moved_to, openers_of, reading_of}
+use Rattle.gabc_score.specs.ReadAgain.{StandsBefore, TellsOfReading}
+use Rattle.gabc_score.specs.ScoreTells.{StandsAt, before_of, before_with, in_body, is_in_comment, is_in_front, moved_part, moved_to, openers_of, reading_of}
 use Rattle.gabc_score.specs.machine.PartKeeps.{joined, PartKeeps}
 use Rattle.gabc_score.specs.machine.ReadAgain.{GoesBy, IsRunAlike, IsSameBut, IsToldBy, OpenAt, PassesAgain, StandsSo, TakesAgain, inner_of, outer_of, place_in}
 use Rattle.gabc_score.specs.machine.ScoreMachine.{IsInBody, IsScore, IsScoreAt, shown}
