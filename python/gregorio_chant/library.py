@@ -2,6 +2,7 @@
 from __future__ import annotations
 
 import ctypes
+import mmap
 import os
 from pathlib import Path
 
@@ -12,7 +13,7 @@ _NO_MEMORY = 5
 # How many bytes a room has at first for each byte of the score: more than most scores want, since a second call reads the score again.
 _TIMES = {Format.GABC: 2, Format.DUMP: 16}
 _LEAST = 4096
-# A room of more bytes than this is not kept for the next call.
+# A room of more bytes than this is not kept for the next call, and takes memory only where it is written into.
 _MOST_KEPT = 1 << 22
 
 
@@ -30,13 +31,23 @@ _compile.argtypes = [
 _Key = ctypes.c_uint64 * 2
 
 
+def _memory_of(length: int) -> bytearray | mmap.mmap:
+    """Returns `length` bytes. A long `bytearray` would be filled with zeros first."""
+    if length <= _MOST_KEPT:
+        return bytearray(length)
+    try:
+        return mmap.mmap(-1, length)
+    except OSError as error:
+        raise MemoryError("not enough memory for what a score is compiled to") from error
+
+
 class _Room:
     """Bytes for the library to write into. A room is used again, so that no call fills it with zeros first, and is lent to one call at a time."""
 
     _spare: list[_Room] = []
 
     def __init__(self) -> None:
-        self.content = bytearray()
+        self.content: bytearray | mmap.mmap = bytearray()
 
     @classmethod
     def lend(cls, length: int) -> _Room:
@@ -46,7 +57,7 @@ class _Room:
         except IndexError:
             room = cls()
         if len(room.content) < length:
-            room.content = bytearray(length)
+            room.content = _memory_of(length)
         return room
 
     def give_back(self) -> None:
@@ -86,9 +97,9 @@ def _call(data: bytes, format: Format, all_warnings: bool, output: _Room, messag
         if output_fits and lengths.messages <= len(messages.content):
             return Status(status), lengths
         if not output_fits:
-            output.content = bytearray(lengths.output)
+            output.content = _memory_of(lengths.output)
         if lengths.messages > len(messages.content):
-            messages.content = bytearray(lengths.messages)
+            messages.content = _memory_of(lengths.messages)
 
 
 def compile(score: str | bytes | bytearray | memoryview, format: str | Format = Format.GABC, *, all_warnings: bool = True) -> Result:

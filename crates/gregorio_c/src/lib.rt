@@ -29,7 +29,7 @@ const REFUSED: u32 = 3;
 /// What is answered where there is no memory.
 const NO_MEMORY: u32 = 5;
 
-/// From how many bytes on a score is run over by an engine. To make one takes longer than the whole form of a shorter score.
+/// From how many bytes on a score is run over by an engine. The whole form of a shorter one takes less time, and little memory.
 const LONG: usize = 8192;
 
 /// Compiles `score`: puts its output into `output`, the lines of its messages into `messages`, and their exact lengths in bytes into
