@@ -1,0 +1,20 @@
+-- A stage over a score that is set down again from what another one tells.
+use Rattle.std.specs.Prelude.{◌≡◌, List, true}
+use Rattle.gabc_headers.specs.declared.head_event.HeadEvent.{HeadEvent}
+use Rattle.gabc_score.specs.HeldAside.{GiveTheSame}
+use Rattle.gabc_score.specs.ScoreTells.{held_of}
+use Rattle.gabc_score.specs.SpansPast.{eu_past, nlba_past}
+use Rattle.gabc_score.specs.Syllable.{UnplacedSyllable}
+use Rattle.gabc_score.specs.witness.ScoreStage.{ScoreStageState, left_of}
+
+-- which spans are open behind a syllable that it holds follows from those before it
+abbrev pub FollowsSpans : ScoreStageState → UnplacedSyllable → Type 0
+FollowsSpans s m = (m.eu ≡ eu_past m s.before.spans.eu) × (m.nlba ≡ nlba_past m s.before.spans.nlba)
+
+-- the first syllable of a score begins a word
+abbrev pub BeginsAtFirst : ScoreStageState → UnplacedSyllable → Type 0
+BeginsAtFirst s m = s.before.syllables ≡ 0 → m.text.word_start ≡ true
+
+-- Whatever follows, the one gives what the other gives. Only the syllable that is held stands where the other gives its own.
+abbrev pub GoesOnAlike : ScoreStageState → ScoreStageState → Type 0
+GoesOnAlike told made = (xs : List HeadEvent) → GiveTheSame (held_of told) (held_of made) (left_of told xs) (left_of made xs)
