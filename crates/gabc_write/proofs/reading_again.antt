@@ -13,7 +13,6 @@ pub mod ScoreIsPrinted
 pub mod ScoreReadAgainIsTheSame
 pub mod SnippetsAreReadAgain
 pub mod StageHoldsAgain
-pub mod StageTellsAgain
 pub mod SyllableIsReadFromItsText
 pub mod SyllablesHoldUnits
 pub mod SyllablesSayTheSame

@@ -10,13 +10,23 @@ ghost use Rattle.gabc_write.specs.machine.SetDown.{BeginsAlike, TellsAlike};
 
 use crate::laws::what_is_held_is_read_from_its_own_text;
 use gabc_places::{Limits, Room};
-use gabc_score::stage_laws::{stages_that_tell_the_same_agree, what_is_held_holds_a_unit, what_is_read_can_be_read_again, what_is_told_is_within_the_limits};
-use gabc_score::unit_laws::{snippets_of_a_unit_stand_between_characters, some_events_leave_spans_open};
+use gabc_score::stage_laws::{
+    stages_that_tell_the_same_agree, what_is_held_holds_a_unit, what_is_read_can_be_read_again,
+    what_is_told_is_within_the_limits,
+};
+use gabc_score::unit_laws::{
+    snippets_of_a_unit_stand_between_characters, some_events_leave_spans_open,
+};
 use gabc_score::{ScoreEvent, ScoreStage};
 use std::alloc::{AllocError, Global};
 
 /// Holds the syllable that `told` holds, if it holds one, by its canonical text `held`. Returns whether that text is a syllable.
-fn hold_told(stage: &mut ScoreStage, told: &ScoreStage, held: &str, room: &mut Room<ScoreEvent>) -> bool
+fn hold_told(
+    stage: &mut ScoreStage,
+    told: &ScoreStage,
+    held: &str,
+    room: &mut Room<ScoreEvent>,
+) -> bool
     requires runs { is_some (before_of told.now) ≡ true }
     requires within { IsToldWithin told.now }
     requires spans { IfSome (held_of told.now) (FollowsSpans told.now) }

@@ -16,7 +16,7 @@ use Rattle.gabc_score.specs.HeldAside.{MayStandFor}
 use Rattle.gabc_score.specs.Holding.{HasWholeSnippets}
 use Rattle.gabc_score.specs.ScoreEvents.{first_place}
 use Rattle.gabc_score.specs.SpansPast.{eu_past, nlba_past}
-use Rattle.gabc_score.specs.Syllable.{UnplacedSyllable, all_syllables, is_eu, is_nlba, slice, text_at}
+use Rattle.gabc_score.specs.Syllable.{UnplacedSyllable, all_syllables, slice, text_at}
 use Rattle.gabc_score.specs.ToldWithin.{written_behind}
 use Rattle.gabc_score.specs.UnitRead.{HoldsSomeUnit}
 use Rattle.gabc_write.specs.SyllableMeaning.{SyllableMeaning}
@@ -71,10 +71,10 @@ module _ (limits : Limits) (before : Before) (m : UnplacedSyllable) (own : IsRea
   pub bytes_behind : written_behind (preceding_of before) m ≡ encode_utf8_all own.text
   bytes_behind = own_behind ∙ own.bytes
 
-  module _ (open : CanBeOpen before.spans) (short : length (written_behind (preceding_of before) m) ≤ limits.syllable)
+  module _ (opened : CanBeOpen before.spans) (short : length (written_behind (preceding_of before) m) ≤ limits.syllable)
       (file : before.canonical + length (written_behind (preceding_of before) m) < limits.input) where
-    read : IsReadByItself before.nabc_lines before.macros m own.text first_place open.before
-    read = own.read first_place open.before open.leaves.nothing
+    read : IsReadByItself before.nabc_lines before.macros m own.text first_place opened.before
+    read = own.read first_place opened.before opened.leaves.nothing
 
     few : length (encode_utf8_all own.text) ≤ limits.syllable
     few = subst (λ (t : List ℕ). length t ≤ limits.syllable) bytes_behind short
@@ -82,12 +82,12 @@ module _ (limits : Limits) (before : Before) (m : UnplacedSyllable) (own : IsRea
     again_behind : written_behind (preceding_of before) read.again ≡ written_behind (preceding_of before) m
     again_behind = behind_is read.again read.says read.same_text ∙ sym own_behind
 
-    pub may_be_held : MayBeHeld limits before own.text read.again
-    may_be_held =
+    again_may_be_held : MayBeHeld limits before own.text read.again
+    again_may_be_held =
         record {
           read = record {
-            before = open.before;
-            leaves = open.leaves;
+            before = opened.before;
+            leaves = opened.leaves;
             none_earlier = read.none_earlier;
             one = read.one;
             few = λ n small. let on_the_way = read.few_on_the_way n small in omega (arith, on_the_way, few);
@@ -97,6 +97,9 @@ module _ (limits : Limits) (before : Before) (m : UnplacedSyllable) (own : IsRea
           short = subst (λ (t : List ℕ). length t ≤ limits.syllable) (sym again_behind) short;
           file = subst (λ (t : List ℕ). before.canonical + length t + 1 ≤ limits.input) (sym again_behind) (omega (arith, file));
         }
+
+    pub may_be_held : (n : UnplacedSyllable) × MayBeHeld limits before own.text n
+    may_be_held = (read.again, again_may_be_held)
 
   module _ (spans : (m.eu ≡ eu_past m before.spans.eu) × (m.nlba ≡ nlba_past m before.spans.nlba)) (holds : HoldsSomeUnit before.nabc_lines m)
       (whole : (lines : ℕ) (n : UnplacedSyllable) → HoldsSomeUnit lines n → HasWholeSnippets n) (n : UnplacedSyllable) (h : MayBeHeld limits before own.text n) where

@@ -1,5 +1,5 @@
 -- A stage that stands behind the same holds by its text what may stand for the syllable that is held.
-use Rattle.std.proofs.Common.{◌≡◌, ℕ, ◌+◌, ◌<◌, ◌≤◌, ◌^◌, Bool, true, false, List, length, encode_utf8_all, Option, Some, None, IfSome, is_some, refl, sym, ap, subst, ◌∙◌, arith}
+use Rattle.std.proofs.Common.{◌≡◌, ℕ, ◌<◌, ◌≤◌, ◌^◌, Bool, true, false, List, length, Option, Some, None, IfSome, is_some, refl, sym, ap, subst, ◌∙◌, arith}
 use Rattle.std.specs.Prelude.{IsUtf8, ◌==◌}
 use Rattle.std.specs.Str.{chars}
 use Rattle.std.proofs.lemmas.Str.{chars_from_encodes}
@@ -65,15 +65,15 @@ module _ (told old : ScoreStageState) (runs : is_some (before_of told) ≡ true)
       text_is = chars_from_encodes own.text held utf8 (sym (bytes_behind told.limits (told_before told) m own first) ∙ sym text)
 
       -- the text may be held there
-      pub is_held : (open : (spans : Spans) → CanBeOpen spans) (result : Bool)
+      pub is_held : (opened : (spans : Spans) → CanBeOpen spans) (result : Bool)
           → (result ≡ false → (n : UnplacedSyllable) → MayBeHeld old.limits (told_before old) (chars held) n → ⊥) → result ≡ true
-      is_held open true refused = refl
-      is_held open false refused =
-          let k = may_be_held told.limits (told_before told) m own first (open told.before.spans) within.short within.file in
-          absurd (refused refl _
-          (subst (λ (limits : Limits). MayBeHeld limits (told_before old) (chars held) _) (sym stands.limits_are)
-          (subst (λ (b : Before). MayBeHeld told.limits b (chars held) _) (sym before_old)
-          (subst (λ (t : List ℕ). MayBeHeld told.limits (told_before told) t _) text_is k))))
+      is_held opened true refused = refl
+      is_held opened false refused =
+          let k = may_be_held told.limits (told_before told) m own first (opened told.before.spans) within.short within.file in
+          absurd (refused refl k.0
+          (subst (λ (limits : Limits). MayBeHeld limits (told_before old) (chars held) k.0) (sym stands.limits_are)
+          (subst (λ (b : Before). MayBeHeld told.limits b (chars held) k.0) (sym before_old)
+          (subst (λ (t : List ℕ). MayBeHeld told.limits (told_before told) t k.0) text_is k.1))))
 
       pub begins_with_one : (whole : (lines : ℕ) (n : UnplacedSyllable) → HoldsSomeUnit lines n → HasWholeSnippets n) (new : ScoreStageState)
           → FollowsSpans told m → HoldsSomeUnit told.body.nabc_lines m → HoldsAgain (chars held) old new → BeginsAlike told new

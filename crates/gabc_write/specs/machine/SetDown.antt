@@ -1,5 +1,5 @@
 -- A stage on its way to be set down again.
-use Rattle.std.specs.Prelude.{◌≡◌, ◌==◌, Bool, false}
+use Rattle.std.specs.Prelude.{◌≡◌, ◌==◌, false}
 use Rattle.gabc_score.specs.HeldAside.{HoldTheSame}
 use Rattle.gabc_score.specs.Resumed.{BeginsText}
 use Rattle.gabc_score.specs.ScoreTells.{StandsAt, before_of, held_of, is_in_comment, is_in_front, openers_of, reading_of}
