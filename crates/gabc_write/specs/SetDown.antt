@@ -1,15 +1,17 @@
 -- A stage over a score that is set down again from what another one tells.
 use Rattle.std.specs.Prelude.{◌≡◌, List, true}
 use Rattle.gabc_headers.specs.declared.head_event.HeadEvent.{HeadEvent}
+use Rattle.gabc_score.specs.declared.before.Spans.{Spans}
 use Rattle.gabc_score.specs.HeldAside.{GiveTheSame}
 use Rattle.gabc_score.specs.ScoreTells.{held_of}
 use Rattle.gabc_score.specs.SpansPast.{eu_past, nlba_past}
 use Rattle.gabc_score.specs.Syllable.{UnplacedSyllable}
 use Rattle.gabc_score.specs.witness.ScoreStage.{ScoreStageState, left_of}
 
--- which spans are open behind a syllable that it holds follows from those before it
-abbrev pub FollowsSpans : ScoreStageState → UnplacedSyllable → Type 0
-FollowsSpans s m = (m.eu ≡ eu_past m s.before.spans.eu) × (m.nlba ≡ nlba_past m s.before.spans.nlba)
+-- the spans that are open behind a syllable follow from its text and from those that are open before it
+pub record FollowsSpans (spans : Spans) (m : UnplacedSyllable) : Type 0 where
+  pub eu : m.eu ≡ eu_past m spans.eu
+  pub nlba : m.nlba ≡ nlba_past m spans.nlba
 
 -- the first syllable of a score begins a word
 abbrev pub BeginsAtFirst : ScoreStageState → UnplacedSyllable → Type 0

@@ -19,6 +19,7 @@ use Rattle.gabc_score.specs.SpansPast.{eu_past, nlba_past}
 use Rattle.gabc_score.specs.Syllable.{UnplacedSyllable, all_syllables, slice, text_at}
 use Rattle.gabc_score.specs.ToldWithin.{written_behind}
 use Rattle.gabc_score.specs.UnitRead.{HoldsSomeUnit}
+use Rattle.gabc_write.specs.SetDown.{FollowsSpans}
 use Rattle.gabc_write.specs.SyllableMeaning.{SyllableMeaning}
 use Rattle.gabc_write.specs.SyllableRead.{SaysTheSame, IsReadByItself, IsReadFromItsText}
 
@@ -101,7 +102,7 @@ module _ (limits : Limits) (before : Before) (m : UnplacedSyllable) (own : IsRea
     pub may_be_held : (n : UnplacedSyllable) × MayBeHeld limits before own.text n
     may_be_held = (read.again, again_may_be_held)
 
-  module _ (spans : (m.eu ≡ eu_past m before.spans.eu) × (m.nlba ≡ nlba_past m before.spans.nlba)) (holds : HoldsSomeUnit before.nabc_lines m)
+  module _ (spans : FollowsSpans before.spans m) (holds : HoldsSomeUnit before.nabc_lines m)
       (whole : (lines : ℕ) (n : UnplacedSyllable) → HoldsSomeUnit lines n → HasWholeSnippets n) (n : UnplacedSyllable) (h : MayBeHeld limits before own.text n) where
     one : IsReadByItself before.nabc_lines before.macros m own.text first_place h.read.before
     one = own.read first_place h.read.before h.read.leaves.nothing
@@ -112,8 +113,8 @@ module _ (limits : Limits) (before : Before) (m : UnplacedSyllable) (own : IsRea
         record {
           starts = starts_are m refl ∙ sym (starts_are one.again starts);
           canonical = own_behind ∙ sym (behind_is one.again one.says one.same_text);
-          eu = spans.0 ∙ sym (one.eu_is ∙ ap (eu_past m) h.read.leaves.eu);
-          nlba = spans.1 ∙ sym (one.nlba_is ∙ ap (nlba_past m) h.read.leaves.nlba);
+          eu = spans.eu ∙ sym (one.eu_is ∙ ap (eu_past m) h.read.leaves.eu);
+          nlba = spans.nlba ∙ sym (one.nlba_is ∙ ap (nlba_past m) h.read.leaves.nlba);
           sounds = same_sound one.again m (whole before.nabc_lines one.again one.holds) (whole before.nabc_lines m holds) one.says;
         }
 

@@ -46,13 +46,11 @@ module _ (told old : ScoreStageState) (runs : is_some (before_of told) ≡ true)
 
   pub begins_with_none : held_of told ≡ None → BeginsAlike told old
   begins_with_none none = record {
-    holds = record {
-      limits_are = stands.limits_are;
-      before_is = stands.before_is ∙ sym before_told;
-      held =
-          subst (λ (o : Option UnplacedSyllable). HoldTheSame (told.before.syllables == 0) o (held_of old)) (sym none)
-          (subst (HoldTheSame (told.before.syllables == 0) None) (sym stands.none_held) tt);
-    };
+    limits_are = stands.limits_are;
+    before_is = stands.before_is ∙ sym before_told;
+    held =
+        subst (λ (o : Option UnplacedSyllable). HoldTheSame (told.before.syllables == 0) o (held_of old)) (sym none)
+        (subst (HoldTheSame (told.before.syllables == 0) None) (sym stands.none_held) tt);
     begins = stands.begins;
   }
 
@@ -76,7 +74,7 @@ module _ (told old : ScoreStageState) (runs : is_some (before_of told) ≡ true)
           (subst (λ (t : List ℕ). MayBeHeld told.limits (told_before told) t k.0) text_is k.1))))
 
       pub begins_with_one : (whole : (lines : ℕ) (n : UnplacedSyllable) → HoldsSomeUnit lines n → HasWholeSnippets n) (new : ScoreStageState)
-          → FollowsSpans told m → HoldsSomeUnit told.body.nabc_lines m → HoldsAgain (chars held) old new → BeginsAlike told new
+          → FollowsSpans told.before.spans m → HoldsSomeUnit told.body.nabc_lines m → HoldsAgain (chars held) old new → BeginsAlike told new
       begins_with_one whole new spans holds h =
           let may : MayBeHeld told.limits (told_before told) own.text h.m =
           subst (λ (limits : Limits). MayBeHeld limits (told_before told) own.text h.m) stands.limits_are
@@ -84,12 +82,10 @@ module _ (told old : ScoreStageState) (runs : is_some (before_of told) ≡ true)
           (subst (λ (t : List ℕ). MayBeHeld old.limits (told_before old) t h.m) (sym text_is) h.may)) in
           let stand : MayStandFor (told.before.syllables == 0) m h.m = stands_for told.limits (told_before told) m own first spans holds whole h.m may in
           record {
-            holds = record {
-              limits_are = h.limits ∙ stands.limits_are;
-              before_is = h.before_is ∙ stands.before_is ∙ sym before_told;
-              held =
-                  subst (λ (o : Option UnplacedSyllable). HoldTheSame (told.before.syllables == 0) o (held_of new)) (sym is)
-                  (subst (HoldTheSame (told.before.syllables == 0) (Some m)) (sym h.held) stand);
-            };
+            limits_are = h.limits ∙ stands.limits_are;
+            before_is = h.before_is ∙ stands.before_is ∙ sym before_told;
+            held =
+                subst (λ (o : Option UnplacedSyllable). HoldTheSame (told.before.syllables == 0) o (held_of new)) (sym is)
+                (subst (HoldTheSame (told.before.syllables == 0) (Some m)) (sym h.held) stand);
             begins = h.begins;
           }

@@ -28,5 +28,5 @@ returns-clause-begins c =
     (some_held (λ (n : UnplacedSyllable). c.args.held.now ≡ written_behind told.before n) _ m is c.requires.text) c.utf8.held
     (some_held (IsReadFromItsText told.body.nabc_lines told.body.macros) _ m is c.what_is_held_is_read_from_its_own_text.ensures)
     (some_held (BeginsAtFirst told) _ m is c.requires.first) c.snippets_of_a_unit_stand_between_characters.ensures c.hold_again.new.self
-    (some_held (FollowsSpans told) _ m is c.requires.spans)
+    (some_held (FollowsSpans told.before.spans) _ m is c.requires.spans)
     (some_held (HoldsSomeUnit told.body.nabc_lines) _ m is c.what_is_held_holds_a_unit.ensures) (c.hold_again.ensures.held (returns-clause-holds c))
