@@ -6,12 +6,13 @@ ghost use Rattle.gabc_score.specs.Resumed.{StandsBehind};
 ghost use Rattle.gabc_score.specs.ScoreTells.{StandsAt, before_of, before_with, held_of, is_in_front};
 ghost use Rattle.gabc_score.specs.ToldWithin.{IsToldWithin, written_behind};
 ghost use Rattle.gabc_write.specs.SetDown.{BeginsAtFirst, FollowsSpans, GoesOnAlike};
-ghost use Rattle.gabc_write.specs.machine.SetDown.{BeginsAlike};
+ghost use Rattle.gabc_write.specs.machine.SetDown.{BeginsAlike, TellsAlike};
 
 use crate::laws::what_is_held_is_read_from_its_own_text;
 use gabc_places::{Limits, Room};
 use gabc_score::stage_laws::{
-    a_kept_text_gives_the_stage_back, what_is_held_holds_a_unit, what_is_told_is_within_the_limits,
+    stages_that_tell_the_same_agree, what_is_held_holds_a_unit, what_is_read_can_be_read_again,
+    what_is_told_is_within_the_limits,
 };
 use gabc_score::unit_laws::{
     snippets_of_a_unit_stand_between_characters, some_events_leave_spans_open,
@@ -49,6 +50,27 @@ fn hold_told(
     stage.hold_again(held, room)
 }
 
+/// Reads what `told` has read of the syllable that is not whole. Returns whether that is a part of a syllable.
+fn read_told(stage: &mut ScoreStage, told: &ScoreStage) -> bool
+    requires runs { is_some (before_of told.now) ≡ true }
+    requires front { is_in_front told.now.body.part ≡ false }
+    requires begins { BeginsAlike told.now stage.old }
+    ensures reads { result ≡ true }
+    ensures tells { TellsAlike told.now stage.new }
+{
+    what_is_read_can_be_read_again(told);
+    let Some(openers) = told.openers() else {
+        return false;
+    };
+    let Some(in_comment) = told.in_comment() else {
+        return false;
+    };
+    let Some(next) = told.next() else {
+        return false;
+    };
+    stage.read_again(told.reading(), openers, in_comment, next)
+}
+
 /// From what `told` tells in the body, not in front of the first text, a stage under the same `limits` is made that gives the same of whatever
 /// follows. It is resumed behind what stands before, holds the syllable of which `held` is the canonical text there, if one is held, and
 /// reads the kept text of the next one. `room` is empty and has room for 16 events; nothing stands in it afterwards. It fails only for want of
@@ -80,6 +102,9 @@ pub fn a_stage_is_set_down_again(
     if !hold_told(&mut stage, told, held, room) {
         return Ok(None);
     }
-    a_kept_text_gives_the_stage_back(told, &mut stage);
+    if !read_told(&mut stage, told) {
+        return Ok(None);
+    }
+    stages_that_tell_the_same_agree(told, &stage);
     Ok(Some(stage))
 }

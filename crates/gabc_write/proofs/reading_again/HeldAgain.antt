@@ -1,5 +1,5 @@
 -- The text of a syllable may be held again behind what stands before it, and what may be held with it may stand for that syllable.
-use Rattle.std.proofs.Common.{◌≡◌, ℕ, ◌+◌, ◌<◌, ◌≤◌, ◌==◌, ◌||◌, ◌&&◌, Bool, true, false, List, [], ◌∷◌, ◌++◌, length, get_or, map, is_some, encode_utf8_all, refl, sym, ap, subst, ◌∙◌, arith, eqb-true}
+use Rattle.std.proofs.Common.{◌≡◌, ℕ, ◌+◌, ◌<◌, ◌≤◌, ◌==◌, ◌||◌, ◌&&◌, Bool, true, false, List, [], ◌∷◌, ◌++◌, length, get_or, map, is_some, encode_utf8_all, Some, refl, sym, ap, ap₂, subst, ◌∙◌, arith, eqb-true}
 use Rattle.std.specs.List.{All, list_any}
 use Rattle.std.proofs.lemmas.List.{append_cancel_left}
 use Rattle.std.proofs.lemmas.List.Elements.{All-head, All-tail}
@@ -19,8 +19,8 @@ use Rattle.gabc_score.specs.SpansPast.{eu_past, nlba_past}
 use Rattle.gabc_score.specs.Syllable.{UnplacedSyllable, all_syllables, slice, text_at}
 use Rattle.gabc_score.specs.ToldWithin.{written_behind}
 use Rattle.gabc_score.specs.UnitRead.{HoldsSomeUnit}
-use Rattle.gabc_write.specs.SetDown.{FollowsSpans}
-use Rattle.gabc_write.specs.SyllableMeaning.{SyllableMeaning}
+use Rattle.gabc_write.specs.SetDown.{FollowsSpans, SayTheSame}
+use Rattle.gabc_write.specs.SyllableMeaning.{SyllableMeaning, meaning_of}
 use Rattle.gabc_write.specs.SyllableRead.{SaysTheSame, IsReadByItself, IsReadFromItsText}
 
 -- ---- whether it sounds is said
@@ -118,5 +118,14 @@ module _ (limits : Limits) (before : Before) (m : UnplacedSyllable) (own : IsRea
           sounds = same_sound one.again m (whole before.nabc_lines one.again one.holds) (whole before.nabc_lines m holds) one.says;
         }
 
+    one_is : one.again ≡ n
+    one_is = last_one (all_syllables h.read.before) one.again n (sym one.one ∙ h.read.one)
+
     pub stands_for : MayStandFor (before.syllables == 0) m n
-    stands_for = subst (MayStandFor (before.syllables == 0) m) (last_one (all_syllables h.read.before) one.again n (sym one.one ∙ h.read.one)) one_stands
+    stands_for = subst (MayStandFor (before.syllables == 0) m) one_is one_stands
+
+    pub says_again : SayTheSame (Some m) (Some n)
+    says_again position =
+        ap₂ (λ (eu nlba : Bool). meaning_of (record { made = record m { eu = eu; nlba = nlba }; position = position })) one_stands.eu one_stands.nlba
+        ∙ sym (one.says position)
+        ∙ ap (λ (s : UnplacedSyllable). meaning_of (record { made = s; position = position })) one_is

@@ -17,10 +17,10 @@ use Rattle.gabc_score.specs.Syllable.{UnplacedSyllable}
 use Rattle.gabc_score.specs.ToldWithin.{IsHeldWithin, written_behind}
 use Rattle.gabc_score.specs.UnitRead.{HoldsSomeUnit}
 use Rattle.gabc_score.specs.witness.ScoreStage.{ScoreStageState}
-use Rattle.gabc_write.specs.SetDown.{BeginsAtFirst, FollowsSpans}
+use Rattle.gabc_write.specs.SetDown.{BeginsAtFirst, FollowsSpans, SayTheSame}
 use Rattle.gabc_write.specs.SyllableRead.{IsReadFromItsText}
 use Rattle.gabc_write.specs.machine.SetDown.{BeginsAlike}
-use Rattle.gabc_write.proofs.reading_again.HeldAgain.{bytes_behind, may_be_held, stands_for}
+use Rattle.gabc_write.proofs.reading_again.HeldAgain.{bytes_behind, may_be_held, says_again, stands_for}
 
 abbrev told_before : ScoreStageState → Before
 told_before s = before_with s.body s.before
@@ -46,11 +46,14 @@ module _ (told old : ScoreStageState) (runs : is_some (before_of told) ≡ true)
 
   pub begins_with_none : held_of told ≡ None → BeginsAlike told old
   begins_with_none none = record {
-    limits_are = stands.limits_are;
-    before_is = stands.before_is ∙ sym before_told;
-    held =
-        subst (λ (o : Option UnplacedSyllable). HoldTheSame (told.before.syllables == 0) o (held_of old)) (sym none)
-        (subst (HoldTheSame (told.before.syllables == 0) None) (sym stands.none_held) tt);
+    holds = record {
+      limits_are = stands.limits_are;
+      before_is = stands.before_is ∙ sym before_told;
+      held =
+          subst (λ (o : Option UnplacedSyllable). HoldTheSame (told.before.syllables == 0) o (held_of old)) (sym none)
+          (subst (HoldTheSame (told.before.syllables == 0) None) (sym stands.none_held) tt);
+      says = subst (λ (o : Option UnplacedSyllable). SayTheSame o (held_of old)) (sym none) (subst (SayTheSame None) (sym stands.none_held) tt);
+    };
     begins = stands.begins;
   }
 
@@ -81,11 +84,15 @@ module _ (told old : ScoreStageState) (runs : is_some (before_of told) ≡ true)
           (subst (λ (b : Before). MayBeHeld old.limits b own.text h.m) before_old
           (subst (λ (t : List ℕ). MayBeHeld old.limits (told_before old) t h.m) (sym text_is) h.may)) in
           let stand : MayStandFor (told.before.syllables == 0) m h.m = stands_for told.limits (told_before told) m own first spans holds whole h.m may in
+          let says : SayTheSame (Some m) (Some h.m) = says_again told.limits (told_before told) m own first spans holds whole h.m may in
           record {
-            limits_are = h.limits ∙ stands.limits_are;
-            before_is = h.before_is ∙ stands.before_is ∙ sym before_told;
-            held =
-                subst (λ (o : Option UnplacedSyllable). HoldTheSame (told.before.syllables == 0) o (held_of new)) (sym is)
-                (subst (HoldTheSame (told.before.syllables == 0) (Some m)) (sym h.held) stand);
+            holds = record {
+              limits_are = h.limits ∙ stands.limits_are;
+              before_is = h.before_is ∙ stands.before_is ∙ sym before_told;
+              held =
+                  subst (λ (o : Option UnplacedSyllable). HoldTheSame (told.before.syllables == 0) o (held_of new)) (sym is)
+                  (subst (HoldTheSame (told.before.syllables == 0) (Some m)) (sym h.held) stand);
+              says = subst (λ (o : Option UnplacedSyllable). SayTheSame o (held_of new)) (sym is) (subst (SayTheSame (Some m)) (sym h.held) says);
+            };
             begins = h.begins;
           }
