@@ -21,6 +21,11 @@ pub record LeavesOpen (spans : Spans) (before : List BodyEvent) : Type 0 where
   pub eu : is_eu before ≡ spans.eu
   pub nlba : is_nlba before ≡ spans.nlba
 
+-- some events leave these spans open
+pub record CanBeOpen (spans : Spans) : Type 0 where
+  pub before : List BodyEvent
+  pub leaves : LeavesOpen spans before
+
 module _ (lines macros : ℕ) (at : Place) (text : List ℕ) where
   -- what the first n characters of a text emit, which begins at this place
   abbrev pub emitted_first : ℕ → List BodyEvent

@@ -7,11 +7,13 @@ ghost use Rattle.gabc_places.specs.declared.place.Char.{Char};
 ghost use Rattle.gabc_places.specs.declared.place.Place.{Place};
 ghost use Rattle.gabc_text.specs.Events.{codes_of};
 ghost use Rattle.gabc_notes.specs.ReadAgain.{IsWarning};
+ghost use Rattle.gabc_score.specs.declared.before.Spans.{Spans};
 ghost use Rattle.gabc_score.specs.declared.events.BodyEvent.{BodyEvent};
 ghost use Rattle.gabc_score.specs.Body.{events_onto, findings_of};
 ghost use Rattle.gabc_score.specs.Events.{texts_by_definition, text_from};
 ghost use Rattle.gabc_score.specs.Canonical.{canonical};
 ghost use Rattle.gabc_score.specs.FoundInParts.{TextWarns, SnippetsWarn};
+ghost use Rattle.gabc_score.specs.HeldAgain.{CanBeOpen};
 ghost use Rattle.gabc_score.specs.Holding.{HoldsWithNotes, HasWholeSnippets};
 ghost use Rattle.gabc_score.specs.SpansPast.{eu_past, nlba_past};
 ghost use Rattle.gabc_score.specs.Syllable.{UnplacedSyllable, PlacedSyllable, since_close};
@@ -74,4 +76,9 @@ pub fn spans_follow_one_another()
 pub fn a_syllable_with_its_parts_holds_a_unit()
     ensures { (input : List ℕ) (lines : ℕ) (m : UnplacedSyllable) → HoldsWithNotes input lines m →
         (lines ≡ 0 → length m.snippets ≤ 1) → HoldsSomeUnit lines m }
+{}
+
+/// Whichever spans are to be open, some events leave just these open, and nothing is read behind them.
+pub fn some_events_leave_spans_open()
+    ensures { (spans : Spans) → CanBeOpen spans }
 {}

@@ -1,5 +1,6 @@
 pub mod CanonicalTextIsPrintedSyllable
 pub mod CanonicalTextsArePrinted
+pub mod HeldAgain
 pub mod HeldIsReadAgain
 pub mod NoErrorIsFoundAgain
 pub mod NoLimitIsPassedAgain
@@ -11,6 +12,7 @@ pub mod PrintedSyllableIsOneUnit
 pub mod ScoreIsPrinted
 pub mod ScoreReadAgainIsTheSame
 pub mod SnippetsAreReadAgain
+pub mod StageHoldsAgain
 pub mod SyllableIsReadFromItsText
 pub mod SyllablesHoldUnits
 pub mod SyllablesSayTheSame

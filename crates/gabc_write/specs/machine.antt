@@ -1,3 +1,4 @@
 pub mod NamesBehindFirst
 pub mod NoteLines
+pub mod SetDown
 pub mod TextLine

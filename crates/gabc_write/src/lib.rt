@@ -20,6 +20,7 @@ mod escape;
 pub mod laws;
 mod message;
 mod scratch;
+pub mod set_down;
 
 pub use dump::{dump_end, dump_header};
 pub use dump_syllables::{dump_len, dump_syllable};

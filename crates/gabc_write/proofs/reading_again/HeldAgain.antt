@@ -1,0 +1,131 @@
+-- The text of a syllable may be held again behind what stands before it, and what may be held with it may stand for that syllable.
+use Rattle.std.proofs.Common.{◌≡◌, ℕ, ◌+◌, ◌<◌, ◌≤◌, ◌==◌, ◌||◌, ◌&&◌, Bool, true, false, List, [], ◌∷◌, ◌++◌, length, get_or, map, is_some, encode_utf8_all, Some, refl, sym, ap, ap₂, subst, ◌∙◌, arith, eqb-true}
+use Rattle.std.specs.List.{All, list_any}
+use Rattle.std.proofs.lemmas.List.{append_cancel_left}
+use Rattle.std.proofs.lemmas.List.Elements.{All-head, All-tail}
+use Rattle.gabc_places.specs.declared.limits.Limits.{Limits}
+use Rattle.gabc_notes.specs.FirstNoteOrClef.{first_note_or_clef}
+use Rattle.gabc_notes.specs.Items.{items_of}
+use Rattle.gabc_score.specs.declared.before.Before.{Before}
+use Rattle.gabc_score.specs.declared.snippets.Snippet.{Snippet}
+use Rattle.gabc_score.specs.declared.syllable.Position.TheVariants.{One}
+use Rattle.gabc_score.specs.Before.{preceding_of, sounds, sounds_in}
+use Rattle.gabc_score.specs.Canonical.{canonical}
+use Rattle.gabc_score.specs.HeldAgain.{CanBeOpen, MayBeHeld}
+use Rattle.gabc_score.specs.HeldAside.{MayStandFor}
+use Rattle.gabc_score.specs.Holding.{HasWholeSnippets}
+use Rattle.gabc_score.specs.ScoreEvents.{first_place}
+use Rattle.gabc_score.specs.SpansPast.{eu_past, nlba_past}
+use Rattle.gabc_score.specs.Syllable.{UnplacedSyllable, all_syllables, slice, text_at}
+use Rattle.gabc_score.specs.ToldWithin.{written_behind}
+use Rattle.gabc_score.specs.UnitRead.{HoldsSomeUnit}
+use Rattle.gabc_write.specs.SetDown.{FollowsSpans, SayTheSame}
+use Rattle.gabc_write.specs.SyllableMeaning.{SyllableMeaning, meaning_of}
+use Rattle.gabc_write.specs.SyllableRead.{SaysTheSame, IsReadByItself, IsReadFromItsText}
+
+-- ---- whether it sounds is said
+
+abbrev said_by : List ℕ → Snippet → ℕ × List ℕ
+said_by kept s = (s.line, slice s.span kept)
+
+abbrev sounds_said : ℕ × List ℕ → Bool
+sounds_said s = (s.0 == 0) && is_some (first_note_or_clef (items_of s.1))
+
+abbrev IsWhole : List ℕ → Snippet → Type 0
+IsWhole kept s = text_at s.span kept ≡ slice s.span kept
+
+sound_is_said : (kept : List ℕ) (ss : List Snippet) → All (IsWhole kept) ss → sounds_in kept ss ≡ list_any sounds_said (map (said_by kept) ss)
+sound_is_said kept [] h = refl
+sound_is_said kept (s ∷ ss) h =
+    ap (λ (t : List ℕ). ((s.line == 0) && is_some (first_note_or_clef (items_of t))) || sounds_in kept ss) (All-head (IsWhole kept) s ss h)
+    ∙ ap (λ (b : Bool). sounds_said (said_by kept s) || b) (sound_is_said kept ss (All-tail (IsWhole kept) s ss h))
+
+same_sound : (n m : UnplacedSyllable) → HasWholeSnippets n → HasWholeSnippets m → SaysTheSame n m → sounds m ≡ sounds n
+same_sound n m whole_n whole_m says =
+    sound_is_said m.kept m.snippets whole_m
+    ∙ ap (λ (s : SyllableMeaning). list_any sounds_said s.snippets) (sym (says One))
+    ∙ sym (sound_is_said n.kept n.snippets whole_n)
+
+last_one : {A : Type 0} → (xs : List A) (x y : A) → xs ++ x ∷ [] ≡ xs ++ y ∷ [] → x ≡ y
+last_one xs x y e = ap (λ l. get_or l 0 x) (append_cancel_left xs (x ∷ []) (y ∷ []) e)
+
+-- ---- behind what stands before it
+
+module _ (limits : Limits) (before : Before) (m : UnplacedSyllable) (own : IsReadFromItsText before.nabc_lines before.macros m)
+    (first : before.syllables ≡ 0 → m.text.word_start ≡ true) where
+  starts_are : (n : UnplacedSyllable) → n.text.word_start ≡ m.text.word_start → ((before.syllables == 0) || n.text.word_start) ≡ m.text.word_start
+  starts_are n e = by (before.syllables == 0) refl
+    where
+      by : (b : Bool) → (before.syllables == 0) ≡ b → (b || n.text.word_start) ≡ m.text.word_start
+      by true g = sym (first (eqb-true before.syllables 0 g))
+      by false g = e
+
+  -- one that says the same, with the same text, has the same canonical text there
+  behind_is : (n : UnplacedSyllable) → SaysTheSame n m → canonical n.text.word_start n ≡ canonical m.text.word_start m → written_behind (preceding_of before) n ≡ canonical m.text.word_start m
+  behind_is n says e =
+      let starts : n.text.word_start ≡ m.text.word_start = ap (λ (s : SyllableMeaning). s.word_start) (says One) in
+      ap (λ (b : Bool). canonical b n) (starts_are n starts ∙ sym starts) ∙ e
+
+  own_behind : written_behind (preceding_of before) m ≡ canonical m.text.word_start m
+  own_behind = ap (λ (b : Bool). canonical b m) (starts_are m refl)
+
+  pub bytes_behind : written_behind (preceding_of before) m ≡ encode_utf8_all own.text
+  bytes_behind = own_behind ∙ own.bytes
+
+  module _ (opened : CanBeOpen before.spans) (short : length (written_behind (preceding_of before) m) ≤ limits.syllable)
+      (file : before.canonical + length (written_behind (preceding_of before) m) < limits.input) where
+    read : IsReadByItself before.nabc_lines before.macros m own.text first_place opened.before
+    read = own.read first_place opened.before opened.leaves.nothing
+
+    few : length (encode_utf8_all own.text) ≤ limits.syllable
+    few = subst (λ (t : List ℕ). length t ≤ limits.syllable) bytes_behind short
+
+    again_behind : written_behind (preceding_of before) read.again ≡ written_behind (preceding_of before) m
+    again_behind = behind_is read.again read.says read.same_text ∙ sym own_behind
+
+    again_may_be_held : MayBeHeld limits before own.text read.again
+    again_may_be_held =
+        record {
+          read = record {
+            before = opened.before;
+            leaves = opened.leaves;
+            none_earlier = read.none_earlier;
+            one = read.one;
+            few = λ n small. let on_the_way = read.few_on_the_way n small in omega (arith, on_the_way, few);
+            warnings = read.warnings;
+          };
+          kept = let kept = read.few in omega (arith, kept, few);
+          short = subst (λ (t : List ℕ). length t ≤ limits.syllable) (sym again_behind) short;
+          file = subst (λ (t : List ℕ). before.canonical + length t + 1 ≤ limits.input) (sym again_behind) (omega (arith, file));
+        }
+
+    pub may_be_held : (n : UnplacedSyllable) × MayBeHeld limits before own.text n
+    may_be_held = (read.again, again_may_be_held)
+
+  module _ (spans : FollowsSpans before.spans m) (holds : HoldsSomeUnit before.nabc_lines m)
+      (whole : (lines : ℕ) (n : UnplacedSyllable) → HoldsSomeUnit lines n → HasWholeSnippets n) (n : UnplacedSyllable) (h : MayBeHeld limits before own.text n) where
+    one : IsReadByItself before.nabc_lines before.macros m own.text first_place h.read.before
+    one = own.read first_place h.read.before h.read.leaves.nothing
+
+    one_stands : MayStandFor (before.syllables == 0) m one.again
+    one_stands =
+        let starts : one.again.text.word_start ≡ m.text.word_start = ap (λ (s : SyllableMeaning). s.word_start) (one.says One) in
+        record {
+          starts = starts_are m refl ∙ sym (starts_are one.again starts);
+          canonical = own_behind ∙ sym (behind_is one.again one.says one.same_text);
+          eu = spans.eu ∙ sym (one.eu_is ∙ ap (eu_past m) h.read.leaves.eu);
+          nlba = spans.nlba ∙ sym (one.nlba_is ∙ ap (nlba_past m) h.read.leaves.nlba);
+          sounds = same_sound one.again m (whole before.nabc_lines one.again one.holds) (whole before.nabc_lines m holds) one.says;
+        }
+
+    one_is : one.again ≡ n
+    one_is = last_one (all_syllables h.read.before) one.again n (sym one.one ∙ h.read.one)
+
+    pub stands_for : MayStandFor (before.syllables == 0) m n
+    stands_for = subst (MayStandFor (before.syllables == 0) m) one_is one_stands
+
+    pub says_again : SayTheSame (Some m) (Some n)
+    says_again position =
+        ap₂ (λ (eu nlba : Bool). meaning_of (record { made = record m { eu = eu; nlba = nlba }; position = position })) one_stands.eu one_stands.nlba
+        ∙ sym (one.says position)
+        ∙ ap (λ (s : UnplacedSyllable). meaning_of (record { made = s; position = position })) one_is
