@@ -1,5 +1,5 @@
 -- A text that is read by itself as one syllable, which is held then.
-use Rattle.std.specs.Prelude.{◌≡◌, ℕ, ◌+◌, ◌==◌, ◌||◌, ◌<◌, ◌≤◌, List, [], ◌∷◌, ◌++◌, length, encode_utf8_all}
+use Rattle.std.specs.Prelude.{◌≡◌, ℕ, ◌+◌, ◌<◌, ◌≤◌, List, [], ◌∷◌, ◌++◌, length, encode_utf8_all}
 use Rattle.std.specs.List.{All}
 use Rattle.gabc_places.specs.declared.limits.Limits.{Limits}
 use Rattle.gabc_places.specs.declared.place.Place.{Place}
@@ -9,9 +9,10 @@ use Rattle.gabc_score.specs.declared.before.Before.{Before}
 use Rattle.gabc_score.specs.declared.before.Spans.{Spans}
 use Rattle.gabc_score.specs.declared.events.BodyEvent.{BodyEvent}
 use Rattle.gabc_score.specs.Body.{events_onto, findings_of}
-use Rattle.gabc_score.specs.Canonical.{canonical}
+use Rattle.gabc_score.specs.Before.{preceding_of}
 use Rattle.gabc_score.specs.ScoreEvents.{first_place}
 use Rattle.gabc_score.specs.Syllable.{UnplacedSyllable, since_close, kept_of, all_syllables, is_eu, is_nlba}
+use Rattle.gabc_score.specs.ToldWithin.{written_behind}
 use Rattle.gabc_score.specs.UnitRead.{first_events}
 
 -- behind these events, the nearest first, nothing is read, and these spans are open
@@ -39,13 +40,9 @@ module _ (lines macros : ℕ) (at : Place) (text : List ℕ) where
     pub few : (n : ℕ) → n ≤ length text → length (kept_of (since_close (emitted_behind before n))) ≤ limit
     pub warnings : All IsWarning (findings_of (emitted_behind [] (length text)))
 
--- the canonical text of a syllable that stands behind what `before` tells
-abbrev pub canonical_behind : Before → UnplacedSyllable → List ℕ
-canonical_behind before m = canonical ((before.syllables == 0) || m.text.word_start) m
-
 -- Behind what `before` tells, the text is this syllable, and no limit is passed with it.
 pub record MayBeHeld (limits : Limits) (before : Before) (text : List ℕ) (m : UnplacedSyllable) : Type 0 where
   pub read : IsOneSyllable before.nabc_lines before.macros first_place text before.spans limits.syllable m
   pub kept : length m.kept ≤ limits.syllable
-  pub short : length (canonical_behind before m) ≤ limits.syllable
-  pub file : before.canonical + length (canonical_behind before m) + 1 ≤ limits.input
+  pub short : length (written_behind (preceding_of before) m) ≤ limits.syllable
+  pub file : before.canonical + length (written_behind (preceding_of before) m) + 1 ≤ limits.input

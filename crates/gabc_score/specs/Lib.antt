@@ -20,6 +20,7 @@ pub mod SpansPast
 pub mod Stops
 pub mod Syllable
 pub mod SyllablesOfUnits
+pub mod ToldWithin
 pub mod UnitRead
 pub mod Units
 pub mod WithinLimits

@@ -17,6 +17,7 @@ use Rattle.gabc_score.specs.Before.{no_syllable, with_placed}
 use Rattle.gabc_score.specs.declared.score_machine.ScorePart.{ScorePart}
 use Rattle.gabc_score.specs.declared.score_machine.ScorePart.TheVariants as score_part
 use Rattle.gabc_score.specs.ScoreTells.{StandsAt}
+use Rattle.gabc_score.specs.ToldWithin.{AreCountsWithin, IsTextCharacter, TellsOfText}
 use Rattle.gabc_score.specs.ScoreEvents.{first_place, ScoreOutput, Found, Stop, Syllable, End, syllables_in}
 use Rattle.gabc_score.specs.Canonical.{canonical_in_place}
 use Rattle.gabc_score.specs.Syllable.{UnplacedSyllable, PlacedSyllable}
@@ -79,6 +80,16 @@ abbrev pub StandsHere : HeadEvent → Place → Type 0
 StandsHere (head_event.Body x) next = x.place ≡ next
 StandsHere x next = Unit {0}
 
+-- neither the line of a character nor its column has reached its last value
+abbrev pub IsPlaceBelow : Char → Type 0
+IsPlaceBelow x = (x.place.line + 1 < 2 ^ 64) × (x.place.column + 1 < 2 ^ 64)
+
+-- An input may come of a text where the next character stands at this place: the numbers of its headers, or this character.
+abbrev pub MayCome : Limits → Place → HeadEvent → Type 0
+MayCome limits next (head_event.Heads lines macros canonical) = AreCountsWithin limits lines macros canonical
+MayCome limits next (head_event.Body x) = (x.place ≡ next) × (IsPlaceBelow x × IsTextCharacter x.c)
+MayCome limits next x = Unit {0}
+
 -- in the body a text has counted the place of the next character
 abbrev pub StandsInLine : ScoreStageState → Type 0
 StandsInLine s = s.part ≡ score_part.Body → StandsAt s.held.next s.body.part
@@ -91,6 +102,7 @@ pub record GivesAt (before : ScoreStageState) (x : HeadEvent) (after : ScoreStag
   pub before_held : after.part ≡ score_part.Body → after.before ≡ preceding_past before.part x outputs before.before
   pub next : after.part ≡ score_part.Body → after.held.next ≡ next_past before.part x before.held.next
   pub stands : StandsHere x before.held.next → StandsInLine before → StandsInLine after
+  pub told : MayCome before.limits before.held.next x → StandsInLine before → TellsOfText before → TellsOfText after
   pub law : (xs : List HeadEvent) → left_of before (x ∷ xs) ≡ outputs ∷ left_of after xs
   pub emitted : GivesOutputs outputs old new after.first after.second
 
@@ -124,12 +136,10 @@ pub record GivesNothing (before : ScoreStageState) (at : Place) (bytes : List �
   pub before_held : after.before ≡ before.before
   pub next : after.held.next ≡ behind_front at (length bytes) before.held.next
   pub stands : at ≡ before.held.next → StandsInLine before → StandsInLine after
+  pub told : at ≡ before.held.next → StandsInLine before → TellsOfText before → TellsOfText after
   pub law : (xs : List HeadEvent) → left_of before (body_inputs at bytes ++ xs) ≡ nothing_each bytes ++ left_of after xs
 
 -- ---- counts that have not reached their last value
-
-abbrev pub IsPlaceBelow : Char → Type 0
-IsPlaceBelow x = (x.place.line + 1 < 2 ^ 64) × (x.place.column + 1 < 2 ^ 64)
 
 -- neither the characters of the body among these nor what was counted of the headers
 abbrev pub AreCountsBelow : List HeadEvent → Type 0

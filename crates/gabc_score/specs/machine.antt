@@ -3,9 +3,12 @@ pub mod Collected
 pub mod Fronts
 pub mod Gatherer
 pub mod HeldAside
+pub mod HeldWithin
 pub mod PartCounts
 pub mod PartKeeps
 pub mod PartMakes
+pub mod PartOnly
+pub mod PartOpens
 pub mod PartPushes
 pub mod Preceded
 pub mod Quiet

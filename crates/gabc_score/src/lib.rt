@@ -47,6 +47,7 @@ mod snippets;
 pub mod stage_laws;
 mod syllable;
 mod syllables;
+mod told_laws;
 pub mod unit_laws;
 mod whole;
 

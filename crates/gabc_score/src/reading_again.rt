@@ -134,8 +134,7 @@ impl ScoreMachine {
     pub(crate) fn can_be_read_again(&self)
         requires rests { IsScore self.now }
         ensures { is_some (before_of (shown self.now)) ≡ true → CanBeReadAgain (shown self.now) }
-    {
-    }
+    {}
 }
 
 impl ScoreStage {

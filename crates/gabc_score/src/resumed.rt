@@ -4,15 +4,17 @@ ghost use Rattle.std.specs.Prelude.{◌≡◌, ◌<◌, ◌≤◌, ◌^◌, not,
 ghost use Rattle.std.specs.List.{list_any};
 ghost use Rattle.std.specs.Str.{chars};
 ghost use Rattle.gabc_text.specs.TextStage.{fresh_stage};
+ghost use Rattle.gabc_score.specs.Before.{preceding_of};
 ghost use Rattle.gabc_score.specs.HeldAgain.{MayBeHeld};
 ghost use Rattle.gabc_score.specs.Resumed.{BeginsText, HoldsAgain, StandsBehind};
 ghost use Rattle.gabc_score.specs.ScoreTells.{before_of, before_with, held_of};
 ghost use Rattle.gabc_score.specs.Syllable.{UnplacedSyllable};
+ghost use Rattle.gabc_score.specs.ToldWithin.{IsAtOutset};
 ghost use Rattle.gabc_score.specs.machine.PartCounts.{CountsHold};
 ghost use Rattle.gabc_score.specs.machine.PartKeeps.{in_text, PartKeeps};
 ghost use Rattle.gabc_score.specs.machine.SyllableBuilder.{nothing_open};
 ghost use Rattle.gabc_score.specs.machine.ReadAlone.{is_error_event, is_alone, lists_of, HasRead, ReadsAlone};
-ghost use Rattle.gabc_score.specs.machine.Resumed.{first_sounded, gathered_behind, preceding_in};
+ghost use Rattle.gabc_score.specs.machine.Resumed.{first_sounded, gathered_behind};
 ghost use Rattle.gabc_score.specs.machine.ScoreMachine.{shown, IsInBody, IsScore};
 
 use crate::before::{Before, Preceding};
@@ -38,7 +40,7 @@ fn first_sounded(sounded: bool) -> Option<ItemKind>
 impl Before {
     /// Returns what the syllables before come to.
     fn preceding(self) -> Preceding
-        ensures { result ≡ preceding_in self }
+        ensures { result ≡ preceding_of self }
     {
         Preceding {
             syllables: self.syllables,
@@ -78,6 +80,7 @@ impl BodyStage {
 impl ScoreMachine {
     /// Returns a machine in the body, behind the syllables of which `before` tells, and reserves the memory that it ever takes.
     fn resume(alloc: Global, limits: Limits, before: Before) -> Result<ScoreMachine, AllocError>
+        requires { IsAtOutset (preceding_of before) }
         ensures stands { IfOk result (λ m. StandsBehind limits before (shown m)) }
         ensures rests { IfOk result (λ m. IsScore m) }
     {
@@ -216,9 +219,10 @@ impl ScoreMachine {
 impl ScoreStage {
     /// Returns a stage in the body that stands behind the syllables of which `before` tells, and reserves the memory that it ever takes, as
     /// `with_limits` does. It holds no syllable, and the next character is the first of a text. `before` is what another stage under the same
-    /// limits told of what stands before the syllable that it held; `go_to` says where the next character stands. It fails only for want of
-    /// memory.
+    /// limits told of what stands before the syllable that it held: where no syllable does, no span is open and nothing has sounded. `go_to` says
+    /// where the next character stands. It fails only for want of memory.
     pub fn resume(alloc: Global, limits: Limits, before: Before) -> Result<ScoreStage, AllocError>
+        requires { IsAtOutset (preceding_of before) }
         ensures { IfOk result (λ stage. StandsBehind limits before stage) }
     {
         Ok(ScoreStage {

@@ -7,6 +7,7 @@ ghost use Rattle.gabc_places.specs.declared.code.Fault.{Fault};
 ghost use Rattle.gabc_places.specs.declared.limits.Limits.{Limits};
 ghost use Rattle.gabc_places.specs.BoundedList.{Fits, extended_by};
 ghost use Rattle.gabc_places.specs.declared.place.Place.{Place};
+ghost use Rattle.gabc_places.specs.Findings.{IsUpTo};
 ghost use Rattle.gabc_places.specs.Place.{placed_characters_from};
 ghost use Rattle.gabc_places.specs.StageLaw.{concat_of};
 ghost use Rattle.gabc_text.specs.Events.{CountsFit};
@@ -22,12 +23,13 @@ ghost use Rattle.gabc_score.specs.ScoreStage.{AreCountsBelow, GivesAt, IsWithinA
 ghost use Rattle.gabc_score.specs.SpansPast.{FollowsSpans};
 ghost use Rattle.gabc_score.specs.UnitRead.{HoldsSomeUnit};
 ghost use Rattle.gabc_score.specs.witness.ReadAgain.{CanBeReadAgain};
+ghost use Rattle.gabc_score.specs.ToldWithin.{IsPlace, IsToldWithin, TellsOfText};
 ghost use Rattle.gabc_score.specs.witness.ScoreStage.{ScoreStageState, left_of};
 
 use crate::score_event::ScoreEvent;
 use crate::score_stage::ScoreStage;
 use gabc_headers::HeadEvent;
-use gabc_places::{Limits, Room, Stage, drive};
+use gabc_places::{Limits, Place, Room, Stage, drive};
 use std::alloc::{AllocError, Global};
 
 /// A fresh stage over a score, driven over `inputs` of which no count reaches its last value, gives what the definition gives of them,
@@ -70,6 +72,25 @@ pub fn at_most_one_syllable_is_held(stage: &ScoreStage)
     ensures { length (syllables_in (concat_of (left_of stage.now []))) ≤ 1 }
 {
     stage.at_most_one_is_held();
+}
+
+/// In the body what a stage tells is within its limits, whatever it has read: the kept text of the syllable that is read, and of the one that is
+/// held the canonical text, also with what stands before it. Before the first syllable no span is open, and no comment is open inside an inner
+/// opener.
+pub fn what_is_told_is_within_the_limits(stage: &ScoreStage)
+    requires runs { is_some (before_of stage.now) ≡ true }
+    ensures { IsToldWithin stage.now }
+{
+    stage.tells_within();
+}
+
+/// What a stage tells is still that of a text where its next character is said to stand there, if that is no earlier.
+pub fn what_is_told_may_move(stage: &mut ScoreStage, at: Place)
+    requires later { IsUpTo stage.old.held.next at }
+    requires place { IsPlace at }
+    ensures { TellsOfText stage.old → TellsOfText stage.new }
+{
+    stage.go_to(at);
 }
 
 /// A stage gives the end only where the end is among its inputs, whatever it has read.

@@ -4,16 +4,17 @@ use Rattle.std.proofs.lemmas.List.Elements.{All-nil}
 use Rattle.gabc_text.specs.witness.Keeps as text
 use Rattle.gabc_score.specs.declared.before.Before.{Before}
 use Rattle.gabc_score.specs.declared.body_stage.BodyPart.{BodyPart}
+use Rattle.gabc_score.specs.Before.{preceding_of}
 use Rattle.gabc_score.specs.machine.Gatherer.{nothing_gathered}
 use Rattle.gabc_score.specs.machine.PartKeeps.{in_text, IsReading, PartKeeps}
 use Rattle.gabc_score.specs.machine.Preceded.{EndsBefore, IsPreceded}
-use Rattle.gabc_score.specs.machine.Resumed.{first_sounded, gathered_behind, preceding_in}
+use Rattle.gabc_score.specs.machine.Resumed.{first_sounded, gathered_behind}
 
 sounds_then : (b : Bool) → is_some (first_sounded b) ≡ (b || false)
 sounds_then true = refl
 sounds_then false = refl
 
-pub preceded_behind : (b : Before) (limit : ℕ) → IsPreceded (preceding_in b) (gathered_behind b (nothing_gathered limit 0))
+pub preceded_behind : (b : Before) (limit : ℕ) → IsPreceded (preceding_of b) (gathered_behind b (nothing_gathered limit 0))
 preceded_behind b limit = record { follows = refl; total = refl; sounded = sounds_then b.sounded; snippets = All-nil (EndsBefore 0); from = omega arith }
 
 pub reads_behind : (lines macros limit : ℕ) (p : BodyPart) (b : Before) → PartKeeps lines macros p (in_text []) → IsReading lines macros p b.spans (gathered_behind b (nothing_gathered limit 0))

@@ -21,7 +21,9 @@ use Rattle.gabc_score.specs.declared.events.BodyEvent.{BodyEvent}
 use Rattle.gabc_score.specs.Body.{is_longer, is_none, events_onto, findings_of}
 use Rattle.gabc_score.specs.Canonical.{canonical}
 use Rattle.gabc_score.specs.Events.{texts_by_definition, text_from, events_from}
-use Rattle.gabc_score.specs.HeldAgain.{LeavesOpen, emitted_first, emitted_behind, IsOneSyllable, canonical_behind, MayBeHeld}
+use Rattle.gabc_score.specs.Before.{preceding_of}
+use Rattle.gabc_score.specs.ToldWithin.{written_behind}
+use Rattle.gabc_score.specs.HeldAgain.{LeavesOpen, emitted_first, emitted_behind, IsOneSyllable, MayBeHeld}
 use Rattle.gabc_score.specs.ScoreEvents.{findings_now, first_place}
 use Rattle.gabc_score.specs.Syllable.{UnplacedSyllable, all_syllables, since_close, kept_of}
 use Rattle.gabc_score.specs.machine.BodyBuilder.{with_all, code_in}
@@ -188,7 +190,7 @@ module _ (limits : Limits) (b : Before) (g : Gathered) (limit : g.limit ≡ limi
   whole : emitted_first b.nabc_lines b.macros first_place text (length text) ≡ concat_of lists
   whole = emitted (length text) (omega arith) ∙ ap (concat_of {T = BodyEvent}) (take_all (length text) lists (omega (arith, each)))
 
-  starts : (m : UnplacedSyllable) → size_of g.follows m ≡ min (length (canonical_behind b m)) most
+  starts : (m : UnplacedSyllable) → size_of g.follows m ≡ min (length (written_behind (preceding_of b) m)) most
   starts m = ap (λ f. min (length (canonical (not f || m.text.word_start) m)) most) follows ∙ ap (λ f. min (length (canonical (f || m.text.word_start) m)) most) (not_some b.syllables)
 
   module _ (before : List BodyEvent) (leaves : LeavesOpen b.spans before) where

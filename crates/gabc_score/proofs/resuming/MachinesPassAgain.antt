@@ -1,5 +1,5 @@
 -- A machine in the body reads the next character of a kept text again: it passes no limit, and stays in the body.
-use Rattle.std.proofs.Common.{◌≡◌, ◌⊎◌, inl, inr, ◌&&◌, ◌||◌, not, ℕ, zero, suc, ◌+◌, ◌≤◌, ◌<◌, ◌^◌, nat_lt, Bool, true, false, cond, List, [], ◌∷◌, ◌++◌, length, Option, Some, None, is_some, encode_utf8, encode_utf8_all, refl, sym, ap, subst, ◌∙◌, arith, append-nil, append_assoc, length-append}
+use Rattle.std.proofs.Common.{◌≡◌, ◌⊎◌, inl, inr, ◌&&◌, ◌||◌, ◌==◌, not, ℕ, zero, suc, ◌+◌, ◌≤◌, ◌<◌, ◌^◌, nat_lt, Bool, true, false, cond, List, [], ◌∷◌, ◌++◌, length, Option, Some, None, is_some, encode_utf8, encode_utf8_all, refl, sym, ap, subst, ◌∙◌, arith, append-nil, append_assoc, length-append}
 use Rattle.std.specs.List.{All}
 use Rattle.std.proofs.lemmas.Bool.{true≢false}
 use Rattle.std.proofs.lemmas.Bool.Decides.{nat_tests}
@@ -32,10 +32,13 @@ use Rattle.gabc_score.specs.Before.{with_each}
 use Rattle.gabc_score.specs.Body.{is_longer, is_none}
 use Rattle.gabc_score.specs.ScoreTells.{StandsAt, is_in_comment, is_in_front}
 use Rattle.gabc_score.specs.Syllable.{UnplacedSyllable}
+use Rattle.gabc_score.specs.machine.HeldWithin.{AreWritten}
+use Rattle.gabc_score.specs.machine.PartMakes.{HoldUnits}
+use Rattle.gabc_score.proofs.score_events.HeldWithinLimits.{file_now}
 use Rattle.gabc_score.specs.machine.BodyBuilder.{code_in, with_all}
 use Rattle.gabc_score.specs.machine.Gatherer.{Gathered, with_event}
 use Rattle.gabc_score.specs.machine.PartCounts.{CountsHold, PartGoesOn}
-use Rattle.gabc_score.specs.machine.PartKeeps.{KeptParts, in_text, in_notes, joined, IsReading, PartKeeps, PartKeepsOn, spans_past}
+use Rattle.gabc_score.specs.machine.PartKeeps.{KeptParts, in_text, in_notes, joined, IsReading, PartKeeps, PartKeepsOn}
 use Rattle.gabc_score.specs.machine.Preceded.{IsPreceded}
 use Rattle.gabc_score.specs.machine.ReadAgain.{Adds, BeginsComment, BeginsIn, GoesBy, IsNext, IsToldBy, OpenAt, Reads, ReadsAgain, place_in}
 use Rattle.gabc_score.specs.machine.ScoreMachine.{IsInBody, IsShort}
@@ -139,6 +142,8 @@ in_body_past m b p f now h is used fewer none items room lines macros goes keeps
       (subst (λ (k : Gathered). IsReading m.body.nabc_lines m.body.macros b.part spans k) (sym is)
       (subst (λ (s : Spans). IsReading m.body.nabc_lines m.body.macros b.part s (with_all g now)) (stays spans g (with_all g now) same)
       (keeps spans g (let few = h.kept in let most = m.limits.in_range.syllable_most in omega (arith, few, most)) h.reading))));
+  units = subst (λ (l : ℕ). HoldUnits l m.bounds.before p.gathered.made) (sym lines) (subst (HoldUnits m.body.nabc_lines m.bounds.before) (sym made) h.units);
+  within = record { written = subst (AreWritten m.limits.syllable (m.bounds.before.syllables == 0)) (sym made) h.within.written; file = file_now m.limits p.gathered none; outset = h.within.outset };
 }
   where
     g : Gathered

@@ -20,8 +20,7 @@ use Rattle.gabc_score.specs.declared.score_machine.ScorePart.{ScorePart}
 use Rattle.gabc_score.specs.declared.score_machine.ScorePart.TheVariants as score_part
 use Rattle.gabc_score.specs.ReadAgain.{StandsBefore, TellsOfReading, TellsTheSameBut}
 use Rattle.gabc_score.specs.ScoreTells.{StandsAt, before_of, before_with, held_in_body, in_body, is_in_comment, is_in_front, moved_part, moved_to, openers_of, reading_of}
-use Rattle.gabc_score.specs.Syllable.{UnplacedSyllable}
-use Rattle.gabc_score.specs.machine.PartKeeps.{KeptParts, joined, PartKeeps}
+use Rattle.gabc_score.specs.machine.PartKeeps.{joined, PartKeeps}
 use Rattle.gabc_score.specs.machine.ReadAgain.{GoesBy, IsRunAlike, IsSameBut, IsToldBy, OpenAt, PassesAgain, StandsSo, TakesAgain, inner_of, outer_of, place_in}
 use Rattle.gabc_score.specs.machine.ScoreMachine.{IsInBody, IsScore, IsScoreAt, shown}
 use Rattle.gabc_score.specs.witness.BodyStage.{BodyStageState}
@@ -135,36 +134,12 @@ told_alike a b told kept h t =
 told_in : {A : Type 0} (p : ScorePart) (x : A) → p ≡ score_part.Body → in_body p x ≡ Some x
 told_in {A = A} p x e = ap (λ (k : ScorePart). in_body k x) e
 
-pub tells_the_same : (m n : ScoreMachine) (s : ScoreStageState) (next : Place) → s ≡ moved_to next (shown n) → n.part ≡ score_part.Body → IsSameBut m n → IsRunAlike m n → TellsTheSameBut (shown m) s next
-tells_the_same m n s next is body same alike = subst (λ (k : ScoreStageState). TellsTheSameBut (shown m) k next) (sym is) (record {
-  before_same = told_in n.part (before_with n.body n.bounds.before) body ∙ ap (λ (k : Before). Some k) before ∙ sym (told_in m.part (before_with m.body m.bounds.before) same.body);
-  held_same = ap (λ (p : ScorePart). held_in_body p n.pair.gathered.made) (body ∙ sym same.body) ∙ ap (held_in_body m.part) same.made;
-  next_is = told_in n.part next body;
-  stands = stands_moved next n.body.part;
-})
-  where
-    before : before_with n.body n.bounds.before ≡ before_with m.body m.bounds.before
-    before =
-        ap (λ (b : Bounds). before_with n.body b.before) same.bounds
-        ∙ ap (λ (l : ℕ). before_with (record n.body { nabc_lines = l }) m.bounds.before) alike.lines
-        ∙ ap (λ (l : ℕ). before_with (record m.body { macros = l }) m.bounds.before) alike.macros
-
 -- ---- what is told
 
 in_body_by : {A : Type 0} (p : ScorePart) (x : A) → is_some (in_body p x) ≡ true → p ≡ score_part.Body
 in_body_by {A = A} score_part.Heads x e = absurd (true≢false (sym e))
 in_body_by {A = A} score_part.Body x e = refl
 in_body_by {A = A} score_part.Over x e = absurd (true≢false (sym e))
-
--- In the body the kept text that is read can be read again.
-pub can_be_read : (m : ScoreMachine) → IsScore m → is_some (before_of (shown m)) ≡ true → CanBeReadAgain (shown m)
-can_be_read m rests runs = record { body = body; told = record { parts = h.reading.parts; keeps = h.reading.keeps; is = h.reading.kept; short = h.kept } }
-  where
-    body : m.part ≡ score_part.Body
-    body = in_body_by m.part (before_with m.body m.bounds.before) runs
-
-    h : IsInBody m
-    h = subst (λ (p : ScorePart). IsScoreAt p m) body rests
 
 abbrev lines_in : Option Before → ℕ
 lines_in None = 0

@@ -73,10 +73,13 @@ module _ (text_opener : (s : TextStage) (k : List ℕ) → text.Keeps s k → is
   -- Before a syllable nothing is open.
   pub nothing_is_open : (outer inner : Place) (a : BodyPart) (p : KeptParts) → PartKeeps lines macros a p → [] ≡ joined p → is_in_comment a ≡ false → (is_in_front a ≡ false) × OpenAt outer inner a
   nothing_is_open outer inner part.Comment p ha none outside = absurd (true≢false outside)
-  nothing_is_open outer inner (part.Text s) (in_text k) ha none outside = (refl, record {
-    notes_at = λ o e. absurd (none_open None refl o e);
-    inner_at = λ o e. absurd (none_open (text_tells.opener_of s) (text_opener s k ha ∙ ap text.is_open_behind (sym none) ∙ nothing_open) o e);
-  })
+  nothing_is_open outer inner (part.Text s) (in_text k) ha none outside = (
+    refl,
+    record {
+      notes_at = λ o e. absurd (none_open None refl o e);
+      inner_at = λ o e. absurd (none_open (text_tells.opener_of s) (text_opener s k ha ∙ ap text.is_open_behind (sym none) ∙ nothing_open) o e);
+    },
+  )
   nothing_is_open outer inner (part.Text s) (in_notes u earlier k) ha none outside = absurd ha
   nothing_is_open outer inner (part.Notes o s) (in_text k) ha none outside = absurd ha
   nothing_is_open outer inner (part.Notes o s) (in_notes u earlier k) ha none outside = absurd (nothing_marked u (barred earlier ++ k) 40 (none ∙ append_assoc u (40 ∷ barred earlier) k))

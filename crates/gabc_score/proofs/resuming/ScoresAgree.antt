@@ -19,7 +19,7 @@ use Rattle.gabc_score.specs.declared.events.BodyEvent.{BodyEvent}
 use Rattle.gabc_score.specs.declared.score_machine.ScoreMachine.{ScoreMachine}
 use Rattle.gabc_score.specs.declared.score_machine.ScorePart.{ScorePart}
 use Rattle.gabc_score.specs.declared.score_machine.ScorePart.TheVariants as score_part
-use Rattle.gabc_score.specs.Before.{most, sounds_in, with_each}
+use Rattle.gabc_score.specs.Before.{most, sounds_in, with_each, preceding_of}
 use Rattle.gabc_score.specs.Canonical.{canonical}
 use Rattle.gabc_score.specs.HeldAside.{MayStandFor, IsSameOutput, AreSameOutputs, AreSameLists, HoldTheSame, GiveTheSame}
 use Rattle.gabc_score.specs.ScoreEvents.{ScoreOutput, Found, Stop, Syllable, End, characters_in}
@@ -98,9 +98,6 @@ same_but g h limit read follows total over cut =
 -- what stands before the syllable that is held is what is told
 before_is : (p q : Preceding) (a b : BodyStageState) → before_with a p ≡ before_with b q → p ≡ q
 before_is p q a b e = ap (λ (b : Before). preceding_of b) e
-  where
-    preceding_of : Before → Preceding
-    preceding_of b = record { syllables = b.syllables; canonical = b.canonical; spans = b.spans; sounded = b.sounded }
 
 -- ---- syllables that say the same, behind the same
 

@@ -48,6 +48,7 @@ module _ (m : ScoreMachine) (at : Place) (b : BodyStageState) (is : b ≡ record
       uncut = h.reading.uncut;
     };
     units = subst (λ (k : BodyStageState). HoldUnits k.nabc_lines m.bounds.before m.pair.gathered.made) (sym is) h.units;
+    within = h.within;
   }
 
 -- so is one that takes characters quietly, of which only this place is not kept yet
@@ -61,8 +62,10 @@ freed_moved m at f = record {
     preceded = f.body.preceded;
     behind = f.body.behind;
     lent = f.body.lent;
+    code = f.body.code;
     reading = f.body.reading;
     units = f.body.units;
+    within = f.body.within;
   };
   used = f.used;
   code = f.code;

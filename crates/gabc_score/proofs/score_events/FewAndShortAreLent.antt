@@ -37,10 +37,10 @@ abbrev AreShort : Gathered → Type 0
 AreShort g = g.over ≡ false → All (IsShort g.limit) g.made
 
 -- where it is not over the limit, a syllable is counted as short
-counted : (limit len kept : ℕ) → limit < 2 ^ 32 → nat_lt limit kept ≡ false → nat_lt limit (min len (2 ^ 64 - 1)) ≡ false → (kept ≤ limit) × (len ≤ limit)
+pub counted : (limit len kept : ℕ) → limit < 2 ^ 32 → nat_lt limit kept ≡ false → nat_lt limit (min len (2 ^ 64 - 1)) ≡ false → (kept ≤ limit) × (len ≤ limit)
 counted limit len kept h k e = (grind (arith, nat_tests), grind (arith, nat_tests))
 
-either : (a b c : Bool) → (a || (b || c)) ≡ false → (a ≡ false) × ((b ≡ false) × (c ≡ false))
+pub either : (a b c : Bool) → (a || (b || c)) ≡ false → (a ≡ false) × ((b ≡ false) × (c ≡ false))
 either false false false h = (refl, (refl, refl))
 either false false true h = absurd (cc h)
 either false true c h = absurd (cc h)

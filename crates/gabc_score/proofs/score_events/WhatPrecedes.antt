@@ -421,7 +421,7 @@ past_in_body part x fs ss p q body e = subst (λ (k : ScorePart). q ≡ precedin
 
 -- ---- whether one was given
 
-each_some : (p : Preceding) (ms : List UnplacedSyllable) → 1 ≤ p.syllables → 1 ≤ (with_each p ms).syllables
+pub each_some : (p : Preceding) (ms : List UnplacedSyllable) → 1 ≤ p.syllables → 1 ≤ (with_each p ms).syllables
 each_some p [] h = h
 each_some p (m ∷ ms) h = each_some (with_one p m) ms (omega (arith, h))
 

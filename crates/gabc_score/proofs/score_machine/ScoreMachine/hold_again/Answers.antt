@@ -88,6 +88,9 @@ returns-clause-rests c =
       preceded = was.preceded;
       behind = was.behind;
       lent = was.lent;
+      code = was.code;
       reading = begins_again _ _ c.read_all.new.self.body.part c.begin_text.new.self.part c.read_all.new.self.bounds.behind.spans c.read_all.new.self.pair.gathered
           (rw (ap (λ (b : BodyStageState). b.nabc_lines) c.begin_text.ensures.text, ap (λ (b : BodyStageState). b.macros) c.begin_text.ensures.text) was.reading) nothing (c.begin_text.ensures.keeps _ _);
+      units = rw (ap (λ (b : BodyStageState). b.nabc_lines) c.begin_text.ensures.text) was.units;
+      within = was.within;
     })

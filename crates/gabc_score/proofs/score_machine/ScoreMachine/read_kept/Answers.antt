@@ -21,10 +21,11 @@ loop-c-preserved c =
       same = same_through c.args.self.now c.loop-c.self c.take_again.new.self i.same c.take_again.ensures.same;
       again = λ told t s.
           let h = i.again told t s in
-          let e = h.2 ∙ ap (λ b. h.0 ++ b) step in
-          (h.0 ++ encode_utf8 char,
-          c.take_again.ensures.again.next told c.args.kept.now h.0 next (told_alike c.args.self.now c.loop-c.self told c.args.kept.now i.run t) h.1 e,
-          e ∙ sym (append_assoc h.0 (encode_utf8 char) next));
+          let e = h.2 ∙ ap (λ b. h.0 ++ b) step in (
+            h.0 ++ encode_utf8 char,
+            c.take_again.ensures.again.next told c.args.kept.now h.0 next (told_alike c.args.self.now c.loop-c.self told c.args.kept.now i.run t) h.1 e,
+            e ∙ sym (append_assoc h.0 (encode_utf8 char) next),
+          );
     }
 
 nothing_left : (bs : List ℕ) → length bs ≡ 0 → bs ≡ []

@@ -1,4 +1,4 @@
-use Rattle.std.proofs.Common.{refl, sym, ap, subst, ◌∙◌}
+use Rattle.std.proofs.Common.{refl, sym, subst, ◌∙◌}
 use Rattle.gabc_score.specs.machine.ReadAgain.{StandsSo}
 use Rattle.gabc_score.proofs.resuming.MachinesReadAgain.{told_alike}
 use Rattle.gabc_score.proofs.score_machine.ScoreMachine.read_told.Goals as goal

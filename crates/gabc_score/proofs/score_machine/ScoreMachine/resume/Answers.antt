@@ -5,16 +5,20 @@ use Rattle.gabc_places.specs.BoundedList.{BoundedList}
 use Rattle.gabc_places.specs.declared.code.Finding.{Finding}
 use Rattle.gabc_score.specs.declared.before.Preceding.{Preceding}
 use Rattle.gabc_score.specs.declared.score_machine.ScorePart.TheVariants as score_part
-use Rattle.gabc_score.specs.Before.{with_each}
+use Rattle.gabc_score.specs.Before.{preceding_of, with_each}
 use Rattle.gabc_score.specs.ScoreTells.{held_in_body, reading_in_body}
 use Rattle.gabc_score.specs.machine.Gatherer.{Gathered, nothing_gathered}
 use Rattle.gabc_score.specs.machine.PartCounts.{CountsHold}
 use Rattle.gabc_score.specs.machine.PartKeeps.{IsReading}
 use Rattle.gabc_score.specs.machine.Preceded.{IsPreceded}
-use Rattle.gabc_score.specs.machine.Resumed.{gathered_behind, preceding_in}
+use Rattle.gabc_score.specs.machine.Resumed.{gathered_behind}
 use Rattle.gabc_score.specs.machine.ScoreMachine.{IsShort}
 use Rattle.gabc_score.specs.machine.SlotPair.{SlotPairState, is_made}
 use Rattle.gabc_score.specs.witness.BodyStage.{BodyStageState}
+use Rattle.gabc_score.specs.ToldWithin.{IsAtOutset}
+use Rattle.gabc_score.specs.machine.BodyBuilder.{code_in}
+use Rattle.gabc_score.proofs.score_events.HeldWithinLimits.{within_none}
+use Rattle.gabc_score.proofs.score_events.UnitsAreHeld.{none_held}
 use Rattle.gabc_score.proofs.resuming.BehindSyllables.{preceded_behind, reads_behind}
 use Rattle.gabc_score.proofs.score_machine.ScoreMachine.resume.Goals as goal
 
@@ -34,7 +38,7 @@ returns-clause-rests c =
     let limit = c.args.limits.syllable in
     let gathered : c.follow.new.self.gathered ≡ gathered_behind b (nothing_gathered limit 0) = ap (λ (s : SlotPairState). s.gathered) c.follow.ensures ∙ ap (gathered_behind b) c.in_ok-pair.ensures.gathered in
     let used = ap (λ (s : SlotPairState). s.used) c.follow.ensures ∙ c.in_ok-pair.ensures.used in
-    let before : c.preceding-preceding.result ≡ preceding_in b = c.preceding-preceding.ensures in
+    let before : c.preceding-preceding.result ≡ preceding_of b = c.preceding-preceding.ensures in
     let kept = ap (λ (g : Gathered). length g.builder.kept) gathered in
     record {
       rests = record {
@@ -47,9 +51,12 @@ returns-clause-rests c =
       };
       counts = subst (λ (g : Gathered). CountsHold c.begin_text.new.self.part g.builder) (sym gathered) c.begin_text.ensures.counts;
       kept = omega (arith, kept);
-      preceded = subst (λ (p : Preceding). IsPreceded p c.follow.new.self.gathered) (sym before) (subst (IsPreceded (preceding_in b)) (sym gathered) (preceded_behind b limit));
+      preceded = subst (λ (p : Preceding). IsPreceded p c.follow.new.self.gathered) (sym before) (subst (IsPreceded (preceding_of b)) (sym gathered) (preceded_behind b limit));
       behind = ap (λ (g : Gathered). with_each c.preceding-preceding.result g.made) (sym gathered);
       lent = ap (λ (p : Preceding). nat_lt 0 p.syllables) (sym before);
+      code = ap (code_in c.args.limits) gathered;
       reading = subst (λ (p : Preceding). IsReading c.begin_text.new.self.nabc_lines c.begin_text.new.self.macros c.begin_text.new.self.part p.spans c.follow.new.self.gathered) (sym before)
           (subst (IsReading c.begin_text.new.self.nabc_lines c.begin_text.new.self.macros c.begin_text.new.self.part b.spans) (sym gathered) (reads_behind _ _ limit c.begin_text.new.self.part b (c.begin_text.ensures.keeps _ _)));
+      units = none_held c.begin_text.new.self.nabc_lines c.preceding-preceding.result c.follow.new.self.gathered.made (ap (λ (g : Gathered). g.made) gathered);
+      within = within_none c.args.limits c.preceding-preceding.result c.follow.new.self.gathered (subst IsAtOutset (sym before) c.requires) (ap (λ (g : Gathered). g.made) gathered);
     }

@@ -1,0 +1,16 @@
+use Rattle.std.proofs.Common.{rules, [], refl}
+use Rattle.gabc_score.proofs.score_events.FewAndShortAreLent.{lends_none}
+use Rattle.gabc_score.proofs.score_machine.ScoreMachine.push.Goals as goal
+
+pub returns-in-Over-clause-step : goal.returns-in-Over-clause-step
+returns-in-Over-clause-step c = rw c.in-Over.is (record {
+  outputs = [];
+  lends = lends_none c.args.self.now.limits _ [] refl;
+  limits = refl;
+  before_held = λ body. absurd (cc body);
+  next = λ body. absurd (cc body);
+  stands = λ here was. was;
+  told = λ may here was. was;
+  law = λ xs. refl;
+  emitted = search rules;
+})
