@@ -78,7 +78,7 @@ is_within limits g e = by (is_longer g.limit g.builder.kept) refl g.over refl e
     by false l true o h = absurd (cc h)
     by false l false o h = record { kept = grind (arith, nat_tests, l); over = o; file = file (is_none g.made) (nat_lt limits.input (g.total + 1)) refl refl h }
 
-none_passed : (limits : Limits) (g : Gathered) → IsWithinLimits limits g → code_in limits g ≡ None
+pub none_passed : (limits : Limits) (g : Gathered) → IsWithinLimits limits g → code_in limits g ≡ None
 none_passed limits g w =
     ap (λ b. cond (b || g.over) (Some F5) (cond (not (is_none g.made) && nat_lt limits.input (g.total + 1)) (Some F7) None)) short
     ∙ ap (λ b. cond b (Some F5) (cond (not (is_none g.made) && nat_lt limits.input (g.total + 1)) (Some F7) None)) w.over

@@ -19,7 +19,7 @@ use Rattle.gabc_score.specs.ToldWithin.{IsAtOutset}
 use Rattle.gabc_score.specs.machine.BodyBuilder.{code_in}
 use Rattle.gabc_score.proofs.score_events.HeldWithinLimits.{within_none}
 use Rattle.gabc_score.proofs.score_events.UnitsAreHeld.{none_held}
-use Rattle.gabc_score.proofs.resuming.BehindSyllables.{preceded_behind, reads_behind}
+use Rattle.gabc_score.proofs.resuming.BehindSyllables.{nothing_passes, preceded_behind, reads_behind}
 use Rattle.gabc_score.proofs.score_machine.ScoreMachine.resume.Goals as goal
 
 pub returns-clause-stands : goal.returns-clause-stands
@@ -54,7 +54,7 @@ returns-clause-rests c =
       preceded = subst (λ (p : Preceding). IsPreceded p c.follow.new.self.gathered) (sym before) (subst (IsPreceded (preceding_of b)) (sym gathered) (preceded_behind b limit));
       behind = ap (λ (g : Gathered). with_each c.preceding-preceding.result g.made) (sym gathered);
       lent = ap (λ (p : Preceding). nat_lt 0 p.syllables) (sym before);
-      code = ap (code_in c.args.limits) gathered;
+      code = ap (code_in c.args.limits) gathered ∙ nothing_passes c.args.limits b limit;
       reading = subst (λ (p : Preceding). IsReading c.begin_text.new.self.nabc_lines c.begin_text.new.self.macros c.begin_text.new.self.part p.spans c.follow.new.self.gathered) (sym before)
           (subst (IsReading c.begin_text.new.self.nabc_lines c.begin_text.new.self.macros c.begin_text.new.self.part b.spans) (sym gathered) (reads_behind _ _ limit c.begin_text.new.self.part b (c.begin_text.ensures.keeps _ _)));
       units = none_held c.begin_text.new.self.nabc_lines c.preceding-preceding.result c.follow.new.self.gathered.made (ap (λ (g : Gathered). g.made) gathered);
