@@ -184,6 +184,7 @@ module _ (lines macros : ℕ) (opened : Place) (s t : NoteStage) (x : Char) (es 
           record { count = _; none_kept = e.none_kept; end = close_ends es x.c _ e.end close }
 
   pub gabc_next_makes : list_any is_next es ≡ true → PartMakes lines macros (part.Notes opened s) (of_notes 0 opened es)
+  unfolding PartMakes
   gabc_next_makes next p g fits r =
       let here = found r.parts r.keeps in
       let over = ended here.k here.keeps (λ none. true≢false (sym next ∙ none_next es x.c 0 none)) in
@@ -281,6 +282,7 @@ module _ (lines macros line : ℕ) (opened : Place) (s t : NabcStage) (x : Char)
   of_line (suc l) k some h = h
 
   pub nabc_next_makes : list_any is_next es ≡ true → PartMakes lines macros (part.Nabc line opened s) (of_notes line opened es)
+  unfolding PartMakes
   nabc_next_makes next p g fits r =
       let here = found_nabc r.parts r.keeps in
       let over = ended_nabc here.k here.keeps (λ none. true≢false (sym next ∙ none_next es x.c 0 none)) in

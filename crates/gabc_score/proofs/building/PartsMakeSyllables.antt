@@ -63,6 +63,7 @@ made_stays (event.Notes line (note.Ended note_end.Close n) ∷ now) g e = absurd
 made_stays (event.Notes line (note.Ended (note_end.Cut p) n) ∷ now) g e = made_stays now (with_event g (event.Notes line (note.Ended (note_end.Cut p) n))) e
 
 none_makes : (lines macros : ℕ) (before : BodyPart) (now : List BodyEvent) → list_any closes now ≡ false → PartMakes lines macros before now
+unfolding PartMakes
 none_makes lines macros before now e p g fits r h = subst (HoldUnits lines p) (sym (made_stays now g e)) h
 
 texts_close_none : (es : List TextEvent) → list_any closes (text_events es) ≡ false
@@ -86,6 +87,7 @@ notes_make_none lines macros line opened before es e = none_makes lines macros b
 -- the text that begins behind a comment, in which nothing is kept
 pub first_text_makes : (lines macros l m : ℕ) (s : TextStage) (before mid : BodyPart) (now : List BodyEvent) → before ≡ part.Comment → mid ≡ part.Text s → text.Keeps s [] → l ≡ lines → m ≡ macros
     → PartMakes l m mid now → PartMakes lines macros before now
+unfolding PartMakes
 first_text_makes lines macros l m s before mid now comment is keeps same_lines same_macros makes =
     subst (λ (b : BodyPart). PartMakes lines macros b now) (sym comment)
     (subst (λ (k : ℕ). PartMakes k macros part.Comment now) same_lines
@@ -114,6 +116,7 @@ pub record ClosesWhole (line : ℕ) (es : List NoteEvent) (k : List ℕ) : Type 
 
 -- behind the others one more follows
 follow_push : (p : Preceding) (ms : List UnplacedSyllable) (m : UnplacedSyllable) → FollowEach p ms → FollowsSpans (with_each p ms).spans m → FollowEach p (ms ++ m ∷ [])
+unfolding FollowEach
 follow_push p [] m h k = (k, tt)
 follow_push p (s ∷ ms) m h k = (h.0, follow_push (with_one p s) ms m h.1 k)
 
@@ -124,6 +127,7 @@ none_ended lines macros (s ∷ ss) h e = absurd (true≢false (sym h.0.0 ∙ ap 
 
 module _ (lines macros line : ℕ) (opened : Place) (before : BodyPart) (Keep : List ℕ → Type 0) (found : (p : KeptParts) → PartKeeps lines macros before p → InNotes lines macros line Keep p) where
   pub notes_make : (es : List NoteEvent) → ((k : List ℕ) → Keep k → ClosesWhole line es k) → PartMakes lines macros before (of_notes line opened es)
+  unfolding PartMakes HoldUnits
   notes_make es closes_whole p g fits r h laws =
       subst (λ (i : Gathered). AreHeld lines p i.made) (sym (notes_ended line opened es g note_end.Close n closed.none_kept closed.end)) (record {
         units = All-push (HoldsSomeUnit lines) g.made made (h laws).units

@@ -1,5 +1,5 @@
 -- What is held holds a unit, and its spans follow from those before it, past a point and past a character taken quietly.
-use Rattle.std.proofs.Common.{◌≡◌, ℕ, zero, suc, ◌-◌, ◌<◌, ◌^◌, not, take, drop, Bool, true, List, [], ◌∷◌, ◌++◌, length, IfSome, refl, sym, ap, subst, ◌∙◌, arith}
+use Rattle.std.proofs.Common.{◌≡◌, ℕ, zero, suc, ◌-◌, ◌<◌, ◌^◌, not, take, drop, Bool, true, false, List, [], ◌∷◌, ◌++◌, length, IfSome, refl, sym, ap, subst, ◌∙◌, arith}
 use Rattle.std.proofs.lemmas.List.Elements.{All-nil, All-head, All-drop}
 use Rattle.std.proofs.lemmas.Str.{length-le-encodes}
 use Rattle.std.specs.List.{All}
@@ -51,10 +51,12 @@ use Rattle.gabc_score.proofs.order.FindingsOfParts.{codes_placed}
 use Rattle.gabc_score.proofs.score_events.FewAndShortAreLent.{short_within}
 
 pub none_held : (lines : ℕ) (p : Preceding) (made : List UnplacedSyllable) → made ≡ [] → HoldUnits lines p made
+unfolding HoldUnits FollowEach
 none_held lines p made e = subst (HoldUnits lines p) (sym e) (λ laws. record { units = All-nil (HoldsSomeUnit lines); follow = tt })
 
 -- all but the last are given
 follow_dropped : (k : ℕ) (first : Bool) (p : Preceding) (ms : List UnplacedSyllable) → FollowEach p ms → FollowEach (with_placed p (take k (placed_syllables_by first ms))) (drop k ms)
+unfolding FollowEach
 follow_dropped zero first p ms h = h
 follow_dropped (suc k) first p [] h = tt
 follow_dropped (suc k) first p (m ∷ ms) h = follow_dropped k false (with_one p m) ms h.1
@@ -62,6 +64,7 @@ follow_dropped (suc k) first p (m ∷ ms) h = follow_dropped k false (with_one p
 pub units_past : (lines macros l : ℕ) (before : BodyPart) (p passed : Preceding) (spans : Spans) (has_lent : Bool) (was g turned : Gathered) (now : List BodyEvent) → length was.builder.kept < 2 ^ 64
     → g ≡ with_all was now → turned ≡ with_held g → l ≡ lines → spans ≡ (with_each p was.made).spans → passed ≡ with_placed p (take (length g.made - 1) (placed_behind has_lent g.made))
     → PartMakes lines macros before now → IsReading lines macros before spans was → HoldUnits lines p was.made → HoldUnits l passed turned.made
+unfolding PartMakes HoldUnits
 units_past lines macros l before p passed spans has_lent was g turned now fits is turn same behind given makes r h =
     subst (λ (k : Gathered). HoldUnits l passed k.made) (sym turn)
     (subst (λ (k : ℕ). HoldUnits k passed (with_held g).made) (sym same)
@@ -82,6 +85,7 @@ units_quietly p old new x pair next q h =
 
 -- so of what a machine shows as held
 pub held_unit : (m : ScoreMachine) (p : ScorePart) → IsScoreAt p m → PartLaws → IfSome (held_in_body p m.pair.gathered.made) (HoldsSomeUnit m.body.nabc_lines)
+unfolding HoldUnits
 held_unit m score_part.Heads h laws = tt
 held_unit m score_part.Over h laws = tt
 held_unit m score_part.Body h laws = by m.pair.gathered.made (h.units laws).units
@@ -92,6 +96,7 @@ held_unit m score_part.Body h laws = by m.pair.gathered.made (h.units laws).unit
 
 -- its spans follow from those before it
 pub held_follows : (m : ScoreMachine) (p : ScorePart) → IsScoreAt p m → PartLaws → IfSome (held_in_body p m.pair.gathered.made) (FollowsSpans m.bounds.before.spans)
+unfolding HoldUnits FollowEach
 held_follows m score_part.Heads h laws = tt
 held_follows m score_part.Over h laws = tt
 held_follows m score_part.Body h laws = by m.pair.gathered.made (h.units laws).follow

@@ -31,7 +31,7 @@ pub record PartLaws : Type 0 where
   pub kept_again : (line : ℕ) (s : List ℕ) → IsSnippetOf line s → s ≡ kept_on_line line (characters_of s)
 
 -- which spans are open behind each of these follows from those before it, where p tells what stands before the first
-abbrev pub FollowEach : Preceding → List UnplacedSyllable → Type 0
+unfoldable pub FollowEach : Preceding → List UnplacedSyllable → Type 0
 FollowEach p [] = Unit {0}
 FollowEach p (m ∷ ms) = FollowsSpans p.spans m × FollowEach (with_one p m) ms
 
@@ -41,10 +41,10 @@ pub record AreHeld (lines : ℕ) (p : Preceding) (made : List UnplacedSyllable) 
   pub follow : FollowEach p made
 
 -- by these laws
-abbrev pub HoldUnits : ℕ → Preceding → List UnplacedSyllable → Type 0
+unfoldable pub HoldUnits : ℕ → Preceding → List UnplacedSyllable → Type 0
 HoldUnits lines p made = PartLaws → AreHeld lines p made
 
 -- so do the syllables that were made behind these events of a part, if those did that were made before
-abbrev pub PartMakes : ℕ → ℕ → BodyPart → List BodyEvent → Type 0
+unfoldable pub PartMakes : ℕ → ℕ → BodyPart → List BodyEvent → Type 0
 PartMakes lines macros before now =
     (p : Preceding) (g : Gathered) → length g.builder.kept < 2 ^ 64 → IsReading lines macros before (with_each p g.made).spans g → HoldUnits lines p g.made → HoldUnits lines p (with_all g now).made

@@ -211,6 +211,9 @@ returns-then-close-2-clause-stands c =
 
 -- ---- what is made
 
+pub returns-in-Comment-clause-makes : goal.returns-in-Comment-clause-makes
+returns-in-Comment-clause-makes c = text_makes c.args.self.now.nabc_lines c.args.self.now.macros c.args.self.now.part []
+
 pub returns-then-ended-clause-makes : goal.returns-then-ended-clause-makes
 returns-then-ended-clause-makes c = text_makes c.args.self.now.nabc_lines c.args.self.now.macros c.args.self.now.part c.push_text.new.events.items
 
