@@ -24,6 +24,7 @@ ghost use Rattle.gabc_score.specs.HeldAside.{HoldTheSame, GiveTheSame};
 ghost use Rattle.gabc_score.specs.ReadAgain.{StandsBefore};
 ghost use Rattle.gabc_score.specs.ScoreTells.{before_of, held_of, reading_of, openers_of, is_in_comment, is_in_front, StandsAt};
 ghost use Rattle.gabc_score.specs.ScoreStage.{AreCountsBelow, GivesAt, IsWithinAnywhere, MayCome, events_of};
+ghost use Rattle.gabc_score.specs.SpansPast.{FollowsSpans};
 ghost use Rattle.gabc_score.specs.UnitRead.{HoldsSomeUnit};
 ghost use Rattle.gabc_score.specs.witness.ReadAgain.{CanBeReadAgain};
 ghost use Rattle.gabc_score.specs.ToldWithin.{IsPlace, IsToldWithin, TellsOfText};
@@ -180,6 +181,14 @@ pub fn what_is_held_holds_a_unit(stage: &ScoreStage)
     ensures { IfSome (held_of stage.now) (HoldsSomeUnit stage.now.body.nabc_lines) }
 {
     stage.holds_a_unit();
+}
+
+/// Which spans are open behind the whole syllable that a stage holds, whatever it has read, follows from its text and from those that are open
+/// before it.
+pub fn spans_of_what_is_held_follow(stage: &ScoreStage)
+    ensures { IfSome (held_of stage.now) (FollowsSpans stage.now.before.spans) }
+{
+    stage.follows_spans();
 }
 
 /// The whole syllable that a stage holds, whatever it has read, is within the stage's limits, wherever it stands in its word.

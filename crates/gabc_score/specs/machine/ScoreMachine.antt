@@ -52,7 +52,7 @@ pub record IsBeforeBody (m : ScoreMachine) : Type 0 where
   pub none_lent : m.has_lent ≡ false
 
 -- In the body what is counted holds, no limit is passed, the kept text is within its limit, what is gathered is what its parts say, and what is
--- held holds a unit.
+-- held holds a unit, and its spans follow from those before it.
 pub record IsInBody (m : ScoreMachine) : Type 0 where
   pub rests : IsAtRest m
   pub counts : CountsHold m.body.part m.pair.gathered.builder
@@ -62,7 +62,7 @@ pub record IsInBody (m : ScoreMachine) : Type 0 where
   pub lent : m.has_lent ≡ nat_lt 0 m.bounds.before.syllables
   pub code : code_in m.limits m.pair.gathered ≡ None
   pub reading : IsReading m.body.nabc_lines m.body.macros m.body.part m.bounds.behind.spans m.pair.gathered
-  pub units : HoldUnits m.body.nabc_lines m.pair.gathered.made
+  pub units : HoldUnits m.body.nabc_lines m.bounds.before m.pair.gathered.made
   pub within : HoldsWithin m.limits m.bounds.before m.pair.gathered
 
 -- in the body, where nothing is lent, no limit is passed and one whole syllable is held at most

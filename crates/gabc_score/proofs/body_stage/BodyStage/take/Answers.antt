@@ -4,7 +4,7 @@ use Rattle.gabc_score.specs.machine.PartKeeps.{in_text, PartKeeps, PartStandsOn}
 use Rattle.gabc_score.specs.machine.PartMakes.{PartMakes}
 use Rattle.gabc_score.specs.machine.PartOnly.{PartKeepsOnly}
 use Rattle.gabc_score.specs.witness.BodyStage.{BodyStageState}
-use Rattle.gabc_score.proofs.building.PartsMakeSyllables.{first_text_makes}
+use Rattle.gabc_score.proofs.building.PartsMakeSyllables.{first_text_makes, text_makes}
 use Rattle.gabc_score.specs.machine.PartOpens.{PartOpensOn}
 use Rattle.gabc_score.proofs.building.PartsOpenOn.{first_text_opens}
 use Rattle.gabc_score.proofs.building.PartsStandOn.{first_text_stands}
@@ -17,6 +17,9 @@ returns-clause-stands c = elim c.match-self.branch [
       (ap (λ (s : BodyStageState). s.part) w.self-is) w.new.ensures.keeps w.new.ensures.fresh c.push_part.ensures.stands
   | in_default w ↦ subst (λ (s : BodyStageState). PartStandsOn s.nabc_lines s.macros c.args.x s.part c.push_part.new.self.part) w.self-is c.push_part.ensures.stands
 ]
+
+pub returns-then-x-ne10-clause-makes : goal.returns-then-x-ne10-clause-makes
+returns-then-x-ne10-clause-makes c = text_makes c.args.self.now.nabc_lines c.args.self.now.macros c.args.self.now.part []
 
 pub returns-clause-makes : goal.returns-clause-makes
 returns-clause-makes c = elim c.match-self.branch [

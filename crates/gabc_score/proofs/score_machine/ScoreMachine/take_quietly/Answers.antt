@@ -30,7 +30,7 @@ returns-clause-freed c = by c.take_quietly.result refl
             code = search rules;
             reading = reading_quietly c.args.self.now.bounds.behind.spans c.args.self.now.body c.take_quietly.new.self c.args.x c.args.self.now.pair c.take_quietly.new.pair
                 (let few = freed.body.kept in let most = c.args.self.now.limits.in_range.syllable_most in omega (arith, few, most)) quiet freed.body.reading;
-            units = units_quietly c.args.self.now.body c.take_quietly.new.self c.args.x c.args.self.now.pair c.take_quietly.new.pair quiet freed.body.units;
+            units = units_quietly before c.args.self.now.body c.take_quietly.new.self c.args.x c.args.self.now.pair c.take_quietly.new.pair quiet freed.body.units;
             within = within_quietly c.args.self.now.limits before c.args.self.now.pair.gathered c.take_quietly.new.pair.gathered quiet.made quiet.total freed.body.within;
           };
           used = quiet.used;
