@@ -14,6 +14,7 @@ pub mod NothingBehindTheEnd
 pub mod NothingIsGiven
 pub mod OutputsAreCollected
 pub mod OutputsOfLentSyllables
+pub mod PartsFollow
 pub mod PlainScores
 pub mod ScoreOutputs
 pub mod TextsAreReadInFull

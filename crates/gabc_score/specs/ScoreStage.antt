@@ -1,5 +1,5 @@
 -- What a stage over a score gives: each syllable in a slot that it lends.
-use Rattle.std.specs.Prelude.{◌≡◌, ℕ, zero, suc, ◌+◌, ◌<◌, ◌≤◌, ◌^◌, List, [], ◌∷◌, ◌++◌, Bool, true, false, length, map, take}
+use Rattle.std.specs.Prelude.{◌≡◌, ℕ, zero, suc, ◌+◌, ◌<◌, ◌≤◌, ◌^◌, List, [], ◌∷◌, ◌++◌, Bool, true, false, length, map, take, if◌then◌else◌}
 use Rattle.gabc_places.specs.BoundedList.{BoundedList, extended_by}
 use Rattle.gabc_places.specs.declared.limits.Limits.{Limits}
 use Rattle.gabc_places.specs.declared.place.Char.{Char}
@@ -17,10 +17,10 @@ use Rattle.gabc_score.specs.Before.{no_syllable, with_placed}
 use Rattle.gabc_score.specs.declared.score_machine.ScorePart.{ScorePart}
 use Rattle.gabc_score.specs.declared.score_machine.ScorePart.TheVariants as score_part
 use Rattle.gabc_score.specs.ScoreTells.{StandsAt}
-use Rattle.gabc_score.specs.ScoreEvents.{first_place, ScoreOutput, Found, Stop, Syllable, End, syllables_in}
+use Rattle.gabc_score.specs.ScoreEvents.{first_place, ScoreOutput, Found, Stop, Syllable, End, is_last, syllables_in}
 use Rattle.gabc_score.specs.Canonical.{canonical_in_place}
 use Rattle.gabc_score.specs.Syllable.{PlacedSyllable}
-use Rattle.std.specs.List.{All}
+use Rattle.std.specs.List.{All, list_any}
 use Rattle.gabc_score.specs.witness.ScoreStage.{ScoreStageState, left_of}
 
 -- outputs as events: the first syllable of a call is lent as this one
@@ -69,6 +69,12 @@ next_past score_part.Heads (head_event.Heads lines macros canonical) next = firs
 next_past score_part.Body (head_event.Body x) next = saturating_next_place x.place x.c
 next_past part x next = next
 
+-- The part in which it stands behind an input at which these were given. A stop or the end is the last of all.
+abbrev pub part_past : ScorePart → HeadEvent → List ScoreOutput → ScorePart
+part_past score_part.Over x outputs = score_part.Over
+part_past score_part.Heads (head_event.Heads lines macros canonical) outputs = score_part.Body
+part_past part x outputs = if list_any is_last outputs then score_part.Over else part
+
 -- an input that is a character stands at this place
 abbrev pub StandsHere : HeadEvent → Place → Type 0
 StandsHere (head_event.Body x) next = x.place ≡ next
@@ -83,6 +89,7 @@ pub record GivesAt (before : ScoreStageState) (x : HeadEvent) (after : ScoreStag
   pub outputs : List ScoreOutput
   pub lends : Lends before.limits (most_lent x) outputs
   pub limits : after.limits ≡ before.limits
+  pub part : after.part ≡ part_past before.part x outputs
   pub before_held : after.part ≡ score_part.Body → after.before ≡ preceding_past before.part x outputs before.before
   pub next : after.part ≡ score_part.Body → after.held.next ≡ next_past before.part x before.held.next
   pub stands : StandsHere x before.held.next → StandsInLine before → StandsInLine after
