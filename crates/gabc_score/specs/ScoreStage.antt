@@ -84,12 +84,31 @@ StandsHere x next = Unit {0}
 abbrev pub StandsInLine : ScoreStageState → Type 0
 StandsInLine s = s.part ≡ score_part.Body → StandsAt s.held.next s.body.part
 
+-- a stop and the end are the last inputs that count
+abbrev pub is_final : HeadEvent → Bool
+is_final (head_event.Stop fault) = true
+is_final head_event.End = true
+is_final (head_event.Body x) = false
+is_final (head_event.Found f) = false
+is_final (head_event.Heads lines macros canonical) = false
+
+-- in the body a text has counted this place for the next character
+abbrev pub Counts : Place → ScoreStageState → Type 0
+Counts place s = s.part ≡ score_part.Body → StandsAt place s.body.part
+
+-- the place of the next character behind an input, where this one is that of the next before
+abbrev pub place_behind : HeadEvent → Place → Place
+place_behind (head_event.Body x) place = saturating_next_place x.place x.c
+place_behind x place = place
+
 -- At an input it gave what was to come for it, and goes on with what follows under the same limits.
 pub record GivesAt (before : ScoreStageState) (x : HeadEvent) (after : ScoreStageState) (old new : BoundedList ScoreEvent) : Type 0 where
   pub outputs : List ScoreOutput
   pub lends : Lends before.limits (most_lent x) outputs
   pub limits : after.limits ≡ before.limits
   pub part : after.part ≡ part_past before.part x outputs
+  pub last : (before.part ≡ score_part.Over → ⊥) → is_final x ≡ true → list_any is_last outputs ≡ true
+  pub counts : (place : Place) → StandsHere x place → Counts place before → Counts (place_behind x place) after
   pub before_held : after.part ≡ score_part.Body → after.before ≡ preceding_past before.part x outputs before.before
   pub next : after.part ≡ score_part.Body → after.held.next ≡ next_past before.part x before.held.next
   pub stands : StandsHere x before.held.next → StandsInLine before → StandsInLine after
@@ -126,6 +145,7 @@ pub record GivesNothing (before : ScoreStageState) (at : Place) (bytes : List �
   pub before_held : after.before ≡ before.before
   pub next : after.held.next ≡ behind_front at (length bytes) before.held.next
   pub stands : at ≡ before.held.next → StandsInLine before → StandsInLine after
+  pub counts : Counts at before → Counts (behind_front at (length bytes) at) after
   pub law : (xs : List HeadEvent) → left_of before (body_inputs at bytes ++ xs) ≡ nothing_each bytes ++ left_of after xs
 
 -- ---- counts that have not reached their last value

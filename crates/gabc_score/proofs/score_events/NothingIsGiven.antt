@@ -42,6 +42,10 @@ stands_behind : (at next : Place) (n : ℕ) → at ≡ next → record { line = 
 stands_behind at next zero e = ap (λ (m : ℕ). record { line = at.line; column = m }) (omega arith) ∙ e
 stands_behind at next (suc n) e = refl
 
+-- behind some characters the place is theirs
+same_front : (at p q : Place) (n : ℕ) → behind_front at (n + 1) p ≡ behind_front at (n + 1) q
+same_front at p q n = ap (λ (m : ℕ). behind_front at m p) (add-one n) ∙ ap (λ (m : ℕ). behind_front at m q) (sym (add-one n))
+
 gives_more : (a b c : ScoreStageState) (at : Place) (bytes : List ℕ) (byte : ℕ) → c.held.next ≡ behind_front at (length bytes + 1) a.held.next
     → (StandsAt (char_behind at (length bytes) byte).place b.body.part → StandsAt c.held.next c.body.part) → GivesNothing a at bytes b → PassesQuietly b (char_behind at (length bytes) byte) c → GivesNothing a at (bytes ++ byte ∷ []) c
 gives_more a b c at bytes byte next stands step passes = record {
@@ -50,6 +54,9 @@ gives_more a b c at bytes byte next stands step passes = record {
   before_held = passes.before_held ∙ step.before_held;
   next = next ∙ ap (λ (n : ℕ). behind_front at n a.held.next) (sym (length-append bytes (byte ∷ [])));
   stands = λ here was body. stands (subst (λ (p : Place). StandsAt p b.body.part) (step.next ∙ sym (stands_behind at a.held.next (length bytes) here)) (step.stands here was (sym passes.part ∙ body)));
+  counts = λ was body.
+      subst (λ (p : Place). StandsAt p c.body.part) (next ∙ same_front at a.held.next at (length bytes) ∙ ap (λ (n : ℕ). behind_front at n at) (sym (length-append bytes (byte ∷ []))))
+      (stands (subst (λ (p : Place). StandsAt p b.body.part) (sym (stands_behind at at (length bytes) refl)) (step.counts was (sym passes.part ∙ body))));
   law = λ xs.
       let x = head_event.Body (char_behind at (length bytes) byte) in
       ap (λ (is : List HeadEvent). left_of a (is ++ xs)) (inputs_one_more at bytes byte)
