@@ -1,3 +1,4 @@
+pub mod ADecoderMoves
 pub mod ADecoderStops
 pub mod AByteIsTaken
 pub mod BytesAreDecoded

@@ -1,6 +1,9 @@
 -- What a decoder tells of where it stands, and what a decoder can be made from.
-use Rattle.std.specs.Prelude.{◌≡◌, ℕ, ◌≤◌, List, [], length, Bool, true, not, ◌==◌, ◌&&◌, if◌then◌else◌}
+use Rattle.std.specs.Prelude.{◌≡◌, ℕ, ◌+◌, ◌≤◌, List, [], ◌∷◌, length, Bool, true, false, not, ◌==◌, ◌&&◌, if◌then◌else◌, Result, Ok, Err}
+use Rattle.gabc_places.specs.declared.code.Fault.{Fault}
+use Rattle.gabc_places.specs.declared.place.Char.{Char}
 use Rattle.gabc_places.specs.declared.place.Place.{Place}
+use Rattle.gabc_places.specs.Place.{next_place}
 use Rattle.gabc_places.specs.DecoderMachine.{DecoderState, IsPartial, IsReached, BeginsLine, is_unfinished}
 
 -- whether the last character is a CR directly before the next byte
@@ -26,3 +29,37 @@ pub record MayBeTold (limit taken : ℕ) (place : Place) (pending : List ℕ) (c
 -- the decoder that is made from it: the character before is a CR, or some other one
 abbrev pub resumed : ℕ → ℕ → Place → List ℕ → Bool → DecoderState
 resumed limit taken place pending cr = record { limit = limit; taken = taken; place = place; pending = pending; previous = if cr then 13 else 0; running = true }
+
+-- ---- a byte
+
+-- the next character stands behind the one that is whole
+abbrev pub moved_place : List (Result Char Fault) → Place → Place
+moved_place [] p = p
+moved_place (Ok x ∷ items) p = next_place x.place x.c
+moved_place (Err fault ∷ items) p = p
+
+-- and that one where the next one stood
+abbrev pub StandHere : List (Result Char Fault) → Place → Type 0
+StandHere [] p = Unit {0}
+StandHere (Ok x ∷ items) p = x.place ≡ p
+StandHere (Err fault ∷ items) p = Unit {0}
+
+-- one byte is taken, or none where nothing is read any more
+abbrev pub AreCounted : List (Result Char Fault) → ℕ → ℕ → Type 0
+AreCounted [] old new = (old ≤ new) × (new ≤ old + 1)
+AreCounted (Ok x ∷ items) old new = new ≡ old + 1
+AreCounted (Err fault ∷ items) old new = (old ≤ new) × (new ≤ old + 1)
+
+-- a fault ends it
+abbrev pub still_runs : List (Result Char Fault) → Bool → Bool
+still_runs [] runs = runs
+still_runs (Ok x ∷ items) runs = runs
+still_runs (Err fault ∷ items) runs = false
+
+-- With a byte, at which these came, a decoder goes on under its limit.
+pub record MovesOn (old : DecoderState) (items : List (Result Char Fault)) (new : DecoderState) : Type 0 where
+  pub limit : new.limit ≡ old.limit
+  pub taken : AreCounted items old.taken new.taken
+  pub here : StandHere items old.place
+  pub place : new.place ≡ moved_place items old.place
+  pub runs : new.running ≡ still_runs items old.running

@@ -7,7 +7,7 @@ ghost use Rattle.gabc_places.specs.Decoder.{known_of, known_at_end};
 ghost use Rattle.gabc_places.specs.DecoderMachine.{fresh_decoder, is_fault_item};
 ghost use Rattle.gabc_places.specs.witness.DecoderEvents.{stop_with, take_character as taken_character, events_left};
 ghost use Rattle.gabc_places.specs.DecoderMachine.{IsPartial, IsReached, BeginsLine};
-ghost use Rattle.gabc_places.specs.DecoderTells.{MayBeTold, is_after_cr, resumed};
+ghost use Rattle.gabc_places.specs.DecoderTells.{MayBeTold, MovesOn, is_after_cr, resumed};
 ghost use Rattle.gabc_places.specs.machine.Decoder.{take_part as taken_part};
 ghost use Rattle.gabc_places.specs.Skip.{IsPrintable, most_skipped as most_skipped_by, skipped_events};
 ghost use Rattle.gabc_places.specs.Text.{utf8_prefix_of, tail_of, is_left_out as left_out_after, read_as as read};
@@ -174,6 +174,7 @@ impl Decoder {
             EmitsNothing (events_left self.new)) }
         ensures place { IfSome result (λ item. is_fault_item item ≡ true →
             self.new.place ≡ self.old.place) }
+        ensures moves { MovesOn self.old (option_to_list result) self.new }
     {
         if !self.running {
             return None;
@@ -254,6 +255,11 @@ impl Decoder {
         requires printable { All IsPrintable bytes.now }
         ensures joined { (more : List ℕ) → events_left self.old (bytes.now ++ more)
             ≡ skipped_events self.old.place bytes.now ++ events_left self.new more }
+        ensures limit { self.new.limit ≡ self.old.limit }
+        ensures taken { self.new.taken ≡ self.old.taken + length bytes.now }
+        ensures line { self.new.place.line ≡ self.old.place.line }
+        ensures column { self.new.place.column ≡ self.old.place.column + length bytes.now }
+        ensures runs { self.new.running ≡ self.old.running }
     {
         if let Some(last) = bytes.last() {
             self.taken += bytes.len() as u32;

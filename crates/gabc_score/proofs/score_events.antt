@@ -19,6 +19,7 @@ pub mod NothingIsGiven
 pub mod OpenersInOrder
 pub mod OutputsAreCollected
 pub mod OutputsOfLentSyllables
+pub mod PartsFollow
 pub mod PlainScores
 pub mod QuietPoints
 pub mod ScoreOutputs

@@ -1,5 +1,5 @@
 -- What a stage over a score gives: each syllable in a slot that it lends.
-use Rattle.std.specs.Prelude.{◌≡◌, ℕ, zero, suc, ◌+◌, ◌<◌, ◌≤◌, ◌^◌, List, [], ◌∷◌, ◌++◌, Bool, true, false, length, map, take}
+use Rattle.std.specs.Prelude.{◌≡◌, ℕ, zero, suc, ◌+◌, ◌<◌, ◌≤◌, ◌^◌, List, [], ◌∷◌, ◌++◌, Bool, true, false, length, map, take, if◌then◌else◌}
 use Rattle.gabc_places.specs.BoundedList.{BoundedList, extended_by}
 use Rattle.gabc_places.specs.declared.limits.Limits.{Limits}
 use Rattle.gabc_places.specs.declared.place.Char.{Char}
@@ -18,11 +18,11 @@ use Rattle.gabc_score.specs.declared.score_machine.ScorePart.{ScorePart}
 use Rattle.gabc_score.specs.declared.score_machine.ScorePart.TheVariants as score_part
 use Rattle.gabc_score.specs.ScoreTells.{StandsAt}
 use Rattle.gabc_score.specs.ToldWithin.{AreCountsWithin, IsTextCharacter, TellsOfText, whole_syllables}
-use Rattle.gabc_score.specs.ScoreEvents.{first_place, ScoreOutput, Found, Stop, Syllable, End, syllables_in}
+use Rattle.gabc_score.specs.declared.syllable.Position.{Position}
+use Rattle.gabc_score.specs.ScoreEvents.{first_place, ScoreOutput, Found, Stop, Syllable, End, is_last, syllables_in}
 use Rattle.gabc_score.specs.Canonical.{canonical_in_place}
 use Rattle.gabc_score.specs.Syllable.{UnplacedSyllable, PlacedSyllable}
-use Rattle.gabc_score.specs.declared.syllable.Position.{Position}
-use Rattle.std.specs.List.{All}
+use Rattle.std.specs.List.{All, list_any}
 use Rattle.gabc_score.specs.witness.ScoreStage.{ScoreStageState, left_of}
 
 -- outputs as events: the first syllable of a call is lent as this one
@@ -81,6 +81,12 @@ most_whole score_part.Heads (head_event.Heads lines macros canonical) n = 0
 most_whole score_part.Body (head_event.Body x) n = n + 1
 most_whole part x n = n
 
+-- The part in which it stands behind an input at which these were given. A stop or the end is the last of all.
+abbrev pub part_past : ScorePart → HeadEvent → List ScoreOutput → ScorePart
+part_past score_part.Over x outputs = score_part.Over
+part_past score_part.Heads (head_event.Heads lines macros canonical) outputs = score_part.Body
+part_past part x outputs = if list_any is_last outputs then score_part.Over else part
+
 -- an input that is a character stands at this place
 abbrev pub StandsHere : HeadEvent → Place → Type 0
 StandsHere (head_event.Body x) next = x.place ≡ next
@@ -100,11 +106,31 @@ MayCome limits next x = Unit {0}
 abbrev pub StandsInLine : ScoreStageState → Type 0
 StandsInLine s = s.part ≡ score_part.Body → StandsAt s.held.next s.body.part
 
+-- a stop and the end are the last inputs that count
+abbrev pub is_final : HeadEvent → Bool
+is_final (head_event.Stop fault) = true
+is_final head_event.End = true
+is_final (head_event.Body x) = false
+is_final (head_event.Found f) = false
+is_final (head_event.Heads lines macros canonical) = false
+
+-- in the body a text has counted this place for the next character
+abbrev pub Counts : Place → ScoreStageState → Type 0
+Counts place s = s.part ≡ score_part.Body → StandsAt place s.body.part
+
+-- the place of the next character behind an input, where this one is that of the next before
+abbrev pub place_behind : HeadEvent → Place → Place
+place_behind (head_event.Body x) place = saturating_next_place x.place x.c
+place_behind x place = place
+
 -- At an input it gave what was to come for it, and goes on with what follows under the same limits.
 pub record GivesAt (before : ScoreStageState) (x : HeadEvent) (after : ScoreStageState) (old new : BoundedList ScoreEvent) : Type 0 where
   pub outputs : List ScoreOutput
   pub lends : Lends before.limits (most_lent x) outputs
   pub limits : after.limits ≡ before.limits
+  pub part : after.part ≡ part_past before.part x outputs
+  pub last : (before.part ≡ score_part.Over → ⊥) → is_final x ≡ true → list_any is_last outputs ≡ true
+  pub counts : (place : Place) → StandsHere x place → Counts place before → Counts (place_behind x place) after
   pub before_held : after.part ≡ score_part.Body → after.before ≡ preceding_past before.part x outputs before.before
   pub next : after.part ≡ score_part.Body → after.held.next ≡ next_past before.part x before.held.next
   pub stands : StandsHere x before.held.next → StandsInLine before → StandsInLine after
@@ -145,6 +171,7 @@ pub record GivesNothing (before : ScoreStageState) (at : Place) (bytes : List �
   pub stands : at ≡ before.held.next → StandsInLine before → StandsInLine after
   pub whole : whole_syllables after ≡ whole_syllables before
   pub told : at ≡ before.held.next → StandsInLine before → TellsOfText before → TellsOfText after
+  pub counts : Counts at before → Counts (behind_front at (length bytes) at) after
   pub law : (xs : List HeadEvent) → left_of before (body_inputs at bytes ++ xs) ≡ nothing_each bytes ++ left_of after xs
 
 -- ---- counts that have not reached their last value

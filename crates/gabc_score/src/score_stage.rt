@@ -51,6 +51,7 @@ impl ScoreStage {
         ensures outputs { IfOk result (λ stage. (xs : List HeadEvent) → AreCountsBelow xs →
             left_of stage xs ≡ score_outputs texts_by_stage limits xs) }
         ensures limits { IfOk result (λ stage. stage.limits ≡ limits) }
+        ensures part { IfOk result (λ stage. stage.part ≡ ScorePart.Heads) }
     {
         let body = BodyStage::new(alloc, 0, 0)?;
         let pair = SlotPair::with_limit(alloc, limits.syllable as usize)?;

@@ -52,6 +52,10 @@ stands_behind at next (suc n) e = refl
 abbrev pub Opens : Place → ScoreStageState → ScoreStageState → Type 0
 Opens at b c = StandsAt at b.body.part → OpensOn at (openers_of b.body.part) (openers_of c.body.part)
 
+-- behind some characters the place is theirs
+same_front : (at p q : Place) (n : ℕ) → behind_front at (n + 1) p ≡ behind_front at (n + 1) q
+same_front at p q n = ap (λ (m : ℕ). behind_front at m p) (add-one n) ∙ ap (λ (m : ℕ). behind_front at m q) (sym (add-one n))
+
 gives_more : (a b c : ScoreStageState) (at : Place) (bytes : List ℕ) (byte : ℕ) → c.held.next ≡ behind_front at (length bytes + 1) a.held.next
     → (StandsAt (char_behind at (length bytes) byte).place b.body.part → StandsAt c.held.next c.body.part) → Opens (char_behind at (length bytes) byte).place b c → at.column + length bytes + 1 < 2 ^ 64 → IsTextCharacter byte
     → GivesNothing a at bytes b → PassesQuietly b (char_behind at (length bytes) byte) c → GivesNothing a at (bytes ++ byte ∷ []) c
@@ -75,6 +79,9 @@ gives_more a b c at bytes byte next stands opens column is step passes = record 
     none_held = λ none. ap (λ (p : Preceding). p.syllables) passes.before_held ∙ (step.told here was old (sym passes.part ∙ body)).none_held
         (sym (ap (λ (k : ScorePart). held_in_body k c.held.gathered.made) passes.part ∙ ap (held_in_body b.part) passes.made) ∙ none);
   };
+  counts = λ was body.
+      subst (λ (p : Place). StandsAt p c.body.part) (next ∙ same_front at a.held.next at (length bytes) ∙ ap (λ (n : ℕ). behind_front at n at) (sym (length-append bytes (byte ∷ []))))
+      (stands (subst (λ (p : Place). StandsAt p b.body.part) (sym (stands_behind at at (length bytes) refl)) (step.counts was (sym passes.part ∙ body))));
   law = λ xs.
       let x = head_event.Body (char_behind at (length bytes) byte) in
       ap (λ (is : List HeadEvent). left_of a (is ++ xs)) (inputs_one_more at bytes byte)

@@ -1,11 +1,12 @@
 use Rattle.gabc_places.specs.declared.place.Place.{Place}
-use Rattle.std.proofs.Common.{◌≡◌, IfSome, true, subst, ◌+◌, arith, sym, ap, ◌∙◌}
+use Rattle.std.proofs.Common.{◌≡◌, IfSome, true, refl, subst, ◌+◌, arith, sym, ap, ◌∙◌}
 use Rattle.std.proofs.lemmas.Bool.Decides.{nat_tests}
 use Rattle.gabc_places.specs.declared.code.Code.TheVariants.{F7}
 use Rattle.gabc_places.specs.DecoderMachine.{DecoderState, is_fault_item}
 use Rattle.gabc_places.specs.witness.DecoderEvents.{DecoderStep, take_character, take_byte}
 use Rattle.gabc_places.specs.contracts.decoder.Decoder.{the_view}
 use Rattle.gabc_places.proofs.decoding.AByteIsTaken.{plain_byte_taken, nothing_pending}
+use Rattle.gabc_places.proofs.decoding.ADecoderMoves.{character_moves_on, fault_moves_on, part_moves_on}
 use Rattle.gabc_places.proofs.decoding.ADecoderStops.{fault_stops, part_stops, part_stays, character_is_none, item_of_byte}
 use Rattle.gabc_places.proofs.decoder.Decoder.take.Goals as goal
 use Rattle.gabc_places.proofs.decoder.Decoder.take.Goals.{else-byte-lt128-via-then-byte-lt128+else-is_empty, else-byte-lt128-via-else-byte-lt128}
@@ -32,3 +33,21 @@ returns-then-is_empty-clause-place c = rw (← c.self.view_is) (character_is_non
 
 pub returns-clause-place : goal.returns-clause-place
 returns-clause-place c = rw (← c.self.view_is) (subst (λ (p : Place). IfSome c.take_part.result (λ i. is_fault_item i ≡ true → c.take_part.new.self.place ≡ p)) (elim c.else-byte-lt128.branch [ else-byte-lt128-via-then-byte-lt128+else-is_empty w ↦ cc (ap (λ (s : DecoderState). s.place) w.self-is) | else-byte-lt128-via-else-byte-lt128 w ↦ cc (ap (λ (s : DecoderState). s.place) w.self-is) ]) (part_stays c.args.byte _ c.take_part.new.self c.take_part.result c.take_part.ensures.state c.take_part.ensures.events))
+
+pub returns-then-self-clause-moves : goal.returns-then-self-clause-moves
+returns-then-self-clause-moves c = fault_moves_on F7 c.args.self.now c.stop.new.self c.stop.result c.stop.ensures.state c.stop.ensures.events
+
+pub returns-then-is_empty-clause-moves : goal.returns-then-is_empty-clause-moves
+returns-then-is_empty-clause-moves c =
+    rw (← c.self.view_is) (character_moves_on c.from.result (the_view c.self.inside) (the_view (record c.self.inside { taken = c.self.inside.taken + 1 })) c.take_character.new.self c.take_character.result
+    (record { limit = refl; taken = refl; place = refl; running = refl }) c.take_character.ensures.state c.take_character.ensures.events)
+
+pub returns-clause-moves : goal.returns-clause-moves
+returns-clause-moves c =
+    rw (← c.self.view_is) (part_moves_on c.args.byte (the_view c.self.inside) _ c.take_part.new.self c.take_part.result
+    (record {
+      limit = elim c.else-byte-lt128.branch [ else-byte-lt128-via-then-byte-lt128+else-is_empty w ↦ cc (ap (λ (s : DecoderState). s.limit) w.self-is) | else-byte-lt128-via-else-byte-lt128 w ↦ cc (ap (λ (s : DecoderState). s.limit) w.self-is) ];
+      taken = elim c.else-byte-lt128.branch [ else-byte-lt128-via-then-byte-lt128+else-is_empty w ↦ cc (ap (λ (s : DecoderState). s.taken) w.self-is) | else-byte-lt128-via-else-byte-lt128 w ↦ cc (ap (λ (s : DecoderState). s.taken) w.self-is) ];
+      place = elim c.else-byte-lt128.branch [ else-byte-lt128-via-then-byte-lt128+else-is_empty w ↦ cc (ap (λ (s : DecoderState). s.place) w.self-is) | else-byte-lt128-via-else-byte-lt128 w ↦ cc (ap (λ (s : DecoderState). s.place) w.self-is) ];
+      running = elim c.else-byte-lt128.branch [ else-byte-lt128-via-then-byte-lt128+else-is_empty w ↦ cc (ap (λ (s : DecoderState). s.running) w.self-is) | else-byte-lt128-via-else-byte-lt128 w ↦ cc (ap (λ (s : DecoderState). s.running) w.self-is) ];
+    }) c.take_part.ensures.state c.take_part.ensures.events)

@@ -1,5 +1,6 @@
 use Rattle.std.proofs.Common.{rules, ◌≡◌, [], ◌∷◌, ◌++◌, ◌||◌, ◌∙◌, refl, sym, ap, subst, None, arith}
 use Rattle.std.specs.List.{All}
+use Rattle.gabc_headers.specs.declared.head_event.HeadEvent.TheVariants as head_event
 use Rattle.gabc_score.specs.ScoreEvents.{Stop, End, outputs_of}
 use Rattle.gabc_score.specs.machine.BodyBuilder.{code_in, end_fault, end_findings, with_all}
 use Rattle.gabc_score.specs.machine.Gatherer.{Gathered, with_last}
@@ -7,6 +8,7 @@ use Rattle.gabc_score.specs.machine.ScoreMachine.{IsShort}
 use Rattle.gabc_score.specs.machine.ScoreStage.{placed_behind}
 use Rattle.gabc_score.proofs.score_events.EventsStayWithinBounds.{few_found}
 use Rattle.gabc_score.proofs.score_events.FewAndShortAreLent.{short_at_end, held_lends, lends_these, no_code, placed_within}
+use Rattle.gabc_score.proofs.score_events.PartsFollow.{last_behind, leads_out}
 use Rattle.gabc_score.proofs.score_machine.ScoreMachine.end.Goals as goal
 
 pub give_end-requires-clause-few : goal.give_end-requires-clause-few
@@ -21,6 +23,9 @@ returns-in-Some-clause-step c =
       outputs = outputs_of [] (placed_behind c.args.self.now.has_lent held) ++ Stop c.in-Some.fault ∷ [];
       lends = held_lends c.args.self.now.limits 2 c.args.self.now.has_lent held c.args.self.now.pair.gathered.made (Stop c.in-Some.fault ∷ []) refl same rests.short c.stop.ensures.few (omega arith);
       limits = c.stop.ensures.limits;
+      part = leads_out c.args.self.now.part c.stop.new.self.part head_event.End (outputs_of [] (placed_behind c.args.self.now.has_lent held)) (Stop c.in-Some.fault) c.requires.part c.stop.ensures.part refl;
+      last = λ other final. last_behind (outputs_of [] (placed_behind c.args.self.now.has_lent held)) (Stop c.in-Some.fault) refl;
+      counts = λ place here was body. absurd (cc (body, c.stop.ensures.part));
       before_held = λ body. absurd (cc (body, c.stop.ensures.part));
       next = λ body. absurd (cc (body, c.stop.ensures.part));
       stands = λ here was body. absurd (cc (body, c.stop.ensures.part));
@@ -48,6 +53,9 @@ returns-in-None-clause-step c =
       outputs = outputs_of found lent ++ End ∷ [];
       lends = lends_these c.args.self.now.limits 2 found lent (End ∷ []) refl c.give_end.ensures.few (placed_within c.args.self.now.limits _ p.gathered.made short);
       limits = refl;
+      part = leads_out c.args.self.now.part _ head_event.End (outputs_of found lent) End c.requires.part refl refl;
+      last = λ other final. last_behind (outputs_of found lent) End refl;
+      counts = λ place here was body. absurd (cc body);
       before_held = λ body. absurd (cc body);
       next = λ body. absurd (cc body);
       stands = λ here was body. absurd (cc body);

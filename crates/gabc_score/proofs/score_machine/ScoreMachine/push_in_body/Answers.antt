@@ -2,6 +2,7 @@ use Rattle.std.proofs.Common.{rules, ◌++◌, [], ◌∷◌, refl, arith}
 use Rattle.gabc_score.specs.ScoreEvents.{Found, Stop, outputs_of}
 use Rattle.gabc_score.specs.machine.ScoreStage.{placed_behind}
 use Rattle.gabc_score.proofs.score_events.FewAndShortAreLent.{held_lends, lends_none}
+use Rattle.gabc_score.proofs.score_events.PartsFollow.{last_behind, leads_out}
 use Rattle.gabc_score.proofs.score_machine.ScoreMachine.push_in_body.Goals as goal
 
 pub returns-in-Found-clause-step : goal.returns-in-Found-clause-step
@@ -10,6 +11,9 @@ returns-in-Found-clause-step c =
       outputs = Found c.in-Found.finding ∷ [];
       lends = lends_none c.args.self.now.limits _ (Found c.in-Found.finding ∷ []) refl;
       limits = refl;
+      part = refl;
+      last = λ other final. absurd (cc final);
+      counts = λ place here was. was;
       before_held = λ body. refl;
       next = λ body. refl;
       stands = λ here was. was;
@@ -27,6 +31,9 @@ returns-in-Stop-clause-step c =
       outputs = outputs_of [] (placed_behind c.args.self.now.has_lent held) ++ Stop c.in-Stop.fault ∷ [];
       lends = rw c.in-Stop.is (held_lends c.args.self.now.limits 1 c.args.self.now.has_lent held c.args.self.now.pair.gathered.made (Stop c.in-Stop.fault ∷ []) refl c.free.ensures.held rests.short c.stop.ensures.few (omega arith));
       limits = c.stop.ensures.limits;
+      part = leads_out c.args.self.now.part c.stop.new.self.part _ (outputs_of [] (placed_behind c.args.self.now.has_lent held)) (Stop c.in-Stop.fault) c.requires.part c.stop.ensures.part refl;
+      last = λ other final. last_behind (outputs_of [] (placed_behind c.args.self.now.has_lent held)) (Stop c.in-Stop.fault) refl;
+      counts = λ place here was body. absurd (cc (body, c.stop.ensures.part));
       before_held = λ body. absurd (cc (body, c.stop.ensures.part));
       next = λ body. absurd (cc (body, c.stop.ensures.part));
       stands = λ here was body. absurd (cc (body, c.stop.ensures.part));
@@ -42,6 +49,9 @@ returns-in-Heads-clause-step c =
       outputs = [];
       lends = lends_none c.args.self.now.limits _ [] refl;
       limits = refl;
+      part = refl;
+      last = λ other final. absurd (cc final);
+      counts = λ place here was. was;
       before_held = λ body. refl;
       next = λ body. refl;
       stands = λ here was. was;

@@ -1,6 +1,8 @@
-use Rattle.std.proofs.Common.{rules, [], ◌∷◌, refl, ap, ◌∙◌, arith}
+use Rattle.std.proofs.Common.{rules, [], ◌∷◌, refl, ap, sym, ◌∙◌, arith}
+use Rattle.std.proofs.lemmas.Bool.{false≢true}
 use Rattle.gabc_score.specs.ScoreEvents.{Found, Stop, End}
 use Rattle.gabc_score.specs.declared.bounds.Bounds.{Bounds}
+use Rattle.gabc_score.specs.ScoreStage.{is_final}
 use Rattle.gabc_score.specs.machine.Gatherer.{Gathered}
 use Rattle.gabc_score.specs.machine.SlotPair.{SlotPairState}
 use Rattle.gabc_score.specs.witness.BodyStage.{BodyStageState}
@@ -18,6 +20,9 @@ returns-in-Found-clause-step c =
       outputs = Found c.in-Found.finding ∷ [];
       lends = lends_none c.args.self.now.limits _ (Found c.in-Found.finding ∷ []) refl;
       limits = refl;
+      part = refl;
+      last = λ other final. absurd (cc final);
+      counts = λ place here was body. absurd (cc body);
       before_held = λ body. absurd (cc body);
       next = λ body. absurd (cc body);
       stands = λ here was body. absurd (cc body);
@@ -33,6 +38,9 @@ returns-in-Stop-clause-step c =
       outputs = Stop c.in-Stop.fault ∷ [];
       lends = lends_none c.args.self.now.limits _ (Stop c.in-Stop.fault ∷ []) refl;
       limits = refl;
+      part = refl;
+      last = λ other final. refl;
+      counts = λ place here was body. absurd (cc body);
       before_held = λ body. absurd (cc body);
       next = λ body. absurd (cc body);
       stands = λ here was body. absurd (cc body);
@@ -48,6 +56,9 @@ returns-in-End-clause-step c =
       outputs = End ∷ [];
       lends = lends_none c.args.self.now.limits _ (End ∷ []) refl;
       limits = refl;
+      part = refl;
+      last = λ other final. refl;
+      counts = λ place here was body. absurd (cc body);
       before_held = λ body. absurd (cc body);
       next = λ body. absurd (cc body);
       stands = λ here was body. absurd (cc body);
@@ -63,6 +74,9 @@ returns-in-Body-clause-step c =
       outputs = [];
       lends = lends_none c.args.self.now.limits _ [] refl;
       limits = refl;
+      part = refl;
+      last = λ other final. absurd (cc final);
+      counts = λ place here was body. absurd (cc body);
       before_held = λ body. absurd (cc body);
       next = λ body. absurd (cc body);
       stands = λ here was body. absurd (cc body);
@@ -77,6 +91,9 @@ returns-in-Heads-clause-step c = record {
   outputs = [];
   lends = lends_none c.args.self.now.limits _ [] refl;
   limits = refl;
+  part = search rules;
+  last = λ other final. absurd (false≢true (sym (ap is_final c.in-Heads.is) ∙ final));
+  counts = search rules;
   before_held = search rules;
   next = search rules;
   stands = search rules;

@@ -30,6 +30,7 @@ use Rattle.gabc_score.proofs.score_events.HeldWithinLimits.{within_past}
 use Rattle.gabc_score.proofs.score_events.TextsArePlain.{plain_all, plain_held, of_character}
 use Rattle.gabc_score.proofs.score_events.WhatIsRead.{reading_past}
 use Rattle.gabc_score.proofs.score_events.WholeSyllables.{whole_past}
+use Rattle.gabc_score.proofs.score_events.PartsFollow.{leads_out, stays_inside}
 use Rattle.gabc_score.proofs.score_events.WhatPrecedes.{lent_past, turned, past_in_body}
 use Rattle.gabc_score.specs.NoteBeforeClef.{found_first}
 use Rattle.gabc_places.specs.BoundedList.{extended_by}
@@ -59,6 +60,9 @@ returns-in-Some-clause-step c =
       outputs = outputs_of [] (placed_behind c.args.self.now.has_lent held) ++ Stop fault ∷ [];
       lends = held_lends c.args.self.now.limits 1 c.args.self.now.has_lent held c.args.self.now.pair.gathered.made (Stop fault ∷ []) refl same rests.short c.stop.ensures.few (omega arith);
       limits = c.stop.ensures.limits;
+      part = leads_out c.args.self.now.part c.stop.new.self.part (head_event.Body c.args.x) (outputs_of [] (placed_behind c.args.self.now.has_lent held)) (Stop fault) c.requires.part c.stop.ensures.part refl;
+      last = λ other final. absurd (cc final);
+      counts = λ place here was body. absurd (cc (body, c.stop.ensures.part));
       before_held = λ body. absurd (cc (body, c.stop.ensures.part));
       next = λ body. absurd (cc (body, c.stop.ensures.part));
       stands = λ here was body. absurd (cc (body, c.stop.ensures.part));
@@ -95,6 +99,10 @@ returns-after-self-clause-step c =
       outputs = outputs_of fs lent;
       lends = subst (λ (outputs : List ScoreOutput). Lends limits 1 outputs) (append-nil (outputs_of fs lent)) (lends_these limits 1 fs lent [] refl c.give_point-gave.ensures.few within);
       limits = refl;
+      part = stays_inside c.args.self.now.part c.args.self.now.part (head_event.Body c.args.x) fs lent c.requires.part c.requires.part;
+      last = λ other final. absurd (cc final);
+      counts = λ place here was body. c.take.ensures.stands c.requires.rests.reading.parts c.requires.rests.reading.keeps
+          (subst (λ p. StandsAt p c.args.self.now.body.part) (sym here) (was c.requires.part));
       before_held = λ body. past_in_body c.args.self.now.part (head_event.Body c.args.x) fs lent c.args.self.now.bounds.before c.pass.new.self.before c.requires.part
           (ap (λ (k : Bounds). k.before) passed ∙ turns.given);
       next = search rules;

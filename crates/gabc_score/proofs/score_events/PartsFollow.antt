@@ -1,0 +1,43 @@
+-- Where a machine stands behind what it gives.
+use Rattle.std.proofs.Common.{◌≡◌, ◌||◌, Bool, true, false, List, [], ◌∷◌, ◌++◌, refl, ap, sym, ◌∙◌}
+use Rattle.std.specs.List.{list_any}
+use Rattle.gabc_places.specs.declared.code.Finding.{Finding}
+use Rattle.gabc_headers.specs.declared.head_event.HeadEvent.{HeadEvent}
+use Rattle.gabc_score.specs.declared.score_machine.ScorePart.{ScorePart}
+use Rattle.gabc_score.specs.declared.score_machine.ScorePart.TheVariants as score_part
+use Rattle.gabc_score.specs.ScoreEvents.{ScoreOutput, Found, Syllable, is_last, outputs_of}
+use Rattle.gabc_score.specs.ScoreStage.{part_past}
+use Rattle.gabc_score.specs.Syllable.{PlacedSyllable}
+
+either_true : (b : Bool) → (b || true) ≡ true
+either_true true = refl
+either_true false = refl
+
+-- with a stop or the end behind them
+pub last_behind : (outputs : List ScoreOutput) (o : ScoreOutput) → is_last o ≡ true → list_any is_last (outputs ++ o ∷ []) ≡ true
+last_behind [] o e = ap (λ (b : Bool). b || false) e
+last_behind (x ∷ outputs) o e = ap (λ (b : Bool). is_last x || b) (last_behind outputs o e) ∙ either_true (is_last x)
+
+-- findings and syllables are neither
+none_is_last : (fs : List Finding) (ss : List PlacedSyllable) → list_any is_last (outputs_of fs ss) ≡ false
+none_is_last [] [] = refl
+none_is_last [] (s ∷ ss) = none_is_last [] ss
+none_is_last (f ∷ fs) ss = none_is_last fs ss
+
+over_by : (x : HeadEvent) (outputs : List ScoreOutput) → list_any is_last outputs ≡ true → score_part.Over ≡ part_past score_part.Body x outputs
+over_by x outputs e = rw e refl
+
+body_by : (x : HeadEvent) (outputs : List ScoreOutput) → list_any is_last outputs ≡ false → score_part.Body ≡ part_past score_part.Body x outputs
+body_by x outputs e = rw e refl
+
+-- in the body a stop or the end leads out of it
+pub leads_out : (part new : ScorePart) (x : HeadEvent) (outputs : List ScoreOutput) (o : ScoreOutput) → part ≡ score_part.Body → new ≡ score_part.Over → is_last o ≡ true → new ≡ part_past part x (outputs ++ o ∷ [])
+leads_out part new x outputs o body over e = over ∙ (over_by x (outputs ++ o ∷ []) (last_behind outputs o e) ∙ ap (λ (p : ScorePart). part_past p x (outputs ++ o ∷ [])) (sym body))
+
+-- findings and syllables leave it there
+pub stays_inside : (part new : ScorePart) (x : HeadEvent) (fs : List Finding) (ss : List PlacedSyllable) → part ≡ score_part.Body → new ≡ score_part.Body → new ≡ part_past part x (outputs_of fs ss)
+stays_inside part new x fs ss body is = is ∙ (body_by x (outputs_of fs ss) (none_is_last fs ss) ∙ ap (λ (p : ScorePart). part_past p x (outputs_of fs ss)) (sym body))
+
+-- behind the last event it stays
+pub over_stays : (part : ScorePart) (x : HeadEvent) (outputs : List ScoreOutput) → part ≡ score_part.Over → part ≡ part_past part x outputs
+over_stays part x outputs over = rw over refl
