@@ -19,5 +19,6 @@ pub mod QuietParts
 pub mod QuietTexts
 pub mod SnippetsAsKept
 pub mod SnippetsWithBars
+pub mod SpansOfParts
 pub mod StopIsFirst
 pub mod SyllableEndsLast

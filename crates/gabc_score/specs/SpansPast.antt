@@ -1,6 +1,7 @@
 -- Which spans of several syllables are open behind a syllable, by those that are open before it.
-use Rattle.std.specs.Prelude.{ℕ, List, [], ◌∷◌, Bool, codes}
+use Rattle.std.specs.Prelude.{◌≡◌, ℕ, List, [], ◌∷◌, Bool, codes}
 use Rattle.gabc_text.specs.declared.view.Piece.{Piece}
+use Rattle.gabc_score.specs.declared.before.Spans.{Spans}
 use Rattle.gabc_score.specs.Syllable.{UnplacedSyllable, slice, is_open_after}
 
 -- a span is open behind these pieces of a kept text, by the tags that open and close it, if it was open or not before them
@@ -13,3 +14,8 @@ eu_past m was = open_past (codes "<eu>") (codes "</eu>") m.kept m.text.pieces wa
 
 abbrev pub nlba_past : UnplacedSyllable → Bool → Bool
 nlba_past m was = open_past (codes "<nlba>") (codes "</nlba>") m.kept m.text.pieces was
+
+-- the spans that are open behind a syllable follow from its text and from those that are open before it
+pub record FollowsSpans (spans : Spans) (m : UnplacedSyllable) : Type 0 where
+  pub eu : m.eu ≡ eu_past m spans.eu
+  pub nlba : m.nlba ≡ nlba_past m spans.nlba

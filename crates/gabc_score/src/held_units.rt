@@ -1,8 +1,9 @@
-//! That the syllable which a stage over a score holds holds a unit, and is within the limits.
+//! That the syllable which a stage over a score holds holds a unit, that its spans follow from those before it, and that it is within the limits.
 
 ghost use Rattle.std.specs.Prelude.{IfSome};
 ghost use Rattle.gabc_score.specs.ScoreStage.{IsWithinAnywhere};
 ghost use Rattle.gabc_score.specs.ScoreTells.{held_of};
+ghost use Rattle.gabc_score.specs.SpansPast.{FollowsSpans};
 ghost use Rattle.gabc_score.specs.UnitRead.{HoldsSomeUnit};
 ghost use Rattle.gabc_score.specs.machine.ScoreMachine.{shown, IsScore};
 
@@ -14,6 +15,17 @@ impl ScoreMachine {
     pub(crate) fn holds_a_unit(&self)
         requires rests { IsScore self.now }
         ensures { IfSome (held_of (shown self.now)) (HoldsSomeUnit self.now.body.nabc_lines) }
+    {
+        gabc_text::laws::a_kept_text_is_said_in_full();
+        gabc_text::laws::spans_stand_for_the_view();
+        gabc_notes::laws::kept_again();
+        gabc_nabc::laws::kept_again();
+    }
+
+    /// Does nothing but call laws. Its contract is one: which spans are open behind the syllable that a machine holds follows from those before it.
+    pub(crate) fn follows_spans(&self)
+        requires rests { IsScore self.now }
+        ensures { IfSome (held_of (shown self.now)) (FollowsSpans self.now.bounds.before.spans) }
     {
         gabc_text::laws::a_kept_text_is_said_in_full();
         gabc_text::laws::spans_stand_for_the_view();
@@ -34,6 +46,13 @@ impl ScoreStage {
         ensures { IfSome (held_of self.now) (HoldsSomeUnit self.now.body.nabc_lines) }
     {
         self.machine.holds_a_unit();
+    }
+
+    /// Does nothing but call a law. Its contract is one: which spans are open behind the syllable that a stage holds follows from those before it.
+    pub(crate) fn follows_spans(&self)
+        ensures { IfSome (held_of self.now) (FollowsSpans self.now.before.spans) }
+    {
+        self.machine.follows_spans();
     }
 
     /// Does nothing but call a law. Its contract is one: the syllable that a stage holds is within its limits, wherever it stands in its word.

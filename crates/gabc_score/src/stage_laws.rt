@@ -21,9 +21,10 @@ ghost use Rattle.gabc_score.specs.HeldAside.{HoldTheSame, GiveTheSame};
 ghost use Rattle.gabc_score.specs.ReadAgain.{StandsBefore};
 ghost use Rattle.gabc_score.specs.ScoreTells.{before_of, held_of, reading_of, openers_of, is_in_comment, is_in_front, StandsAt};
 ghost use Rattle.gabc_score.specs.ScoreStage.{AreCountsBelow, GivesAt, IsWithinAnywhere, events_of};
+ghost use Rattle.gabc_score.specs.SpansPast.{FollowsSpans};
 ghost use Rattle.gabc_score.specs.UnitRead.{HoldsSomeUnit};
 ghost use Rattle.gabc_score.specs.witness.ReadAgain.{CanBeReadAgain};
-ghost use Rattle.gabc_score.specs.ToldWithin.{IsPlace, IsToldWithin, TellsOfText};
+ghost use Rattle.gabc_score.specs.ToldWithin.{BeginsWord, IsPlace, IsToldWithin, TellsOfText};
 ghost use Rattle.gabc_score.specs.witness.ScoreStage.{ScoreStageState, left_of};
 
 use crate::score_event::ScoreEvent;
@@ -169,6 +170,21 @@ pub fn what_is_held_holds_a_unit(stage: &ScoreStage)
 {
     stage.holds_a_unit();
 }
+
+/// Which spans are open behind the whole syllable that a stage holds, whatever it has read, follows from its text and from those that are open
+/// before it.
+pub fn spans_of_what_is_held_follow(stage: &ScoreStage)
+    ensures { IfSome (held_of stage.now) (FollowsSpans stage.now.before.spans) }
+{
+    stage.follows_spans();
+}
+
+/// Where a stage tells what a text gives, and no syllable stands before the one that it holds, this one begins a word: the body's first text begins
+/// with the LF behind the comment.
+pub fn the_first_begins_a_word(stage: &ScoreStage)
+    ensures { TellsOfText stage.now → stage.now.before.syllables ≡ 0 →
+        IfSome (held_of stage.now) BeginsWord }
+{}
 
 /// The whole syllable that a stage holds, whatever it has read, is within the stage's limits, wherever it stands in its word.
 pub fn what_is_held_is_within_the_limits(stage: &ScoreStage)

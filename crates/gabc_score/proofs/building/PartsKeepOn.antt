@@ -184,10 +184,11 @@ module _ (lines macros : ℕ) (opened : Place) (s t : NoteStage) (x : Char) (es 
           record { count = _; none_kept = e.none_kept; end = close_ends es x.c _ e.end close }
 
   pub gabc_next_makes : list_any is_next es ≡ true → PartMakes lines macros (part.Notes opened s) (of_notes 0 opened es)
-  gabc_next_makes next spans g fits r =
+  unfolding PartMakes
+  gabc_next_makes next p g fits r =
       let here = found r.parts r.keeps in
       let over = ended here.k here.keeps (λ none. true≢false (sym next ∙ none_next es x.c 0 none)) in
-      notes_make_none lines macros 0 opened (part.Notes opened s) es (next_alone es x.c _ over.1.end next) spans g fits r
+      notes_make_none lines macros 0 opened (part.Notes opened s) es (next_alone es x.c _ over.1.end next) p g fits r
 
   pub gabc_makes : list_any is_close es ≡ true → PartMakes lines macros (part.Notes opened s) (of_notes 0 opened es)
   gabc_makes close = notes_make lines macros 0 opened (part.Notes opened s) (Keep s) found es closes
@@ -281,10 +282,11 @@ module _ (lines macros line : ℕ) (opened : Place) (s t : NabcStage) (x : Char)
   of_line (suc l) k some h = h
 
   pub nabc_next_makes : list_any is_next es ≡ true → PartMakes lines macros (part.Nabc line opened s) (of_notes line opened es)
-  nabc_next_makes next spans g fits r =
+  unfolding PartMakes
+  nabc_next_makes next p g fits r =
       let here = found_nabc r.parts r.keeps in
       let over = ended_nabc here.k here.keeps (λ none. true≢false (sym next ∙ none_next es x.c 0 none)) in
-      notes_make_none lines macros line opened (part.Nabc line opened s) es (next_alone es x.c _ over.end next) spans g fits r
+      notes_make_none lines macros line opened (part.Nabc line opened s) es (next_alone es x.c _ over.end next) p g fits r
 
   pub nabc_makes : list_any is_close es ≡ true → PartMakes lines macros (part.Nabc line opened s) (of_notes line opened es)
   nabc_makes close = notes_make lines macros line opened (part.Nabc line opened s) (KeepNabc s) found_nabc es closes

@@ -1,10 +1,11 @@
 -- What a part of a body makes with its events: a syllable that holds a unit, where a snippet closes, and else none.
-use Rattle.std.proofs.Common.{◌≡◌, ℕ, ◌+◌, ◌-◌, ◌^◌, min, false, List, [], ◌∷◌, ◌++◌, length, nat_lt, encode_utf8_all, refl, sym, ap, subst, ◌∙◌, arith, append_assoc}
+use Rattle.std.proofs.Common.{◌≡◌, ℕ, ◌+◌, ◌-◌, ◌^◌, min, Bool, false, List, [], ◌∷◌, ◌++◌, length, nat_lt, codes, encode_utf8_all, refl, sym, ap, subst, ◌∙◌, arith, append_assoc}
 use Rattle.std.proofs.lemmas.Bool.{true≢false}
 use Rattle.std.proofs.lemmas.List.Elements.{All-push}
 use Rattle.std.specs.List.{All, list_any}
 use Rattle.gabc_places.specs.declared.place.Place.{Place}
 use Rattle.gabc_text.specs.TextRead.{view_in}
+use Rattle.gabc_text.specs.TextView.{ViewContent}
 use Rattle.gabc_text.specs.declared.text_event.TextEnd.TheVariants as text_end
 use Rattle.gabc_text.specs.declared.text_event.TextEvent.{TextEvent}
 use Rattle.gabc_text.specs.declared.text_event.TextEvent.TheVariants as text_out
@@ -16,23 +17,30 @@ use Rattle.gabc_notes.specs.SnippetRead.{kept_of, ends_of}
 use Rattle.gabc_notes.specs.declared.stage.NoteEnd.TheVariants as note_end
 use Rattle.gabc_notes.specs.declared.stage.NoteEvent.{NoteEvent}
 use Rattle.gabc_notes.specs.declared.stage.NoteEvent.TheVariants as note
+use Rattle.gabc_score.specs.declared.before.Preceding.{Preceding}
+use Rattle.gabc_score.specs.declared.before.Spans.{Spans}
 use Rattle.gabc_score.specs.declared.body_stage.BodyPart.{BodyPart}
 use Rattle.gabc_score.specs.declared.body_stage.BodyPart.TheVariants as part
 use Rattle.gabc_score.specs.declared.events.BodyEvent.{BodyEvent}
 use Rattle.gabc_score.specs.declared.events.BodyEvent.TheVariants as event
+use Rattle.gabc_score.specs.Before.{with_one, with_each}
 use Rattle.gabc_score.specs.Events.{is_close}
 use Rattle.gabc_score.specs.Holding.{IsSnippetOf}
-use Rattle.gabc_score.specs.Syllable.{closes}
+use Rattle.gabc_score.specs.SpansPast.{open_past, FollowsSpans}
+use Rattle.gabc_score.specs.Syllable.{UnplacedSyllable, closes}
+use Rattle.gabc_score.specs.SyllablesOfUnits.{span_tags}
 use Rattle.gabc_score.specs.UnitRead.{HoldsSomeUnit}
 use Rattle.gabc_score.specs.machine.BodyBuilder.{with_all}
 use Rattle.gabc_score.specs.machine.Gatherer.{Gathered, with_event}
 use Rattle.gabc_score.specs.machine.PartKeeps.{KeptParts, in_text, barred, text_before, joined, line_behind, text_events, snippet_events, earlier_events, events_before, said_by, AreEnded, PartKeeps, begun, ReadAlike}
-use Rattle.gabc_score.specs.machine.PartMakes.{HoldUnits, PartMakes}
+use Rattle.gabc_score.specs.machine.PartMakes.{FollowEach, AreHeld, HoldUnits, PartMakes}
 use Rattle.gabc_score.specs.machine.SyllableBuilder.{OpenSyllable, made_from, past_snippet}
 use Rattle.gabc_score.proofs.building.EventsOfOnePoint.{with_all_append}
-use Rattle.gabc_score.proofs.building.PartsMakeUnits.{HasRead, with_more, text_read, earlier_read, close_holds}
+use Rattle.gabc_score.proofs.building.PartsMakeUnits.{HasRead, with_more, text_read, earlier_read, close_holds, close_opens}
 use Rattle.gabc_score.proofs.building.PartsOfKeptNotes.{InNotes}
 use Rattle.gabc_score.proofs.building.PartsOfKeptText.{of_notes, notes_ended, snippet_is}
+use Rattle.gabc_score.proofs.building.SpansOfParts.{eu_open, nlba_open}
+use Rattle.gabc_score.proofs.syllables_of_units.LastTagOpensTheSpan.{behind_tags}
 use Rattle.gabc_score.proofs.texts_of_body.SeamsOfCharacters.{size, size_append}
 
 -- ---- no syllable is made
@@ -55,7 +63,8 @@ made_stays (event.Notes line (note.Ended note_end.Close n) ∷ now) g e = absurd
 made_stays (event.Notes line (note.Ended (note_end.Cut p) n) ∷ now) g e = made_stays now (with_event g (event.Notes line (note.Ended (note_end.Cut p) n))) e
 
 none_makes : (lines macros : ℕ) (before : BodyPart) (now : List BodyEvent) → list_any closes now ≡ false → PartMakes lines macros before now
-none_makes lines macros before now e spans g fits r h = subst (HoldUnits lines) (sym (made_stays now g e)) h
+unfolding PartMakes
+none_makes lines macros before now e p g fits r h = subst (HoldUnits lines p) (sym (made_stays now g e)) h
 
 texts_close_none : (es : List TextEvent) → list_any closes (text_events es) ≡ false
 texts_close_none [] = refl
@@ -78,18 +87,19 @@ notes_make_none lines macros line opened before es e = none_makes lines macros b
 -- the text that begins behind a comment, in which nothing is kept
 pub first_text_makes : (lines macros l m : ℕ) (s : TextStage) (before mid : BodyPart) (now : List BodyEvent) → before ≡ part.Comment → mid ≡ part.Text s → text.Keeps s [] → l ≡ lines → m ≡ macros
     → PartMakes l m mid now → PartMakes lines macros before now
+unfolding PartMakes
 first_text_makes lines macros l m s before mid now comment is keeps same_lines same_macros makes =
     subst (λ (b : BodyPart). PartMakes lines macros b now) (sym comment)
     (subst (λ (k : ℕ). PartMakes k macros part.Comment now) same_lines
     (subst (λ (k : ℕ). PartMakes l k part.Comment now) same_macros on))
   where
     on : PartMakes l m part.Comment now
-    on spans g fits r = makes spans g fits (record {
+    on p g fits r = makes p g fits (record {
       parts = in_text [];
       keeps = subst (λ (b : BodyPart). PartKeeps l m b (in_text [])) (sym is) keeps;
-      said = subst (λ (p : KeptParts). ReadAlike g (with_all (begun spans) (said_by l p))) r.keeps r.said;
-      kept = subst (λ (p : KeptParts). g.builder.kept ≡ encode_utf8_all (joined p)) r.keeps r.kept;
-      from = subst (λ (p : KeptParts). g.builder.from ≡ length (encode_utf8_all (text_before p))) r.keeps r.from;
+      said = subst (λ (k : KeptParts). ReadAlike g (with_all (begun (with_each p g.made).spans) (said_by l k))) r.keeps r.said;
+      kept = subst (λ (k : KeptParts). g.builder.kept ≡ encode_utf8_all (joined k)) r.keeps r.kept;
+      from = subst (λ (k : KeptParts). g.builder.from ≡ length (encode_utf8_all (text_before k))) r.keeps r.from;
       uncut = r.uncut;
     })
 
@@ -104,6 +114,12 @@ pub record ClosesWhole (line : ℕ) (es : List NoteEvent) (k : List ℕ) : Type 
   pub none_kept : kept_of es ≡ []
   pub end : ends_of es ≡ (note_end.Close, min (size s) (2 ^ 64 - 1)) ∷ []
 
+-- behind the others one more follows
+follow_push : (p : Preceding) (ms : List UnplacedSyllable) (m : UnplacedSyllable) → FollowEach p ms → FollowsSpans (with_each p ms).spans m → FollowEach p (ms ++ m ∷ [])
+unfolding FollowEach
+follow_push p [] m h k = (k, tt)
+follow_push p (s ∷ ms) m h k = (h.0, follow_push (with_one p s) ms m h.1 k)
+
 -- snippets end at a `|` only where there are NABC lines
 none_ended : (lines macros : ℕ) (ss : List (List ℕ)) → AreEnded lines macros 0 ss → lines ≡ 0 → length ss ≡ 0
 none_ended lines macros [] h e = refl
@@ -111,12 +127,21 @@ none_ended lines macros (s ∷ ss) h e = absurd (true≢false (sym h.0.0 ∙ ap 
 
 module _ (lines macros line : ℕ) (opened : Place) (before : BodyPart) (Keep : List ℕ → Type 0) (found : (p : KeptParts) → PartKeeps lines macros before p → InNotes lines macros line Keep p) where
   pub notes_make : (es : List NoteEvent) → ((k : List ℕ) → Keep k → ClosesWhole line es k) → PartMakes lines macros before (of_notes line opened es)
-  notes_make es closes_whole spans g fits r h laws =
-      subst (λ (i : Gathered). All (HoldsSomeUnit lines) i.made) (sym (notes_ended line opened es g note_end.Close n closed.none_kept closed.end))
-      (All-push (HoldsSomeUnit lines) g.made (made_from (past_snippet g.builder line n 41) g.eu g.nlba) (h laws)
-      (subst (λ (o : OpenSyllable). HoldsSomeUnit lines (made_from (past_snippet o line n 41) g.eu g.nlba)) (sym builder_is)
-      (close_holds laws lines t (view_in (t ++ 40 ∷ [])) line (length here.earlier) base.builder has_read closed.s closed.rest closed.is n count_is full refl (none_ended lines macros here.earlier here.behind.snippets_ended) g.eu g.nlba)))
+  unfolding PartMakes HoldUnits
+  notes_make es closes_whole p g fits r h laws =
+      subst (λ (i : Gathered). AreHeld lines p i.made) (sym (notes_ended line opened es g note_end.Close n closed.none_kept closed.end)) (record {
+        units = All-push (HoldsSomeUnit lines) g.made made (h laws).units
+            (subst (λ (o : OpenSyllable). HoldsSomeUnit lines (made_from (past_snippet o line n 41) g.eu g.nlba)) (sym builder_is)
+            (close_holds laws lines t view line (length here.earlier) base.builder has_read closed.s closed.rest closed.is n count_is full refl (none_ended lines macros here.earlier here.behind.snippets_ended) g.eu g.nlba));
+        follow = follow_push p g.made made (h laws).follow (record {
+          eu = r.said.eu ∙ ap (λ (k : KeptParts). (with_all (begun spans) (said_by lines k)).eu) here.is ∙ eu_open lines t here.earlier here.k spans full ∙ sym (opens (codes "<eu>") (codes "</eu>") spans.eu);
+          nlba = r.said.nlba ∙ ap (λ (k : KeptParts). (with_all (begun spans) (said_by lines k)).nlba) here.is ∙ nlba_open lines t here.earlier here.k spans full ∙ sym (opens (codes "<nlba>") (codes "</nlba>") spans.nlba);
+        });
+      })
     where
+      spans : Spans
+      spans = (with_each p g.made).spans
+
       here : InNotes lines macros line Keep r.parts
       here = found r.parts r.keeps
 
@@ -128,6 +153,12 @@ module _ (lines macros line : ℕ) (opened : Place) (before : BodyPart) (Keep : 
 
       n : ℕ
       n = min (size closed.s) (2 ^ 64 - 1)
+
+      view : ViewContent
+      view = view_in (t ++ 40 ∷ [])
+
+      made : UnplacedSyllable
+      made = made_from (past_snippet g.builder line n 41) g.eu g.nlba
 
       first : Gathered
       first = with_all (begun spans) (text_events (text.said_of t ++ text.said_at_end t))
@@ -165,3 +196,9 @@ module _ (lines macros line : ℕ) (opened : Place) (before : BodyPart) (Keep : 
           ∙ ap (λ (i : Gathered). i.builder) (snippet_is (line_behind lines 0 here.earlier) here.k (with_all (begun spans) (events_before lines t here.earlier)))
           ∙ ap (λ (i : Gathered). with_more i.builder here.k) (with_all_append (begun spans) (text_events (text.said_of t ++ text.said_at_end t)) (earlier_events lines 0 here.earlier))
           ∙ ap (with_more base.builder) closed.cut
+
+      -- a span is open behind what is made as behind the tags of its text
+      opens : (opening closing : List ℕ) (was : Bool) → open_past opening closing made.kept made.text.pieces was ≡ behind_tags opening closing was (span_tags (t ++ 40 ∷ []))
+      opens opening closing was =
+          subst (λ (o : OpenSyllable). open_past opening closing (past_snippet o line n 41).kept (past_snippet o line n 41).view.pieces was ≡ behind_tags opening closing was (span_tags (t ++ 40 ∷ []))) (sym builder_is)
+          (close_opens laws lines t view line (length here.earlier) base.builder has_read closed.s closed.rest n count_is full refl opening closing was)

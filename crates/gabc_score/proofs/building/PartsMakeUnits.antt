@@ -25,6 +25,8 @@ use Rattle.gabc_score.specs.declared.events.BodyEvent.TheVariants as event
 use Rattle.gabc_score.specs.declared.snippets.Snippet.{Snippet}
 use Rattle.gabc_score.specs.Events.{next_line}
 use Rattle.gabc_score.specs.Holding.{ReadSnippet, IsSnippetOf, bracket_with, in_brackets, HoldsNotes}
+use Rattle.gabc_score.specs.SpansPast.{open_past}
+use Rattle.gabc_score.specs.SyllablesOfUnits.{span_tags}
 use Rattle.gabc_score.specs.UnitRead.{HoldsSomeUnit}
 use Rattle.gabc_score.specs.machine.BodyBuilder.{with_all}
 use Rattle.gabc_score.specs.machine.Gatherer.{Gathered, with_event}
@@ -36,6 +38,8 @@ use Rattle.gabc_score.proofs.building.PartsOfKeptText.{cut_is, snippet_is}
 use Rattle.gabc_score.proofs.holding.PartsAreAUnit.{notes_are_unit}
 use Rattle.gabc_score.proofs.holding.SyllableHoldsPartByPart.{first_turn}
 use Rattle.gabc_score.proofs.holding.SnippetsAreHeld.{Placed, PlacedFrom, placed_push, all_held, next_turn, whole_of, span_behind}
+use Rattle.gabc_score.proofs.syllables_of_units.LastTagOpensTheSpan.{behind_tags}
+use Rattle.gabc_score.proofs.syllables_of_units.UnitGivesOneSyllable.{view_past}
 use Rattle.gabc_score.proofs.texts_of_body.SeamsOfCharacters.{size}
 use Rattle.gabc_score.proofs.texts_of_body.ViewStandsInLongerText.{view_more}
 
@@ -109,6 +113,23 @@ module _ (laws : PartLaws) (lines : ℕ) (t : List ℕ) (view : ViewContent) whe
         (ap (λ (k : List ℕ). encode_utf8_all (prefix ++ s) ++ k) (sym (append-nil (encode_utf8 mark))) ∙ sym (encodes-append (prefix ++ s) (mark ∷ [])))
         ∙ ap (λ (ss : List Snippet). record (behind h.reads new mark) { snippets = ss }) (sym (map-append snippet_in h.reads (new ∷ [])))
 
+    -- what is kept at the `)`, and the view that stands for it
+    whole_kept : encode_utf8_all ((prefix ++ s) ++ codes ")") ≡ encode_utf8_all (whole_of t h.reads new)
+    whole_kept = ap encode_utf8_all (append_assoc prefix s (codes ")") ∙ append_assoc t (bracket_with kept_text h.reads) (s ++ codes ")"))
+
+    whole_stands : IsSaidInFull t [] → view ≡ view_in (t ++ 40 ∷ []) → StandsForView (whole_of t h.reads new) view (t ++ 40 ∷ [])
+    whole_stands full same =
+        subst (λ (v : ViewContent). StandsForView (whole_of t h.reads new) v (t ++ 40 ∷ [])) (sym same)
+        (view_more t (in_brackets kept_text h.reads new) (view_in (t ++ 40 ∷ [])) (t ++ 40 ∷ []) (subst (λ (k : List ℕ). StandsForView k (view_in (t ++ 40 ∷ [])) (t ++ 40 ∷ [])) full.kept_is (laws.stands (t ++ 40 ∷ []))))
+
+    -- a span is open behind its pieces as behind the tags of the text
+    pub close_opens : (n : ℕ) → n ≡ size s → (full : IsSaidInFull t []) → view ≡ view_in (t ++ 40 ∷ []) → (opening closing : List ℕ) (was : Bool)
+        → (let b = past_snippet (with_more o (s ++ rest)) line n 41 in open_past opening closing b.kept b.view.pieces was ≡ behind_tags opening closing was (span_tags (t ++ 40 ∷ [])))
+    close_opens n e full same opening closing was =
+        subst (λ (b : OpenSyllable). open_past opening closing b.kept b.view.pieces was ≡ behind_tags opening closing was (span_tags (t ++ 40 ∷ []))) (sym (ended_is n 41 e))
+        (ap (λ (k : List ℕ). open_past opening closing k view.pieces was) whole_kept
+        ∙ view_past opening closing (whole_of t h.reads new) (t ++ 40 ∷ []) view was (whole_stands full same))
+
     module _ (is : IsSnippetOf line s) where
       new_placed : Placed lines t h.reads new
       new_placed = record { line_is = h.line_is; kept_is = laws.kept_again line s is; is_snippet = is; span_is = refl }
@@ -140,10 +161,9 @@ module _ (laws : PartLaws) (lines : ℕ) (t : List ℕ) (view : ViewContent) whe
           → HoldsSomeUnit lines (made_from (past_snippet (with_more o (s ++ rest)) line n 41) eu nlba)
       close_holds n e full same few eu nlba = subst (λ (b : OpenSyllable). HoldsSomeUnit lines (made_from b eu nlba)) (sym (ended_is n 41 e))
           (notes_are_unit lines (made_from (behind h.reads new 41) eu nlba) (t ++ 40 ∷ []) (in_brackets codes_in h.reads new) (whole_of t h.reads new)
-          (ap encode_utf8_all (append_assoc prefix s (codes ")") ∙ append_assoc t (bracket_with kept_text h.reads) (s ++ codes ")")))
+          whole_kept
           same
-          (subst (λ (v : ViewContent). StandsForView (whole_of t h.reads new) v (t ++ 40 ∷ [])) (sym same)
-          (view_more t (in_brackets kept_text h.reads new) (view_in (t ++ 40 ∷ [])) (t ++ 40 ∷ []) (subst (λ (k : List ℕ). StandsForView k (view_in (t ++ 40 ∷ [])) (t ++ 40 ∷ [])) full.kept_is (laws.stands (t ++ 40 ∷ [])))))
+          (whole_stands full same)
           (subst (λ (k : List ℕ). HoldsNotes lines (in_brackets codes_in h.reads new) (whole_of t h.reads new) k (map snippet_in (h.reads ++ new ∷ []))) (sym full.kept_is) (record {
             earlier = h.reads;
             last = new;

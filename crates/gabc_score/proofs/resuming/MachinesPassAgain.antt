@@ -142,7 +142,7 @@ in_body_past m b p f now h is used fewer none items room lines macros goes keeps
       (subst (λ (k : Gathered). IsReading m.body.nabc_lines m.body.macros b.part spans k) (sym is)
       (subst (λ (s : Spans). IsReading m.body.nabc_lines m.body.macros b.part s (with_all g now)) (stays spans g (with_all g now) same)
       (keeps spans g (let few = h.kept in let most = m.limits.in_range.syllable_most in omega (arith, few, most)) h.reading))));
-  units = subst (λ (l : ℕ). HoldUnits l p.gathered.made) (sym lines) (subst (HoldUnits m.body.nabc_lines) (sym made) h.units);
+  units = subst (λ (l : ℕ). HoldUnits l m.bounds.before p.gathered.made) (sym lines) (subst (HoldUnits m.body.nabc_lines m.bounds.before) (sym made) h.units);
   within = record { written = subst (AreWritten m.limits.syllable (m.bounds.before.syllables == 0)) (sym made) h.within.written; file = file_now m.limits p.gathered none; outset = h.within.outset };
 }
   where

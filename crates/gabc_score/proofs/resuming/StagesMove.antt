@@ -47,7 +47,7 @@ module _ (m : ScoreMachine) (at : Place) (b : BodyStageState) (is : b ≡ record
       from = h.reading.from;
       uncut = h.reading.uncut;
     };
-    units = subst (λ (k : BodyStageState). HoldUnits k.nabc_lines m.pair.gathered.made) (sym is) h.units;
+    units = subst (λ (k : BodyStageState). HoldUnits k.nabc_lines m.bounds.before m.pair.gathered.made) (sym is) h.units;
     within = h.within;
   }
 

@@ -1,5 +1,5 @@
--- What is held holds a unit, past a point and past a character taken quietly.
-use Rattle.std.proofs.Common.{◌≡◌, ℕ, zero, suc, ◌-◌, ◌<◌, ◌^◌, Bool, true, List, [], ◌∷◌, ◌++◌, length, IfSome, refl, sym, ap, subst, ◌∙◌, arith}
+-- What is held holds a unit, and its spans follow from those before it, past a point and past a character taken quietly.
+use Rattle.std.proofs.Common.{◌≡◌, ℕ, zero, suc, ◌-◌, ◌<◌, ◌^◌, not, take, drop, Bool, true, false, List, [], ◌∷◌, ◌++◌, length, IfSome, refl, sym, ap, subst, ◌∙◌, arith}
 use Rattle.std.proofs.lemmas.List.Elements.{All-nil, All-head, All-drop}
 use Rattle.std.proofs.lemmas.Str.{length-le-encodes}
 use Rattle.std.specs.List.{All}
@@ -22,53 +22,88 @@ use Rattle.gabc_notes.specs.declared.stage.NoteEnd.TheVariants.{Close}
 use Rattle.gabc_nabc.specs.Events as nabc
 use Rattle.gabc_nabc.specs.ReadAgain.{IsNabcReadAgain}
 use Rattle.gabc_nabc.specs.Table.{nabc as nabc_table}
+use Rattle.gabc_score.specs.declared.before.Preceding.{Preceding}
 use Rattle.gabc_score.specs.declared.before.Spans.{Spans}
 use Rattle.gabc_score.specs.declared.body_stage.BodyPart.{BodyPart}
 use Rattle.gabc_score.specs.declared.events.BodyEvent.{BodyEvent}
 use Rattle.gabc_score.specs.declared.score_machine.ScoreMachine.{ScoreMachine}
 use Rattle.gabc_score.specs.declared.score_machine.ScorePart.{ScorePart}
 use Rattle.gabc_score.specs.declared.score_machine.ScorePart.TheVariants as score_part
+use Rattle.gabc_score.specs.Before.{with_one, with_each, with_placed}
+use Rattle.gabc_score.specs.Canonical.{placed_syllables_by}
 use Rattle.gabc_score.specs.Holding.{IsSnippetOf, kept_on_line}
 use Rattle.gabc_score.specs.ScoreStage.{IsWithinAnywhere}
 use Rattle.gabc_score.specs.ScoreTells.{held_in_body}
+use Rattle.gabc_score.specs.SpansPast.{FollowsSpans}
 use Rattle.gabc_score.specs.Syllable.{UnplacedSyllable}
 use Rattle.gabc_score.specs.UnitRead.{HoldsSomeUnit}
 use Rattle.gabc_score.specs.machine.BodyBuilder.{with_all}
 use Rattle.gabc_score.specs.machine.Gatherer.{Gathered}
 use Rattle.gabc_score.specs.machine.PartKeeps.{IsReading}
-use Rattle.gabc_score.specs.machine.PartMakes.{PartLaws, HoldUnits, PartMakes, characters_of}
+use Rattle.gabc_score.specs.machine.PartMakes.{PartLaws, FollowEach, AreHeld, HoldUnits, PartMakes, characters_of}
 use Rattle.gabc_score.specs.machine.Quiet.{TakesQuietly}
 use Rattle.gabc_score.specs.machine.ScoreMachine.{IsShort, IsScoreAt}
-use Rattle.gabc_score.specs.machine.ScoreStage.{with_held}
+use Rattle.gabc_score.specs.machine.ScoreStage.{placed_behind, with_held}
 use Rattle.gabc_score.specs.machine.SlotPair.{SlotPairState}
 use Rattle.gabc_score.specs.witness.BodyStage.{BodyStageState}
 use Rattle.gabc_score.proofs.holding.SnippetsAreHeld.{bytes_are_size}
 use Rattle.gabc_score.proofs.order.FindingsOfParts.{codes_placed}
 use Rattle.gabc_score.proofs.score_events.FewAndShortAreLent.{short_within}
 
-pub none_held : (lines : ℕ) (made : List UnplacedSyllable) → made ≡ [] → HoldUnits lines made
-none_held lines made e = subst (HoldUnits lines) (sym e) (λ laws. All-nil (HoldsSomeUnit lines))
+pub none_held : (lines : ℕ) (p : Preceding) (made : List UnplacedSyllable) → made ≡ [] → HoldUnits lines p made
+unfolding HoldUnits FollowEach
+none_held lines p made e = subst (HoldUnits lines p) (sym e) (λ laws. record { units = All-nil (HoldsSomeUnit lines); follow = tt })
 
-pub units_past : (lines macros l : ℕ) (before : BodyPart) (spans : Spans) (was g turned : Gathered) (now : List BodyEvent) → length was.builder.kept < 2 ^ 64
-    → g ≡ with_all was now → turned ≡ with_held g → l ≡ lines → PartMakes lines macros before now → IsReading lines macros before spans was → HoldUnits lines was.made → HoldUnits l turned.made
-units_past lines macros l before spans was g turned now fits is turn same makes r h =
-    subst (λ (k : Gathered). HoldUnits l k.made) (sym (turn ∙ ap with_held is))
-    (subst (λ (k : ℕ). HoldUnits k (with_held (with_all was now)).made) (sym same)
-    (λ laws. All-drop (HoldsSomeUnit lines) (length (with_all was now).made - 1) (with_all was now).made (makes spans was fits r h laws)))
+-- all but the last are given
+follow_dropped : (k : ℕ) (first : Bool) (p : Preceding) (ms : List UnplacedSyllable) → FollowEach p ms → FollowEach (with_placed p (take k (placed_syllables_by first ms))) (drop k ms)
+unfolding FollowEach
+follow_dropped zero first p ms h = h
+follow_dropped (suc k) first p [] h = tt
+follow_dropped (suc k) first p (m ∷ ms) h = follow_dropped k false (with_one p m) ms h.1
 
-pub units_quietly : (old new : BodyStageState) (x : Char) (pair next : SlotPairState) → TakesQuietly old x pair new next → HoldUnits old.nabc_lines pair.gathered.made → HoldUnits new.nabc_lines next.gathered.made
-units_quietly old new x pair next q h =
-    subst (λ (k : ℕ). HoldUnits k next.gathered.made) (sym q.lines) (subst (HoldUnits old.nabc_lines) (sym q.made) h)
+pub units_past : (lines macros l : ℕ) (before : BodyPart) (p passed : Preceding) (spans : Spans) (has_lent : Bool) (was g turned : Gathered) (now : List BodyEvent) → length was.builder.kept < 2 ^ 64
+    → g ≡ with_all was now → turned ≡ with_held g → l ≡ lines → spans ≡ (with_each p was.made).spans → passed ≡ with_placed p (take (length g.made - 1) (placed_behind has_lent g.made))
+    → PartMakes lines macros before now → IsReading lines macros before spans was → HoldUnits lines p was.made → HoldUnits l passed turned.made
+unfolding PartMakes HoldUnits
+units_past lines macros l before p passed spans has_lent was g turned now fits is turn same behind given makes r h =
+    subst (λ (k : Gathered). HoldUnits l passed k.made) (sym turn)
+    (subst (λ (k : ℕ). HoldUnits k passed (with_held g).made) (sym same)
+    (subst (λ (k : Preceding). HoldUnits lines k (with_held g).made) (sym given) held))
+  where
+    all : HoldUnits lines p g.made
+    all = subst (λ (k : Gathered). HoldUnits lines p k.made) (sym is) (makes p was fits (subst (λ (k : Spans). IsReading lines macros before k was) behind r) h)
+
+    held : HoldUnits lines (with_placed p (take (length g.made - 1) (placed_behind has_lent g.made))) (with_held g).made
+    held laws = record {
+      units = All-drop (HoldsSomeUnit lines) (length g.made - 1) g.made (all laws).units;
+      follow = follow_dropped (length g.made - 1) (not has_lent) p g.made (all laws).follow;
+    }
+
+pub units_quietly : (p : Preceding) (old new : BodyStageState) (x : Char) (pair next : SlotPairState) → TakesQuietly old x pair new next → HoldUnits old.nabc_lines p pair.gathered.made → HoldUnits new.nabc_lines p next.gathered.made
+units_quietly p old new x pair next q h =
+    subst (λ (k : ℕ). HoldUnits k p next.gathered.made) (sym q.lines) (subst (HoldUnits old.nabc_lines p) (sym q.made) h)
 
 -- so of what a machine shows as held
 pub held_unit : (m : ScoreMachine) (p : ScorePart) → IsScoreAt p m → PartLaws → IfSome (held_in_body p m.pair.gathered.made) (HoldsSomeUnit m.body.nabc_lines)
+unfolding HoldUnits
 held_unit m score_part.Heads h laws = tt
 held_unit m score_part.Over h laws = tt
-held_unit m score_part.Body h laws = by m.pair.gathered.made (h.units laws)
+held_unit m score_part.Body h laws = by m.pair.gathered.made (h.units laws).units
   where
     by : (made : List UnplacedSyllable) → All (HoldsSomeUnit m.body.nabc_lines) made → IfSome (held_in_body score_part.Body made) (HoldsSomeUnit m.body.nabc_lines)
     by [] a = tt
     by (s ∷ made) a = All-head (HoldsSomeUnit m.body.nabc_lines) s made a
+
+-- its spans follow from those before it
+pub held_follows : (m : ScoreMachine) (p : ScorePart) → IsScoreAt p m → PartLaws → IfSome (held_in_body p m.pair.gathered.made) (FollowsSpans m.bounds.before.spans)
+unfolding HoldUnits FollowEach
+held_follows m score_part.Heads h laws = tt
+held_follows m score_part.Over h laws = tt
+held_follows m score_part.Body h laws = by m.pair.gathered.made (h.units laws).follow
+  where
+    by : (made : List UnplacedSyllable) → FollowEach m.bounds.before made → IfSome (held_in_body score_part.Body made) (FollowsSpans m.bounds.before.spans)
+    by [] f = tt
+    by (s ∷ made) f = f.0
 
 -- and it is within the limits
 pub held_within : (m : ScoreMachine) (p : ScorePart) → IsScoreAt p m → IfSome (held_in_body p m.pair.gathered.made) (IsWithinAnywhere m.limits)

@@ -19,6 +19,7 @@ use Rattle.gabc_text.specs.Events.{codes_of, events_of, events_by_point}
 use Rattle.gabc_text.specs.View.{PieceFacts, kept, findings}
 use Rattle.gabc_text.specs.ViewFacts.{StandsForView, ArePiecesOf, kept_of_piece}
 use Rattle.gabc_text.specs.TextRead.{view_in}
+use Rattle.gabc_text.specs.TextView.{ViewContent}
 use Rattle.gabc_notes.specs.ReadAgain.{IsWarning}
 use Rattle.gabc_notes.specs.SnippetRead.{findings_of as notes_found}
 use Rattle.gabc_score.specs.declared.events.BodyEvent.{BodyEvent}
@@ -150,11 +151,15 @@ module _ (opening closing whole : List ℕ) where
       ∙ ap (λ (b : Bool). behind_tags opening closing b (tags_of qs)) (piece_past p q was h.0.kind_is (bytes_stand whole p.span (kept_of_piece q) h.0.stands))
       ∙ tags_past was q qs
 
--- behind a syllable of a unit a span is open as behind the tags of the unit's text
+-- behind the pieces of a view that stand for a text a span is open as behind the tags of the text
+pub view_past : (opening closing whole t : List ℕ) (v : ViewContent) (was : Bool) → StandsForView whole v t → open_past opening closing (encodes whole) v.pieces was ≡ behind_tags opening closing was (span_tags t)
+view_past opening closing whole t v was h = pieces_past opening closing whole v.pieces _ was h.pieces
+
+-- so behind a syllable of a unit
 pub unit_past : (opening closing : List ℕ) (lines : ℕ) (u : ScoreUnit) (m : UnplacedSyllable) (was : Bool) → HoldsUnit lines u m
     → open_past opening closing m.kept m.text.pieces was ≡ behind_tags opening closing was (span_tags u.text)
 unit_past opening closing lines u m was h =
-    ap (λ (k : List ℕ). open_past opening closing k m.text.pieces was) h.kept_is ∙ pieces_past opening closing h.whole m.text.pieces _ was h.stands.pieces
+    ap (λ (k : List ℕ). open_past opening closing k m.text.pieces was) h.kept_is ∙ view_past opening closing h.whole u.text m.text was h.stands
 
 -- ---- the lists of a unit
 

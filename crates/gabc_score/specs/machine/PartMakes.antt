@@ -1,4 +1,4 @@
--- The syllables that a part of a body makes hold units: by the laws of its texts and its snippets.
+-- The syllables that a part of a body makes hold units, and their spans follow one another: by the laws of its texts and its snippets.
 use Rattle.std.specs.Prelude.{◌≡◌, ℕ, ◌<◌, ◌^◌, List, [], ◌∷◌, ◌++◌, length, encode_utf8_all}
 use Rattle.std.specs.List.{All}
 use Rattle.gabc_places.specs.Place.{placed_characters_from}
@@ -7,10 +7,12 @@ use Rattle.gabc_text.specs.TextRead.{view_in}
 use Rattle.gabc_text.specs.View.{kept}
 use Rattle.gabc_text.specs.ViewFacts.{StandsForView}
 use Rattle.gabc_text.specs.witness.SaidInFull.{IsSaidInFull}
-use Rattle.gabc_score.specs.declared.before.Spans.{Spans}
+use Rattle.gabc_score.specs.declared.before.Preceding.{Preceding}
 use Rattle.gabc_score.specs.declared.body_stage.BodyPart.{BodyPart}
 use Rattle.gabc_score.specs.declared.events.BodyEvent.{BodyEvent}
+use Rattle.gabc_score.specs.Before.{with_one, with_each}
 use Rattle.gabc_score.specs.Holding.{IsSnippetOf, kept_on_line}
+use Rattle.gabc_score.specs.SpansPast.{FollowsSpans}
 use Rattle.gabc_score.specs.Syllable.{UnplacedSyllable}
 use Rattle.gabc_score.specs.UnitRead.{HoldsSomeUnit}
 use Rattle.gabc_score.specs.machine.BodyBuilder.{with_all}
@@ -28,11 +30,21 @@ pub record PartLaws : Type 0 where
   pub stands : (t : List ℕ) → StandsForView (kept t) (view_in t) t
   pub kept_again : (line : ℕ) (s : List ℕ) → IsSnippetOf line s → s ≡ kept_on_line line (characters_of s)
 
--- by these laws each of these syllables holds some unit
-abbrev pub HoldUnits : ℕ → List UnplacedSyllable → Type 0
-HoldUnits lines made = PartLaws → All (HoldsSomeUnit lines) made
+-- which spans are open behind each of these follows from those before it, where p tells what stands before the first
+unfoldable pub FollowEach : Preceding → List UnplacedSyllable → Type 0
+FollowEach p [] = Unit {0}
+FollowEach p (m ∷ ms) = FollowsSpans p.spans m × FollowEach (with_one p m) ms
+
+-- behind what p tells each of these syllables holds some unit, and their spans follow one another
+pub record AreHeld (lines : ℕ) (p : Preceding) (made : List UnplacedSyllable) : Type 0 where
+  pub units : All (HoldsSomeUnit lines) made
+  pub follow : FollowEach p made
+
+-- by these laws
+unfoldable pub HoldUnits : ℕ → Preceding → List UnplacedSyllable → Type 0
+HoldUnits lines p made = PartLaws → AreHeld lines p made
 
 -- so do the syllables that were made behind these events of a part, if those did that were made before
-abbrev pub PartMakes : ℕ → ℕ → BodyPart → List BodyEvent → Type 0
+unfoldable pub PartMakes : ℕ → ℕ → BodyPart → List BodyEvent → Type 0
 PartMakes lines macros before now =
-    (spans : Spans) (g : Gathered) → length g.builder.kept < 2 ^ 64 → IsReading lines macros before spans g → HoldUnits lines g.made → HoldUnits lines (with_all g now).made
+    (p : Preceding) (g : Gathered) → length g.builder.kept < 2 ^ 64 → IsReading lines macros before (with_each p g.made).spans g → HoldUnits lines p g.made → HoldUnits lines p (with_all g now).made

@@ -19,6 +19,7 @@ use Rattle.gabc_score.specs.machine.HeldWithin.{HoldsWithin}
 use Rattle.gabc_score.specs.machine.PartCounts.{CountsHold}
 use Rattle.gabc_score.specs.machine.PartKeeps.{IsReading}
 use Rattle.gabc_score.specs.machine.PartMakes.{HoldUnits}
+use Rattle.gabc_score.specs.machine.PartStarts.{MayStart}
 use Rattle.gabc_score.specs.machine.PartOnly.{HoldsTexts}
 use Rattle.gabc_score.specs.machine.Preceded.{IsPreceded}
 use Rattle.gabc_score.specs.machine.ScoreStage.{HeldScore}
@@ -52,7 +53,7 @@ pub record IsBeforeBody (m : ScoreMachine) : Type 0 where
   pub none_lent : m.has_lent ≡ false
 
 -- In the body what is counted holds, no limit is passed, the kept text is within its limit, what is gathered is what its parts say, and what is
--- held holds a unit.
+-- held holds a unit, and its spans follow from those before it.
 pub record IsInBody (m : ScoreMachine) : Type 0 where
   pub rests : IsAtRest m
   pub counts : CountsHold m.body.part m.pair.gathered.builder
@@ -62,7 +63,7 @@ pub record IsInBody (m : ScoreMachine) : Type 0 where
   pub lent : m.has_lent ≡ nat_lt 0 m.bounds.before.syllables
   pub code : code_in m.limits m.pair.gathered ≡ None
   pub reading : IsReading m.body.nabc_lines m.body.macros m.body.part m.bounds.behind.spans m.pair.gathered
-  pub units : HoldUnits m.body.nabc_lines m.pair.gathered.made
+  pub units : HoldUnits m.body.nabc_lines m.bounds.before m.pair.gathered.made
   pub within : HoldsWithin m.limits m.bounds.before m.pair.gathered
 
 -- in the body, where nothing is lent, no limit is passed and one whole syllable is held at most
@@ -82,6 +83,7 @@ pub record PassesQuietly (before : ScoreStageState) (x : Char) (after : ScoreSta
   pub macros : after.body.macros ≡ before.body.macros
   pub made : after.held.gathered.made ≡ before.held.gathered.made
   pub texts : IsTextCharacter x.c → HoldsTexts before.held.gathered → HoldsTexts after.held.gathered
+  pub starts : MayStart before.body.part before.held.gathered → MayStart after.body.part after.held.gathered
   pub law : (xs : List HeadEvent) → left_of before (head_event.Body x ∷ xs) ≡ [] ∷ left_of after xs
 
 abbrev pub IsScoreAt : ScorePart → ScoreMachine → Type 0

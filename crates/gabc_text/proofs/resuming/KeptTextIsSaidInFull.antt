@@ -89,6 +89,9 @@ pub said_in_full : (s : TextStage) (k rest : List ℕ) → Keeps s k → ends_be
 said_in_full s k rest keeps ends fits = record {
   mids = mids;
   said_are = ap (λ (es : List TextEvent). said_of k ++ es) notes.is ∙ sym (append_assoc (said_of k) (parts_out notes.parts) (out.Ended ending.Notes ∷ []));
+  emitted_are = ap said (sym (points_joined nowhere text) ∙ all_emitted) ∙ all_said
+      ∙ append_assoc (said_of k) (parts_out notes.parts) (out.Ended ending.Notes ∷ [])
+      ∙ ap (λ (es : List TextEvent). said_of k ++ es) (sym notes.is);
   silent = silent_by mids (list_any-append is_end (said_of k) (parts_out notes.parts) ∙ rw (goes_said, no_ends notes.parts) refl);
   kept_are = kept_more (said_of k) (parts_out notes.parts)
       ∙ ap (λ (t : List ℕ). kept_in (said_of k) ++ t) (none_kept (λ (p : TextPart). out.Part p) (λ p. refl) notes.parts)

@@ -11,7 +11,6 @@ use Rattle.gabc_score.proofs.building.CountsOfParts.{text_goes, text_ends, notes
 use Rattle.gabc_score.proofs.building.PartsOfKeptText.{text_keeps_on, text_ends_on}
 use Rattle.gabc_score.proofs.building.PartsKeepOn.{gabc_keeps_on, gabc_ends_on, gabc_closes_on, gabc_next_makes, gabc_makes, nabc_keeps_on, nabc_ends_on, nabc_closes_on, nabc_next_makes, nabc_makes}
 use Rattle.gabc_score.proofs.building.PartsMakeSyllables.{text_makes, notes_make_none}
-
 use Rattle.gabc_score.proofs.building.PartsKeepOn.{gabc_keeps_on, gabc_ends_on, gabc_closes_on, nabc_keeps_on, nabc_ends_on, nabc_closes_on}
 use Rattle.gabc_score.proofs.building.PartsKeepOnly.{text_keeps_only, gabc_keeps_only, nabc_keeps_only}
 use Rattle.gabc_score.proofs.building.PartsOpenOn.{opened_at, same_open, notes_open, next_opens, none_open, text_opens_on, gabc_opens_on}
@@ -210,6 +209,9 @@ returns-then-close-2-clause-stands c =
     (sym (c.ends_at_close-close-in-Nabc.ensures ∙ ap (list_any is_close) c.slice-in-Nabc-2.ensures) ∙ c.if-close-2.true) c.text_behind-self-inside-then-close-2.ensures.stands)
 
 -- ---- what is made
+
+pub returns-in-Comment-clause-makes : goal.returns-in-Comment-clause-makes
+returns-in-Comment-clause-makes c = text_makes c.args.self.now.nabc_lines c.args.self.now.macros c.args.self.now.part []
 
 pub returns-then-ended-clause-makes : goal.returns-then-ended-clause-makes
 returns-then-ended-clause-makes c = text_makes c.args.self.now.nabc_lines c.args.self.now.macros c.args.self.now.part c.push_text.new.events.items

@@ -57,6 +57,6 @@ returns-clause-rests c =
       code = ap (code_in c.args.limits) gathered ∙ nothing_passes c.args.limits b limit;
       reading = subst (λ (p : Preceding). IsReading c.begin_text.new.self.nabc_lines c.begin_text.new.self.macros c.begin_text.new.self.part p.spans c.follow.new.self.gathered) (sym before)
           (subst (IsReading c.begin_text.new.self.nabc_lines c.begin_text.new.self.macros c.begin_text.new.self.part b.spans) (sym gathered) (reads_behind _ _ limit c.begin_text.new.self.part b (c.begin_text.ensures.keeps _ _)));
-      units = none_held c.begin_text.new.self.nabc_lines c.follow.new.self.gathered.made (ap (λ (g : Gathered). g.made) gathered);
+      units = none_held c.begin_text.new.self.nabc_lines c.preceding-preceding.result c.follow.new.self.gathered.made (ap (λ (g : Gathered). g.made) gathered);
       within = within_none c.args.limits c.preceding-preceding.result c.follow.new.self.gathered (subst IsAtOutset (sym before) c.requires) (ap (λ (g : Gathered). g.made) gathered);
     }
