@@ -4,14 +4,14 @@
 ghost use Rattle.std.specs.Prelude.{◌≡◌, ◌≤◌, [], true, false, is_some, IfSome};
 ghost use Rattle.gabc_score.specs.Resumed.{StandsBehind};
 ghost use Rattle.gabc_score.specs.ScoreTells.{StandsAt, before_of, before_with, held_of, is_in_front};
-ghost use Rattle.gabc_score.specs.ToldWithin.{IsToldWithin, written_behind};
-ghost use Rattle.gabc_write.specs.SetDown.{BeginsAtFirst, FollowsSpans, GoesOnAlike};
+ghost use Rattle.gabc_score.specs.ToldWithin.{IsToldWithin, TellsOfText, written_behind};
+ghost use Rattle.gabc_write.specs.SetDown.{GoesOnAlike};
 ghost use Rattle.gabc_write.specs.machine.SetDown.{BeginsAlike, TellsAlike};
 
 use crate::laws::what_is_held_is_read_from_its_own_text;
 use gabc_places::Room;
 use gabc_score::stage_laws::{
-    stages_that_tell_the_same_agree, what_is_held_holds_a_unit, what_is_read_can_be_read_again,
+    spans_of_what_is_held_follow, stages_that_tell_the_same_agree, what_is_held_holds_a_unit, what_is_read_can_be_read_again,
     what_is_told_is_within_the_limits,
 };
 use gabc_score::unit_laws::{
@@ -28,8 +28,7 @@ fn hold_told(
 ) -> bool
     requires runs { is_some (before_of told.now) ≡ true }
     requires within { IsToldWithin told.now }
-    requires spans { IfSome (held_of told.now) (FollowsSpans told.now.before.spans) }
-    requires first { IfSome (held_of told.now) (BeginsAtFirst told.now) }
+    requires tells { TellsOfText told.now }
     requires text { IfSome (held_of told.now) (λ m. held.now ≡ written_behind told.now.before m) }
     requires stands { StandsBehind told.now.limits (before_with told.now.body told.now.before)
         stage.old }
@@ -44,6 +43,7 @@ fn hold_told(
     };
     what_is_held_is_read_from_its_own_text(told);
     what_is_held_holds_a_unit(told);
+    spans_of_what_is_held_follow(told);
     some_events_leave_spans_open();
     snippets_of_a_unit_stand_between_characters();
     stage.hold_again(held, room)
@@ -83,8 +83,7 @@ pub fn a_stage_is_set_down_again(
     requires runs { is_some (before_of told.now) ≡ true }
     requires front { is_in_front told.now.body.part ≡ false }
     requires next { StandsAt told.now.held.next told.now.body.part }
-    requires spans { IfSome (held_of told.now) (FollowsSpans told.now.before.spans) }
-    requires first { IfSome (held_of told.now) (BeginsAtFirst told.now) }
+    requires tells { TellsOfText told.now }
     requires text { IfSome (held_of told.now) (λ m. held.now ≡ written_behind told.now.before m) }
     requires stands { StandsBehind told.now.limits (before_with told.now.body told.now.before)
         stage.old }
