@@ -4,6 +4,7 @@ pub mod EventsStayWithinBounds
 pub mod BodyOutputs
 pub mod CountsGoOn
 pub mod FewAndShortAreLent
+pub mod FirstBeginsWord
 pub mod FirstNotes
 pub mod EmittedByHeaders
 pub mod GivenSyllables

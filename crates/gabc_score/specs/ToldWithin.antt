@@ -1,5 +1,5 @@
 -- What a stage over a score tells in the body is within bounds.
-use Rattle.std.specs.Prelude.{◌≡◌, ◌≢◌, ◌⊎◌, ℕ, ◌+◌, ◌^◌, ◌<◌, ◌≤◌, ◌==◌, ◌||◌, List, length, true, Option, Some, None, IfSome}
+use Rattle.std.specs.Prelude.{◌≡◌, ◌≢◌, ◌⊎◌, ℕ, ◌+◌, ◌^◌, ◌<◌, ◌≤◌, ◌==◌, ◌||◌, List, [], length, true, Option, Some, None, IfSome}
 use Rattle.std.specs.Char.{IsScalar}
 use Rattle.std.specs.List.{All}
 use Rattle.std.specs.Str.{IsUtf8, chars}
@@ -11,7 +11,7 @@ use Rattle.gabc_score.specs.declared.body_tells.Openers.{Openers}
 use Rattle.gabc_score.specs.declared.score_machine.ScorePart.TheVariants as score_part
 use Rattle.gabc_score.specs.Before.{no_syllable}
 use Rattle.gabc_score.specs.Canonical.{canonical}
-use Rattle.gabc_score.specs.ScoreTells.{held_of, reading_of, openers_of, is_in_comment}
+use Rattle.gabc_score.specs.ScoreTells.{held_of, reading_of, openers_of, is_in_comment, is_in_front}
 use Rattle.gabc_score.specs.Syllable.{UnplacedSyllable}
 use Rattle.gabc_score.specs.witness.ScoreStage.{ScoreStageState}
 
@@ -93,7 +93,11 @@ pub record IsText (bytes : List ℕ) : Type 0 where
   pub utf8 : IsUtf8 bytes
   pub plain : All IsPlain (chars bytes)
 
--- what it tells is that of a text
+-- a syllable begins a word
+abbrev pub BeginsWord : UnplacedSyllable → Type 0
+BeginsWord m = m.text.word_start ≡ true
+
+-- What it tells is that of a text. The first syllable begins a word: the one that is held, or the one that is read behind the comment in front.
 pub record IsToldOfText (s : ScoreStageState) : Type 0 where
   pub counts : AreCountsWithin s.limits s.body.nabc_lines s.body.macros s.before.canonical
   pub next : IsPlace s.held.next
@@ -101,6 +105,8 @@ pub record IsToldOfText (s : ScoreStageState) : Type 0 where
   pub none_held : held_of s ≡ None → s.before.syllables ≡ 0
   pub reading : IsText s.held.gathered.builder.kept
   pub held : All (λ (m : UnplacedSyllable). IsText m.kept) s.held.gathered.made
+  pub first_held : s.before.syllables ≡ 0 → All BeginsWord s.held.gathered.made
+  pub first_read : s.held.gathered.made ≡ [] → (is_in_front s.body.part ≡ true) ⊎ (s.held.gathered.builder.view.word_start ≡ true)
 
 -- in the body it is
 abbrev pub TellsOfText : ScoreStageState → Type 0

@@ -10,6 +10,7 @@ pub mod PartMakes
 pub mod PartOnly
 pub mod PartOpens
 pub mod PartPushes
+pub mod PartStarts
 pub mod Preceded
 pub mod Quiet
 pub mod ReadAlone

@@ -14,6 +14,7 @@ ghost use Rattle.gabc_score.specs.machine.PartCounts.{CountsInNotes, CountsHold,
 ghost use Rattle.gabc_score.specs.machine.PartKeeps.{in_text, BeginsSnippet, PartKeeps, PartKeepsOn, PartStandsOn};
 ghost use Rattle.gabc_score.specs.machine.PartMakes.{PartMakes};
 ghost use Rattle.gabc_score.specs.machine.PartOnly.{PartKeepsOnly};
+ghost use Rattle.gabc_score.specs.machine.PartStarts.{PartStarts};
 ghost use Rattle.gabc_score.specs.machine.PartOpens.{PartOpensOn};
 ghost use Rattle.gabc_score.specs.ScoreTells.{StandsAt, openers_of};
 ghost use Rattle.gabc_score.specs.machine.Quiet.{TakesQuietly};
@@ -279,6 +280,7 @@ impl BodyStage {
             x self.old.part self.new.part }
         ensures only { PartKeepsOnly self.old.nabc_lines self.old.macros
             x self.old.part self.new.events }
+        ensures starts { PartStarts self.old.part self.new.part self.new.events }
         ensures over { self.new.over ≡ self.old.over }
     {
         if let BodyPart::Comment = self.part {

@@ -27,7 +27,7 @@ ghost use Rattle.gabc_score.specs.ScoreStage.{AreCountsBelow, GivesAt, IsWithinA
 ghost use Rattle.gabc_score.specs.SpansPast.{FollowsSpans};
 ghost use Rattle.gabc_score.specs.UnitRead.{HoldsSomeUnit};
 ghost use Rattle.gabc_score.specs.witness.ReadAgain.{CanBeReadAgain};
-ghost use Rattle.gabc_score.specs.ToldWithin.{IsPlace, IsToldWithin, TellsOfText};
+ghost use Rattle.gabc_score.specs.ToldWithin.{BeginsWord, IsPlace, IsToldWithin, TellsOfText};
 ghost use Rattle.gabc_score.specs.witness.ScoreStage.{ScoreStageState, left_of};
 
 use crate::score_event::ScoreEvent;
@@ -190,6 +190,13 @@ pub fn spans_of_what_is_held_follow(stage: &ScoreStage)
 {
     stage.follows_spans();
 }
+
+/// Where a stage tells what a text gives, and no syllable stands before the one that it holds, this one begins a word: the body's first text begins
+/// with the LF behind the comment.
+pub fn the_first_begins_a_word(stage: &ScoreStage)
+    ensures { TellsOfText stage.now → stage.now.before.syllables ≡ 0 →
+        IfSome (held_of stage.now) BeginsWord }
+{}
 
 /// The whole syllable that a stage holds, whatever it has read, is within the stage's limits, wherever it stands in its word.
 pub fn what_is_held_is_within_the_limits(stage: &ScoreStage)

@@ -1,23 +1,12 @@
 -- A stage over a score that is set down again from what another one tells.
-use Rattle.std.specs.Prelude.{◌≡◌, ◌==◌, List, true, Option, Some, None}
+use Rattle.std.specs.Prelude.{◌≡◌, ◌==◌, List, Option, Some, None}
 use Rattle.gabc_headers.specs.declared.head_event.HeadEvent.{HeadEvent}
-use Rattle.gabc_score.specs.declared.before.Spans.{Spans}
 use Rattle.gabc_score.specs.declared.syllable.Position.{Position}
 use Rattle.gabc_score.specs.HeldAside.{HoldTheSame, GiveTheSame}
 use Rattle.gabc_score.specs.ScoreTells.{held_of}
-use Rattle.gabc_score.specs.SpansPast.{eu_past, nlba_past}
 use Rattle.gabc_score.specs.Syllable.{UnplacedSyllable}
 use Rattle.gabc_score.specs.witness.ScoreStage.{ScoreStageState, left_of}
 use Rattle.gabc_write.specs.SyllableMeaning.{meaning_of}
-
--- the spans that are open behind a syllable follow from its text and from those that are open before it
-pub record FollowsSpans (spans : Spans) (m : UnplacedSyllable) : Type 0 where
-  pub eu : m.eu ≡ eu_past m spans.eu
-  pub nlba : m.nlba ≡ nlba_past m spans.nlba
-
--- the first syllable of a score begins a word
-abbrev pub BeginsAtFirst : ScoreStageState → UnplacedSyllable → Type 0
-BeginsAtFirst s m = s.before.syllables ≡ 0 → m.text.word_start ≡ true
 
 -- of two syllables that are held both say the same, wherever they stand in their word
 abbrev pub SayTheSame : Option UnplacedSyllable → Option UnplacedSyllable → Type 0

@@ -1,24 +1,23 @@
 //! The law on which saved states stand: a stage over a score is set down again from what it tells. The function's contract is the law, and its body
 //! makes the calls.
 
-ghost use Rattle.std.specs.Prelude.{◌≡◌, ◌≤◌, [], true, false, is_some, IfSome, IfOk, MatchOption};
+ghost use Rattle.std.specs.Prelude.{◌≡◌, ◌≤◌, [], true, false, is_some, IfSome};
 ghost use Rattle.gabc_score.specs.Resumed.{StandsBehind};
 ghost use Rattle.gabc_score.specs.ScoreTells.{StandsAt, before_of, before_with, held_of, is_in_front};
-ghost use Rattle.gabc_score.specs.ToldWithin.{IsToldWithin, written_behind};
-ghost use Rattle.gabc_write.specs.SetDown.{BeginsAtFirst, FollowsSpans, GoesOnAlike};
+ghost use Rattle.gabc_score.specs.ToldWithin.{IsToldWithin, TellsOfText, written_behind};
+ghost use Rattle.gabc_write.specs.SetDown.{GoesOnAlike};
 ghost use Rattle.gabc_write.specs.machine.SetDown.{BeginsAlike, TellsAlike};
 
 use crate::laws::what_is_held_is_read_from_its_own_text;
-use gabc_places::{Limits, Room};
+use gabc_places::Room;
 use gabc_score::stage_laws::{
-    stages_that_tell_the_same_agree, what_is_held_holds_a_unit, what_is_read_can_be_read_again,
+    spans_of_what_is_held_follow, stages_that_tell_the_same_agree, what_is_held_holds_a_unit, what_is_read_can_be_read_again,
     what_is_told_is_within_the_limits,
 };
 use gabc_score::unit_laws::{
     snippets_of_a_unit_stand_between_characters, some_events_leave_spans_open,
 };
 use gabc_score::{ScoreEvent, ScoreStage};
-use std::alloc::{AllocError, Global};
 
 /// Holds the syllable that `told` holds, if it holds one, by its canonical text `held`. Returns whether that text is a syllable.
 fn hold_told(
@@ -29,8 +28,7 @@ fn hold_told(
 ) -> bool
     requires runs { is_some (before_of told.now) ≡ true }
     requires within { IsToldWithin told.now }
-    requires spans { IfSome (held_of told.now) (FollowsSpans told.now.before.spans) }
-    requires first { IfSome (held_of told.now) (BeginsAtFirst told.now) }
+    requires tells { TellsOfText told.now }
     requires text { IfSome (held_of told.now) (λ m. held.now ≡ written_behind told.now.before m) }
     requires stands { StandsBehind told.now.limits (before_with told.now.body told.now.before)
         stage.old }
@@ -45,6 +43,7 @@ fn hold_told(
     };
     what_is_held_is_read_from_its_own_text(told);
     what_is_held_holds_a_unit(told);
+    spans_of_what_is_held_follow(told);
     some_events_leave_spans_open();
     snippets_of_a_unit_stand_between_characters();
     stage.hold_again(held, room)
@@ -71,40 +70,36 @@ fn read_told(stage: &mut ScoreStage, told: &ScoreStage) -> bool
     stage.read_again(told.reading(), openers, in_comment, next)
 }
 
-/// From what `told` tells in the body, not in front of the first text, a stage under the same `limits` is made that gives the same of whatever
-/// follows. It is resumed behind what stands before, holds the syllable of which `held` is the canonical text there, if one is held, and
-/// reads the kept text of the next one. `room` is empty and has room for 16 events; nothing stands in it afterwards. It fails only for want of
-/// memory.
+/// From what `told` tells in the body, not in front of the first text, a stage is set down that gives the same of whatever follows. `stage` is
+/// what `ScoreStage::resume` makes, under the same limits, of what `told` tells to stand before. It holds the syllable of which `held` is the
+/// canonical text there, if one is held, and reads the kept text of the next one. The answer is `true`. `room` is empty and has room for
+/// 16 events; nothing stands in it afterwards.
 pub fn a_stage_is_set_down_again(
-    alloc: Global,
     told: &ScoreStage,
-    limits: Limits,
+    stage: &mut ScoreStage,
     held: &str,
     room: &mut Room<ScoreEvent>,
-) -> Result<Option<ScoreStage>, AllocError>
+) -> bool
     requires runs { is_some (before_of told.now) ≡ true }
-    requires limits { limits ≡ told.now.limits }
     requires front { is_in_front told.now.body.part ≡ false }
     requires next { StandsAt told.now.held.next told.now.body.part }
-    requires spans { IfSome (held_of told.now) (FollowsSpans told.now.before.spans) }
-    requires first { IfSome (held_of told.now) (BeginsAtFirst told.now) }
+    requires tells { TellsOfText told.now }
     requires text { IfSome (held_of told.now) (λ m. held.now ≡ written_behind told.now.before m) }
+    requires stands { StandsBehind told.now.limits (before_with told.now.body told.now.before)
+        stage.old }
     requires empty { room.old.items ≡ [] }
     requires room { 16 ≤ room.old.limit }
     ensures room { room.new ≡ room.old }
-    ensures alike { IfOk result (λ made. MatchOption made ⊥ (GoesOnAlike told.now)) }
+    ensures is { result ≡ true }
+    ensures alike { GoesOnAlike told.now stage.new }
 {
-    let Some(before) = told.before() else {
-        return Ok(None);
-    };
     what_is_told_is_within_the_limits(told);
-    let mut stage = ScoreStage::resume(alloc, limits, before)?;
-    if !hold_told(&mut stage, told, held, room) {
-        return Ok(None);
+    if !hold_told(stage, told, held, room) {
+        return false;
     }
-    if !read_told(&mut stage, told) {
-        return Ok(None);
+    if !read_told(stage, told) {
+        return false;
     }
-    stages_that_tell_the_same_agree(told, &stage);
-    Ok(Some(stage))
+    stages_that_tell_the_same_agree(told, stage);
+    true
 }

@@ -20,6 +20,7 @@ use Rattle.gabc_notes.specs.declared.item.ItemKind.{ItemKind}
 use Rattle.gabc_notes.specs.declared.stage.NoteEnd.TheVariants as note_end
 use Rattle.gabc_notes.specs.declared.stage.NoteEvent.{NoteEvent}
 use Rattle.gabc_notes.specs.declared.stage.NoteEvent.TheVariants as note
+use Rattle.gabc_score.specs.declared.body_stage.BodyPart.{BodyPart}
 use Rattle.gabc_score.specs.declared.body_stage.BodyPart.TheVariants as part
 use Rattle.gabc_score.specs.declared.events.BodyEvent.{BodyEvent}
 use Rattle.gabc_score.specs.declared.events.BodyEvent.TheVariants as event
@@ -27,7 +28,7 @@ use Rattle.gabc_score.specs.declared.slot_pair.SlotUse.TheVariants.{Filling}
 use Rattle.gabc_score.specs.witness.BodyStage.{BodyStageState, part_with, running_events_left, texts_by_stage}
 use Rattle.gabc_score.specs.Events.{InText, InNotes, events_from, next_line, snippet_from}
 use Rattle.gabc_score.specs.ScoreEvents.{findings_now}
-use Rattle.gabc_score.specs.ScoreTells.{openers_of}
+use Rattle.gabc_score.specs.ScoreTells.{openers_of, is_in_front}
 use Rattle.gabc_score.specs.Syllable.{prefix_of, text_at}
 use Rattle.gabc_score.specs.machine.BodyBuilder.{with_all}
 use Rattle.gabc_score.specs.machine.Gatherer.{Gathered, awaits, awaits_in, first_past, span_of}
@@ -36,6 +37,7 @@ use Rattle.gabc_score.specs.machine.PartCounts.{CountsInNotes, CountsHold}
 use Rattle.gabc_score.specs.machine.PartKeeps.{BeginsSnippet, PartKeepsOn, PartStandsOn}
 use Rattle.gabc_score.specs.machine.PartOnly.{IsKeptOf, kept_codes}
 use Rattle.gabc_score.specs.machine.PartOpens.{PartOpensOn}
+use Rattle.gabc_score.specs.machine.PartPushes.{ClosesLast}
 use Rattle.gabc_score.specs.machine.Quiet.{TakesQuietly}
 use Rattle.gabc_score.specs.machine.SlotPair.{SlotPairState}
 use Rattle.gabc_score.proofs.building.FirstKinds.{empty_first}
@@ -64,6 +66,13 @@ quiet_first first line o span kept from to none = by (awaits first line) (nat_lt
     by true true e f n = absurd (cc)
     by true false e f n = empty_first first line span kept (grind (arith, nat_tests, f, from, to))
 
+-- in notes no comment in front is open
+not_front : (line : ℕ) (opened : Place) (lists : List (List NoteEvent)) (b : BodyPart) → part_with b [] ≡ InNotes line opened lists → is_in_front b ≡ false
+not_front line opened lists part.Comment e = absurd (cc e)
+not_front line opened lists (part.Text s) e = refl
+not_front line opened lists (part.Notes o s) e = refl
+not_front line opened lists (part.Nabc l o s) e = refl
+
 -- What was gathered, where events of a body find nothing, make no syllable and bring no first note or clef: one byte more is kept at most.
 pub record OnlyKeeps (g h : Gathered) (es : List BodyEvent) : Type 0 where
   pub silent : findings_now es ≡ []
@@ -80,9 +89,11 @@ module _ (before after : BodyStageState) (x : Char) (pair next : SlotPairState) 
   pub events_quiet : (es : List BodyEvent) → ((xs : List Char) → running_events_left before (x ∷ xs) ≡ es ∷ running_events_left after xs)
       → OnlyKeeps pair.gathered (with_all pair.gathered es) es → next.gathered ≡ with_all pair.gathered es → CountsHold after.part (with_all pair.gathered es).builder
       → after.nabc_lines ≡ before.nabc_lines → after.macros ≡ before.macros → PartKeepsOn before.nabc_lines before.macros before.part after.part es → PartStandsOn before.nabc_lines before.macros x before.part after.part
-      → PartOpensOn before.nabc_lines before.macros x before.part after.part → All (IsKeptOf x.c) (kept_codes es) → TakesQuietly before x pair after next
-  events_quiet es law keeps gathered counts lines macros parts stands opens only = record {
+      → PartOpensOn before.nabc_lines before.macros x before.part after.part → All (IsKeptOf x.c) (kept_codes es) → is_in_front before.part ≡ false → ClosesLast es → TakesQuietly before x pair after next
+  events_quiet es law keeps gathered counts lines macros parts stands opens only behind last = record {
     events = es;
+    behind = behind;
+    last = last;
     law = law;
     silent = keeps.silent;
     gathered = gathered;
@@ -122,7 +133,7 @@ module _ (before after : BodyStageState) (x : Char) (pair next : SlotPairState) 
       (subst (λ b. PartKeepsOn before.nabc_lines before.macros b after.part (event.Text (text.Ended text_end.Notes) ∷ [])) (sym is)
       (text_ends_on before.nabc_lines before.macros s t 40 (text.Ended text_end.Notes ∷ []) after.part takes.keeps refl (λ u b. begins u [] b)))
       (λ p kept at. snippet_stands before.nabc_lines before.macros 0 x.place _ after.part snippet)
-      (notes_open before.nabc_lines before.macros x before.part after.part opens) (All-nil (IsKeptOf x.c))
+      (notes_open before.nabc_lines before.macros x before.part after.part opens) (All-nil (IsKeptOf x.c)) (ap is_in_front is) (λ e. refl, tt)
 
   -- a character of a snippet
   pub note_quiet : (line : ℕ) (opened : Place) (from to : List Char → List (List NoteEvent))
@@ -137,6 +148,7 @@ module _ (before after : BodyStageState) (x : Char) (pair next : SlotPairState) 
       (ap (λ lists. events_from texts_by_stage before.nabc_lines before.macros (InNotes line opened lists) (x ∷ xs)) (law xs)))
       (record { silent = refl; made = refl; over = refl; total = refl; limit = refl; cut = refl; first_kind = refl; kept = one_byte pair.gathered.builder.kept x.c ascii }) gathered
       ((notes_go line opened before.part (note.Kept x ∷ []) (omega arith) out after.part into).counts pair.gathered counts) lines macros parts stands opens (All-cons (IsKeptOf x.c) x.c [] (inl refl) (All-nil (IsKeptOf x.c)))
+      (not_front line opened (from []) before.part (is [])) (λ e. refl, tt)
 
   -- the `|` that ends a snippet, which brings no first note or clef
   pub next_quiet : (line : ℕ) (opened : Place) (count : ℕ) (from to : List Char → List (List NoteEvent))
@@ -155,4 +167,4 @@ module _ (before after : BodyStageState) (x : Char) (pair next : SlotPairState) 
       ∙ ap (λ p. (event.Notes line (note.Ended note_end.Next count) ∷ []) ∷ events_from texts_by_stage before.nabc_lines before.macros p xs) (sym (snippet xs))))
       (record { silent = refl; made = refl; over = refl; total = refl; limit = refl; cut = refl; first_kind = quiet_first pair.gathered.first_kind line open_now (span_of open_now line count) (past_snippet open_now line count 124).kept refl cut none; kept = omega (arith, cut, marked) }) gathered
       ((notes_go line opened before.part (note.Ended note_end.Next count ∷ []) (omega arith) out after.part into).counts pair.gathered counts) lines macros parts
-      (λ p kept at. snippet_stands before.nabc_lines before.macros (next_line before.nabc_lines line) opened _ after.part snippet) opens (All-nil (IsKeptOf x.c))
+      (λ p kept at. snippet_stands before.nabc_lines before.macros (next_line before.nabc_lines line) opened _ after.part snippet) opens (All-nil (IsKeptOf x.c)) (not_front line opened (from []) before.part (is [])) (λ e. refl, tt)

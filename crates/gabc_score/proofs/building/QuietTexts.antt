@@ -17,12 +17,14 @@ use Rattle.gabc_score.specs.Events.{InText, events_from, is_text_end}
 use Rattle.gabc_score.specs.machine.BodyBuilder.{with_all}
 use Rattle.gabc_score.specs.machine.PartCounts.{CountsHold}
 use Rattle.gabc_score.specs.machine.PartOnly.{IsKeptOf, kept_codes}
+use Rattle.gabc_score.specs.ScoreTells.{is_in_front}
 use Rattle.gabc_score.specs.machine.Quiet.{TakesQuietly}
 use Rattle.gabc_score.specs.machine.SlotPair.{SlotPairState}
 use Rattle.gabc_score.proofs.building.CountsOfParts.{text_goes}
 use Rattle.gabc_score.proofs.building.PartsOfKeptText.{text_keeps_on}
 use Rattle.gabc_score.proofs.building.PartsOpenOn.{text_opens_on}
 use Rattle.gabc_score.proofs.building.PartsStandOn.{text_stands_on}
+use Rattle.gabc_score.proofs.building.SyllableEndsLast.{texts_close_last}
 use Rattle.gabc_score.proofs.building.QuietParts.{OnlyKeeps, events_quiet, one_byte}
 
 module _ (before after : BodyStageState) (x : Char) (pair next : SlotPairState) (held : next.held ≡ pair.held) (used : next.used ≡ Filling)
@@ -36,7 +38,7 @@ module _ (before after : BodyStageState) (x : Char) (pair next : SlotPairState) 
       keeps gathered (rw now ((text_goes s t es few takes.pieces).counts pair.gathered (subst (λ b. CountsHold b pair.gathered.builder) is counts))) lines macros
       (rw (is, now) (text_keeps_on before.nabc_lines before.macros s t x.c es takes.keeps goes_on))
       (rw (is, now) (text_stands_on before.nabc_lines before.macros x s t es takes.keeps goes_on))
-      (rw (is, now) (text_opens_on before.nabc_lines before.macros x s t es takes.keeps goes_on)) only
+      (rw (is, now) (text_opens_on before.nabc_lines before.macros x s t es takes.keeps goes_on)) only (ap is_in_front is) (texts_close_last es)
     where
       goes : (xs : List Char) → events_from texts_by_stage before.nabc_lines before.macros (InText (es ∷ events_left t (codes_of xs))) (x ∷ xs)
           ≡ map (λ o. event.Text o) es ∷ events_from texts_by_stage before.nabc_lines before.macros (InText (events_left t (codes_of xs))) xs

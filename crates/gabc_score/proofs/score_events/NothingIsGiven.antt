@@ -15,7 +15,7 @@ use Rattle.gabc_score.specs.ScoreStage.{GivesNothing, behind_front, body_inputs,
 use Rattle.gabc_score.specs.declared.score_machine.ScorePart.{ScorePart}
 use Rattle.gabc_score.specs.declared.before.Preceding.{Preceding}
 use Rattle.gabc_score.specs.ScoreTells.{StandsAt, held_in_body, openers_of}
-use Rattle.gabc_score.specs.ToldWithin.{IsPlace, IsEarlier, AreOpenersBefore, IsTextCharacter, IsToldOfText}
+use Rattle.gabc_score.specs.ToldWithin.{BeginsWord, IsPlace, IsEarlier, AreOpenersBefore, IsTextCharacter, IsToldOfText}
 use Rattle.gabc_score.specs.witness.ScoreStage.{ScoreStageState, left_of}
 use Rattle.gabc_score.specs.machine.PartOnly.{HoldsTexts}
 use Rattle.gabc_score.specs.machine.PartOpens.{OpensOn}
@@ -70,6 +70,8 @@ gives_more a b c at bytes byte next stands opens column is step passes = record 
     counts = rw (passes.limits, passes.lines, passes.macros, passes.before_held) (step.told here was old (sym passes.part ∙ body)).counts;
     reading = (texts (step.told here was old (sym passes.part ∙ body))).0;
     held = (texts (step.told here was old (sym passes.part ∙ body))).1;
+    first_held = λ first. subst (All BeginsWord) (sym passes.made) ((step.told here was old (sym passes.part ∙ body)).first_held (sym (ap (λ (p : Preceding). p.syllables) passes.before_held) ∙ first));
+    first_read = λ none. passes.starts ((step.told here was old (sym passes.part ∙ body)).first_read (sym passes.made ∙ none));
     next = subst IsPlace (sym next) (behind (step.told here was old (sym passes.part ∙ body)).next here).0;
     openers = subst (λ (p : Place). AreOpenersBefore p (openers_of c.body.part)) (sym next)
         (opens_in_order (char_behind at (length bytes) byte).place (behind_front at (length bytes + 1) a.held.next) (behind (step.told here was old (sym passes.part ∙ body)).next here).1

@@ -15,11 +15,11 @@ use Rattle.gabc_score.specs.HeldAgain.{CanBeOpen, MayBeHeld}
 use Rattle.gabc_score.specs.HeldAside.{MayStandFor}
 use Rattle.gabc_score.specs.Holding.{HasWholeSnippets}
 use Rattle.gabc_score.specs.ScoreEvents.{first_place}
-use Rattle.gabc_score.specs.SpansPast.{eu_past, nlba_past}
+use Rattle.gabc_score.specs.SpansPast.{FollowsSpans, eu_past, nlba_past}
 use Rattle.gabc_score.specs.Syllable.{UnplacedSyllable, all_syllables, slice, text_at}
 use Rattle.gabc_score.specs.ToldWithin.{written_behind}
 use Rattle.gabc_score.specs.UnitRead.{HoldsSomeUnit}
-use Rattle.gabc_write.specs.SetDown.{FollowsSpans, SayTheSame}
+use Rattle.gabc_write.specs.SetDown.{SayTheSame}
 use Rattle.gabc_write.specs.SyllableMeaning.{SyllableMeaning, meaning_of}
 use Rattle.gabc_write.specs.SyllableRead.{SaysTheSame, IsReadByItself, IsReadFromItsText}
 

@@ -1,8 +1,10 @@
 -- A stage that stands behind the same holds by its text what may stand for the syllable that is held.
-use Rattle.std.proofs.Common.{◌≡◌, ℕ, ◌<◌, ◌≤◌, ◌^◌, Bool, true, false, List, length, Option, Some, None, IfSome, is_some, refl, sym, ap, subst, ◌∙◌, arith}
+use Rattle.std.proofs.Common.{◌≡◌, ℕ, ◌<◌, ◌≤◌, ◌^◌, Bool, true, false, List, [], ◌∷◌, length, Option, Some, None, IfSome, is_some, refl, sym, ap, subst, ◌∙◌, arith}
 use Rattle.std.specs.Prelude.{IsUtf8, ◌==◌}
 use Rattle.std.specs.Str.{chars}
 use Rattle.std.proofs.lemmas.Str.{chars_from_encodes}
+use Rattle.std.specs.List.{All}
+use Rattle.std.proofs.lemmas.List.Elements.{All-head}
 use Rattle.gabc_places.specs.declared.limits.Limits.{Limits}
 use Rattle.gabc_score.specs.declared.before.Before.{Before}
 use Rattle.gabc_score.specs.declared.before.Spans.{Spans}
@@ -12,12 +14,13 @@ use Rattle.gabc_score.specs.HeldAgain.{CanBeOpen, MayBeHeld}
 use Rattle.gabc_score.specs.HeldAside.{HoldTheSame, MayStandFor}
 use Rattle.gabc_score.specs.Holding.{HasWholeSnippets}
 use Rattle.gabc_score.specs.Resumed.{HoldsAgain, StandsBehind}
-use Rattle.gabc_score.specs.ScoreTells.{before_of, before_with, held_of, in_body}
+use Rattle.gabc_score.specs.ScoreTells.{before_of, before_with, held_in_body, held_of, in_body}
+use Rattle.gabc_score.specs.SpansPast.{FollowsSpans}
 use Rattle.gabc_score.specs.Syllable.{UnplacedSyllable}
-use Rattle.gabc_score.specs.ToldWithin.{IsHeldWithin, written_behind}
+use Rattle.gabc_score.specs.ToldWithin.{BeginsWord, IsHeldWithin, TellsOfText, written_behind}
 use Rattle.gabc_score.specs.UnitRead.{HoldsSomeUnit}
 use Rattle.gabc_score.specs.witness.ScoreStage.{ScoreStageState}
-use Rattle.gabc_write.specs.SetDown.{BeginsAtFirst, FollowsSpans, SayTheSame}
+use Rattle.gabc_write.specs.SetDown.{SayTheSame}
 use Rattle.gabc_write.specs.SyllableRead.{IsReadFromItsText}
 use Rattle.gabc_write.specs.machine.SetDown.{BeginsAlike}
 use Rattle.gabc_write.proofs.reading_again.HeldAgain.{bytes_behind, may_be_held, says_again, stands_for}
@@ -33,6 +36,16 @@ told_in_body score_part.Over a h = absurd (cc h)
 
 pub some_held : (P : UnplacedSyllable → Type 0) (o : Option UnplacedSyllable) (m : UnplacedSyllable) → o ≡ Some m → IfSome o P → P m
 some_held P o m is h = subst (λ (x : Option UnplacedSyllable). IfSome x P) is h
+
+held_begins : (p : ScorePart) (made : List UnplacedSyllable) (m : UnplacedSyllable) → held_in_body p made ≡ Some m → (p ≡ score_part.Body) × (All BeginsWord made → BeginsWord m)
+held_begins score_part.Heads made m e = absurd (cc e)
+held_begins score_part.Over made m e = absurd (cc e)
+held_begins score_part.Body [] m e = absurd (cc e)
+held_begins score_part.Body (x ∷ xs) m e = (refl, λ h. subst BeginsWord (cc e) (All-head BeginsWord x xs h))
+
+-- the first syllable that is held begins a word
+pub begins_at_first : (s : ScoreStageState) (m : UnplacedSyllable) → held_of s ≡ Some m → TellsOfText s → s.before.syllables ≡ 0 → BeginsWord m
+begins_at_first s m is tells first = let h = held_begins s.part s.held.gathered.made m is in h.1 ((tells h.0).first_held first)
 
 module _ (told old : ScoreStageState) (runs : is_some (before_of told) ≡ true) (stands : StandsBehind told.limits (told_before told) old) where
   before_told : before_of told ≡ Some (told_before told)
@@ -61,7 +74,7 @@ module _ (told old : ScoreStageState) (runs : is_some (before_of told) ≡ true)
     pub held_fits : length held < 2 ^ 63
     held_fits = let few = subst (λ (t : List ℕ). length t ≤ told.limits.syllable) (sym text) within.short in let most = told.limits.in_range.syllable_most in omega (arith, few, most)
 
-    module _ (utf8 : IsUtf8 held) (own : IsReadFromItsText told.body.nabc_lines told.body.macros m) (first : BeginsAtFirst told m) where
+    module _ (utf8 : IsUtf8 held) (own : IsReadFromItsText told.body.nabc_lines told.body.macros m) (first : told.before.syllables ≡ 0 → BeginsWord m) where
       text_is : own.text ≡ chars held
       text_is = chars_from_encodes own.text held utf8 (sym (bytes_behind told.limits (told_before told) m own first) ∙ sym text)
 

@@ -1,10 +1,10 @@
-use Rattle.std.proofs.Common.{rules, ◌≡◌, ◌-◌, ◌++◌, ◌∷◌, [], List, None, length, nat_lt, not, take, refl, sym, ap, subst, ◌∙◌, append-nil, arith}
+use Rattle.std.proofs.Common.{rules, ◌≡◌, ◌≤◌, ◌-◌, ◌++◌, ◌∷◌, [], List, None, length, nat_lt, not, take, refl, sym, ap, subst, ◌∙◌, append-nil, arith}
 use Rattle.std.specs.List.{All}
 use Rattle.std.proofs.lemmas.List.Elements.{All-drop, All-take}
 use Rattle.gabc_headers.specs.declared.head_event.HeadEvent.TheVariants as head_event
 use Rattle.gabc_score.specs.declared.before.Preceding.{Preceding}
 use Rattle.gabc_score.specs.declared.bounds.Bounds.{Bounds}
-use Rattle.gabc_score.specs.Before.{with_each}
+use Rattle.gabc_score.specs.Before.{with_each, with_placed}
 use Rattle.gabc_score.specs.Body.{fault_at}
 use Rattle.gabc_score.specs.ScoreEvents.{ScoreOutput, Stop, outputs_of}
 use Rattle.gabc_places.specs.Place.{saturating_next_place}
@@ -23,6 +23,7 @@ use Rattle.gabc_score.specs.machine.BodyBuilder.{code_in, with_all}
 use Rattle.gabc_score.specs.machine.Gatherer.{Gathered}
 use Rattle.gabc_score.specs.machine.PartCounts.{CountsHold}
 use Rattle.gabc_score.specs.Syllable.{UnplacedSyllable}
+use Rattle.gabc_score.proofs.score_events.FirstBeginsWord.{held_past, read_past}
 use Rattle.gabc_score.proofs.score_events.UnitsAreHeld.{units_past}
 use Rattle.gabc_score.proofs.score_events.CountsGoOn.{counts_past, none_past}
 use Rattle.gabc_score.proofs.score_events.OpenersInOrder.{opens_in_order, place_behind}
@@ -93,6 +94,10 @@ returns-after-self-clause-step c =
     let texts : MayCome limits c.args.self.now.next (head_event.Body c.args.x) → IsToldOfText (shown c.args.self.now) → HoldsTexts c.give_point-gave.new.pair.gathered =
     λ may t. subst HoldsTexts (sym c.give_point-gave.ensures.gathered) (plain_held c.hold.new.pair.gathered (subst HoldsTexts (sym is)
     (plain_all old now (of_character c.args.x.c (kept_codes now) may.1.1 (c.take.ensures.only c.requires.rests.reading.parts c.requires.rests.reading.keeps)) (t.reading, t.held)))) in
+    let few : length old.made ≤ 1 = subst (λ (k : Gathered). length k.made ≤ 1) c.free.ensures.gathered c.free.ensures.one in
+    let there : c.pass.new.self.before ≡ with_placed b.before (take (length (with_all old now).made - 1) (placed_behind c.args.self.now.has_lent (with_all old now).made)) =
+    subst (λ (k : Gathered). c.pass.new.self.before ≡ with_placed b.before (take (length k.made - 1) (placed_behind c.args.self.now.has_lent k.made))) is (ap (λ (k : Bounds). k.before) passed ∙ turns.given) in
+    let turned_is : c.give_point-gave.new.pair.gathered ≡ with_held (with_all old now) = c.give_point-gave.ensures.gathered ∙ ap with_held is in
     let behind : MayCome limits c.args.self.now.next (head_event.Body c.args.x) → IsPlace c.args.self.now.next → IsPlace (saturating_next_place c.args.x.place c.args.x.c) × IsEarlier c.args.x.place (saturating_next_place c.args.x.place c.args.x.c) =
     λ may is. place_behind c.args.x.place c.args.x.c (subst IsPlace (sym may.0) is) may.1.0.0 may.1.0.1 in
     record {
@@ -122,6 +127,10 @@ returns-after-self-clause-step c =
             (opens_in_order c.args.x.place (saturating_next_place c.args.x.place c.args.x.c) (behind may (was c.requires.part).next).1 (subst IsPlace (sym may.0) (was c.requires.part).next) (openers_of c.args.self.now.body.part) (openers_of c.take.new.self.part)
             (c.take.ensures.opens c.requires.rests.reading.parts c.requires.rests.reading.keeps (subst (λ p. StandsAt p c.args.self.now.body.part) (sym may.0) (here c.requires.part)))
             (subst (λ p. AreOpenersBefore p (openers_of c.args.self.now.body.part)) (sym may.0) (was c.requires.part).openers));
+        first_held = λ first. held_past c.args.self.now.body.part c.take.new.self.part b.before c.pass.new.self.before c.args.self.now.has_lent old c.give_point-gave.new.pair.gathered now c.take.ensures.once few there turned_is c.take.ensures.starts
+            (was c.requires.part).first_held (was c.requires.part).first_read first;
+        first_read = read_past c.args.self.now.body.part c.take.new.self.part b.before c.pass.new.self.before c.args.self.now.has_lent old c.give_point-gave.new.pair.gathered now c.take.ensures.once few there turned_is c.take.ensures.starts
+            (was c.requires.part).first_read;
         none_held = λ none. none_past b.before c.pass.new.self.before c.args.self.now.has_lent old c.hold.new.pair.gathered c.give_point-gave.new.pair.gathered now c.take.ensures.once (ap (λ (k : Bounds). k.before) passed ∙ turns.given) c.give_point-gave.ensures.gathered is
             (λ e. (was c.requires.part).none_held (ap (λ (k : ScorePart). held_in_body k old.made) c.requires.part ∙ e)) (ap (λ (k : ScorePart). held_in_body k c.give_point-gave.new.pair.gathered.made) (sym c.requires.part) ∙ none);
       };
