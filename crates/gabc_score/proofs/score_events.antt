@@ -28,4 +28,5 @@ pub mod ToldIsWithin
 pub mod WhatIsRead
 pub mod WhatOutputsSay
 pub mod WhatPrecedes
+pub mod UnitsAreHeld
 pub mod WholeSyllables

@@ -20,7 +20,8 @@ use Rattle.gabc_score.specs.ScoreTells.{StandsAt}
 use Rattle.gabc_score.specs.ToldWithin.{AreCountsWithin, IsTextCharacter, TellsOfText, whole_syllables}
 use Rattle.gabc_score.specs.ScoreEvents.{first_place, ScoreOutput, Found, Stop, Syllable, End, syllables_in}
 use Rattle.gabc_score.specs.Canonical.{canonical_in_place}
-use Rattle.gabc_score.specs.Syllable.{PlacedSyllable}
+use Rattle.gabc_score.specs.Syllable.{UnplacedSyllable, PlacedSyllable}
+use Rattle.gabc_score.specs.declared.syllable.Position.{Position}
 use Rattle.std.specs.List.{All}
 use Rattle.gabc_score.specs.witness.ScoreStage.{ScoreStageState, left_of}
 
@@ -45,6 +46,10 @@ pub record GivesOutputs (outputs : List ScoreOutput) (old new : BoundedList Scor
 pub record IsWithin (limits : Limits) (s : PlacedSyllable) : Type 0 where
   pub kept : length s.made.kept ≤ limits.syllable
   pub canonical : length (canonical_in_place s) ≤ limits.syllable + 1
+
+-- so is a syllable wherever it stands in its word
+abbrev pub IsWithinAnywhere : Limits → UnplacedSyllable → Type 0
+IsWithinAnywhere limits m = (position : Position) → IsWithin limits (record { made = m; position = position })
 
 -- so many syllables at most are lent, and they are within the limits
 pub record Lends (limits : Limits) (most : ℕ) (outputs : List ScoreOutput) : Type 0 where

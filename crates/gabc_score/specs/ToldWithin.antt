@@ -37,7 +37,6 @@ HasNoCommentInside part = is_in_comment part ≡ true → (openers_of part).inne
 pub record IsToldWithin (s : ScoreStageState) : Type 0 where
   pub reading : length (reading_of s) ≤ s.limits.syllable
   pub held : IfSome (held_of s) (IsHeldWithin s.limits s.before)
-  pub none_held : held_of s ≡ None → s.before.syllables ≡ 0
   pub outset : IsAtOutset s.before
   pub comment : HasNoCommentInside s.body.part
 
@@ -99,6 +98,7 @@ pub record IsToldOfText (s : ScoreStageState) : Type 0 where
   pub counts : AreCountsWithin s.limits s.body.nabc_lines s.body.macros s.before.canonical
   pub next : IsPlace s.held.next
   pub openers : AreOpenersBefore s.held.next (openers_of s.body.part)
+  pub none_held : held_of s ≡ None → s.before.syllables ≡ 0
   pub reading : IsText s.held.gathered.builder.kept
   pub held : All (λ (m : UnplacedSyllable). IsText m.kept) s.held.gathered.made
 

@@ -6,11 +6,15 @@ pub mod HeldAside
 pub mod HeldWithin
 pub mod PartCounts
 pub mod PartKeeps
+pub mod PartMakes
 pub mod PartOnly
 pub mod PartOpens
 pub mod PartPushes
 pub mod Preceded
 pub mod Quiet
+pub mod ReadAlone
+pub mod Resumed
+pub mod ReadAgain
 pub mod ScoreMachine
 pub mod ScoreStage
 pub mod Slot

@@ -12,10 +12,12 @@ ghost use Rattle.gabc_text.specs.Events.{CountsFit};
 ghost use Rattle.gabc_score.specs.machine.Gatherer.{Gathered};
 ghost use Rattle.gabc_score.specs.machine.PartCounts.{CountsInNotes, CountsHold, PartGoesOn};
 ghost use Rattle.gabc_score.specs.machine.PartKeeps.{in_text, BeginsSnippet, PartKeeps, PartKeepsOn, PartStandsOn};
+ghost use Rattle.gabc_score.specs.machine.PartMakes.{PartMakes};
 ghost use Rattle.gabc_score.specs.machine.PartOnly.{PartKeepsOnly};
 ghost use Rattle.gabc_score.specs.machine.PartOpens.{PartOpensOn};
 ghost use Rattle.gabc_score.specs.ScoreTells.{StandsAt, openers_of};
 ghost use Rattle.gabc_score.specs.machine.Quiet.{TakesQuietly};
+ghost use Rattle.gabc_score.specs.machine.ReadAgain.{ReadsAgain, OpensNotes};
 ghost use Rattle.gabc_score.specs.machine.SyllableBuilder.{OpenSyllable, nothing_open};
 ghost use Rattle.gabc_score.specs.machine.Slot.{FitEach};
 ghost use Rattle.gabc_score.specs.machine.BodyBuilder.{with_all, with_found};
@@ -162,7 +164,7 @@ impl BodyStage {
             ≡ snippet_from self.now.nabc_lines self.now.macros line opened xs }
         ensures counts { (o : OpenSyllable) → CountsInNotes o → CountsHold result o }
         ensures keeps { BeginsSnippet self.now.nabc_lines self.now.macros line result }
-        ensures opens { openers_of result ≡ record { notes = Some opened; inner = None } }
+        ensures tells { OpensNotes opened result }
     {
         if line == 0 {
             BodyPart::Notes {
@@ -186,7 +188,7 @@ impl BodyStage {
         ensures counts { (o : OpenSyllable) → CountsInNotes o → CountsHold result o }
         ensures keeps { BeginsSnippet self.now.nabc_lines self.now.macros
             (line_after self.now.nabc_lines line) result }
-        ensures opens { openers_of result ≡ record { notes = Some opened; inner = None } }
+        ensures tells { OpensNotes opened result }
     {
         self.snippet(next_line(self.nabc_lines, line), opened)
     }
@@ -204,8 +206,12 @@ impl BodyStage {
         ensures macros { self.new.macros ≡ self.old.macros }
         ensures keeps { PartKeepsOn self.old.nabc_lines self.old.macros
             self.old.part self.new.part self.new.events }
+        ensures makes { PartMakes self.old.nabc_lines self.old.macros
+            self.old.part self.new.events }
         ensures stands { PartStandsOn self.old.nabc_lines self.old.macros
             x self.old.part self.new.part }
+        ensures again { ReadsAgain self.old.nabc_lines self.old.macros
+            x self.old.part self.new.part self.new.events }
         ensures opens { PartOpensOn self.old.nabc_lines self.old.macros
             x self.old.part self.new.part }
         ensures only { PartKeepsOnly self.old.nabc_lines self.old.macros
@@ -263,8 +269,12 @@ impl BodyStage {
         ensures macros { self.new.macros ≡ self.old.macros }
         ensures keeps { PartKeepsOn self.old.nabc_lines self.old.macros
             self.old.part self.new.part self.new.events }
+        ensures makes { PartMakes self.old.nabc_lines self.old.macros
+            self.old.part self.new.events }
         ensures stands { PartStandsOn self.old.nabc_lines self.old.macros
             x self.old.part self.new.part }
+        ensures again { ReadsAgain self.old.nabc_lines self.old.macros
+            x self.old.part self.new.part self.new.events }
         ensures opens { PartOpensOn self.old.nabc_lines self.old.macros
             x self.old.part self.new.part }
         ensures only { PartKeepsOnly self.old.nabc_lines self.old.macros

@@ -18,6 +18,7 @@ ghost use Rattle.gabc_score.specs.witness.ScoreStage.{left_of};
 ghost use Rattle.gabc_score.specs.machine.ScoreStage.{placed_behind, begun_score, body_left};
 ghost use Rattle.gabc_score.specs.machine.Fronts.{shown_before};
 ghost use Rattle.gabc_score.specs.machine.ScoreMachine.{shown, IsInBody, IsBeforeBody, IsScore, IsFreed, PassesQuietly};
+ghost use Rattle.gabc_score.specs.machine.ReadAlone.{Reads};
 ghost use Rattle.gabc_score.specs.machine.SlotPair.{is_made};
 
 use crate::before::Before;
@@ -114,13 +115,14 @@ impl ScoreMachine {
     }
 
     /// Reads a character of the body.
-    fn read(&mut self, x: Char, out: &mut Room<ScoreEvent>)
+    pub(crate) fn read(&mut self, x: Char, out: &mut Room<ScoreEvent>)
         requires part { self.old.part ≡ ScorePart.Body }
         requires rests { IsInBody self.old }
         requires fits { Fits out.old 16 }
         ensures step { GivesAt (shown self.old) (HeadEvent.Body x)
             (shown self.new) out.old out.new }
         ensures rests { IsScore self.new }
+        ensures reads { Reads self.old self.new x out.old out.new }
     {
         self.pair.free();
         let was = self.pair.first_kind();

@@ -12,7 +12,7 @@ use Rattle.gabc_notes.specs.declared.stage.NoteEvent.TheVariants as note
 use Rattle.gabc_score.specs.declared.before.Preceding.{Preceding}
 use Rattle.gabc_score.specs.declared.events.BodyEvent.{BodyEvent}
 use Rattle.gabc_score.specs.declared.events.BodyEvent.TheVariants as event
-use Rattle.gabc_score.specs.Before.{no_syllable, with_one, with_placed}
+use Rattle.gabc_score.specs.Before.{no_syllable, with_each, with_one, with_placed}
 use Rattle.gabc_score.specs.Body.{is_longer, is_none}
 use Rattle.gabc_score.specs.Canonical.{canonical}
 use Rattle.gabc_score.specs.Syllable.{UnplacedSyllable, PlacedSyllable}
@@ -24,7 +24,7 @@ use Rattle.gabc_score.specs.machine.ScoreStage.{placed_behind, with_held}
 use Rattle.gabc_score.specs.machine.SyllableBuilder.{made_from}
 use Rattle.gabc_score.proofs.score_events.EventsStayWithinBounds.{limit_stays}
 use Rattle.gabc_score.proofs.score_events.FewAndShortAreLent.{counted, either, not_over}
-use Rattle.gabc_score.proofs.score_events.WhatPrecedes.{each_some}
+use Rattle.gabc_score.proofs.score_events.WhatPrecedes.{each_some, not_some}
 
 -- ---- a syllable more
 
@@ -32,10 +32,18 @@ later : (limit : ℕ) (ms : List UnplacedSyllable) (m : UnplacedSyllable) → Ar
 later limit [] m h k = (k, tt)
 later limit (s ∷ ms) m h k = (h.0, later limit ms m h.1 k)
 
-one_more : (limit : ℕ) (first : Bool) (ms : List UnplacedSyllable) (m : UnplacedSyllable) → (is_none ms ≡ true → first ≡ true) → AreWritten limit first ms → length (canonical (is_none ms || m.text.word_start) m) ≤ limit
+and_true : (b : Bool) → (b && true) ≡ b
+and_true true = refl
+and_true false = refl
+
+and_false : (b : Bool) → (b && false) ≡ false
+and_false true = refl
+and_false false = refl
+
+one_more : (limit : ℕ) (first : Bool) (ms : List UnplacedSyllable) (m : UnplacedSyllable) → (starts : Bool) → starts ≡ (first && is_none ms) → AreWritten limit first ms → length (canonical (starts || m.text.word_start) m) ≤ limit
     → AreWritten limit first (ms ++ m ∷ [])
-one_more limit first [] m f h k = (subst (λ (b : Bool). length (canonical (b || m.text.word_start) m) ≤ limit) (sym (f refl)) k, tt)
-one_more limit first (s ∷ ms) m f h k = (h.0, later limit ms m h.1 k)
+one_more limit first [] m starts f h k = (subst (λ (b : Bool). length (canonical (b || m.text.word_start) m) ≤ limit) (f ∙ and_true first) k, tt)
+one_more limit first (s ∷ ms) m starts f h k = (h.0, later limit ms m h.1 (subst (λ (b : Bool). length (canonical (b || m.text.word_start) m) ≤ limit) (f ∙ and_false first) k))
 
 some_more : (ms : List UnplacedSyllable) (m : UnplacedSyllable) → is_none (ms ++ m ∷ []) ≡ false
 some_more [] m = refl
@@ -44,15 +52,15 @@ some_more (s ∷ ms) m = refl
 module _ (first : Bool) where
   -- where it is not over the limit
   abbrev AreWithin : Gathered → Type 0
-  AreWithin g = (is_none g.made ≡ true → first ≡ true) × (g.over ≡ false → AreWritten g.limit first g.made)
+  AreWithin g = (not g.follows ≡ (first && is_none g.made)) × (g.over ≡ false → AreWritten g.limit first g.made)
 
   within_made : (g : Gathered) (m : UnplacedSyllable) → g.limit < 2 ^ 32 → AreWithin g → AreWithin (with_made g m)
-  within_made g m small h = (λ none. absurd (true≢false (sym none ∙ some_more g.made m)), written)
+  within_made g m small h = (sym (and_false first) ∙ ap (λ b. first && b) (sym (some_more g.made m)), written)
     where
       written : (with_made g m).over ≡ false → AreWritten g.limit first (g.made ++ m ∷ [])
       written over =
           let e = either g.over _ _ over in
-          one_more g.limit first g.made m h.0 (h.1 e.0) (counted g.limit (length (canonical (is_none g.made || m.text.word_start) m)) (length m.kept) small e.1.0 e.1.1).1
+          one_more g.limit first g.made m (not g.follows) h.0 (h.1 e.0) (counted g.limit (length (canonical (not g.follows || m.text.word_start) m)) (length m.kept) small e.1.0 e.1.1).1
 
   within_with : (g : Gathered) (t : BodyEvent) → g.limit < 2 ^ 32 → AreWithin g → AreWithin (with_event g t)
   within_with g (event.Text (text.Kept c)) s h = h
@@ -74,21 +82,24 @@ module _ (first : Bool) where
   within_all g [] s h = h
   within_all g (t ∷ now) s h = within_all (with_event g t) now (let e = limit_stays g (t ∷ []) in omega (arith, e, s)) (within_with g t s h)
 
-is_first : (p : Preceding) (ms : List UnplacedSyllable) → (ms ≡ [] → p.syllables ≡ 0) → is_none ms ≡ true → (p.syllables == 0) ≡ true
-is_first p [] f e = ap (λ (n : ℕ). n == 0) (f refl)
-is_first p (m ∷ ms) f e = absurd (true≢false (sym e))
+is_first : (p : Preceding) (ms : List UnplacedSyllable) (follows : Bool) → follows ≡ nat_lt 0 (with_each p ms).syllables → not follows ≡ ((p.syllables == 0) && is_none ms)
+is_first p [] follows f = ap not f ∙ not_some p.syllables ∙ sym (and_true (p.syllables == 0))
+is_first p (m ∷ ms) follows f = ap not (f ∙ some) ∙ sym (and_false (p.syllables == 0))
+  where
+    some : nat_lt 0 (with_each (with_one p m) ms).syllables ≡ true
+    some = let k : 1 ≤ (with_each (with_one p m) ms).syllables = each_some (with_one p m) ms (omega arith) in grind (arith, nat_tests, k)
 
 -- what was made without passing a limit is within it
-written_now : (limits : Limits) (p : Preceding) (g : Gathered) (now : List BodyEvent) → g.limit ≡ limits.syllable → g.over ≡ false → (g.made ≡ [] → p.syllables ≡ 0)
+written_now : (limits : Limits) (p : Preceding) (g : Gathered) (now : List BodyEvent) → g.limit ≡ limits.syllable → g.over ≡ false → g.follows ≡ nat_lt 0 (with_each p g.made).syllables
     → AreWritten limits.syllable (p.syllables == 0) g.made → code_in limits (with_all g now) ≡ None → AreWritten limits.syllable (p.syllables == 0) (with_all g now).made
 written_now limits p g now e over f written none =
     let most = limits.in_range.syllable_most in
     let same : (with_all g now).limit ≡ limits.syllable = limit_stays g now ∙ e in
     subst (λ (n : ℕ). AreWritten n (p.syllables == 0) (with_all g now).made) same
-    ((within_all (p.syllables == 0) g now (omega (arith, e, most)) (is_first p g.made f, λ o. subst (λ (n : ℕ). AreWritten n (p.syllables == 0) g.made) (sym e) written)).1
+    ((within_all (p.syllables == 0) g now (omega (arith, e, most)) (is_first p g.made g.follows f, λ o. subst (λ (n : ℕ). AreWritten n (p.syllables == 0) g.made) (sym e) written)).1
     (not_over limits (with_all g now) none))
 
-file_now : (limits : Limits) (h : Gathered) → code_in limits h ≡ None → is_none h.made ≡ false → h.total < limits.input
+pub file_now : (limits : Limits) (h : Gathered) → code_in limits h ≡ None → is_none h.made ≡ false → h.total < limits.input
 file_now limits h none some = by (is_longer h.limit h.builder.kept || h.over) (is_none h.made) (nat_lt limits.input (h.total + 1)) refl some none
   where
     by : (a n t : Bool) → nat_lt limits.input (h.total + 1) ≡ t → n ≡ false → cond a (Some F5) (cond (not n && t) (Some F7) None) ≡ None → h.total < limits.input
@@ -137,7 +148,7 @@ module _ (has_lent : Bool) where
 
 -- ---- what holds from point to point
 
-pub within_past : (limits : Limits) (before behind : Preceding) (has_lent : Bool) (g h turned : Gathered) (now : List BodyEvent) → g.limit ≡ limits.syllable → g.over ≡ false → (g.made ≡ [] → before.syllables ≡ 0)
+pub within_past : (limits : Limits) (before behind : Preceding) (has_lent : Bool) (g h turned : Gathered) (now : List BodyEvent) → g.limit ≡ limits.syllable → g.over ≡ false → g.follows ≡ nat_lt 0 (with_each before g.made).syllables
     → HoldsWithin limits before g → h ≡ with_all g now → code_in limits (with_all g now) ≡ None → behind ≡ passed has_lent before h.made → turned ≡ with_held h → HoldsWithin limits behind turned
 within_past limits before behind has_lent g h turned now e over f within is none there turns =
     let written : AreWritten limits.syllable (before.syllables == 0) h.made = subst (λ (k : Gathered). AreWritten limits.syllable (before.syllables == 0) k.made) (sym is) (written_now limits before g now e over f within.written none) in
@@ -156,10 +167,14 @@ within_quietly limits before g h made total within = record {
   outset = within.outset;
 }
 
--- nothing was gathered behind the headers
-pub within_begun : (limits : Limits) (head : ℕ) (before : Preceding) (g : Gathered) → before ≡ no_syllable head → g.made ≡ [] → HoldsWithin limits before g
-within_begun limits head before g is none = record {
+-- nothing was gathered
+pub within_none : (limits : Limits) (before : Preceding) (g : Gathered) → IsAtOutset before → g.made ≡ [] → HoldsWithin limits before g
+within_none limits before g outset none = record {
   written = subst (AreWritten limits.syllable (before.syllables == 0)) (sym none) tt;
   file = λ some. absurd (true≢false (sym (ap (λ (ms : List UnplacedSyllable). is_none ms) none) ∙ some));
-  outset = λ e. is ∙ ap no_syllable (sym (ap (λ (p : Preceding). p.canonical) is));
+  outset = outset;
 }
+
+-- nothing was behind the headers
+pub within_begun : (limits : Limits) (head : ℕ) (before : Preceding) (g : Gathered) → before ≡ no_syllable head → g.made ≡ [] → HoldsWithin limits before g
+within_begun limits head before g is none = within_none limits before g (λ e. is ∙ ap no_syllable (sym (ap (λ (p : Preceding). p.canonical) is))) none

@@ -29,4 +29,5 @@ moved_is_told at s up is told body =
       reading = t.reading;
       held = t.held;
       openers = subst (AreOpenersBefore at) (sym (openers_stay at s.body.part)) (openers_moved s.held.next at (openers_of s.body.part) up t.openers);
+      none_held = t.none_held;
     }

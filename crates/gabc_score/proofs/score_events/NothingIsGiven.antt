@@ -12,7 +12,9 @@ use Rattle.gabc_headers.specs.declared.head_event.HeadEvent.{HeadEvent}
 use Rattle.gabc_headers.specs.declared.head_event.HeadEvent.TheVariants as head_event
 use Rattle.gabc_score.specs.ScoreEvents.{ScoreOutput}
 use Rattle.gabc_score.specs.ScoreStage.{GivesNothing, behind_front, body_inputs, nothing_each}
-use Rattle.gabc_score.specs.ScoreTells.{StandsAt, openers_of}
+use Rattle.gabc_score.specs.declared.score_machine.ScorePart.{ScorePart}
+use Rattle.gabc_score.specs.declared.before.Preceding.{Preceding}
+use Rattle.gabc_score.specs.ScoreTells.{StandsAt, held_in_body, openers_of}
 use Rattle.gabc_score.specs.ToldWithin.{IsPlace, IsEarlier, AreOpenersBefore, IsTextCharacter, IsToldOfText}
 use Rattle.gabc_score.specs.witness.ScoreStage.{ScoreStageState, left_of}
 use Rattle.gabc_score.specs.machine.PartOnly.{HoldsTexts}
@@ -70,6 +72,8 @@ gives_more a b c at bytes byte next stands opens column is step passes = record 
         (subst IsPlace (there here) (step.told here was old (sym passes.part ∙ body)).next) (openers_of b.body.part) (openers_of c.body.part)
         (opens (subst (λ (p : Place). StandsAt p b.body.part) (there here) (step.stands here was (sym passes.part ∙ body))))
         (subst (λ (p : Place). AreOpenersBefore p (openers_of b.body.part)) (there here) (step.told here was old (sym passes.part ∙ body)).openers));
+    none_held = λ none. ap (λ (p : Preceding). p.syllables) passes.before_held ∙ (step.told here was old (sym passes.part ∙ body)).none_held
+        (sym (ap (λ (k : ScorePart). held_in_body k c.held.gathered.made) passes.part ∙ ap (held_in_body b.part) passes.made) ∙ none);
   };
   law = λ xs.
       let x = head_event.Body (char_behind at (length bytes) byte) in

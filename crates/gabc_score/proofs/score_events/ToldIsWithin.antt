@@ -47,15 +47,10 @@ module _ (limits : Limits) (p : Preceding) (g : Gathered) (preceded : IsPreceded
       }
   held_by (m ∷ n ∷ ms) is = absurd (subst (λ (ms : List UnplacedSyllable). length ms ≤ 1 → ⊥) (sym is) (λ l. omega (arith, l)) few)
 
-  none_by : (ms : List UnplacedSyllable) → g.made ≡ ms → held_in_body score_part.Body ms ≡ None → p.syllables ≡ 0
-  none_by [] is e = preceded.first is
-  none_by (m ∷ ms) is e = absurd (cc e)
-
 pub tells_in_body : (m : ScoreMachine) → m.part ≡ score_part.Body → IsInBody m → length m.pair.gathered.made ≤ 1 → HasNoCommentInside m.body.part → IsToldWithin (shown m)
 tells_in_body m body h few comment = record {
   reading = subst (λ (k : ScorePart). length (reading_in_body k m.pair.gathered.builder.kept) ≤ m.limits.syllable) (sym body) h.kept;
   held = subst (λ (k : ScorePart). IfSome (held_in_body k m.pair.gathered.made) (IsHeldWithin m.limits m.bounds.before)) (sym body) (held_by m.limits m.bounds.before m.pair.gathered h.preceded h.within few m.pair.gathered.made refl);
-  none_held = subst (λ (k : ScorePart). held_in_body k m.pair.gathered.made ≡ None → m.bounds.before.syllables ≡ 0) (sym body) (none_by m.limits m.bounds.before m.pair.gathered h.preceded h.within few m.pair.gathered.made refl);
   outset = h.within.outset;
   comment = comment;
 }

@@ -18,6 +18,7 @@ use Rattle.gabc_score.specs.machine.Gatherer.{nothing_gathered}
 use Rattle.gabc_score.specs.machine.HeldWithin.{HoldsWithin}
 use Rattle.gabc_score.specs.machine.PartCounts.{CountsHold}
 use Rattle.gabc_score.specs.machine.PartKeeps.{IsReading}
+use Rattle.gabc_score.specs.machine.PartMakes.{HoldUnits}
 use Rattle.gabc_score.specs.machine.PartOnly.{HoldsTexts}
 use Rattle.gabc_score.specs.machine.Preceded.{IsPreceded}
 use Rattle.gabc_score.specs.machine.ScoreStage.{HeldScore}
@@ -50,7 +51,8 @@ pub record IsBeforeBody (m : ScoreMachine) : Type 0 where
   pub nothing : m.pair.gathered ≡ nothing_gathered m.limits.syllable 0
   pub none_lent : m.has_lent ≡ false
 
--- in the body what is counted holds, the kept text is within the limit, and what is gathered is what its parts say
+-- In the body what is counted holds, no limit is passed, the kept text is within its limit, what is gathered is what its parts say, and what is
+-- held holds a unit.
 pub record IsInBody (m : ScoreMachine) : Type 0 where
   pub rests : IsAtRest m
   pub counts : CountsHold m.body.part m.pair.gathered.builder
@@ -58,7 +60,9 @@ pub record IsInBody (m : ScoreMachine) : Type 0 where
   pub preceded : IsPreceded m.bounds.before m.pair.gathered
   pub behind : m.bounds.behind ≡ with_each m.bounds.before m.pair.gathered.made
   pub lent : m.has_lent ≡ nat_lt 0 m.bounds.before.syllables
+  pub code : code_in m.limits m.pair.gathered ≡ None
   pub reading : IsReading m.body.nabc_lines m.body.macros m.body.part m.bounds.behind.spans m.pair.gathered
+  pub units : HoldUnits m.body.nabc_lines m.pair.gathered.made
   pub within : HoldsWithin m.limits m.bounds.before m.pair.gathered
 
 -- in the body, where nothing is lent, no limit is passed and one whole syllable is held at most

@@ -4,6 +4,7 @@ use Rattle.gabc_score.specs.declared.bounds.Bounds.{Bounds}
 use Rattle.gabc_score.specs.machine.Gatherer.{Gathered}
 use Rattle.gabc_score.specs.machine.SlotPair.{SlotPairState}
 use Rattle.gabc_score.specs.witness.BodyStage.{BodyStageState}
+use Rattle.gabc_score.proofs.score_events.UnitsAreHeld.{none_held}
 use Rattle.gabc_score.proofs.score_events.CountsGoOn.{begins_of_text}
 use Rattle.gabc_score.proofs.score_events.WholeSyllables.{none_whole}
 use Rattle.gabc_score.proofs.score_events.HeldWithinLimits.{within_begun}
@@ -98,9 +99,12 @@ returns-in-Heads-clause-rests c = record {
   preceded = search rules;
   behind = search rules;
   lent = search rules;
+  code = search rules;
   reading = comment_reads c.restart.new.self.nabc_lines c.restart.new.self.macros c.in-Heads.canonical c.args.self.now.limits.syllable c.in-Heads.canonical c.restart.new.self.part c.behind_headers-self.result c.start.new.self.gathered
       (ap (λ (s : BodyStageState). s.part) c.restart.ensures) c.behind_headers-self.ensures
       (ap (λ (s : SlotPairState). s.gathered) c.start.ensures ∙ ap (λ (g : Gathered). record g { total = c.in-Heads.canonical }) c.requires.rests.nothing);
+  units = none_held c.restart.new.self.nabc_lines c.start.new.self.gathered.made
+      (ap (λ (s : SlotPairState). s.gathered.made) c.start.ensures ∙ ap (λ (g : Gathered). g.made) c.requires.rests.nothing);
   within = within_begun c.args.self.now.limits c.in-Heads.canonical c.behind_headers-self.result.before c.start.new.self.gathered (ap (λ (b : Bounds). b.before) c.behind_headers-self.ensures)
       (ap (λ (g : Gathered). g.made) (ap (λ (s : SlotPairState). s.gathered) c.start.ensures ∙ ap (λ (g : Gathered). record g { total = c.in-Heads.canonical }) c.requires.rests.nothing));
 }

@@ -8,7 +8,8 @@ use Rattle.gabc_score.specs.Body.{fault_at}
 use Rattle.gabc_score.specs.ScoreEvents.{ScoreOutput, Stop, outputs_of}
 use Rattle.gabc_places.specs.Place.{saturating_next_place}
 use Rattle.gabc_score.specs.ScoreStage.{IsWithin, Lends, MayCome}
-use Rattle.gabc_score.specs.ScoreTells.{StandsAt, openers_of}
+use Rattle.gabc_score.specs.declared.score_machine.ScorePart.{ScorePart}
+use Rattle.gabc_score.specs.ScoreTells.{held_in_body, StandsAt, openers_of}
 use Rattle.gabc_score.specs.ToldWithin.{IsPlace, IsEarlier, AreOpenersBefore, IsToldOfText}
 use Rattle.gabc_score.specs.machine.PartOnly.{HoldsTexts, kept_codes}
 use Rattle.gabc_score.specs.machine.ScoreMachine.{IsShort, shown}
@@ -21,14 +22,18 @@ use Rattle.gabc_score.specs.machine.BodyBuilder.{code_in, with_all}
 use Rattle.gabc_score.specs.machine.Gatherer.{Gathered}
 use Rattle.gabc_score.specs.machine.PartCounts.{CountsHold}
 use Rattle.gabc_score.specs.Syllable.{UnplacedSyllable}
-use Rattle.gabc_score.proofs.score_events.CountsGoOn.{counts_past}
+use Rattle.gabc_score.proofs.score_events.UnitsAreHeld.{units_past}
+use Rattle.gabc_score.proofs.score_events.CountsGoOn.{counts_past, none_past}
 use Rattle.gabc_score.proofs.score_events.OpenersInOrder.{opens_in_order, place_behind}
 use Rattle.gabc_score.proofs.score_events.HeldWithinLimits.{within_past}
 use Rattle.gabc_score.proofs.score_events.TextsArePlain.{plain_all, plain_held, of_character}
 use Rattle.gabc_score.proofs.score_events.WhatIsRead.{reading_past}
 use Rattle.gabc_score.proofs.score_events.WholeSyllables.{whole_past}
 use Rattle.gabc_score.proofs.score_events.WhatPrecedes.{lent_past, turned, past_in_body}
-use Rattle.gabc_score.proofs.score_events.EventsStayWithinBounds.{few_found, few_with_first, limit_stays, within}
+use Rattle.gabc_score.specs.NoteBeforeClef.{found_first}
+use Rattle.gabc_places.specs.BoundedList.{extended_by}
+use Rattle.gabc_score.proofs.resuming.CharactersGathered.{given_only, none_given}
+use Rattle.gabc_score.proofs.score_events.EventsStayWithinBounds.{code_turned, few_found, few_with_first, limit_stays, within}
 use Rattle.gabc_score.proofs.score_machine.ScoreMachine.read.Goals as goal
 
 pub find_first-requires : goal.find_first-requires
@@ -98,7 +103,7 @@ returns-after-self-clause-step c =
             (counts_past limits c.args.self.now.body.nabc_lines c.args.self.now.body.macros b.before c.pass.new.self.before c.args.self.now.has_lent c.hold.new.pair.gathered c.give_point-gave.new.pair.gathered
             (ap (λ (k : Bounds). k.before) passed ∙ turns.given) c.give_point-gave.ensures.gathered
             (subst (λ (k : Gathered). IsPreceded c.pass.new.self.before k) (sym c.give_point-gave.ensures.gathered) (subst (λ (k : Bounds). IsPreceded k.before (with_held c.hold.new.pair.gathered)) (sym passed) turns.preceded))
-            (within_past limits b.before c.pass.new.self.before c.args.self.now.has_lent old c.hold.new.pair.gathered c.give_point-gave.new.pair.gathered now rests.limit rests.over c.requires.rests.preceded.first c.requires.rests.within is none
+            (within_past limits b.before c.pass.new.self.before c.args.self.now.has_lent old c.hold.new.pair.gathered c.give_point-gave.new.pair.gathered now rests.limit rests.over c.requires.rests.preceded.follows c.requires.rests.within is none
             (ap (λ (k : Bounds). k.before) passed ∙ turns.given) c.give_point-gave.ensures.gathered)
             (was c.requires.part).counts);
         reading = (texts may (was c.requires.part)).0;
@@ -108,6 +113,8 @@ returns-after-self-clause-step c =
             (opens_in_order c.args.x.place (saturating_next_place c.args.x.place c.args.x.c) (behind may (was c.requires.part).next).1 (subst IsPlace (sym may.0) (was c.requires.part).next) (openers_of c.args.self.now.body.part) (openers_of c.take.new.self.part)
             (c.take.ensures.opens c.requires.rests.reading.parts c.requires.rests.reading.keeps (subst (λ p. StandsAt p c.args.self.now.body.part) (sym may.0) (here c.requires.part)))
             (subst (λ p. AreOpenersBefore p (openers_of c.args.self.now.body.part)) (sym may.0) (was c.requires.part).openers));
+        none_held = λ none. none_past b.before c.pass.new.self.before c.args.self.now.has_lent old c.hold.new.pair.gathered c.give_point-gave.new.pair.gathered now c.take.ensures.once (ap (λ (k : Bounds). k.before) passed ∙ turns.given) c.give_point-gave.ensures.gathered is
+            (λ e. (was c.requires.part).none_held (ap (λ (k : ScorePart). held_in_body k old.made) c.requires.part ∙ e)) (ap (λ (k : ScorePart). held_in_body k c.give_point-gave.new.pair.gathered.made) (sym c.requires.part) ∙ none);
       };
       stands = λ here was body. subst (λ p. StandsAt p c.take.new.self.part) (sym c.saturating_after-self.ensures) (c.take.ensures.stands c.requires.rests.reading.parts c.requires.rests.reading.keeps
           (subst (λ p. StandsAt p c.args.self.now.body.part) (sym here) (was c.requires.part)));
@@ -157,10 +164,56 @@ returns-after-self-clause-rests c =
           ∙ ap (λ (k : Bounds). with_each k.before (with_held g).made) (sym passed)
           ∙ ap (λ (k : Gathered). with_each c.pass.new.self.before k.made) (sym t.gathered);
       lent = (let e = lent_past b.before c.pass.new.self.before c.args.self.now.has_lent c.give_point-gave.result g.made old.lent (ap (λ (k : Bounds). k.before) passed ∙ turns.given) c.give_point-gave.ensures.gave in search (rules, e));
+      code = ap (code_in c.args.self.now.limits) t.gathered ∙ code_turned c.args.self.now.limits g (sym c.code.ensures.code ∙ c.in-None.is);
       reading = reading_past c.args.self.now.body.nabc_lines c.args.self.now.body.macros c.take.new.self.nabc_lines c.take.new.self.macros c.args.self.now.body.part c.take.new.self.part b c.pass.new.self was g c.give_point-gave.new.pair.gathered now
           c.is_whole-is_whole.result c.give_point-gave.result (let few = old.kept in let most = c.args.self.now.limits.in_range.syllable_most in omega (arith, few, most)) is t.gathered
           (c.is_whole-is_whole.ensures.made ∙ ap (λ (ms : List UnplacedSyllable). nat_lt (length ms) (length g.made)) (c.hold.ensures.held ∙ c.free.ensures.held))
           passed c.take.ensures.lines c.take.ensures.macros c.take.ensures.keeps old.reading;
-      within = within_past c.args.self.now.limits b.before c.pass.new.self.before c.args.self.now.has_lent was g c.give_point-gave.new.pair.gathered now old.rests.limit old.rests.over old.preceded.first old.within is none
+      units = units_past c.args.self.now.body.nabc_lines c.args.self.now.body.macros c.take.new.self.nabc_lines c.args.self.now.body.part b.behind.spans was g c.give_point-gave.new.pair.gathered now
+          (let few = old.kept in let most = c.args.self.now.limits.in_range.syllable_most in omega (arith, few, most)) is t.gathered c.take.ensures.lines c.take.ensures.makes old.reading old.units;
+      within = within_past c.args.self.now.limits b.before c.pass.new.self.before c.args.self.now.has_lent was g c.give_point-gave.new.pair.gathered now old.rests.limit old.rests.over old.preceded.follows old.within is none
           (ap (λ (k : Bounds). k.before) passed ∙ turns.given) t.gathered;
     })
+
+pub returns-in-Some-clause-reads : goal.returns-in-Some-clause-reads
+returns-in-Some-clause-reads c =
+    let now = c.take.new.self.events in
+    let is : c.hold.new.pair.gathered ≡ with_all c.args.self.now.pair.gathered now = c.hold.ensures.gathered ∙ ap (λ (k : Gathered). with_all k now) c.free.ensures.gathered in
+    record {
+      now = now;
+      after = c.take.new.self;
+      law = c.take.ensures.events.law;
+      last = c.take.ensures.once;
+      limits = c.stop.ensures.limits;
+      gathers = λ none. absurd (cc (sym c.in-Some.is ∙ (c.code.ensures.code ∙ (ap (code_in c.args.self.now.limits) is ∙ none))));
+      stops = λ some. c.stop.ensures.part;
+    }
+
+pub returns-after-self-clause-reads : goal.returns-after-self-clause-reads
+returns-after-self-clause-reads c =
+    let b = c.args.self.now.bounds in
+    let old = c.args.self.now.pair.gathered in
+    let now = c.take.new.self.events in
+    let is : c.hold.new.pair.gathered ≡ with_all old now = c.hold.ensures.gathered ∙ ap (λ (k : Gathered). with_all k now) c.free.ensures.gathered in
+    let none : code_in c.args.self.now.limits (with_all old now) ≡ None = sym (ap (code_in c.args.self.now.limits) is) ∙ (sym c.code.ensures.code ∙ c.in-None.is) in
+    let passed : c.pass.new.self ≡ past_point c.is_whole-is_whole.result c.give_point-gave.result b c.hold.new.pair.gathered =
+    c.pass.ensures ∙ ap (past_point c.is_whole-is_whole.result c.give_point-gave.result b) c.give_point-gave.ensures.gathered in
+    record {
+      now = now;
+      after = c.take.new.self;
+      law = c.take.ensures.events.law;
+      last = c.take.ensures.once;
+      limits = refl;
+      gathers = λ fine. record {
+        part = c.requires.part;
+        body = refl;
+        gathered = c.give_point-gave.ensures.gathered ∙ ap with_held is;
+        lines = c.take.ensures.lines;
+        macros = c.take.ensures.macros;
+        before = λ few. ap (λ (k : Bounds). k.before) passed ∙ none_given c.is_whole-is_whole.result c.give_point-gave.result b c.hold.new.pair.gathered (c.give_point-gave.ensures.gave ∙ ap (λ (k : Gathered). nat_lt 1 (length k.made)) is) few;
+        found = λ few. given_only c.args.self.now.found c.hold.new.found c.find_first.new.found now c.args.out.now c.give_point-gave.new.out c.args.self.now.has_lent old (with_all old now) c.hold.new.pair.gathered c.args.x.place is few
+            c.requires.rests.rests.none c.hold.ensures.found (c.find_first.ensures ∙ ap (λ k. extended_by c.hold.new.found (found_first k c.first_kind.result c.args.x.place)) (c.first_kind-was.ensures ∙ ap (λ (k : Gathered). k.first_kind) c.free.ensures.gathered)
+            ∙ ap (λ k. extended_by c.hold.new.found (found_first old.first_kind k c.args.x.place)) (c.first_kind.ensures ∙ ap (λ (k : Gathered). k.first_kind) is)) c.give_point-gave.ensures.emitted.events;
+      };
+      stops = λ some. absurd (some none);
+    }

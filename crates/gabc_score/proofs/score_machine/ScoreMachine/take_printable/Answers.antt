@@ -8,7 +8,8 @@ use Rattle.gabc_score.specs.declared.score_machine.ScoreMachine.{ScoreMachine}
 use Rattle.gabc_score.specs.witness.ScoreStage.{ScoreStageState}
 use Rattle.gabc_score.specs.ScoreTells.{StandsAt}
 use Rattle.gabc_score.specs.machine.Fronts.{shown_before}
-use Rattle.gabc_score.specs.machine.ScoreMachine.{shown, PassesQuietly}
+use Rattle.gabc_score.specs.machine.ScoreMachine.{shown, IsFreed, PassesQuietly}
+use Rattle.gabc_score.proofs.resuming.StagesMove.{freed_moved}
 use Rattle.gabc_score.proofs.score_events.NothingIsGiven.{Opens, char_behind, gives_next, printable_next}
 use Rattle.gabc_score.proofs.score_events.TextsArePlain.{printable_plain}
 use Rattle.gabc_score.proofs.score_machine.ScoreMachine.take_printable.Goals.{then-loop-count-test+else-is_printable, else-loop-count-test, then-loop-count-test+then-is_printable+then-not-take_quietly}
@@ -76,6 +77,15 @@ returns-then-count-gt0-clause-step c =
     subst (λ (s : ScoreStageState). GivesNothing (shown c.args.self.now) c.args.at (take c.loop-count.count c.args.bytes.now) s)
     (ap (shown_before c.loop-count.self) (front_kept c.args.at c.args.self.now.next c.loop-count.count (omega (arith, some)))
     ∙ sym (same_kept c.loop-count-test.self c.loop-count.self (in_line c.args.at (c.args.at.column + c.loop-count.count)) same)) c.loop-count.invariant.step
+
+pub returns-then-count-gt0-clause-freed : goal.returns-then-count-gt0-clause-freed
+returns-then-count-gt0-clause-freed c =
+    let freed : IsFreed c.loop-count-test.self = elim c.loop-count-test.branch [
+      | then-loop-count-test+else-is_printable w ↦ subst IsFreed (sym w.self-is) c.loop-count.invariant.freed
+      | else-loop-count-test w ↦ subst IsFreed (sym w.self-is) c.loop-count.invariant.freed
+      | then-loop-count-test+then-is_printable+then-not-take_quietly w ↦ subst IsFreed (sym w.self-is) w.take_quietly.ensures.freed
+    ] in
+    freed_moved c.loop-count-test.self _ freed
 
 none_kept : (at before : Place) (count : ℕ) → count ≤ 0 → behind_front at count before ≡ before
 none_kept at before zero h = refl

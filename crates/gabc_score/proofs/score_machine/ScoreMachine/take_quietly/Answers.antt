@@ -2,6 +2,7 @@ use Rattle.std.proofs.Common.{◌≡◌, Bool, true, false, refl, rules, ◌∙�
 use Rattle.gabc_score.specs.Before.{with_each}
 use Rattle.gabc_score.specs.machine.PartOnly.{HoldsTexts, kept_codes}
 use Rattle.gabc_score.specs.machine.ScoreMachine.{IsFreed}
+use Rattle.gabc_score.proofs.score_events.UnitsAreHeld.{units_quietly}
 use Rattle.gabc_score.proofs.score_events.HeldWithinLimits.{within_quietly}
 use Rattle.gabc_score.proofs.score_events.QuietPoints.{quiet_law}
 use Rattle.gabc_score.proofs.score_events.TextsArePlain.{plain_all, of_character}
@@ -26,8 +27,10 @@ returns-clause-freed c = by c.take_quietly.result refl
             preceded = quietly before c.args.self.now.body c.take_quietly.new.self c.args.x c.args.self.now.pair c.take_quietly.new.pair quiet freed.body.preceded;
             behind = freed.body.behind ∙ ap (with_each before) (sym quiet.made);
             lent = freed.body.lent;
+            code = search rules;
             reading = reading_quietly c.args.self.now.bounds.behind.spans c.args.self.now.body c.take_quietly.new.self c.args.x c.args.self.now.pair c.take_quietly.new.pair
                 (let few = freed.body.kept in let most = c.args.self.now.limits.in_range.syllable_most in omega (arith, few, most)) quiet freed.body.reading;
+            units = units_quietly c.args.self.now.body c.take_quietly.new.self c.args.x c.args.self.now.pair c.take_quietly.new.pair quiet freed.body.units;
             within = within_quietly c.args.self.now.limits before c.args.self.now.pair.gathered c.take_quietly.new.pair.gathered quiet.made quiet.total freed.body.within;
           };
           used = quiet.used;
