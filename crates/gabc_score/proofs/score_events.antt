@@ -9,6 +9,7 @@ pub mod FirstNotes
 pub mod EmittedByHeaders
 pub mod GivenSyllables
 pub mod HeadersMayCome
+pub mod HeldIsText
 pub mod HeldScoreIsDefinition
 pub mod HeldSyllables
 pub mod HeldWithinLimits

@@ -27,7 +27,7 @@ ghost use Rattle.gabc_score.specs.ScoreStage.{AreCountsBelow, GivesAt, IsWithinA
 ghost use Rattle.gabc_score.specs.SpansPast.{FollowsSpans};
 ghost use Rattle.gabc_score.specs.UnitRead.{HoldsSomeUnit};
 ghost use Rattle.gabc_score.specs.witness.ReadAgain.{CanBeReadAgain};
-ghost use Rattle.gabc_score.specs.ToldWithin.{BeginsWord, IsPlace, IsToldWithin, TellsOfText};
+ghost use Rattle.gabc_score.specs.ToldWithin.{BeginsWord, IsPlace, IsText, IsToldWithin, TellsOfText, written_behind};
 ghost use Rattle.gabc_score.specs.witness.ScoreStage.{ScoreStageState, left_of};
 
 use crate::score_event::ScoreEvent;
@@ -197,6 +197,15 @@ pub fn the_first_begins_a_word(stage: &ScoreStage)
     ensures { TellsOfText stage.now → stage.now.before.syllables ≡ 0 →
         IfSome (held_of stage.now) BeginsWord }
 {}
+
+/// The canonical text of the syllable that a stage holds is a text of an input, as long as what the stage tells is that of a text.
+pub fn what_is_held_is_a_text(stage: &ScoreStage)
+    requires told { TellsOfText stage.now }
+    ensures { IfSome (held_of stage.now) (λ m. IsText (written_behind stage.now.before m)) }
+{
+    crate::unit_laws::the_canonical_text_of_a_unit_is_a_text();
+    what_is_held_holds_a_unit(stage);
+}
 
 /// The whole syllable that a stage holds, whatever it has read, is within the stage's limits, wherever it stands in its word.
 pub fn what_is_held_is_within_the_limits(stage: &ScoreStage)

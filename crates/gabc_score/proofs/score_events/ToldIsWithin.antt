@@ -1,5 +1,5 @@
 -- What a machine tells in the body is within its limits.
-use Rattle.std.proofs.Common.{◌≡◌, ℕ, ◌+◌, ◌-◌, ◌≤◌, ◌<◌, ◌^◌, ◌||◌, ◌==◌, min, Bool, List, [], ◌∷◌, ◌++◌, cond, length, codes, None, refl, sym, subst, arith, length-append}
+use Rattle.std.proofs.Common.{◌≡◌, ℕ, ◌+◌, ◌-◌, ◌≤◌, ◌<◌, ◌^◌, ◌||◌, ◌==◌, min, Bool, List, [], ◌∷◌, ◌++◌, cond, length, codes, refl, sym, subst, arith, length-append}
 use Rattle.std.specs.Prelude.{IfSome}
 use Rattle.std.proofs.lemmas.Bool.Decides.{nat_tests}
 use Rattle.gabc_places.specs.declared.limits.Limits.{Limits}

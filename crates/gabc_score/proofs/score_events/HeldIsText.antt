@@ -1,0 +1,20 @@
+-- The canonical text of the syllable that is held is a text of an input.
+use Rattle.std.proofs.Common.{◌≡◌, ℕ, ◌==◌, ◌||◌, Bool, List, [], ◌∷◌, refl}
+use Rattle.std.specs.Prelude.{IfSome}
+use Rattle.std.specs.List.{All}
+use Rattle.std.proofs.lemmas.List.Elements.{All-head}
+use Rattle.gabc_score.specs.declared.before.Preceding.{Preceding}
+use Rattle.gabc_score.specs.declared.score_machine.ScorePart.{ScorePart}
+use Rattle.gabc_score.specs.declared.score_machine.ScorePart.TheVariants as score_part
+use Rattle.gabc_score.specs.Canonical.{canonical}
+use Rattle.gabc_score.specs.ScoreTells.{held_in_body}
+use Rattle.gabc_score.specs.Syllable.{UnplacedSyllable}
+use Rattle.gabc_score.specs.ToldWithin.{IsText, written_behind}
+use Rattle.gabc_score.specs.UnitRead.{HoldsSomeUnit}
+
+pub held_is_text : ((lines : ℕ) (m : UnplacedSyllable) → HoldsSomeUnit lines m → IsText m.kept → (starts : Bool) → IsText (canonical starts m)) → (lines : ℕ) (p : Preceding) (part : ScorePart) (made : List UnplacedSyllable)
+    → (part ≡ score_part.Body → All (λ (m : UnplacedSyllable). IsText m.kept) made) → IfSome (held_in_body part made) (HoldsSomeUnit lines) → IfSome (held_in_body part made) (λ m. IsText (written_behind p m))
+held_is_text law lines p score_part.Heads made told unit = tt
+held_is_text law lines p score_part.Over made told unit = tt
+held_is_text law lines p score_part.Body [] told unit = tt
+held_is_text law lines p score_part.Body (m ∷ ms) told unit = law lines m unit (All-head (λ (m : UnplacedSyllable). IsText m.kept) m ms (told refl)) ((p.syllables == 0) || m.text.word_start)
