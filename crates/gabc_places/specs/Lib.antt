@@ -9,6 +9,7 @@ pub mod Decoder
 pub mod DecoderMachine
 pub mod DecoderTells
 pub mod FilledPieceByPiece
+pub mod Filling
 pub mod Findings
 pub mod GhostCalls
 pub mod GhostCallsDepth

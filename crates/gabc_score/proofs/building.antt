@@ -8,8 +8,12 @@ pub mod BuilderHoldsDefinition
 pub mod FirstKinds
 pub mod OneListEachCharacter
 pub mod PartsKeepOn
+pub mod PartsMakeSyllables
+pub mod PartsMakeUnits
+pub mod PartsKeepOnly
 pub mod PartsOfKeptNotes
 pub mod PartsOfKeptText
+pub mod PartsOpenOn
 pub mod PartsStandOn
 pub mod QuietParts
 pub mod QuietTexts

@@ -1,2 +1,3 @@
 pub mod BodyHasOneCutting
+pub mod CanonicalTextIsText
 pub mod UnitsEndAtMarks

@@ -4,10 +4,15 @@ use Rattle.std.specs.Prelude.{ℕ, ◌+◌, ◌-◌, ◌^◌, ◌==◌, ◌||◌
 use Rattle.std.specs.List.{list_any}
 use Rattle.gabc_notes.specs.FirstNoteOrClef.{first_note_or_clef}
 use Rattle.gabc_notes.specs.Items.{items_of}
+use Rattle.gabc_score.specs.declared.before.Before.{Before}
 use Rattle.gabc_score.specs.declared.before.Preceding.{Preceding}
 use Rattle.gabc_score.specs.declared.snippets.Snippet.{Snippet}
 use Rattle.gabc_score.specs.Canonical.{canonical}
 use Rattle.gabc_score.specs.Syllable.{UnplacedSyllable, PlacedSyllable, text_at}
+
+-- what is told of them beside what the headers gave
+abbrev pub preceding_of : Before → Preceding
+preceding_of b = record { syllables = b.syllables; canonical = b.canonical; spans = b.spans; sounded = b.sounded }
 
 -- before the first syllable: the canonical headers have so many bytes
 abbrev pub no_syllable : ℕ → Preceding

@@ -6,9 +6,12 @@ pub mod Canonical
 pub mod Events
 pub mod FoundInParts
 pub mod HeldAside
+pub mod HeldAgain
 pub mod Holding
 pub mod Marks
 pub mod NoteBeforeClef
+pub mod Resumed
+pub mod ReadAgain
 pub mod Score
 pub mod ScoreEvents
 pub mod ScoreStage
@@ -17,6 +20,7 @@ pub mod SpansPast
 pub mod Stops
 pub mod Syllable
 pub mod SyllablesOfUnits
+pub mod ToldWithin
 pub mod UnitRead
 pub mod Units
 pub mod WithinLimits

@@ -17,9 +17,11 @@ use Rattle.gabc_score.specs.Before.{no_syllable, with_placed}
 use Rattle.gabc_score.specs.declared.score_machine.ScorePart.{ScorePart}
 use Rattle.gabc_score.specs.declared.score_machine.ScorePart.TheVariants as score_part
 use Rattle.gabc_score.specs.ScoreTells.{StandsAt}
+use Rattle.gabc_score.specs.ToldWithin.{AreCountsWithin, IsTextCharacter, TellsOfText}
 use Rattle.gabc_score.specs.ScoreEvents.{first_place, ScoreOutput, Found, Stop, Syllable, End, is_last, syllables_in}
 use Rattle.gabc_score.specs.Canonical.{canonical_in_place}
-use Rattle.gabc_score.specs.Syllable.{PlacedSyllable}
+use Rattle.gabc_score.specs.Syllable.{UnplacedSyllable, PlacedSyllable}
+use Rattle.gabc_score.specs.declared.syllable.Position.{Position}
 use Rattle.std.specs.List.{All, list_any}
 use Rattle.gabc_score.specs.witness.ScoreStage.{ScoreStageState, left_of}
 
@@ -44,6 +46,10 @@ pub record GivesOutputs (outputs : List ScoreOutput) (old new : BoundedList Scor
 pub record IsWithin (limits : Limits) (s : PlacedSyllable) : Type 0 where
   pub kept : length s.made.kept ≤ limits.syllable
   pub canonical : length (canonical_in_place s) ≤ limits.syllable + 1
+
+-- so is a syllable wherever it stands in its word
+abbrev pub IsWithinAnywhere : Limits → UnplacedSyllable → Type 0
+IsWithinAnywhere limits m = (position : Position) → IsWithin limits (record { made = m; position = position })
 
 -- so many syllables at most are lent, and they are within the limits
 pub record Lends (limits : Limits) (most : ℕ) (outputs : List ScoreOutput) : Type 0 where
@@ -80,6 +86,16 @@ abbrev pub StandsHere : HeadEvent → Place → Type 0
 StandsHere (head_event.Body x) next = x.place ≡ next
 StandsHere x next = Unit {0}
 
+-- neither the line of a character nor its column has reached its last value
+abbrev pub IsPlaceBelow : Char → Type 0
+IsPlaceBelow x = (x.place.line + 1 < 2 ^ 64) × (x.place.column + 1 < 2 ^ 64)
+
+-- An input may come of a text where the next character stands at this place: the numbers of its headers, or this character.
+abbrev pub MayCome : Limits → Place → HeadEvent → Type 0
+MayCome limits next (head_event.Heads lines macros canonical) = AreCountsWithin limits lines macros canonical
+MayCome limits next (head_event.Body x) = (x.place ≡ next) × (IsPlaceBelow x × IsTextCharacter x.c)
+MayCome limits next x = Unit {0}
+
 -- in the body a text has counted the place of the next character
 abbrev pub StandsInLine : ScoreStageState → Type 0
 StandsInLine s = s.part ≡ score_part.Body → StandsAt s.held.next s.body.part
@@ -112,6 +128,7 @@ pub record GivesAt (before : ScoreStageState) (x : HeadEvent) (after : ScoreStag
   pub before_held : after.part ≡ score_part.Body → after.before ≡ preceding_past before.part x outputs before.before
   pub next : after.part ≡ score_part.Body → after.held.next ≡ next_past before.part x before.held.next
   pub stands : StandsHere x before.held.next → StandsInLine before → StandsInLine after
+  pub told : MayCome before.limits before.held.next x → StandsInLine before → TellsOfText before → TellsOfText after
   pub law : (xs : List HeadEvent) → left_of before (x ∷ xs) ≡ outputs ∷ left_of after xs
   pub emitted : GivesOutputs outputs old new after.first after.second
 
@@ -146,12 +163,10 @@ pub record GivesNothing (before : ScoreStageState) (at : Place) (bytes : List �
   pub next : after.held.next ≡ behind_front at (length bytes) before.held.next
   pub stands : at ≡ before.held.next → StandsInLine before → StandsInLine after
   pub counts : Counts at before → Counts (behind_front at (length bytes) at) after
+  pub told : at ≡ before.held.next → StandsInLine before → TellsOfText before → TellsOfText after
   pub law : (xs : List HeadEvent) → left_of before (body_inputs at bytes ++ xs) ≡ nothing_each bytes ++ left_of after xs
 
 -- ---- counts that have not reached their last value
-
-abbrev pub IsPlaceBelow : Char → Type 0
-IsPlaceBelow x = (x.place.line + 1 < 2 ^ 64) × (x.place.column + 1 < 2 ^ 64)
 
 -- neither the characters of the body among these nor what was counted of the headers
 abbrev pub AreCountsBelow : List HeadEvent → Type 0

@@ -1,2 +1,3 @@
 pub mod BodyStage
+pub mod ReadAgain
 pub mod ScoreStage

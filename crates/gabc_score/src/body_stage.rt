@@ -1,6 +1,6 @@
 //! A machine over the texts and notes of a body, one part after the other.
 
-ghost use Rattle.std.specs.Prelude.{◌≡◌, ◌≢◌, ◌+◌, ◌∷◌, ◌<◌, ℕ, List, [], length, ◌≤◌, IfOk, true, false};
+ghost use Rattle.std.specs.Prelude.{◌≡◌, ◌≢◌, ◌+◌, ◌∷◌, ◌<◌, ℕ, List, [], length, ◌≤◌, None, Some, IfOk, true, false};
 ghost use Rattle.gabc_places.specs.declared.place.Char.{Char};
 ghost use Rattle.gabc_notes.specs.declared.stage.NoteEvent.{NoteEvent};
 ghost use Rattle.gabc_score.specs.machine.PartPushes.{ClosesLast};
@@ -12,8 +12,12 @@ ghost use Rattle.gabc_text.specs.Events.{CountsFit};
 ghost use Rattle.gabc_score.specs.machine.Gatherer.{Gathered};
 ghost use Rattle.gabc_score.specs.machine.PartCounts.{CountsInNotes, CountsHold, PartGoesOn};
 ghost use Rattle.gabc_score.specs.machine.PartKeeps.{in_text, BeginsSnippet, PartKeeps, PartKeepsOn, PartStandsOn};
-ghost use Rattle.gabc_score.specs.ScoreTells.{StandsAt};
+ghost use Rattle.gabc_score.specs.machine.PartMakes.{PartMakes};
+ghost use Rattle.gabc_score.specs.machine.PartOnly.{PartKeepsOnly};
+ghost use Rattle.gabc_score.specs.machine.PartOpens.{PartOpensOn};
+ghost use Rattle.gabc_score.specs.ScoreTells.{StandsAt, openers_of};
 ghost use Rattle.gabc_score.specs.machine.Quiet.{TakesQuietly};
+ghost use Rattle.gabc_score.specs.machine.ReadAgain.{ReadsAgain, OpensNotes};
 ghost use Rattle.gabc_score.specs.machine.SyllableBuilder.{OpenSyllable, nothing_open};
 ghost use Rattle.gabc_score.specs.machine.Slot.{FitEach};
 ghost use Rattle.gabc_score.specs.machine.BodyBuilder.{with_all, with_found};
@@ -104,6 +108,7 @@ fn text_behind(mark: Place) -> BodyPart
     ensures counts { CountsHold result nothing_open }
     ensures keeps { (lines macros : ℕ) → PartKeeps lines macros result (in_text []) }
     ensures stands { StandsAt (behind_mark mark) result }
+    ensures opens { openers_of result ≡ record { notes = None; inner = None } }
 {
     BodyPart::Text(TextStage::new(mark.saturating_after(')')))
 }
@@ -159,6 +164,7 @@ impl BodyStage {
             ≡ snippet_from self.now.nabc_lines self.now.macros line opened xs }
         ensures counts { (o : OpenSyllable) → CountsInNotes o → CountsHold result o }
         ensures keeps { BeginsSnippet self.now.nabc_lines self.now.macros line result }
+        ensures tells { OpensNotes opened result }
     {
         if line == 0 {
             BodyPart::Notes {
@@ -182,6 +188,7 @@ impl BodyStage {
         ensures counts { (o : OpenSyllable) → CountsInNotes o → CountsHold result o }
         ensures keeps { BeginsSnippet self.now.nabc_lines self.now.macros
             (line_after self.now.nabc_lines line) result }
+        ensures tells { OpensNotes opened result }
     {
         self.snippet(next_line(self.nabc_lines, line), opened)
     }
@@ -199,8 +206,16 @@ impl BodyStage {
         ensures macros { self.new.macros ≡ self.old.macros }
         ensures keeps { PartKeepsOn self.old.nabc_lines self.old.macros
             self.old.part self.new.part self.new.events }
+        ensures makes { PartMakes self.old.nabc_lines self.old.macros
+            self.old.part self.new.events }
         ensures stands { PartStandsOn self.old.nabc_lines self.old.macros
             x self.old.part self.new.part }
+        ensures again { ReadsAgain self.old.nabc_lines self.old.macros
+            x self.old.part self.new.part self.new.events }
+        ensures opens { PartOpensOn self.old.nabc_lines self.old.macros
+            x self.old.part self.new.part }
+        ensures only { PartKeepsOnly self.old.nabc_lines self.old.macros
+            x self.old.part self.new.events }
         ensures over { self.new.over ≡ self.old.over }
     {
         match &mut self.part {
@@ -254,8 +269,16 @@ impl BodyStage {
         ensures macros { self.new.macros ≡ self.old.macros }
         ensures keeps { PartKeepsOn self.old.nabc_lines self.old.macros
             self.old.part self.new.part self.new.events }
+        ensures makes { PartMakes self.old.nabc_lines self.old.macros
+            self.old.part self.new.events }
         ensures stands { PartStandsOn self.old.nabc_lines self.old.macros
             x self.old.part self.new.part }
+        ensures again { ReadsAgain self.old.nabc_lines self.old.macros
+            x self.old.part self.new.part self.new.events }
+        ensures opens { PartOpensOn self.old.nabc_lines self.old.macros
+            x self.old.part self.new.part }
+        ensures only { PartKeepsOnly self.old.nabc_lines self.old.macros
+            x self.old.part self.new.events }
         ensures over { self.new.over ≡ self.old.over }
     {
         if let BodyPart::Comment = self.part {

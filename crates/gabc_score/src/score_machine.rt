@@ -11,12 +11,14 @@ ghost use Rattle.gabc_places.specs.BoundedList.{Fits};
 ghost use Rattle.gabc_places.specs.StageLaw.{concat_of};
 ghost use Rattle.gabc_score.specs.ScoreEvents.{outputs_of, Stop, characters_in, syllables_in};
 ghost use Rattle.gabc_score.specs.ScoreStage.{GivesOutputs, GivesAt, GivesLast, GivesNothing};
-ghost use Rattle.gabc_score.specs.ScoreTells.{StandsAt, before_with, held_of, reading_of};
+ghost use Rattle.gabc_score.specs.ScoreTells.{StandsAt, before_with, held_of, openers_of, reading_of};
+ghost use Rattle.gabc_score.specs.machine.PartOpens.{OpensOn};
 ghost use Rattle.gabc_score.specs.Syllable.{unplaced_of};
 ghost use Rattle.gabc_score.specs.witness.ScoreStage.{left_of};
 ghost use Rattle.gabc_score.specs.machine.ScoreStage.{placed_behind, begun_score, body_left};
 ghost use Rattle.gabc_score.specs.machine.Fronts.{shown_before};
 ghost use Rattle.gabc_score.specs.machine.ScoreMachine.{shown, IsInBody, IsBeforeBody, IsScore, IsFreed, PassesQuietly};
+ghost use Rattle.gabc_score.specs.machine.ReadAlone.{Reads};
 ghost use Rattle.gabc_score.specs.machine.SlotPair.{is_made};
 
 use crate::before::Before;
@@ -113,13 +115,14 @@ impl ScoreMachine {
     }
 
     /// Reads a character of the body.
-    fn read(&mut self, x: Char, out: &mut Room<ScoreEvent>)
+    pub(crate) fn read(&mut self, x: Char, out: &mut Room<ScoreEvent>)
         requires part { self.old.part ≡ ScorePart.Body }
         requires rests { IsInBody self.old }
         requires fits { Fits out.old 16 }
         ensures step { GivesAt (shown self.old) (HeadEvent.Body x)
             (shown self.new) out.old out.new }
         ensures rests { IsScore self.new }
+        ensures reads { Reads self.old self.new x out.old out.new }
     {
         self.pair.free();
         let was = self.pair.first_kind();
@@ -250,6 +253,8 @@ impl ScoreMachine {
             (shown_before self.new (saturating_next_place x.place x.c)) }
         ensures stands { result ≡ true → StandsAt x.place self.old.body.part
             → StandsAt (saturating_next_place x.place x.c) self.new.body.part }
+        ensures opens { result ≡ true → StandsAt x.place self.old.body.part
+            → OpensOn x.place (openers_of self.old.body.part) (openers_of self.new.body.part) }
         ensures same { result ≡ false → shown self.new ≡ shown self.old }
         ensures next { self.new.next ≡ self.old.next }
         ensures freed { IsFreed self.new }

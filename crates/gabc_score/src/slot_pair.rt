@@ -35,10 +35,12 @@ pub(crate) struct SlotPair {
     /// The last whole syllable, if it is held.
     pub(crate) holder: Box<Slot>,
     pub(crate) held: bool,
+    /// Whether a syllable stands before the one that is read.
+    pub(crate) follows: bool,
     /// Whether the span of `<eu>` is open, and that of `<nlba>`.
     pub(crate) eu: bool,
     pub(crate) nlba: bool,
-    /// The bytes of the canonical headers and of all syllables that were made, or the last value.
+    /// The bytes of the canonical headers and of all syllables that stand before the one that is read, or the last value.
     pub(crate) total: usize,
     /// Whether one of them is longer than the limit.
     over: bool,
@@ -74,6 +76,7 @@ impl Model for SlotPair {
         eu = s.eu;
         nlba = s.nlba;
         made = held_in s.held s.holder.value ++ made_last s.used s.reader.value;
+        follows = s.follows;
         total = s.total;
         over = s.over;
         cut = s.cut;
@@ -109,6 +112,7 @@ impl SlotPair {
             used: SlotUse::Filling,
             holder: boxed(alloc, limit)?,
             held: false,
+            follows: false,
             eu: false,
             nlba: false,
             total: 0,
@@ -287,11 +291,12 @@ impl SlotPair {
         ensures used { self.new.used ≡ SlotUse.Made }
     {
         self.reader.close(self.eu, self.nlba);
-        let starts = !self.held || self.reader.syllable().text.word_start;
+        let starts = !self.follows || self.reader.syllable().text.word_start;
         let len = canonical_len(self.reader.syllable(), starts);
         let kept = self.reader.syllable().kept.len();
         self.over = self.over || kept > self.limit || len > self.limit;
         self.total = self.total.saturating_add(len);
+        self.follows = true;
         self.used = SlotUse::Made;
     }
 

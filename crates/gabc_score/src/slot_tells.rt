@@ -6,8 +6,9 @@ use crate::syllable::Syllable;
 use gabc_notes::ItemKind;
 
 impl SlotPair {
-    ghost use Rattle.std.specs.Prelude.{◌≡◌, ◌||◌, nat_lt, [], ◌∷◌, length, false, MatchOption};
+    ghost use Rattle.std.specs.Prelude.{◌≡◌, ◌||◌, not, nat_lt, [], ◌∷◌, length, false, MatchOption};
     ghost use Rattle.gabc_score.specs.Syllable.{placed_of, unplaced_of};
+    ghost use Rattle.gabc_score.specs.Body.{is_none};
     ghost use Rattle.gabc_score.specs.machine.Preceded.{spans_of};
     ghost use Rattle.gabc_score.specs.machine.SlotPair.{is_made};
 
@@ -55,6 +56,14 @@ impl SlotPair {
         ensures { result ≡ (self.now.gathered.eu || self.now.gathered.nlba) }
     {
         self.eu || self.nlba
+    }
+
+    /// Returns whether a syllable is held.
+    pub(crate) fn has_held(&self) -> bool
+        requires { is_made self.now.used ≡ false }
+        ensures { result ≡ not (is_none self.now.gathered.made) }
+    {
+        self.held
     }
 
     /// Returns the syllable that is held, if one is.

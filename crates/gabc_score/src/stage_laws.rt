@@ -1,12 +1,13 @@
 //! Laws of a stage over a score. Each function's contract is a law. Its body drives a stage, gives it one input, calls other laws, or does nothing.
 
-ghost use Rattle.std.specs.Prelude.{◌≡◌, ◌==◌, ◌+◌, ◌*◌, ◌<◌, ◌≤◌, ◌^◌, ℕ, List, [], ◌∷◌, None, true, false, length, map, is_some, encode_utf8_all, IfOk, OnErr, OnOk};
+ghost use Rattle.std.specs.Prelude.{◌≡◌, ◌==◌, ◌+◌, ◌*◌, ◌<◌, ◌≤◌, ◌^◌, ℕ, List, [], ◌∷◌, None, true, false, length, map, is_some, encode_utf8_all, IfOk, IfSome, OnErr, OnOk};
 ghost use Rattle.gabc_headers.specs.declared.head_event.HeadEvent.{HeadEvent};
 ghost use Rattle.gabc_headers.specs.declared.head_event.HeadEvent.TheVariants.{Stop};
 ghost use Rattle.gabc_places.specs.declared.code.Fault.{Fault};
 ghost use Rattle.gabc_places.specs.declared.limits.Limits.{Limits};
 ghost use Rattle.gabc_places.specs.BoundedList.{Fits, extended_by};
 ghost use Rattle.gabc_places.specs.declared.place.Place.{Place};
+ghost use Rattle.gabc_places.specs.Findings.{IsUpTo};
 ghost use Rattle.gabc_places.specs.Place.{placed_characters_from};
 ghost use Rattle.gabc_places.specs.StageLaw.{concat_of};
 ghost use Rattle.gabc_text.specs.Events.{CountsFit};
@@ -17,14 +18,18 @@ ghost use Rattle.gabc_score.specs.declared.ending.InputEnding.{InputEnding};
 ghost use Rattle.gabc_score.specs.Events.{texts_by_definition, text_from, events_from};
 ghost use Rattle.gabc_score.specs.ScoreEvents.{HasNoEnd, ScoreOutput, fault_in, findings_in, has_end, head_events, outputs_of_text, score_outputs, syllables_in};
 ghost use Rattle.gabc_score.specs.HeldAside.{HoldTheSame, GiveTheSame};
+ghost use Rattle.gabc_score.specs.ReadAgain.{StandsBefore};
 ghost use Rattle.gabc_score.specs.ScoreTells.{before_of, held_of, reading_of, openers_of, is_in_comment, is_in_front, StandsAt};
-ghost use Rattle.gabc_score.specs.ScoreStage.{AreCountsBelow, GivesAt, events_of};
+ghost use Rattle.gabc_score.specs.ScoreStage.{AreCountsBelow, GivesAt, IsWithinAnywhere, events_of};
+ghost use Rattle.gabc_score.specs.UnitRead.{HoldsSomeUnit};
+ghost use Rattle.gabc_score.specs.witness.ReadAgain.{CanBeReadAgain};
+ghost use Rattle.gabc_score.specs.ToldWithin.{IsPlace, IsToldWithin, TellsOfText};
 ghost use Rattle.gabc_score.specs.witness.ScoreStage.{ScoreStageState, left_of};
 
 use crate::score_event::ScoreEvent;
 use crate::score_stage::ScoreStage;
 use gabc_headers::HeadEvent;
-use gabc_places::{Limits, Room, Stage, drive};
+use gabc_places::{Limits, Place, Room, Stage, drive};
 use std::alloc::{AllocError, Global};
 
 /// A fresh stage over a score, driven over `inputs` of which no count reaches its last value, gives what the definition gives of them,
@@ -67,6 +72,25 @@ pub fn at_most_one_syllable_is_held(stage: &ScoreStage)
     ensures { length (syllables_in (concat_of (left_of stage.now []))) ≤ 1 }
 {
     stage.at_most_one_is_held();
+}
+
+/// In the body what a stage tells is within its limits, whatever it has read: the kept text of the syllable that is read, and of the one that is
+/// held the canonical text, also with what stands before it. Before the first syllable no span is open, and no comment is open inside an inner
+/// opener.
+pub fn what_is_told_is_within_the_limits(stage: &ScoreStage)
+    requires runs { is_some (before_of stage.now) ≡ true }
+    ensures { IsToldWithin stage.now }
+{
+    stage.tells_within();
+}
+
+/// What a stage tells is still that of a text where its next character is said to stand there, if that is no earlier.
+pub fn what_is_told_may_move(stage: &mut ScoreStage, at: Place)
+    requires later { IsUpTo stage.old.held.next at }
+    requires place { IsPlace at }
+    ensures { TellsOfText stage.old → TellsOfText stage.new }
+{
+    stage.go_to(at);
 }
 
 /// A stage gives the end only where the end is among its inputs, whatever it has read.
@@ -136,4 +160,53 @@ pub fn stages_that_tell_the_same_agree(one: &ScoreStage, other: &ScoreStage)
         (left_of one.now xs) (left_of other.now xs) }
 {
     one.agrees(other);
+}
+
+/// The whole syllable that a stage holds, whatever it has read, holds some unit: a text and its notes, with one snippet where there are no NABC
+/// lines.
+pub fn what_is_held_holds_a_unit(stage: &ScoreStage)
+    ensures { IfSome (held_of stage.now) (HoldsSomeUnit stage.now.body.nabc_lines) }
+{
+    stage.holds_a_unit();
+}
+
+/// The whole syllable that a stage holds, whatever it has read, is within the stage's limits, wherever it stands in its word.
+pub fn what_is_held_is_within_the_limits(stage: &ScoreStage)
+    ensures { IfSome (held_of stage.now) (IsWithinAnywhere stage.now.limits) }
+{
+    stage.holds_within_limits();
+}
+
+/// Of a stage in the body the kept text of the syllable that it reads can be read again.
+pub fn what_is_read_can_be_read_again(stage: &ScoreStage)
+    ensures { is_some (before_of stage.now) ≡ true → CanBeReadAgain stage.now }
+{
+    stage.can_be_read_again();
+}
+
+/// Reads again what `told` tells of the syllable that it reads, in a stage that stands before this syllable. Both stand behind the same and under the same
+/// limits, and the syllables that they hold say the same. From then on `again` gives what `told` gives, but for the syllable that is held.
+pub fn a_kept_text_gives_the_stage_back(told: &ScoreStage, again: &mut ScoreStage)
+    requires runs { is_some (before_of told.now) ≡ true }
+    requires front { is_in_front told.now.body.part ≡ false }
+    requires stands { StandsAt told.now.held.next told.now.body.part }
+    requires limits { told.now.limits ≡ again.old.limits }
+    requires before { before_of told.now ≡ before_of again.old }
+    requires held { HoldTheSame (told.now.before.syllables == 0) (held_of told.now) (held_of again.old) }
+    requires first { StandsBefore again.old }
+    ensures { (xs : List HeadEvent) → GiveTheSame (held_of told.now) (held_of again.new)
+        (left_of told.now xs) (left_of again.new xs) }
+{
+    told.can_be_read_again();
+    let Some(openers) = told.openers() else {
+        return;
+    };
+    let Some(in_comment) = told.in_comment() else {
+        return;
+    };
+    let Some(next) = told.next() else {
+        return;
+    };
+    again.read_again(told.reading(), openers, in_comment, next);
+    told.agrees(again);
 }

@@ -1,7 +1,7 @@
 //! Laws of a unit and its syllable, apart from the score in which they stand. Each function's contract is a law; its body calls the laws below that
 //! it stands on.
 
-ghost use Rattle.std.specs.Prelude.{◌≡◌, ◌<◌, ◌≤◌, ◌^◌, ◌++◌, ℕ, List, [], ◌∷◌, false, length, encode_utf8_all};
+ghost use Rattle.std.specs.Prelude.{◌≡◌, ◌<◌, ◌≤◌, ◌^◌, ◌++◌, ℕ, Bool, List, [], ◌∷◌, false, length, encode_utf8_all};
 ghost use Rattle.std.specs.List.{All};
 ghost use Rattle.gabc_places.specs.declared.place.Char.{Char};
 ghost use Rattle.gabc_places.specs.declared.place.Place.{Place};
@@ -10,11 +10,13 @@ ghost use Rattle.gabc_notes.specs.ReadAgain.{IsWarning};
 ghost use Rattle.gabc_score.specs.declared.events.BodyEvent.{BodyEvent};
 ghost use Rattle.gabc_score.specs.Body.{events_onto, findings_of};
 ghost use Rattle.gabc_score.specs.Events.{texts_by_definition, text_from};
+ghost use Rattle.gabc_score.specs.Canonical.{canonical};
 ghost use Rattle.gabc_score.specs.FoundInParts.{TextWarns, SnippetsWarn};
 ghost use Rattle.gabc_score.specs.Holding.{HoldsWithNotes, HasWholeSnippets};
 ghost use Rattle.gabc_score.specs.SpansPast.{eu_past, nlba_past};
 ghost use Rattle.gabc_score.specs.Syllable.{UnplacedSyllable, PlacedSyllable, since_close};
 ghost use Rattle.gabc_score.specs.SyllablesOfUnits.{ScoreUnit, AreSyllablesOf, characters_in, characters_from, score_unit, snippets_in};
+ghost use Rattle.gabc_score.specs.ToldWithin.{IsText};
 ghost use Rattle.gabc_score.specs.UnitRead.{HoldsSomeUnit, GivesOneSyllable, first_events};
 ghost use Rattle.gabc_score.specs.Units.{BodyUnit, LastUnit, Cuts, units_pieces, last_characters};
 
@@ -47,6 +49,14 @@ pub fn a_unit_gives_one_syllable()
 pub fn snippets_of_a_unit_stand_between_characters()
     ensures { (lines : ℕ) (m : UnplacedSyllable) → HoldsSomeUnit lines m → HasWholeSnippets m }
 {}
+
+/// The canonical text of a syllable that holds a unit is a text of an input, if its kept text is one: no CR and no U+FEFF comes of it.
+pub fn the_canonical_text_of_a_unit_is_a_text()
+    ensures { (lines : ℕ) (m : UnplacedSyllable) → HoldsSomeUnit lines m → IsText m.kept →
+        (starts : Bool) → IsText (canonical starts m) }
+{
+    gabc_text::laws::spans_stand_for_the_view();
+}
 
 /// Which spans are open behind a syllable of units follows from its text and from those that are open behind the one before it. Before the first none is.
 pub fn spans_follow_one_another()

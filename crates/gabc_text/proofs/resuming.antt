@@ -1,6 +1,7 @@
 pub mod EndsAndKept
 pub mod KeptCharactersSuffice
 pub mod KeptTextGivesStage
+pub mod KeptTextIsSaidInFull
 pub mod PlacesAside
 pub mod ReachedStages
 pub mod StagesKeep

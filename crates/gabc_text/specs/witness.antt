@@ -1,3 +1,4 @@
 pub mod EventsLeft
 pub mod FactsPast
 pub mod Keeps
+pub mod SaidInFull

@@ -25,6 +25,7 @@ ghost use Rattle.std.specs.Prelude.{◌*◌, ◌≤◌, ◌==◌, is_some};
 ghost use Rattle.gabc_places.specs.BoundedList.{Fits, extended_by};
 ghost use Rattle.gabc_text.specs.witness.Keeps.{Keeps, is_open_behind, begins_comment, ends_behind, kept_with};
 ghost use Rattle.gabc_text.specs.StageTells.{opener_of, is_in_comment, next_of, moved_to, told};
+ghost use Rattle.gabc_text.specs.witness.SaidInFull.{IsSaidInFull};
 
 use crate::stage::TextStage;
 pub use crate::tags::tag_names_are_these;
@@ -189,6 +190,13 @@ pub fn a_kept_character_is_kept_again()
         kept_with a c ≡ c ∷ [] }
     ensures comments { (k : List ℕ) → begins_comment k ≡ true → kept_with k 37 ≡ [] }
     ensures ends { (k : List ℕ) → ends_behind k ≡ true → kept_with k 40 ≡ [] }
+{}
+
+/// What was said of a text that a stage keeps, and that a `(` behind it ends, is all that is said of it in front of this `(`, whatever
+/// follows: its kept text is the text, and its view is the one that was built.
+pub fn a_kept_text_is_said_in_full()
+    ensures { (s : TextStage) (k rest : List ℕ) → Keeps s k → ends_behind k ≡ true →
+        CountsFit (record { line = 0; column = 0 }) (k ++ 40 ∷ rest) → IsSaidInFull k rest }
 {}
 
 /// A stage in a comment that has kept nothing passes over the comment. The LF behind it is the first character of a text that begins there.

@@ -1,5 +1,6 @@
 pub mod CanonicalTextIsPrintedSyllable
 pub mod CanonicalTextsArePrinted
+pub mod HeldIsReadAgain
 pub mod NoErrorIsFoundAgain
 pub mod NoLimitIsPassedAgain
 pub mod PartsEndAtTheirMarks

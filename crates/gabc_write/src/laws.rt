@@ -1,6 +1,6 @@
 //! Laws of the definitions alone. Each function's contract is a law; its body calls the laws below that it stands on.
 
-ghost use Rattle.std.specs.Prelude.{◌≡◌, ◌≤◌, ◌<◌, ◌+◌, ◌*◌, ◌^◌, ◌⊎◌, ◌++◌, ◌∷◌, ℕ, List, length, Some, Ok, encode_utf8_all, IsUtf8};
+ghost use Rattle.std.specs.Prelude.{◌≡◌, ◌≤◌, ◌<◌, ◌+◌, ◌*◌, ◌^◌, ◌⊎◌, ◌++◌, ◌∷◌, ℕ, List, length, Some, Ok, encode_utf8_all, IfSome, IsUtf8};
 ghost use Rattle.std.specs.List.{All};
 ghost use Rattle.gabc_places.specs.declared.place.Place.{Place};
 ghost use Rattle.gabc_places.specs.declared.place.Char.{Char};
@@ -17,6 +17,7 @@ ghost use Rattle.gabc_score.specs.Score.{score_of};
 ghost use Rattle.gabc_score.specs.Syllable.{UnplacedSyllable, PlacedSyllable};
 ghost use Rattle.gabc_score.specs.Canonical.{canonical, starts_word};
 ghost use Rattle.gabc_score.specs.declared.snippets.Snippet.{Snippet};
+ghost use Rattle.gabc_score.specs.ScoreTells.{held_of};
 ghost use Rattle.gabc_score.specs.Units.{BodyCutting, IsCut};
 ghost use Rattle.gabc_score.specs.UnitRead.{HoldsSomeUnit};
 ghost use Rattle.gabc_score.specs.SyllablesOfUnits.{ScoreUnit, HoldsUnit, AreSyllablesOf, score_units};
@@ -29,6 +30,8 @@ ghost use Rattle.gabc_write.specs.SyllableMeaning.{AreSame};
 ghost use Rattle.gabc_write.specs.SyllableRead.{IsReadFromItsText};
 ghost use Rattle.gabc_score.specs.Holding.{HasWholeSnippets, Holds, HoldsNoNotes};
 ghost use Rattle.gabc_write.specs.DumpOfSyllables.{lines_of_syllable, lines_of_syllables};
+
+use gabc_score::ScoreStage;
 
 /// A printed syllable is read again, whatever follows its `)`, as one unit with the same text, the same snippets and the same
 /// start of a word, and without an error. The canonical text of each syllable of a unit is such a printed syllable.
@@ -60,6 +63,17 @@ pub fn a_syllable_is_read_from_its_own_text()
     gabc_score::laws::a_syllable_holds_its_parts();
     gabc_score::unit_laws::a_unit_gives_one_syllable();
     syllable_again();
+}
+
+/// The whole syllable that a stage over a score holds, whatever the stage has read, is read again from its own canonical text, by itself, as one
+/// syllable that says the same, without an error.
+pub fn what_is_held_is_read_from_its_own_text(stage: &ScoreStage)
+    ensures { IfSome (held_of stage.now)
+        (IsReadFromItsText stage.now.body.nabc_lines stage.now.body.macros) }
+{
+    gabc_score::stage_laws::what_is_held_holds_a_unit(stage);
+    gabc_score::stage_laws::what_is_held_is_within_the_limits(stage);
+    a_syllable_is_read_from_its_own_text();
 }
 
 /// The canonical texts of the syllables of a score's units, with the LF that ends a file, are a body of printed syllables, the

@@ -1,5 +1,6 @@
 pub mod Buffers
 pub mod Compile
 pub mod Engine
+pub mod InMemory
 pub mod RunWriter
 pub mod ScoreWriter

@@ -18,6 +18,7 @@ mod canonical;
 mod dump;
 mod engine;
 mod findings;
+mod in_memory;
 pub mod laws;
 mod outcome;
 mod output;

@@ -1,3 +1,4 @@
+pub mod machine
 pub mod Answers
 pub mod Messages
 pub mod Request

@@ -1,10 +1,12 @@
-//! What is made of a score.
+//! What is made of a score in its whole form.
 
-ghost use Rattle.std.specs.Prelude.{◌≡◌, IfOk};
+ghost use Rattle.std.specs.Prelude.{◌≡◌, IfOk, OnErr};
 ghost use Rattle.gregorio.specs.Outcome.{output_of, lines_of};
-ghost use Rattle.gregorio_c.specs.Answers.{stdin_name, status_number, IsOutcomeOf};
+ghost use Rattle.gregorio_c.specs.Answers.{Answer, stdin_name, status_number, IsOutcomeOf};
 ghost use Rattle.gregorio_c.specs.Messages.{messages_by};
 
+use crate::buffers::put;
+use crate::lengths::Lengths;
 use crate::messages::{Message, messages_of_score};
 use crate::request::Request;
 use gabc_places::{Limits, Room};
@@ -17,10 +19,10 @@ const NAME: &str = "<stdin>";
 
 /// The output of a score, the lines of its messages, and the exit status.
 #[derive(Drop)]
-pub(crate) struct Compiled {
-    pub output: Room<u8>,
-    pub messages: Room<u8>,
-    pub status: u32,
+struct Compiled {
+    output: Room<u8>,
+    messages: Room<u8>,
+    status: u32,
 }
 
 /// The messages of a score, and the exit status.
@@ -31,7 +33,7 @@ pub(crate) struct Messages {
 }
 
 /// Returns a hasher that has taken the words of `key`. Without one it begins as each such hasher does.
-fn hasher_of(key: &[u64]) -> DefaultHasher {
+pub(crate) fn hasher_of(key: &[u64]) -> DefaultHasher {
     let mut hasher = DefaultHasher::new();
     for word in key {
         hasher.write_u64(*word);
@@ -59,11 +61,7 @@ fn status_of(outcome: &Outcome) -> u32
 }
 
 /// Returns what is written of `outcome` for this `request`. It fails only for want of memory.
-pub(crate) fn write_outcome(
-    alloc: Global,
-    request: Request,
-    outcome: &Outcome,
-) -> Result<Compiled, AllocError>
+fn write_outcome(alloc: Global, request: Request, outcome: &Outcome) -> Result<Compiled, AllocError>
     ensures output { IfOk result (λ made. made.output.items
         ≡ output_of request.format outcome.now) }
     ensures messages { IfOk result (λ made. made.messages.items
@@ -78,6 +76,34 @@ pub(crate) fn write_outcome(
         messages,
         status,
     })
+}
+
+/// Compiles `score` in its whole form: puts each of its two texts that fits into its buffer, and their lengths into `lengths`. Returns the exit
+/// status. It fails only for want of memory, and nothing is written then.
+pub(crate) fn compile_whole(
+    alloc: Global,
+    request: Request,
+    key: &[u64],
+    score: &[u8],
+    output: &mut [u8],
+    messages: &mut [u8],
+    lengths: &mut Lengths,
+) -> Result<u32, AllocError>
+    ensures answered { IfOk result (λ status.
+        Answer request score.now output.old output.new messages.old messages.new lengths.new status) }
+    ensures unchanged { OnErr result (output.new ≡ output.old) }
+    ensures messages_unchanged { OnErr result (messages.new ≡ messages.old) }
+    ensures lengths_unchanged { OnErr result (lengths.new ≡ lengths.old) }
+{
+    let outcome = outcome_of_whole(alloc, score, key)?;
+    let made = write_outcome(alloc, request, &outcome)?;
+    put(made.output.slice(), output);
+    put(made.messages.slice(), messages);
+    *lengths = Lengths {
+        output: made.output.slice().len(),
+        messages: made.messages.slice().len(),
+    };
+    Ok(made.status)
 }
 
 /// Returns the messages of `outcome`. It fails only for want of memory.

@@ -5,6 +5,7 @@
 #![tactic(auto)]
 
 mod buffers;
+mod by_engine;
 mod compiled;
 mod lengths;
 mod messages;
@@ -15,7 +16,8 @@ ghost use Rattle.gregorio_c.specs.Answers.{Answer, MessagesAnswer};
 ghost use Rattle.gregorio_c.specs.Request.{request_by, warnings_by};
 
 use buffers::put;
-use compiled::{messages_of, outcome_of_whole, write_outcome};
+use by_engine::compile_by_engine;
+use compiled::{compile_whole, messages_of, outcome_of_whole};
 pub use lengths::Lengths;
 pub use messages::Message;
 use request::{request_of, warnings_of};
@@ -26,6 +28,9 @@ const REFUSED: u32 = 3;
 
 /// What is answered where there is no memory.
 const NO_MEMORY: u32 = 5;
+
+/// From how many bytes on a score is run over by an engine. To make one takes longer than the whole form of a shorter score.
+const LONG: usize = 4096;
 
 /// Compiles `score`: puts its output into `output`, the lines of its messages into `messages`, and their exact lengths in bytes into
 /// `lengths`. A text that is longer than its buffer is left out whole, and the buffer stays as it was. `format` is 0 for canonical
@@ -54,19 +59,12 @@ pub extern "C" fn gregorio_compile(
     let Some(request) = request_of(format, flags) else {
         return REFUSED;
     };
-    let Ok(outcome) = outcome_of_whole(alloc, score, key) else {
-        return NO_MEMORY;
+    let compiled = if score.len() < LONG {
+        compile_whole(alloc, request, key, score, output, messages, lengths)
+    } else {
+        compile_by_engine(alloc, request, key, score, output, messages, lengths)
     };
-    let Ok(made) = write_outcome(alloc, request, &outcome) else {
-        return NO_MEMORY;
-    };
-    put(made.output.slice(), output);
-    put(made.messages.slice(), messages);
-    *lengths = Lengths {
-        output: made.output.slice().len(),
-        messages: made.messages.slice().len(),
-    };
-    made.status
+    compiled.unwrap_or(NO_MEMORY)
 }
 
 /// Reads `score`, puts its messages into `messages`, those of the findings and last that of a fatal fault, and their number into

@@ -1,4 +1,3 @@
-pub mod Front
 pub mod Lengths
 pub mod Reading
 pub mod Tests

@@ -3,10 +3,10 @@
 
 mod conditions;
 mod fields;
-mod front;
 mod reading;
+mod too_short;
 mod writing;
 
 pub use fields::{Phase, ScoreFields, StateFields};
-pub use front::TooShort;
 pub use reading::read;
+pub use too_short::TooShort;

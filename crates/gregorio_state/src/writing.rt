@@ -4,14 +4,14 @@ ghost use Rattle.std.specs.Prelude.{◌≡◌, ◌++◌, ◌+◌, ◌*◌, ◌<�
 ghost use Rattle.std.specs.Int.{w16, w32, w64};
 ghost use Rattle.gregorio_state.specs.Fields.{score_of, phase_of, fields_of};
 ghost use Rattle.gregorio_state.specs.Conditions.{AreStateFields};
-ghost use Rattle.gregorio_state.specs.machine.Front.{filled};
+ghost use Rattle.gabc_places.specs.Filling.{filled};
 ghost use Rattle.gregorio_state.specs.machine.Lengths.{AreShort};
 ghost use Rattle.gregorio_state.specs.StateBytes.{number_bytes, flag_bytes, text_bytes, place_bytes, opener_bytes, spans_number, format_number, clef_bytes, alter_number, score_bytes, phase_bytes, state_bytes};
 
 use crate::fields::{Phase, ScoreFields, StateFields};
-use crate::front::{Front, TooShort};
+use crate::too_short::TooShort;
 use gabc_neumes::{Alter, Clef};
-use gabc_places::{ByteCounter, Place, Put};
+use gabc_places::{BufferFiller, ByteCounter, Place, Put};
 use gregorio_jobs::Format;
 
 /// Puts `number` in 2 bytes, the highest first.
@@ -192,7 +192,7 @@ impl StateFields<'_> {
         requires { AreStateFields (fields_of self.now) }
         ensures { buf.new ≡ filled buf.old 0 (state_bytes (fields_of self.now)) }
     {
-        self.write(&mut Front { buf, len: 0 });
+        self.write(&mut BufferFiller { buf, len: 0 });
     }
 
     /// Writes the bytes of the state to the front of `buf`, and returns how many they are. The error is that of a `buf` that has fewer bytes than

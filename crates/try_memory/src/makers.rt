@@ -5,7 +5,7 @@ use crate::trial::{Trial, try_call};
 use gabc_headers::HeaderStage;
 use gabc_places::{Limits, Room, Stage, TrialSink};
 use gabc_score::stage_laws::a_fresh_stage_reads_texts;
-use gabc_score::{BodyStage, ScoreStage};
+use gabc_score::{Before, BodyStage, ScoreStage, Spans};
 use gabc_text::TextView;
 use gabc_write::Scratch;
 use std::alloc::{AllocError, Global};
@@ -22,6 +22,7 @@ enum Made {
     BodyStage,
     HeaderStage,
     HashedHeaderStage,
+    ResumedScoreStage,
     ScoreStage,
     LawfulScoreStage,
 }
@@ -36,6 +37,7 @@ fn named(name: &str) -> Option<Made> {
         "gabc_score::BodyStage::new" => Made::BodyStage,
         "gabc_headers::HeaderStage::with_limits" => Made::HeaderStage,
         "gabc_headers::HeaderStage::with_hasher" => Made::HashedHeaderStage,
+        "gabc_score::ScoreStage::resume" => Made::ResumedScoreStage,
         "gabc_score::ScoreStage::with_limits" => Made::ScoreStage,
         "gabc_score::stage_laws::a_fresh_stage_reads_texts" => Made::LawfulScoreStage,
         _ => return None,
@@ -91,6 +93,22 @@ fn score_stage(alloc: Global) -> Result<u64, AllocError> {
     Ok(most_of(ScoreStage::with_limits(alloc, Limits::DEFAULT)?))
 }
 
+/// Makes a stage over a score behind syllables, and returns a digest of how many events it gives at most.
+fn resumed_score_stage(alloc: Global) -> Result<u64, AllocError> {
+    let before = Before {
+        nabc_lines: 1,
+        macros: 0,
+        syllables: 2,
+        canonical: 40,
+        spans: Spans {
+            eu: false,
+            nlba: false,
+        },
+        sounded: true,
+    };
+    Ok(most_of(ScoreStage::resume(alloc, Limits::DEFAULT, before)?))
+}
+
 /// Makes a stage over a score by the law that returns one, and returns a digest of how many events it gives at most.
 fn lawful_score_stage(alloc: Global) -> Result<u64, AllocError> {
     Ok(most_of(a_fresh_stage_reads_texts(alloc, Limits::DEFAULT)?))
@@ -106,6 +124,7 @@ impl Trial for Made {
             Made::BodyStage => body_stage(alloc),
             Made::HeaderStage => header_stage(alloc),
             Made::HashedHeaderStage => hashed_header_stage(alloc),
+            Made::ResumedScoreStage => resumed_score_stage(alloc),
             Made::ScoreStage => score_stage(alloc),
             Made::LawfulScoreStage => lawful_score_stage(alloc),
         }

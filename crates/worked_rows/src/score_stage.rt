@@ -2,7 +2,7 @@
 
 use gabc_headers::HeadEvent;
 use gabc_places::{Char, Limits, Place, Room, Stage};
-use gabc_score::{ScoreEvent, ScoreStage};
+use gabc_score::{Openers, ScoreEvent, ScoreStage};
 use std::alloc::{AllocError, Global};
 
 /// Prints what was given with one input.
@@ -240,5 +240,55 @@ fn goes_to_another_place(rt: HostRuntime) -> Result<(), AllocError> {
     let at = Place { line: 7, column: 5 };
     stage.go_to(at);
     assert!(rt; stage.next() == Some(at) && !told.as_str().is_empty());
+    Ok(())
+}
+
+/// Whether a stage behind `before` that reads again what a stage tells behind `body` tells the same.
+fn reads_again(alloc: Global, before: &str, body: &str) -> Result<bool, AllocError> {
+    let mut one = ScoreStage::with_limits(alloc, Limits::DEFAULT)?;
+    let wanted = told_behind(alloc, &mut one, body)?;
+    let mut again = ScoreStage::with_limits(alloc, Limits::DEFAULT)?;
+    let first = told_behind(alloc, &mut again, before)?;
+    let Some(openers) = one.openers() else {
+        return Ok(false);
+    };
+    let Some(next) = one.next() else {
+        return Ok(false);
+    };
+    let in_comment = one.in_comment() == Some(true);
+    let read = again.read_again(one.reading(), openers, in_comment, next);
+    let line = told(alloc, &again)?;
+    Ok(read && !first.as_str().is_empty() && line.as_str() == wanted.as_str() && again.next() == Some(next))
+}
+
+/// Bodies that end in a second syllable.
+const READ_AGAIN: [&str; 7] = [
+    "\na(f)",
+    "\na(f)b%(",
+    "\na(f) <b>b<i",
+    "\na(f)(g[x",
+    "\na(f)<eu>b(g%h\n[oh:h",
+    "\na(f)b(Q|vi",
+    "\na(f)b(gh|ta|f%",
+];
+
+#[test]
+fn reads_a_kept_text_again(rt: HostRuntime) -> Result<(), AllocError> {
+    for body in READ_AGAIN {
+        assert!(rt; reads_again(rt.alloc(), "\na(f)", body)?);
+    }
+    Ok(())
+}
+
+#[test]
+fn reads_no_whole_syllable_again(rt: HostRuntime) -> Result<(), AllocError> {
+    let mut stage = ScoreStage::with_limits(rt.alloc(), Limits::DEFAULT)?;
+    let told = told_behind(rt.alloc(), &mut stage, "\na(f)")?;
+    let openers = Openers {
+        notes: None,
+        inner: None,
+    };
+    assert!(rt; !stage.read_again("b(g)c", openers, false, Place::START));
+    assert!(rt; stage.before().is_none() && !told.as_str().is_empty());
     Ok(())
 }

@@ -1,5 +1,5 @@
 -- What the gatherer holds is what the definitions say of what was emitted.
-use Rattle.std.proofs.Common.{◌≡◌, ℕ, ◌+◌, ◌-◌, ◌<◌, ◌^◌, ◌||◌, ◌&&◌, ◌==◌, min, nat_lt, Bool, true, false, cond, List, [], ◌∷◌, ◌++◌, length, take, drop, refl, sym, ap, ◌∙◌, arith, append_assoc, append-nil, length-append, encode_utf8, codes}
+use Rattle.std.proofs.Common.{◌≡◌, ℕ, ◌+◌, ◌-◌, ◌<◌, ◌^◌, ◌||◌, ◌&&◌, ◌==◌, min, not, nat_lt, Bool, true, false, cond, List, [], ◌∷◌, ◌++◌, length, take, drop, refl, sym, ap, ◌∙◌, arith, append_assoc, append-nil, length-append, encode_utf8, codes}
 use Rattle.std.specs.List.{list_any, sum_by, flat_map}
 use lib.Utf8.{encode}
 use Rattle.std.proofs.Math.Seq.{take-append-add, drop-append-add}
@@ -104,6 +104,7 @@ gathered limit head before =
       eu = is_eu before;
       nlba = is_nlba before;
       made = all_syllables before;
+      follows = not (is_none (all_syllables before));
       total = min (head + canonical_bytes (all_syllables before)) (2 ^ 64 - 1);
       over = over_by limit (all_syllables before);
       cut = cut_of before;
@@ -127,6 +128,14 @@ snippet_is ended part view snippets line count mark =
     ap (λ k. with k (length k)) (cut_append ended part count)
     ∙ ap (with (ended ++ prefix_of count part)) (length-append ended (prefix_of count part))
     ∙ marked_is ended (prefix_of count part) (encode_utf8 mark) view (snippets ++ snippet_at line (length ended) (prefix_of count part) ∷ [])
+
+twice : (b : Bool) → not (not b) ≡ b
+twice true = refl
+twice false = refl
+
+some_made : (ms : List UnplacedSyllable) (m : UnplacedSyllable) → true ≡ not (is_none (ms ++ m ∷ []))
+some_made [] m = refl
+some_made (n ∷ ms) m = refl
 
 module _ (limit head : ℕ) (before : List BodyEvent) (small : limit < 2 ^ 64 - 1) where
   abbrev now : Gathered
@@ -154,14 +163,19 @@ module _ (limit head : ℕ) (before : List BodyEvent) (small : limit < 2 ^ 64 - 
       ≡ record now {
         builder = record { kept = []; from = 0; view = view_of []; snippets = [] };
         made = all_syllables before ++ m ∷ [];
+        follows = not (is_none (all_syllables before ++ m ∷ []));
         total = min (head + canonical_bytes (all_syllables before ++ m ∷ [])) (2 ^ 64 - 1);
         over = over_by limit (all_syllables before ++ m ∷ []);
       }
   made_is m =
-      ap (λ n. record now { builder = record { kept = []; from = 0; view = view_of []; snippets = [] }; made = all_syllables before ++ m ∷ []; total = n; over = now.over || (is_longer limit m.kept || nat_lt limit (min (size_of limit (all_syllables before) m) (2 ^ 64 - 1))) })
+      ap (λ b. record (with_made now m) { total = min (now.total + min (length (canonical (b || m.text.word_start) m)) (2 ^ 64 - 1)) (2 ^ 64 - 1); over = now.over || (is_longer limit m.kept || nat_lt limit (min (length (canonical (b || m.text.word_start) m)) (2 ^ 64 - 1))) })
+      (twice (is_none (all_syllables before)))
+      ∙ ap (λ n. record now { builder = record { kept = []; from = 0; view = view_of []; snippets = [] }; made = all_syllables before ++ m ∷ []; follows = true; total = n; over = now.over || (is_longer limit m.kept || nat_lt limit (min (size_of limit (all_syllables before) m) (2 ^ 64 - 1))) })
       (total_push limit (all_syllables before) m head)
-      ∙ ap (λ b. record now { builder = record { kept = []; from = 0; view = view_of []; snippets = [] }; made = all_syllables before ++ m ∷ []; total = min (head + canonical_bytes (all_syllables before ++ m ∷ [])) (2 ^ 64 - 1); over = b })
+      ∙ ap (λ b. record now { builder = record { kept = []; from = 0; view = view_of []; snippets = [] }; made = all_syllables before ++ m ∷ []; follows = true; total = min (head + canonical_bytes (all_syllables before ++ m ∷ [])) (2 ^ 64 - 1); over = b })
       (over_push limit (all_syllables before) m small)
+      ∙ ap (λ b. record now { builder = record { kept = []; from = 0; view = view_of []; snippets = [] }; made = all_syllables before ++ m ∷ []; follows = b; total = min (head + canonical_bytes (all_syllables before ++ m ∷ [])) (2 ^ 64 - 1); over = over_by limit (all_syllables before ++ m ∷ []) })
+      (some_made (all_syllables before) m)
 
   pub gathered_step : (t : BodyEvent) → with_event now t ≡ gathered limit head (t ∷ before)
   unfolding encode

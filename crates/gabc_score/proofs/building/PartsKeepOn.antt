@@ -25,6 +25,9 @@ use Rattle.gabc_score.specs.declared.body_stage.BodyPart.{BodyPart}
 use Rattle.gabc_score.specs.declared.body_stage.BodyPart.TheVariants as part
 use Rattle.gabc_score.specs.Events.{is_close, is_next, next_line}
 use Rattle.gabc_score.specs.machine.PartKeeps.{KeptParts, in_text, in_notes, IsEnded, IsEndedOn, AreBehind, PartKeeps, PartKeepsOn}
+use Rattle.gabc_score.specs.machine.PartMakes.{PartMakes}
+use Rattle.gabc_score.specs.Holding.{IsSnippetOf}
+use Rattle.gabc_score.proofs.building.PartsMakeSyllables.{ClosesWhole, notes_make, notes_make_none}
 use Rattle.gabc_score.proofs.building.PartsOfKeptNotes.{InNotes, EndsSnippet, ClosesSnippet, notes_keep_on, notes_end_on, notes_close_on}
 use Rattle.gabc_score.proofs.building.PartsOfKeptText.{of_notes}
 use Rattle.gabc_score.proofs.texts_of_body.SeamsOfCharacters.{size_is_sum}
@@ -57,13 +60,13 @@ any_close (note.Ended (note_end.Cut p) n ∷ es) = any_close es
 
 -- none, or one by the mark at which the snippet ended
 module _ (es : List NoteEvent) (c n : ℕ) where
-  none_next : ends_of es ≡ [] → list_any is_next es ≡ false
+  pub none_next : ends_of es ≡ [] → list_any is_next es ≡ false
   none_next e = any_next es ∙ ap (list_any (λ (e : NoteEnd × ℕ). is_next_end e.0)) e
 
-  none_close : ends_of es ≡ [] → list_any is_close es ≡ false
+  pub none_close : ends_of es ≡ [] → list_any is_close es ≡ false
   none_close e = any_close es ∙ ap (list_any (λ (e : NoteEnd × ℕ). is_close_end e.0)) e
 
-  one_ends : ends_of es ≡ (end_by_mark c, n) ∷ [] → list_any is_next es ≡ false → list_any is_close es ≡ false → ⊥
+  pub one_ends : ends_of es ≡ (end_by_mark c, n) ∷ [] → list_any is_next es ≡ false → list_any is_close es ≡ false → ⊥
   one_ends e f g = by (c == 124) (sym (any_next es ∙ ap (list_any (λ (e : NoteEnd × ℕ). is_next_end e.0)) e) ∙ f) (sym (any_close es ∙ ap (list_any (λ (e : NoteEnd × ℕ). is_close_end e.0)) e) ∙ g)
     where
       by : (b : Bool) → list_any (λ (e : NoteEnd × ℕ). is_next_end e.0) ((if b then note_end.Next else note_end.Close, n) ∷ []) ≡ false
@@ -71,7 +74,7 @@ module _ (es : List NoteEvent) (c n : ℕ) where
       by true h k = true≢false h
       by false h k = true≢false k
 
-  next_ends : ends_of es ≡ (end_by_mark c, n) ∷ [] → list_any is_next es ≡ true → ends_of es ≡ (note_end.Next, n) ∷ []
+  pub next_ends : ends_of es ≡ (end_by_mark c, n) ∷ [] → list_any is_next es ≡ true → ends_of es ≡ (note_end.Next, n) ∷ []
   next_ends e f = e ∙ ap (λ (how : NoteEnd). (how, n) ∷ []) (by (c == 124) (sym (any_next es ∙ ap (list_any (λ (e : NoteEnd × ℕ). is_next_end e.0)) e) ∙ f))
     where
       by : (b : Bool) → list_any (λ (e : NoteEnd × ℕ). is_next_end e.0) ((if b then note_end.Next else note_end.Close, n) ∷ []) ≡ true → (if b then note_end.Next else note_end.Close) ≡ note_end.Next
@@ -85,7 +88,7 @@ module _ (es : List NoteEvent) (c n : ℕ) where
       by true g h = eqb-true c 124 g
       by false g h = absurd (true≢false (sym h))
 
-  not_next : ends_of es ≡ (end_by_mark c, n) ∷ [] → list_any is_close es ≡ true → (c == 124) ≡ false
+  pub not_next : ends_of es ≡ (end_by_mark c, n) ∷ [] → list_any is_close es ≡ true → (c == 124) ≡ false
   not_next e f = by (c == 124) refl (sym (any_close es ∙ ap (list_any (λ (e : NoteEnd × ℕ). is_close_end e.0)) e) ∙ f)
     where
       by : (b : Bool) → (c == 124) ≡ b → list_any (λ (e : NoteEnd × ℕ). is_close_end e.0) ((if b then note_end.Next else note_end.Close, n) ∷ []) ≡ true → b ≡ false
@@ -98,6 +101,10 @@ module _ (es : List NoteEvent) (c n : ℕ) where
       by : (b : Bool) → list_any (λ (e : NoteEnd × ℕ). is_close_end e.0) ((if b then note_end.Next else note_end.Close, n) ∷ []) ≡ true → (if b then note_end.Next else note_end.Close) ≡ note_end.Close
       by true h = absurd (true≢false (sym h))
       by false h = refl
+
+  -- what ends at a `|` does not close
+  next_alone : ends_of es ≡ (end_by_mark c, n) ∷ [] → list_any is_next es ≡ true → list_any is_close es ≡ false
+  next_alone e f = any_close es ∙ ap (list_any (λ (e : NoteEnd × ℕ). is_close_end e.0)) (next_ends e f)
 
 -- ---- a snippet of GABC
 
@@ -176,6 +183,28 @@ module _ (lines macros : ℕ) (opened : Place) (s t : NoteStage) (x : Char) (es 
           let e : notes.EndsBehind k x.c es = (ended k h (λ none. true≢false (sym close ∙ none_close es x.c 0 none))).1 in
           record { count = _; none_kept = e.none_kept; end = close_ends es x.c _ e.end close }
 
+  pub gabc_next_makes : list_any is_next es ≡ true → PartMakes lines macros (part.Notes opened s) (of_notes 0 opened es)
+  gabc_next_makes next spans g fits r =
+      let here = found r.parts r.keeps in
+      let over = ended here.k here.keeps (λ none. true≢false (sym next ∙ none_next es x.c 0 none)) in
+      notes_make_none lines macros 0 opened (part.Notes opened s) es (next_alone es x.c _ over.1.end next) spans g fits r
+
+  pub gabc_makes : list_any is_close es ≡ true → PartMakes lines macros (part.Notes opened s) (of_notes 0 opened es)
+  gabc_makes close = notes_make lines macros 0 opened (part.Notes opened s) (Keep s) found es closes
+    where
+      closes : (k : List ℕ) → Keep s k → ClosesWhole 0 es k
+      closes k h =
+          let e : notes.EndsBehind k x.c es = (ended k h (λ none. true≢false (sym close ∙ none_close es x.c 0 none))).1 in
+          let cut : Trims gabc k (trim gabc k) = trim_trims gabc refl k in
+          record {
+            s = trim gabc k;
+            rest = cut.rest;
+            cut = cut.cut;
+            is = cut.longest.has;
+            none_kept = e.none_kept;
+            end = close_ends es x.c _ e.end close ∙ ap (λ (n : ℕ). (note_end.Close, min n (2 ^ 64 - 1)) ∷ []) (size_is_sum (trim gabc k));
+          }
+
 -- ---- a snippet of NABC
 
 module _ (lines macros line : ℕ) (opened : Place) (s t : NabcStage) (x : Char) (es : List NoteEvent) (on : nabc.KeepsOn s x es t) where
@@ -246,3 +275,22 @@ module _ (lines macros line : ℕ) (opened : Place) (s t : NabcStage) (x : Char)
       closes k h =
           let e : nabc.EndsBehind k x.c es = ended_nabc k h (λ none. true≢false (sym close ∙ none_close es x.c 0 none)) in
           record { count = _; none_kept = e.none_kept; end = close_ends es x.c _ e.end close }
+
+  of_line : (l : ℕ) (k : List ℕ) → l ≢ 0 → IsSnippet nabc_table k → IsSnippetOf l k
+  of_line zero k some h = absurd (some refl)
+  of_line (suc l) k some h = h
+
+  pub nabc_next_makes : list_any is_next es ≡ true → PartMakes lines macros (part.Nabc line opened s) (of_notes line opened es)
+  nabc_next_makes next spans g fits r =
+      let here = found_nabc r.parts r.keeps in
+      let over = ended_nabc here.k here.keeps (λ none. true≢false (sym next ∙ none_next es x.c 0 none)) in
+      notes_make_none lines macros line opened (part.Nabc line opened s) es (next_alone es x.c _ over.end next) spans g fits r
+
+  pub nabc_makes : list_any is_close es ≡ true → PartMakes lines macros (part.Nabc line opened s) (of_notes line opened es)
+  nabc_makes close = notes_make lines macros line opened (part.Nabc line opened s) (KeepNabc s) found_nabc es closes
+    where
+      closes : (k : List ℕ) → KeepNabc s k → ClosesWhole line es k
+      closes k h =
+          let e : nabc.EndsBehind k x.c es = ended_nabc k h (λ none. true≢false (sym close ∙ none_close es x.c 0 none)) in
+          let cut : Trims nabc_table k (trim nabc_table k) = trim_trims nabc_table refl k in
+          record { s = trim nabc_table k; rest = cut.rest; cut = cut.cut; is = of_line line (trim nabc_table k) h.0 cut.longest.has; none_kept = e.none_kept; end = close_ends es x.c _ e.end close }

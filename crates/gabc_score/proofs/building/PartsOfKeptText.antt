@@ -48,7 +48,7 @@ piece_alike g h (text_part.Piece p) r = record { builder = rw r.builder refl; eu
 piece_alike g h (text_part.Centre s) r = record { builder = rw r.builder refl; eu = r.eu; nlba = r.nlba }
 piece_alike g h (text_part.Translation s) r = record { builder = rw r.builder refl; eu = r.eu; nlba = r.nlba }
 
-event_alike : (g h : Gathered) (e : BodyEvent) → ReadAlike g h → ReadAlike (with_event g e) (with_event h e)
+pub event_alike : (g h : Gathered) (e : BodyEvent) → ReadAlike g h → ReadAlike (with_event g e) (with_event h e)
 event_alike g h (event.Text (text_out.Kept c)) r = record { builder = rw r.builder refl; eu = r.eu; nlba = r.nlba }
 event_alike g h (event.Text (text_out.Part p)) r = piece_alike g h p r
 event_alike g h (event.Text (text_out.Found f)) r = r
@@ -68,7 +68,7 @@ all_alike (e ∷ es) g h r = all_alike es (with_event g e) (with_event h e) (eve
 -- ---- texts
 
 -- findings and places are not gathered
-said_gathered : (g : Gathered) (es : List TextEvent) → with_all g (text_events es) ≡ with_all g (text_events (text.said es))
+pub said_gathered : (g : Gathered) (es : List TextEvent) → with_all g (text_events es) ≡ with_all g (text_events (text.said es))
 said_gathered g [] = refl
 said_gathered g (text_out.Kept c ∷ es) = said_gathered (with_event g (event.Text (text_out.Kept c))) es
 said_gathered g (text_out.Part p ∷ es) = said_gathered (with_event g (event.Text (text_out.Part p))) es
@@ -96,7 +96,7 @@ grows_through g h i a b r s = record {
 kept_grows : (g : Gathered) (c : ℕ) → Grows g (record g { builder = record g.builder { kept = g.builder.kept ++ encode_utf8 c } }) (c ∷ [])
 kept_grows g c = record { kept = ap (λ t. g.builder.kept ++ t) (sym (append-nil (encode_utf8 c))); from = refl; made = refl; cut = refl }
 
-text_grows : (es : List TextEvent) (g : Gathered) → text.end_text es ≡ false → Grows g (with_all g (text_events es)) (kept_in es)
+pub text_grows : (es : List TextEvent) (g : Gathered) → text.end_text es ≡ false → Grows g (with_all g (text_events es)) (kept_in es)
 text_grows [] g e = unchanged g g refl refl refl refl
 text_grows (text_out.Kept c ∷ es) g e =
     grows_through g _ _ (c.c ∷ []) (kept_in es) (kept_grows g c.c) (text_grows es (with_event g (event.Text (text_out.Kept c))) e)
@@ -137,7 +137,7 @@ ended_said (text_out.Ended text_end.Notes ∷ es) = refl
 ended_said (text_out.Ended text_end.Finished ∷ es) = ended_said es
 ended_said (text_out.Ended (text_end.Cut p) ∷ es) = ended_said es
 
-ends_text : (es : List TextEvent) → list_any is_text_end es ≡ true → text.end_text es ≡ true
+pub ends_text : (es : List TextEvent) → list_any is_text_end es ≡ true → text.end_text es ≡ true
 ends_text [] e = absurd (true≢false (sym e))
 ends_text (text_out.Kept c ∷ es) e = ends_text es e
 ends_text (text_out.Part p ∷ es) e = ends_text es e
@@ -164,7 +164,7 @@ pub record IsMarked (g h : Gathered) (mark : ℕ) : Type 0 where
   pub made : h.made ≡ g.made
   pub cut : h.cut ≡ g.cut
 
-end_marks : (g : Gathered) (es : List TextEvent) → text.EndsInNotes es → IsMarked g (with_all g (text_events es)) 40
+pub end_marks : (g : Gathered) (es : List TextEvent) → text.EndsInNotes es → IsMarked g (with_all g (text_events es)) 40
 end_marks g es h =
     subst (λ (os : List TextEvent). IsMarked g (with_all g (text_events os)) 40) (sym h.is)
     (subst (λ (os : List BodyEvent). IsMarked g (with_all g os) 40) (sym (map-append (λ (o : TextEvent). event.Text o) (out_parts h.parts) (text_out.Ended text_end.Notes ∷ [])))

@@ -1,6 +1,8 @@
 -- The `(` of the notes, a character of a snippet and the `|` behind it are taken quietly.
-use Rattle.std.proofs.Common.{◌≡◌, ℕ, ◌+◌, ◌<◌, ◌≤◌, List, [], ◌∷◌, ◌++◌, length, encode_utf8, ◌&&◌, nat_lt, Bool, true, false, cond, Option, refl, sym, ap, subst, ◌∙◌, arith, length-append}
+use Rattle.std.proofs.Common.{◌≡◌, inl, ℕ, ◌+◌, ◌<◌, ◌≤◌, List, [], ◌∷◌, ◌++◌, length, encode_utf8, ◌&&◌, nat_lt, Bool, true, false, cond, Option, Some, refl, sym, ap, subst, ◌∙◌, arith, length-append}
+use Rattle.std.specs.List.{All}
 use Rattle.std.proofs.lemmas.Bool.Decides.{nat_tests}
+use Rattle.std.proofs.lemmas.List.Elements.{All-nil, All-cons}
 use Rattle.std.proofs.lemmas.Str.{length-encode, len_utf8_ascii}
 use Rattle.gabc_places.specs.declared.place.Char.{Char}
 use Rattle.gabc_places.specs.declared.place.Place.{Place}
@@ -25,16 +27,20 @@ use Rattle.gabc_score.specs.declared.slot_pair.SlotUse.TheVariants.{Filling}
 use Rattle.gabc_score.specs.witness.BodyStage.{BodyStageState, part_with, running_events_left, texts_by_stage}
 use Rattle.gabc_score.specs.Events.{InText, InNotes, events_from, next_line, snippet_from}
 use Rattle.gabc_score.specs.ScoreEvents.{findings_now}
+use Rattle.gabc_score.specs.ScoreTells.{openers_of}
 use Rattle.gabc_score.specs.Syllable.{prefix_of, text_at}
 use Rattle.gabc_score.specs.machine.BodyBuilder.{with_all}
 use Rattle.gabc_score.specs.machine.Gatherer.{Gathered, awaits, awaits_in, first_past, span_of}
 use Rattle.gabc_score.specs.machine.SyllableBuilder.{OpenSyllable, past_snippet}
 use Rattle.gabc_score.specs.machine.PartCounts.{CountsInNotes, CountsHold}
 use Rattle.gabc_score.specs.machine.PartKeeps.{BeginsSnippet, PartKeepsOn, PartStandsOn}
+use Rattle.gabc_score.specs.machine.PartOnly.{IsKeptOf, kept_codes}
+use Rattle.gabc_score.specs.machine.PartOpens.{PartOpensOn}
 use Rattle.gabc_score.specs.machine.Quiet.{TakesQuietly}
 use Rattle.gabc_score.specs.machine.SlotPair.{SlotPairState}
 use Rattle.gabc_score.proofs.building.FirstKinds.{empty_first}
 use Rattle.gabc_score.proofs.building.PartsOfKeptText.{text_ends_on}
+use Rattle.gabc_score.proofs.building.PartsOpenOn.{opened_at, notes_open}
 use Rattle.gabc_score.proofs.building.PartsStandOn.{snippet_stands}
 use Rattle.gabc_score.proofs.building.CountsOfParts.{text_ends, prefix_between, notes_go}
 
@@ -74,8 +80,8 @@ module _ (before after : BodyStageState) (x : Char) (pair next : SlotPairState) 
   pub events_quiet : (es : List BodyEvent) → ((xs : List Char) → running_events_left before (x ∷ xs) ≡ es ∷ running_events_left after xs)
       → OnlyKeeps pair.gathered (with_all pair.gathered es) es → next.gathered ≡ with_all pair.gathered es → CountsHold after.part (with_all pair.gathered es).builder
       → after.nabc_lines ≡ before.nabc_lines → after.macros ≡ before.macros → PartKeepsOn before.nabc_lines before.macros before.part after.part es → PartStandsOn before.nabc_lines before.macros x before.part after.part
-      → TakesQuietly before x pair after next
-  events_quiet es law keeps gathered counts lines macros parts stands = record {
+      → PartOpensOn before.nabc_lines before.macros x before.part after.part → All (IsKeptOf x.c) (kept_codes es) → TakesQuietly before x pair after next
+  events_quiet es law keeps gathered counts lines macros parts stands opens only = record {
     events = es;
     law = law;
     silent = keeps.silent;
@@ -94,6 +100,8 @@ module _ (before after : BodyStageState) (x : Char) (pair next : SlotPairState) 
     macros = macros;
     keeps = parts;
     stands = stands;
+    only = only;
+    opens = opens;
   }
 
 module _ (before after : BodyStageState) (x : Char) (pair next : SlotPairState) (held : next.held ≡ pair.held) (used : next.used ≡ Filling)
@@ -102,8 +110,8 @@ module _ (before after : BodyStageState) (x : Char) (pair next : SlotPairState) 
   pub end_quiet : (s t : TextStage) → before.part ≡ part.Text s → x.c ≡ 40 → Takes s 40 (text.Ended text_end.Notes ∷ []) t
       → ((xs : List Char) → part_with after.part xs ≡ snippet_from before.nabc_lines before.macros 0 x.place xs)
       → next.gathered ≡ with_all pair.gathered (event.Text (text.Ended text_end.Notes) ∷ []) → ((o : _) → CountsInNotes o → CountsHold after.part o)
-      → BeginsSnippet before.nabc_lines before.macros 0 after.part → CountsHold before.part pair.gathered.builder → TakesQuietly before x pair after next
-  end_quiet s t is mark takes snippet gathered into begins counts =
+      → BeginsSnippet before.nabc_lines before.macros 0 after.part → openers_of after.part ≡ opened_at (Some x.place) → CountsHold before.part pair.gathered.builder → TakesQuietly before x pair after next
+  end_quiet s t is mark takes snippet gathered into begins opens counts =
       events_quiet before after x pair next held used (event.Text (text.Ended text_end.Notes) ∷ [])
       (λ xs. rw (is, lines, macros) (ap (λ lists. events_from texts_by_stage before.nabc_lines before.macros (InText lists) (x ∷ xs))
       (ap (λ c. events_left s (c ∷ codes_of xs)) mark ∙ takes.law (codes_of xs))
@@ -114,6 +122,7 @@ module _ (before after : BodyStageState) (x : Char) (pair next : SlotPairState) 
       (subst (λ b. PartKeepsOn before.nabc_lines before.macros b after.part (event.Text (text.Ended text_end.Notes) ∷ [])) (sym is)
       (text_ends_on before.nabc_lines before.macros s t 40 (text.Ended text_end.Notes ∷ []) after.part takes.keeps refl (λ u b. begins u [] b)))
       (λ p kept at. snippet_stands before.nabc_lines before.macros 0 x.place _ after.part snippet)
+      (notes_open before.nabc_lines before.macros x before.part after.part opens) (All-nil (IsKeptOf x.c))
 
   -- a character of a snippet
   pub note_quiet : (line : ℕ) (opened : Place) (from to : List Char → List (List NoteEvent))
@@ -121,13 +130,13 @@ module _ (before after : BodyStageState) (x : Char) (pair next : SlotPairState) 
       → ((xs : List Char) → from (x ∷ xs) ≡ (note.Kept x ∷ []) ∷ to xs)
       → next.gathered ≡ with_all pair.gathered (event.Notes line (note.Kept x) ∷ []) → ((o : _) → CountsHold before.part o → CountsInNotes o) → ((o : _) → CountsInNotes o → CountsHold after.part o)
       → PartKeepsOn before.nabc_lines before.macros before.part after.part (event.Notes line (note.Kept x) ∷ []) → PartStandsOn before.nabc_lines before.macros x before.part after.part
-      → CountsHold before.part pair.gathered.builder → TakesQuietly before x pair after next
-  note_quiet line opened from to is now law gathered out into parts stands counts =
+      → PartOpensOn before.nabc_lines before.macros x before.part after.part → CountsHold before.part pair.gathered.builder → TakesQuietly before x pair after next
+  note_quiet line opened from to is now law gathered out into parts stands opens counts =
       events_quiet before after x pair next held used (event.Notes line (note.Kept x) ∷ [])
       (λ xs. rw (is (x ∷ xs), now xs, lines, macros)
       (ap (λ lists. events_from texts_by_stage before.nabc_lines before.macros (InNotes line opened lists) (x ∷ xs)) (law xs)))
       (record { silent = refl; made = refl; over = refl; total = refl; limit = refl; cut = refl; first_kind = refl; kept = one_byte pair.gathered.builder.kept x.c ascii }) gathered
-      ((notes_go line opened before.part (note.Kept x ∷ []) (omega arith) out after.part into).counts pair.gathered counts) lines macros parts stands
+      ((notes_go line opened before.part (note.Kept x ∷ []) (omega arith) out after.part into).counts pair.gathered counts) lines macros parts stands opens (All-cons (IsKeptOf x.c) x.c [] (inl refl) (All-nil (IsKeptOf x.c)))
 
   -- the `|` that ends a snippet, which brings no first note or clef
   pub next_quiet : (line : ℕ) (opened : Place) (count : ℕ) (from to : List Char → List (List NoteEvent))
@@ -135,8 +144,8 @@ module _ (before after : BodyStageState) (x : Char) (pair next : SlotPairState) 
       → ((xs : List Char) → part_with after.part xs ≡ snippet_from before.nabc_lines before.macros (next_line before.nabc_lines line) opened xs)
       → next.gathered ≡ with_all pair.gathered (event.Notes line (note.Ended note_end.Next count) ∷ [])
       → ((o : _) → CountsHold before.part o → CountsInNotes o) → ((o : _) → CountsInNotes o → CountsHold after.part o)
-      → PartKeepsOn before.nabc_lines before.macros before.part after.part (event.Notes line (note.Ended note_end.Next count) ∷ []) → CountsHold before.part pair.gathered.builder → awaits_in pair.gathered.first_kind line pair.gathered.builder ≡ false → TakesQuietly before x pair after next
-  next_quiet line opened count from to is mark takes snippet gathered out into parts counts none =
+      → PartKeepsOn before.nabc_lines before.macros before.part after.part (event.Notes line (note.Ended note_end.Next count) ∷ []) → PartOpensOn before.nabc_lines before.macros x before.part after.part → CountsHold before.part pair.gathered.builder → awaits_in pair.gathered.first_kind line pair.gathered.builder ≡ false → TakesQuietly before x pair after next
+  next_quiet line opened count from to is mark takes snippet gathered out into parts opens counts none =
       let open_now = pair.gathered.builder in
       let cut : length (prefix_of (open_now.from + count) open_now.kept) ≤ length open_now.kept = (prefix_between open_now.from count open_now.kept (out open_now counts).1).1 in
       let marked = one_byte (prefix_of (open_now.from + count) open_now.kept) 124 (omega arith) in
@@ -146,4 +155,4 @@ module _ (before after : BodyStageState) (x : Char) (pair next : SlotPairState) 
       ∙ ap (λ p. (event.Notes line (note.Ended note_end.Next count) ∷ []) ∷ events_from texts_by_stage before.nabc_lines before.macros p xs) (sym (snippet xs))))
       (record { silent = refl; made = refl; over = refl; total = refl; limit = refl; cut = refl; first_kind = quiet_first pair.gathered.first_kind line open_now (span_of open_now line count) (past_snippet open_now line count 124).kept refl cut none; kept = omega (arith, cut, marked) }) gathered
       ((notes_go line opened before.part (note.Ended note_end.Next count ∷ []) (omega arith) out after.part into).counts pair.gathered counts) lines macros parts
-      (λ p kept at. snippet_stands before.nabc_lines before.macros (next_line before.nabc_lines line) opened _ after.part snippet)
+      (λ p kept at. snippet_stands before.nabc_lines before.macros (next_line before.nabc_lines line) opened _ after.part snippet) opens (All-nil (IsKeptOf x.c))

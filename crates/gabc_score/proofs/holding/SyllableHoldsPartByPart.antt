@@ -85,7 +85,7 @@ opening : (t : List ℕ) → encodes (kept t) ++ codes "(" ≡ encodes (kept t +
 unfolding encode
 opening t = sym (encodes-append (kept t) (codes "("))
 
-first_turn : (lines : ℕ) → 0 ≡ 0 % (lines + 1)
+pub first_turn : (lines : ℕ) → 0 ≡ 0 % (lines + 1)
 first_turn lines = let some : 0 < lines + 1 = omega arith in sym (mod-eq_of_lt some)
 
 pub text_opens : (input : List ℕ) (lines : ℕ) (front : List Char) (end : Char) (rest : List Char) → (let t = codes_of (front ++ end ∷ rest) in (emitted : List BodyEvent) → IsBack input t → end.c ≡ 40

@@ -19,36 +19,39 @@ use Rattle.gabc_score.specs.machine.PartKeeps.{KeptParts, in_text, in_notes, bar
 
 -- ---- two texts with a mark in them
 
-abbrev Longer : ℕ → List ℕ → List ℕ → Type 0
+abbrev pub Longer : ℕ → List ℕ → List ℕ → Type 0
 Longer mark s t = (v : List ℕ) × (t ≡ s ++ mark ∷ v)
 
-head_same : (a b : ℕ) (s t : List ℕ) → a ∷ s ≡ b ∷ t → a ≡ b
+pub head_same : (a b : ℕ) (s t : List ℕ) → a ∷ s ≡ b ∷ t → a ≡ b
 head_same a b s t e = cc
 
-tail_same : (a b : ℕ) (s t : List ℕ) → a ∷ s ≡ b ∷ t → s ≡ t
+pub tail_same : (a b : ℕ) (s t : List ℕ) → a ∷ s ≡ b ∷ t → s ≡ t
 tail_same a b s t e = cc
 
--- one of them is the other, or goes on behind it with the mark
-split_at : (mark : ℕ) (s t r u : List ℕ) → s ++ mark ∷ r ≡ t ++ mark ∷ u → ((s ≡ t) × (r ≡ u)) ⊎ (Longer mark s t ⊎ Longer mark t s)
-split_at mark [] [] r u e = inl (refl, tail_same mark mark r u e)
-split_at mark [] (y ∷ t) r u e = inr (inl (t, ap (λ (c : ℕ). c ∷ t) (sym (head_same mark y r (t ++ mark ∷ u) e))))
-split_at mark (x ∷ s) [] r u e = inr (inr (s, ap (λ (c : ℕ). c ∷ s) (head_same x mark (s ++ mark ∷ r) u e)))
-split_at mark (x ∷ s) (y ∷ t) r u e = by (split_at mark s t r u (tail_same x y (s ++ mark ∷ r) (t ++ mark ∷ u) e))
+-- one of them is the other, or goes on behind it with its mark
+abbrev pub Split : ℕ → ℕ → List ℕ → List ℕ → List ℕ → List ℕ → Type 0
+Split a b s t r u = ((s ≡ t) × (a ≡ b) × (r ≡ u)) ⊎ (Longer a s t ⊎ Longer b t s)
+
+pub split_at : (a b : ℕ) (s t r u : List ℕ) → s ++ a ∷ r ≡ t ++ b ∷ u → Split a b s t r u
+split_at a b [] [] r u e = inl (refl, head_same a b r u e, tail_same a b r u e)
+split_at a b [] (y ∷ t) r u e = inr (inl (t, ap (λ (c : ℕ). c ∷ t) (sym (head_same a y r (t ++ b ∷ u) e))))
+split_at a b (x ∷ s) [] r u e = inr (inr (s, ap (λ (c : ℕ). c ∷ s) (head_same x b (s ++ a ∷ r) u e)))
+split_at a b (x ∷ s) (y ∷ t) r u e = by (split_at a b s t r u (tail_same x y (s ++ a ∷ r) (t ++ b ∷ u) e))
   where
     first : x ≡ y
-    first = head_same x y (s ++ mark ∷ r) (t ++ mark ∷ u) e
+    first = head_same x y (s ++ a ∷ r) (t ++ b ∷ u) e
 
-    by : ((s ≡ t) × (r ≡ u)) ⊎ (Longer mark s t ⊎ Longer mark t s) → ((x ∷ s ≡ y ∷ t) × (r ≡ u)) ⊎ (Longer mark (x ∷ s) (y ∷ t) ⊎ Longer mark (y ∷ t) (x ∷ s))
-    by (inl h) = inl (ap (λ (c : ℕ). c ∷ s) first ∙ ap (λ (v : List ℕ). y ∷ v) h.0, h.1)
-    by (inr (inl h)) = inr (inl (h.0, ap (λ (v : List ℕ). y ∷ v) h.1 ∙ ap (λ (c : ℕ). c ∷ (s ++ mark ∷ h.0)) (sym first)))
-    by (inr (inr h)) = inr (inr (h.0, ap (λ (v : List ℕ). x ∷ v) h.1 ∙ ap (λ (c : ℕ). c ∷ (t ++ mark ∷ h.0)) first))
+    by : Split a b s t r u → Split a b (x ∷ s) (y ∷ t) r u
+    by (inl h) = inl (ap (λ (c : ℕ). c ∷ s) first ∙ ap (λ (v : List ℕ). y ∷ v) h.0, h.1, h.2)
+    by (inr (inl h)) = inr (inl (h.0, ap (λ (v : List ℕ). y ∷ v) h.1 ∙ ap (λ (c : ℕ). c ∷ (s ++ a ∷ h.0)) (sym first)))
+    by (inr (inr h)) = inr (inr (h.0, ap (λ (v : List ℕ). x ∷ v) h.1 ∙ ap (λ (c : ℕ). c ∷ (t ++ b ∷ h.0)) first))
 
-nothing_marked : (s r : List ℕ) (mark : ℕ) → [] ≡ s ++ mark ∷ r → ⊥
+pub nothing_marked : (s r : List ℕ) (mark : ℕ) → [] ≡ s ++ mark ∷ r → ⊥
 nothing_marked [] r mark e = cc
 nothing_marked (x ∷ s) r mark e = cc
 
 -- a snippet of GABC lies outside raw
-outside : (t : List ℕ) → IsSnippet gabc t → in_raw t ≡ false
+pub outside : (t : List ℕ) → IsSnippet gabc t → in_raw t ≡ false
 outside t h = ap (λ (b : Bool). is_snippet gabc (t ++ codes "]") && not b) ((snippet_decides gabc refl t).1 h) ∙ and_false (is_snippet gabc (t ++ codes "]"))
   where
     and_false : (b : Bool) → (b && false) ≡ false
@@ -66,7 +69,7 @@ module _ (text_kept : (s : TextStage) (a b : List ℕ) (c : ℕ) → text.Keeps 
   IsKeptOn (suc line) k = (s : NabcStage) × nabc.Keeps s k
 
   -- no stage keeps a `|` behind a snippet that ends there
-  no_bar : (line : ℕ) (s v : List ℕ) → IsEndedOn lines macros line s → IsKeptOn line (s ++ 124 ∷ v) → ⊥
+  pub no_bar : (line : ℕ) (s v : List ℕ) → IsEndedOn lines macros line s → IsKeptOn line (s ++ 124 ∷ v) → ⊥
   no_bar zero s v ended kept = true≢false (sym (ends (nat_lt 0 lines) ended.0 (in_raw s) (outside s ended.1.whole)) ∙ (gabc_kept (nat_lt 0 lines) macros kept.0 s v 124 kept.1).goes_on)
     where
       ends : (split : Bool) → split ≡ true → (r : Bool) → r ≡ false
@@ -76,18 +79,18 @@ module _ (text_kept : (s : TextStage) (a b : List ℕ) (c : ℕ) → text.Keeps 
       ends true e true f = absurd (true≢false f)
   no_bar (suc line) s v ended kept = true≢false (kept.1.whole s v 124 refl).goes_on
 
-  part_of_whole : (line : ℕ) (s : List ℕ) → IsEndedOn lines macros line s → (rest : List ℕ) × IsKeptOn line (s ++ rest)
+  pub part_of_whole : (line : ℕ) (s : List ℕ) → IsEndedOn lines macros line s → (rest : List ℕ) × IsKeptOn line (s ++ rest)
   part_of_whole zero s e = (e.1.rest, (e.1.stage, e.1.keeps))
   part_of_whole (suc line) s e = (e.rest, (e.stage, e.keeps))
 
   -- nor does one that ends there go on behind it
-  no_longer : (line : ℕ) (s t : List ℕ) → IsEndedOn lines macros line s → IsEndedOn lines macros line t → Longer 124 s t → ⊥
+  pub no_longer : (line : ℕ) (s t : List ℕ) → IsEndedOn lines macros line s → IsEndedOn lines macros line t → Longer 124 s t → ⊥
   no_longer line s t ended other longer =
       let whole = part_of_whole line t other in
       no_bar line s (longer.0 ++ whole.0) ended
       (subst (IsKeptOn line) (ap (λ (u : List ℕ). u ++ whole.0) longer.1 ∙ append_assoc s (124 ∷ longer.0) whole.0) whole.1)
 
-  bar_first : (s : List ℕ) (earlier : List (List ℕ)) (k : List ℕ) → barred (s ∷ earlier) ++ k ≡ s ++ 124 ∷ (barred earlier ++ k)
+  pub bar_first : (s : List ℕ) (earlier : List (List ℕ)) (k : List ℕ) → barred (s ∷ earlier) ++ k ≡ s ++ 124 ∷ (barred earlier ++ k)
   bar_first s earlier k = append_assoc (s ++ 124 ∷ []) (barred earlier) k ∙ append_assoc s (124 ∷ []) (barred earlier ++ k)
 
   one_notes : (line : ℕ) (e f : List (List ℕ)) (k l : List ℕ) → AreEnded lines macros line e → AreEnded lines macros line f → IsKeptOn (line_behind lines line e) k → IsKeptOn (line_behind lines line f) l
@@ -96,23 +99,23 @@ module _ (text_kept : (s : TextStage) (a b : List ℕ) (c : ℕ) → text.Keeps 
   one_notes line [] (t ∷ f) k l he hf hk hl same = absurd (no_bar line t (barred f ++ l) hf.0 (subst (IsKeptOn line) (same ∙ bar_first t f l) hk))
   one_notes line (s ∷ e) [] k l he hf hk hl same = absurd (no_bar line s (barred e ++ k) he.0 (subst (IsKeptOn line) (sym same ∙ bar_first s e k) hl))
   one_notes line (s ∷ e) (t ∷ f) k l he hf hk hl same =
-      by (split_at 124 s t (barred e ++ k) (barred f ++ l) (sym (bar_first s e k) ∙ same ∙ bar_first t f l)) (λ g. one_notes (next_line lines line) e f k l he.1 hf.1 hk hl g)
+      by (split_at 124 124 s t (barred e ++ k) (barred f ++ l) (sym (bar_first s e k) ∙ same ∙ bar_first t f l)) (λ g. one_notes (next_line lines line) e f k l he.1 hf.1 hk hl g)
     where
-      by : ((s ≡ t) × (barred e ++ k ≡ barred f ++ l)) ⊎ (Longer 124 s t ⊎ Longer 124 t s) → (barred e ++ k ≡ barred f ++ l → (e ≡ f) × (k ≡ l)) → (s ∷ e ≡ t ∷ f) × (k ≡ l)
-      by (inl h) later = (ap (λ (u : List ℕ). u ∷ e) h.0 ∙ ap (λ (es : List (List ℕ)). t ∷ es) (later h.1).0, (later h.1).1)
+      by : Split 124 124 s t (barred e ++ k) (barred f ++ l) → (barred e ++ k ≡ barred f ++ l → (e ≡ f) × (k ≡ l)) → (s ∷ e ≡ t ∷ f) × (k ≡ l)
+      by (inl h) later = (ap (λ (u : List ℕ). u ∷ e) h.0 ∙ ap (λ (es : List (List ℕ)). t ∷ es) (later h.2).0, (later h.2).1)
       by (inr (inl h)) later = absurd (no_longer line s t he.0 hf.0 h)
       by (inr (inr h)) later = absurd (no_longer line t s hf.0 he.0 h)
 
   -- no stage keeps a `(` behind a text that ends there
-  no_notes : (s : TextStage) (t v : List ℕ) → text.ends_behind t ≡ true → text.Keeps s (t ++ 40 ∷ v) → ⊥
+  pub no_notes : (s : TextStage) (t v : List ℕ) → text.ends_behind t ≡ true → text.Keeps s (t ++ 40 ∷ v) → ⊥
   no_notes s t v ends keeps = absurd (let e : 40 ∷ [] ≡ [] = sym (text_kept s t v 40 keeps) ∙ text_ends t ends in cc)
 
   -- parts that stand
-  abbrev AreKept : KeptParts → Type 0
+  abbrev pub AreKept : KeptParts → Type 0
   AreKept (in_text k) = (k ≡ []) ⊎ ((s : TextStage) × text.Keeps s k)
   AreKept (in_notes t earlier k) = IsEndedText t × (AreEnded lines macros 0 earlier × IsKeptOn (line_behind lines 0 earlier) k)
 
-  kept_by : (b : BodyPart) (p : KeptParts) → PartKeeps lines macros b p → AreKept p
+  pub kept_by : (b : BodyPart) (p : KeptParts) → PartKeeps lines macros b p → AreKept p
   kept_by part.Comment (in_text k) h = inl (text_is k h)
     where
       text_is : (k : List ℕ) → in_text k ≡ in_text [] → k ≡ []
@@ -129,7 +132,7 @@ module _ (text_kept : (s : TextStage) (a b : List ℕ) (c : ℕ) → text.Keeps 
       on zero some keeps = absurd (some refl)
       on (suc l) some keeps = (s, keeps)
 
-  in_text_alone : (k t : List ℕ) (earlier : List (List ℕ)) (l : List ℕ) → AreKept (in_text k) → IsEndedText t → k ≡ (t ++ 40 ∷ barred earlier) ++ l → ⊥
+  pub in_text_alone : (k t : List ℕ) (earlier : List (List ℕ)) (l : List ℕ) → AreKept (in_text k) → IsEndedText t → k ≡ (t ++ 40 ∷ barred earlier) ++ l → ⊥
   in_text_alone k t earlier l (inl none) ended same = nothing_marked t (barred earlier ++ l) 40 (sym none ∙ same ∙ append_assoc t (40 ∷ barred earlier) l)
   in_text_alone k t earlier l (inr kept) ended same = no_notes kept.0 t (barred earlier ++ l) ended.ends (subst (text.Keeps kept.0) (same ∙ append_assoc t (40 ∷ barred earlier) l) kept.1)
 
@@ -138,11 +141,11 @@ module _ (text_kept : (s : TextStage) (a b : List ℕ) (c : ℕ) → text.Keeps 
   parts_one (in_text k) (in_notes t earlier l) hp hq same = absurd (in_text_alone k t earlier l hp hq.0 same)
   parts_one (in_notes t earlier k) (in_text l) hp hq same = absurd (in_text_alone l t earlier k hq hp.0 (sym same))
   parts_one (in_notes t e k) (in_notes u f l) hp hq same =
-      by (split_at 40 t u (barred e ++ k) (barred f ++ l) (sym (append_assoc t (40 ∷ barred e) k) ∙ same ∙ append_assoc u (40 ∷ barred f) l))
+      by (split_at 40 40 t u (barred e ++ k) (barred f ++ l) (sym (append_assoc t (40 ∷ barred e) k) ∙ same ∙ append_assoc u (40 ∷ barred f) l))
     where
-      by : ((t ≡ u) × (barred e ++ k ≡ barred f ++ l)) ⊎ (Longer 40 t u ⊎ Longer 40 u t) → in_notes t e k ≡ in_notes u f l
+      by : Split 40 40 t u (barred e ++ k) (barred f ++ l) → in_notes t e k ≡ in_notes u f l
       by (inl h) =
-          let n = one_notes 0 e f k l hp.1.0 hq.1.0 hp.1.1 hq.1.1 h.1 in
+          let n = one_notes 0 e f k l hp.1.0 hq.1.0 hp.1.1 hq.1.1 h.2 in
           ap (λ (v : List ℕ). in_notes v e k) h.0 ∙ ap (λ (v : List (List ℕ)). in_notes u v k) n.0 ∙ ap (in_notes u f) n.1
       by (inr (inl h)) = absurd (no_notes hq.0.stage t h.0 hp.0.ends (subst (text.Keeps hq.0.stage) h.1 hq.0.keeps))
       by (inr (inr h)) = absurd (no_notes hp.0.stage u h.0 hq.0.ends (subst (text.Keeps hp.0.stage) h.1 hp.0.keeps))

@@ -19,7 +19,7 @@ use Rattle.gabc_score.specs.declared.events.BodyEvent.{BodyEvent}
 use Rattle.gabc_score.specs.declared.score_machine.ScoreMachine.{ScoreMachine}
 use Rattle.gabc_score.specs.declared.score_machine.ScorePart.{ScorePart}
 use Rattle.gabc_score.specs.declared.score_machine.ScorePart.TheVariants as score_part
-use Rattle.gabc_score.specs.Before.{most, sounds_in, with_each}
+use Rattle.gabc_score.specs.Before.{most, sounds_in, with_each, preceding_of}
 use Rattle.gabc_score.specs.Canonical.{canonical}
 use Rattle.gabc_score.specs.HeldAside.{MayStandFor, IsSameOutput, AreSameOutputs, AreSameLists, HoldTheSame, GiveTheSame}
 use Rattle.gabc_score.specs.ScoreEvents.{ScoreOutput, Found, Stop, Syllable, End, characters_in}
@@ -35,6 +35,7 @@ use Rattle.gabc_score.specs.machine.SyllableBuilder.{OpenSyllable}
 use Rattle.gabc_score.specs.witness.BodyStage.{BodyStageState, running_events_left}
 use Rattle.gabc_score.proofs.resuming.PartsAreOne.{parts_are_one}
 use Rattle.gabc_score.proofs.resuming.SameButHeld.{left_same}
+use Rattle.gabc_score.proofs.score_events.WhatPrecedes.{not_some}
 
 -- ---- the same outputs, where the one syllable is the other
 
@@ -80,25 +81,23 @@ come_alike (Some k) (Some l) e = inr (refl, refl)
 come_alike None (Some l) e = absurd (cc)
 come_alike (Some k) None e = absurd (cc)
 
-abbrev gathered_by : ℕ → OpenSyllable → Bool → Bool → List UnplacedSyllable → ℕ → Bool → Option Place → Option ItemKind → Gathered
-gathered_by limit builder eu nlba made total over cut first = record { limit = limit; builder = builder; eu = eu; nlba = nlba; made = made; total = total; over = over; cut = cut; first_kind = first }
+abbrev gathered_by : ℕ → OpenSyllable → Bool → Bool → List UnplacedSyllable → Bool → ℕ → Bool → Option Place → Option ItemKind → Gathered
+gathered_by limit builder eu nlba made follows total over cut first = record { limit = limit; builder = builder; eu = eu; nlba = nlba; made = made; follows = follows; total = total; over = over; cut = cut; first_kind = first }
 
-same_but : (g h : Gathered) → g.limit ≡ h.limit → ReadAlike g h → g.total ≡ h.total → g.over ≡ h.over → g.cut ≡ h.cut → h ≡ record g { made = h.made; first_kind = h.first_kind }
-same_but g h limit read total over cut =
-    ap (λ x. gathered_by x h.builder h.eu h.nlba h.made h.total h.over h.cut h.first_kind) (sym limit)
-    ∙ ap (λ x. gathered_by g.limit x h.eu h.nlba h.made h.total h.over h.cut h.first_kind) (sym read.builder)
-    ∙ ap (λ x. gathered_by g.limit g.builder x h.nlba h.made h.total h.over h.cut h.first_kind) (sym read.eu)
-    ∙ ap (λ x. gathered_by g.limit g.builder g.eu x h.made h.total h.over h.cut h.first_kind) (sym read.nlba)
-    ∙ ap (λ x. gathered_by g.limit g.builder g.eu g.nlba h.made x h.over h.cut h.first_kind) (sym total)
-    ∙ ap (λ x. gathered_by g.limit g.builder g.eu g.nlba h.made g.total x h.cut h.first_kind) (sym over)
-    ∙ ap (λ x. gathered_by g.limit g.builder g.eu g.nlba h.made g.total g.over x h.first_kind) (sym cut)
+same_but : (g h : Gathered) → g.limit ≡ h.limit → ReadAlike g h → g.follows ≡ h.follows → g.total ≡ h.total → g.over ≡ h.over → g.cut ≡ h.cut → h ≡ record g { made = h.made; first_kind = h.first_kind }
+same_but g h limit read follows total over cut =
+    ap (λ x. gathered_by x h.builder h.eu h.nlba h.made h.follows h.total h.over h.cut h.first_kind) (sym limit)
+    ∙ ap (λ x. gathered_by g.limit x h.eu h.nlba h.made h.follows h.total h.over h.cut h.first_kind) (sym read.builder)
+    ∙ ap (λ x. gathered_by g.limit g.builder x h.nlba h.made h.follows h.total h.over h.cut h.first_kind) (sym read.eu)
+    ∙ ap (λ x. gathered_by g.limit g.builder g.eu x h.made h.follows h.total h.over h.cut h.first_kind) (sym read.nlba)
+    ∙ ap (λ x. gathered_by g.limit g.builder g.eu g.nlba h.made x h.total h.over h.cut h.first_kind) (sym follows)
+    ∙ ap (λ x. gathered_by g.limit g.builder g.eu g.nlba h.made g.follows x h.over h.cut h.first_kind) (sym total)
+    ∙ ap (λ x. gathered_by g.limit g.builder g.eu g.nlba h.made g.follows g.total x h.cut h.first_kind) (sym over)
+    ∙ ap (λ x. gathered_by g.limit g.builder g.eu g.nlba h.made g.follows g.total g.over x h.first_kind) (sym cut)
 
 -- what stands before the syllable that is held is what is told
 before_is : (p q : Preceding) (a b : BodyStageState) → before_with a p ≡ before_with b q → p ≡ q
 before_is p q a b e = ap (λ (b : Before). preceding_of b) e
-  where
-    preceding_of : Before → Preceding
-    preceding_of b = record { syllables = b.syllables; canonical = b.canonical; spans = b.spans; sounded = b.sounded }
 
 -- ---- syllables that say the same, behind the same
 
@@ -151,13 +150,6 @@ held_in_bodies first p q ms ns e f a b h =
 
 -- ---- two machines in the body
 
-not_some : (n : ℕ) → not (nat_lt 0 n) ≡ (n == 0)
-not_some n = by (n == 0) refl
-  where
-    by : (b : Bool) → (n == 0) ≡ b → not (nat_lt 0 n) ≡ b
-    by true e = grind (arith, nat_tests, e)
-    by false e = grind (arith, nat_tests, e)
-
 module _ (text_kept : (s : TextStage) (a b : List ℕ) (c : ℕ) → text.Keeps s (a ++ c ∷ b) → text.kept_with a c ≡ c ∷ [])
     (text_ends : (k : List ℕ) → text.ends_behind k ≡ true → text.kept_with k 40 ≡ [])
     (gabc_kept : (split : Bool) (macros : ℕ) (s : NoteStage) (k more : List ℕ) (c : ℕ) → notes.Keeps split macros s (k ++ c ∷ more) → notes.IsKeptAgain split k c)
@@ -201,6 +193,9 @@ module _ (text_kept : (s : TextStage) (a b : List ℕ) (c : ℕ) → text.Keeps 
             ∙ ap (λ (l : ℕ). with_all (begun b.bounds.behind.spans) (said_by l ra.reading.parts)) same_lines
             ∙ ap (λ (p : KeptParts). with_all (begun b.bounds.behind.spans) (said_by b.body.nabc_lines p)) same_parts
 
+    follows_same : a.pair.gathered.follows ≡ b.pair.gathered.follows
+    follows_same = ra.preceded.follows ∙ ap (λ (p : Preceding). nat_lt 0 p.syllables) behind_same ∙ sym rb.preceded.follows
+
     total_same : a.pair.gathered.total ≡ b.pair.gathered.total
     total_same = ra.preceded.total ∙ ap (λ (p : Preceding). p.canonical) behind_same ∙ sym rb.preceded.total
 
@@ -213,7 +208,7 @@ module _ (text_kept : (s : TextStage) (a b : List ℕ) (c : ℕ) → text.Keeps 
 
     but_made : b.pair.gathered ≡ record a.pair.gathered { made = b.pair.gathered.made; first_kind = b.pair.gathered.first_kind }
     but_made =
-        same_but a.pair.gathered b.pair.gathered (ra.rests.limit ∙ ap (λ (l : Limits). l.syllable) same_limits ∙ sym rb.rests.limit) read_alike total_same
+        same_but a.pair.gathered b.pair.gathered (ra.rests.limit ∙ ap (λ (l : Limits). l.syllable) same_limits ∙ sym rb.rests.limit) read_alike follows_same total_same
         (ra.rests.over ∙ sym rb.rests.over) (ra.reading.uncut ∙ sym rb.reading.uncut)
 
     lent_same : a.has_lent ≡ b.has_lent

@@ -10,7 +10,8 @@ use Rattle.gabc_score.specs.ScoreTells.{moved_part}
 use Rattle.gabc_score.specs.machine.BodyBuilder.{with_all}
 use Rattle.gabc_score.specs.machine.PartCounts.{CountsHold}
 use Rattle.gabc_score.specs.machine.PartKeeps.{KeptParts, PartKeeps, ReadAlike, begun, said_by}
-use Rattle.gabc_score.specs.machine.ScoreMachine.{IsAtRest, IsScoreAt}
+use Rattle.gabc_score.specs.machine.PartMakes.{HoldUnits}
+use Rattle.gabc_score.specs.machine.ScoreMachine.{IsAtRest, IsFreed, IsScoreAt}
 use Rattle.gabc_score.specs.machine.SyllableBuilder.{OpenSyllable}
 use Rattle.gabc_score.specs.witness.BodyStage.{BodyStageState}
 
@@ -37,6 +38,7 @@ module _ (m : ScoreMachine) (at : Place) (b : BodyStageState) (is : b ≡ record
     preceded = h.preceded;
     behind = h.behind;
     lent = h.lent;
+    code = h.code;
     reading = record {
       parts = h.reading.parts;
       keeps = keeps b.nabc_lines b.macros h.reading.parts (subst (λ (k : BodyStageState). PartKeeps k.nabc_lines k.macros m.body.part h.reading.parts) (sym is) h.reading.keeps);
@@ -45,4 +47,27 @@ module _ (m : ScoreMachine) (at : Place) (b : BodyStageState) (is : b ≡ record
       from = h.reading.from;
       uncut = h.reading.uncut;
     };
+    units = subst (λ (k : BodyStageState). HoldUnits k.nabc_lines m.pair.gathered.made) (sym is) h.units;
+    within = h.within;
   }
+
+-- so is one that takes characters quietly, of which only this place is not kept yet
+pub freed_moved : (m : ScoreMachine) (at : Place) → IsFreed m → IsFreed (record m { next = at })
+freed_moved m at f = record {
+  part = f.part;
+  body = record {
+    rests = record { none = f.body.rests.none; room = f.body.rests.room; limit = f.body.rests.limit; used = f.body.rests.used; over = f.body.rests.over; short = f.body.rests.short };
+    counts = f.body.counts;
+    kept = f.body.kept;
+    preceded = f.body.preceded;
+    behind = f.body.behind;
+    lent = f.body.lent;
+    code = f.body.code;
+    reading = f.body.reading;
+    units = f.body.units;
+    within = f.body.within;
+  };
+  used = f.used;
+  code = f.code;
+  one = f.one;
+}

@@ -1,5 +1,5 @@
 -- What the events of a point leave within bounds.
-use Rattle.std.proofs.Common.{◌≡◌, ◌≤◌, ◌+◌, ◌||◌, ◌&&◌, not, nat_lt, Bool, true, false, cond, List, [], ◌∷◌, ◌++◌, length, Option, Some, None, refl, ap, ◌∙◌, arith, length-append}
+use Rattle.std.proofs.Common.{◌≡◌, ◌≤◌, ◌+◌, ◌-◌, ◌||◌, ◌&&◌, not, nat_lt, Bool, true, false, cond, List, [], ◌∷◌, ◌++◌, length, drop, Option, Some, None, refl, ap, ◌∙◌, arith, length-append, length-drop}
 use Rattle.gabc_places.specs.declared.code.Code.TheVariants.{W12, F5, F7}
 use Rattle.gabc_places.specs.declared.limits.Limits.{Limits}
 use Rattle.gabc_places.specs.declared.code.Finding.{Finding}
@@ -13,10 +13,12 @@ use Rattle.gabc_notes.specs.declared.stage.NoteEnd.TheVariants as note_end
 use Rattle.gabc_notes.specs.declared.stage.NoteEvent.TheVariants as note
 use Rattle.gabc_score.specs.declared.events.BodyEvent.{BodyEvent}
 use Rattle.gabc_score.specs.declared.events.BodyEvent.TheVariants as event
-use Rattle.gabc_score.specs.Body.{is_none, events_onto, findings_with, findings_of}
+use Rattle.gabc_score.specs.Body.{is_longer, is_none, events_onto, findings_with, findings_of}
 use Rattle.gabc_score.specs.NoteBeforeClef.{is_first_note, found_first}
 use Rattle.gabc_score.specs.machine.BodyBuilder.{with_all, with_found, code_in}
+use Rattle.gabc_score.specs.Syllable.{UnplacedSyllable}
 use Rattle.gabc_score.specs.machine.Gatherer.{Gathered, with_event}
+use Rattle.gabc_score.specs.machine.ScoreStage.{with_held}
 
 -- where no limit is passed the kept text is within its limit
 pub within : (limits : Limits) (g : Gathered) → code_in limits g ≡ None → length g.builder.kept ≤ g.limit
@@ -25,6 +27,18 @@ within limits g none = by (nat_lt g.limit (length g.builder.kept)) refl none
     by : (b : Bool) → nat_lt g.limit (length g.builder.kept) ≡ b → cond (b || g.over) (Some F5) (cond (not (is_none g.made) && nat_lt limits.input (g.total + 1)) (Some F7) None) ≡ None → length g.builder.kept ≤ g.limit
     by true e n = absurd (cc)
     by false e n = grind (arith, e)
+
+-- and none is where only the last syllable is held
+pub code_turned : (limits : Limits) (g : Gathered) → code_in limits g ≡ None → code_in limits (with_held g) ≡ None
+code_turned limits g none = ap (λ (b : Bool). cond (is_longer g.limit g.builder.kept || g.over) (Some F5) (cond (not b && nat_lt limits.input (g.total + 1)) (Some F7) None)) (held g.made) ∙ none
+  where
+    held : (ms : List UnplacedSyllable) → is_none (drop (length ms - 1) ms) ≡ is_none ms
+    held [] = refl
+    held (m ∷ ms) = by (drop (length (m ∷ ms) - 1) (m ∷ ms)) (length-drop (length (m ∷ ms) - 1) (m ∷ ms))
+      where
+        by : (rest : List UnplacedSyllable) → length rest ≡ length (m ∷ ms) - (length (m ∷ ms) - 1) → is_none rest ≡ false
+        by [] e = absurd (let f : 0 ≡ length (m ∷ ms) - (length (m ∷ ms) - 1) = e in omega (arith, f))
+        by (n ∷ rest) e = refl
 
 -- ---- what events leave as it was
 

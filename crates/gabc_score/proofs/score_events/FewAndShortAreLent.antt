@@ -37,10 +37,10 @@ abbrev AreShort : Gathered → Type 0
 AreShort g = g.over ≡ false → All (IsShort g.limit) g.made
 
 -- where it is not over the limit, a syllable is counted as short
-counted : (limit len kept : ℕ) → limit < 2 ^ 32 → nat_lt limit kept ≡ false → nat_lt limit (min len (2 ^ 64 - 1)) ≡ false → (kept ≤ limit) × (len ≤ limit)
+pub counted : (limit len kept : ℕ) → limit < 2 ^ 32 → nat_lt limit kept ≡ false → nat_lt limit (min len (2 ^ 64 - 1)) ≡ false → (kept ≤ limit) × (len ≤ limit)
 counted limit len kept h k e = (grind (arith, nat_tests), grind (arith, nat_tests))
 
-either : (a b c : Bool) → (a || (b || c)) ≡ false → (a ≡ false) × ((b ≡ false) × (c ≡ false))
+pub either : (a b c : Bool) → (a || (b || c)) ≡ false → (a ≡ false) × ((b ≡ false) × (c ≡ false))
 either false false false h = (refl, (refl, refl))
 either false false true h = absurd (cc h)
 either false true c h = absurd (cc h)
@@ -53,7 +53,7 @@ without_start false m = omega arith
 short_made : (g : Gathered) (m : UnplacedSyllable) → g.limit < 2 ^ 32 → AreShort g → AreShort (with_made g m)
 short_made g m small h over =
     let e = either g.over _ _ over in
-    let starts = is_none g.made || m.text.word_start in
+    let starts = not g.follows || m.text.word_start in
     let k = counted g.limit (length (canonical starts m)) (length m.kept) small e.1.0 e.1.1 in
     let s = without_start starts m in
     let short = k.1 in
@@ -130,18 +130,19 @@ short_at_end limits g now e over short none =
 
 -- ---- what is lent
 
+-- a short syllable is within the limits wherever it stands in its word
+pub short_within : (limits : Limits) (p : Position) (m : UnplacedSyllable) → IsShort limits.syllable m → IsWithin limits (record { made = m; position = p })
+short_within limits p m short = let s = with_start (starts_word p) in let c = short.canonical in record { kept = short.kept; canonical = omega (arith, s, c) }
+  where
+    with_start : (b : Bool) → length (canonical b m) ≤ length (canonical false m) + 1
+    with_start true = omega arith
+    with_start false = omega arith
+
 pub placed_within : (limits : Limits) (first : Bool) (ms : List UnplacedSyllable) → All (IsShort limits.syllable) ms → All (IsWithin limits) (placed_syllables_by first ms)
 placed_within limits first [] h = All-nil (IsWithin limits)
 placed_within limits first (m ∷ ms) h =
     let short = All-head (IsShort limits.syllable) m ms h in
-    All-cons (IsWithin limits) _ _ (one _ m short) (placed_within limits false ms (All-tail (IsShort limits.syllable) m ms h))
-  where
-    with_start : (b : Bool) (m : UnplacedSyllable) → length (canonical b m) ≤ length (canonical false m) + 1
-    with_start true m = omega arith
-    with_start false m = omega arith
-
-    one : (p : Position) (m : UnplacedSyllable) → IsShort limits.syllable m → IsWithin limits (record { made = m; position = p })
-    one p m short = let s = with_start (starts_word p) m in let c = short.canonical in record { kept = short.kept; canonical = omega (arith, s, c) }
+    All-cons (IsWithin limits) _ _ (short_within limits _ m short) (placed_within limits false ms (All-tail (IsShort limits.syllable) m ms h))
 
 pub placed_count : (first : Bool) (ms : List UnplacedSyllable) → length (placed_syllables_by first ms) ≡ length ms
 placed_count first [] = refl

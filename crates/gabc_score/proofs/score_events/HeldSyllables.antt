@@ -38,7 +38,7 @@ made_goes : (k : ℕ) (g : Gathered) (m : UnplacedSyllable) → MayGo k g → Ma
 made_goes k g m h = record { few = omega (arith, h.few, length-append g.made (m ∷ [])); some = more_goes k g.made m h.few }
 
 made_without : (k : ℕ) (g : Gathered) (m : UnplacedSyllable) → MayGo k g → with_made (without k g) m ≡ without k (with_made g m)
-made_without k g m h = rw (h.some, drop-append-le k g.made (m ∷ []) h.few) refl
+made_without k g m h = rw (drop-append-le k g.made (m ∷ []) h.few) refl
 
 goes_on : (k : ℕ) (g : Gathered) (t : BodyEvent) → MayGo k g → MayGo k (with_event g t)
 goes_on k g (event.Text (text.Kept c)) h = record { few = h.few; some = h.some }

@@ -26,7 +26,6 @@ use Rattle.gabc_score.specs.declared.score_machine.ScorePart.{ScorePart}
 use Rattle.gabc_score.specs.declared.score_machine.ScorePart.TheVariants as score_part
 use Rattle.gabc_score.specs.declared.snippets.Snippet.{Snippet}
 use Rattle.gabc_score.specs.Before.{most, sounds_on, sounds_in, sounds, with_one, with_each, with_placed}
-use Rattle.gabc_score.specs.Body.{is_none}
 use Rattle.gabc_score.specs.Canonical.{canonical}
 use Rattle.gabc_score.specs.ScoreEvents.{Syllable, outputs_of, syllables_in}
 use Rattle.gabc_score.specs.ScoreStage.{preceding_past}
@@ -159,7 +158,7 @@ module _ (before : Preceding) (g : Gathered) (h : IsPreceded before g) (line cou
 
   preceded_snippet : IsPreceded before (with_snippet g line count mark)
   preceded_snippet = record {
-    first = h.first;
+    follows = h.follows;
     total = h.total;
     sounded =
         comes (line == 0) g.first_kind (first_note_or_clef (items_of (text_at last.span whole)))
@@ -177,21 +176,16 @@ pub each_then : (p : Preceding) (ms : List UnplacedSyllable) (m : UnplacedSyllab
 each_then p [] m = refl
 each_then p (s ∷ ms) m = each_then (with_one p s) ms m
 
-counted : (p : Preceding) (ms : List UnplacedSyllable) → 0 < p.syllables → 0 < (with_each p ms).syllables
-counted p [] h = h
-counted p (m ∷ ms) h = counted (with_one p m) ms (omega (arith, h))
-
--- the first one is counted as the first
-is_first : (before : Preceding) (ms : List UnplacedSyllable) → (ms ≡ [] → before.syllables ≡ 0) → is_none ms ≡ ((with_each before ms).syllables == 0)
-is_first before [] h = ap (λ n. n == 0) (sym (h refl))
-is_first before (m ∷ ms) h = by (with_each before (m ∷ ms)).syllables (counted (with_one before m) ms (omega arith))
+-- none stands before the first one
+pub not_some : (n : ℕ) → not (nat_lt 0 n) ≡ (n == 0)
+not_some n = by (n == 0) refl
   where
-    by : (n : ℕ) → 0 < n → false ≡ (n == 0)
-    by n k = grind (arith, nat_tests, k)
+    by : (b : Bool) → (n == 0) ≡ b → not (nat_lt 0 n) ≡ b
+    by true e = grind (arith, nat_tests, e)
+    by false e = grind (arith, nat_tests, e)
 
-is_some_list : (ms : List UnplacedSyllable) (m : UnplacedSyllable) {P : Type 0} → ms ++ m ∷ [] ≡ [] → P
-is_some_list [] m e = absurd (cc e)
-is_some_list (s ∷ ms) m e = absurd (cc e)
+some_then : (p : Preceding) (m : UnplacedSyllable) → true ≡ nat_lt 0 (with_one p m).syllables
+some_then p m = grind (arith, nat_tests)
 
 preceded_made : (before : Preceding) (g : Gathered) → IsPreceded before g → IsPreceded before (with_made g (made_from g.builder g.eu g.nlba))
 preceded_made before g h =
@@ -199,10 +193,10 @@ preceded_made before g h =
     let p = with_each before g.made in
     let e = each_then before g.made m in
     record {
-      first = is_some_list g.made m;
+      follows = some_then p m ∙ ap (λ (q : Preceding). nat_lt 0 q.syllables) (sym e);
       total =
-          ap (λ n. min (n + min (length (canonical (is_none g.made || m.text.word_start) m)) most) most) h.total
-          ∙ ap (λ b. min (p.canonical + min (length (canonical (b || m.text.word_start) m)) most) most) (is_first before g.made h.first)
+          ap (λ n. min (n + min (length (canonical (not g.follows || m.text.word_start) m)) most) most) h.total
+          ∙ ap (λ b. min (p.canonical + min (length (canonical (b || m.text.word_start) m)) most) most) (ap not h.follows ∙ not_some p.syllables)
           ∙ ap (λ (q : Preceding). q.canonical) (sym e);
       sounded = h.sounded ∙ last_false p.sounded (sounds m) ∙ ap (λ (q : Preceding). q.sounded || false) (sym e);
       snippets = All-nil (EndsBefore 0);
@@ -216,7 +210,7 @@ preceded_kept before g more h =
     let l = length-append g.builder.kept more in
     let from = h.from in
     record {
-      first = h.first;
+      follows = h.follows;
       total = h.total;
       sounded = h.sounded ∙ ap (λ b. (with_each before g.made).sounded || b) (sym (sounds_before g.builder.kept more g.builder.snippets (wider g.builder.from (length g.builder.kept) g.builder.snippets from h.snippets)));
       snippets = h.snippets;
@@ -229,7 +223,7 @@ preceded_text before g h =
     let n = length (g.builder.kept ++ encode_utf8 40) in
     let from = k.from in
     record {
-      first = k.first;
+      follows = k.follows;
       total = k.total;
       sounded = k.sounded;
       snippets = wider g.builder.from n g.builder.snippets from h.snippets;
@@ -246,19 +240,19 @@ closing = omega arith
 
 preceded_with : (before : Preceding) (g : Gathered) (t : BodyEvent) → IsPreceded before g → IsPreceded before (with_event g t)
 preceded_with before g (event.Text (text.Kept c)) h = preceded_kept before g (encode_utf8 c.c) h
-preceded_with before g (event.Text (text.Part part.WordStart)) h = record { first = h.first; total = h.total; sounded = h.sounded; snippets = h.snippets; from = h.from }
-preceded_with before g (event.Text (text.Part (part.Piece p))) h = record { first = h.first; total = h.total; sounded = h.sounded; snippets = h.snippets; from = h.from }
-preceded_with before g (event.Text (text.Part (part.Centre s))) h = record { first = h.first; total = h.total; sounded = h.sounded; snippets = h.snippets; from = h.from }
-preceded_with before g (event.Text (text.Part (part.Translation s))) h = record { first = h.first; total = h.total; sounded = h.sounded; snippets = h.snippets; from = h.from }
+preceded_with before g (event.Text (text.Part part.WordStart)) h = record { follows = h.follows; total = h.total; sounded = h.sounded; snippets = h.snippets; from = h.from }
+preceded_with before g (event.Text (text.Part (part.Piece p))) h = record { follows = h.follows; total = h.total; sounded = h.sounded; snippets = h.snippets; from = h.from }
+preceded_with before g (event.Text (text.Part (part.Centre s))) h = record { follows = h.follows; total = h.total; sounded = h.sounded; snippets = h.snippets; from = h.from }
+preceded_with before g (event.Text (text.Part (part.Translation s))) h = record { follows = h.follows; total = h.total; sounded = h.sounded; snippets = h.snippets; from = h.from }
 preceded_with before g (event.Text (text.Found f)) h = h
 preceded_with before g (event.Text (text.Ended text_end.Notes)) h = preceded_text before g h
 preceded_with before g (event.Text (text.Ended text_end.Finished)) h = h
-preceded_with before g (event.Text (text.Ended (text_end.Cut p))) h = record { first = h.first; total = h.total; sounded = h.sounded; snippets = h.snippets; from = h.from }
+preceded_with before g (event.Text (text.Ended (text_end.Cut p))) h = record { follows = h.follows; total = h.total; sounded = h.sounded; snippets = h.snippets; from = h.from }
 preceded_with before g (event.Notes line (note.Kept c)) h = preceded_kept before g (encode_utf8 c.c) h
 preceded_with before g (event.Notes line (note.Found f)) h = h
 preceded_with before g (event.Notes line (note.Ended note_end.Next n)) h = preceded_snippet before g h line n 124 bar
 preceded_with before g (event.Notes line (note.Ended note_end.Close n)) h = preceded_made before (with_snippet g line n 41) (preceded_snippet before g h line n 41 closing)
-preceded_with before g (event.Notes line (note.Ended (note_end.Cut p) n)) h = record { first = h.first; total = h.total; sounded = h.sounded; snippets = h.snippets; from = h.from }
+preceded_with before g (event.Notes line (note.Ended (note_end.Cut p) n)) h = record { follows = h.follows; total = h.total; sounded = h.sounded; snippets = h.snippets; from = h.from }
 
 pub preceded_all : (before : Preceding) (g : Gathered) (now : List BodyEvent) → IsPreceded before g → IsPreceded before (with_all g now)
 preceded_all before g [] h = h
@@ -284,7 +278,7 @@ after : (g k : Gathered) (now : List BodyEvent) → k.made ≡ g.made → ((with
 after g k now e (inl same) = inl (same ∙ e)
 after g k now e (inr c) = inr (record { m = c.m; made = c.made ∙ ap (λ ms. ms ++ c.m ∷ []) e; eu = c.eu; nlba = c.nlba; builder = c.builder })
 
-same_or_closed : (g : Gathered) (now : List BodyEvent) → ClosesLast now → ((with_all g now).made ≡ g.made) ⊎ Closed g (with_all g now)
+pub same_or_closed : (g : Gathered) (now : List BodyEvent) → ClosesLast now → ((with_all g now).made ≡ g.made) ⊎ Closed g (with_all g now)
 same_or_closed g [] c = inl refl
 same_or_closed g (event.Text (text.Kept x) ∷ now) c = let k = with_event g (event.Text (text.Kept x)) in after g k now refl (same_or_closed k now c.1)
 same_or_closed g (event.Text (text.Part part.WordStart) ∷ now) c = let k = with_event g (event.Text (text.Part part.WordStart)) in after g k now refl (same_or_closed k now c.1)
@@ -330,7 +324,7 @@ bounds before behind = record { before = before; behind = behind }
 
 -- a syllable less is before those that are not given
 given_one : (before : Preceding) (h : Gathered) (s m : UnplacedSyllable) → IsPreceded before (record h { made = s ∷ m ∷ [] }) → IsPreceded (with_one before s) (record h { made = m ∷ [] })
-given_one before h s m p = record { first = λ e. absurd (cc e); total = p.total; sounded = p.sounded; snippets = p.snippets; from = p.from }
+given_one before h s m p = record { follows = p.follows; total = p.total; sounded = p.sounded; snippets = p.snippets; from = p.from }
 
 module _ (before : Preceding) (h : Gathered) (has_lent : Bool) (p : IsPreceded before h) where
   turns_by : (ms : List UnplacedSyllable) → h.made ≡ ms → with_each before ms ≡ with_each before ms
@@ -427,7 +421,7 @@ past_in_body part x fs ss p q body e = subst (λ (k : ScorePart). q ≡ precedin
 
 -- ---- whether one was given
 
-each_some : (p : Preceding) (ms : List UnplacedSyllable) → 1 ≤ p.syllables → 1 ≤ (with_each p ms).syllables
+pub each_some : (p : Preceding) (ms : List UnplacedSyllable) → 1 ≤ p.syllables → 1 ≤ (with_each p ms).syllables
 each_some p [] h = h
 each_some p (m ∷ ms) h = each_some (with_one p m) ms (omega (arith, h))
 

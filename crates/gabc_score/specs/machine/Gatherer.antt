@@ -1,5 +1,5 @@
 -- What the gatherer of syllables does with what is emitted.
-use Rattle.std.specs.Prelude.{ℕ, ◌+◌, ◌||◌, ◌^◌, ◌-◌, min, nat_lt, ◌==◌, ◌&&◌, not, List, [], ◌∷◌, ◌++◌, Bool, false, cond, length, Option, Some, None, is_some, codes}
+use Rattle.std.specs.Prelude.{ℕ, ◌+◌, ◌||◌, ◌^◌, ◌-◌, min, nat_lt, ◌==◌, ◌&&◌, not, List, [], ◌∷◌, ◌++◌, Bool, true, false, cond, length, Option, Some, None, is_some, codes}
 use Rattle.gabc_places.specs.declared.place.Place.{Place}
 use Rattle.gabc_places.specs.declared.place.Span.{Span}
 use Rattle.gabc_text.specs.declared.view.Piece.{Piece}
@@ -21,24 +21,25 @@ use Rattle.gabc_score.specs.declared.events.BodyEvent.{BodyEvent}
 use Rattle.gabc_score.specs.declared.events.BodyEvent.TheVariants as event
 use Rattle.gabc_score.specs.Syllable.{UnplacedSyllable, prefix_of, slice, text_at, is_open_after}
 use Rattle.gabc_score.specs.Canonical.{canonical}
-use Rattle.gabc_score.specs.Body.{is_longer, is_none, empty_snippet, has_text}
+use Rattle.gabc_score.specs.Body.{is_longer, empty_snippet, has_text}
 use Rattle.gabc_score.specs.machine.SyllableBuilder.{OpenSyllable, nothing_open, with_kept, past_text, snippet_from, past_snippet, made_from}
 
--- What was gathered: `total` counts the canonical bytes of the headers and of the syllables that were made, and `over` tells
--- whether one of those is longer than the limit. `first_kind` tells which came first in the GABC snippets that have ended, a note or a clef.
+-- What was gathered: `follows` tells whether a syllable stands before the one that is read, `total` counts the canonical bytes of the headers and
+-- of the syllables that stand before, and `over` tells whether one that was made is longer than the limit. `first_kind` tells which came first in the GABC snippets that have ended, a note or a clef.
 pub record Gathered : Type 0 where
   pub limit : ℕ
   pub builder : OpenSyllable
   pub eu : Bool
   pub nlba : Bool
   pub made : List UnplacedSyllable
+  pub follows : Bool
   pub total : ℕ
   pub over : Bool
   pub cut : Option Place
   pub first_kind : Option ItemKind
 
 abbrev pub nothing_gathered : ℕ → ℕ → Gathered
-nothing_gathered limit head = record { limit = limit; builder = nothing_open; eu = false; nlba = false; made = []; total = head; over = false; cut = None; first_kind = None }
+nothing_gathered limit head = record { limit = limit; builder = nothing_open; eu = false; nlba = false; made = []; follows = false; total = head; over = false; cut = None; first_kind = None }
 
 abbrev pub with_mark : Gathered → Piece → Gathered
 with_mark g p =
@@ -89,11 +90,11 @@ with_snippet g line count mark =
 
 abbrev pub with_count : Gathered → UnplacedSyllable → Gathered
 with_count g m =
-    let size = min (length (canonical (is_none g.made || m.text.word_start) m)) (2 ^ 64 - 1) in
+    let size = min (length (canonical (not g.follows || m.text.word_start) m)) (2 ^ 64 - 1) in
     record g { total = min (g.total + size) (2 ^ 64 - 1); over = g.over || (is_longer g.limit m.kept || nat_lt g.limit size) }
 
 abbrev pub with_made : Gathered → UnplacedSyllable → Gathered
-with_made g m = record (with_count g m) { builder = nothing_open; made = g.made ++ m ∷ [] }
+with_made g m = record (with_count g m) { builder = nothing_open; made = g.made ++ m ∷ []; follows = true }
 
 abbrev pub with_syllable : Gathered → Gathered
 with_syllable g = with_made g (made_from g.builder g.eu g.nlba)

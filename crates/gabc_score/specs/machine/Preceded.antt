@@ -1,5 +1,5 @@
 -- What a score has gathered behind the syllables that were given.
-use Rattle.std.specs.Prelude.{◌≡◌, ◌||◌, ℕ, ◌+◌, ◌<◌, ◌≤◌, min, Bool, [], length, is_some, if◌then◌else◌}
+use Rattle.std.specs.Prelude.{◌≡◌, ◌||◌, ℕ, ◌+◌, ◌<◌, ◌≤◌, min, nat_lt, Bool, length, is_some, if◌then◌else◌}
 use Rattle.std.specs.List.{All}
 use Rattle.gabc_score.specs.declared.before.Preceding.{Preceding}
 use Rattle.gabc_score.specs.declared.before.Spans.{Spans}
@@ -38,7 +38,7 @@ EndsBefore n s = s.span.to < n
 -- Behind the syllables given, of which `before` tells, what was gathered counts and sounds as those that were made and are not given, and the
 -- snippets that have ended of the syllable that is read.
 pub record IsPreceded (before : Preceding) (g : Gathered) : Type 0 where
-  pub first : g.made ≡ [] → before.syllables ≡ 0
+  pub follows : g.follows ≡ nat_lt 0 (with_each before g.made).syllables
   pub total : g.total ≡ (with_each before g.made).canonical
   pub sounded : is_some g.first_kind ≡ ((with_each before g.made).sounded || sounds_in g.builder.kept g.builder.snippets)
   pub snippets : All (EndsBefore g.builder.from) g.builder.snippets

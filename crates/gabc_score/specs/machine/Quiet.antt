@@ -1,5 +1,6 @@
 -- Characters at which nothing is given, which are gathered without rooms of events.
 use Rattle.std.specs.Prelude.{◌≡◌, ◌+◌, ◌≤◌, List, [], ◌∷◌, length}
+use Rattle.std.specs.List.{All}
 use Rattle.gabc_places.specs.declared.place.Char.{Char}
 use Rattle.gabc_score.specs.declared.events.BodyEvent.{BodyEvent}
 use Rattle.gabc_score.specs.declared.slot_pair.SlotUse.TheVariants.{Filling}
@@ -8,6 +9,8 @@ use Rattle.gabc_score.specs.ScoreEvents.{findings_now}
 use Rattle.gabc_score.specs.machine.BodyBuilder.{with_all}
 use Rattle.gabc_score.specs.machine.PartCounts.{CountsHold}
 use Rattle.gabc_score.specs.machine.PartKeeps.{PartKeepsOn, PartStandsOn}
+use Rattle.gabc_score.specs.machine.PartOnly.{IsKeptOf, kept_codes}
+use Rattle.gabc_score.specs.machine.PartOpens.{PartOpensOn}
 use Rattle.gabc_score.specs.machine.SlotPair.{SlotPairState}
 
 -- The body goes on behind x, and what it emits there is gathered: nothing is found, no syllable is made, no first note or clef comes, and one byte more is kept at most.
@@ -29,4 +32,6 @@ pub record TakesQuietly (before : BodyStageState) (x : Char) (pair : SlotPairSta
   pub macros : after.macros ≡ before.macros
   pub keeps : PartKeepsOn before.nabc_lines before.macros before.part after.part events
   pub stands : PartStandsOn before.nabc_lines before.macros x before.part after.part
+  pub only : All (IsKeptOf x.c) (kept_codes events)
+  pub opens : PartOpensOn before.nabc_lines before.macros x before.part after.part
   pub kept : length next.gathered.builder.kept ≤ length pair.gathered.builder.kept + 1

@@ -7,6 +7,7 @@ use Rattle.gabc_headers.specs.declared.head_event.HeadEvent.TheVariants as head_
 use Rattle.gabc_score.specs.Before.{with_each}
 use Rattle.gabc_score.specs.Canonical.{canonical}
 use Rattle.gabc_score.specs.Syllable.{UnplacedSyllable}
+use Rattle.gabc_score.specs.ToldWithin.{IsTextCharacter}
 use Rattle.gabc_score.specs.declared.score_machine.ScoreMachine.{ScoreMachine}
 use Rattle.gabc_score.specs.declared.score_machine.ScorePart.{ScorePart}
 use Rattle.gabc_score.specs.declared.score_machine.ScorePart.TheVariants as score_part
@@ -14,8 +15,11 @@ use Rattle.gabc_score.specs.declared.slot_pair.SlotUse.TheVariants.{Filling}
 use Rattle.gabc_score.specs.witness.ScoreStage.{ScoreStageState, left_of}
 use Rattle.gabc_score.specs.machine.BodyBuilder.{code_in}
 use Rattle.gabc_score.specs.machine.Gatherer.{nothing_gathered}
+use Rattle.gabc_score.specs.machine.HeldWithin.{HoldsWithin}
 use Rattle.gabc_score.specs.machine.PartCounts.{CountsHold}
 use Rattle.gabc_score.specs.machine.PartKeeps.{IsReading}
+use Rattle.gabc_score.specs.machine.PartMakes.{HoldUnits}
+use Rattle.gabc_score.specs.machine.PartOnly.{HoldsTexts}
 use Rattle.gabc_score.specs.machine.Preceded.{IsPreceded}
 use Rattle.gabc_score.specs.machine.ScoreStage.{HeldScore}
 use Rattle.gabc_score.specs.machine.SlotPair.{is_made}
@@ -47,7 +51,8 @@ pub record IsBeforeBody (m : ScoreMachine) : Type 0 where
   pub nothing : m.pair.gathered ≡ nothing_gathered m.limits.syllable 0
   pub none_lent : m.has_lent ≡ false
 
--- in the body what is counted holds, the kept text is within the limit, and what is gathered is what its parts say
+-- In the body what is counted holds, no limit is passed, the kept text is within its limit, what is gathered is what its parts say, and what is
+-- held holds a unit.
 pub record IsInBody (m : ScoreMachine) : Type 0 where
   pub rests : IsAtRest m
   pub counts : CountsHold m.body.part m.pair.gathered.builder
@@ -55,7 +60,10 @@ pub record IsInBody (m : ScoreMachine) : Type 0 where
   pub preceded : IsPreceded m.bounds.before m.pair.gathered
   pub behind : m.bounds.behind ≡ with_each m.bounds.before m.pair.gathered.made
   pub lent : m.has_lent ≡ nat_lt 0 m.bounds.before.syllables
+  pub code : code_in m.limits m.pair.gathered ≡ None
   pub reading : IsReading m.body.nabc_lines m.body.macros m.body.part m.bounds.behind.spans m.pair.gathered
+  pub units : HoldUnits m.body.nabc_lines m.pair.gathered.made
+  pub within : HoldsWithin m.limits m.bounds.before m.pair.gathered
 
 -- in the body, where nothing is lent, no limit is passed and one whole syllable is held at most
 pub record IsFreed (m : ScoreMachine) : Type 0 where
@@ -70,6 +78,10 @@ pub record PassesQuietly (before : ScoreStageState) (x : Char) (after : ScoreSta
   pub limits : after.limits ≡ before.limits
   pub part : after.part ≡ before.part
   pub before_held : after.before ≡ before.before
+  pub lines : after.body.nabc_lines ≡ before.body.nabc_lines
+  pub macros : after.body.macros ≡ before.body.macros
+  pub made : after.held.gathered.made ≡ before.held.gathered.made
+  pub texts : IsTextCharacter x.c → HoldsTexts before.held.gathered → HoldsTexts after.held.gathered
   pub law : (xs : List HeadEvent) → left_of before (head_event.Body x ∷ xs) ≡ [] ∷ left_of after xs
 
 abbrev pub IsScoreAt : ScorePart → ScoreMachine → Type 0

@@ -41,7 +41,7 @@ kept_said (out.Part p ∷ es) = kept_said es
 kept_said (out.Found f ∷ es) = kept_said es
 kept_said (out.Ended h ∷ es) = kept_said es
 
-ends_said : (es : List TextEvent) → end_text (said es) ≡ end_text es
+pub ends_said : (es : List TextEvent) → end_text (said es) ≡ end_text es
 ends_said [] = refl
 ends_said (out.Kept c ∷ es) = ends_said es
 ends_said (out.Part p ∷ es) = ends_said es
@@ -51,7 +51,7 @@ ends_said (out.Ended h ∷ es) = refl
 no_kept : (ps : List TextPart) → kept_in (map (λ (x : TextPart). out.Part x) ps) ≡ []
 no_kept = none_kept (λ x. out.Part x) (λ x. refl)
 
-no_ends : (ps : List TextPart) → end_text (map (λ (x : TextPart). out.Part x) ps) ≡ false
+pub no_ends : (ps : List TextPart) → end_text (map (λ (x : TextPart). out.Part x) ps) ≡ false
 no_ends [] = refl
 no_ends (p ∷ ps) = no_ends ps
 

@@ -10,12 +10,20 @@ use Rattle.gabc_text.specs.declared.text_event.TextEnd.TheVariants as text_endin
 use Rattle.gabc_text.specs.declared.stage.TextStage.{TextStage}
 use Rattle.gabc_text.specs.BuiltText.{kept_in}
 use Rattle.gabc_text.specs.witness.EventsLeft.{events_left}
-use Rattle.gabc_text.specs.witness.Keeps.{said, end_text, EndsInNotes, stage_behind, Keeps, said_of, is_open_behind, begins_comment, kept_with, ends_behind, said_at_end, comment_with, GoesOn, EndsBehind, KeepsOn}
+use Rattle.gabc_text.specs.witness.Keeps.{IsKeptOf, said, end_text, EndsInNotes, stage_behind, Keeps, said_of, is_open_behind, begins_comment, kept_with, ends_behind, said_at_end, comment_with, GoesOn, EndsBehind, KeepsOn}
 use Rattle.gabc_text.specs.StageTells.{is_open, is_comment, opener_of, is_in_comment, next_of, moved_to, place_told, told}
 use Rattle.gabc_text.specs.TextStage.{fresh_stage}
 use Rattle.gabc_text.specs.machine.RawPart.{stage_past, events_of_pushes}
 use Rattle.gabc_text.specs.machine.Resuming.{nowhere, placed, outside, IsAlike, kept_at, kept_past}
-use Rattle.gabc_text.specs.machine.TokenState.{is_plain}
+use Rattle.gabc_text.specs.machine.TokenState.{is_plain, keep}
+use Rattle.gabc_text.specs.declared.text_facts.TextFacts.{TextFacts}
+use Rattle.gabc_text.specs.declared.token.TokenKind.{TokenKind}
+use Rattle.gabc_text.specs.Token.{single}
+use Rattle.gabc_text.specs.View.{is_space, kept_as}
+use Rattle.gabc_text.specs.witness.FactsPast.{leaves_out}
+use Rattle.std.specs.List.{All}
+use Rattle.std.proofs.lemmas.List.Elements.{All-nil, All-cons}
+use Rattle.std.proofs.Common.{◌||◌, inl, inr}
 use Rattle.gabc_text.specs.machine.TextStage.{settle_stage, events_of_settling, events_of_settled_push, push_stage, events_of_push}
 use Rattle.gabc_places.specs.Place.{saturating_next_place}
 use Rattle.gabc_text.proofs.machine.EventsLeftAreThoseAhead.{rest_is}
@@ -191,6 +199,31 @@ module _ (s : TextStage) (c : ℕ) (k : List ℕ) (keeps : Keeps s k) where
           ∙ ap (λ (x : TextStage). said (events_of_push x 40)) (sym (placed_alike at.no_comment))
           ∙ sym (last_is k)
 
+-- a character is kept as it is, or as a blank
+kept_only : (out space : Bool) (k : TokenKind) (c : ℕ) → All (IsKeptOf c) (option_to_list (kept_as out space k None (Some 32) (Some c)))
+kept_only true space k c = All-nil (IsKeptOf c)
+kept_only false space k c = by (is_space k) space
+  where
+    by : (a b : Bool) → All (IsKeptOf c) (option_to_list (if a then (if b then None else Some 32) else Some c))
+    by false b = All-cons (IsKeptOf c) c [] (inl refl) (All-nil (IsKeptOf c))
+    by true true = All-nil (IsKeptOf c)
+    by true false = All-cons (IsKeptOf c) 32 [] (inr refl) (All-nil (IsKeptOf c))
+
+keep_only : (facts : TextFacts) (m : TokenState) (c : ℕ) → All (IsKeptOf c) (option_to_list (keep facts m c))
+keep_only facts Plain c = kept_only (c == 37 || leaves_out facts (single c)) facts.space (single c) c
+keep_only facts Comment c = All-nil (IsKeptOf c)
+keep_only facts Dollar c = All-cons (IsKeptOf c) c [] (inl refl) (All-nil (IsKeptOf c))
+keep_only facts (Tag name) c = All-cons (IsKeptOf c) c [] (inl refl) (All-nil (IsKeptOf c))
+keep_only facts (Raw part m) c = All-cons (IsKeptOf c) c [] (inl refl) (All-nil (IsKeptOf c))
+keep_only facts Translation c = All-cons (IsKeptOf c) c [] (inl refl) (All-nil (IsKeptOf c))
+
+only_kept : (s : TextStage) (c : ℕ) → s.done ≡ false → All (IsKeptOf c) (kept_in (events_of_push s c))
+only_kept s c on = by (push_stage s c).done refl
+  where
+    by : (d : Bool) → (push_stage s c).done ≡ d → All (IsKeptOf c) (kept_in (events_of_push s c))
+    by true e = subst (All (IsKeptOf c)) (sym (none_kept_at_end s c on e)) (All-nil (IsKeptOf c))
+    by false e = subst (All (IsKeptOf c)) (sym (kept_is s c on e)) (keep_only (settle_stage s c).facts (settle_stage s c).state c)
+
 -- what a push does
 pub push_keeps : (s next : TextStage) (c : ℕ) (events : List TextEvent) → next ≡ push_stage s c → events ≡ events_of_push s c → KeepsOn s c events next
 push_keeps s next c events e f = rw (e, f) (record {
@@ -198,6 +231,7 @@ push_keeps s next c events e f = rw (e, f) (record {
   kept = λ k h. kept_here s c k h;
   goes = λ k h. goes_behind s c k h;
   ends = λ k h. ended_behind s c k h;
+  only = λ k h. only_kept s c h.goes_on;
 })
 
 pub moved_keeps : (at : Place) (s : TextStage) (k : List ℕ) → Keeps s k → Keeps (moved_to at s) k

@@ -1,6 +1,6 @@
 -- A stage keeps a text: it stands where the characters lead that it has kept, whatever it has read.
 use Rattle.std.specs.Prelude.{◌≡◌, ◌⊎◌, ◌==◌, ◌&&◌, not, ℕ, List, [], ◌∷◌, ◌++◌, map, Bool, true, false, Some, if◌then◌else◌}
-use Rattle.std.specs.List.{list_any}
+use Rattle.std.specs.List.{All, list_any}
 use Rattle.gabc_places.specs.Place.{saturating_next_place}
 use Rattle.gabc_places.specs.declared.place.Place.{Place}
 use Rattle.gabc_text.specs.declared.text_event.TextEnd.TheVariants as ending
@@ -91,9 +91,14 @@ pub record EndsBehind (k : List ℕ) (events : List TextEvent) (after : TextStag
   pub notes : EndsInNotes (said_at_end k)
   pub over : after.done ≡ true
 
+-- what may be kept of a character: it, or a blank
+abbrev pub IsKeptOf : ℕ → ℕ → Type 0
+IsKeptOf c d = (d ≡ c) ⊎ (d ≡ 32)
+
 -- By the text that a stage keeps, whether a character ends it, what is kept of it, and which of the two it does.
 pub record KeepsOn (before : TextStage) (c : ℕ) (events : List TextEvent) (after : TextStage) : Type 0 where
   pub end : (k : List ℕ) → Keeps before k → end_text events ≡ (not (is_in_comment before) && (c == 40 && ends_behind k))
   pub kept : (k : List ℕ) → Keeps before k → is_in_comment before ≡ false → kept_in events ≡ kept_with k c
   pub goes : (k : List ℕ) → Keeps before k → end_text events ≡ false → GoesOn before k c events after
   pub ends : (k : List ℕ) → Keeps before k → end_text events ≡ true → EndsBehind k events after
+  pub only : (k : List ℕ) → Keeps before k → All (IsKeptOf c) (kept_in events)

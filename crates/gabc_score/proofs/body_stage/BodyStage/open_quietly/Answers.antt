@@ -10,4 +10,4 @@ returns-clause-taken c h =
     end_quiet c.args.self.now _ c.args.x c.args.pair.now c.add_text.new.self c.add_text.ensures.held c.add_text.ensures.used lines macros (omega (arith, c.requires.mark))
     c.in-Text.stage c.take_end.new.self (ap (λ (s : BodyStageState). s.part) (sym c.self.view_is) ∙ c.in-Text.is) c.requires.mark c.if-not-take_end.ensures.taken.0
     (λ xs. rw (← lines, ← macros) (c.snippet-self-inside.ensures.part xs)) c.add_text.ensures.gathered c.snippet-self-inside.ensures.counts
-    (rw (← lines, ← macros) c.snippet-self-inside.ensures.keeps) c.requires.counts
+    (rw (← lines, ← macros) c.snippet-self-inside.ensures.keeps) c.snippet-self-inside.ensures.tells.0 c.requires.counts

@@ -1,16 +1,23 @@
-use Rattle.std.proofs.Common.{◌≡◌, ℕ, ◌≤◌, true, false, List, [], map, length, refl, sym, ap, ◌∙◌, arith}
+use Rattle.std.proofs.Common.{◌≡◌, ℕ, ◌≤◌, true, false, List, [], map, length, Some, refl, sym, ap, ◌∙◌, arith}
 use Rattle.std.proofs.lemmas.List.{length-map}
 use Rattle.std.specs.List.{list_any}
 use Rattle.gabc_places.specs.declared.place.Place.{Place}
 use Rattle.gabc_notes.specs.witness.ItemMachine as notes
 use Rattle.gabc_notes.specs.declared.stage.NoteEvent.{NoteEvent}
+use Rattle.gabc_score.specs.declared.body_stage.BodyPart.TheVariants as part
 use Rattle.gabc_score.specs.Events.{is_text_end, is_next, is_close, note_event}
 use Rattle.gabc_score.proofs.building.EventsOfSnippets.{snippet_emits}
 use Rattle.gabc_score.proofs.building.CountsOfParts.{text_goes, text_ends, notes_go, notes_close}
 use Rattle.gabc_score.proofs.building.PartsOfKeptText.{text_keeps_on, text_ends_on}
+use Rattle.gabc_score.proofs.building.PartsKeepOn.{gabc_keeps_on, gabc_ends_on, gabc_closes_on, gabc_next_makes, gabc_makes, nabc_keeps_on, nabc_ends_on, nabc_closes_on, nabc_next_makes, nabc_makes}
+use Rattle.gabc_score.proofs.building.PartsMakeSyllables.{text_makes, notes_make_none}
+
 use Rattle.gabc_score.proofs.building.PartsKeepOn.{gabc_keeps_on, gabc_ends_on, gabc_closes_on, nabc_keeps_on, nabc_ends_on, nabc_closes_on}
+use Rattle.gabc_score.proofs.building.PartsKeepOnly.{text_keeps_only, gabc_keeps_only, nabc_keeps_only}
+use Rattle.gabc_score.proofs.building.PartsOpenOn.{opened_at, same_open, notes_open, next_opens, none_open, text_opens_on, gabc_opens_on}
 use Rattle.gabc_score.proofs.building.PartsStandOn.{snippet_stands, text_stands_on, gabc_closes_at, nabc_closes_at}
 use Rattle.gabc_score.proofs.building.SyllableEndsLast.{notes_close_last, texts_close_last}
+use Rattle.gabc_score.proofs.resuming.PartsReadAgain.{text_reads, text_end_reads, gabc_reads, gabc_end_reads, gabc_close_reads, nabc_reads, nabc_end_reads, nabc_close_reads}
 use Rattle.gabc_score.proofs.body_stage.BodyStage.push_part.Goals as goal
 
 pub returns-then-ended-clause-once : goal.returns-then-ended-clause-once
@@ -201,3 +208,174 @@ returns-then-close-2-clause-stands c =
     rw (← c.self.view_is, c.in-Nabc.is)
     (nabc_closes_at c.self.inside.nabc_lines c.self.inside.macros c.args.x c.in-Nabc.line c.in-Nabc.opened c.in-Nabc.stage c.push_nabc.new.stage c.push_nabc.new.events.items c.text_behind-self-inside-then-close-2.result c.push_nabc.ensures.keeps
     (sym (c.ends_at_close-close-in-Nabc.ensures ∙ ap (list_any is_close) c.slice-in-Nabc-2.ensures) ∙ c.if-close-2.true) c.text_behind-self-inside-then-close-2.ensures.stands)
+
+-- ---- what is made
+
+pub returns-then-ended-clause-makes : goal.returns-then-ended-clause-makes
+returns-then-ended-clause-makes c = text_makes c.args.self.now.nabc_lines c.args.self.now.macros c.args.self.now.part c.push_text.new.events.items
+
+pub returns-else-ended-clause-makes : goal.returns-else-ended-clause-makes
+returns-else-ended-clause-makes c = text_makes c.args.self.now.nabc_lines c.args.self.now.macros c.args.self.now.part c.push_text.new.events.items
+
+pub returns-then-next-clause-makes : goal.returns-then-next-clause-makes
+returns-then-next-clause-makes c =
+    rw (← c.self.view_is, c.in-Notes.is)
+    (gabc_next_makes c.self.inside.nabc_lines c.self.inside.macros c.in-Notes.opened c.in-Notes.stage c.push_gabc.new.stage c.args.x c.push_gabc.new.events.items c.push_gabc.ensures.keeps
+    (sym (c.ends_at_next-next.ensures ∙ ap (list_any is_next) c.slice-in-Notes.ensures) ∙ c.if-next.true))
+
+pub returns-then-close-clause-makes : goal.returns-then-close-clause-makes
+returns-then-close-clause-makes c =
+    rw (← c.self.view_is, c.in-Notes.is)
+    (gabc_makes c.self.inside.nabc_lines c.self.inside.macros c.in-Notes.opened c.in-Notes.stage c.push_gabc.new.stage c.args.x c.push_gabc.new.events.items c.push_gabc.ensures.keeps
+    (sym (c.ends_at_close-close.ensures ∙ ap (list_any is_close) c.slice-in-Notes-2.ensures) ∙ c.if-close.true))
+
+pub returns-else-close-clause-makes : goal.returns-else-close-clause-makes
+returns-else-close-clause-makes c = notes_make_none c.args.self.now.nabc_lines c.args.self.now.macros 0 c.in-Notes.opened c.args.self.now.part c.push_gabc.new.events.items
+    (sym (c.ends_at_close-close.ensures ∙ ap (list_any is_close) c.slice-in-Notes-2.ensures) ∙ c.if-close.false)
+
+pub returns-then-next-2-clause-makes : goal.returns-then-next-2-clause-makes
+returns-then-next-2-clause-makes c =
+    rw (← c.self.view_is, c.in-Nabc.is)
+    (nabc_next_makes c.self.inside.nabc_lines c.self.inside.macros c.in-Nabc.line c.in-Nabc.opened c.in-Nabc.stage c.push_nabc.new.stage c.args.x c.push_nabc.new.events.items c.push_nabc.ensures.keeps
+    (sym (c.ends_at_next-next-in-Nabc.ensures ∙ ap (list_any is_next) c.slice-in-Nabc.ensures) ∙ c.if-next-2.true))
+
+pub returns-then-close-2-clause-makes : goal.returns-then-close-2-clause-makes
+returns-then-close-2-clause-makes c =
+    rw (← c.self.view_is, c.in-Nabc.is)
+    (nabc_makes c.self.inside.nabc_lines c.self.inside.macros c.in-Nabc.line c.in-Nabc.opened c.in-Nabc.stage c.push_nabc.new.stage c.args.x c.push_nabc.new.events.items c.push_nabc.ensures.keeps
+    (sym (c.ends_at_close-close-in-Nabc.ensures ∙ ap (list_any is_close) c.slice-in-Nabc-2.ensures) ∙ c.if-close-2.true))
+
+pub returns-else-close-2-clause-makes : goal.returns-else-close-2-clause-makes
+returns-else-close-2-clause-makes c = notes_make_none c.args.self.now.nabc_lines c.args.self.now.macros c.in-Nabc.line c.in-Nabc.opened c.args.self.now.part c.push_nabc.new.events.items
+    (sym (c.ends_at_close-close-in-Nabc.ensures ∙ ap (list_any is_close) c.slice-in-Nabc-2.ensures) ∙ c.if-close-2.false)
+
+-- ---- a kept text that is read again
+
+pub returns-then-ended-clause-again : goal.returns-then-ended-clause-again
+returns-then-ended-clause-again c =
+    rw (← c.self.view_is, c.in-Text.is)
+    (text_end_reads c.self.inside.nabc_lines c.self.inside.macros c.args.x c.in-Text.stage c.push_text.new.stage c.push_text.new.events.items c.push_text.ensures.keeps c.snippet-self-inside.result
+    (sym (c.ends_text-ended.ensures ∙ ap (list_any is_text_end) c.slice.ensures) ∙ c.if-ended.true) c.snippet-self-inside.ensures.tells.0 c.snippet-self-inside.ensures.tells.1)
+
+pub returns-else-ended-clause-again : goal.returns-else-ended-clause-again
+returns-else-ended-clause-again c =
+    rw (← c.self.view_is, c.in-Text.is)
+    (text_reads c.self.inside.nabc_lines c.self.inside.macros c.args.x c.in-Text.stage c.push_text.new.stage c.push_text.new.events.items c.push_text.ensures.keeps
+    (sym (c.ends_text-ended.ensures ∙ ap (list_any is_text_end) c.slice.ensures) ∙ c.if-ended.false))
+
+pub returns-then-next-clause-again : goal.returns-then-next-clause-again
+returns-then-next-clause-again c =
+    rw (← c.self.view_is, c.in-Notes.is)
+    (gabc_end_reads c.self.inside.nabc_lines c.self.inside.macros c.in-Notes.opened c.in-Notes.stage c.push_gabc.new.stage c.args.x c.push_gabc.new.events.items c.push_gabc.ensures.keeps c.next_snippet-self-inside.result
+    (sym (c.ends_at_next-next.ensures ∙ ap (list_any is_next) c.slice-in-Notes.ensures) ∙ c.if-next.true) c.next_snippet-self-inside.ensures.tells.0 c.next_snippet-self-inside.ensures.tells.1)
+
+pub returns-then-close-clause-again : goal.returns-then-close-clause-again
+returns-then-close-clause-again c =
+    rw (← c.self.view_is, c.in-Notes.is)
+    (gabc_close_reads c.self.inside.nabc_lines c.self.inside.macros c.in-Notes.opened c.in-Notes.stage c.push_gabc.new.stage c.args.x c.push_gabc.new.events.items c.push_gabc.ensures.keeps c.text_behind-self-inside.result
+    (sym (c.ends_at_close-close.ensures ∙ ap (list_any is_close) c.slice-in-Notes-2.ensures) ∙ c.if-close.true))
+
+pub returns-else-close-clause-again : goal.returns-else-close-clause-again
+returns-else-close-clause-again c =
+    rw (← c.self.view_is, c.in-Notes.is)
+    (gabc_reads c.self.inside.nabc_lines c.self.inside.macros c.in-Notes.opened c.in-Notes.stage c.push_gabc.new.stage c.args.x c.push_gabc.new.events.items c.push_gabc.ensures.keeps
+    (sym (c.ends_at_next-next.ensures ∙ ap (list_any is_next) c.slice-in-Notes.ensures) ∙ c.if-next.false) (sym (c.ends_at_close-close.ensures ∙ ap (list_any is_close) c.slice-in-Notes-2.ensures) ∙ c.if-close.false))
+
+pub returns-then-next-2-clause-again : goal.returns-then-next-2-clause-again
+returns-then-next-2-clause-again c =
+    rw (← c.self.view_is, c.in-Nabc.is)
+    (nabc_end_reads c.self.inside.nabc_lines c.self.inside.macros c.in-Nabc.line c.in-Nabc.opened c.in-Nabc.stage c.push_nabc.new.stage c.args.x c.push_nabc.new.events.items c.push_nabc.ensures.keeps c.next_snippet-self-inside-then-next-2.result
+    (sym (c.ends_at_next-next-in-Nabc.ensures ∙ ap (list_any is_next) c.slice-in-Nabc.ensures) ∙ c.if-next-2.true) c.next_snippet-self-inside-then-next-2.ensures.tells.0 c.next_snippet-self-inside-then-next-2.ensures.tells.1)
+
+pub returns-then-close-2-clause-again : goal.returns-then-close-2-clause-again
+returns-then-close-2-clause-again c =
+    rw (← c.self.view_is, c.in-Nabc.is)
+    (nabc_close_reads c.self.inside.nabc_lines c.self.inside.macros c.in-Nabc.line c.in-Nabc.opened c.in-Nabc.stage c.push_nabc.new.stage c.args.x c.push_nabc.new.events.items c.push_nabc.ensures.keeps c.text_behind-self-inside-then-close-2.result
+    (sym (c.ends_at_close-close-in-Nabc.ensures ∙ ap (list_any is_close) c.slice-in-Nabc-2.ensures) ∙ c.if-close-2.true))
+
+pub returns-else-close-2-clause-again : goal.returns-else-close-2-clause-again
+returns-else-close-2-clause-again c =
+    rw (← c.self.view_is, c.in-Nabc.is)
+    (nabc_reads c.self.inside.nabc_lines c.self.inside.macros c.in-Nabc.line c.in-Nabc.opened c.in-Nabc.stage c.push_nabc.new.stage c.args.x c.push_nabc.new.events.items c.push_nabc.ensures.keeps
+    (sym (c.ends_at_next-next-in-Nabc.ensures ∙ ap (list_any is_next) c.slice-in-Nabc.ensures) ∙ c.if-next-2.false) (sym (c.ends_at_close-close-in-Nabc.ensures ∙ ap (list_any is_close) c.slice-in-Nabc-2.ensures) ∙ c.if-close-2.false))
+
+-- ---- what is open
+
+pub returns-then-ended-clause-opens : goal.returns-then-ended-clause-opens
+returns-then-ended-clause-opens c = notes_open c.args.self.now.nabc_lines c.args.self.now.macros c.args.x c.args.self.now.part c.snippet-self-inside.result c.snippet-self-inside.ensures.tells.0
+
+pub returns-else-ended-clause-opens : goal.returns-else-ended-clause-opens
+returns-else-ended-clause-opens c =
+    rw (← c.self.view_is, c.in-Text.is)
+    (text_opens_on c.self.inside.nabc_lines c.self.inside.macros c.args.x c.in-Text.stage c.push_text.new.stage c.push_text.new.events.items c.push_text.ensures.keeps
+    (sym (c.ends_text-ended.ensures ∙ ap (list_any is_text_end) c.slice.ensures) ∙ c.if-ended.false))
+
+pub returns-then-next-clause-opens : goal.returns-then-next-clause-opens
+returns-then-next-clause-opens c =
+    rw (← c.self.view_is, c.in-Notes.is)
+    (next_opens c.self.inside.nabc_lines c.self.inside.macros c.args.x c.in-Notes.opened (part.Notes c.in-Notes.opened c.in-Notes.stage) c.next_snippet-self-inside.result refl c.next_snippet-self-inside.ensures.tells.0)
+
+pub returns-then-close-clause-opens : goal.returns-then-close-clause-opens
+returns-then-close-clause-opens c = none_open c.args.self.now.nabc_lines c.args.self.now.macros c.args.x c.args.self.now.part c.text_behind-self-inside.result c.text_behind-self-inside.ensures.opens
+
+pub returns-else-close-clause-opens : goal.returns-else-close-clause-opens
+returns-else-close-clause-opens c =
+    rw (← c.self.view_is, c.in-Notes.is)
+    (gabc_opens_on c.self.inside.nabc_lines c.self.inside.macros c.args.x c.in-Notes.opened c.in-Notes.stage c.push_gabc.new.stage c.push_gabc.new.events.items c.push_gabc.ensures.keeps
+    (sym (c.ends_at_next-next.ensures ∙ ap (list_any is_next) c.slice-in-Notes.ensures) ∙ c.if-next.false)
+    (sym (c.ends_at_close-close.ensures ∙ ap (list_any is_close) c.slice-in-Notes-2.ensures) ∙ c.if-close.false))
+
+pub returns-then-next-2-clause-opens : goal.returns-then-next-2-clause-opens
+returns-then-next-2-clause-opens c =
+    rw (← c.self.view_is, c.in-Nabc.is)
+    (next_opens c.self.inside.nabc_lines c.self.inside.macros c.args.x c.in-Nabc.opened (part.Nabc c.in-Nabc.line c.in-Nabc.opened c.in-Nabc.stage) c.next_snippet-self-inside-then-next-2.result refl c.next_snippet-self-inside-then-next-2.ensures.tells.0)
+
+pub returns-then-close-2-clause-opens : goal.returns-then-close-2-clause-opens
+returns-then-close-2-clause-opens c = none_open c.args.self.now.nabc_lines c.args.self.now.macros c.args.x c.args.self.now.part c.text_behind-self-inside-then-close-2.result c.text_behind-self-inside-then-close-2.ensures.opens
+
+pub returns-else-close-2-clause-opens : goal.returns-else-close-2-clause-opens
+returns-else-close-2-clause-opens c =
+    rw (← c.self.view_is, c.in-Nabc.is)
+    (λ p keeps at. same_open c.args.x.place (opened_at (Some c.in-Nabc.opened)))
+
+-- ---- what is kept
+
+pub returns-then-ended-clause-only : goal.returns-then-ended-clause-only
+returns-then-ended-clause-only c =
+    rw (← c.self.view_is, c.in-Text.is)
+    (text_keeps_only c.self.inside.nabc_lines c.self.inside.macros c.args.x c.in-Text.stage c.push_text.new.stage c.push_text.new.events.items c.push_text.ensures.keeps)
+
+pub returns-else-ended-clause-only : goal.returns-else-ended-clause-only
+returns-else-ended-clause-only c =
+    rw (← c.self.view_is, c.in-Text.is)
+    (text_keeps_only c.self.inside.nabc_lines c.self.inside.macros c.args.x c.in-Text.stage c.push_text.new.stage c.push_text.new.events.items c.push_text.ensures.keeps)
+
+pub returns-then-next-clause-only : goal.returns-then-next-clause-only
+returns-then-next-clause-only c =
+    rw (← c.self.view_is, c.in-Notes.is)
+    (gabc_keeps_only c.self.inside.nabc_lines c.self.inside.macros c.args.x c.in-Notes.opened c.in-Notes.stage c.push_gabc.new.stage c.push_gabc.new.events.items c.push_gabc.ensures.keeps)
+
+pub returns-then-close-clause-only : goal.returns-then-close-clause-only
+returns-then-close-clause-only c =
+    rw (← c.self.view_is, c.in-Notes.is)
+    (gabc_keeps_only c.self.inside.nabc_lines c.self.inside.macros c.args.x c.in-Notes.opened c.in-Notes.stage c.push_gabc.new.stage c.push_gabc.new.events.items c.push_gabc.ensures.keeps)
+
+pub returns-else-close-clause-only : goal.returns-else-close-clause-only
+returns-else-close-clause-only c =
+    rw (← c.self.view_is, c.in-Notes.is)
+    (gabc_keeps_only c.self.inside.nabc_lines c.self.inside.macros c.args.x c.in-Notes.opened c.in-Notes.stage c.push_gabc.new.stage c.push_gabc.new.events.items c.push_gabc.ensures.keeps)
+
+pub returns-then-next-2-clause-only : goal.returns-then-next-2-clause-only
+returns-then-next-2-clause-only c =
+    rw (← c.self.view_is, c.in-Nabc.is)
+    (nabc_keeps_only c.self.inside.nabc_lines c.self.inside.macros c.args.x c.in-Nabc.line c.in-Nabc.opened c.in-Nabc.stage c.push_nabc.new.stage c.push_nabc.new.events.items c.push_nabc.ensures.keeps)
+
+pub returns-then-close-2-clause-only : goal.returns-then-close-2-clause-only
+returns-then-close-2-clause-only c =
+    rw (← c.self.view_is, c.in-Nabc.is)
+    (nabc_keeps_only c.self.inside.nabc_lines c.self.inside.macros c.args.x c.in-Nabc.line c.in-Nabc.opened c.in-Nabc.stage c.push_nabc.new.stage c.push_nabc.new.events.items c.push_nabc.ensures.keeps)
+
+pub returns-else-close-2-clause-only : goal.returns-else-close-2-clause-only
+returns-else-close-2-clause-only c =
+    rw (← c.self.view_is, c.in-Nabc.is)
+    (nabc_keeps_only c.self.inside.nabc_lines c.self.inside.macros c.args.x c.in-Nabc.line c.in-Nabc.opened c.in-Nabc.stage c.push_nabc.new.stage c.push_nabc.new.events.items c.push_nabc.ensures.keeps)

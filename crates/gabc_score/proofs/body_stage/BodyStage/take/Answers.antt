@@ -1,6 +1,12 @@
-use Rattle.std.proofs.Common.{ap, subst}
-use Rattle.gabc_score.specs.machine.PartKeeps.{PartStandsOn}
+use Rattle.std.proofs.Common.{[], sym, ap, subst, ◌∙◌}
+use Rattle.gabc_score.specs.declared.body_stage.BodyPart.{BodyPart}
+use Rattle.gabc_score.specs.machine.PartKeeps.{in_text, PartKeeps, PartStandsOn}
+use Rattle.gabc_score.specs.machine.PartMakes.{PartMakes}
+use Rattle.gabc_score.specs.machine.PartOnly.{PartKeepsOnly}
 use Rattle.gabc_score.specs.witness.BodyStage.{BodyStageState}
+use Rattle.gabc_score.proofs.building.PartsMakeSyllables.{first_text_makes}
+use Rattle.gabc_score.specs.machine.PartOpens.{PartOpensOn}
+use Rattle.gabc_score.proofs.building.PartsOpenOn.{first_text_opens}
 use Rattle.gabc_score.proofs.building.PartsStandOn.{first_text_stands}
 use Rattle.gabc_score.proofs.body_stage.BodyStage.take.Goals.{in-Comment+else-x-ne10, in_default}
 use Rattle.gabc_score.proofs.body_stage.BodyStage.take.Goals as goal
@@ -10,4 +16,25 @@ returns-clause-stands c = elim c.match-self.branch [
   | in-Comment+else-x-ne10 w ↦ λ p keeps at. first_text_stands c.match-self.self.nabc_lines c.match-self.self.macros c.args.x w.new.result c.match-self.self.part c.push_part.new.self.part
       (ap (λ (s : BodyStageState). s.part) w.self-is) w.new.ensures.keeps w.new.ensures.fresh c.push_part.ensures.stands
   | in_default w ↦ subst (λ (s : BodyStageState). PartStandsOn s.nabc_lines s.macros c.args.x s.part c.push_part.new.self.part) w.self-is c.push_part.ensures.stands
+]
+
+pub returns-clause-makes : goal.returns-clause-makes
+returns-clause-makes c = elim c.match-self.branch [
+  | in-Comment+else-x-ne10 w ↦ first_text_makes c.args.self.now.nabc_lines c.args.self.now.macros c.match-self.self.nabc_lines c.match-self.self.macros w.new.result c.args.self.now.part c.match-self.self.part c.push_part.new.self.events
+      (ap (λ (s : BodyStageState). s.part) (sym c.self.view_is) ∙ w.in-Comment.is) (ap (λ (s : BodyStageState). s.part) w.self-is) w.new.ensures.keeps
+      (ap (λ (s : BodyStageState). s.nabc_lines) (w.self-is) ∙ ap (λ (s : BodyStageState). s.nabc_lines) c.self.view_is) (ap (λ (s : BodyStageState). s.macros) (w.self-is) ∙ ap (λ (s : BodyStageState). s.macros) c.self.view_is) c.push_part.ensures.makes
+  | in_default w ↦ subst (λ (s : BodyStageState). PartMakes s.nabc_lines s.macros s.part c.push_part.new.self.events) w.self-is c.push_part.ensures.makes
+]
+
+pub returns-clause-opens : goal.returns-clause-opens
+returns-clause-opens c = elim c.match-self.branch [
+  | in-Comment+else-x-ne10 w ↦ λ p keeps at. first_text_opens c.match-self.self.nabc_lines c.match-self.self.macros c.args.x w.new.result c.args.self.now.part c.match-self.self.part c.push_part.new.self.part (ap (λ (s : BodyStageState). s.part) (sym c.self.view_is) ∙ w.in-Comment.is)
+      (ap (λ (s : BodyStageState). s.part) w.self-is) w.new.ensures.keeps w.new.ensures.fresh c.push_part.ensures.opens
+  | in_default w ↦ subst (λ (s : BodyStageState). PartOpensOn s.nabc_lines s.macros c.args.x s.part c.push_part.new.self.part) w.self-is c.push_part.ensures.opens
+]
+
+pub returns-clause-only : goal.returns-clause-only
+returns-clause-only c = elim c.match-self.branch [
+  | in-Comment+else-x-ne10 w ↦ λ p keeps. c.push_part.ensures.only (in_text []) (subst (λ (b : BodyPart). PartKeeps c.match-self.self.nabc_lines c.match-self.self.macros b (in_text [])) (sym (ap (λ (s : BodyStageState). s.part) w.self-is)) w.new.ensures.keeps)
+  | in_default w ↦ subst (λ (s : BodyStageState). PartKeepsOnly s.nabc_lines s.macros c.args.x s.part c.push_part.new.self.events) w.self-is c.push_part.ensures.only
 ]

@@ -8,10 +8,13 @@ use Rattle.gabc_notes.specs.witness.ItemMachine as notes
 use Rattle.gabc_nabc.specs.witness.DescriptorMachine as nabc
 use Rattle.gabc_score.specs.declared.body_stage.BodyPart.{BodyPart}
 use Rattle.gabc_score.specs.witness.BodyStage.{BodyStageState, part_with}
+use Rattle.gabc_score.specs.ScoreTells.{openers_of}
 use Rattle.gabc_score.specs.machine.PartCounts.{CountsHold}
 use Rattle.gabc_score.specs.machine.Gatherer.{Gathered, with_text}
 use Rattle.gabc_score.specs.machine.PartKeeps.{PartKeepsOn}
+use Rattle.gabc_score.specs.machine.PartOpens.{PartOpensOn}
 use Rattle.gabc_score.proofs.building.PartsKeepOn.{gabc_keeps_on, nabc_keeps_on}
+use Rattle.gabc_score.proofs.building.PartsOpenOn.{gabc_opens_on, same_open}
 use Rattle.gabc_score.proofs.building.QuietParts.{note_quiet}
 use Rattle.gabc_score.proofs.building.QuietTexts.{letter_quiet}
 use Rattle.gabc_score.proofs.body_stage.BodyStage.take_quietly.Goals as goal
@@ -35,7 +38,9 @@ returns-else-not-take_kept-clause-taken c h =
     (λ o counts. subst (λ (b : BodyPart). CountsHold b o) part_is counts) (λ o counts. counts)
     (subst (λ (b : BodyPart). PartKeepsOn c.args.self.now.nabc_lines c.args.self.now.macros b (part.Notes c.in-Notes.opened c.take_kept.new.self) (event.Notes 0 (note.Kept c.args.x) ∷ [])) (sym part_is)
     (gabc_keeps_on c.args.self.now.nabc_lines c.args.self.now.macros c.in-Notes.opened c.in-Notes.stage c.take_kept.new.self c.args.x (note.Kept c.args.x ∷ []) (c.if-not-take_kept.ensures.keeps refl) refl refl))
-    (λ p kept at. tt) c.requires.counts
+    (λ p kept at. tt)
+    (subst (λ (b : BodyPart). PartOpensOn c.args.self.now.nabc_lines c.args.self.now.macros c.args.x b (part.Notes c.in-Notes.opened c.take_kept.new.self)) (sym part_is)
+    (gabc_opens_on c.args.self.now.nabc_lines c.args.self.now.macros c.args.x c.in-Notes.opened c.in-Notes.stage c.take_kept.new.self (note.Kept c.args.x ∷ []) (c.if-not-take_kept.ensures.keeps refl) refl refl)) c.requires.counts
 
 pub returns-else-not-take_kept-2-clause-taken : goal.returns-else-not-take_kept-2-clause-taken
 returns-else-not-take_kept-2-clause-taken c h =
@@ -47,4 +52,6 @@ returns-else-not-take_kept-2-clause-taken c h =
     (λ o counts. subst (λ (b : BodyPart). CountsHold b o) part_is counts) (λ o counts. counts)
     (subst (λ (b : BodyPart). PartKeepsOn c.args.self.now.nabc_lines c.args.self.now.macros b (part.Nabc c.in-Nabc.line c.in-Nabc.opened c.take_kept-in-Nabc.new.self) (event.Notes c.in-Nabc.line (note.Kept c.args.x) ∷ [])) (sym part_is)
     (nabc_keeps_on c.args.self.now.nabc_lines c.args.self.now.macros c.in-Nabc.line c.in-Nabc.opened c.in-Nabc.stage c.take_kept-in-Nabc.new.self c.args.x (note.Kept c.args.x ∷ []) (c.if-not-take_kept-2.ensures.keeps refl) refl refl))
-    (λ p kept at. tt) c.requires.counts
+    (λ p kept at. tt)
+    (subst (λ (b : BodyPart). PartOpensOn c.args.self.now.nabc_lines c.args.self.now.macros c.args.x b (part.Nabc c.in-Nabc.line c.in-Nabc.opened c.take_kept-in-Nabc.new.self)) (sym part_is)
+    (λ p kept at. same_open c.args.x.place (openers_of (part.Nabc c.in-Nabc.line c.in-Nabc.opened c.in-Nabc.stage)))) c.requires.counts

@@ -29,6 +29,7 @@ returns-in-Some-clause-step c =
       before_held = λ body. absurd (cc (body, c.stop.ensures.part));
       next = λ body. absurd (cc (body, c.stop.ensures.part));
       stands = λ here was body. absurd (cc (body, c.stop.ensures.part));
+      told = λ may here was body. absurd (cc (body, c.stop.ensures.part));
       law = search rules;
       emitted = c.stop.ensures.emitted;
     }
@@ -57,6 +58,7 @@ returns-in-None-clause-step c =
       before_held = λ body. absurd (cc body);
       next = λ body. absurd (cc body);
       stands = λ here was body. absurd (cc body);
+      told = λ may here was body. absurd (cc body);
       law = search rules;
       emitted = rw (sym c.slice-found.ensures) c.give_end.ensures.emitted;
     }

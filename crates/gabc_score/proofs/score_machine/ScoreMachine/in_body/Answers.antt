@@ -1,6 +1,9 @@
 use Rattle.std.proofs.Common.{rules, ap, ◌∙◌}
+use Rattle.gabc_score.specs.declared.bounds.Bounds.{Bounds}
 use Rattle.gabc_score.specs.machine.Gatherer.{Gathered}
 use Rattle.gabc_score.specs.machine.SlotPair.{SlotPairState}
+use Rattle.gabc_score.proofs.score_events.UnitsAreHeld.{none_held}
+use Rattle.gabc_score.proofs.score_events.HeldWithinLimits.{within_begun}
 use Rattle.gabc_score.proofs.score_events.WhatIsRead.{comment_reads}
 use Rattle.gabc_score.proofs.score_machine.ScoreMachine.in_body.Goals as goal
 
@@ -12,7 +15,12 @@ returns-clause-rests c = record {
   preceded = search rules;
   behind = search rules;
   lent = search rules;
+  code = search rules;
   reading = comment_reads c.args.body.nabc_lines c.args.body.macros c.args.head c.args.limits.syllable c.args.head c.args.body.part c.behind_headers-bounds.result c.start.new.self.gathered
       c.requires c.behind_headers-bounds.ensures
       (ap (λ (s : SlotPairState). s.gathered) c.start.ensures ∙ ap (λ (g : Gathered). record g { total = c.args.head }) c.in_ok-pair.ensures.gathered);
+  units = none_held c.args.body.nabc_lines c.start.new.self.gathered.made
+      (ap (λ (s : SlotPairState). s.gathered.made) c.start.ensures ∙ ap (λ (g : Gathered). g.made) c.in_ok-pair.ensures.gathered);
+  within = within_begun c.args.limits c.args.head c.behind_headers-bounds.result.before c.start.new.self.gathered (ap (λ (b : Bounds). b.before) c.behind_headers-bounds.ensures)
+      (ap (λ (g : Gathered). g.made) (ap (λ (s : SlotPairState). s.gathered) c.start.ensures ∙ ap (λ (g : Gathered). record g { total = c.args.head }) c.in_ok-pair.ensures.gathered));
 }

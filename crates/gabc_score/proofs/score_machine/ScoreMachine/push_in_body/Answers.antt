@@ -17,6 +17,7 @@ returns-in-Found-clause-step c =
       before_held = λ body. refl;
       next = λ body. refl;
       stands = λ here was. was;
+      told = λ may here was. was;
       law = λ xs. refl;
       emitted = record { events = c.push.ensures; few = omega arith; lent = refl };
     })
@@ -35,6 +36,7 @@ returns-in-Stop-clause-step c =
       before_held = λ body. absurd (cc (body, c.stop.ensures.part));
       next = λ body. absurd (cc (body, c.stop.ensures.part));
       stands = λ here was body. absurd (cc (body, c.stop.ensures.part));
+      told = λ may here was body. absurd (cc (body, c.stop.ensures.part));
       law = search rules;
       emitted = c.stop.ensures.emitted;
     }
@@ -51,6 +53,7 @@ returns-in-Heads-clause-step c =
       before_held = λ body. refl;
       next = λ body. refl;
       stands = λ here was. was;
+      told = λ may here was. was;
       law = λ xs. refl;
       emitted = search rules;
     })

@@ -2,9 +2,13 @@ use Rattle.std.proofs.Common.{rules, [], ◌∷◌, refl, ap, sym, ◌∙◌, ar
 use Rattle.std.proofs.lemmas.Bool.{false≢true}
 use Rattle.gabc_score.specs.ScoreEvents.{Found, Stop, End}
 use Rattle.gabc_score.specs.ScoreStage.{is_final}
+use Rattle.gabc_score.specs.declared.bounds.Bounds.{Bounds}
 use Rattle.gabc_score.specs.machine.Gatherer.{Gathered}
 use Rattle.gabc_score.specs.machine.SlotPair.{SlotPairState}
 use Rattle.gabc_score.specs.witness.BodyStage.{BodyStageState}
+use Rattle.gabc_score.proofs.score_events.UnitsAreHeld.{none_held}
+use Rattle.gabc_score.proofs.score_events.CountsGoOn.{begins_of_text}
+use Rattle.gabc_score.proofs.score_events.HeldWithinLimits.{within_begun}
 use Rattle.gabc_score.proofs.score_events.WhatIsRead.{comment_reads}
 use Rattle.gabc_score.proofs.score_events.FewAndShortAreLent.{lends_none}
 use Rattle.gabc_score.proofs.score_machine.ScoreMachine.push_in_heads.Goals as goal
@@ -21,6 +25,7 @@ returns-in-Found-clause-step c =
       before_held = λ body. absurd (cc body);
       next = λ body. absurd (cc body);
       stands = λ here was body. absurd (cc body);
+      told = λ may here was body. absurd (cc body);
       law = λ xs. refl;
       emitted = record { events = c.push.ensures; few = omega arith; lent = refl };
     })
@@ -37,6 +42,7 @@ returns-in-Stop-clause-step c =
       before_held = λ body. absurd (cc body);
       next = λ body. absurd (cc body);
       stands = λ here was body. absurd (cc body);
+      told = λ may here was body. absurd (cc body);
       law = λ xs. refl;
       emitted = record { events = c.push-in-Stop.ensures; few = omega arith; lent = refl };
     })
@@ -53,6 +59,7 @@ returns-in-End-clause-step c =
       before_held = λ body. absurd (cc body);
       next = λ body. absurd (cc body);
       stands = λ here was body. absurd (cc body);
+      told = λ may here was body. absurd (cc body);
       law = λ xs. refl;
       emitted = record { events = c.push-in-End.ensures; few = omega arith; lent = refl };
     })
@@ -69,6 +76,7 @@ returns-in-Body-clause-step c =
       before_held = λ body. absurd (cc body);
       next = λ body. absurd (cc body);
       stands = λ here was body. absurd (cc body);
+      told = λ may here was body. absurd (cc body);
       law = λ xs. refl;
       emitted = search rules;
     })
@@ -84,6 +92,10 @@ returns-in-Heads-clause-step c = record {
   before_held = search rules;
   next = search rules;
   stands = search rules;
+  told = λ may here was body. begins_of_text c.args.self.now.limits c.args.self.now.next c.args.input c.in-Heads.nabc_lines c.in-Heads.macros c.in-Heads.canonical c.restart.new.self c.behind_headers-self.result c.in-Heads.is
+      c.restart.ensures c.behind_headers-self.ensures may _ refl refl refl refl
+      (ap (λ (g : Gathered). g.builder.kept) (ap (λ (s : SlotPairState). s.gathered) c.start.ensures ∙ ap (λ (g : Gathered). record g { total = c.in-Heads.canonical }) c.requires.rests.nothing))
+      (ap (λ (g : Gathered). g.made) (ap (λ (s : SlotPairState). s.gathered) c.start.ensures ∙ ap (λ (g : Gathered). record g { total = c.in-Heads.canonical }) c.requires.rests.nothing));
   law = search rules;
   emitted = search rules;
 }
@@ -96,7 +108,12 @@ returns-in-Heads-clause-rests c = record {
   preceded = search rules;
   behind = search rules;
   lent = search rules;
+  code = search rules;
   reading = comment_reads c.restart.new.self.nabc_lines c.restart.new.self.macros c.in-Heads.canonical c.args.self.now.limits.syllable c.in-Heads.canonical c.restart.new.self.part c.behind_headers-self.result c.start.new.self.gathered
       (ap (λ (s : BodyStageState). s.part) c.restart.ensures) c.behind_headers-self.ensures
       (ap (λ (s : SlotPairState). s.gathered) c.start.ensures ∙ ap (λ (g : Gathered). record g { total = c.in-Heads.canonical }) c.requires.rests.nothing);
+  units = none_held c.restart.new.self.nabc_lines c.start.new.self.gathered.made
+      (ap (λ (s : SlotPairState). s.gathered.made) c.start.ensures ∙ ap (λ (g : Gathered). g.made) c.requires.rests.nothing);
+  within = within_begun c.args.self.now.limits c.in-Heads.canonical c.behind_headers-self.result.before c.start.new.self.gathered (ap (λ (b : Bounds). b.before) c.behind_headers-self.ensures)
+      (ap (λ (g : Gathered). g.made) (ap (λ (s : SlotPairState). s.gathered) c.start.ensures ∙ ap (λ (g : Gathered). record g { total = c.in-Heads.canonical }) c.requires.rests.nothing));
 }

@@ -6,9 +6,13 @@ use Rattle.gabc_score.specs.declared.bounds.Bounds.{Bounds}
 use Rattle.gabc_score.specs.Before.{with_each}
 use Rattle.gabc_score.specs.Body.{fault_at}
 use Rattle.gabc_score.specs.ScoreEvents.{ScoreOutput, Stop, outputs_of}
-use Rattle.gabc_score.specs.ScoreStage.{IsWithin, Lends}
-use Rattle.gabc_score.specs.ScoreTells.{StandsAt}
-use Rattle.gabc_score.specs.machine.ScoreMachine.{IsShort}
+use Rattle.gabc_places.specs.Place.{saturating_next_place}
+use Rattle.gabc_score.specs.ScoreStage.{IsWithin, Lends, MayCome}
+use Rattle.gabc_score.specs.declared.score_machine.ScorePart.{ScorePart}
+use Rattle.gabc_score.specs.ScoreTells.{held_in_body, StandsAt, openers_of}
+use Rattle.gabc_score.specs.ToldWithin.{IsPlace, IsEarlier, AreOpenersBefore, IsToldOfText}
+use Rattle.gabc_score.specs.machine.PartOnly.{HoldsTexts, kept_codes}
+use Rattle.gabc_score.specs.machine.ScoreMachine.{IsShort, shown}
 use Rattle.gabc_score.specs.machine.ScoreStage.{placed_behind, with_held}
 use Rattle.gabc_score.specs.machine.Preceded.{IsPreceded, past_point}
 use Rattle.gabc_score.proofs.score_events.FewAndShortAreLent.{short_now, held_lends, lends_these, not_over, placed_within}
@@ -18,10 +22,18 @@ use Rattle.gabc_score.specs.machine.BodyBuilder.{code_in, with_all}
 use Rattle.gabc_score.specs.machine.Gatherer.{Gathered}
 use Rattle.gabc_score.specs.machine.PartCounts.{CountsHold}
 use Rattle.gabc_score.specs.Syllable.{UnplacedSyllable}
+use Rattle.gabc_score.proofs.score_events.UnitsAreHeld.{units_past}
+use Rattle.gabc_score.proofs.score_events.CountsGoOn.{counts_past, none_past}
+use Rattle.gabc_score.proofs.score_events.OpenersInOrder.{opens_in_order, place_behind}
+use Rattle.gabc_score.proofs.score_events.HeldWithinLimits.{within_past}
+use Rattle.gabc_score.proofs.score_events.TextsArePlain.{plain_all, plain_held, of_character}
 use Rattle.gabc_score.proofs.score_events.WhatIsRead.{reading_past}
 use Rattle.gabc_score.proofs.score_events.PartsFollow.{leads_out, stays_inside}
 use Rattle.gabc_score.proofs.score_events.WhatPrecedes.{lent_past, turned, past_in_body}
-use Rattle.gabc_score.proofs.score_events.EventsStayWithinBounds.{few_found, few_with_first, limit_stays, within}
+use Rattle.gabc_score.specs.NoteBeforeClef.{found_first}
+use Rattle.gabc_places.specs.BoundedList.{extended_by}
+use Rattle.gabc_score.proofs.resuming.CharactersGathered.{given_only, none_given}
+use Rattle.gabc_score.proofs.score_events.EventsStayWithinBounds.{code_turned, few_found, few_with_first, limit_stays, within}
 use Rattle.gabc_score.proofs.score_machine.ScoreMachine.read.Goals as goal
 
 pub find_first-requires : goal.find_first-requires
@@ -52,6 +64,7 @@ returns-in-Some-clause-step c =
       before_held = λ body. absurd (cc (body, c.stop.ensures.part));
       next = λ body. absurd (cc (body, c.stop.ensures.part));
       stands = λ here was body. absurd (cc (body, c.stop.ensures.part));
+      told = λ may here was body. absurd (cc (body, c.stop.ensures.part));
       law = search rules;
       emitted = c.stop.ensures.emitted;
     }
@@ -74,6 +87,11 @@ returns-after-self-clause-step c =
     let none : code_in limits (with_all old now) ≡ None = sym (ap (code_in limits) is) ∙ (sym c.code.ensures.code ∙ c.in-None.is) in
     let short : All (IsShort limits.syllable) made = subst (λ (k : Gathered). All (IsShort limits.syllable) k.made) (sym is) (short_now limits old now rests.limit rests.over rests.short none) in
     let within : All (IsWithin limits) lent = All-take (IsWithin limits) (length made - 1) (placed_behind c.args.self.now.has_lent made) (placed_within limits (not c.args.self.now.has_lent) made short) in
+    let texts : MayCome limits c.args.self.now.next (head_event.Body c.args.x) → IsToldOfText (shown c.args.self.now) → HoldsTexts c.give_point-gave.new.pair.gathered =
+    λ may t. subst HoldsTexts (sym c.give_point-gave.ensures.gathered) (plain_held c.hold.new.pair.gathered (subst HoldsTexts (sym is)
+    (plain_all old now (of_character c.args.x.c (kept_codes now) may.1.1 (c.take.ensures.only c.requires.rests.reading.parts c.requires.rests.reading.keeps)) (t.reading, t.held)))) in
+    let behind : MayCome limits c.args.self.now.next (head_event.Body c.args.x) → IsPlace c.args.self.now.next → IsPlace (saturating_next_place c.args.x.place c.args.x.c) × IsEarlier c.args.x.place (saturating_next_place c.args.x.place c.args.x.c) =
+    λ may is. place_behind c.args.x.place c.args.x.c (subst IsPlace (sym may.0) is) may.1.0.0 may.1.0.1 in
     record {
       outputs = outputs_of fs lent;
       lends = subst (λ (outputs : List ScoreOutput). Lends limits 1 outputs) (append-nil (outputs_of fs lent)) (lends_these limits 1 fs lent [] refl c.give_point-gave.ensures.few within);
@@ -85,6 +103,24 @@ returns-after-self-clause-step c =
       before_held = λ body. past_in_body c.args.self.now.part (head_event.Body c.args.x) fs lent c.args.self.now.bounds.before c.pass.new.self.before c.requires.part
           (ap (λ (k : Bounds). k.before) passed ∙ turns.given);
       next = search rules;
+      told = λ may here was body. record {
+        counts = rw (c.take.ensures.lines, c.take.ensures.macros)
+            (counts_past limits c.args.self.now.body.nabc_lines c.args.self.now.body.macros b.before c.pass.new.self.before c.args.self.now.has_lent c.hold.new.pair.gathered c.give_point-gave.new.pair.gathered
+            (ap (λ (k : Bounds). k.before) passed ∙ turns.given) c.give_point-gave.ensures.gathered
+            (subst (λ (k : Gathered). IsPreceded c.pass.new.self.before k) (sym c.give_point-gave.ensures.gathered) (subst (λ (k : Bounds). IsPreceded k.before (with_held c.hold.new.pair.gathered)) (sym passed) turns.preceded))
+            (within_past limits b.before c.pass.new.self.before c.args.self.now.has_lent old c.hold.new.pair.gathered c.give_point-gave.new.pair.gathered now rests.limit rests.over c.requires.rests.preceded.follows c.requires.rests.within is none
+            (ap (λ (k : Bounds). k.before) passed ∙ turns.given) c.give_point-gave.ensures.gathered)
+            (was c.requires.part).counts);
+        reading = (texts may (was c.requires.part)).0;
+        held = (texts may (was c.requires.part)).1;
+        next = subst IsPlace (sym c.saturating_after-self.ensures) (behind may (was c.requires.part).next).0;
+        openers = subst (λ p. AreOpenersBefore p (openers_of c.take.new.self.part)) (sym c.saturating_after-self.ensures)
+            (opens_in_order c.args.x.place (saturating_next_place c.args.x.place c.args.x.c) (behind may (was c.requires.part).next).1 (subst IsPlace (sym may.0) (was c.requires.part).next) (openers_of c.args.self.now.body.part) (openers_of c.take.new.self.part)
+            (c.take.ensures.opens c.requires.rests.reading.parts c.requires.rests.reading.keeps (subst (λ p. StandsAt p c.args.self.now.body.part) (sym may.0) (here c.requires.part)))
+            (subst (λ p. AreOpenersBefore p (openers_of c.args.self.now.body.part)) (sym may.0) (was c.requires.part).openers));
+        none_held = λ none. none_past b.before c.pass.new.self.before c.args.self.now.has_lent old c.hold.new.pair.gathered c.give_point-gave.new.pair.gathered now c.take.ensures.once (ap (λ (k : Bounds). k.before) passed ∙ turns.given) c.give_point-gave.ensures.gathered is
+            (λ e. (was c.requires.part).none_held (ap (λ (k : ScorePart). held_in_body k old.made) c.requires.part ∙ e)) (ap (λ (k : ScorePart). held_in_body k c.give_point-gave.new.pair.gathered.made) (sym c.requires.part) ∙ none);
+      };
       stands = λ here was body. subst (λ p. StandsAt p c.take.new.self.part) (sym c.saturating_after-self.ensures) (c.take.ensures.stands c.requires.rests.reading.parts c.requires.rests.reading.keeps
           (subst (λ p. StandsAt p c.args.self.now.body.part) (sym here) (was c.requires.part)));
       law = search rules;
@@ -133,8 +169,56 @@ returns-after-self-clause-rests c =
           ∙ ap (λ (k : Bounds). with_each k.before (with_held g).made) (sym passed)
           ∙ ap (λ (k : Gathered). with_each c.pass.new.self.before k.made) (sym t.gathered);
       lent = (let e = lent_past b.before c.pass.new.self.before c.args.self.now.has_lent c.give_point-gave.result g.made old.lent (ap (λ (k : Bounds). k.before) passed ∙ turns.given) c.give_point-gave.ensures.gave in search (rules, e));
+      code = ap (code_in c.args.self.now.limits) t.gathered ∙ code_turned c.args.self.now.limits g (sym c.code.ensures.code ∙ c.in-None.is);
       reading = reading_past c.args.self.now.body.nabc_lines c.args.self.now.body.macros c.take.new.self.nabc_lines c.take.new.self.macros c.args.self.now.body.part c.take.new.self.part b c.pass.new.self was g c.give_point-gave.new.pair.gathered now
           c.is_whole-is_whole.result c.give_point-gave.result (let few = old.kept in let most = c.args.self.now.limits.in_range.syllable_most in omega (arith, few, most)) is t.gathered
           (c.is_whole-is_whole.ensures.made ∙ ap (λ (ms : List UnplacedSyllable). nat_lt (length ms) (length g.made)) (c.hold.ensures.held ∙ c.free.ensures.held))
           passed c.take.ensures.lines c.take.ensures.macros c.take.ensures.keeps old.reading;
+      units = units_past c.args.self.now.body.nabc_lines c.args.self.now.body.macros c.take.new.self.nabc_lines c.args.self.now.body.part b.behind.spans was g c.give_point-gave.new.pair.gathered now
+          (let few = old.kept in let most = c.args.self.now.limits.in_range.syllable_most in omega (arith, few, most)) is t.gathered c.take.ensures.lines c.take.ensures.makes old.reading old.units;
+      within = within_past c.args.self.now.limits b.before c.pass.new.self.before c.args.self.now.has_lent was g c.give_point-gave.new.pair.gathered now old.rests.limit old.rests.over old.preceded.follows old.within is none
+          (ap (λ (k : Bounds). k.before) passed ∙ turns.given) t.gathered;
     })
+
+pub returns-in-Some-clause-reads : goal.returns-in-Some-clause-reads
+returns-in-Some-clause-reads c =
+    let now = c.take.new.self.events in
+    let is : c.hold.new.pair.gathered ≡ with_all c.args.self.now.pair.gathered now = c.hold.ensures.gathered ∙ ap (λ (k : Gathered). with_all k now) c.free.ensures.gathered in
+    record {
+      now = now;
+      after = c.take.new.self;
+      law = c.take.ensures.events.law;
+      last = c.take.ensures.once;
+      limits = c.stop.ensures.limits;
+      gathers = λ none. absurd (cc (sym c.in-Some.is ∙ (c.code.ensures.code ∙ (ap (code_in c.args.self.now.limits) is ∙ none))));
+      stops = λ some. c.stop.ensures.part;
+    }
+
+pub returns-after-self-clause-reads : goal.returns-after-self-clause-reads
+returns-after-self-clause-reads c =
+    let b = c.args.self.now.bounds in
+    let old = c.args.self.now.pair.gathered in
+    let now = c.take.new.self.events in
+    let is : c.hold.new.pair.gathered ≡ with_all old now = c.hold.ensures.gathered ∙ ap (λ (k : Gathered). with_all k now) c.free.ensures.gathered in
+    let none : code_in c.args.self.now.limits (with_all old now) ≡ None = sym (ap (code_in c.args.self.now.limits) is) ∙ (sym c.code.ensures.code ∙ c.in-None.is) in
+    let passed : c.pass.new.self ≡ past_point c.is_whole-is_whole.result c.give_point-gave.result b c.hold.new.pair.gathered =
+    c.pass.ensures ∙ ap (past_point c.is_whole-is_whole.result c.give_point-gave.result b) c.give_point-gave.ensures.gathered in
+    record {
+      now = now;
+      after = c.take.new.self;
+      law = c.take.ensures.events.law;
+      last = c.take.ensures.once;
+      limits = refl;
+      gathers = λ fine. record {
+        part = c.requires.part;
+        body = refl;
+        gathered = c.give_point-gave.ensures.gathered ∙ ap with_held is;
+        lines = c.take.ensures.lines;
+        macros = c.take.ensures.macros;
+        before = λ few. ap (λ (k : Bounds). k.before) passed ∙ none_given c.is_whole-is_whole.result c.give_point-gave.result b c.hold.new.pair.gathered (c.give_point-gave.ensures.gave ∙ ap (λ (k : Gathered). nat_lt 1 (length k.made)) is) few;
+        found = λ few. given_only c.args.self.now.found c.hold.new.found c.find_first.new.found now c.args.out.now c.give_point-gave.new.out c.args.self.now.has_lent old (with_all old now) c.hold.new.pair.gathered c.args.x.place is few
+            c.requires.rests.rests.none c.hold.ensures.found (c.find_first.ensures ∙ ap (λ k. extended_by c.hold.new.found (found_first k c.first_kind.result c.args.x.place)) (c.first_kind-was.ensures ∙ ap (λ (k : Gathered). k.first_kind) c.free.ensures.gathered)
+            ∙ ap (λ k. extended_by c.hold.new.found (found_first old.first_kind k c.args.x.place)) (c.first_kind.ensures ∙ ap (λ (k : Gathered). k.first_kind) is)) c.give_point-gave.ensures.emitted.events;
+      };
+      stops = λ some. absurd (some none);
+    }

@@ -1,7 +1,7 @@
 use Rattle.std.proofs.Common.{◌≤◌, length, arith, ◌∙◌}
 use Rattle.gregorio_state.specs.Fields.{fields_of}
 use Rattle.gregorio_state.specs.StateBytes.{state_bytes}
-use Rattle.gregorio_state.specs.machine.Front.{filled_whole}
+use Rattle.gabc_places.specs.Filling.{filled_whole}
 use Rattle.gregorio_state.proofs.fields.StateFields.save_into.Goals as goal
 
 pub returns-clause-written : goal.returns-clause-written

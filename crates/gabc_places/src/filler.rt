@@ -1,22 +1,17 @@
-//! A buffer of the caller, filled from its front.
+//! A buffer of the caller that takes bytes.
 
 ghost use Rattle.std.specs.Prelude.{◌≡◌, ◌+◌};
-ghost use Rattle.gregorio_state.specs.machine.Front.{filled, filled_len};
+ghost use Rattle.gabc_places.specs.Filling.{filled, filled_len};
 
-use gabc_places::Put;
-use thiserror::Error;
+use crate::Put;
 
-/// A buffer has fewer bytes than what is to be written into it.
-#[derive(Clone, Copy, Debug, PartialEq, Eq, Error)]
-#[error("the buffer is too short")]
-pub struct TooShort;
-
-/// A buffer that takes bytes, one behind the other, as many as there is room for.
+/// Fills a buffer from its first byte on, with as many bytes as there is room for.
 #[derive(Drop)]
-pub(crate) struct Front<'a> {
-    pub(crate) buf: &'a mut [u8],
-    /// How many bytes it has taken.
-    pub(crate) len: usize,
+pub struct BufferFiller<'a> {
+    /// The buffer.
+    pub buf: &'a mut [u8],
+    /// How many bytes of it are filled.
+    pub len: usize,
 }
 
 /// Writes `bytes` into `buf` from `at` on, as many as there is room for, and returns how many.
@@ -31,9 +26,9 @@ fn fill(buf: &mut [u8], at: usize, bytes: &[u8]) -> usize
     len
 }
 
-impl Put for Front<'_> {
+impl Put for BufferFiller<'_> {
     ghost use Rattle.std.proofs.Common.{rules};
-    ghost use Rattle.gregorio_state.specs.machine.Front.{filled_nothing, filled_both, filled_len_both};
+    ghost use Rattle.gabc_places.specs.Filling.{filled_nothing, filled_both, filled_len_both};
 
     ghost taken = { λ f bytes. record f {
       buf = record f.buf { now = filled f.buf.now f.len bytes };

@@ -1,0 +1,167 @@
+-- What a part of a body makes with its events: a syllable that holds a unit, where a snippet closes, and else none.
+use Rattle.std.proofs.Common.{◌≡◌, ℕ, ◌+◌, ◌-◌, ◌^◌, min, false, List, [], ◌∷◌, ◌++◌, length, nat_lt, encode_utf8_all, refl, sym, ap, subst, ◌∙◌, arith, append_assoc}
+use Rattle.std.proofs.lemmas.Bool.{true≢false}
+use Rattle.std.proofs.lemmas.List.Elements.{All-push}
+use Rattle.std.specs.List.{All, list_any}
+use Rattle.gabc_places.specs.declared.place.Place.{Place}
+use Rattle.gabc_text.specs.TextRead.{view_in}
+use Rattle.gabc_text.specs.declared.text_event.TextEnd.TheVariants as text_end
+use Rattle.gabc_text.specs.declared.text_event.TextEvent.{TextEvent}
+use Rattle.gabc_text.specs.declared.text_event.TextEvent.TheVariants as text_out
+use Rattle.gabc_text.specs.declared.text_event.TextPart.TheVariants as text_part
+use Rattle.gabc_text.specs.declared.stage.TextStage.{TextStage}
+use Rattle.gabc_text.specs.witness.Keeps as text
+use Rattle.gabc_text.specs.witness.SaidInFull.{IsSaidInFull}
+use Rattle.gabc_notes.specs.SnippetRead.{kept_of, ends_of}
+use Rattle.gabc_notes.specs.declared.stage.NoteEnd.TheVariants as note_end
+use Rattle.gabc_notes.specs.declared.stage.NoteEvent.{NoteEvent}
+use Rattle.gabc_notes.specs.declared.stage.NoteEvent.TheVariants as note
+use Rattle.gabc_score.specs.declared.body_stage.BodyPart.{BodyPart}
+use Rattle.gabc_score.specs.declared.body_stage.BodyPart.TheVariants as part
+use Rattle.gabc_score.specs.declared.events.BodyEvent.{BodyEvent}
+use Rattle.gabc_score.specs.declared.events.BodyEvent.TheVariants as event
+use Rattle.gabc_score.specs.Events.{is_close}
+use Rattle.gabc_score.specs.Holding.{IsSnippetOf}
+use Rattle.gabc_score.specs.Syllable.{closes}
+use Rattle.gabc_score.specs.UnitRead.{HoldsSomeUnit}
+use Rattle.gabc_score.specs.machine.BodyBuilder.{with_all}
+use Rattle.gabc_score.specs.machine.Gatherer.{Gathered, with_event}
+use Rattle.gabc_score.specs.machine.PartKeeps.{KeptParts, in_text, barred, text_before, joined, line_behind, text_events, snippet_events, earlier_events, events_before, said_by, AreEnded, PartKeeps, begun, ReadAlike}
+use Rattle.gabc_score.specs.machine.PartMakes.{HoldUnits, PartMakes}
+use Rattle.gabc_score.specs.machine.SyllableBuilder.{OpenSyllable, made_from, past_snippet}
+use Rattle.gabc_score.proofs.building.EventsOfOnePoint.{with_all_append}
+use Rattle.gabc_score.proofs.building.PartsMakeUnits.{HasRead, with_more, text_read, earlier_read, close_holds}
+use Rattle.gabc_score.proofs.building.PartsOfKeptNotes.{InNotes}
+use Rattle.gabc_score.proofs.building.PartsOfKeptText.{of_notes, notes_ended, snippet_is}
+use Rattle.gabc_score.proofs.texts_of_body.SeamsOfCharacters.{size, size_append}
+
+-- ---- no syllable is made
+
+made_stays : (now : List BodyEvent) (g : Gathered) → list_any closes now ≡ false → (with_all g now).made ≡ g.made
+made_stays [] g e = refl
+made_stays (event.Text (text_out.Kept c) ∷ now) g e = made_stays now (with_event g (event.Text (text_out.Kept c))) e
+made_stays (event.Text (text_out.Part text_part.WordStart) ∷ now) g e = made_stays now (with_event g (event.Text (text_out.Part text_part.WordStart))) e
+made_stays (event.Text (text_out.Part (text_part.Piece p)) ∷ now) g e = made_stays now (with_event g (event.Text (text_out.Part (text_part.Piece p)))) e
+made_stays (event.Text (text_out.Part (text_part.Centre s)) ∷ now) g e = made_stays now (with_event g (event.Text (text_out.Part (text_part.Centre s)))) e
+made_stays (event.Text (text_out.Part (text_part.Translation s)) ∷ now) g e = made_stays now (with_event g (event.Text (text_out.Part (text_part.Translation s)))) e
+made_stays (event.Text (text_out.Found f) ∷ now) g e = made_stays now g e
+made_stays (event.Text (text_out.Ended text_end.Notes) ∷ now) g e = made_stays now (with_event g (event.Text (text_out.Ended text_end.Notes))) e
+made_stays (event.Text (text_out.Ended text_end.Finished) ∷ now) g e = made_stays now g e
+made_stays (event.Text (text_out.Ended (text_end.Cut p)) ∷ now) g e = made_stays now (with_event g (event.Text (text_out.Ended (text_end.Cut p)))) e
+made_stays (event.Notes line (note.Kept c) ∷ now) g e = made_stays now (with_event g (event.Notes line (note.Kept c))) e
+made_stays (event.Notes line (note.Found f) ∷ now) g e = made_stays now g e
+made_stays (event.Notes line (note.Ended note_end.Next n) ∷ now) g e = made_stays now (with_event g (event.Notes line (note.Ended note_end.Next n))) e
+made_stays (event.Notes line (note.Ended note_end.Close n) ∷ now) g e = absurd (true≢false e)
+made_stays (event.Notes line (note.Ended (note_end.Cut p) n) ∷ now) g e = made_stays now (with_event g (event.Notes line (note.Ended (note_end.Cut p) n))) e
+
+none_makes : (lines macros : ℕ) (before : BodyPart) (now : List BodyEvent) → list_any closes now ≡ false → PartMakes lines macros before now
+none_makes lines macros before now e spans g fits r h = subst (HoldUnits lines) (sym (made_stays now g e)) h
+
+texts_close_none : (es : List TextEvent) → list_any closes (text_events es) ≡ false
+texts_close_none [] = refl
+texts_close_none (o ∷ es) = texts_close_none es
+
+notes_close_alike : (line : ℕ) (opened : Place) (es : List NoteEvent) → list_any closes (of_notes line opened es) ≡ list_any is_close es
+notes_close_alike line opened [] = refl
+notes_close_alike line opened (note.Kept c ∷ es) = notes_close_alike line opened es
+notes_close_alike line opened (note.Found f ∷ es) = notes_close_alike line opened es
+notes_close_alike line opened (note.Ended note_end.Next n ∷ es) = notes_close_alike line opened es
+notes_close_alike line opened (note.Ended note_end.Close n ∷ es) = refl
+notes_close_alike line opened (note.Ended (note_end.Cut p) n ∷ es) = notes_close_alike line opened es
+
+pub text_makes : (lines macros : ℕ) (before : BodyPart) (es : List TextEvent) → PartMakes lines macros before (text_events es)
+text_makes lines macros before es = none_makes lines macros before (text_events es) (texts_close_none es)
+
+pub notes_make_none : (lines macros line : ℕ) (opened : Place) (before : BodyPart) (es : List NoteEvent) → list_any is_close es ≡ false → PartMakes lines macros before (of_notes line opened es)
+notes_make_none lines macros line opened before es e = none_makes lines macros before (of_notes line opened es) (notes_close_alike line opened es ∙ e)
+
+-- the text that begins behind a comment, in which nothing is kept
+pub first_text_makes : (lines macros l m : ℕ) (s : TextStage) (before mid : BodyPart) (now : List BodyEvent) → before ≡ part.Comment → mid ≡ part.Text s → text.Keeps s [] → l ≡ lines → m ≡ macros
+    → PartMakes l m mid now → PartMakes lines macros before now
+first_text_makes lines macros l m s before mid now comment is keeps same_lines same_macros makes =
+    subst (λ (b : BodyPart). PartMakes lines macros b now) (sym comment)
+    (subst (λ (k : ℕ). PartMakes k macros part.Comment now) same_lines
+    (subst (λ (k : ℕ). PartMakes l k part.Comment now) same_macros on))
+  where
+    on : PartMakes l m part.Comment now
+    on spans g fits r = makes spans g fits (record {
+      parts = in_text [];
+      keeps = subst (λ (b : BodyPart). PartKeeps l m b (in_text [])) (sym is) keeps;
+      said = subst (λ (p : KeptParts). ReadAlike g (with_all (begun spans) (said_by l p))) r.keeps r.said;
+      kept = subst (λ (p : KeptParts). g.builder.kept ≡ encode_utf8_all (joined p)) r.keeps r.kept;
+      from = subst (λ (p : KeptParts). g.builder.from ≡ length (encode_utf8_all (text_before p))) r.keeps r.from;
+      uncut = r.uncut;
+    })
+
+-- ---- a syllable is made
+
+-- events that end a snippet at a `)`: what it kept is cut to a snippet that is whole
+pub record ClosesWhole (line : ℕ) (es : List NoteEvent) (k : List ℕ) : Type 0 where
+  pub s : List ℕ
+  pub rest : List ℕ
+  pub cut : k ≡ s ++ rest
+  pub is : IsSnippetOf line s
+  pub none_kept : kept_of es ≡ []
+  pub end : ends_of es ≡ (note_end.Close, min (size s) (2 ^ 64 - 1)) ∷ []
+
+-- snippets end at a `|` only where there are NABC lines
+none_ended : (lines macros : ℕ) (ss : List (List ℕ)) → AreEnded lines macros 0 ss → lines ≡ 0 → length ss ≡ 0
+none_ended lines macros [] h e = refl
+none_ended lines macros (s ∷ ss) h e = absurd (true≢false (sym h.0.0 ∙ ap (nat_lt 0) e))
+
+module _ (lines macros line : ℕ) (opened : Place) (before : BodyPart) (Keep : List ℕ → Type 0) (found : (p : KeptParts) → PartKeeps lines macros before p → InNotes lines macros line Keep p) where
+  pub notes_make : (es : List NoteEvent) → ((k : List ℕ) → Keep k → ClosesWhole line es k) → PartMakes lines macros before (of_notes line opened es)
+  notes_make es closes_whole spans g fits r h laws =
+      subst (λ (i : Gathered). All (HoldsSomeUnit lines) i.made) (sym (notes_ended line opened es g note_end.Close n closed.none_kept closed.end))
+      (All-push (HoldsSomeUnit lines) g.made (made_from (past_snippet g.builder line n 41) g.eu g.nlba) (h laws)
+      (subst (λ (o : OpenSyllable). HoldsSomeUnit lines (made_from (past_snippet o line n 41) g.eu g.nlba)) (sym builder_is)
+      (close_holds laws lines t (view_in (t ++ 40 ∷ [])) line (length here.earlier) base.builder has_read closed.s closed.rest closed.is n count_is full refl (none_ended lines macros here.earlier here.behind.snippets_ended) g.eu g.nlba)))
+    where
+      here : InNotes lines macros line Keep r.parts
+      here = found r.parts r.keeps
+
+      t : List ℕ
+      t = here.t
+
+      closed : ClosesWhole line es here.k
+      closed = closes_whole here.k here.keeps
+
+      n : ℕ
+      n = min (size closed.s) (2 ^ 64 - 1)
+
+      first : Gathered
+      first = with_all (begun spans) (text_events (text.said_of t ++ text.said_at_end t))
+
+      base : Gathered
+      base = with_all first (earlier_events lines 0 here.earlier)
+
+      -- the bytes
+      all_size : length g.builder.kept ≡ size (t ++ 40 ∷ []) + size (barred here.earlier) + size here.k
+      all_size =
+          ap length r.kept ∙ ap (λ (p : KeptParts). size (joined p)) here.is
+          ∙ size_append (t ++ 40 ∷ barred here.earlier) here.k
+          ∙ ap (λ (m : ℕ). m + size here.k) (ap size (sym (append_assoc t (40 ∷ []) (barred here.earlier))) ∙ size_append (t ++ 40 ∷ []) (barred here.earlier))
+
+      count_is : n ≡ size closed.s
+      count_is =
+          let part_size : size here.k ≡ size closed.s + size closed.rest = ap size closed.cut ∙ size_append closed.s closed.rest in
+          omega (arith, fits, all_size, part_size)
+
+      full : IsSaidInFull t []
+      full = laws.said t here.behind.text_ended (omega (arith, fits, all_size))
+
+      has_read : HasRead laws lines t (view_in (t ++ 40 ∷ [])) line (length here.earlier) base.builder
+      has_read =
+          subst (λ (l : ℕ). HasRead laws lines t (view_in (t ++ 40 ∷ [])) l (length here.earlier) base.builder) here.behind.line_is
+          (subst (λ (m : ℕ). HasRead laws lines t (view_in (t ++ 40 ∷ [])) (line_behind lines 0 here.earlier) m base.builder) (let same : 0 + length here.earlier ≡ length here.earlier = omega arith in same)
+          (earlier_read laws lines t (view_in (t ++ 40 ∷ [])) macros 0 0 first here.earlier (text_read laws lines t full (begun spans) refl) here.behind.snippets_ended))
+
+      -- what was gathered is what the parts say
+      builder_is : g.builder ≡ with_more base.builder (closed.s ++ closed.rest)
+      builder_is =
+          r.said.builder
+          ∙ ap (λ (p : KeptParts). (with_all (begun spans) (said_by lines p)).builder) here.is
+          ∙ ap (λ (i : Gathered). i.builder) (with_all_append (begun spans) (events_before lines t here.earlier) (snippet_events (line_behind lines 0 here.earlier) here.k))
+          ∙ ap (λ (i : Gathered). i.builder) (snippet_is (line_behind lines 0 here.earlier) here.k (with_all (begun spans) (events_before lines t here.earlier)))
+          ∙ ap (λ (i : Gathered). with_more i.builder here.k) (with_all_append (begun spans) (text_events (text.said_of t ++ text.said_at_end t)) (earlier_events lines 0 here.earlier))
+          ∙ ap (with_more base.builder) closed.cut

@@ -1,0 +1,87 @@
+-- What is open in a part of the body, behind each character.
+use Rattle.std.proofs.Common.{◌≡◌, ◌⊎◌, inl, inr, ℕ, nat_lt, Bool, true, false, List, [], ◌++◌, Option, Some, None, refl, sym, ap, subst, ◌∙◌}
+use Rattle.std.specs.List.{list_any}
+use Rattle.gabc_places.specs.declared.place.Char.{Char}
+use Rattle.gabc_places.specs.declared.place.Place.{Place}
+use Rattle.gabc_text.specs.StageTells as text_tells
+use Rattle.gabc_text.specs.TextStage.{fresh_stage}
+use Rattle.gabc_text.specs.declared.stage.TextStage.{TextStage}
+use Rattle.gabc_text.specs.declared.text_event.TextEvent.{TextEvent}
+use Rattle.gabc_text.specs.witness.Keeps as text
+use Rattle.gabc_notes.specs.Events.{in_raw}
+use Rattle.gabc_notes.specs.SnippetRead.{kept_of}
+use Rattle.gabc_notes.specs.StageTells as note_tells
+use Rattle.gabc_notes.specs.declared.stage.NoteEvent.{NoteEvent}
+use Rattle.gabc_notes.specs.declared.stage.NoteStage.{NoteStage}
+use Rattle.gabc_notes.specs.witness.Keeps as notes
+use Rattle.gabc_score.specs.declared.body_stage.BodyPart.{BodyPart}
+use Rattle.gabc_score.specs.declared.body_stage.BodyPart.TheVariants as part
+use Rattle.gabc_score.specs.declared.body_tells.Openers.{Openers}
+use Rattle.gabc_score.specs.Events.{is_close, is_next, is_text_end}
+use Rattle.gabc_score.specs.ScoreTells.{StandsAt, openers_of}
+use Rattle.gabc_score.specs.machine.PartKeeps.{in_text, in_notes, PartKeeps}
+use Rattle.gabc_score.specs.machine.PartOpens.{OpensOn, PartOpensOn}
+use Rattle.gabc_score.proofs.building.PartsKeepOn.{one_ends}
+use Rattle.gabc_score.proofs.building.PartsOfKeptText.{text_goes_on}
+
+-- what is open stays
+pub same_open : (at : Place) (o : Openers) → OpensOn at o o
+same_open at o = record { notes = inl refl; inner = inr (inl refl) }
+
+-- a `(` alone is open
+abbrev pub opened_at : Option Place → Openers
+opened_at place = record { notes = place; inner = None }
+
+-- a snippet behind a text, or behind a snippet
+pub notes_open : (lines macros : ℕ) (x : Char) (before after : BodyPart) → openers_of after ≡ opened_at (Some x.place) → PartOpensOn lines macros x before after
+notes_open lines macros x before after is p keeps at =
+    subst (OpensOn x.place (openers_of before)) (sym is) (record { notes = inr (refl, inr refl); inner = inl refl })
+
+pub next_opens : (lines macros : ℕ) (x : Char) (opened : Place) (before after : BodyPart) → (openers_of before).notes ≡ Some opened → openers_of after ≡ opened_at (Some opened) → PartOpensOn lines macros x before after
+next_opens lines macros x opened before after was is p keeps at =
+    subst (OpensOn x.place (openers_of before)) (sym is) (record { notes = inl (sym was); inner = inl refl })
+
+-- a text behind notes
+pub none_open : (lines macros : ℕ) (x : Char) (before after : BodyPart) → openers_of after ≡ opened_at None → PartOpensOn lines macros x before after
+none_open lines macros x before after is p keeps at =
+    subst (OpensOn x.place (openers_of before)) (sym is) (record { notes = inr (refl, inl refl); inner = inl refl })
+
+module _ (lines macros : ℕ) (x : Char) where
+  pub text_opens_on : (s t : TextStage) (es : List TextEvent) → text.KeepsOn s x.c es t → list_any is_text_end es ≡ false → PartOpensOn lines macros x (part.Text s) (part.Text t)
+  text_opens_on s t es on goes_on (in_notes u earlier k) h at = absurd h
+  text_opens_on s t es on goes_on (in_text k) h at = record { notes = inl refl; inner = by (text_tells.opener_of t) refl }
+    where
+      g : text.GoesOn s k x.c es t
+      g = on.goes k h (text_goes_on s t x.c es k on h goes_on)
+
+      by : (o : Option Place) → text_tells.opener_of t ≡ o → (text_tells.opener_of t ≡ None) ⊎ ((text_tells.opener_of t ≡ text_tells.opener_of s) ⊎ (text_tells.opener_of t ≡ Some x.place))
+      by None e = inl e
+      by (Some p) e = from (g.opener p e)
+        where
+          from : (text_tells.opener_of s ≡ Some p) ⊎ (text_tells.next_of s ≡ p) → (text_tells.opener_of t ≡ None) ⊎ ((text_tells.opener_of t ≡ text_tells.opener_of s) ⊎ (text_tells.opener_of t ≡ Some x.place))
+          from (inl was) = inr (inl (e ∙ sym was))
+          from (inr here) = inr (inr (e ∙ ap (λ (q : Place). Some q) (sym here ∙ at)))
+
+  behind : (b : Bool) (before : Option Place) → (notes.opener_behind b before x.place ≡ None) ⊎ ((notes.opener_behind b before x.place ≡ before) ⊎ (notes.opener_behind b before x.place ≡ Some x.place))
+  behind false before = inl refl
+  behind true (Some q) = inr (inl refl)
+  behind true None = inr (inr refl)
+
+  pub gabc_opens_on : (opened : Place) (s t : NoteStage) (es : List NoteEvent) → notes.KeepsOn s x es t → list_any is_next es ≡ false → list_any is_close es ≡ false
+      → PartOpensOn lines macros x (part.Notes opened s) (part.Notes opened t)
+  gabc_opens_on opened s t es on next close (in_text k) h at = absurd h
+  gabc_opens_on opened s t es on next close (in_notes u earlier k) h at = record { notes = inl refl; inner = by (notes.is_end_behind (nat_lt 0 lines) k (note_tells.comment_of s) x.c) refl }
+    where
+      by : (b : Bool) → notes.is_end_behind (nat_lt 0 lines) k (note_tells.comment_of s) x.c ≡ b
+          → (note_tells.opener_of t ≡ None) ⊎ ((note_tells.opener_of t ≡ note_tells.opener_of s) ⊎ (note_tells.opener_of t ≡ Some x.place))
+      by true e = absurd (one_ends es x.c _ (on.ends (nat_lt 0 lines) macros k h.1 e).end next close)
+      by false e =
+          subst (λ (o : Option Place). (o ≡ None) ⊎ ((o ≡ note_tells.opener_of s) ⊎ (o ≡ Some x.place))) (sym (on.goes (nat_lt 0 lines) macros k h.1 e).opener)
+          (behind (in_raw (k ++ kept_of es)) (note_tells.opener_of s))
+
+-- the text that begins at the LF behind a comment
+pub first_text_opens : (lines macros : ℕ) (x : Char) (s : TextStage) (before mid after : BodyPart) → before ≡ part.Comment → mid ≡ part.Text s → text.Keeps s [] → s ≡ fresh_stage x.place → PartOpensOn lines macros x mid after
+    → OpensOn x.place (openers_of before) (openers_of after)
+first_text_opens lines macros x s before mid after was is keeps fresh on =
+    subst (λ (o : Openers). OpensOn x.place o (openers_of after)) (ap openers_of is ∙ ap (λ (t : TextStage). openers_of (part.Text t)) fresh ∙ sym (ap openers_of was))
+    (on (in_text []) (subst (λ (b : BodyPart). PartKeeps lines macros b (in_text [])) (sym is) keeps) (subst (λ (b : BodyPart). StandsAt x.place b) (sym is) (ap (λ (t : TextStage). text_tells.next_of t) fresh)))

@@ -1,0 +1,309 @@
+-- A text that is read by itself is one syllable exactly where reading it one character after the other finds one.
+use Rattle.std.proofs.Common.{◌≡◌, ℕ, zero, suc, ◌+◌, ◌-◌, ◌<◌, ◌≤◌, ◌^◌, ◌||◌, ◌&&◌, ◌==◌, not, min, nat_lt, Bool, true, false, cond, List, [], ◌∷◌, ◌++◌, length, take, take_all, take-take, Option, Some, None, is_some, refl, sym, ap, subst, ◌∙◌, arith, append-nil}
+use Rattle.std.proofs.lemmas.Bool.{true≢false}
+use Rattle.std.proofs.lemmas.Bool.Decides.{nat_tests}
+use Rattle.std.proofs.lemmas.List.{append_cancel_left}
+use Rattle.std.proofs.lemmas.List.Elements.{All-nil, All-cons, All-head, All-tail}
+use Rattle.std.proofs.lemmas.List.Folds.{list_any-append}
+use Rattle.std.specs.List.{All, list_any}
+use Rattle.gabc_places.specs.Code.{severity_of}
+use Rattle.gabc_places.specs.Place.{placed_characters_from}
+use Rattle.gabc_places.specs.StageLaw.{concat_of}
+use Rattle.gabc_places.specs.declared.code.Code.{Code}
+use Rattle.gabc_places.specs.declared.code.Code.TheVariants.{F5, F7}
+use Rattle.gabc_places.specs.declared.code.Finding.{Finding}
+use Rattle.gabc_places.specs.declared.limits.Limits.{Limits}
+use Rattle.gabc_places.specs.declared.severity.Severity.{Severity}
+use Rattle.gabc_places.specs.declared.severity.Severity.TheVariants.{Warning, Error, Fatal}
+use Rattle.gabc_notes.specs.ReadAgain.{IsWarning}
+use Rattle.gabc_score.specs.declared.before.Before.{Before}
+use Rattle.gabc_score.specs.declared.events.BodyEvent.{BodyEvent}
+use Rattle.gabc_score.specs.Body.{is_longer, is_none, events_onto, findings_of}
+use Rattle.gabc_score.specs.Canonical.{canonical}
+use Rattle.gabc_score.specs.Events.{texts_by_definition, text_from, events_from}
+use Rattle.gabc_score.specs.Before.{preceding_of}
+use Rattle.gabc_score.specs.ToldWithin.{written_behind}
+use Rattle.gabc_score.specs.HeldAgain.{LeavesOpen, emitted_first, emitted_behind, IsOneSyllable, MayBeHeld}
+use Rattle.gabc_score.specs.ScoreEvents.{findings_now, first_place}
+use Rattle.gabc_score.specs.Syllable.{UnplacedSyllable, all_syllables, since_close, kept_of}
+use Rattle.gabc_score.specs.machine.BodyBuilder.{with_all, code_in}
+use Rattle.gabc_score.specs.machine.Gatherer.{Gathered}
+use Rattle.gabc_score.specs.machine.ReadAlone.{is_grave, is_error, is_fine, is_alone}
+use Rattle.gabc_score.specs.machine.SyllableBuilder.{nothing_open}
+use Rattle.gabc_score.proofs.building.EventsOfOnePoint.{with_all_append, found_on}
+use Rattle.gabc_score.proofs.order.FindingsOfScore.{onto_append}
+use Rattle.gabc_score.proofs.resuming.MadeOfEvents.{Counts, counts_from, made_behind, size_of, most}
+use Rattle.gabc_score.proofs.resuming.OpenSpans.{opened, leaves_open}
+use Rattle.gabc_score.proofs.score_events.WhatPrecedes.{not_some}
+
+-- ---- tests
+
+both : (a b : Bool) → (a && b) ≡ true → (a ≡ true) × (b ≡ true)
+both true true e = (refl, refl)
+both true false e = absurd (true≢false (sym e))
+both false b e = absurd (true≢false (sym e))
+
+both_are : (a b : Bool) → a ≡ true → b ≡ true → (a && b) ≡ true
+both_are a b e f = ap (λ x. x && b) e ∙ f
+
+neither : (a b : Bool) → (a || b) ≡ false → (a ≡ false) × (b ≡ false)
+neither false false e = (refl, refl)
+neither false true e = absurd (true≢false e)
+neither true b e = absurd (true≢false e)
+
+neither_is : (a b : Bool) → a ≡ false → b ≡ false → (a || b) ≡ false
+neither_is a b e f = ap (λ x. x || b) e ∙ f
+
+is_not : (b : Bool) → not b ≡ true → b ≡ false
+is_not false e = refl
+is_not true e = absurd (true≢false (sym e))
+
+-- ---- no limit is passed
+
+pub record IsWithinLimits (limits : Limits) (g : Gathered) : Type 0 where
+  pub kept : length g.builder.kept ≤ g.limit
+  pub over : g.over ≡ false
+  pub file : is_none g.made ≡ false → g.total + 1 ≤ limits.input
+
+is_within : (limits : Limits) (g : Gathered) → code_in limits g ≡ None → IsWithinLimits limits g
+is_within limits g e = by (is_longer g.limit g.builder.kept) refl g.over refl e
+  where
+    file : (made low : Bool) → is_none g.made ≡ made → nat_lt limits.input (g.total + 1) ≡ low → cond (not made && low) (Some F7) None ≡ None → made ≡ false → g.total + 1 ≤ limits.input
+    file false false m l h f = grind (arith, nat_tests, l)
+    file false true m l h f = absurd (cc h)
+    file true low m l h f = absurd (true≢false f)
+
+    by : (long : Bool) → is_longer g.limit g.builder.kept ≡ long → (over : Bool) → g.over ≡ over → cond (long || over) (Some F5) (cond (not (is_none g.made) && nat_lt limits.input (g.total + 1)) (Some F7) None) ≡ None → IsWithinLimits limits g
+    by true l over o h = absurd (cc h)
+    by false l true o h = absurd (cc h)
+    by false l false o h = record { kept = grind (arith, nat_tests, l); over = o; file = file (is_none g.made) (nat_lt limits.input (g.total + 1)) refl refl h }
+
+pub none_passed : (limits : Limits) (g : Gathered) → IsWithinLimits limits g → code_in limits g ≡ None
+none_passed limits g w =
+    ap (λ b. cond (b || g.over) (Some F5) (cond (not (is_none g.made) && nat_lt limits.input (g.total + 1)) (Some F7) None)) short
+    ∙ ap (λ b. cond b (Some F5) (cond (not (is_none g.made) && nat_lt limits.input (g.total + 1)) (Some F7) None)) w.over
+    ∙ file (is_none g.made) refl
+  where
+    short : is_longer g.limit g.builder.kept ≡ false
+    short = let k = w.kept in grind (arith, nat_tests, k)
+
+    low : g.total + 1 ≤ limits.input → nat_lt limits.input (g.total + 1) ≡ false
+    low h = grind (arith, nat_tests, h)
+
+    file : (made : Bool) → is_none g.made ≡ made → cond (not made && nat_lt limits.input (g.total + 1)) (Some F7) None ≡ None
+    file true m = refl
+    file false m = ap (λ b. cond b (Some F7) None) (low (w.file m))
+
+-- ---- through lists of events
+
+pub record IsAlone (limits : Limits) (g : Gathered) (lists : List (List BodyEvent)) : Type 0 where
+  pub earlier : (n : ℕ) → n < length lists → (with_all g (concat_of (take n lists))).made ≡ []
+  pub some : is_none (with_all g (concat_of lists)).made ≡ false
+  pub within : (n : ℕ) → n < length lists → IsWithinLimits limits (with_all g (concat_of (take (suc n) lists)))
+  pub fine : list_any is_error (findings_now (concat_of lists)) ≡ false
+
+none_of : (ms : List UnplacedSyllable) → is_none ms ≡ true → ms ≡ []
+none_of [] e = refl
+none_of (m ∷ ms) e = absurd (true≢false (sym e))
+
+code_none : (code : Option Code) → is_some code ≡ false → code ≡ None
+code_none None e = refl
+code_none (Some k) e = absurd (true≢false e)
+
+errors_are : (now more : List BodyEvent) → list_any is_error (findings_now (now ++ more)) ≡ (list_any is_error (findings_now now) || list_any is_error (findings_now more))
+errors_are now more =
+    ap (λ (es : List BodyEvent). list_any is_error (findings_of es)) (onto_append now more [])
+    ∙ ap (list_any is_error) (found_on (events_onto now []) more)
+    ∙ list_any-append is_error (findings_now now) (findings_now more)
+
+pub alone_is : (limits : Limits) (lists : List (List BodyEvent)) (g : Gathered) → is_alone limits g lists ≡ true → IsAlone limits g lists
+alone_is limits [] g e = record { earlier = λ n h. absurd (omega (arith, h)); some = is_not (is_none g.made) e; within = λ n h. absurd (omega (arith, h)); fine = refl }
+alone_is limits (now ∷ lists) g e =
+    let a = both (is_none g.made) (is_fine limits g now && is_alone limits (with_all g now) lists) e in
+    let b = both (is_fine limits g now) (is_alone limits (with_all g now) lists) a.1 in
+    let c = both (not (is_some (code_in limits (with_all g now)))) (not (list_any is_error (findings_now now))) b.0 in
+    let rest = alone_is limits lists (with_all g now) b.1 in
+    record {
+      earlier = earlier (none_of g.made a.0) rest;
+      some = ap (λ (h : Gathered). is_none h.made) (with_all_append g now (concat_of lists)) ∙ rest.some;
+      within = within (is_within limits (with_all g now) (code_none (code_in limits (with_all g now)) (is_not (is_some (code_in limits (with_all g now))) c.0))) rest;
+      fine = errors_are now (concat_of lists) ∙ neither_is (list_any is_error (findings_now now)) (list_any is_error (findings_now (concat_of lists))) (is_not (list_any is_error (findings_now now)) c.1) rest.fine;
+    }
+  where
+    earlier : g.made ≡ [] → IsAlone limits (with_all g now) lists → (n : ℕ) → n < suc (length lists) → (with_all g (concat_of (take n (now ∷ lists)))).made ≡ []
+    earlier none rest zero h = none
+    earlier none rest (suc n) h = ap (λ (k : Gathered). k.made) (with_all_append g now (concat_of (take n lists))) ∙ rest.earlier n (omega (arith, h))
+
+    within : IsWithinLimits limits (with_all g now) → IsAlone limits (with_all g now) lists → (n : ℕ) → n < suc (length lists) → IsWithinLimits limits (with_all g (concat_of (take (suc n) (now ∷ lists))))
+    within first rest zero h = subst (IsWithinLimits limits) (sym (with_all_append g now [])) first
+    within first rest (suc n) h = subst (IsWithinLimits limits) (sym (with_all_append g now (concat_of (take (suc n) lists)))) (rest.within n (omega (arith, h)))
+
+pub alone_of : (limits : Limits) (lists : List (List BodyEvent)) (g : Gathered) → IsAlone limits g lists → is_alone limits g lists ≡ true
+alone_of limits [] g a = ap not a.some
+alone_of limits (now ∷ lists) g a =
+    let errors = neither (list_any is_error (findings_now now)) (list_any is_error (findings_now (concat_of lists))) (sym (errors_are now (concat_of lists)) ∙ a.fine) in
+    let first : IsWithinLimits limits (with_all g now) = subst (IsWithinLimits limits) (with_all_append g now []) (a.within zero (omega arith)) in
+    let rest : IsAlone limits (with_all g now) lists = record {
+      earlier = λ n h. ap (λ (k : Gathered). k.made) (sym (with_all_append g now (concat_of (take n lists)))) ∙ a.earlier (suc n) (omega (arith, h));
+      some = ap (λ (h : Gathered). is_none h.made) (sym (with_all_append g now (concat_of lists))) ∙ a.some;
+      within = λ n h. subst (IsWithinLimits limits) (with_all_append g now (concat_of (take (suc n) lists))) (a.within (suc n) (omega (arith, h)));
+      fine = errors.1;
+    } in
+    both_are (is_none g.made) (is_fine limits g now && is_alone limits (with_all g now) lists) (ap is_none (a.earlier zero (omega arith)))
+    (both_are (is_fine limits g now) (is_alone limits (with_all g now) lists)
+    (both_are (not (is_some (code_in limits (with_all g now)))) (not (list_any is_error (findings_now now))) (ap (λ (k : Option Code). not (is_some k)) (none_passed limits (with_all g now) first)) (ap not errors.0))
+    (alone_of limits lists (with_all g now) rest))
+
+-- ---- warnings
+
+grave_is : (s : Severity) → is_grave s ≡ false → s ≡ Warning
+grave_is Warning e = refl
+grave_is Error e = absurd (true≢false e)
+grave_is Fatal e = absurd (true≢false e)
+
+warn : (fs : List Finding) → list_any is_error fs ≡ false → All IsWarning fs
+warn [] e = All-nil IsWarning
+warn (f ∷ fs) e = let n = neither (is_error f) (list_any is_error fs) e in All-cons IsWarning f fs (grave_is (severity_of f.code) n.0) (warn fs n.1)
+
+warnings_are : (fs : List Finding) → All IsWarning fs → list_any is_error fs ≡ false
+warnings_are [] a = refl
+warnings_are (f ∷ fs) a = neither_is (is_error f) (list_any is_error fs) (ap is_grave (All-head IsWarning f fs a)) (warnings_are fs (All-tail IsWarning f fs a))
+
+-- ---- the text
+
+module _ (limits : Limits) (b : Before) (g : Gathered) (limit : g.limit ≡ limits.syllable) (nothing : g.builder ≡ nothing_open) (eu : g.eu ≡ b.spans.eu) (nlba : g.nlba ≡ b.spans.nlba) (none : g.made ≡ [])
+    (over : g.over ≡ false) (total : g.total ≡ b.canonical) (follows : g.follows ≡ nat_lt 0 b.syllables) (text : List ℕ) (lists : List (List BodyEvent))
+    (are : (let xs = placed_characters_from first_place text in lists ≡ take (length text) (events_from texts_by_definition b.nabc_lines b.macros (text_from texts_by_definition first_place xs) xs)))
+    (each : length lists ≡ length text) where
+  small : limits.syllable < 2 ^ 64 - 1
+  small = let r = limits.in_range in omega (arith, r)
+
+  events : ℕ → List BodyEvent
+  events n = concat_of (take n lists)
+
+  emitted : (n : ℕ) → n ≤ length text → emitted_first b.nabc_lines b.macros first_place text n ≡ concat_of (take n lists)
+  emitted n h =
+      let xs = placed_characters_from first_place text in
+      let all = events_from texts_by_definition b.nabc_lines b.macros (text_from texts_by_definition first_place xs) xs in
+      ap (concat_of {T = BodyEvent}) (sym (take-take n (length text) all h) ∙ ap (take n) (sym are))
+
+  whole : emitted_first b.nabc_lines b.macros first_place text (length text) ≡ concat_of lists
+  whole = emitted (length text) (omega arith) ∙ ap (concat_of {T = BodyEvent}) (take_all (length text) lists (omega (arith, each)))
+
+  starts : (m : UnplacedSyllable) → size_of g.follows m ≡ min (length (written_behind (preceding_of b) m)) most
+  starts m = ap (λ f. min (length (canonical (not f || m.text.word_start) m)) most) follows ∙ ap (λ f. min (length (canonical (f || m.text.word_start) m)) most) (not_some b.syllables)
+
+  module _ (before : List BodyEvent) (leaves : LeavesOpen b.spans before) where
+    made_then : (n : ℕ) → n ≤ length text → all_syllables (emitted_behind b.nabc_lines b.macros first_place text before n) ≡ all_syllables before ++ (with_all g (concat_of (take n lists))).made
+    made_then n h =
+        ap (λ (es : List BodyEvent). all_syllables (events_onto es before)) (emitted n h)
+        ∙ (made_behind g b.spans nothing eu nlba none before leaves limits.syllable small (concat_of (take n lists))).made
+
+    made_whole : all_syllables (emitted_behind b.nabc_lines b.macros first_place text before (length text)) ≡ all_syllables before ++ (with_all g (concat_of lists)).made
+    made_whole =
+        ap (λ (es : List BodyEvent). all_syllables (events_onto es before)) whole
+        ∙ (made_behind g b.spans nothing eu nlba none before leaves limits.syllable small (concat_of lists)).made
+
+    kept_then : (n : ℕ) → n ≤ length text → kept_of (since_close (emitted_behind b.nabc_lines b.macros first_place text before n)) ≡ (with_all g (concat_of (take n lists))).builder.kept
+    kept_then n h =
+        ap (λ (es : List BodyEvent). kept_of (since_close (events_onto es before))) (emitted n h)
+        ∙ sym (ap (λ o. o.kept) (made_behind g b.spans nothing eu nlba none before leaves limits.syllable small (concat_of (take n lists))).read.builder)
+
+  counted : (n : ℕ) → Counts g (with_all g (concat_of (take n lists)))
+  counted n = counts_from g none (concat_of (take n lists))
+
+  errors : list_any is_error (findings_of (emitted_behind b.nabc_lines b.macros first_place text [] (length text))) ≡ list_any is_error (findings_now (concat_of lists))
+  errors = ap (λ (es : List BodyEvent). list_any is_error (findings_of (events_onto es []))) whole
+
+  -- one that is found
+  pub record Found : Type 0 where
+    pub m : UnplacedSyllable
+    pub made : (with_all g (concat_of lists)).made ≡ m ∷ []
+    pub may : MayBeHeld limits b text m
+
+  one_of : (ms : List UnplacedSyllable) → is_none ms ≡ false → length ms ≤ 1 → (m : UnplacedSyllable) × (ms ≡ m ∷ [])
+  one_of [] e h = absurd (true≢false e)
+  one_of (m ∷ []) e h = (m, refl)
+  one_of (m ∷ n ∷ ms) e h = absurd (omega (arith, h))
+
+  pub found : is_alone limits g lists ≡ true → length (with_all g (concat_of lists)).made ≤ 1 → Found
+  found e few =
+      let a = alone_is limits lists g e in
+      let one = one_of (with_all g (concat_of lists)).made a.some few in
+      let m = one.0 in
+      let before = opened b.spans in
+      let leaves = leaves_open b.spans in
+      let counts = counts_from g none (concat_of lists) in
+      let last = at_last a in
+      let here = counts.one m one.1 in
+      let passed = neither (is_longer g.limit m.kept) (nat_lt g.limit (size_of g.follows m)) (neither g.over _ (sym here.0 ∙ last.over)).1 in
+      let size = starts m in
+      let file = last.file a.some in
+      let input = limits.in_range in
+      record {
+        m = m;
+        made = one.1;
+        may = record {
+          read = record {
+            before = before;
+            leaves = leaves;
+            none_earlier = λ n h. made_then before leaves n (omega (arith, h)) ∙ ap (λ ms. all_syllables before ++ ms) (a.earlier n (omega (arith, h, each))) ∙ append-nil (all_syllables before);
+            one = made_whole before leaves ∙ ap (λ ms. all_syllables before ++ ms) one.1;
+            few = λ n h. rw (kept_then before leaves n h) (few_kept a n h);
+            warnings = warn (findings_of (emitted_behind b.nabc_lines b.macros first_place text [] (length text))) (errors ∙ a.fine);
+          };
+          kept = let k = passed.0 in grind (arith, nat_tests, k, limit);
+          short = let k = passed.1 in grind (arith, nat_tests, k, limit, size, small);
+          file = let t = here.1 in omega (arith, file, t, total, size, input);
+        };
+      }
+    where
+      few_kept : IsAlone limits g lists → (n : ℕ) → n ≤ length text → length (with_all g (concat_of (take n lists))).builder.kept ≤ limits.syllable
+      few_kept a zero h = let l = ap (λ o. length o.kept) nothing in omega (arith, l)
+      few_kept a (suc n) h = let k = (a.within n (omega (arith, h, each))).kept in let l = (counted (suc n)).limit in omega (arith, k, l, limit)
+
+      at_last : IsAlone limits g lists → IsWithinLimits limits (with_all g (concat_of lists))
+      at_last a = by lists refl
+        where
+          by : (ls : List (List BodyEvent)) → lists ≡ ls → IsWithinLimits limits (with_all g (concat_of lists))
+          by [] l = absurd (true≢false (sym (ap (λ (ls : List (List BodyEvent)). is_none (with_all g (concat_of ls)).made) l ∙ ap is_none none) ∙ a.some))
+          by (now ∷ ls) l =
+              let n = ap length l in
+              subst (λ (k : List (List BodyEvent)). IsWithinLimits limits (with_all g (concat_of k))) (take_all (suc (length ls)) lists (omega (arith, n))) (a.within (length ls) (omega (arith, n)))
+
+  pub alone : (m : UnplacedSyllable) → MayBeHeld limits b text m → is_alone limits g lists ≡ true
+  alone m may =
+      let r = may.read in
+      let last : (with_all g (concat_of lists)).made ≡ m ∷ [] = append_cancel_left (all_syllables r.before) _ _ (sym (made_whole r.before r.leaves) ∙ r.one) in
+      alone_of limits lists g (record {
+        earlier = earlier;
+        some = ap is_none last;
+        within = λ n h. within n h (nat_lt (suc n) (length lists)) refl last;
+        fine = sym errors ∙ warnings_are _ r.warnings;
+      })
+    where
+      earlier : (n : ℕ) → n < length lists → (with_all g (concat_of (take n lists))).made ≡ []
+      earlier n h =
+          append_cancel_left (all_syllables may.read.before) _ _
+          (sym (made_then may.read.before may.read.leaves n (omega (arith, h, each))) ∙ may.read.none_earlier n (omega (arith, h, each)) ∙ sym (append-nil (all_syllables may.read.before)))
+
+      kept : (n : ℕ) → n < length lists → length (with_all g (concat_of (take (suc n) lists))).builder.kept ≤ (with_all g (concat_of (take (suc n) lists))).limit
+      kept n h =
+          let k = may.read.few (suc n) (omega (arith, h, each)) in
+          let e = ap length (kept_then may.read.before may.read.leaves (suc n) (omega (arith, h, each))) in
+          let l = (counted (suc n)).limit in omega (arith, k, e, l, limit)
+
+      within : (n : ℕ) → n < length lists → (more : Bool) → nat_lt (suc n) (length lists) ≡ more → (with_all g (concat_of lists)).made ≡ m ∷ [] → IsWithinLimits limits (with_all g (concat_of (take (suc n) lists)))
+      within n h true t last =
+          let ms = earlier (suc n) (grind (arith, nat_tests, t)) in
+          let c = (counted (suc n)).none ms in
+          record { kept = kept n h; over = c.0 ∙ over; file = λ some. absurd (true≢false (sym (ap is_none ms) ∙ some)) }
+      within n h false t last =
+          let all = take_all (suc n) lists (grind (arith, nat_tests, t)) in
+          let c = (counted (suc n)).one m (ap (λ (ls : List (List BodyEvent)). (with_all g (concat_of ls)).made) all ∙ last) in
+          let long : is_longer g.limit m.kept ≡ false = let k = may.kept in grind (arith, nat_tests, k, limit) in
+          let size = starts m in
+          let wide : nat_lt g.limit (size_of g.follows m) ≡ false = let k = may.short in grind (arith, nat_tests, k, limit, size) in
+          let t = c.1 in
+          let f = may.file in
+          record { kept = kept n h; over = c.0 ∙ neither_is g.over _ over (neither_is (is_longer g.limit m.kept) _ long wide); file = λ some. omega (arith, t, f, total, size) }

@@ -1,0 +1,140 @@
+-- What is made of events, behind whatever was emitted before: the syllables, and what they count.
+use Rattle.std.proofs.Common.{◌≡◌, ℕ, ◌+◌, ◌-◌, ◌<◌, ◌^◌, ◌||◌, not, min, nat_lt, Bool, true, false, List, [], ◌∷◌, ◌++◌, length, refl, sym, ap, subst, ◌∙◌, append_assoc, append-nil}
+use Rattle.gabc_text.specs.declared.text_event.TextEnd.TheVariants as text_end
+use Rattle.gabc_text.specs.declared.text_event.TextEvent.TheVariants as text
+use Rattle.gabc_text.specs.declared.text_event.TextPart.{TextPart}
+use Rattle.gabc_text.specs.declared.text_event.TextPart.TheVariants as part
+use Rattle.gabc_notes.specs.declared.stage.NoteEnd.TheVariants as note_end
+use Rattle.gabc_notes.specs.declared.stage.NoteEvent.TheVariants as note
+use Rattle.gabc_score.specs.declared.before.Spans.{Spans}
+use Rattle.gabc_score.specs.declared.events.BodyEvent.{BodyEvent}
+use Rattle.gabc_score.specs.declared.events.BodyEvent.TheVariants as event
+use Rattle.gabc_score.specs.Body.{is_longer, events_onto}
+use Rattle.gabc_score.specs.Canonical.{canonical}
+use Rattle.gabc_score.specs.HeldAgain.{LeavesOpen}
+use Rattle.gabc_score.specs.Syllable.{UnplacedSyllable, all_syllables, since_close, kept_of, view_of, snippets_of, ended_parts_of, is_eu, is_nlba}
+use Rattle.gabc_score.specs.machine.BodyBuilder.{with_all}
+use Rattle.gabc_score.specs.machine.Gatherer.{Gathered, with_event, with_snippet, with_made}
+use Rattle.gabc_score.specs.machine.PartKeeps.{ReadAlike}
+use Rattle.gabc_score.specs.machine.SyllableBuilder.{OpenSyllable, nothing_open, made_from}
+use Rattle.gabc_score.proofs.building.BuilderHoldsDefinition.{gathered}
+use Rattle.gabc_score.proofs.building.EventsOfOnePoint.{gathered_all}
+use Rattle.gabc_score.proofs.building.PartsOfKeptText.{event_alike}
+
+-- ---- the syllables
+
+-- the same is read, and h has made these and what g has
+pub record MadeAlike (ps : List UnplacedSyllable) (g h : Gathered) : Type 0 where
+  pub read : ReadAlike g h
+  pub made : h.made ≡ ps ++ g.made
+
+close_alike : (ps : List UnplacedSyllable) (g h : Gathered) (line n : ℕ) → MadeAlike ps g h → (with_event h (event.Notes line (note.Ended note_end.Close n))).made ≡ ps ++ (with_event g (event.Notes line (note.Ended note_end.Close n))).made
+close_alike ps g h line n r =
+    let w : ReadAlike (with_snippet g line n 41) (with_snippet h line n 41) = record { builder = rw r.read.builder refl; eu = r.read.eu; nlba = r.read.nlba } in
+    ap (λ ms. ms ++ made_from (with_snippet h line n 41).builder h.eu h.nlba ∷ []) r.made
+    ∙ append_assoc ps g.made (made_from (with_snippet h line n 41).builder h.eu h.nlba ∷ [])
+    ∙ ap (λ (o : OpenSyllable). ps ++ (g.made ++ made_from o h.eu h.nlba ∷ [])) (sym w.builder)
+    ∙ ap (λ b. ps ++ (g.made ++ made_from (with_snippet g line n 41).builder b h.nlba ∷ [])) (sym w.eu)
+    ∙ ap (λ b. ps ++ (g.made ++ made_from (with_snippet g line n 41).builder g.eu b ∷ [])) (sym w.nlba)
+
+part_made : (ps : List UnplacedSyllable) (g h : Gathered) (p : TextPart) → MadeAlike ps g h → (with_event h (event.Text (text.Part p))).made ≡ ps ++ (with_event g (event.Text (text.Part p))).made
+part_made ps g h part.WordStart r = r.made
+part_made ps g h (part.Piece p) r = r.made
+part_made ps g h (part.Centre s) r = r.made
+part_made ps g h (part.Translation s) r = r.made
+
+event_made : (ps : List UnplacedSyllable) (g h : Gathered) (e : BodyEvent) → MadeAlike ps g h → (with_event h e).made ≡ ps ++ (with_event g e).made
+event_made ps g h (event.Text (text.Kept c)) r = r.made
+event_made ps g h (event.Text (text.Part p)) r = part_made ps g h p r
+event_made ps g h (event.Text (text.Found f)) r = r.made
+event_made ps g h (event.Text (text.Ended text_end.Notes)) r = r.made
+event_made ps g h (event.Text (text.Ended text_end.Finished)) r = r.made
+event_made ps g h (event.Text (text.Ended (text_end.Cut p))) r = r.made
+event_made ps g h (event.Notes line (note.Kept c)) r = r.made
+event_made ps g h (event.Notes line (note.Found f)) r = r.made
+event_made ps g h (event.Notes line (note.Ended note_end.Next n)) r = r.made
+event_made ps g h (event.Notes line (note.Ended note_end.Close n)) r = close_alike ps g h line n r
+event_made ps g h (event.Notes line (note.Ended (note_end.Cut p) n)) r = r.made
+
+pub all_made : (es : List BodyEvent) (ps : List UnplacedSyllable) (g h : Gathered) → MadeAlike ps g h → MadeAlike ps (with_all g es) (with_all h es)
+all_made [] ps g h r = r
+all_made (e ∷ es) ps g h r = all_made es ps (with_event g e) (with_event h e) (record { read = event_alike g h e r.read; made = event_made ps g h e r })
+
+-- behind events that leave these spans open, and where nothing is read
+module _ (g : Gathered) (spans : Spans) (nothing : g.builder ≡ nothing_open) (eu : g.eu ≡ spans.eu) (nlba : g.nlba ≡ spans.nlba) (none : g.made ≡ []) (before : List BodyEvent) (leaves : LeavesOpen spans before) where
+  open_of : List BodyEvent → OpenSyllable
+  open_of events = record { kept = kept_of events; from = length (ended_parts_of events); view = view_of events; snippets = snippets_of events }
+
+  begin_alike : (limit head : ℕ) → MadeAlike (all_syllables before) g (gathered limit head before)
+  unfolding open_of
+  begin_alike limit head = record {
+    read = record { builder = nothing ∙ ap open_of (sym leaves.nothing); eu = eu ∙ sym leaves.eu; nlba = nlba ∙ sym leaves.nlba };
+    made = sym (append-nil (all_syllables before)) ∙ ap (λ ms. all_syllables before ++ ms) (sym none);
+  }
+
+  pub made_behind : (limit : ℕ) → limit < 2 ^ 64 - 1 → (es : List BodyEvent) → MadeAlike (all_syllables before) (with_all g es) (gathered limit 0 (events_onto es before))
+  made_behind limit small es = subst (MadeAlike (all_syllables before) (with_all g es)) (gathered_all limit 0 before small es) (all_made es (all_syllables before) g (gathered limit 0 before) (begin_alike limit 0))
+
+-- ---- what they count
+
+abbrev pub most : ℕ
+most = 2 ^ 64 - 1
+
+-- the bytes of the first one, behind the syllables before it
+abbrev pub size_of : Bool → UnplacedSyllable → ℕ
+size_of follows m = min (length (canonical (not follows || m.text.word_start) m)) most
+
+-- of what was gathered behind g, where none was made before it, and then none or one
+pub record Counts (g h : Gathered) : Type 0 where
+  pub limit : h.limit ≡ g.limit
+  pub none : h.made ≡ [] → (h.over ≡ g.over) × ((h.total ≡ g.total) × (h.follows ≡ g.follows))
+  pub one : (m : UnplacedSyllable) → h.made ≡ m ∷ [] → (h.over ≡ (g.over || (is_longer g.limit m.kept || nat_lt g.limit (size_of g.follows m)))) × (h.total ≡ min (g.total + size_of g.follows m) most)
+
+made_counts : (g h : Gathered) (m : UnplacedSyllable) → Counts g h → Counts g (with_made h m)
+made_counts g h m c = record { limit = c.limit; none = λ e. absurd (some h.made e); one = λ n e. by h.made refl n e }
+  where
+    some : (ms : List UnplacedSyllable) → ms ++ m ∷ [] ≡ [] → ⊥
+    some [] e = cc e
+    some (k ∷ ms) e = cc e
+
+    first : (n : UnplacedSyllable) → m ≡ n → h.made ≡ [] → ((with_made h m).over ≡ (g.over || (is_longer g.limit n.kept || nat_lt g.limit (size_of g.follows n)))) × ((with_made h m).total ≡ min (g.total + size_of g.follows n) most)
+    first n same none =
+        let k = c.none none in
+        (rw (k.0, k.1.1, c.limit, same) refl, rw (k.1.0, k.1.1, same) refl)
+
+    by : (ms : List UnplacedSyllable) → h.made ≡ ms → (n : UnplacedSyllable) → h.made ++ m ∷ [] ≡ n ∷ [] → ((with_made h m).over ≡ (g.over || (is_longer g.limit n.kept || nat_lt g.limit (size_of g.follows n)))) × ((with_made h m).total ≡ min (g.total + size_of g.follows n) most)
+    by [] e n f = first n (same (sym (ap (λ ms. ms ++ m ∷ []) e) ∙ f)) e
+      where
+        same : m ∷ [] ≡ n ∷ [] → m ≡ n
+        same e = cc e
+    by (k ∷ ms) e n f = absurd (two ms (sym (ap (λ ms. ms ++ m ∷ []) e) ∙ f))
+      where
+        two : (ms : List UnplacedSyllable) → k ∷ (ms ++ m ∷ []) ≡ n ∷ [] → ⊥
+        two [] e = cc e
+        two (x ∷ ms) e = cc e
+
+part_counts : (g h : Gathered) (p : TextPart) → Counts g h → Counts g (with_event h (event.Text (text.Part p)))
+part_counts g h part.WordStart c = record { limit = c.limit; none = c.none; one = c.one }
+part_counts g h (part.Piece p) c = record { limit = c.limit; none = c.none; one = c.one }
+part_counts g h (part.Centre s) c = record { limit = c.limit; none = c.none; one = c.one }
+part_counts g h (part.Translation s) c = record { limit = c.limit; none = c.none; one = c.one }
+
+event_counts : (g h : Gathered) (e : BodyEvent) → Counts g h → Counts g (with_event h e)
+event_counts g h (event.Text (text.Kept x)) c = record { limit = c.limit; none = c.none; one = c.one }
+event_counts g h (event.Text (text.Part p)) c = part_counts g h p c
+event_counts g h (event.Text (text.Found f)) c = c
+event_counts g h (event.Text (text.Ended text_end.Notes)) c = record { limit = c.limit; none = c.none; one = c.one }
+event_counts g h (event.Text (text.Ended text_end.Finished)) c = c
+event_counts g h (event.Text (text.Ended (text_end.Cut p))) c = record { limit = c.limit; none = c.none; one = c.one }
+event_counts g h (event.Notes line (note.Kept x)) c = record { limit = c.limit; none = c.none; one = c.one }
+event_counts g h (event.Notes line (note.Found f)) c = c
+event_counts g h (event.Notes line (note.Ended note_end.Next n)) c = record { limit = c.limit; none = c.none; one = c.one }
+event_counts g h (event.Notes line (note.Ended note_end.Close n)) c = made_counts g (with_snippet h line n 41) (made_from (with_snippet h line n 41).builder h.eu h.nlba) (record { limit = c.limit; none = c.none; one = c.one })
+event_counts g h (event.Notes line (note.Ended (note_end.Cut p) n)) c = record { limit = c.limit; none = c.none; one = c.one }
+
+pub all_count : (es : List BodyEvent) (g h : Gathered) → Counts g h → Counts g (with_all h es)
+all_count [] g h c = c
+all_count (e ∷ es) g h c = all_count es g (with_event h e) (event_counts g h e c)
+
+pub counts_from : (g : Gathered) → g.made ≡ [] → (es : List BodyEvent) → Counts g (with_all g es)
+counts_from g none es = all_count es g g (record { limit = refl; none = λ e. (refl, (refl, refl)); one = λ m e. absurd (cc (sym none ∙ e)) })

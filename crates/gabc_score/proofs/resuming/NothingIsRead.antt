@@ -1,0 +1,35 @@
+-- Where nothing is read of a syllable, a text begins.
+use Rattle.std.proofs.Common.{◌≡◌, ℕ, List, [], ◌∷◌, ◌++◌, encode_utf8_all, refl, sym, ap, subst, ◌∙◌}
+use Rattle.std.proofs.lemmas.Str.{encodes_same}
+use Rattle.gabc_text.specs.witness.Keeps as text
+use Rattle.gabc_score.specs.declared.before.Spans.{Spans}
+use Rattle.gabc_score.specs.declared.body_stage.BodyPart.{BodyPart}
+use Rattle.gabc_score.specs.machine.BodyBuilder.{with_all}
+use Rattle.gabc_score.specs.machine.Gatherer.{Gathered}
+use Rattle.gabc_score.specs.machine.PartKeeps.{KeptParts, in_text, in_notes, joined, said_by, begun, barred, PartKeeps, IsReading, ReadAlike}
+use Rattle.gabc_score.specs.machine.SyllableBuilder.{nothing_open}
+
+some_notes : (t s k : List ℕ) {P : Type 0} → (t ++ 40 ∷ s) ++ k ≡ [] → P
+some_notes [] s k e = absurd (cc e)
+some_notes (c ∷ t) s k e = absurd (cc e)
+
+empty_parts : (p : KeptParts) → joined p ≡ [] → p ≡ in_text []
+empty_parts (in_text k) e = ap in_text e
+empty_parts (in_notes t earlier k) e = some_notes t (barred earlier) k e
+
+pub nothing_alike : (lines macros : ℕ) (p : BodyPart) (spans : Spans) (g : Gathered) → IsReading lines macros p spans g → g.builder.kept ≡ [] → ReadAlike g (begun spans)
+unfolding text.said_of
+nothing_alike lines macros p spans g r e = subst (λ (q : KeptParts). ReadAlike g (with_all (begun spans) (said_by lines q))) (empty_parts r.parts (encodes_same (joined r.parts) [] (sym r.kept ∙ e))) r.said
+
+-- so another part that begins a text reads it
+pub begins_again : (lines macros : ℕ) (p after : BodyPart) (spans : Spans) (g : Gathered) → IsReading lines macros p spans g → g.builder ≡ nothing_open → PartKeeps lines macros after (in_text [])
+    → IsReading lines macros after spans g
+unfolding text.said_of
+begins_again lines macros p after spans g r nothing keeps = record {
+  parts = in_text [];
+  keeps = keeps;
+  said = nothing_alike lines macros p spans g r (ap (λ o. o.kept) nothing);
+  kept = ap (λ o. o.kept) nothing;
+  from = ap (λ o. o.from) nothing;
+  uncut = r.uncut;
+}

@@ -1,0 +1,47 @@
+-- Events that leave given spans open.
+use Rattle.std.proofs.Common.{◌≡◌, ℕ, Bool, true, false, List, [], ◌∷◌, ◌++◌, refl}
+use lib.Utf8.{encode}
+use Rattle.gabc_text.specs.declared.text_event.TextEvent.TheVariants.{Kept, Part}
+use Rattle.gabc_text.specs.declared.text_event.TextPart.TheVariants as part
+use Rattle.gabc_text.specs.TextSpan.{no_styles}
+use Rattle.gabc_text.specs.declared.view.PieceKind.TheVariants.{Mark}
+use Rattle.gabc_notes.specs.declared.stage.NoteEnd.TheVariants.{Close}
+use Rattle.gabc_notes.specs.declared.stage.NoteEvent.TheVariants.{Ended}
+use Rattle.gabc_score.specs.declared.before.Spans.{Spans}
+use Rattle.gabc_score.specs.declared.events.BodyEvent.{BodyEvent}
+use Rattle.gabc_score.specs.declared.events.BodyEvent.TheVariants.{Text, Notes}
+use Rattle.gabc_score.specs.HeldAgain.{LeavesOpen}
+use Rattle.gabc_score.specs.Syllable.{slice}
+use Rattle.gabc_score.specs.machine.PartKeeps.{kept_char}
+
+kept : List ℕ → List BodyEvent
+kept [] = []
+kept (c ∷ cs) = Text (Kept (kept_char c)) ∷ kept cs
+
+mark : ℕ → ℕ → BodyEvent
+mark from to = Text (Part (part.Piece (record { kind = Mark; styles = no_styles; span = record { from = from; to = to } })))
+
+-- the nearest first: `<eu>` and `<nlba>` from the end, each behind its characters
+eu_events : Bool → List BodyEvent
+eu_events true = mark 0 4 ∷ kept (62 ∷ 117 ∷ 101 ∷ 60 ∷ [])
+eu_events false = []
+
+nlba_events : Bool → List BodyEvent
+nlba_events true = mark 0 6 ∷ kept (62 ∷ 97 ∷ 98 ∷ 108 ∷ 110 ∷ 60 ∷ [])
+nlba_events false = []
+
+close : BodyEvent
+close = Notes 0 (Ended Close 0)
+
+pub opened : Spans → List BodyEvent
+opened spans = close ∷ (nlba_events spans.nlba ++ close ∷ (eu_events spans.eu ++ []))
+
+pub leaves_open : (spans : Spans) → LeavesOpen spans (opened spans)
+unfolding opened close nlba_events eu_events mark kept encode slice
+leaves_open spans = by spans.eu spans.nlba
+  where
+    by : (eu nlba : Bool) → LeavesOpen (record { eu = eu; nlba = nlba }) (opened (record { eu = eu; nlba = nlba }))
+    by true true = record { nothing = refl; eu = refl; nlba = refl }
+    by true false = record { nothing = refl; eu = refl; nlba = refl }
+    by false true = record { nothing = refl; eu = refl; nlba = refl }
+    by false false = record { nothing = refl; eu = refl; nlba = refl }

@@ -1,0 +1,380 @@
+-- A part reads the next character of a kept text again, by what its stage does.
+use Rattle.std.proofs.Common.{◌≡◌, ◌⊎◌, inl, inr, ◌==◌, ◌&&◌, ◌||◌, not, ℕ, zero, suc, ◌+◌, ◌-◌, ◌^◌, ◌<◌, min, nat_lt, Bool, true, false, List, [], ◌∷◌, ◌++◌, length, Option, Some, None, encode_utf8, encode_utf8_all, refl, sym, ap, subst, ◌∙◌, append-nil, arith, if◌then◌else◌}
+use Rattle.std.proofs.lemmas.Bool.{true≢false}
+use Rattle.std.proofs.lemmas.List.{append_cancel_left}
+use Rattle.std.specs.List.{list_any}
+use Rattle.gabc_places.specs.declared.place.Char.{Char}
+use Rattle.gabc_places.specs.declared.place.Place.{Place}
+use Rattle.gabc_patterns.specs.Derivative.{is_viable}
+use Rattle.gabc_patterns.specs.Function.{trim}
+use Rattle.gabc_patterns.specs.LongestItems.{IsSnippet}
+use Rattle.gabc_patterns.proofs.FunctionsMeetRelations.{trim_snippet}
+use Rattle.gabc_text.specs.BuiltText.{kept_in}
+use Rattle.gabc_text.specs.StageTells as text_tells
+use Rattle.gabc_text.specs.witness.Keeps as text
+use Rattle.gabc_text.specs.declared.stage.TextStage.{TextStage}
+use Rattle.gabc_text.specs.declared.text_event.TextEvent.{TextEvent}
+use Rattle.gabc_notes.specs.Events.{in_raw}
+use Rattle.gabc_notes.specs.SnippetRead.{kept_of, ends_of}
+use Rattle.gabc_notes.specs.StageTells as tells
+use Rattle.gabc_notes.specs.Table.{gabc}
+use Rattle.gabc_notes.specs.witness.Keeps as notes
+use Rattle.gabc_notes.specs.declared.stage.NoteEnd.TheVariants as note_end
+use Rattle.gabc_notes.specs.declared.stage.NoteEvent.{NoteEvent}
+use Rattle.gabc_notes.specs.declared.stage.NoteStage.{NoteStage}
+use Rattle.gabc_nabc.specs.Table.{nabc as nabc_table}
+use Rattle.gabc_nabc.specs.witness.DescriptorMachine.{comment_in}
+use Rattle.gabc_nabc.specs.witness.Keeps as nabc
+use Rattle.gabc_nabc.specs.declared.stage.NabcStage.{NabcStage}
+use Rattle.gabc_score.specs.declared.body_stage.BodyPart.{BodyPart}
+use Rattle.gabc_score.specs.declared.body_stage.BodyPart.TheVariants as part
+use Rattle.gabc_score.specs.declared.body_tells.Openers.{Openers}
+use Rattle.gabc_score.specs.Events.{is_close, is_next, is_text_end}
+use Rattle.gabc_score.specs.ScoreTells.{is_in_comment, is_in_front, openers_of}
+use Rattle.gabc_score.specs.Syllable.{prefix_of}
+use Rattle.gabc_score.specs.machine.BodyBuilder.{with_all}
+use Rattle.gabc_score.specs.machine.Gatherer.{Gathered}
+use Rattle.gabc_score.specs.machine.PartKeeps.{KeptParts, in_text, in_notes, text_before, text_events, snippet_events, PartKeeps}
+use Rattle.gabc_score.specs.machine.ReadAgain.{Adds, BeginsComment, BeginsIn, IsNext, IsNextIn, OpenAt, Reads, ReadsAgain, place_in}
+use Rattle.gabc_score.proofs.building.PartsKeepOn.{next_ends, none_close, none_next, not_next, one_ends}
+use Rattle.gabc_score.proofs.building.PartsOfKeptText.{Grows, IsMarked, cut_is, end_marks, ends_text, notes_ended, notes_said, of_notes, said_gathered, snippet_grows, text_goes_on, text_grows}
+use Rattle.gabc_score.proofs.resuming.PartsAreOne.{outside}
+use Rattle.gabc_score.proofs.texts_of_body.SeamsOfCharacters.{size, size_append, size_is_sum}
+
+-- ---- where what is open began
+
+some_same : (p o : Place) → Some p ≡ Some o → o ≡ p
+some_same p o e = cc
+
+none_some : (o : Place) → None ≡ Some o → ⊥
+none_some o e = cc
+
+-- behind a `(` or a `|` no bracket is open yet
+begins_at : (outer inner opened : Place) (after : BodyPart) → openers_of after ≡ record { notes = Some opened; inner = None } → opened ≡ outer → OpenAt outer inner after
+begins_at outer inner opened after is at = record {
+  notes_at = λ o e. some_same opened o (ap (λ (k : Openers). k.notes) (sym is) ∙ e) ∙ at;
+  inner_at = λ o e. absurd (none_some o (ap (λ (k : Openers). k.inner) (sym is) ∙ e));
+}
+
+not_in_front : (opened : Place) (after : BodyPart) → openers_of after ≡ record { notes = Some opened; inner = None } → is_in_front after ≡ false
+not_in_front opened part.Comment is = absurd (none_some opened (ap (λ (k : Openers). k.notes) is))
+not_in_front opened (part.Text s) is = refl
+not_in_front opened (part.Notes o s) is = refl
+not_in_front opened (part.Nabc l o s) is = refl
+
+-- one character more
+one_more : (kept : List ℕ) (c : ℕ) → kept ++ encode_utf8 c ≡ kept ++ encode_utf8_all (c ∷ [])
+one_more kept c = ap (λ (b : List ℕ). kept ++ b) (sym (append-nil (encode_utf8 c)))
+
+none_cons : (c : ℕ) → c ∷ [] ≡ [] → ⊥
+none_cons c e = cc
+
+-- ---- a text
+
+module _ (lines macros : ℕ) (x : Char) (s t : TextStage) (es : List TextEvent) (on : text.KeepsOn s x.c es t) where
+  -- what keeps something does not end the text
+  kept_goes_on : (k : List ℕ) → text.Keeps s k → text_tells.is_in_comment s ≡ false → text.kept_with k x.c ≡ x.c ∷ [] → text.end_text es ≡ false
+  kept_goes_on k keeps plain kept = by (text.end_text es) refl
+    where
+      by : (b : Bool) → text.end_text es ≡ b → b ≡ false
+      by false e = refl
+      by true e = absurd (none_cons x.c (sym kept ∙ sym (on.kept k keeps plain) ∙ (on.ends k keeps e).kept))
+
+  percent_goes_on : (k : List ℕ) → text.Keeps s k → x.c ≡ 37 → text.end_text es ≡ false
+  percent_goes_on k keeps is = on.end k keeps ∙ ap (λ (c : ℕ). not (text_tells.is_in_comment s) && (c == 40 && text.ends_behind k)) is ∙ none (not (text_tells.is_in_comment s))
+    where
+      none : (b : Bool) → (b && false) ≡ false
+      none true = refl
+      none false = refl
+
+  text_goes : (k more : List ℕ) (comment : Bool) → text.Keeps s k → text.end_text es ≡ false → kept_in es ≡ more → text.comment_with k (text_tells.is_in_comment s) x.c ≡ comment
+      → Reads (part.Text s) (in_text k) x more comment (part.Text t) (text_events es)
+  text_goes k more comment keeps goes_on kept is = record {
+    adds = λ g here from fits. let h = text_grows es g goes_on in record { kept = h.kept ∙ ap (λ (m : List ℕ). g.builder.kept ++ encode_utf8_all m) kept; made = h.made };
+    comment_is = goes.comment ∙ is;
+    front = refl;
+    openers = λ outer inner at stands began. record { notes_at = began.notes_at; inner_at = λ o e. by outer o at stands (λ (f : text_tells.opener_of s ≡ Some o). began.inner_at o f) (goes.opener o e) };
+  }
+    where
+      goes : text.GoesOn s k x.c es t
+      goes = on.goes k keeps goes_on
+
+      by : (outer o : Place) → x.place ≡ outer → text_tells.next_of s ≡ x.place → (text_tells.opener_of s ≡ Some o → o ≡ outer) → (text_tells.opener_of s ≡ Some o) ⊎ (text_tells.next_of s ≡ o) → o ≡ outer
+      by outer o at stands began (inl h) = began h
+      by outer o at stands began (inr h) = sym h ∙ stands ∙ at
+
+  pub text_reads : list_any is_text_end es ≡ false → ReadsAgain lines macros x (part.Text s) (part.Text t) (text_events es)
+  text_reads goes_on = record { next = next; comment = comment }
+    where
+      next : (p : KeptParts) → PartKeeps lines macros (part.Text s) p → text_tells.is_in_comment s ≡ false → IsNext lines p x.c → Reads (part.Text s) p x (x.c ∷ []) false (part.Text t) (text_events es)
+      next (in_notes u earlier k) keeps plain is = absurd keeps
+      next (in_text k) keeps plain (inl is) =
+          text_goes k (x.c ∷ []) false keeps (kept_goes_on k keeps plain is.0) (on.kept k keeps plain ∙ is.0) (ap (λ (b : Bool). text.comment_with k b x.c) plain ∙ is.1)
+      next (in_text k) keeps plain (inr is) = absurd (true≢false (sym ended ∙ text_goes_on s t x.c es k on keeps goes_on))
+        where
+          ended : text.end_text es ≡ true
+          ended = on.end k keeps ∙ ap (λ (b : Bool). not b && (x.c == 40 && text.ends_behind k)) plain ∙ ap (λ (c : ℕ). c == 40 && text.ends_behind k) is.0 ∙ is.1
+
+      comment : (p : KeptParts) → PartKeeps lines macros (part.Text s) p → text_tells.is_in_comment s ≡ false → x.c ≡ 37 → BeginsComment lines p → Reads (part.Text s) p x [] true (part.Text t) (text_events es)
+      comment (in_notes u earlier k) keeps plain is begins = absurd keeps
+      comment (in_text k) keeps plain is begins =
+          text_goes k [] true keeps (percent_goes_on k keeps is) (on.kept k keeps plain ∙ ap (text.kept_with k) is ∙ begins.1)
+          (ap (λ (b : Bool). text.comment_with k b x.c) plain ∙ ap (λ (c : ℕ). c == 37 && text.begins_comment k) is ∙ begins.0)
+
+  -- the `(` behind it
+  pub text_end_reads : (after : BodyPart) → list_any is_text_end es ≡ true → openers_of after ≡ record { notes = Some x.place; inner = None } → is_in_comment after ≡ false
+      → ReadsAgain lines macros x (part.Text s) after (text_events es)
+  text_end_reads after over openers closed = record { next = next; comment = comment }
+    where
+      next : (p : KeptParts) → PartKeeps lines macros (part.Text s) p → text_tells.is_in_comment s ≡ false → IsNext lines p x.c → Reads (part.Text s) p x (x.c ∷ []) false after (text_events es)
+      next (in_notes u earlier k) keeps plain is = absurd keeps
+      next (in_text k) keeps plain (inl is) = absurd (true≢false (sym (ends_text es over) ∙ kept_goes_on k keeps plain is.0))
+      next (in_text k) keeps plain (inr is) = record {
+        adds = λ g here from fits. let m = marked g in record { kept = m.kept ∙ ap (λ (c : ℕ). g.builder.kept ++ encode_utf8 c) (sym is.0) ∙ one_more g.builder.kept x.c; made = m.made };
+        comment_is = closed;
+        front = not_in_front x.place after openers;
+        openers = λ outer inner at stands began. begins_at outer inner x.place after openers at;
+      }
+        where
+          ends : text.EndsBehind k es t
+          ends = on.ends k keeps (ends_text es over)
+
+          marked : (g : Gathered) → IsMarked g (with_all g (text_events es)) 40
+          marked g = subst (λ (i : Gathered). IsMarked g i 40) (sym (said_gathered g es ∙ ap (λ (os : List TextEvent). with_all g (text_events os)) ends.said)) (end_marks g (text.said_at_end k) ends.notes)
+
+      comment : (p : KeptParts) → PartKeeps lines macros (part.Text s) p → text_tells.is_in_comment s ≡ false → x.c ≡ 37 → BeginsComment lines p → Reads (part.Text s) p x [] true after (text_events es)
+      comment (in_notes u earlier k) keeps plain is begins = absurd keeps
+      comment (in_text k) keeps plain is begins = absurd (true≢false (sym (ends_text es over) ∙ percent_goes_on k keeps is))
+
+-- ---- a snippet
+
+-- A snippet goes on behind a character with this kept more, and a comment is open behind it or not. The bracket that is open was so before, or
+-- stands at the character.
+record GoesWith (es : List NoteEvent) (before after : BodyPart) (at : Place) (more : List ℕ) (comment : Bool) : Type 0 where
+  no_end : ends_of es ≡ []
+  kept : kept_of es ≡ more
+  comment_is : is_in_comment after ≡ comment
+  opener : (o : Place) → (openers_of after).inner ≡ Some o → ((openers_of before).inner ≡ Some o) ⊎ (at ≡ o)
+
+-- It ends at a `|`, and all of it stays kept.
+record EndsWhole (es : List NoteEvent) (k : List ℕ) : Type 0 where
+  none_kept : kept_of es ≡ []
+  end : ends_of es ≡ (note_end.Next, min (size k) (2 ^ 64 - 1)) ∷ []
+
+module _ (line : ℕ) (opened : Place) (es : List NoteEvent) where
+  goes_adds : (more : List ℕ) → ends_of es ≡ [] → kept_of es ≡ more → (g : Gathered) → Adds g (with_all g (of_notes line opened es)) more
+  goes_adds more none kept g =
+      subst (λ (i : Gathered). Adds g i more) (sym (notes_said line opened es g none))
+      (record { kept = grown.kept ∙ ap (λ (m : List ℕ). g.builder.kept ++ encode_utf8_all m) kept; made = grown.made })
+    where
+      grown : Grows g (with_all g (snippet_events line (kept_of es))) (kept_of es)
+      grown = snippet_grows line (kept_of es) g
+
+  ends_adds : (before k : List ℕ) → EndsWhole es k → (g : Gathered) → g.builder.kept ≡ encode_utf8_all (before ++ k) → g.builder.from ≡ size before → length g.builder.kept < 2 ^ 64
+      → Adds g (with_all g (of_notes line opened es)) (124 ∷ [])
+  ends_adds before k h g here from fits =
+      subst (λ (i : Gathered). Adds g i (124 ∷ [])) (sym (notes_ended line opened es g note_end.Next n h.none_kept h.end))
+      (record { kept = ap (λ (b : List ℕ). b ++ encode_utf8 124) cut ∙ one_more g.builder.kept 124; made = refl })
+    where
+      n : ℕ
+      n = min (size k) (2 ^ 64 - 1)
+
+      count : n ≡ size k
+      count = let all : length g.builder.kept ≡ size before + size k = ap length here ∙ size_append before k in omega (arith, fits, all)
+
+      cut : prefix_of (g.builder.from + n) g.builder.kept ≡ g.builder.kept
+      cut =
+          cut_is g.builder.from n g.builder.kept before k [] (here ∙ ap (λ (t : List ℕ). encode_utf8_all (before ++ t)) (sym (append-nil k))) from count
+          ∙ sym here
+
+  module _ (x : Char) (before after : BodyPart) (u : List ℕ) (earlier : List (List ℕ)) (k : List ℕ) where
+    snippet_goes : (more : List ℕ) (comment : Bool) → (openers_of after).notes ≡ (openers_of before).notes → ((outer inner : Place) → place_in outer inner after ≡ place_in outer inner before)
+        → is_in_front after ≡ false → GoesWith es before after x.place more comment → Reads before (in_notes u earlier k) x more comment after (of_notes line opened es)
+    snippet_goes more comment same_notes same_place front h = record {
+      adds = λ g here from fits. goes_adds more h.no_end h.kept g;
+      comment_is = h.comment_is;
+      front = front;
+      openers = λ outer inner at stands began. record {
+        notes_at = λ o e. began.notes_at o (sym same_notes ∙ e);
+        inner_at = λ o e. by outer inner o at began.inner_at (h.opener o e);
+      };
+    }
+      where
+        by : (outer inner o : Place) → x.place ≡ place_in outer inner before → ((o : Place) → (openers_of before).inner ≡ Some o → o ≡ place_in outer inner before)
+            → ((openers_of before).inner ≡ Some o) ⊎ (x.place ≡ o) → o ≡ place_in outer inner after
+        by outer inner o at began (inl e) = began o e ∙ sym (same_place outer inner)
+        by outer inner o at began (inr e) = sym e ∙ at ∙ sym (same_place outer inner)
+
+    snippet_ends : x.c ≡ 124 → (openers_of before).notes ≡ Some opened → openers_of after ≡ record { notes = Some opened; inner = None } → is_in_comment after ≡ false → EndsWhole es k
+        → Reads before (in_notes u earlier k) x (x.c ∷ []) false after (of_notes line opened es)
+    snippet_ends is was openers closed h = record {
+      adds = λ g here from fits. subst (λ (c : ℕ). Adds g (with_all g (of_notes line opened es)) (c ∷ [])) (sym is) (ends_adds (text_before (in_notes u earlier k)) k h g here from fits);
+      comment_is = closed;
+      front = not_in_front opened after openers;
+      openers = λ outer inner at stands began. begins_at outer inner opened after openers (began.notes_at opened was);
+    }
+
+-- ---- a snippet of GABC
+
+module _ (lines macros : ℕ) (opened : Place) (s t : NoteStage) (x : Char) (es : List NoteEvent) (on : notes.KeepsOn s x es t) where
+  abbrev split : Bool
+  split = nat_lt 0 lines
+
+  abbrev Keep : List ℕ → Type 0
+  Keep k = notes.Keeps split macros s k
+
+  abbrev GoesOn : List ℕ → Bool → Type 0
+  GoesOn more comment = GoesWith es (part.Notes opened s) (part.Notes opened t) x.place more comment
+
+  gabc_goes : (k more : List ℕ) (comment : Bool) → Keep k → notes.is_end_behind split k (tells.comment_of s) x.c ≡ false → notes.kept_behind k (tells.comment_of s) x.c ≡ k ++ more
+      → notes.is_comment_behind k (tells.comment_of s) x.c ≡ comment → GoesOn more comment
+  gabc_goes k more comment keeps goes_on kept is =
+      let g = on.goes split macros k keeps goes_on in
+      record {
+        no_end = g.no_end;
+        kept = append_cancel_left k (kept_of es) more (g.kept ∙ kept);
+        comment_is = g.comment ∙ is;
+        opener = λ o e. by (in_raw (k ++ kept_of es)) (tells.opener_of s) o (sym g.opener ∙ e);
+      }
+    where
+      by : (b : Bool) (q : Option Place) (o : Place) → notes.opener_behind b q x.place ≡ Some o → (q ≡ Some o) ⊎ (x.place ≡ o)
+      by false q o e = absurd (none_some o e)
+      by true (Some q) o e = inl e
+      by true None o e = inr (sym (some_same x.place o e))
+
+  gabc_again : (k : List ℕ) → Keep k → tells.comment_of s ≡ false → notes.IsKeptAgain split k x.c → GoesOn (x.c ∷ []) false
+  gabc_again k keeps plain is =
+      gabc_goes k (x.c ∷ []) false keeps (ap (λ (b : Bool). notes.is_end_behind split k b x.c) plain ∙ is.goes_on) (ap (λ (b : Bool). notes.kept_behind k b x.c) plain ∙ is.kept)
+      (ap (λ (b : Bool). notes.is_comment_behind k b x.c) plain ∙ is.no_comment)
+
+  gabc_percent : (k : List ℕ) → Keep k → tells.comment_of s ≡ false → x.c ≡ 37 → in_raw k ≡ false → GoesOn [] true
+  gabc_percent k keeps plain is raw =
+      gabc_goes k [] true keeps
+      (ap (λ (b : Bool). not b && (not (in_raw k) && ((x.c == 41) || (split && (x.c == 124))))) begins)
+      (ap (λ (b : Bool). if not b && is_viable gabc (k ++ x.c ∷ []) then k ++ x.c ∷ [] else k) begins ∙ sym (append-nil k)) begins
+    where
+      begins : notes.is_comment_behind k (tells.comment_of s) x.c ≡ true
+      begins =
+          ap (λ (b : Bool). notes.is_comment_behind k b x.c) plain
+          ∙ ap (λ (c : ℕ). not (c == 10) && (false || (not (in_raw k) && (c == 37)))) is
+          ∙ ap (λ (r : Bool). not (37 == 10) && (false || (not r && (37 == 37)))) raw
+
+  gabc_bar : (k : List ℕ) → Keep k → tells.comment_of s ≡ false → x.c ≡ 124 → split ≡ true → IsSnippet gabc k → notes.EndsBehind k x.c es
+  gabc_bar k keeps plain is splits snippet = on.ends split macros k keeps (
+      ap (λ (b : Bool). notes.is_end_behind split k b x.c) plain
+      ∙ ap (λ (c : ℕ). notes.is_end_behind split k false c) is
+      ∙ ap (λ (r : Bool). not (not (124 == 10) && (false || (not r && (124 == 37)))) && (not r && ((124 == 41) || (split && (124 == 124))))) (outside k snippet)
+      ∙ ap (λ (b : Bool). (124 == 41) || (b && (124 == 124))) splits)
+
+  abbrev ReadsIn : BodyPart → Type 0
+  ReadsIn after = ReadsAgain lines macros x (part.Notes opened s) after (of_notes 0 opened es)
+
+  -- by which of the two comes next
+  gabc_by : (after : BodyPart)
+      → ((u : List ℕ) (earlier : List (List ℕ)) (k more : List ℕ) (comment : Bool) → GoesOn more comment → Reads (part.Notes opened s) (in_notes u earlier k) x more comment after (of_notes 0 opened es))
+      → ((u : List ℕ) (earlier : List (List ℕ)) (k : List ℕ) → x.c ≡ 124 → IsSnippet gabc k → notes.EndsBehind k x.c es → Reads (part.Notes opened s) (in_notes u earlier k) x (x.c ∷ []) false after (of_notes 0 opened es))
+      → ReadsIn after
+  gabc_by after goes ends = record { next = next; comment = comment }
+    where
+      by : (u : List ℕ) (earlier : List (List ℕ)) (k : List ℕ) → Keep k → tells.comment_of s ≡ false → IsNextIn lines 0 k x.c → Reads (part.Notes opened s) (in_notes u earlier k) x (x.c ∷ []) false after (of_notes 0 opened es)
+      by u earlier k keeps plain (inl is) = goes u earlier k (x.c ∷ []) false (gabc_again k keeps plain is)
+      by u earlier k keeps plain (inr is) = ends u earlier k is.0 is.1.1 (gabc_bar k keeps plain is.0 is.1.0 is.1.1)
+
+      next : (p : KeptParts) → PartKeeps lines macros (part.Notes opened s) p → tells.comment_of s ≡ false → IsNext lines p x.c → Reads (part.Notes opened s) p x (x.c ∷ []) false after (of_notes 0 opened es)
+      next (in_text k) h plain is = absurd h
+      next (in_notes u earlier k) h plain is = by u earlier k h.1 plain (subst (λ (l : ℕ). IsNextIn lines l k x.c) h.0.line_is is)
+
+      comment : (p : KeptParts) → PartKeeps lines macros (part.Notes opened s) p → tells.comment_of s ≡ false → x.c ≡ 37 → BeginsComment lines p → Reads (part.Notes opened s) p x [] true after (of_notes 0 opened es)
+      comment (in_text k) h plain is begins = absurd h
+      comment (in_notes u earlier k) h plain is begins = goes u earlier k [] true (gabc_percent k h.1 plain is (subst (λ (l : ℕ). BeginsIn l k) h.0.line_is begins))
+
+  pub gabc_reads : list_any is_next es ≡ false → list_any is_close es ≡ false → ReadsIn (part.Notes opened t)
+  gabc_reads next close = gabc_by (part.Notes opened t)
+      (λ u earlier k more comment h. snippet_goes 0 opened es x (part.Notes opened s) (part.Notes opened t) u earlier k more comment refl (λ outer inner. refl) refl h)
+      (λ u earlier k is snippet e. absurd (one_ends es x.c _ e.end next close))
+
+  pub gabc_end_reads : (after : BodyPart) → list_any is_next es ≡ true → openers_of after ≡ record { notes = Some opened; inner = None } → is_in_comment after ≡ false → ReadsIn after
+  gabc_end_reads after next openers closed = gabc_by after
+      (λ u earlier k more comment h. absurd (true≢false (sym next ∙ none_next es x.c 0 h.no_end)))
+      (λ u earlier k is snippet e. snippet_ends 0 opened es x (part.Notes opened s) after u earlier k is refl openers closed (record {
+        none_kept = e.none_kept;
+        end = next_ends es x.c _ e.end next
+            ∙ ap (λ (n : ℕ). (note_end.Next, min n (2 ^ 64 - 1)) ∷ []) (size_is_sum (trim gabc k) ∙ ap size (trim_snippet gabc refl k snippet));
+      }))
+
+  pub gabc_close_reads : (after : BodyPart) → list_any is_close es ≡ true → ReadsIn after
+  gabc_close_reads after close = gabc_by after
+      (λ u earlier k more comment h. absurd (true≢false (sym close ∙ none_close es x.c 0 h.no_end)))
+      (λ u earlier k is snippet e. absurd (true≢false (sym (ap (λ (c : ℕ). c == 124) is) ∙ not_next es x.c _ e.end close)))
+
+-- ---- a snippet of NABC
+
+module _ (lines macros line : ℕ) (opened : Place) (s t : NabcStage) (x : Char) (es : List NoteEvent) (on : nabc.KeepsOn s x es t) where
+  abbrev NabcGoesOn : List ℕ → Bool → Type 0
+  NabcGoesOn more comment = GoesWith es (part.Nabc line opened s) (part.Nabc line opened t) x.place more comment
+
+  nabc_goes : (k more : List ℕ) (comment : Bool) → nabc.Keeps s k → nabc.is_end_behind (nabc.comment_of s) x.c ≡ false → nabc.kept_behind k (nabc.comment_of s) x.c ≡ k ++ more
+      → comment_in (nabc.comment_of s) x.c ≡ comment → NabcGoesOn more comment
+  nabc_goes k more comment keeps goes_on kept is =
+      let g = on.goes k keeps goes_on in
+      record {
+        no_end = g.no_end;
+        kept = append_cancel_left k (kept_of es) more (g.kept ∙ kept);
+        comment_is = g.comment ∙ is;
+        opener = λ o e. absurd (none_some o e);
+      }
+
+  nabc_again : (k : List ℕ) → nabc.Keeps s k → nabc.comment_of s ≡ false → nabc.IsKeptAgain k x.c → NabcGoesOn (x.c ∷ []) false
+  nabc_again k keeps plain is =
+      nabc_goes k (x.c ∷ []) false keeps (ap (λ (b : Bool). nabc.is_end_behind b x.c) plain ∙ is.goes_on) (ap (λ (b : Bool). nabc.kept_behind k b x.c) plain ∙ is.kept)
+      (ap (λ (b : Bool). comment_in b x.c) plain ∙ is.no_comment)
+
+  nabc_percent : (k : List ℕ) → nabc.Keeps s k → nabc.comment_of s ≡ false → x.c ≡ 37 → NabcGoesOn [] true
+  nabc_percent k keeps plain is =
+      nabc_goes k [] true keeps (ap (λ (b : Bool). nabc.is_end_behind b x.c) plain ∙ ap (λ (c : ℕ). nabc.is_end_behind false c) is)
+      (ap (λ (b : Bool). nabc.kept_behind k b x.c) plain ∙ ap (λ (c : ℕ). nabc.kept_behind k false c) is ∙ sym (append-nil k))
+      (ap (λ (b : Bool). comment_in b x.c) plain ∙ ap (λ (c : ℕ). comment_in false c) is)
+
+  nabc_bar : (k : List ℕ) → nabc.Keeps s k → nabc.comment_of s ≡ false → x.c ≡ 124 → nabc.EndsBehind k x.c es
+  nabc_bar k keeps plain is = on.ends k keeps (ap (λ (b : Bool). nabc.is_end_behind b x.c) plain ∙ ap (λ (c : ℕ). nabc.is_end_behind false c) is)
+
+  abbrev NabcReadsIn : BodyPart → Type 0
+  NabcReadsIn after = ReadsAgain lines macros x (part.Nabc line opened s) after (of_notes line opened es)
+
+  nabc_by : (after : BodyPart)
+      → ((u : List ℕ) (earlier : List (List ℕ)) (k more : List ℕ) (comment : Bool) → NabcGoesOn more comment → Reads (part.Nabc line opened s) (in_notes u earlier k) x more comment after (of_notes line opened es))
+      → ((u : List ℕ) (earlier : List (List ℕ)) (k : List ℕ) → x.c ≡ 124 → IsSnippet nabc_table k → nabc.EndsBehind k x.c es → Reads (part.Nabc line opened s) (in_notes u earlier k) x (x.c ∷ []) false after (of_notes line opened es))
+      → NabcReadsIn after
+  nabc_by after goes ends = record { next = next; comment = comment }
+    where
+      by : (l : ℕ) (u : List ℕ) (earlier : List (List ℕ)) (k : List ℕ) → (l ≡ 0 → ⊥) → nabc.Keeps s k → nabc.comment_of s ≡ false → IsNextIn lines l k x.c
+          → Reads (part.Nabc line opened s) (in_notes u earlier k) x (x.c ∷ []) false after (of_notes line opened es)
+      by zero u earlier k some keeps plain is = absurd (some refl)
+      by (suc l) u earlier k some keeps plain (inl is) = goes u earlier k (x.c ∷ []) false (nabc_again k keeps plain is)
+      by (suc l) u earlier k some keeps plain (inr is) = ends u earlier k is.0 is.1 (nabc_bar k keeps plain is.0)
+
+      next : (p : KeptParts) → PartKeeps lines macros (part.Nabc line opened s) p → nabc.comment_of s ≡ false → IsNext lines p x.c → Reads (part.Nabc line opened s) p x (x.c ∷ []) false after (of_notes line opened es)
+      next (in_text k) h plain is = absurd h
+      next (in_notes u earlier k) h plain is = by line u earlier k h.1.0 h.1.1 plain (subst (λ (l : ℕ). IsNextIn lines l k x.c) h.0.line_is is)
+
+      comment : (p : KeptParts) → PartKeeps lines macros (part.Nabc line opened s) p → nabc.comment_of s ≡ false → x.c ≡ 37 → BeginsComment lines p → Reads (part.Nabc line opened s) p x [] true after (of_notes line opened es)
+      comment (in_text k) h plain is begins = absurd h
+      comment (in_notes u earlier k) h plain is begins = goes u earlier k [] true (nabc_percent k h.1.1 plain is)
+
+  pub nabc_reads : list_any is_next es ≡ false → list_any is_close es ≡ false → NabcReadsIn (part.Nabc line opened t)
+  nabc_reads next close = nabc_by (part.Nabc line opened t)
+      (λ u earlier k more comment h. snippet_goes line opened es x (part.Nabc line opened s) (part.Nabc line opened t) u earlier k more comment refl (λ outer inner. refl) refl h)
+      (λ u earlier k is snippet e. absurd (one_ends es x.c _ e.end next close))
+
+  pub nabc_end_reads : (after : BodyPart) → list_any is_next es ≡ true → openers_of after ≡ record { notes = Some opened; inner = None } → is_in_comment after ≡ false → NabcReadsIn after
+  nabc_end_reads after next openers closed = nabc_by after
+      (λ u earlier k more comment h. absurd (true≢false (sym next ∙ none_next es x.c 0 h.no_end)))
+      (λ u earlier k is snippet e. snippet_ends line opened es x (part.Nabc line opened s) after u earlier k is refl openers closed (record {
+        none_kept = e.none_kept;
+        end = next_ends es x.c _ e.end next ∙ ap (λ (n : ℕ). (note_end.Next, min n (2 ^ 64 - 1)) ∷ []) (ap size (trim_snippet nabc_table refl k snippet));
+      }))
+
+  pub nabc_close_reads : (after : BodyPart) → list_any is_close es ≡ true → NabcReadsIn after
+  nabc_close_reads after close = nabc_by after
+      (λ u earlier k more comment h. absurd (true≢false (sym close ∙ none_close es x.c 0 h.no_end)))
+      (λ u earlier k is snippet e. absurd (true≢false (sym (ap (λ (c : ℕ). c == 124) is) ∙ not_next es x.c _ e.end close)))

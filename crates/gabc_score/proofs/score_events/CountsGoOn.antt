@@ -1,0 +1,116 @@
+-- The counts that a machine tells stay within the limits, past a point.
+use Rattle.std.proofs.Common.{◌≡◌, ◌⊎◌, inl, inr, ℕ, zero, suc, ◌++◌, None, ◌-◌, ◌≤◌, ◌<◌, ◌^◌, Bool, true, false, List, [], ◌∷◌, take, drop, map, length, refl, sym, ap, subst, ◌∙◌, arith}
+use Rattle.std.proofs.lemmas.Bool.{true≢false}
+use Rattle.std.specs.List.{All}
+use Rattle.std.proofs.lemmas.Bool.Decides.{nat_tests}
+use Rattle.std.proofs.lemmas.List.Elements.{All-nil}
+use Rattle.gabc_places.specs.declared.limits.Limits.{Limits}
+use Rattle.gabc_places.specs.declared.place.Place.{Place}
+use Rattle.gabc_headers.specs.declared.head_event.HeadEvent.{HeadEvent}
+use Rattle.gabc_headers.specs.declared.head_event.HeadEvent.TheVariants as head_event
+use Rattle.gabc_score.specs.declared.before.Preceding.{Preceding}
+use Rattle.gabc_score.specs.declared.body_stage.BodyPart.TheVariants as part
+use Rattle.gabc_score.specs.declared.events.BodyEvent.{BodyEvent}
+use Rattle.gabc_score.specs.declared.score_machine.ScorePart.TheVariants as score_part
+use Rattle.gabc_score.specs.ScoreTells.{held_in_body}
+use Rattle.gabc_score.specs.declared.bounds.Bounds.{Bounds}
+use Rattle.gabc_score.specs.Before.{with_one, with_each, with_placed}
+use Rattle.gabc_score.specs.Body.{is_none}
+use Rattle.gabc_score.specs.Syllable.{UnplacedSyllable, PlacedSyllable}
+use Rattle.gabc_score.specs.ScoreEvents.{first_place}
+use Rattle.gabc_score.specs.ScoreStage.{MayCome}
+use Rattle.gabc_score.specs.ToldWithin.{IsPlace, AreCountsWithin, IsText, IsToldOfText}
+use Rattle.gabc_score.specs.witness.BodyStage.{BodyStageState}
+use Rattle.gabc_score.specs.witness.ScoreStage.{ScoreStageState}
+use Rattle.gabc_score.proofs.score_events.TextsArePlain.{nothing_plain}
+use Rattle.gabc_score.specs.machine.Gatherer.{Gathered}
+use Rattle.gabc_score.specs.machine.BodyBuilder.{with_all}
+use Rattle.gabc_score.specs.machine.HeldWithin.{HoldsWithin}
+use Rattle.gabc_score.specs.machine.PartPushes.{ClosesLast}
+use Rattle.gabc_score.specs.machine.Preceded.{IsPreceded, behind_headers}
+use Rattle.gabc_score.specs.machine.ScoreStage.{placed_behind, with_held}
+use Rattle.gabc_score.proofs.score_events.WhatPrecedes.{Closed, same_or_closed}
+
+more : (least : ℕ) (p : Preceding) (ms : List UnplacedSyllable) → least < 2 ^ 64 → least ≤ p.canonical → least ≤ (with_each p ms).canonical
+more least p [] small h = h
+more least p (m ∷ ms) small h = more least (with_one p m) ms small (grind (arith, nat_tests))
+
+fits : (p : Preceding) (ms : List UnplacedSyllable) → p.canonical < 2 ^ 64 → (with_each p ms).canonical < 2 ^ 64
+fits p [] h = h
+fits p (m ∷ ms) h = fits (with_one p m) ms (grind (arith, nat_tests))
+
+held_some : (g : Gathered) → is_none (with_held g).made ≡ true → g.made ≡ []
+held_some g e = by g.made e
+  where
+    short : (n : ℕ) (m : UnplacedSyllable) (ms : List UnplacedSyllable) → n ≤ length ms → is_none (drop n (m ∷ ms)) ≡ false
+    short zero m ms h = refl
+    short (suc n) m [] h = absurd (omega (arith, h))
+    short (suc n) m (k ∷ ms) h = short n k ms (omega (arith, h))
+
+    by : (ms : List UnplacedSyllable) → is_none (drop (length ms - 1) ms) ≡ true → ms ≡ []
+    by [] e = refl
+    by (m ∷ ms) e = absurd (true≢false (sym e ∙ short (length (m ∷ ms) - 1) m ms (omega arith)))
+
+-- what stands before what is held is below the limit of the input, as what stands behind it is
+pub counts_past : (limits : Limits) (lines macros : ℕ) (before behind : Preceding) (has_lent : Bool) (h turned : Gathered) → behind ≡ with_placed before (take (length h.made - 1) (placed_behind has_lent h.made)) → turned ≡ with_held h
+    → IsPreceded behind turned → HoldsWithin limits behind turned → AreCountsWithin limits lines macros before.canonical → AreCountsWithin limits lines macros behind.canonical
+counts_past limits lines macros before behind has_lent h turned there turns preceded within c = record {
+  few_lines = c.few_lines;
+  ten_macros = c.ten_macros;
+  headers = subst (λ (p : Preceding). 2 ≤ p.canonical) (sym there) (more 2 before given (omega arith) c.headers);
+  below = by (is_none turned.made) refl;
+}
+  where
+    given : List UnplacedSyllable
+    given = map (λ (s : PlacedSyllable). s.made) (take (length h.made - 1) (placed_behind has_lent h.made))
+
+    most : limits.input ≤ 4294967295
+    most = limits.in_range.input_most
+
+    small : behind.canonical < 2 ^ 64
+    small = let under = c.below in subst (λ (p : Preceding). p.canonical < 2 ^ 64) (sym there) (fits before given (omega (arith, under, most)))
+
+    by : (b : Bool) → is_none turned.made ≡ b → behind.canonical < limits.input
+    by false e =
+        let file = within.file e in
+        let total = preceded.total in
+        let up = more behind.canonical behind turned.made small (omega arith) in
+        omega (arith, file, total, up)
+    by true e =
+        let none : h.made ≡ [] = held_some h (sym (ap (λ (k : Gathered). is_none k.made) turns) ∙ e) in
+        subst (λ (p : Preceding). p.canonical < limits.input) (sym (there ∙ ap (λ (ms : List UnplacedSyllable). with_placed before (take (length ms - 1) (placed_behind has_lent ms))) none)) c.below
+
+-- where none is held then none was before
+pub none_past : (before behind : Preceding) (has_lent : Bool) (g h turned : Gathered) (now : List BodyEvent) → ClosesLast now → behind ≡ with_placed before (take (length h.made - 1) (placed_behind has_lent h.made)) → turned ≡ with_held h
+    → h ≡ with_all g now → (held_in_body score_part.Body g.made ≡ None → before.syllables ≡ 0) → held_in_body score_part.Body turned.made ≡ None → behind.syllables ≡ 0
+none_past before behind has_lent g h turned now last there turns is was none =
+    let here : h.made ≡ [] = held_some h (sym (ap (λ (k : Gathered). is_none k.made) turns) ∙ ap is_none (none_in turned.made none)) in
+    ap (λ (p : Preceding). p.syllables) (there ∙ ap (λ (ms : List UnplacedSyllable). with_placed before (take (length ms - 1) (placed_behind has_lent ms))) here)
+    ∙ was (ap (held_in_body score_part.Body) (old (same_or_closed g now last) (ap (λ (k : Gathered). k.made) (sym is) ∙ here)))
+  where
+    none_in : (ms : List UnplacedSyllable) → held_in_body score_part.Body ms ≡ None → ms ≡ []
+    none_in [] e = refl
+    none_in (m ∷ ms) e = absurd (cc e)
+
+    some : (ms : List UnplacedSyllable) (m : UnplacedSyllable) → ms ++ m ∷ [] ≡ [] → ⊥
+    some [] m e = cc e
+    some (k ∷ ms) m e = cc e
+
+    old : ((with_all g now).made ≡ g.made) ⊎ Closed g (with_all g now) → (with_all g now).made ≡ [] → g.made ≡ []
+    old (inl same) e = sym same ∙ e
+    old (inr c) e = absurd (some g.made c.m (sym c.made ∙ e))
+
+-- behind the headers the counts are those that they give
+pub begins_of_text : (limits : Limits) (next : Place) (input : HeadEvent) (lines macros canonical : ℕ) (body : BodyStageState) (bounds : Bounds) → input ≡ head_event.Heads lines macros canonical
+    → body ≡ record { nabc_lines = lines; macros = macros; part = part.Comment; over = false; events = [] } → bounds ≡ behind_headers canonical → MayCome limits next input
+    → (s : ScoreStageState) → s.limits ≡ limits → s.body ≡ body → s.before ≡ bounds.before → s.held.next ≡ first_place → s.held.gathered.builder.kept ≡ [] → s.held.gathered.made ≡ [] → IsToldOfText s
+begins_of_text limits next input lines macros canonical body bounds is at begun may s l b p n none empty =
+    let counts : AreCountsWithin limits lines macros canonical = subst (MayCome limits next) is may in
+    record {
+      counts = rw (l, b ∙ at, p ∙ ap (λ (k : Bounds). k.before) begun) counts;
+      next = subst IsPlace (sym n) (record { line = omega arith; column = omega arith; in_64_bits = omega arith });
+      reading = subst IsText (sym none) nothing_plain;
+      held = subst (All (λ (m : UnplacedSyllable). IsText m.kept)) (sym empty) (All-nil (λ (m : UnplacedSyllable). IsText m.kept));
+      openers = rw (b ∙ at) (record { notes = tt; inner = tt; in_order = tt });
+      none_held = λ none. ap (λ (q : Preceding). q.syllables) (p ∙ ap (λ (k : Bounds). k.before) begun);
+    }

@@ -1,0 +1,56 @@
+-- What a machine tells in the body is within its limits.
+use Rattle.std.proofs.Common.{◌≡◌, ℕ, ◌+◌, ◌-◌, ◌≤◌, ◌<◌, ◌^◌, ◌||◌, ◌==◌, min, Bool, List, [], ◌∷◌, ◌++◌, cond, length, codes, None, refl, sym, subst, arith, length-append}
+use Rattle.std.specs.Prelude.{IfSome}
+use Rattle.std.proofs.lemmas.Bool.Decides.{nat_tests}
+use Rattle.gabc_places.specs.declared.limits.Limits.{Limits}
+use Rattle.gabc_text.specs.Canonical.{canonical_text}
+use Rattle.gabc_score.specs.declared.before.Preceding.{Preceding}
+use Rattle.gabc_score.specs.declared.score_machine.ScoreMachine.{ScoreMachine}
+use Rattle.gabc_score.specs.declared.score_machine.ScorePart.{ScorePart}
+use Rattle.gabc_score.specs.declared.score_machine.ScorePart.TheVariants as score_part
+use Rattle.gabc_score.specs.Before.{with_each}
+use Rattle.gabc_score.specs.Canonical.{canonical, translation_text, with_bars}
+use Rattle.gabc_score.specs.ScoreTells.{held_in_body, reading_in_body}
+use Rattle.gabc_score.specs.Syllable.{UnplacedSyllable}
+use Rattle.gabc_score.specs.ToldWithin.{HasNoCommentInside, IsHeldWithin, IsToldWithin}
+use Rattle.gabc_score.specs.machine.Gatherer.{Gathered}
+use Rattle.gabc_score.specs.machine.HeldWithin.{HoldsWithin}
+use Rattle.gabc_score.specs.machine.Preceded.{IsPreceded}
+use Rattle.gabc_score.specs.machine.ScoreMachine.{shown, IsInBody}
+
+-- a canonical text has its brackets
+pub canonical_some : (starts : Bool) (m : UnplacedSyllable) → 2 ≤ length (canonical starts m)
+canonical_some starts m =
+    let bars = with_bars m.kept m.snippets in
+    let translation = translation_text m.kept m.text.translation in
+    let text = canonical_text m.text m.kept in
+    let a = length-append (cond starts (10 ∷ []) []) (text ++ (translation ++ (codes "(" ++ (bars ++ codes ")")))) in
+    let b = length-append text (translation ++ (codes "(" ++ (bars ++ codes ")"))) in
+    let c = length-append translation (codes "(" ++ (bars ++ codes ")")) in
+    let d = length-append bars (codes ")") in
+    omega (arith, a, b, c, d)
+
+-- a sum that is below the limit has not saturated
+sum_below : (a n total input : ℕ) → total ≡ min (a + min n (2 ^ 64 - 1)) (2 ^ 64 - 1) → total < input → input ≤ 4294967295 → a + n < input
+sum_below a n total input e h k = grind (arith, nat_tests)
+
+module _ (limits : Limits) (p : Preceding) (g : Gathered) (preceded : IsPreceded p g) (within : HoldsWithin limits p g) (few : length g.made ≤ 1) where
+  held_by : (ms : List UnplacedSyllable) → g.made ≡ ms → IfSome (held_in_body score_part.Body ms) (IsHeldWithin limits p)
+  held_by [] is = tt
+  held_by (m ∷ []) is =
+      let w = subst (λ (ms : List UnplacedSyllable). HoldsWithin limits p (record g { made = ms })) is (record { written = within.written; file = within.file; outset = within.outset }) in
+      record {
+        some = canonical_some ((p.syllables == 0) || m.text.word_start) m;
+        short = w.written.0;
+        file = sum_below p.canonical (length (canonical ((p.syllables == 0) || m.text.word_start) m)) g.total limits.input
+            (subst (λ (ms : List UnplacedSyllable). g.total ≡ (with_each p ms).canonical) is preceded.total) (w.file refl) limits.in_range.input_most;
+      }
+  held_by (m ∷ n ∷ ms) is = absurd (subst (λ (ms : List UnplacedSyllable). length ms ≤ 1 → ⊥) (sym is) (λ l. omega (arith, l)) few)
+
+pub tells_in_body : (m : ScoreMachine) → m.part ≡ score_part.Body → IsInBody m → length m.pair.gathered.made ≤ 1 → HasNoCommentInside m.body.part → IsToldWithin (shown m)
+tells_in_body m body h few comment = record {
+  reading = subst (λ (k : ScorePart). length (reading_in_body k m.pair.gathered.builder.kept) ≤ m.limits.syllable) (sym body) h.kept;
+  held = subst (λ (k : ScorePart). IfSome (held_in_body k m.pair.gathered.made) (IsHeldWithin m.limits m.bounds.before)) (sym body) (held_by m.limits m.bounds.before m.pair.gathered h.preceded h.within few m.pair.gathered.made refl);
+  outset = h.within.outset;
+  comment = comment;
+}

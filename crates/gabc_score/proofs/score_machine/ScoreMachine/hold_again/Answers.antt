@@ -1,0 +1,96 @@
+use Rattle.std.proofs.Common.{rules, ◌≡◌, ℕ, ◌≤◌, ◌∷◌, [], List, length, true, false, Some, None, refl, sym, ap, subst, ◌∙◌, arith}
+use Rattle.std.proofs.lemmas.Bool.{true≢false}
+use Rattle.std.specs.Str.{chars}
+use Rattle.gabc_places.specs.StageLaw.{concat_of}
+use Rattle.gabc_score.specs.declared.before.Preceding.{Preceding}
+use Rattle.gabc_score.specs.declared.body_stage.BodyPart.{BodyPart}
+use Rattle.gabc_score.specs.declared.score_machine.ScorePart.{ScorePart}
+use Rattle.gabc_score.specs.declared.score_machine.ScorePart.TheVariants as score_part
+use Rattle.gabc_score.specs.Body.{is_none}
+use Rattle.gabc_score.specs.ScoreEvents.{first_place}
+use Rattle.gabc_score.specs.ScoreTells.{before_with, held_in_body, in_body, reading_in_body}
+use Rattle.gabc_score.specs.Syllable.{UnplacedSyllable}
+use Rattle.gabc_score.specs.machine.BodyBuilder.{with_all}
+use Rattle.gabc_score.specs.machine.Gatherer.{Gathered}
+use Rattle.gabc_score.specs.machine.PartCounts.{CountsHold}
+use Rattle.gabc_score.specs.machine.ReadAlone.{lists_of}
+use Rattle.gabc_score.specs.machine.ScoreMachine.{IsInBody, IsScoreAt}
+use Rattle.gabc_score.specs.machine.SyllableBuilder.{OpenSyllable}
+use Rattle.gabc_score.specs.witness.BodyStage.{BodyStageState}
+use Rattle.gabc_score.proofs.resuming.HeldIsHeld.{found_alone, is_found}
+use Rattle.gabc_score.proofs.resuming.NothingIsRead.{begins_again}
+use Rattle.gabc_score.proofs.texts_of_body.StageAndDefinitionAgree.{fits_behind_prefix}
+use Rattle.gabc_score.proofs.score_machine.ScoreMachine.hold_again.Goals as goal
+
+pub returns-then-not-read_all-clause-refused : goal.returns-then-not-read_all-clause-refused
+returns-then-not-read_all-clause-refused c given m may =
+    let was = c.args.self.now in
+    let short = c.requires.short in
+    let rests : IsInBody was = subst (λ (p : ScorePart). IsScoreAt p was) c.requires.begins.body c.requires.rests in
+    let fits = fits_behind_prefix first_place [] c.args.text.now c.utf8.text (omega arith) (omega arith) (omega (arith, short)) in
+    true≢false (sym (is_found was rests c.requires.begins c.requires.none (chars c.args.text.now) fits c.a_text_is_read_from_its_beginning.ensures m may) ∙ sym c.read_all.ensures.alone ∙ c.if-not-read_all.true)
+
+-- the syllable that is found is held
+held_there : (p : ScorePart) (ms : List UnplacedSyllable) (m : UnplacedSyllable) → p ≡ score_part.Body → ms ≡ m ∷ [] → held_in_body p ms ≡ Some m
+held_there p ms m e f = ap (λ (q : ScorePart). held_in_body q ms) e ∙ ap (held_in_body score_part.Body) f
+
+before_there : (p q : ScorePart) (a b : BodyStageState) (was is : Preceding) → p ≡ score_part.Body → q ≡ score_part.Body → b.nabc_lines ≡ a.nabc_lines → b.macros ≡ a.macros → is ≡ was
+    → in_body q (before_with b is) ≡ in_body p (before_with a was)
+before_there p q a b was is e f lines macros same =
+    ap (λ (r : ScorePart). in_body r (before_with b is)) f
+    ∙ ap (λ (l : ℕ). in_body score_part.Body (before_with (record b { nabc_lines = l }) is)) lines
+    ∙ ap (λ (m : ℕ). in_body score_part.Body (before_with (record b { nabc_lines = a.nabc_lines; macros = m }) is)) macros
+    ∙ ap (λ (k : Preceding). in_body score_part.Body (before_with a k)) same
+    ∙ ap (λ (r : ScorePart). in_body r (before_with a was)) (sym e)
+
+reads_there : (p : ScorePart) (kept : List ℕ) → p ≡ score_part.Body → kept ≡ [] → reading_in_body p kept ≡ []
+reads_there p kept e f = ap (λ (q : ScorePart). reading_in_body q kept) e ∙ f
+
+pub returns-clause-held : goal.returns-clause-held
+returns-clause-held c true-is =
+    let was = c.args.self.now in
+    let short = c.requires.short in
+    let rests : IsInBody was = subst (λ (p : ScorePart). IsScoreAt p was) c.requires.begins.body c.requires.rests in
+    let fits = fits_behind_prefix first_place [] c.args.text.now c.utf8.text (omega arith) (omega arith) (omega (arith, short)) in
+    let good = c.if-not-read_all.false in
+    let on = c.read_all.ensures.goes good in
+    let few = subst (λ (g : Gathered). length g.made ≤ 1) on.gathered c.at_most_one_is_held.ensures in
+    let found = found_alone was rests c.requires.begins c.requires.none (chars c.args.text.now) fits c.a_text_is_read_from_its_beginning.ensures (sym c.read_all.ensures.alone ∙ good) few in
+    let made = ap (λ (g : Gathered). g.made) on.gathered ∙ found.made in
+    let nothing = on.whole (ap is_none found.made) in
+    let kept = ap (λ (g : Gathered). g.builder.kept) on.gathered ∙ ap (λ (o : OpenSyllable). o.kept) nothing in
+    let body = ap (λ (b : BodyStageState). b.part) c.begin_text.ensures.text in
+    record {
+      m = found.syllable;
+      may = found.may;
+      held = held_there c.read_all.new.self.part c.read_all.new.self.pair.gathered.made found.syllable on.part made;
+      limits = on.limits;
+      before_is = before_there was.part c.read_all.new.self.part was.body c.begin_text.new.self was.bounds.before c.read_all.new.self.bounds.before c.requires.begins.body on.part
+          (ap (λ (b : BodyStageState). b.nabc_lines) c.begin_text.ensures.text ∙ on.lines) (ap (λ (b : BodyStageState). b.macros) c.begin_text.ensures.text ∙ on.macros) on.before;
+      begins = record { body = on.part; nothing_read = reads_there c.read_all.new.self.part c.read_all.new.self.pair.gathered.builder.kept on.part kept; begins = body; next = refl };
+    }
+
+pub returns-clause-rests : goal.returns-clause-rests
+returns-clause-rests c =
+    let on = c.read_all.ensures.goes c.if-not-read_all.false in
+    let was : IsInBody c.read_all.new.self = subst (λ (p : ScorePart). IsScoreAt p c.read_all.new.self) on.part c.read_all.ensures.rests in
+    let short = c.requires.short in
+    let some = sym c.read_all.ensures.alone ∙ c.if-not-read_all.false in
+    let old : IsInBody c.args.self.now = subst (λ (p : ScorePart). IsScoreAt p c.args.self.now) c.requires.begins.body c.requires.rests in
+    let fits = fits_behind_prefix first_place [] c.args.text.now c.utf8.text (omega arith) (omega arith) (omega (arith, short)) in
+    let few = subst (λ (g : Gathered). length g.made ≤ 1) on.gathered c.at_most_one_is_held.ensures in
+    let found = found_alone c.args.self.now old c.requires.begins c.requires.none (chars c.args.text.now) fits c.a_text_is_read_from_its_beginning.ensures some few in
+    let nothing = ap (λ (g : Gathered). g.builder) on.gathered ∙ on.whole (ap is_none found.made) in
+    rw on.part (record {
+      rests = record { none = was.rests.none; room = was.rests.room; limit = was.rests.limit; used = was.rests.used; over = was.rests.over; short = was.rests.short };
+      counts = subst (CountsHold c.begin_text.new.self.part) (sym nothing) c.begin_text.ensures.counts;
+      kept = was.kept;
+      preceded = was.preceded;
+      behind = was.behind;
+      lent = was.lent;
+      code = was.code;
+      reading = begins_again _ _ c.read_all.new.self.body.part c.begin_text.new.self.part c.read_all.new.self.bounds.behind.spans c.read_all.new.self.pair.gathered
+          (rw (ap (λ (b : BodyStageState). b.nabc_lines) c.begin_text.ensures.text, ap (λ (b : BodyStageState). b.macros) c.begin_text.ensures.text) was.reading) nothing (c.begin_text.ensures.keeps _ _);
+      units = rw (ap (λ (b : BodyStageState). b.nabc_lines) c.begin_text.ensures.text) was.units;
+      within = was.within;
+    })

@@ -1,0 +1,47 @@
+use Rattle.std.proofs.Common.{◌≡◌, ◌⊎◌, inl, inr, None, refl, sym, ap, ◌∙◌}
+use Rattle.std.proofs.lemmas.Bool.{true≢false}
+use Rattle.gabc_score.specs.declared.score_machine.ScorePart.{ScorePart}
+use Rattle.gabc_score.specs.declared.score_machine.ScorePart.TheVariants as score_part
+use Rattle.gabc_score.specs.ScoreTells.{before_with, in_body}
+use Rattle.gabc_score.specs.machine.ScoreMachine.{shown}
+use Rattle.gabc_score.specs.witness.ScoreStage.{ScoreStageState}
+use Rattle.gabc_score.proofs.resuming.MachinesReadAgain.{is_told, stands_before, told_alike, tells_so}
+use Rattle.gabc_score.proofs.score_machine.ScoreMachine.read_again.Goals as goal
+
+pub returns-in-Body-clause-again : goal.returns-in-Body-clause-again
+returns-in-Body-clause-again c = λ told can limits before tells first.
+    let old = c.args.self.now in
+    let openers = c.args.openers in
+    let kept = c.args.kept.now in
+    let text = c.a_kept_character_is_kept_again.ensures in
+    let text_opener = c.what_is_open_follows_from_the_kept_text.ensures.opener in
+    let start = stands_before text_opener old openers c.requires.rests first in
+    let t = is_told told old kept can limits before start.body tells.reading in (
+      refl,
+      tells_so text_opener text.characters text.ends c.a_kept_character_is_kept_again-2.ensures c.read_told.new.self (shown c.go_to.new.self) told.body.part openers kept c.args.in_comment c.args.next c.read_told.ensures.rests
+          (told_alike old c.read_told.new.self told.body.part kept c.read_told.ensures.run t) tells.front tells.openers_are (c.read_told.ensures.again told.body.part t tells.front tells.comment_is start) c.go_to.ensures.moved,
+    )
+
+pub returns-in-Heads : goal.returns-in-Heads
+returns-in-Heads c =
+    let old = c.args.self.now in
+    let openers = c.args.openers in
+    let kept = c.args.kept.now in
+    record {
+      rests = c.go_to.ensures.rests;
+      limits = ap (λ (s : ScoreStageState). s.limits) c.go_to.ensures.moved ∙ c.read_told.ensures.run.limits;
+      same = λ e. absurd (true≢false (sym e));
+      over = λ e. by c.go_to.new.self.part c.in-Heads.is;
+      again = λ told can limits before tells first.
+          let start = stands_before c.what_is_open_follows_from_the_kept_text.ensures.opener old openers c.requires.rests first in
+          let t = is_told told old kept can limits before start.body tells.reading in
+          absurd (outside c.go_to.new.self.part c.in-Heads.is (ap (λ (s : ScoreStageState). s.part) c.go_to.ensures.moved ∙ (c.read_told.ensures.again told.body.part t tells.front tells.comment_is start).body));
+    }
+  where
+    by : (p : ScorePart) → (p ≡ score_part.Heads) ⊎ (p ≡ score_part.Over) → in_body p (before_with c.go_to.new.self.body c.go_to.new.self.bounds.before) ≡ None
+    by p (inl e) = ap (λ (k : ScorePart). in_body k (before_with c.go_to.new.self.body c.go_to.new.self.bounds.before)) e
+    by p (inr e) = ap (λ (k : ScorePart). in_body k (before_with c.go_to.new.self.body c.go_to.new.self.bounds.before)) e
+
+    outside : (p : ScorePart) → (p ≡ score_part.Heads) ⊎ (p ≡ score_part.Over) → p ≡ score_part.Body → ⊥
+    outside p (inl e) f = cc (sym e ∙ f)
+    outside p (inr e) f = cc (sym e ∙ f)

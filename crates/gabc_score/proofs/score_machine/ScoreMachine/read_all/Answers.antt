@@ -1,0 +1,96 @@
+use Rattle.std.proofs.Common.{◌≡◌, ◌-◌, ◌^◌, length, not, true, false, [], sym, ap, subst, ◌∙◌, arith}
+use Rattle.std.specs.Str.{chars}
+use Rattle.std.specs.Str.Iter.{chars_rest}
+use Rattle.std.proofs.lemmas.Str.{chars_past_char, IsUtf8-past_char}
+use Rattle.gabc_places.proofs.texts.CharactersOfStrings.{chars-none}
+use Rattle.gabc_places.specs.StageLaw.{concat_of}
+use Rattle.gabc_places.specs.declared.place.Place.{Place}
+use Rattle.gabc_places.proofs.PlacesOfAText.{within_on, shorter}
+use Rattle.gabc_score.specs.Body.{is_none}
+use Rattle.gabc_score.specs.declared.score_machine.ScorePart.{ScorePart}
+use Rattle.gabc_score.specs.machine.BodyBuilder.{with_all}
+use Rattle.gabc_score.specs.machine.ReadAlone.{is_alone, lists_from}
+use Rattle.gabc_score.specs.machine.ScoreMachine.{IsScoreAt}
+use Rattle.gabc_score.proofs.resuming.ReadOneByOne.{none_made, alone_on, gathered_on, not_alone, held_then}
+use Rattle.gabc_score.proofs.score_machine.ScoreMachine.read_all.Goals as goal
+
+pub loop-c-preserved : goal.loop-c-preserved
+loop-c-preserved c =
+    let i = c.loop-c.invariant in
+    let step = c.in-Some.ensures.steps.0 in
+    let rest = chars_rest c.loop-c.c-iterator in
+    let next = chars_rest c.next.new.self in
+    let past = chars_past_char rest next c.in-Some.c i.utf8 step in
+    let fits = within_on c.loop-c.place (length rest) (length next) (2 ^ 64 - 1) (2 ^ 64 - 1) (shorter rest next c.in-Some.c step) (omega (arith, i.line)) (omega (arith, i.column)) c.in-Some.c c.after-place.result c.after-place.ensures.next in
+    let none = none_made c.loop-c.self.pair.gathered.made (sym c.has_held.ensures ∙ c.if-has_held.false) in
+    let good = c.if-not-read_alone.false in
+    let r = c.read_alone.ensures.reads in
+    let on = r.goes good in
+    record {
+      can = tt;
+      ends = tt;
+      utf8 = IsUtf8-past_char rest next c.in-Some.c i.utf8 step;
+      room = c.read_alone.ensures.room ∙ i.room;
+      part = on.part;
+      rests = subst (λ (p : ScorePart). IsScoreAt p c.read_alone.new.self) on.part c.read_alone.ensures.rests;
+      lines = on.lines ∙ i.lines;
+      macros = on.macros ∙ i.macros;
+      before = on.before ∙ i.before;
+      limits = on.limits ∙ i.limits;
+      alone =
+          i.alone
+          ∙ ap (λ cs. is_alone c.loop-c.self.limits c.loop-c.self.pair.gathered (lists_from c.loop-c.self c.loop-c.place cs)) past
+          ∙ alone_on c.loop-c.self c.read_alone.new.self c.loop-c.place c.in-Some.c (chars next) c.read_alone.result r none good
+          ∙ ap (λ (p : Place). is_alone c.read_alone.new.self.limits c.read_alone.new.self.pair.gathered (lists_from c.read_alone.new.self p (chars next))) (sym c.after-place.ensures.next);
+      gathered =
+          i.gathered
+          ∙ ap (λ cs. with_all c.loop-c.self.pair.gathered (concat_of (lists_from c.loop-c.self c.loop-c.place cs))) past
+          ∙ gathered_on c.loop-c.self c.read_alone.new.self c.loop-c.place c.in-Some.c (chars next) c.read_alone.result r good
+          ∙ ap (λ (p : Place). with_all c.read_alone.new.self.pair.gathered (concat_of (lists_from c.read_alone.new.self p (chars next)))) (sym c.after-place.ensures.next);
+      whole = λ some. ap (λ g. g.builder) on.gathered ∙ on.whole (sym (ap (λ g. is_none g.made) on.gathered) ∙ some);
+      line = omega (arith, fits.0);
+      column = omega (arith, fits.1);
+    }
+
+pub returns-then-has_held-clause-alone : goal.returns-then-has_held-clause-alone
+returns-then-has_held-clause-alone c =
+    let i = c.loop-c.invariant in
+    let step = c.in-Some.ensures.steps.0 in
+    let rest = chars_rest c.loop-c.c-iterator in
+    let next = chars_rest c.next.new.self in
+    let past = chars_past_char rest next c.in-Some.c i.utf8 step in
+    sym (i.alone ∙ ap (λ cs. is_alone c.loop-c.self.limits c.loop-c.self.pair.gathered (lists_from c.loop-c.self c.loop-c.place cs)) past
+    ∙ held_then c.loop-c.self c.loop-c.place c.in-Some.c (chars next) (sym c.has_held.ensures ∙ c.if-has_held.true))
+
+pub returns-then-not-read_alone-clause-alone : goal.returns-then-not-read_alone-clause-alone
+returns-then-not-read_alone-clause-alone c =
+    let i = c.loop-c.invariant in
+    let step = c.in-Some.ensures.steps.0 in
+    let rest = chars_rest c.loop-c.c-iterator in
+    let next = chars_rest c.next.new.self in
+    let past = chars_past_char rest next c.in-Some.c i.utf8 step in
+    sym (i.alone ∙ ap (λ cs. is_alone c.loop-c.self.limits c.loop-c.self.pair.gathered (lists_from c.loop-c.self c.loop-c.place cs)) past
+    ∙ not_alone c.loop-c.self c.read_alone.new.self c.loop-c.place c.in-Some.c (chars next) c.read_alone.result c.read_alone.ensures.reads c.if-not-read_alone.true)
+
+pub returns-clause-alone : goal.returns-clause-alone
+returns-clause-alone c =
+    let i = c.loop-c.invariant in
+    let rest = chars_rest c.loop-c.c-iterator in
+    let none = chars-none rest c.in-None.ensures.steps.0.0 in
+    c.has_held-2.ensures ∙ sym (i.alone ∙ ap (λ cs. is_alone c.loop-c.self.limits c.loop-c.self.pair.gathered (lists_from c.loop-c.self c.loop-c.place cs)) none)
+
+pub returns-clause-goes : goal.returns-clause-goes
+returns-clause-goes c held =
+    let i = c.loop-c.invariant in
+    let rest = chars_rest c.loop-c.c-iterator in
+    let none = chars-none rest c.in-None.ensures.steps.0.0 in
+    let all = i.gathered ∙ ap (λ cs. with_all c.loop-c.self.pair.gathered (concat_of (lists_from c.loop-c.self c.loop-c.place cs))) none in
+    record {
+      part = i.part;
+      gathered = sym all;
+      lines = i.lines;
+      macros = i.macros;
+      before = i.before;
+      limits = i.limits;
+      whole = λ some. ap (λ g. g.builder) all ∙ i.whole (ap (λ g. is_none g.made) (sym all) ∙ some);
+    }

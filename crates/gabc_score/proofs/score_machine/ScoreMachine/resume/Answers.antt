@@ -1,0 +1,62 @@
+use Rattle.std.proofs.Common.{rules, ◌≡◌, ◌≤◌, ℕ, nat_lt, length, [], refl, sym, ap, subst, ◌∙◌, arith}
+use Rattle.std.specs.List.{All}
+use Rattle.std.proofs.lemmas.List.Elements.{All-nil}
+use Rattle.gabc_places.specs.BoundedList.{BoundedList}
+use Rattle.gabc_places.specs.declared.code.Finding.{Finding}
+use Rattle.gabc_score.specs.declared.before.Preceding.{Preceding}
+use Rattle.gabc_score.specs.declared.score_machine.ScorePart.TheVariants as score_part
+use Rattle.gabc_score.specs.Before.{preceding_of, with_each}
+use Rattle.gabc_score.specs.ScoreTells.{held_in_body, reading_in_body}
+use Rattle.gabc_score.specs.machine.Gatherer.{Gathered, nothing_gathered}
+use Rattle.gabc_score.specs.machine.PartCounts.{CountsHold}
+use Rattle.gabc_score.specs.machine.PartKeeps.{IsReading}
+use Rattle.gabc_score.specs.machine.Preceded.{IsPreceded}
+use Rattle.gabc_score.specs.machine.Resumed.{gathered_behind}
+use Rattle.gabc_score.specs.machine.ScoreMachine.{IsShort}
+use Rattle.gabc_score.specs.machine.SlotPair.{SlotPairState, is_made}
+use Rattle.gabc_score.specs.witness.BodyStage.{BodyStageState}
+use Rattle.gabc_score.specs.ToldWithin.{IsAtOutset}
+use Rattle.gabc_score.specs.machine.BodyBuilder.{code_in}
+use Rattle.gabc_score.proofs.score_events.HeldWithinLimits.{within_none}
+use Rattle.gabc_score.proofs.score_events.UnitsAreHeld.{none_held}
+use Rattle.gabc_score.proofs.resuming.BehindSyllables.{nothing_passes, preceded_behind, reads_behind}
+use Rattle.gabc_score.proofs.score_machine.ScoreMachine.resume.Goals as goal
+
+pub returns-clause-stands : goal.returns-clause-stands
+returns-clause-stands c =
+    let gathered = ap (λ (s : SlotPairState). s.gathered) c.follow.ensures ∙ ap (gathered_behind c.args.before) c.in_ok-pair.ensures.gathered in
+    record {
+      limits_are = refl;
+      before_is = search (rules, c.preceding-preceding.ensures, c.begin_text.ensures.text, c.restart.ensures);
+      none_held = ap (λ (g : Gathered). held_in_body score_part.Body g.made) gathered;
+      begins = record { body = refl; nothing_read = ap (λ (g : Gathered). reading_in_body score_part.Body g.builder.kept) gathered; begins = ap (λ (b : BodyStageState). b.part) c.begin_text.ensures.text; next = refl };
+    }
+
+pub returns-clause-rests : goal.returns-clause-rests
+returns-clause-rests c =
+    let b = c.args.before in
+    let limit = c.args.limits.syllable in
+    let gathered : c.follow.new.self.gathered ≡ gathered_behind b (nothing_gathered limit 0) = ap (λ (s : SlotPairState). s.gathered) c.follow.ensures ∙ ap (gathered_behind b) c.in_ok-pair.ensures.gathered in
+    let used = ap (λ (s : SlotPairState). s.used) c.follow.ensures ∙ c.in_ok-pair.ensures.used in
+    let before : c.preceding-preceding.result ≡ preceding_of b = c.preceding-preceding.ensures in
+    let kept = ap (λ (g : Gathered). length g.builder.kept) gathered in
+    record {
+      rests = record {
+        none = ap (λ (r : BoundedList Finding). r.items) c.in_ok-found.ensures;
+        room = (let room = ap (λ (r : BoundedList Finding). r.limit) c.in_ok-found.ensures in omega (arith, room));
+        limit = ap (λ (g : Gathered). g.limit) gathered;
+        used = ap is_made used;
+        over = ap (λ (g : Gathered). g.over) gathered;
+        short = subst (λ (g : Gathered). All (IsShort limit) g.made) (sym gathered) (All-nil (IsShort limit));
+      };
+      counts = subst (λ (g : Gathered). CountsHold c.begin_text.new.self.part g.builder) (sym gathered) c.begin_text.ensures.counts;
+      kept = omega (arith, kept);
+      preceded = subst (λ (p : Preceding). IsPreceded p c.follow.new.self.gathered) (sym before) (subst (IsPreceded (preceding_of b)) (sym gathered) (preceded_behind b limit));
+      behind = ap (λ (g : Gathered). with_each c.preceding-preceding.result g.made) (sym gathered);
+      lent = ap (λ (p : Preceding). nat_lt 0 p.syllables) (sym before);
+      code = ap (code_in c.args.limits) gathered ∙ nothing_passes c.args.limits b limit;
+      reading = subst (λ (p : Preceding). IsReading c.begin_text.new.self.nabc_lines c.begin_text.new.self.macros c.begin_text.new.self.part p.spans c.follow.new.self.gathered) (sym before)
+          (subst (IsReading c.begin_text.new.self.nabc_lines c.begin_text.new.self.macros c.begin_text.new.self.part b.spans) (sym gathered) (reads_behind _ _ limit c.begin_text.new.self.part b (c.begin_text.ensures.keeps _ _)));
+      units = none_held c.begin_text.new.self.nabc_lines c.follow.new.self.gathered.made (ap (λ (g : Gathered). g.made) gathered);
+      within = within_none c.args.limits c.preceding-preceding.result c.follow.new.self.gathered (subst IsAtOutset (sym before) c.requires) (ap (λ (g : Gathered). g.made) gathered);
+    }

@@ -1,0 +1,6 @@
+use Rattle.gabc_score.proofs.resuming.MachinesReadAgain.{takes_there}
+use Rattle.gabc_score.proofs.score_machine.ScoreMachine.take_again.Goals as goal
+
+pub returns-clause-again : goal.returns-clause-again
+returns-clause-again c =
+    takes_there c.args.self.now c.args.openers c.args.c c.place_again-place.result c.pass_again.new.self c.go_to.new.self c.go_to.ensures.moved c.place_again-place.ensures c.pass_again.ensures.again

@@ -1,0 +1,48 @@
+-- A text that is read by itself as one syllable, which is held then.
+use Rattle.std.specs.Prelude.{◌≡◌, ℕ, ◌+◌, ◌<◌, ◌≤◌, List, [], ◌∷◌, ◌++◌, length, encode_utf8_all}
+use Rattle.std.specs.List.{All}
+use Rattle.gabc_places.specs.declared.limits.Limits.{Limits}
+use Rattle.gabc_places.specs.declared.place.Place.{Place}
+use Rattle.gabc_places.specs.Place.{placed_characters_from}
+use Rattle.gabc_notes.specs.ReadAgain.{IsWarning}
+use Rattle.gabc_score.specs.declared.before.Before.{Before}
+use Rattle.gabc_score.specs.declared.before.Spans.{Spans}
+use Rattle.gabc_score.specs.declared.events.BodyEvent.{BodyEvent}
+use Rattle.gabc_score.specs.Body.{events_onto, findings_of}
+use Rattle.gabc_score.specs.Before.{preceding_of}
+use Rattle.gabc_score.specs.ScoreEvents.{first_place}
+use Rattle.gabc_score.specs.Syllable.{UnplacedSyllable, since_close, kept_of, all_syllables, is_eu, is_nlba}
+use Rattle.gabc_score.specs.ToldWithin.{written_behind}
+use Rattle.gabc_score.specs.UnitRead.{first_events}
+
+-- behind these events, the nearest first, nothing is read, and these spans are open
+pub record LeavesOpen (spans : Spans) (before : List BodyEvent) : Type 0 where
+  pub nothing : since_close before ≡ []
+  pub eu : is_eu before ≡ spans.eu
+  pub nlba : is_nlba before ≡ spans.nlba
+
+module _ (lines macros : ℕ) (at : Place) (text : List ℕ) where
+  -- what the first n characters of a text emit, which begins at this place
+  abbrev pub emitted_first : ℕ → List BodyEvent
+  emitted_first n = first_events lines macros at (placed_characters_from at text) n
+
+  -- the same, the nearest first, with this before it
+  abbrev pub emitted_behind : List BodyEvent → ℕ → List BodyEvent
+  emitted_behind before n = events_onto (emitted_first n) before
+
+  -- Where these spans are open, the text is this one syllable, whole with the last character and not before, and no more than so many bytes are
+  -- kept on the way. What is found are warnings.
+  pub record IsOneSyllable (spans : Spans) (limit : ℕ) (m : UnplacedSyllable) : Type 0 where
+    pub before : List BodyEvent
+    pub leaves : LeavesOpen spans before
+    pub none_earlier : (n : ℕ) → n < length text → all_syllables (emitted_behind before n) ≡ all_syllables before
+    pub one : all_syllables (emitted_behind before (length text)) ≡ all_syllables before ++ m ∷ []
+    pub few : (n : ℕ) → n ≤ length text → length (kept_of (since_close (emitted_behind before n))) ≤ limit
+    pub warnings : All IsWarning (findings_of (emitted_behind [] (length text)))
+
+-- Behind what `before` tells, the text is this syllable, and no limit is passed with it.
+pub record MayBeHeld (limits : Limits) (before : Before) (text : List ℕ) (m : UnplacedSyllable) : Type 0 where
+  pub read : IsOneSyllable before.nabc_lines before.macros first_place text before.spans limits.syllable m
+  pub kept : length m.kept ≤ limits.syllable
+  pub short : length (written_behind (preceding_of before) m) ≤ limits.syllable
+  pub file : before.canonical + length (written_behind (preceding_of before) m) + 1 ≤ limits.input

@@ -1,0 +1,26 @@
+-- A kept text that is read again: what a stage tells before it, and behind it.
+use Rattle.std.specs.Prelude.{◌≡◌, ℕ, List, [], Bool, true, false, Some, is_some}
+use Rattle.gabc_places.specs.declared.place.Place.{Place}
+use Rattle.gabc_score.specs.declared.body_tells.Openers.{Openers}
+use Rattle.gabc_score.specs.ScoreTells.{StandsAt, before_of, held_of, is_in_comment, is_in_front, next_of, openers_of, reading_of}
+use Rattle.gabc_score.specs.witness.ScoreStage.{ScoreStageState}
+
+-- A stage stands in the body before a syllable, in no comment.
+pub record StandsBefore (s : ScoreStageState) : Type 0 where
+  pub runs : is_some (before_of s) ≡ true
+  pub nothing_read : reading_of s ≡ []
+  pub outside : is_in_comment s.body.part ≡ false
+
+-- Behind the comment in front it tells this of the syllable that it reads.
+pub record TellsOfReading (s : ScoreStageState) (kept : List ℕ) (openers : Openers) (comment : Bool) : Type 0 where
+  pub front : is_in_front s.body.part ≡ false
+  pub reading : reading_of s ≡ kept
+  pub openers_are : openers_of s.body.part ≡ openers
+  pub comment_is : is_in_comment s.body.part ≡ comment
+
+-- But for the syllable that is read it tells what it told, and the next character stands there.
+pub record TellsTheSameBut (before after : ScoreStageState) (next : Place) : Type 0 where
+  pub before_same : before_of after ≡ before_of before
+  pub held_same : held_of after ≡ held_of before
+  pub next_is : next_of after ≡ Some next
+  pub stands : StandsAt next after.body.part

@@ -1,0 +1,103 @@
+-- What a stage over a score tells in the body is within bounds.
+use Rattle.std.specs.Prelude.{◌≡◌, ◌≢◌, ◌⊎◌, ℕ, ◌+◌, ◌^◌, ◌<◌, ◌≤◌, ◌==◌, ◌||◌, List, length, true, Option, Some, None, IfSome}
+use Rattle.std.specs.Char.{IsScalar}
+use Rattle.std.specs.List.{All}
+use Rattle.std.specs.Str.{IsUtf8, chars}
+use Rattle.gabc_places.specs.declared.limits.Limits.{Limits}
+use Rattle.gabc_places.specs.declared.place.Place.{Place}
+use Rattle.gabc_score.specs.declared.before.Preceding.{Preceding}
+use Rattle.gabc_score.specs.declared.body_stage.BodyPart.{BodyPart}
+use Rattle.gabc_score.specs.declared.body_tells.Openers.{Openers}
+use Rattle.gabc_score.specs.declared.score_machine.ScorePart.TheVariants as score_part
+use Rattle.gabc_score.specs.Before.{no_syllable}
+use Rattle.gabc_score.specs.Canonical.{canonical}
+use Rattle.gabc_score.specs.ScoreTells.{held_of, reading_of, openers_of, is_in_comment}
+use Rattle.gabc_score.specs.Syllable.{UnplacedSyllable}
+use Rattle.gabc_score.specs.witness.ScoreStage.{ScoreStageState}
+
+-- the canonical text of a syllable behind these: the first one begins a word
+abbrev pub written_behind : Preceding → UnplacedSyllable → List ℕ
+written_behind p m = canonical ((p.syllables == 0) || m.text.word_start) m
+
+-- The canonical text of a syllable behind these is within the limit, and with theirs and an LF behind it within that of the input.
+pub record IsHeldWithin (limits : Limits) (p : Preceding) (m : UnplacedSyllable) : Type 0 where
+  pub some : 2 ≤ length (written_behind p m)
+  pub short : length (written_behind p m) ≤ limits.syllable
+  pub file : p.canonical + length (written_behind p m) < limits.input
+
+-- before the first syllable no span is open and nothing has sounded
+abbrev pub IsAtOutset : Preceding → Type 0
+IsAtOutset p = p.syllables ≡ 0 → p ≡ no_syllable p.canonical
+
+-- no comment is open inside a tag, a raw part, a translation or a raw bracket
+abbrev pub HasNoCommentInside : BodyPart → Type 0
+HasNoCommentInside part = is_in_comment part ≡ true → (openers_of part).inner ≡ None
+
+-- what it tells is within its limits, whatever it has read
+pub record IsToldWithin (s : ScoreStageState) : Type 0 where
+  pub reading : length (reading_of s) ≤ s.limits.syllable
+  pub held : IfSome (held_of s) (IsHeldWithin s.limits s.before)
+  pub outset : IsAtOutset s.before
+  pub comment : HasNoCommentInside s.body.part
+
+-- ---- as long as what comes in is what a text gives
+
+-- the numbers that the headers give are those of headers within the limit of the input, with their `%%`
+pub record AreCountsWithin (limits : Limits) (lines macros canonical : ℕ) : Type 0 where
+  pub few_lines : lines ≤ 4
+  pub ten_macros : macros < 1024
+  pub headers : 2 ≤ canonical
+  pub below : canonical < limits.input
+
+abbrev pub IsEarlier : Place → Place → Type 0
+IsEarlier p q = (p.line < q.line) ⊎ ((p.line ≡ q.line) × (p.column < q.column))
+
+-- a place of a text, whose column 64 bits hold
+pub record IsPlace (p : Place) : Type 0 where
+  pub line : 1 ≤ p.line
+  pub column : 1 ≤ p.column
+  pub in_64_bits : p.column < 2 ^ 64
+
+-- a place of the text before the next character
+pub record LiesBefore (next p : Place) : Type 0 where
+  pub line : 1 ≤ p.line
+  pub column : 1 ≤ p.column
+  pub in_64_bits : p.column < 2 ^ 64
+  pub earlier : IsEarlier p next
+
+-- of two openers the second stands behind the first
+abbrev pub AreInOrder : Option Place → Option Place → Type 0
+AreInOrder (Some p) (Some q) = IsEarlier p q
+AreInOrder _ _ = Unit {0}
+
+-- what is open stands in its order before the next character
+pub record AreOpenersBefore (next : Place) (o : Openers) : Type 0 where
+  pub notes : IfSome o.notes (LiesBefore next)
+  pub inner : IfSome o.inner (LiesBefore next)
+  pub in_order : AreInOrder o.notes o.inner
+
+-- a character that a text of an input may have: no CR and no U+FEFF
+abbrev pub IsPlain : ℕ → Type 0
+IsPlain c = (c ≢ 13) × (c ≢ 0xFEFF)
+
+pub record IsTextCharacter (c : ℕ) : Type 0 where
+  pub scalar : IsScalar c
+  pub plain : IsPlain c
+
+-- the bytes are those of a text of an input
+pub record IsText (bytes : List ℕ) : Type 0 where
+  pub utf8 : IsUtf8 bytes
+  pub plain : All IsPlain (chars bytes)
+
+-- what it tells is that of a text
+pub record IsToldOfText (s : ScoreStageState) : Type 0 where
+  pub counts : AreCountsWithin s.limits s.body.nabc_lines s.body.macros s.before.canonical
+  pub next : IsPlace s.held.next
+  pub openers : AreOpenersBefore s.held.next (openers_of s.body.part)
+  pub none_held : held_of s ≡ None → s.before.syllables ≡ 0
+  pub reading : IsText s.held.gathered.builder.kept
+  pub held : All (λ (m : UnplacedSyllable). IsText m.kept) s.held.gathered.made
+
+-- in the body it is
+abbrev pub TellsOfText : ScoreStageState → Type 0
+TellsOfText s = s.part ≡ score_part.Body → IsToldOfText s

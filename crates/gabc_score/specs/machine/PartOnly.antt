@@ -1,0 +1,36 @@
+-- What is kept of a character, and the kept texts that were gathered.
+use Rattle.std.specs.Prelude.{◌≡◌, ◌⊎◌, ℕ, List, [], ◌∷◌}
+use Rattle.std.specs.List.{All}
+use Rattle.gabc_places.specs.declared.place.Char.{Char}
+use Rattle.gabc_text.specs.declared.text_event.TextEvent.TheVariants as text
+use Rattle.gabc_notes.specs.declared.stage.NoteEvent.TheVariants as note
+use Rattle.gabc_score.specs.declared.body_stage.BodyPart.{BodyPart}
+use Rattle.gabc_score.specs.declared.events.BodyEvent.{BodyEvent}
+use Rattle.gabc_score.specs.declared.events.BodyEvent.TheVariants as event
+use Rattle.gabc_score.specs.Syllable.{UnplacedSyllable}
+use Rattle.gabc_score.specs.ToldWithin.{IsText}
+use Rattle.gabc_score.specs.machine.Gatherer.{Gathered}
+use Rattle.gabc_score.specs.machine.PartKeeps.{KeptParts, PartKeeps}
+
+-- the characters that are kept among these events
+abbrev pub kept_codes : List BodyEvent → List ℕ
+kept_codes [] = []
+kept_codes (event.Text (text.Kept c) ∷ now) = c.c ∷ kept_codes now
+kept_codes (event.Notes line (note.Kept c) ∷ now) = c.c ∷ kept_codes now
+kept_codes (t ∷ now) = kept_codes now
+
+-- of a character it or a blank may be kept
+abbrev pub IsKeptOf : ℕ → ℕ → Type 0
+IsKeptOf c d = (d ≡ c) ⊎ (d ≡ 32)
+
+-- so it is where a part stands that keeps parts of a kept text
+abbrev pub PartKeepsOnly : ℕ → ℕ → Char → BodyPart → List BodyEvent → Type 0
+PartKeepsOnly lines macros x before now = (p : KeptParts) → PartKeeps lines macros before p → All (IsKeptOf x.c) (kept_codes now)
+
+-- the kept text of a syllable is a text of an input
+abbrev pub HasText : UnplacedSyllable → Type 0
+HasText m = IsText m.kept
+
+-- so are those of the syllable that is read and of those that are not given
+abbrev pub HoldsTexts : Gathered → Type 0
+HoldsTexts g = IsText g.builder.kept × All HasText g.made

@@ -1,0 +1,140 @@
+-- What a part does with the next character of a kept text that is read again.
+use Rattle.std.specs.Prelude.{◌≡◌, ◌⊎◌, ◌<◌, ◌≤◌, ◌^◌, ◌&&◌, ◌==◌, ℕ, zero, suc, nat_lt, List, [], ◌∷◌, ◌++◌, length, Bool, true, false, Some, None, unwrap_or, encode_utf8, encode_utf8_all}
+use Rattle.std.specs.Option.{option_or}
+use Rattle.gabc_places.specs.declared.place.Char.{Char}
+use Rattle.gabc_places.specs.declared.place.Place.{Place}
+use Rattle.gabc_patterns.specs.LongestItems.{IsSnippet}
+use Rattle.gabc_text.specs.witness.Keeps as text
+use Rattle.gabc_notes.specs.Events.{in_raw}
+use Rattle.gabc_notes.specs.Table.{gabc}
+use Rattle.gabc_notes.specs.witness.Keeps as notes
+use Rattle.gabc_nabc.specs.Table.{nabc}
+use Rattle.gabc_nabc.specs.witness.Keeps as nabc
+use Rattle.gabc_score.specs.declared.body_stage.BodyPart.{BodyPart}
+use Rattle.gabc_score.specs.declared.body_stage.BodyPart.TheVariants as part
+use Rattle.gabc_score.specs.declared.body_tells.Openers.{Openers}
+use Rattle.gabc_score.specs.declared.events.BodyEvent.{BodyEvent}
+use Rattle.gabc_score.specs.declared.score_machine.ScoreMachine.{ScoreMachine}
+use Rattle.gabc_score.specs.declared.score_machine.ScorePart.TheVariants as score_part
+use Rattle.gabc_score.specs.ScoreEvents.{first_place}
+use Rattle.gabc_score.specs.ScoreTells.{StandsAt, is_in_comment, is_in_front, openers_of}
+use Rattle.gabc_score.specs.machine.BodyBuilder.{with_all}
+use Rattle.gabc_score.specs.machine.Gatherer.{Gathered}
+use Rattle.gabc_score.specs.machine.PartKeeps.{KeptParts, in_text, in_notes, text_before, joined, line_behind, PartKeeps}
+
+-- ---- the next character
+
+-- Behind the kept text k of a snippet of that line the character c is kept again, or it is the `|` at which the snippet ends.
+abbrev pub IsNextIn : ℕ → ℕ → List ℕ → ℕ → Type 0
+IsNextIn lines zero k c = notes.IsKeptAgain (nat_lt 0 lines) k c ⊎ ((c ≡ 124) × ((nat_lt 0 lines ≡ true) × IsSnippet gabc k))
+IsNextIn lines (suc line) k c = nabc.IsKeptAgain k c ⊎ ((c ≡ 124) × IsSnippet nabc k)
+
+-- Behind these parts of a kept text the character c is kept again, or it ends the text or the snippet that is read.
+abbrev pub IsNext : ℕ → KeptParts → ℕ → Type 0
+IsNext lines (in_text k) c = ((text.kept_with k c ≡ c ∷ []) × ((c == 37 && text.begins_comment k) ≡ false)) ⊎ ((c ≡ 40) × (text.ends_behind k ≡ true))
+IsNext lines (in_notes t earlier k) c = IsNextIn lines (line_behind lines 0 earlier) k c
+
+-- a `%` behind them begins a comment
+abbrev pub BeginsIn : ℕ → List ℕ → Type 0
+BeginsIn zero k = in_raw k ≡ false
+BeginsIn (suc line) k = Unit {0}
+
+abbrev pub BeginsComment : ℕ → KeptParts → Type 0
+BeginsComment lines (in_text k) = (text.begins_comment k ≡ true) × (text.kept_with k 37 ≡ [])
+BeginsComment lines (in_notes t earlier k) = BeginsIn (line_behind lines 0 earlier) k
+
+-- ---- where what is open began
+
+-- the `(` of notes or else what is open in a text, and what is open in notes
+abbrev pub outer_of : Openers → Place
+outer_of o = unwrap_or (option_or o.notes o.inner) first_place
+
+abbrev pub inner_of : Openers → Place
+inner_of o = unwrap_or o.inner first_place
+
+-- the place of the characters that are read again: in a text the one, in notes the other
+abbrev pub place_in : Place → Place → BodyPart → Place
+place_in outer inner part.Comment = outer
+place_in outer inner (part.Text stage) = outer
+place_in outer inner (part.Notes opened stage) = inner
+place_in outer inner (part.Nabc line opened stage) = inner
+
+-- What is open began there.
+pub record OpenAt (outer inner : Place) (part : BodyPart) : Type 0 where
+  pub notes_at : (o : Place) → (openers_of part).notes ≡ Some o → o ≡ outer
+  pub inner_at : (o : Place) → (openers_of part).inner ≡ Some o → o ≡ place_in outer inner part
+
+-- notes whose `(` stands there, in which nothing else is open
+abbrev pub OpensNotes : Place → BodyPart → Type 0
+OpensNotes opened part = (openers_of part ≡ record { notes = Some opened; inner = None }) × (is_in_comment part ≡ false)
+
+-- ---- what a character does
+
+-- With these events this is kept more, and no syllable becomes whole.
+pub record Adds (g h : Gathered) (more : List ℕ) : Type 0 where
+  pub kept : h.builder.kept ≡ g.builder.kept ++ encode_utf8_all more
+  pub made : h.made ≡ g.made
+
+-- At the character x a part that keeps p goes on. This is kept more, and whether a comment is open then.
+pub record Reads (before : BodyPart) (p : KeptParts) (x : Char) (more : List ℕ) (comment : Bool) (after : BodyPart) (now : List BodyEvent) : Type 0 where
+  pub adds : (g : Gathered) → g.builder.kept ≡ encode_utf8_all (joined p) → g.builder.from ≡ length (encode_utf8_all (text_before p)) → length g.builder.kept < 2 ^ 64 → Adds g (with_all g now) more
+  pub comment_is : is_in_comment after ≡ comment
+  pub front : is_in_front after ≡ false
+  pub openers : (outer inner : Place) → x.place ≡ place_in outer inner before → StandsAt x.place before → OpenAt outer inner before → OpenAt outer inner after
+
+-- Outside a comment a part keeps what is kept again, and a comment begins at its `%`.
+pub record ReadsAgain (lines macros : ℕ) (x : Char) (before after : BodyPart) (now : List BodyEvent) : Type 0 where
+  pub next : (p : KeptParts) → PartKeeps lines macros before p → is_in_comment before ≡ false → IsNext lines p x.c → Reads before p x (x.c ∷ []) false after now
+  pub comment : (p : KeptParts) → PartKeeps lines macros before p → is_in_comment before ≡ false → x.c ≡ 37 → BeginsComment lines p → Reads before p x [] true after now
+
+-- ---- the machine
+
+-- A part of the body keeps the parts of this kept text, which is within the limit.
+pub record IsToldBy (lines macros limit : ℕ) (part : BodyPart) (kept : List ℕ) : Type 0 where
+  pub parts : KeptParts
+  pub keeps : PartKeeps lines macros part parts
+  pub is : kept ≡ encode_utf8_all (joined parts)
+  pub short : length kept ≤ limit
+
+-- So a machine stands in the body: this was kept of the syllable that is read, what is open began there, and a comment is open or not.
+pub record StandsSo (m : ScoreMachine) (openers : Openers) (kept : List ℕ) (comment : Bool) : Type 0 where
+  pub body : m.part ≡ score_part.Body
+  pub kept_is : m.pair.gathered.builder.kept ≡ kept
+  pub comment_is : is_in_comment m.body.part ≡ comment
+  pub front : is_in_front m.body.part ≡ false
+  pub opens : OpenAt (outer_of openers) (inner_of openers) m.body.part
+
+-- But for the syllable that is read, nothing has changed in the body.
+pub record IsSameBut (before after : ScoreMachine) : Type 0 where
+  pub body : before.part ≡ score_part.Body
+  pub bounds : after.bounds ≡ before.bounds
+  pub has_lent : after.has_lent ≡ before.has_lent
+  pub made : after.pair.gathered.made ≡ before.pair.gathered.made
+
+-- The machine runs under the same limits, with the same lines and macros.
+pub record IsRunAlike (before after : ScoreMachine) : Type 0 where
+  pub limits : after.limits ≡ before.limits
+  pub lines : after.body.nabc_lines ≡ before.body.nabc_lines
+  pub macros : after.body.macros ≡ before.body.macros
+
+-- The machine goes on behind a character: this is kept more, and a comment is open or not.
+pub record GoesBy (before : ScoreMachine) (x : Char) (more : List ℕ) (comment : Bool) (after : ScoreMachine) : Type 0 where
+  pub body : after.part ≡ score_part.Body
+  pub kept_is : after.pair.gathered.builder.kept ≡ before.pair.gathered.builder.kept ++ encode_utf8_all more
+  pub comment_is : is_in_comment after.body.part ≡ comment
+  pub front : is_in_front after.body.part ≡ false
+  pub openers : (outer inner : Place) → x.place ≡ place_in outer inner before.body.part → StandsAt x.place before.body.part → OpenAt outer inner before.body.part → OpenAt outer inner after.body.part
+
+-- Outside a comment it keeps the next character of a text that is told, and a comment begins at the `%` behind one in which a comment is told.
+pub record PassesAgain (before : ScoreMachine) (x : Char) (after : ScoreMachine) : Type 0 where
+  pub next : (told : BodyPart) (kept rest : List ℕ) → IsToldBy before.body.nabc_lines before.body.macros before.limits.syllable told kept → is_in_comment before.body.part ≡ false
+      → kept ≡ before.pair.gathered.builder.kept ++ (encode_utf8 x.c ++ rest) → GoesBy before x (x.c ∷ []) false after
+  pub comment : (told : BodyPart) (kept : List ℕ) → IsToldBy before.body.nabc_lines before.body.macros before.limits.syllable told kept → is_in_front told ≡ false → is_in_comment told ≡ true
+      → is_in_comment before.body.part ≡ false → before.pair.gathered.builder.kept ≡ kept → x.c ≡ 37 → GoesBy before x [] true after
+
+-- The same for the character c, which stands where what is open begins.
+pub record TakesAgain (before : ScoreMachine) (c : ℕ) (openers : Openers) (after : ScoreMachine) : Type 0 where
+  pub next : (told : BodyPart) (kept done rest : List ℕ) → IsToldBy before.body.nabc_lines before.body.macros before.limits.syllable told kept → StandsSo before openers done false
+      → kept ≡ done ++ (encode_utf8 c ++ rest) → StandsSo after openers (done ++ encode_utf8 c) false
+  pub comment : (told : BodyPart) (kept : List ℕ) → IsToldBy before.body.nabc_lines before.body.macros before.limits.syllable told kept → is_in_front told ≡ false → is_in_comment told ≡ true
+      → StandsSo before openers kept false → c ≡ 37 → StandsSo after openers kept true

@@ -1,0 +1,104 @@
+-- What becomes of a text that is read by itself: whether it is one syllable, behind which no limit is passed.
+use Rattle.std.specs.Prelude.{◌≡◌, ℕ, ◌&&◌, ◌≤◌, not, List, [], ◌∷◌, ◌++◌, Bool, true, false, None, is_some, length, take, ◌-◌}
+use Rattle.std.specs.List.{list_any}
+use Rattle.gabc_places.specs.BoundedList.{BoundedList, extended_by}
+use Rattle.gabc_places.specs.Place.{placed_characters_from}
+use Rattle.gabc_places.specs.StageLaw.{concat_of}
+use Rattle.gabc_places.specs.declared.place.Place.{Place}
+use Rattle.gabc_places.specs.Code.{severity_of}
+use Rattle.gabc_places.specs.declared.code.Finding.{Finding}
+use Rattle.gabc_places.specs.declared.limits.Limits.{Limits}
+use Rattle.gabc_places.specs.declared.place.Char.{Char}
+use Rattle.gabc_places.specs.declared.severity.Severity.{Severity}
+use Rattle.gabc_places.specs.declared.severity.Severity.TheVariants.{Warning, Error, Fatal}
+use Rattle.gabc_score.specs.declared.events.BodyEvent.{BodyEvent}
+use Rattle.gabc_score.specs.declared.score_event.ScoreEvent.{ScoreEvent}
+use Rattle.gabc_score.specs.declared.score_event.ScoreEvent.TheVariants as event
+use Rattle.gabc_score.specs.declared.score_machine.ScoreMachine.{ScoreMachine}
+use Rattle.gabc_score.specs.declared.score_machine.ScorePart.TheVariants as score_part
+use Rattle.gabc_score.specs.Body.{is_none}
+use Rattle.gabc_score.specs.NoteBeforeClef.{found_first}
+use Rattle.gabc_score.specs.ScoreEvents.{findings_now, first_place, outputs_of}
+use Rattle.gabc_score.specs.ScoreStage.{events_of}
+use Rattle.gabc_score.specs.machine.BodyBuilder.{with_all, code_in}
+use Rattle.gabc_score.specs.machine.Gatherer.{Gathered}
+use Rattle.gabc_score.specs.machine.PartPushes.{ClosesLast}
+use Rattle.gabc_score.specs.machine.ScoreStage.{placed_behind, with_held}
+use Rattle.gabc_score.specs.machine.SyllableBuilder.{nothing_open}
+use Rattle.gabc_score.specs.witness.BodyStage.{BodyStageState, running_events_left}
+
+-- ---- a character
+
+-- at a character where no limit is passed the machine gathers what the body emits, gives what is found, and goes on
+pub record Gathers (old new : ScoreMachine) (x : Char) (now : List BodyEvent) (after : BodyStageState) (given left : BoundedList ScoreEvent) : Type 0 where
+  pub part : new.part ≡ score_part.Body
+  pub body : new.body ≡ after
+  pub gathered : new.pair.gathered ≡ with_held (with_all old.pair.gathered now)
+  pub lines : new.body.nabc_lines ≡ old.body.nabc_lines
+  pub macros : new.body.macros ≡ old.body.macros
+  pub before : length (with_all old.pair.gathered now).made ≤ 1 → new.bounds.before ≡ old.bounds.before
+  pub found : length (with_all old.pair.gathered now).made ≤ 1 → left ≡ extended_by given (events_of (outputs_of
+      (findings_now now ++ found_first old.pair.gathered.first_kind (with_all old.pair.gathered now).first_kind x.place) []))
+
+-- else it stops
+pub record Reads (old new : ScoreMachine) (x : Char) (given left : BoundedList ScoreEvent) : Type 0 where
+  pub now : List BodyEvent
+  pub after : BodyStageState
+  pub law : (xs : List Char) → running_events_left old.body (x ∷ xs) ≡ now ∷ running_events_left after xs
+  pub last : ClosesLast now
+  pub limits : new.limits ≡ old.limits
+  pub gathers : code_in old.limits (with_all old.pair.gathered now) ≡ None → Gathers old new x now after given left
+  pub stops : (code_in old.limits (with_all old.pair.gathered now) ≡ None → ⊥) → new.part ≡ score_part.Over
+
+-- ---- characters that are fine
+
+-- it is more than a warning
+abbrev pub is_grave : Severity → Bool
+is_grave Warning = false
+is_grave Error = true
+is_grave Fatal = true
+
+abbrev pub is_error : Finding → Bool
+is_error f = is_grave (severity_of f.code)
+
+abbrev pub is_error_event : ScoreEvent → Bool
+is_error_event (event.Found f) = is_error f
+is_error_event e = false
+
+-- with these events no limit is passed and no error found
+abbrev pub is_fine : Limits → Gathered → List BodyEvent → Bool
+is_fine limits g now = not (is_some (code_in limits (with_all g now))) && not (list_any is_error (findings_now now))
+
+-- through lists of events, one for each character, a syllable becomes whole with the last of them, and all is fine
+abbrev pub is_alone : Limits → Gathered → List (List BodyEvent) → Bool
+is_alone limits g [] = not (is_none g.made)
+is_alone limits g (now ∷ lists) = is_none g.made && (is_fine limits g now && is_alone limits (with_all g now) lists)
+
+-- It has gathered this and goes on: where a syllable is whole, nothing of the next one is read.
+pub record GoesOn (old new : ScoreMachine) (g : Gathered) : Type 0 where
+  pub part : new.part ≡ score_part.Body
+  pub gathered : new.pair.gathered ≡ g
+  pub lines : new.body.nabc_lines ≡ old.body.nabc_lines
+  pub macros : new.body.macros ≡ old.body.macros
+  pub before : new.bounds.before ≡ old.bounds.before
+  pub limits : new.limits ≡ old.limits
+  pub whole : is_none g.made ≡ false → g.builder ≡ nothing_open
+
+-- where no syllable is held a character is read, and the machine goes on if all is fine
+pub record ReadsAlone (old new : ScoreMachine) (x : Char) (fine : Bool) : Type 0 where
+  pub now : List BodyEvent
+  pub after : BodyStageState
+  pub law : (xs : List Char) → running_events_left old.body (x ∷ xs) ≡ now ∷ running_events_left after xs
+  pub body : fine ≡ true → new.body ≡ after
+  pub fine_is : fine ≡ is_fine old.limits old.pair.gathered now
+  pub goes : fine ≡ true → GoesOn old new (with_all old.pair.gathered now)
+
+-- what a machine emits at each character of a text, the first of which stands at this place
+abbrev pub lists_from : ScoreMachine → Place → List ℕ → List (List BodyEvent)
+lists_from m at text = take (length text) (running_events_left m.body (placed_characters_from at text))
+
+abbrev pub lists_of : ScoreMachine → List ℕ → List (List BodyEvent)
+lists_of m text = lists_from m first_place text
+
+abbrev pub HasRead : ScoreMachine → ScoreMachine → List (List BodyEvent) → Type 0
+HasRead old new lists = GoesOn old new (with_all old.pair.gathered (concat_of lists))

@@ -1,0 +1,169 @@
+//! A kept text that is read again.
+
+ghost use Rattle.std.specs.Prelude.{◌≡◌, [], true, false, None, is_some};
+ghost use Rattle.gabc_score.specs.ReadAgain.{StandsBefore, TellsOfReading, TellsTheSameBut};
+ghost use Rattle.gabc_score.specs.ScoreTells.{before_of, is_in_comment, is_in_front};
+ghost use Rattle.gabc_score.specs.witness.ReadAgain.{CanBeReadAgain};
+ghost use Rattle.gabc_score.specs.witness.ScoreStage.{ScoreStageState};
+ghost use Rattle.gabc_score.specs.machine.ReadAgain.{outer_of, inner_of, place_in, IsRunAlike, IsSameBut, IsToldBy, PassesAgain, StandsSo, TakesAgain};
+ghost use Rattle.gabc_score.specs.machine.ScoreMachine.{shown, IsInBody, IsScore};
+
+use crate::body_stage::{BodyPart, BodyStage};
+use crate::body_tells::Openers;
+use crate::score_machine::{ScoreMachine, ScorePart};
+use crate::score_stage::ScoreStage;
+use gabc_places::{Char, Place};
+
+impl BodyStage {
+    /// Returns where the next character of a kept text stands that is read again: what is open behind this text at `openers` begins there.
+    pub(crate) fn place_again(&self, openers: Openers) -> Place
+        ensures { result ≡ place_in (outer_of openers) (inner_of openers) self.now.part }
+    {
+        let place = match &self.part {
+            BodyPart::Comment | BodyPart::Text(_) => openers.notes.or(openers.inner),
+            BodyPart::Notes { .. } | BodyPart::Nabc { .. } => openers.inner,
+        };
+        place.unwrap_or(Place::START)
+    }
+}
+
+impl ScoreMachine {
+    /// Reads a character of the body, and gives nothing. Where a syllable becomes whole or a limit is passed, the reading is over.
+    fn pass_again(&mut self, x: Char)
+        requires part { self.old.part ≡ ScorePart.Body }
+        requires rests { IsInBody self.old }
+        ensures rests { IsScore self.new }
+        ensures run { IsRunAlike self.old self.new }
+        ensures same { self.new.part ≡ ScorePart.Body → IsSameBut self.old self.new }
+        ensures again { PassesAgain self.old x self.new }
+    {
+        gabc_text::laws::a_kept_character_is_kept_again();
+        gabc_text::laws::what_is_open_follows_from_the_kept_text();
+        gabc_notes::laws::a_kept_character_is_kept_again();
+        self.pair.free();
+        self.body.take(x);
+        self.body.hold(&mut self.pair, &mut self.found);
+        self.found.clear();
+        if self.pair.is_whole() || self.pair.code(self.limits).is_some() {
+            self.part = ScorePart::Over;
+        }
+    }
+
+    /// Reads `c` again, a character of a kept text behind which this is open at `openers`, or a `%` behind it. Where a syllable becomes whole or a
+    /// limit is passed, the reading is over.
+    fn take_again(&mut self, c: char, openers: Openers)
+        requires rests { IsScore self.old }
+        ensures rests { IsScore self.new }
+        ensures run { IsRunAlike self.old self.new }
+        ensures same { self.new.part ≡ ScorePart.Body → IsSameBut self.old self.new }
+        ensures again { TakesAgain self.old c openers self.new }
+    {
+        let ScorePart::Body = self.part else {
+            return;
+        };
+        let place = self.body.place_again(openers);
+        self.next = place;
+        self.body.go_to(place);
+        self.pass_again(Char { c, place });
+    }
+
+    /// Reads each character of `kept` again, a kept text behind which this is open at `openers`.
+    fn read_kept(&mut self, kept: &str, openers: Openers)
+        requires rests { IsScore self.old }
+        ensures rests { IsScore self.new }
+        ensures run { IsRunAlike self.old self.new }
+        ensures same { self.new.part ≡ ScorePart.Body → IsSameBut self.old self.new }
+        ensures again { (told : BodyPart) → IsToldBy self.old.body.nabc_lines self.old.body.macros
+            self.old.limits.syllable told kept.now → StandsSo self.old openers [] false
+            → StandsSo self.new openers kept.now false }
+    {
+        for c in kept.chars() {
+            self.take_again(c, openers);
+        }
+    }
+
+    /// Reads each character of `kept` again, and the `%` of a comment behind it if `in_comment`.
+    fn read_told(&mut self, kept: &str, openers: Openers, in_comment: bool)
+        requires rests { IsScore self.old }
+        ensures rests { IsScore self.new }
+        ensures run { IsRunAlike self.old self.new }
+        ensures same { self.new.part ≡ ScorePart.Body → IsSameBut self.old self.new }
+        ensures again { (told : BodyPart) → IsToldBy self.old.body.nabc_lines self.old.body.macros
+            self.old.limits.syllable told kept.now → is_in_front told ≡ false →
+            is_in_comment told ≡ in_comment → StandsSo self.old openers [] false →
+            StandsSo self.new openers kept.now in_comment }
+    {
+        self.read_kept(kept, openers);
+        if in_comment {
+            self.take_again('%', openers);
+        }
+    }
+
+    /// Reads `kept` again, the kept text of a syllable, where nothing is read of it yet: behind it this is open at `openers`, a comment is open if
+    /// `in_comment`, and the next character stands at `next`. Returns whether no syllable became whole, and no limit was passed. Where one
+    /// was, the reading is over.
+    pub(crate) fn read_again(
+        &mut self,
+        kept: &str,
+        openers: Openers,
+        in_comment: bool,
+        next: Place,
+    ) -> bool
+        requires rests { IsScore self.old }
+        ensures rests { IsScore self.new }
+        ensures limits { self.new.limits ≡ self.old.limits }
+        ensures same { result ≡ true → TellsTheSameBut (shown self.old) (shown self.new) next }
+        ensures over { result ≡ false → before_of (shown self.new) ≡ None }
+        ensures again { (told : ScoreStageState) → CanBeReadAgain told →
+            told.limits ≡ self.old.limits → before_of told ≡ before_of (shown self.old) →
+            TellsOfReading told kept.now openers in_comment → StandsBefore (shown self.old) →
+            (result ≡ true) × TellsOfReading (shown self.new) kept.now openers in_comment }
+    {
+        gabc_text::laws::what_is_open_follows_from_the_kept_text();
+        gabc_text::laws::a_kept_character_is_kept_again();
+        gabc_notes::laws::a_kept_character_is_kept_again();
+        self.read_told(kept, openers, in_comment);
+        self.go_to(next);
+        match self.part {
+            ScorePart::Body => true,
+            ScorePart::Heads | ScorePart::Over => false,
+        }
+    }
+
+    /// Does nothing. Its contract is a law: in the body the kept text of the syllable that is read can be read again.
+    pub(crate) fn can_be_read_again(&self)
+        requires rests { IsScore self.now }
+        ensures { is_some (before_of (shown self.now)) ≡ true → CanBeReadAgain (shown self.now) }
+    {}
+}
+
+impl ScoreStage {
+    /// Reads `kept` again, the kept text of a syllable that is not whole. The stage stands before this syllable, of which nothing is read. Behind the
+    /// text this is open at `openers`, a comment is open if `in_comment`, and the next character stands at `next`. Nothing is given, and what
+    /// is found is left out. Returns whether no syllable became whole and no limit was passed. Where one was, the stage gives nothing
+    /// more. From then on it tells what any stage tells that has read this syllable so, behind the same and under the same limits.
+    pub fn read_again(
+        &mut self,
+        kept: &str,
+        openers: Openers,
+        in_comment: bool,
+        next: Place,
+    ) -> bool
+        ensures limits { self.new.limits ≡ self.old.limits }
+        ensures same { result ≡ true → TellsTheSameBut self.old self.new next }
+        ensures over { result ≡ false → before_of self.new ≡ None }
+        ensures again { (told : ScoreStageState) → CanBeReadAgain told →
+            told.limits ≡ self.old.limits → before_of told ≡ before_of self.old →
+            TellsOfReading told kept.now openers in_comment → StandsBefore self.old →
+            (result ≡ true) × TellsOfReading self.new kept.now openers in_comment }
+    {
+        self.machine.read_again(kept, openers, in_comment, next)
+    }
+
+    /// Does nothing. Its contract is a law: in the body the kept text of the syllable that is read can be read again.
+    pub(crate) fn can_be_read_again(&self)
+        ensures { is_some (before_of self.now) ≡ true → CanBeReadAgain self.now }
+    {
+        self.machine.can_be_read_again();
+    }
+}

@@ -1,0 +1,251 @@
+//! A stage over a score that goes on behind syllables which another one has read.
+
+ghost use Rattle.std.specs.Prelude.{◌≡◌, ◌<◌, ◌≤◌, ◌^◌, not, ℕ, None, IfOk, [], length, true, false};
+ghost use Rattle.std.specs.List.{list_any};
+ghost use Rattle.std.specs.Str.{chars};
+ghost use Rattle.gabc_text.specs.TextStage.{fresh_stage};
+ghost use Rattle.gabc_score.specs.Before.{preceding_of};
+ghost use Rattle.gabc_score.specs.HeldAgain.{MayBeHeld};
+ghost use Rattle.gabc_score.specs.Resumed.{BeginsText, HoldsAgain, StandsBehind};
+ghost use Rattle.gabc_score.specs.ScoreTells.{before_of, before_with, held_of};
+ghost use Rattle.gabc_score.specs.Syllable.{UnplacedSyllable};
+ghost use Rattle.gabc_score.specs.ToldWithin.{IsAtOutset};
+ghost use Rattle.gabc_score.specs.machine.PartCounts.{CountsHold};
+ghost use Rattle.gabc_score.specs.machine.PartKeeps.{in_text, PartKeeps};
+ghost use Rattle.gabc_score.specs.machine.SyllableBuilder.{nothing_open};
+ghost use Rattle.gabc_score.specs.machine.ReadAlone.{is_error_event, is_alone, lists_of, HasRead, ReadsAlone};
+ghost use Rattle.gabc_score.specs.machine.Resumed.{first_sounded, gathered_behind};
+ghost use Rattle.gabc_score.specs.machine.ScoreMachine.{shown, IsInBody, IsScore};
+
+use crate::before::{Before, Preceding};
+use crate::body_stage::{BodyPart, BodyStage};
+use crate::bounds::Bounds;
+use crate::score_event::ScoreEvent;
+use crate::score_machine::{ScoreMachine, ScorePart};
+use crate::score_stage::ScoreStage;
+use crate::slot_pair::SlotPair;
+use crate::stage_laws::a_text_is_read_from_its_beginning;
+use gabc_notes::ItemKind;
+use gabc_places::{Char, Limits, Place, Room, Severity};
+use gabc_text::TextStage;
+use std::alloc::{AllocError, Global};
+
+/// Returns which came first, a note or a clef, where one has come: what was found of it counts no more.
+fn first_sounded(sounded: bool) -> Option<ItemKind>
+    ensures { result ≡ first_sounded sounded }
+{
+    if sounded { Some(ItemKind::Clef) } else { None }
+}
+
+impl Before {
+    /// Returns what the syllables before come to.
+    fn preceding(self) -> Preceding
+        ensures { result ≡ preceding_of self }
+    {
+        Preceding {
+            syllables: self.syllables,
+            canonical: self.canonical,
+            spans: self.spans,
+            sounded: self.sounded,
+        }
+    }
+}
+
+impl SlotPair {
+    /// Says what stands before the syllable that is read.
+    fn follow(&mut self, before: Before)
+        ensures { self.new ≡ record self.old {
+          gathered = gathered_behind before self.old.gathered;
+        } }
+    {
+        self.eu = before.spans.eu;
+        self.nlba = before.spans.nlba;
+        self.follows = 0 < before.syllables;
+        self.total = before.canonical;
+        self.first_kind = first_sounded(before.sounded);
+    }
+}
+
+impl BodyStage {
+    /// Begins to read a text, whose first character stands at `at`.
+    fn begin_text(&mut self, at: Place)
+        ensures text { self.new ≡ record self.old { part = BodyPart.Text (fresh_stage at) } }
+        ensures counts { CountsHold self.new.part nothing_open }
+        ensures keeps { (lines macros : ℕ) → PartKeeps lines macros self.new.part (in_text []) }
+    {
+        self.part = BodyPart::Text(TextStage::new(at));
+    }
+}
+
+impl ScoreMachine {
+    /// Returns a machine in the body, behind the syllables of which `before` tells, and reserves the memory that it ever takes.
+    fn resume(alloc: Global, limits: Limits, before: Before) -> Result<ScoreMachine, AllocError>
+        requires { IsAtOutset (preceding_of before) }
+        ensures stands { IfOk result (λ m. StandsBehind limits before (shown m)) }
+        ensures rests { IfOk result (λ m. IsScore m) }
+    {
+        let mut body = BodyStage::new(alloc, 0, 0)?;
+        body.restart(before.nabc_lines, before.macros);
+        body.begin_text(Place::START);
+        let mut pair = SlotPair::with_limit(alloc, limits.syllable as usize)?;
+        pair.follow(before);
+        let found = Room::with_limit(alloc, 9)?;
+        let preceding = before.preceding();
+        Ok(ScoreMachine {
+            limits,
+            part: ScorePart::Body,
+            body,
+            pair,
+            found,
+            next: Place::START,
+            has_lent: 0 < before.syllables,
+            bounds: Bounds {
+                before: preceding,
+                behind: preceding,
+            },
+        })
+    }
+}
+
+/// Returns whether an error is found.
+fn is_error(event: ScoreEvent) -> bool
+    ensures { result ≡ is_error_event event }
+{
+    match event {
+        ScoreEvent::Found(finding) => match finding.code.severity() {
+            Severity::Warning => false,
+            Severity::Error | Severity::Fatal => true,
+        },
+        _ => false,
+    }
+}
+
+/// Returns whether an error is found among these.
+fn has_error(events: &[ScoreEvent]) -> bool
+    ensures { result ≡ list_any is_error_event events.now }
+{
+    events.iter().any(|event| is_error(*event))
+}
+
+impl ScoreMachine {
+    /// Returns whether it goes on in the body, where these events tell of no error.
+    fn is_fine(&self, events: &[ScoreEvent]) -> bool
+        ensures body { self.now.part ≡ ScorePart.Body →
+            result ≡ not (list_any is_error_event events.now) }
+        ensures other { (self.now.part ≡ ScorePart.Body → ⊥) → result ≡ false }
+    {
+        match self.part {
+            ScorePart::Body => !has_error(events),
+            ScorePart::Heads | ScorePart::Over => false,
+        }
+    }
+
+    /// Reads a character, where no syllable is held. Returns whether no limit is passed with it, and no error is found.
+    fn read_alone(&mut self, x: Char, room: &mut Room<ScoreEvent>) -> bool
+        requires part { self.old.part ≡ ScorePart.Body }
+        requires rests { IsInBody self.old }
+        requires none { self.old.pair.gathered.made ≡ [] }
+        requires empty { room.old.items ≡ [] }
+        requires room { 16 ≤ room.old.limit }
+        ensures room { room.new ≡ room.old }
+        ensures rests { IsScore self.new }
+        ensures reads { ReadsAlone self.old self.new x result }
+    {
+        self.read(x, room);
+        let is_fine = self.is_fine(room.slice());
+        room.clear();
+        is_fine
+    }
+
+    /// Reads the characters of `text`, the first of which stands at the first place, where no syllable is held. Returns whether one is whole with
+    /// the last of them and none before, no limit is passed and no error is found.
+    fn read_all(&mut self, text: &str, room: &mut Room<ScoreEvent>) -> bool
+        requires part { self.old.part ≡ ScorePart.Body }
+        requires rests { IsInBody self.old }
+        requires none { self.old.pair.gathered.made ≡ [] }
+        requires short { length text.now < 2 ^ 63 }
+        requires empty { room.old.items ≡ [] }
+        requires room { 16 ≤ room.old.limit }
+        ensures room { room.new ≡ room.old }
+        ensures rests { IsScore self.new }
+        ensures alone { result ≡ is_alone self.old.limits self.old.pair.gathered
+            (lists_of self.old (chars text.now)) }
+        ensures goes { result ≡ true → HasRead self.old self.new
+            (lists_of self.old (chars text.now)) }
+    {
+        let mut place = Place::START;
+        for c in text.chars() {
+            if self.pair.has_held() {
+                return false;
+            }
+            if !self.read_alone(Char { c, place }, room) {
+                return false;
+            }
+            place = place.after(c);
+        }
+        self.pair.has_held()
+    }
+
+    /// Reads `text` as one syllable, which is held then, and begins to read the next text. Returns whether it is one, with which no limit is passed
+    /// and in which no error is found. Where it is none, nothing is read any more.
+    fn hold_again(&mut self, text: &str, room: &mut Room<ScoreEvent>) -> bool
+        requires rests { IsScore self.old }
+        requires begins { BeginsText (shown self.old) }
+        requires none { held_of (shown self.old) ≡ None }
+        requires short { length text.now < 2 ^ 63 }
+        requires empty { room.old.items ≡ [] }
+        requires room { 16 ≤ room.old.limit }
+        ensures room { room.new ≡ room.old }
+        ensures rests { IsScore self.new }
+        ensures held { result ≡ true →
+            HoldsAgain (chars text.now) (shown self.old) (shown self.new) }
+        ensures refused { result ≡ false → (m : UnplacedSyllable) →
+            MayBeHeld self.old.limits (before_with self.old.body self.old.bounds.before)
+            (chars text.now) m → ⊥ }
+        ensures over { result ≡ false → before_of (shown self.new) ≡ None }
+    {
+        a_text_is_read_from_its_beginning();
+        if !self.read_all(text, room) {
+            self.part = ScorePart::Over;
+            return false;
+        }
+        self.pair.at_most_one_is_held();
+        self.body.begin_text(Place::START);
+        self.next = Place::START;
+        true
+    }
+}
+
+impl ScoreStage {
+    /// Returns a stage in the body that stands behind the syllables of which `before` tells, and reserves the memory that it ever takes, as
+    /// `with_limits` does. It holds no syllable, and the next character is the first of a text. `before` is what another stage under the same
+    /// limits told of what stands before the syllable that it held: where no syllable does, no span is open and nothing has sounded. `go_to` says
+    /// where the next character stands. It fails only for want of memory.
+    pub fn resume(alloc: Global, limits: Limits, before: Before) -> Result<ScoreStage, AllocError>
+        requires { IsAtOutset (preceding_of before) }
+        ensures { IfOk result (λ stage. StandsBehind limits before stage) }
+    {
+        Ok(ScoreStage {
+            machine: ScoreMachine::resume(alloc, limits, before)?,
+        })
+    }
+
+    /// Reads `text`, less than 2^63 bytes, as one syllable, which is held from then on, and begins to read the next text. Returns whether it is one: whole with
+    /// its last character and not before, with which no limit is passed and in which no error is found. Where it is none, the stage has come to
+    /// its end. `room` is empty, and has room for 16 events; nothing stands in it afterwards.
+    pub fn hold_again(&mut self, text: &str, room: &mut Room<ScoreEvent>) -> bool
+        requires begins { BeginsText self.old }
+        requires none { held_of self.old ≡ None }
+        requires short { length text.now < 2 ^ 63 }
+        requires empty { room.old.items ≡ [] }
+        requires room { 16 ≤ room.old.limit }
+        ensures room { room.new ≡ room.old }
+        ensures held { result ≡ true → HoldsAgain (chars text.now) self.old self.new }
+        ensures refused { result ≡ false → (m : UnplacedSyllable) →
+            MayBeHeld self.old.limits (before_with self.old.body self.old.before)
+            (chars text.now) m → ⊥ }
+        ensures over { result ≡ false → before_of self.new ≡ None }
+    {
+        self.machine.hold_again(text, room)
+    }
+}

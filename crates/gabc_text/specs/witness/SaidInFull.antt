@@ -1,0 +1,19 @@
+-- What was said of a text, as a stage kept it, is all that is said of it in front of a `(` that ends it.
+use Rattle.std.specs.Prelude.{◌≡◌, ℕ, List, [], ◌∷◌, ◌++◌}
+use Rattle.gabc_text.specs.declared.text_event.TextEnd.TheVariants as ending
+use Rattle.gabc_text.specs.declared.text_event.TextEvent.{TextEvent}
+use Rattle.gabc_text.specs.declared.text_event.TextEvent.TheVariants as out
+use Rattle.gabc_text.specs.BuiltText.{with_events, empty_text, kept_in}
+use Rattle.gabc_text.specs.Ends.{ends_in}
+use Rattle.gabc_text.specs.TextRead.{view_in}
+use Rattle.gabc_text.specs.View.{kept}
+use Rattle.gabc_text.specs.witness.Keeps.{said_of, said_at_end}
+
+-- Of the text k in front of a `(` and this rest: before the end all of k is kept, and the view is that of the text.
+pub record IsSaidInFull (k rest : List ℕ) : Type 0 where
+  pub mids : List TextEvent
+  pub said_are : said_of k ++ said_at_end k ≡ mids ++ out.Ended ending.Notes ∷ []
+  pub silent : ends_in mids ≡ []
+  pub kept_are : kept_in mids ≡ k
+  pub view_is : (with_events empty_text mids).view ≡ view_in (k ++ 40 ∷ rest)
+  pub kept_is : kept (k ++ 40 ∷ rest) ≡ k

@@ -1,0 +1,43 @@
+-- What an engine writes of an input in memory is put as it comes.
+use Rattle.std.proofs.Common.{◌≡◌, ℕ, ◌+◌, List, [], ◌++◌, take, drop, take-append-drop, append-nil, refl, sym, ap, ◌∙◌, subst}
+use Rattle.std.proofs.lemmas.List.{drop-drop}
+use Rattle.gregorio_jobs.specs.declared.job.Status.{Status}
+use Rattle.gregorio.specs.declared.source_ending.SourceEnding.TheVariants.{Whole}
+use Rattle.gregorio.specs.Engine.{with_waiting}
+use Rattle.gregorio.specs.witness.Engine.{EngineState, streams_left}
+use Rattle.gregorio.specs.Streams.{Streams, behind_bytes, ended_with}
+use Rattle.gregorio.specs.machine.InMemory.{TakeTheSame}
+use Rattle.gregorio.proofs.PiecesAreSent.{IsTaken}
+
+-- what is left of an input, once an engine took so many bytes more
+pub left_behind : (e f g : EngineState) (input : List ℕ) (count k : ℕ) → IsTaken e f (take k (drop count input)) → g ≡ record f { output = []; messages = [] }
+    → streams_left e Whole (drop count input) ≡ behind_bytes f.output f.messages (streams_left g Whole (drop (count + k) input))
+left_behind e f g input count k law forgets =
+    let rest : List ℕ = drop count input in
+    ap (streams_left e Whole) (sym (take-append-drop k rest))
+    ∙ (law (drop k rest) Whole
+    ∙ (ap (λ (l : List ℕ). with_waiting f (streams_left f Whole l)) (drop-drop k count input)
+    ∙ ap (λ (s : EngineState). behind_bytes f.output f.messages (streams_left s Whole (drop (count + k) input))) (sym forgets)))
+
+module _ {A B : Type 0} (takes : A → List ℕ → A) (takes_too : B → List ℕ → B) where
+  pub nothing_taken : (o : A) (m : B) (s : Streams) → TakeTheSame takes takes_too o m s o m s
+  nothing_taken o m s = record { output = refl; lines = refl; status = refl }
+
+  module _ (both : (s : A) (a b : List ℕ) → takes (takes s a) b ≡ takes s (a ++ b)) (both_too : (s : B) (a b : List ℕ) → takes_too (takes_too s a) b ≡ takes_too s (a ++ b)) where
+    -- they took what stands before the rest
+    pub more_taken : (o p q : A) (m n r : B) (s t u : Streams) (output lines : List ℕ) → TakeTheSame takes takes_too o m s p n t → t ≡ behind_bytes output lines u
+        → q ≡ takes p output → r ≡ takes_too n lines → TakeTheSame takes takes_too o m s q r u
+    more_taken o p q m n r s t u output lines h parts i j = record {
+      output = ap (λ (x : A). takes x u.output) i ∙ (both p output u.output ∙ (ap (λ (x : Streams). takes p x.output) (sym parts) ∙ h.output));
+      lines = ap (λ (x : B). takes_too x u.messages) j ∙ (both_too n lines u.messages ∙ (ap (λ (x : Streams). takes_too n x.messages) (sym parts) ∙ h.lines));
+      status = ap (λ (x : Streams). x.status) (sym parts) ∙ h.status;
+    }
+
+  -- they took the last
+  pub last_taken : (o p q : A) (m n r : B) (s t : Streams) (output lines : List ℕ) (status : Status) → TakeTheSame takes takes_too o m s p n t → t ≡ behind_bytes output lines (ended_with status)
+      → q ≡ takes p output → r ≡ takes_too n lines → (q ≡ takes o s.output) × (r ≡ takes_too m s.messages) × (status ≡ s.status)
+  last_taken o p q m n r s t output lines status h parts i j = (
+    i ∙ (ap (takes p) (sym (ap (λ (x : Streams). x.output) parts ∙ append-nil output)) ∙ h.output),
+    j ∙ (ap (takes_too n) (sym (ap (λ (x : Streams). x.messages) parts ∙ append-nil lines)) ∙ h.lines),
+    sym (ap (λ (x : Streams). x.status) parts) ∙ h.status,
+  )

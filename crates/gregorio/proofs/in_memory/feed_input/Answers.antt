@@ -1,0 +1,32 @@
+use Rattle.std.proofs.Common.{ℕ, List, take, drop, length, length-drop, ap, subst, arith}
+use Rattle.std.proofs.lemmas.List.{drop_all}
+use Rattle.gregorio.specs.declared.source_ending.SourceEnding.TheVariants.{Whole}
+use Rattle.gregorio.specs.witness.Engine.{streams_left}
+use Rattle.gregorio.specs.machine.InMemory.{TakeTheSame}
+use Rattle.gregorio.proofs.InputsArePut.{left_behind, more_taken, nothing_taken}
+use Rattle.gregorio.proofs.PiecesAreSent.{IsTaken, all_behind, nothing_waits_behind}
+use Rattle.gregorio.proofs.in_memory.feed_input.Goals as goal
+
+pub loop-count-init : goal.loop-count-init
+loop-count-init g c = record {
+  within = omega arith;
+  waits = c.requires.waits;
+  put = nothing_taken g.O.Put.taken g.M.Put.taken _ _ _;
+}
+
+pub loop-count-preserved : goal.loop-count-preserved
+loop-count-preserved g c =
+    let i = c.loop-count.invariant in
+    let all = all_behind c.loop-count.count c.args.input.now in
+    let law = subst (λ (l : List ℕ). IsTaken c.loop-count.engine c.feed-count.new.self (take c.feed-count.result l)) all c.feed-count.ensures.law in
+    let left = left_behind c.loop-count.engine c.feed-count.new.self c.put_waiting.new.engine c.args.input.now c.loop-count.count c.feed-count.result law c.put_waiting.ensures.forgets in
+    record {
+      within = omega (arith, i.within, c.feed-count.ensures.taken, ap length all, length-drop c.loop-count.count c.args.input.now);
+      waits = nothing_waits_behind c.feed-count.new.self c.put_waiting.new.engine c.put_waiting.ensures.forgets;
+      put = more_taken g.O.Put.taken g.M.Put.taken g.met.O.Put.taken_both g.met.M.Put.taken_both _ _ _ _ _ _ _ _ _ _ _ i.put left c.put_waiting.ensures.out c.put_waiting.ensures.messages;
+    }
+
+pub returns-clause-put : goal.returns-clause-put
+returns-clause-put g c =
+    let over = drop_all c.loop-count.count c.args.input.now (omega (arith, c.loop-count-test.false)) in
+    subst (λ (l : List ℕ). TakeTheSame g.O.Put.taken g.M.Put.taken c.args.out.now c.args.messages.now (streams_left c.args.engine.now Whole c.args.input.now) c.loop-count.out c.loop-count.messages (streams_left c.loop-count.engine Whole l)) over c.loop-count.invariant.put
