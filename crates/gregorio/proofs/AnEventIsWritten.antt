@@ -14,6 +14,7 @@ use Rattle.gabc_score.specs.witness.ScoreStage.{ScoreStageState, left_of}
 use Rattle.gregorio_jobs.specs.declared.job.Status.{Status}
 use Rattle.gregorio.specs.Streams.{Streams, behind_bytes}
 use Rattle.gregorio.specs.witness.Engine.{Written, behind_output, behind_outputs, ceased_status, ceased_text, first_list, is_before_heads, lines_of_outputs, streams_from, streams_in, text_of_heads, texts_of_outputs, writes_heads}
+use Rattle.gregorio.specs.machine.InStep.{PassesOn}
 use Rattle.gregorio.specs.machine.RunWriter.{RunWriterState, HasRoomFor, IsInRoom, IsSteadyWriter, last_room, line_room, lines_room, past_end, past_outputs, syllable_room, texts_room, with_heads}
 use Rattle.gregorio.specs.machine.ScoreWriter.{ScoreWriterState, FitsEvents, IsSilent, WritesAt, WritesLast, event_room, outputs_of_events, streams_of}
 use Rattle.gregorio.proofs.OutputsOfEvents.{as_many_emitted, emitted_is, ends_at_last, nothing_left}
@@ -87,6 +88,17 @@ module _ (score mid : ScoreStageState) (writer : RunWriterState) (now : ScoreWri
               ∙ ap (λ (lists : List (List ScoreOutput)).
               behind_bytes (texts_of_outputs w (first_list lists)) (lines_of_outputs w (first_list lists)) (streams_from (behind_outputs w (first_list lists)) book from_heads (drop 1 lists))) (step.law from_heads);
         }))
+
+    pub passes_on : PassesOn now.score now.writer.written x (record { score = mid; writer = new })
+    passes_on = subst (λ (s : ScoreWriterState). PassesOn s.score s.writer.written x (record { score = mid; writer = new })) view (record {
+      outputs = step.outputs;
+      few = step.lends.few;
+      part = step.part;
+      last = step.last;
+      before_held = step.before_held;
+      counts = step.counts;
+      written = ap (λ (v : RunWriterState). v.written) new_is;
+    })
 
     -- where the run is over, the stage gives nothing more
     pub silent_behind : (IsSome writer.written.ended → IsSilent score) → IsSome new.written.ended → IsSilent mid

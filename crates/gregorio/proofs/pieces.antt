@@ -8,3 +8,5 @@ pub mod BytesAreTaken
 pub mod FrontIsTaken
 pub mod NothingIsKeptBack
 pub mod InputsAreEnded
+pub mod PartsStayInStep
+pub mod StatesOfInputs

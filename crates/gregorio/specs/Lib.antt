@@ -5,5 +5,6 @@ pub mod Engine
 pub mod PrefixOfAStop
 pub mod Outcome
 pub mod Run
+pub mod Saved
 pub mod SourceBytes
 pub mod Streams

@@ -2,5 +2,6 @@ pub mod Buffers
 pub mod Compile
 pub mod Engine
 pub mod InMemory
+pub mod InStep
 pub mod RunWriter
 pub mod ScoreWriter

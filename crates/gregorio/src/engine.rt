@@ -8,9 +8,11 @@ ghost use Rattle.gregorio.specs.declared.source_ending.SourceEnding.TheVariants.
 ghost use Rattle.gregorio_jobs.specs.declared.job.Status.TheVariants.{ReadFault};
 ghost use Rattle.gregorio.specs.Outcome.{outcome_of};
 ghost use Rattle.gregorio.specs.Engine.{IsPrompt, NothingWaits, is_running, with_waiting};
+ghost use Rattle.gregorio.specs.Saved.{IsStateOfInput, state_of};
 ghost use Rattle.gregorio.specs.witness.Engine.{streams_left};
 ghost use Rattle.gregorio.specs.Streams.{streams_of_outcome, ended_with};
 ghost use Rattle.gregorio.specs.machine.Engine.{GoTogether, IsEmpty, WritesAll, WritesItems, event_of_item, headed_past};
+ghost use Rattle.gregorio.specs.machine.InStep.{PassesAll, StayInStep};
 ghost use Rattle.gregorio.specs.machine.ScoreWriter.{FitsEvents, IsReserved, IsShortBook, IsSteady};
 
 use crate::score_writer::ScoreWriter;
@@ -55,7 +57,7 @@ impl Model for Engine {
       messages = e.writer.writer.messages.items;
     } };
 
-    ghost invariant = { λ e. IsEngine e.heads e.from_heads e.writer };
+    ghost invariant = { λ e. IsEngine e.decoder e.heads e.from_heads e.writer };
 }
 
 /// Passes `from_heads` on to `writer`. `book` has the headers that are read, if they are whole.
@@ -65,6 +67,7 @@ fn pass_on(from_heads: &[HeadEvent], book: &HeaderBook, writer: &mut ScoreWriter
     ensures writes { WritesAll writer.old from_heads.now book.now writer.new }
     ensures room { (events : List HeadItem) → FitsEvents writer.old (from_heads.now ++ events) →
         FitsEvents writer.new events }
+    ensures passes { PassesAll writer.old from_heads.now writer.new }
     ensures steady { IsSteady writer.old writer.new }
     ensures headed { headed_past writer.old.writer.written.headed from_heads.now ≡ false →
         writer.new.writer.written.headed ≡ false }
@@ -99,6 +102,7 @@ fn read(
     ensures together { GoTogether heads.new writer.new }
     ensures few { from_heads.new.limit ≡ from_heads.old.limit }
     ensures writes { WritesItems heads.old writer.old (item ∷ []) heads.new writer.new }
+    ensures step { StayInStep heads.old writer.old (item ∷ []) heads.new writer.new }
     ensures room { FitsEvents writer.new (End ∷ []) }
     ensures steady { IsSteady writer.old writer.new }
 {
@@ -125,6 +129,7 @@ fn read_in_heads(
     ensures together { GoTogether heads.new writer.new }
     ensures few { from_heads.new.limit ≡ from_heads.old.limit }
     ensures writes { WritesItems heads.old writer.old (item ∷ []) heads.new writer.new }
+    ensures step { StayInStep heads.old writer.old (item ∷ []) heads.new writer.new }
     ensures room { FitsEvents writer.new (End ∷ []) }
     ensures steady { IsSteady writer.old writer.new }
 {
@@ -149,6 +154,7 @@ fn read_decoded(
     ensures together { GoTogether heads.new writer.new }
     ensures few { from_heads.new.limit ≡ from_heads.old.limit }
     ensures writes { WritesItems heads.old writer.old (option_to_list item) heads.new writer.new }
+    ensures step { StayInStep heads.old writer.old (option_to_list item) heads.new writer.new }
     ensures room { FitsEvents writer.new (End ∷ []) }
     ensures steady { IsSteady writer.old writer.new }
 {
@@ -219,6 +225,14 @@ impl Engine {
     {
         gabc_score::stage_laws::inputs_that_cease_give_no_stop();
         self.writer.at_most_one_is_held();
+    }
+
+    /// Does nothing but call a law. Its contract is one: what an engine that runs saves of its input may stand in a state.
+    pub(crate) fn tells_its_input(&self)
+        requires runs { is_running self.now ≡ true }
+        ensures { IsStateOfInput (state_of self.now) }
+    {
+        gabc_places::laws::what_a_decoder_tells_may_be_told(&self.decoder);
     }
 
     /// Takes a byte.

@@ -10,6 +10,8 @@ ghost use Rattle.gabc_score.specs.ScoreEvents.{ScoreOutput, score_outputs, sylla
 ghost use Rattle.gabc_score.specs.ScoreStage.{AreCountsBelow};
 ghost use Rattle.gabc_score.specs.witness.ScoreStage.{left_of};
 ghost use Rattle.gregorio.specs.witness.Engine.{is_heads, writes_heads};
+ghost use Rattle.gabc_score.specs.declared.score_machine.ScorePart.{ScorePart};
+ghost use Rattle.gregorio.specs.machine.InStep.{HasForce, PassesOn, written_at};
 ghost use Rattle.gregorio.specs.machine.RunWriter.{HasRoomFor, IsInRoom, IsSteadyWriter, past_output, past_outputs};
 ghost use Rattle.gregorio.specs.machine.ScoreWriter.{output_of_event, outputs_of_events, IsOver, IsShortBook, IsSilent, emptied, fresh_writer, IsReserved, IsSteady, FitsEvents, WritesAt, WritesLast, WritesNothing};
 
@@ -81,6 +83,7 @@ impl ScoreWriter {
     ) -> Result<ScoreWriter, AllocError>
         ensures fresh { IfOk result (λ writer. writer.writer.written ≡ fresh_writer job.now) }
         ensures limits { IfOk result (λ writer. writer.score.limits ≡ limits) }
+        ensures part { IfOk result (λ writer. writer.score.part ≡ ScorePart.Heads) }
         ensures reserved { IfOk result IsReserved }
         ensures empty { IfOk result (λ writer. writer ≡ emptied writer) }
         ensures score { IfOk result (λ writer. (xs : List HeadItem) → AreCountsBelow xs →
@@ -107,6 +110,8 @@ impl ScoreWriter {
         requires room { FitsEvents self.old (event ∷ []) }
         requires book { IsShortBook self.old.score.limits book.now }
         ensures writes { WritesAt self.old event book.now self.new }
+        ensures passes { PassesOn self.old.score (written_at self.old.writer.written event)
+            event self.new }
         ensures room { (events : List HeadItem) → FitsEvents self.old (event ∷ events) →
             FitsEvents self.new events }
         ensures steady { IsSteady self.old self.new }
@@ -124,6 +129,7 @@ impl ScoreWriter {
         requires room { FitsEvents self.old (event ∷ []) }
         requires heads { writes_heads self.old.writer.written event ≡ false }
         ensures writes { (read : List (List ℕ × List ℕ)) → WritesAt self.old event read self.new }
+        ensures passes { PassesOn self.old.score self.old.writer.written event self.new }
         ensures room { (events : List HeadItem) → FitsEvents self.old (event ∷ events) →
             FitsEvents self.new events }
         ensures steady { IsSteady self.old self.new }
@@ -155,6 +161,7 @@ impl ScoreWriter {
         ensures writes { WritesLast self.old self.new result }
         ensures steady { IsSteady self.old self.new }
         ensures over { IsOver self.new.writer.written self.new.score result }
+        ensures force { HasForce self.old.writer.written → HasForce self.new.writer.written }
     {
         self.events.clear();
         self.score.finish(&mut self.events);

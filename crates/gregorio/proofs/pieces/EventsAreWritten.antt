@@ -4,6 +4,7 @@ use Rattle.std.specs.List.{list_any}
 use Rattle.gabc_headers.specs.declared.head_event.HeadEvent.{HeadEvent}
 use Rattle.gregorio.specs.Streams.{Streams, behind_bytes}
 use Rattle.gregorio.specs.witness.Engine.{is_heads}
+use Rattle.gregorio.specs.machine.InStep.{PassesAll, PassesOn, written_at}
 use Rattle.gregorio.specs.machine.ScoreWriter.{ScoreWriterState, FitsEvents, IsSteady, WritesAt, streams_of}
 use Rattle.gregorio.specs.machine.Engine.{WritesAll, headed_past}
 use Rattle.gregorio.proofs.pieces.RoomIsLeft.{room_for_first}
@@ -71,3 +72,6 @@ module _ (from_heads : List HeadEvent) (i : ℕ) (d : HeadEvent) (within : i < l
   pub unheaded_left : (headed behind : Bool) → ((headed || is_heads now) ≡ false → behind ≡ false) → headed_past headed (drop i from_heads) ≡ false → headed_past behind (drop (i + 1) from_heads) ≡ false
   unheaded_left headed behind at h =
       unheaded_later headed behind (is_heads now) (list_any is_heads (drop (i + 1) from_heads)) at (sym (ap (headed_past headed) left_is) ∙ h)
+
+  pub passes_left : (old mid new : ScoreWriterState) → PassesOn old.score (written_at old.writer.written now) now mid → PassesAll mid (drop (i + 1) from_heads) new → PassesAll old (drop i from_heads) new
+  passes_left old mid new p all = subst (λ (left : List HeadEvent). PassesAll old left new) (sym left_is) (mid, (p, all))

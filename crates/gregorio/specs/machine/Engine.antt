@@ -4,12 +4,14 @@ use Rattle.std.specs.List.{list_any}
 use Rattle.gabc_places.specs.BoundedList.{BoundedList, extended_by}
 use Rattle.gabc_places.specs.declared.code.Fault.{Fault}
 use Rattle.gabc_places.specs.declared.place.Char.{Char}
+use Rattle.gabc_places.specs.DecoderMachine.{DecoderState}
 use Rattle.gabc_headers.specs.declared.head_event.HeadEvent.{HeadEvent}
 use Rattle.gabc_headers.specs.declared.head_event.HeadEvent.TheVariants as head_event
 use Rattle.gabc_headers.specs.witness.HeadEvents.{HeaderStageState, HeadProgress, reading, behind, over, IsBehind}
 use Rattle.gregorio.specs.declared.source_ending.SourceEnding.{SourceEnding}
 use Rattle.gregorio.specs.Streams.{Streams, behind_bytes}
 use Rattle.gregorio.specs.witness.Engine.{book_behind, head_events_left, is_heads}
+use Rattle.gregorio.specs.machine.InStep.{IsInStep}
 use Rattle.gregorio.specs.machine.ScoreWriter.{ScoreWriterState, streams_of, IsBookAt, IsShortBook, IsReserved}
 
 -- ---- events of the headers, one after the other
@@ -75,8 +77,9 @@ pub record GoTogether (h : HeaderStageState) (w : ScoreWriterState) : Type 0 whe
   pub book : IsBookRead h.progress h.book
   pub short : IsShortBook h.limits h.book
 
--- There is room for the events of one call, and the rooms of the writer are those of the limits.
-pub record IsEngine (heads : HeaderStageState) (from_heads : BoundedList HeadEvent) (w : ScoreWriterState) : Type 0 where
+-- There is room for the events of one call, the rooms of the writer are those of the limits, and all parts are in step.
+pub record IsEngine (decoder : DecoderState) (heads : HeaderStageState) (from_heads : BoundedList HeadEvent) (w : ScoreWriterState) : Type 0 where
   pub few : 2 ≤ from_heads.limit
   pub together : GoTogether heads w
   pub reserved : IsReserved w
+  pub step : IsInStep decoder heads w.score w.writer.written

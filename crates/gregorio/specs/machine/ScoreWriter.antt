@@ -10,7 +10,7 @@ use Rattle.gabc_score.specs.declared.score_event.ScoreEvent.{ScoreEvent}
 use Rattle.gabc_score.specs.declared.score_event.ScoreEvent.TheVariants as event
 use Rattle.gabc_neumes.specs.InForce.{nothing_in_force}
 use Rattle.gabc_score.specs.ScoreEvents.{ScoreOutput, Found, Stop, Syllable, End}
-use Rattle.gabc_score.specs.ScoreStage.{body_inputs, lent_in}
+use Rattle.gabc_score.specs.ScoreStage.{Counts, behind_front, body_inputs, lent_in}
 use Rattle.gabc_places.specs.StageLaw.{concat_of}
 use Rattle.gabc_score.specs.witness.ScoreStage.{ScoreStageState, left_of}
 use Rattle.gregorio.specs.Outcome.{input_name}
@@ -58,6 +58,9 @@ pub record WritesAt (old : ScoreWriterState) (x : HeadEvent) (read : List (List 
 pub record WritesNothing (old : ScoreWriterState) (at : Place) (bytes : List ℕ) (new : ScoreWriterState) : Type 0 where
   pub headed : 0 < length bytes → old.writer.written.headed ≡ true
   pub limits : new.score.limits ≡ old.score.limits
+  pub part : new.score.part ≡ old.score.part
+  pub before_held : new.score.before ≡ old.score.before
+  pub counts : Counts at old.score → Counts (behind_front at (length bytes) at) new.score
   pub writer : new.writer ≡ old.writer
   pub law : (book : List (List ℕ × List ℕ)) (from_heads : List HeadEvent) → streams_of old book (body_inputs at bytes ++ from_heads) ≡ streams_of new book from_heads
 

@@ -1,6 +1,7 @@
 use Rattle.std.proofs.Common.{◌≡◌, List, ◌++◌, drop, false}
 use Rattle.gabc_headers.specs.declared.head_event.HeadEvent.{HeadEvent as HeadItem}
 use Rattle.gregorio.specs.machine.Engine.{WritesAll, headed_past}
+use Rattle.gregorio.specs.machine.InStep.{PassesAll}
 use Rattle.gregorio.specs.machine.ScoreWriter.{FitsEvents, IsSteady, ScoreWriterState}
 use Rattle.gregorio.proofs.engine.pass_on.Given as goal
 
@@ -11,6 +12,7 @@ invariant-loop-event l =
     record {
       writes : (new : ScoreWriterState) → WritesAll l.writer left l.book new → WritesAll l.initial.writer l.from_heads l.book new;
       room : (events : List HeadItem) → FitsEvents l.initial.writer (l.from_heads ++ events) → FitsEvents l.writer (left ++ events);
+      passes : (new : ScoreWriterState) → PassesAll l.writer left new → PassesAll l.initial.writer l.from_heads new;
       steady : IsSteady l.initial.writer l.writer;
       headed : headed_past l.initial.writer.writer.written.headed l.from_heads ≡ false → headed_past l.writer.writer.written.headed left ≡ false;
     }

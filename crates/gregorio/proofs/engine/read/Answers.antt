@@ -7,6 +7,8 @@ use Rattle.gregorio.specs.witness.Engine.{is_before_heads, is_heads, writes_head
 use Rattle.gregorio.specs.machine.Engine.{event_of_item}
 use Rattle.gregorio.specs.machine.ScoreWriter.{FitsEvents, WritesAt}
 use Rattle.gregorio.proofs.pieces.ItemsAreRead.{reads_item}
+use Rattle.gregorio.specs.machine.InStep.{PassesOn}
+use Rattle.gregorio.proofs.pieces.PartsStayInStep.{body_in_step}
 use Rattle.gregorio.proofs.pieces.RoomIsLeft.{item_is_few, room_for_first, room_with_end}
 use Rattle.gregorio.proofs.engine.read.Goals as goal
 
@@ -44,3 +46,9 @@ returns-clause-room c =
     c.pass.ensures.room (End ∷ [])
     (subst (λ (x : HeadItem). FitsEvents w (x ∷ End ∷ [])) (sym c.body_event.ensures)
     (room_with_end w _ c.requires.reserved c.requires.empty (item_is_few w.writer.written.format w.score.limits.syllable c.args.item)))
+
+pub returns-clause-step : goal.returns-clause-step
+returns-clause-step c =
+    let w = c.args.writer.now in
+    body_in_step c.args.heads.now w c.pass.new.self c.args.item (sym c.headed.ensures ∙ c.if-not-headed.false) c.pass.ensures.steady.limits
+    (subst (λ (x : HeadItem). PassesOn w.score w.writer.written x c.pass.new.self) c.body_event.ensures c.pass.ensures.passes)

@@ -12,6 +12,7 @@ use Rattle.gregorio.proofs.pieces.RoomIsLeft.{room_for_end}
 use Rattle.gregorio.proofs.pieces.InputsAreEnded.{ends_given, ends_items, ends_now, over_is_settled, over_of_items, over_stage, over_together}
 use Rattle.gregorio.proofs.pieces.BytesAreTaken.{none_wait, still_reserved}
 use Rattle.gregorio.proofs.pieces.EventsAreWritten.{steady_both}
+use Rattle.gregorio.proofs.pieces.PartsStayInStep.{force_past_all, over_in_step}
 use Rattle.gregorio.proofs.engine.Engine.end.Goals as goal
 
 pub finish-requires-2 : goal.finish-requires-2
@@ -58,6 +59,8 @@ invariant_of-self c =
       few = omega (arith, c.self.invariant.few, c.read_decoded.ensures.few, given, cleared);
       together = subst (λ (s : HeaderStageState). GoTogether s new) (sym c.finish.ensures.state) (over_stage h new (over_is_settled new c.finish-2.result c.finish-2.ensures.over) (over_together h w new c.finish-2.result c.read_decoded.ensures.together steady c.finish-2.ensures.over));
       reserved = still_reserved c.self.inside.writer new (steady_both c.self.inside.writer w new c.read_decoded.ensures.steady steady) c.self.invariant.reserved;
+      step = over_in_step c.end-item.new.self c.finish.new.self new c.finish-2.result
+          (c.finish-2.ensures.force (force_past_all c.slice.result.now w c.pass_on.new.writer c.pass_on.ensures.passes (c.read_decoded.ensures.step.force c.self.invariant.step.force))) c.finish-2.ensures.over.ended;
     }
 
 pub returns-clause-last : goal.returns-clause-last

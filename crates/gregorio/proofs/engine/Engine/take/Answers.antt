@@ -1,7 +1,7 @@
-use Rattle.std.proofs.Common.{option_to_list, ap, sym, ◌∙◌, ◌∷◌}
+use Rattle.std.proofs.Common.{option_to_list, ap, sym, ◌∙◌, ◌∷◌, arith}
 use Rattle.gregorio.specs.witness.Engine.{EngineState, streams_left}
 use Rattle.gregorio.specs.machine.Engine.{IsEmpty}
-use Rattle.gregorio.proofs.pieces.BytesAreTaken.{byte_taken}
+use Rattle.gregorio.proofs.pieces.BytesAreTaken.{byte_taken, still_reserved}
 use Rattle.gregorio.proofs.engine.Engine.take.Goals as goal
 
 pub read_decoded-requires-clause-empty : goal.read_decoded-requires-clause-empty
@@ -23,3 +23,17 @@ returns-clause-law c =
 
 pub returns-clause-format : goal.returns-clause-format
 returns-clause-format c = c.read_decoded.ensures.steady.format ∙ ap (λ (s : EngineState). s.written.format) c.self.view_is
+
+pub invariant_of-self : goal.invariant_of-self
+invariant_of-self c =
+    let was = c.self.invariant.step in
+    let stay = c.read_decoded.ensures.step in
+    record {
+      few = omega (arith, c.read_decoded.ensures.few, c.self.invariant.few);
+      together = c.read_decoded.ensures.together;
+      reserved = still_reserved c.self.inside.writer c.read_decoded.new.writer c.read_decoded.ensures.steady c.self.invariant.reserved;
+      step = record {
+        force = stay.force was.force;
+        runs = λ running. stay.runs c.self.inside.decoder c.take-item.new.self c.take-item.ensures.moves was.runs running;
+      };
+    }

@@ -1,17 +1,29 @@
-use Rattle.std.proofs.Common.{take, ◌++◌, List, ℕ, ap, sym, subst, ◌∙◌}
+use Rattle.std.proofs.Common.{length, take, ◌++◌, List, ℕ, ap, sym, subst, ◌∙◌}
 use Rattle.gabc_places.specs.declared.place.Place.{Place}
 use Rattle.gregorio.specs.witness.Engine.{EngineState, streams_left}
 use Rattle.gregorio.specs.machine.RunWriter.{RunWriterState}
 use Rattle.gregorio.specs.machine.ScoreWriter.{WritesNothing}
 use Rattle.gregorio.proofs.pieces.BytesAreTaken.{still_reserved}
 use Rattle.gregorio.proofs.pieces.FrontIsTaken.{front_is_taken, front_of_front, still_steady, still_together}
+use Rattle.gregorio.specs.machine.InStep.{IsInStep}
+use Rattle.gregorio.proofs.pieces.PartsStayInStep.{Skips, front_in_step}
 use Rattle.gregorio.proofs.engine.Engine.take_front.Goals as goal
 
 pub invariant_of-self : goal.invariant_of-self
-invariant_of-self c = record {
+invariant_of-self c =
+    let d = c.self.inside.decoder in
+    let w = c.self.inside.writer in
+    let new = c.take_front-count.new.self in
+    let count = c.take_front-count.result in
+    let front = take count (take c.min-most.result c.args.piece.now) in
+    let writes : WritesNothing w d.place front new = subst (λ (at : Place). WritesNothing w at front new) c.place.ensures.place c.take_front-count.ensures.writes in
+    let skips : Skips d (length front) c.skip.new.self = record { limit = c.skip.ensures.limit; taken = c.skip.ensures.taken; line = c.skip.ensures.line; column = c.skip.ensures.column; runs = c.skip.ensures.runs } in
+  record {
   few = c.self.invariant.few;
   together = still_together c.self.inside.writer c.take_front-count.new.self _ _ c.take_front-count.ensures.writes c.self.inside.heads c.self.invariant.together;
   reserved = still_reserved c.self.inside.writer c.take_front-count.new.self (still_steady _ _ _ _ c.take_front-count.ensures.writes) c.self.invariant.reserved;
+  step = subst (λ (v : RunWriterState). IsInStep c.skip.new.self c.self.inside.heads new.score v.written) (sym writes.writer)
+      (front_in_step d c.skip.new.self c.self.inside.heads w.score new.score w.writer.written (length front) skips writes.limits writes.part writes.before_held writes.counts c.self.invariant.step);
 }
 
 pub returns-clause-law : goal.returns-clause-law

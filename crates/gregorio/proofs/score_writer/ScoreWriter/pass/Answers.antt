@@ -3,7 +3,7 @@ use Rattle.gabc_places.specs.BoundedList.{BoundedList}
 use Rattle.gabc_score.specs.declared.score_event.ScoreEvent.{ScoreEvent}
 use Rattle.gregorio.specs.machine.RunWriter.{RunWriterState}
 use Rattle.gregorio.specs.machine.ScoreWriter.{ScoreWriterState, outputs_of_events}
-use Rattle.gregorio.proofs.AnEventIsWritten.{event_keeps_room, event_writes, room_for_event, silent_behind}
+use Rattle.gregorio.proofs.AnEventIsWritten.{event_keeps_room, event_writes, passes_on, room_for_event, silent_behind}
 use Rattle.gregorio.proofs.StreamsOfOutputs.{headed_stays}
 use Rattle.gregorio.proofs.score_writer.ScoreWriter.pass.Goals as goal
 
@@ -18,6 +18,12 @@ returns-clause-writes c =
     let i = c.self.inside in
     event_writes i.score c.push.new.self i.writer c.args.self.now c.self.view_is c.args.event i.events c.clear.new.self c.push.new.out c.clear.ensures c.slice.result.now c.slice.ensures c.push.ensures.step c.push.ensures.end
     c.write_events.new.writer c.write_events.ensures.writes c.requires.heads
+
+pub returns-clause-passes : goal.returns-clause-passes
+returns-clause-passes c =
+    let i = c.self.inside in
+    passes_on i.score c.push.new.self i.writer c.args.self.now c.self.view_is c.args.event i.events c.clear.new.self c.push.new.out c.clear.ensures c.slice.result.now c.slice.ensures c.push.ensures.step c.push.ensures.end
+    c.write_events.new.writer c.write_events.ensures.writes
 
 pub returns-clause-room : goal.returns-clause-room
 returns-clause-room c =

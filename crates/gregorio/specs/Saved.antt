@@ -1,0 +1,88 @@
+-- The state that an engine saves, field by field.
+use Rattle.std.specs.Prelude.{◌≡◌, ℕ, ◌+◌, ◌≤◌, ◌==◌, ◌||◌, List, [], length, Option, Some, None, encode_utf8_all}
+use Rattle.gabc_headers.specs.witness.HeadEvents.{HeadProgress, reading, behind, over}
+use Rattle.gabc_neumes.specs.InForce.{InForce, nothing_in_force}
+use Rattle.gabc_places.specs.DecoderTells.{MayBeTold, is_after_cr}
+use Rattle.gabc_places.specs.Limits.{AreLimits}
+use Rattle.gabc_score.specs.Canonical.{canonical}
+use Rattle.gabc_score.specs.ScoreTells.{held_of, is_in_comment, openers_of, reading_of}
+use Rattle.gabc_score.specs.Syllable.{UnplacedSyllable}
+use Rattle.gabc_score.specs.declared.before.Preceding.{Preceding}
+use Rattle.gabc_score.specs.witness.ScoreStage.{ScoreStageState}
+use Rattle.gregorio_state.specs.Fields.{PhaseFields, ScoreFields, StateFields, InHeaders, InScore}
+use Rattle.gregorio_jobs.specs.declared.job.Format.{Format}
+use Rattle.gregorio_jobs.specs.declared.job.Format.TheVariants.{Gabc}
+use Rattle.gregorio.specs.witness.Engine.{EngineState}
+
+-- how many syllables are held
+abbrev pub held_count : Option UnplacedSyllable → ℕ
+held_count None = 0
+held_count (Some m) = 1
+
+-- the canonical text of the syllable that is held behind these: the first one begins a word
+abbrev pub held_text : Preceding → Option UnplacedSyllable → List ℕ
+held_text p None = []
+held_text p (Some m) = canonical ((p.syllables == 0) || m.text.word_start) m
+
+-- what a stage over a score tells in the body, where this is in force before the syllable that is held
+abbrev pub score_fields : InForce → ScoreStageState → ScoreFields
+score_fields force s =
+    let text = held_text s.before (held_of s) in
+    record {
+      nabc_lines = s.body.nabc_lines;
+      macros = s.body.macros;
+      syllables = s.before.syllables + held_count (held_of s);
+      canonical = s.before.canonical + length text;
+      in_eu = s.before.spans.eu;
+      in_nlba = s.before.spans.nlba;
+      sounded = s.before.sounded;
+      in_force = force;
+      held = text;
+      in_comment = is_in_comment s.body.part;
+      notes_opener = (openers_of s.body.part).notes;
+      inner_opener = (openers_of s.body.part).inner;
+      kept = reading_of s;
+    }
+
+-- in the headers their text so far
+abbrev pub phase_fields : HeadProgress → InForce → ScoreStageState → PhaseFields
+phase_fields (reading t) force s = InHeaders (encode_utf8_all t)
+phase_fields (behind book) force s = InScore (score_fields force s)
+phase_fields over force s = InScore (score_fields force s)
+
+-- the state of an engine that runs, and of which nothing waits
+abbrev pub state_of : EngineState → StateFields
+state_of e = record {
+  format = e.written.format;
+  all_warnings = e.written.all_warnings;
+  header_limit = e.score.limits.header;
+  syllable_limit = e.score.limits.syllable;
+  input_limit = e.score.limits.input;
+  taken = e.decoder.taken;
+  place = e.decoder.place;
+  pending = e.decoder.pending;
+  after_cr = is_after_cr e.decoder;
+  has_error = e.written.errors;
+  phase = phase_fields e.heads.progress e.written.force e.score;
+}
+
+-- no more syllables are whole than bytes were taken
+abbrev pub AreSyllablesWithin : ℕ → PhaseFields → Type 0
+AreSyllablesWithin taken (InHeaders text) = Unit {0}
+AreSyllablesWithin taken (InScore f) = f.syllables ≤ taken
+
+-- What is in force is tracked for a dump alone, and before the first syllable nothing is.
+pub record IsForceBefore (format : Format) (f : ScoreFields) : Type 0 where
+  pub untracked : format ≡ Gabc → f.in_force ≡ nothing_in_force
+  pub outset : f.syllables ≡ 0 → f.in_force ≡ nothing_in_force
+
+abbrev pub IsForceIn : Format → PhaseFields → Type 0
+IsForceIn format (InHeaders text) = Unit {0}
+IsForceIn format (InScore f) = IsForceBefore format f
+
+-- The part of a state that hangs on what comes before it: the limits, what its decoder tells, how many syllables there are, and what is in force.
+pub record IsStateOfInput (s : StateFields) : Type 0 where
+  pub limits : AreLimits s.header_limit s.syllable_limit s.input_limit
+  pub decoder : MayBeTold s.input_limit s.taken s.place s.pending s.after_cr
+  pub syllables : AreSyllablesWithin s.taken s.phase
+  pub force : IsForceIn s.format s.phase

@@ -1,0 +1,76 @@
+-- How the parts of an engine stand together while it runs.
+use Rattle.std.specs.Prelude.{◌≡◌, ℕ, ◌+◌, ◌≤◌, List, [], ◌∷◌, length, Bool, true, false, is_none, Result}
+use Rattle.std.specs.List.{list_any}
+use Rattle.gabc_places.specs.DecoderMachine.{DecoderState}
+use Rattle.gabc_places.specs.DecoderTells.{MovesOn}
+use Rattle.gabc_places.specs.declared.code.Fault.{Fault}
+use Rattle.gabc_places.specs.declared.place.Char.{Char}
+use Rattle.gabc_places.specs.declared.place.Place.{Place}
+use Rattle.gabc_headers.specs.declared.head_event.HeadEvent.{HeadEvent}
+use Rattle.gabc_headers.specs.witness.HeadEvents.{HeaderStageState, HeadProgress, reading, behind}
+use Rattle.gabc_neumes.specs.InForce.{nothing_in_force}
+use Rattle.gabc_score.specs.declared.score_machine.ScorePart.{ScorePart}
+use Rattle.gabc_score.specs.declared.score_machine.ScorePart.TheVariants as score_part
+use Rattle.gabc_score.specs.ScoreEvents.{ScoreOutput, is_last, syllables_in}
+use Rattle.gabc_score.specs.ScoreStage.{Counts, StandsHere, is_final, most_lent, part_past, place_behind, preceding_past}
+use Rattle.gabc_score.specs.witness.ScoreStage.{ScoreStageState}
+use Rattle.gregorio.specs.witness.Engine.{Written, behind_heads, behind_outputs, writes_heads}
+use Rattle.gregorio.specs.machine.ScoreWriter.{ScoreWriterState}
+use Rattle.gregorio_jobs.specs.declared.job.Format.TheVariants.{Gabc}
+
+-- ---- a call
+
+-- At an event the score gave these, and what is written is what stands behind them.
+pub record PassesOn (old : ScoreStageState) (w : Written) (x : HeadEvent) (new : ScoreWriterState) : Type 0 where
+  pub outputs : List ScoreOutput
+  pub few : length (syllables_in outputs) ≤ most_lent x
+  pub part : new.score.part ≡ part_past old.part x outputs
+  pub last : (old.part ≡ score_part.Over → ⊥) → is_final x ≡ true → list_any is_last outputs ≡ true
+  pub before_held : new.score.part ≡ score_part.Body → new.score.before ≡ preceding_past old.part x outputs old.before
+  pub counts : (place : Place) → StandsHere x place → Counts place old → Counts (place_behind x place) new.score
+  pub written : new.writer.written ≡ behind_outputs w outputs
+
+-- what is written where the headers are, if they are at this event
+abbrev pub written_at : Written → HeadEvent → Written
+written_at w x = behind_heads w (writes_heads w x)
+
+-- it does so at each of these
+abbrev pub PassesAll : ScoreWriterState → List HeadEvent → ScoreWriterState → Type 0
+PassesAll old [] new = old ≡ new
+PassesAll old (x ∷ events) new = (mid : ScoreWriterState) × (PassesOn old.score (written_at old.writer.written x) x mid × PassesAll mid events new)
+
+-- ---- between two calls
+
+-- both are in the headers, which are not written, or both in the body, and they are
+abbrev pub AreInOnePart : HeadProgress → ScorePart → Bool → Type 0
+AreInOnePart (reading t) score_part.Heads headed = headed ≡ false
+AreInOnePart (behind book) score_part.Body headed = headed ≡ true
+AreInOnePart progress part headed = ⊥
+
+-- An engine that runs: its decoder does, its stages are in one part, as many syllables are written as stand before the one that is held, and more
+-- bytes are taken. In the body a text has counted the place where the decoder stands.
+pub record RunsInStep (d : DecoderState) (h : HeaderStageState) (s : ScoreStageState) (w : Written) : Type 0 where
+  pub runs : d.running ≡ true
+  pub limit : d.limit ≡ s.limits.input
+  pub parts : AreInOnePart h.progress s.part w.headed
+  pub none : w.headed ≡ false → w.count ≡ 0
+  pub count : w.headed ≡ true → w.count ≡ s.before.syllables
+  pub taken : w.headed ≡ true → s.before.syllables + 1 ≤ d.taken
+  pub column : 1 ≤ d.place.column
+  pub near : d.place.line + d.place.column ≤ d.taken + 2
+  pub counts : d.taken ≤ d.limit → Counts d.place s
+
+-- what is in force is tracked for a dump alone, and before the first syllable nothing is
+pub record HasForce (w : Written) : Type 0 where
+  pub untracked : w.format ≡ Gabc → w.force ≡ nothing_in_force
+  pub outset : w.count ≡ 0 → w.force ≡ nothing_in_force
+
+pub record IsInStep (d : DecoderState) (h : HeaderStageState) (s : ScoreStageState) (w : Written) : Type 0 where
+  pub force : HasForce w
+  pub runs : is_none w.ended ≡ true → RunsInStep d h s w
+
+-- At these items they stay in step, if the decoder moves on with them.
+pub record StayInStep (h : HeaderStageState) (old : ScoreWriterState) (items : List (Result Char Fault)) (now : HeaderStageState) (new : ScoreWriterState) : Type 0 where
+  pub force : HasForce old.writer.written → HasForce new.writer.written
+  pub runs : (d e : DecoderState) → MovesOn d items e → (is_none old.writer.written.ended ≡ true → RunsInStep d h old.score old.writer.written) → is_none new.writer.written.ended ≡ true
+      → RunsInStep e now new.score new.writer.written
