@@ -37,7 +37,3 @@ leads_out part new x outputs o body over e = over ∙ (over_by x (outputs ++ o �
 -- findings and syllables leave it there
 pub stays_inside : (part new : ScorePart) (x : HeadEvent) (fs : List Finding) (ss : List PlacedSyllable) → part ≡ score_part.Body → new ≡ score_part.Body → new ≡ part_past part x (outputs_of fs ss)
 stays_inside part new x fs ss body is = is ∙ (body_by x (outputs_of fs ss) (none_is_last fs ss) ∙ ap (λ (p : ScorePart). part_past p x (outputs_of fs ss)) (sym body))
-
--- behind the last event it stays
-pub over_stays : (part : ScorePart) (x : HeadEvent) (outputs : List ScoreOutput) → part ≡ score_part.Over → part ≡ part_past part x outputs
-over_stays part x outputs over = rw over refl

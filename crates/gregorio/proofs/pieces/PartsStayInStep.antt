@@ -21,7 +21,6 @@ use Rattle.gabc_headers.specs.HeadEvents.{event_of_book}
 use Rattle.gabc_headers.specs.Book.{nabc_lines_of, macros_of}
 use Rattle.gabc_headers.specs.Canonical.{canonical_heads}
 use Rattle.gabc_headers.specs.Lines.{bytes_len}
-use Rattle.gabc_neumes.specs.InForce.{InForce, nothing_in_force}
 use Rattle.gabc_score.specs.declared.before.Preceding.{Preceding}
 use Rattle.gabc_score.specs.declared.score_machine.ScorePart.{ScorePart}
 use Rattle.gabc_score.specs.declared.score_machine.ScorePart.TheVariants as score_part
@@ -31,7 +30,6 @@ use Rattle.gabc_score.specs.ScoreStage.{Counts, behind_front, part_past, precedi
 use Rattle.gabc_score.specs.Syllable.{PlacedSyllable}
 use Rattle.gabc_score.specs.witness.ScoreStage.{ScoreStageState}
 use Rattle.gregorio_jobs.specs.declared.job.Format.{Format}
-use Rattle.gregorio_jobs.specs.declared.job.Format.TheVariants.{Gabc}
 use Rattle.gregorio_jobs.specs.declared.job.Job.{Job}
 use Rattle.gregorio_jobs.specs.declared.job.Status.{Status}
 use Rattle.gregorio.specs.Streams.{force_behind, next_number}
@@ -493,16 +491,16 @@ pub fresh_in_step : (job : Job) (limits : Limits) (d : DecoderState) (h : Header
 fresh_in_step job limits d h s is_d is_h is_w is_limits heads = record {
   force = subst HasForce (sym is_w) (fresh_force job);
   runs = λ running. record {
-      runs = ap (λ (x : DecoderState). x.running) is_d;
-      limit = limit ∙ ap (λ (l : Limits). l.input) (sym is_limits);
-      parts = parts s.score.part heads;
-      none = λ un. ap (λ (w : Written). w.count) is_w;
-      count = λ is. absurd (false≢true (sym unheaded ∙ is));
-      taken = λ is. absurd (false≢true (sym unheaded ∙ is));
-      column = let c = ap (λ (x : DecoderState). x.place.column) is_d in omega (arith, c);
-      near = let l = ap (λ (x : DecoderState). x.place.line) is_d in let c = ap (λ (x : DecoderState). x.place.column) is_d in omega (arith, l, c);
-      counts = λ within body. absurd (cc (body, heads));
-    };
+    runs = ap (λ (x : DecoderState). x.running) is_d;
+    limit = limit ∙ ap (λ (l : Limits). l.input) (sym is_limits);
+    parts = parts s.score.part heads;
+    none = λ un. ap (λ (w : Written). w.count) is_w;
+    count = λ is. absurd (false≢true (sym unheaded ∙ is));
+    taken = λ is. absurd (false≢true (sym unheaded ∙ is));
+    column = let c = ap (λ (x : DecoderState). x.place.column) is_d in omega (arith, c);
+    near = let l = ap (λ (x : DecoderState). x.place.line) is_d in let c = ap (λ (x : DecoderState). x.place.column) is_d in omega (arith, l, c);
+    counts = λ within body. absurd (cc (body, heads));
+  };
 }
   where
     limit : d.limit ≡ limits.input

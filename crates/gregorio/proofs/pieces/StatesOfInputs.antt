@@ -1,5 +1,5 @@
 -- What the state of an engine that runs says of its input.
-use Rattle.std.proofs.Common.{◌≡◌, ℕ, ◌+◌, ◌≤◌, List, Bool, true, Option, Some, None, refl, ap, sym, subst, ◌∙◌, arith}
+use Rattle.std.proofs.Common.{◌≡◌, ℕ, ◌≤◌, List, Bool, true, Option, Some, None, refl, subst, arith}
 use Rattle.gabc_places.specs.DecoderTells.{MayBeTold, is_after_cr}
 use Rattle.gabc_headers.specs.witness.HeadEvents.{HeadProgress, reading, behind, over}
 use Rattle.gabc_score.specs.declared.score_machine.ScorePart.{ScorePart}

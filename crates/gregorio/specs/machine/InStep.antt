@@ -1,5 +1,5 @@
 -- How the parts of an engine stand together while it runs.
-use Rattle.std.specs.Prelude.{◌≡◌, ℕ, ◌+◌, ◌≤◌, List, [], ◌∷◌, length, Bool, true, false, is_none, Result}
+use Rattle.std.specs.Prelude.{◌≡◌, ◌+◌, ◌≤◌, List, [], ◌∷◌, length, Bool, true, false, is_none, Result}
 use Rattle.std.specs.List.{list_any}
 use Rattle.gabc_places.specs.DecoderMachine.{DecoderState}
 use Rattle.gabc_places.specs.DecoderTells.{MovesOn}

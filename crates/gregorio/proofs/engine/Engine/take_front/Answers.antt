@@ -18,13 +18,13 @@ invariant_of-self c =
     let front = take count (take c.min-most.result c.args.piece.now) in
     let writes : WritesNothing w d.place front new = subst (λ (at : Place). WritesNothing w at front new) c.place.ensures.place c.take_front-count.ensures.writes in
     let skips : Skips d (length front) c.skip.new.self = record { limit = c.skip.ensures.limit; taken = c.skip.ensures.taken; line = c.skip.ensures.line; column = c.skip.ensures.column; runs = c.skip.ensures.runs } in
-  record {
-  few = c.self.invariant.few;
-  together = still_together c.self.inside.writer c.take_front-count.new.self _ _ c.take_front-count.ensures.writes c.self.inside.heads c.self.invariant.together;
-  reserved = still_reserved c.self.inside.writer c.take_front-count.new.self (still_steady _ _ _ _ c.take_front-count.ensures.writes) c.self.invariant.reserved;
-  step = subst (λ (v : RunWriterState). IsInStep c.skip.new.self c.self.inside.heads new.score v.written) (sym writes.writer)
-      (front_in_step d c.skip.new.self c.self.inside.heads w.score new.score w.writer.written (length front) skips writes.limits writes.part writes.before_held writes.counts c.self.invariant.step);
-}
+    record {
+      few = c.self.invariant.few;
+      together = still_together c.self.inside.writer c.take_front-count.new.self _ _ c.take_front-count.ensures.writes c.self.inside.heads c.self.invariant.together;
+      reserved = still_reserved c.self.inside.writer c.take_front-count.new.self (still_steady _ _ _ _ c.take_front-count.ensures.writes) c.self.invariant.reserved;
+      step = subst (λ (v : RunWriterState). IsInStep c.skip.new.self c.self.inside.heads new.score v.written) (sym writes.writer)
+          (front_in_step d c.skip.new.self c.self.inside.heads w.score new.score w.writer.written (length front) skips writes.limits writes.part writes.before_held writes.counts c.self.invariant.step);
+    }
 
 pub returns-clause-law : goal.returns-clause-law
 returns-clause-law c = λ bytes ending.
