@@ -41,7 +41,7 @@ held_begins : (p : ScorePart) (made : List UnplacedSyllable) (m : UnplacedSyllab
 held_begins score_part.Heads made m e = absurd (cc e)
 held_begins score_part.Over made m e = absurd (cc e)
 held_begins score_part.Body [] m e = absurd (cc e)
-held_begins score_part.Body (x ∷ xs) m e = (refl, λ h. subst BeginsWord (cc e) (All-head BeginsWord x xs h))
+held_begins score_part.Body (x ∷ xs) m e = let same : x ≡ m = cc e in (refl, λ h. subst BeginsWord same (All-head BeginsWord x xs h))
 
 -- the first syllable that is held begins a word
 pub begins_at_first : (s : ScoreStageState) (m : UnplacedSyllable) → held_of s ≡ Some m → TellsOfText s → s.before.syllables ≡ 0 → BeginsWord m
