@@ -1,10 +1,10 @@
 -- The numbers that the headers of a book give are in range.
-use Rattle.std.proofs.Common.{◌≡◌, ℕ, zero, suc, ◌+◌, ◌*◌, ◌^◌, ◌<◌, ◌≤◌, Bool, true, false, List, [], ◌∷◌, length, bytes_eq, codes, Option, Some, None, refl, sym, ap, subst, ◌∙◌, arith, if◌then◌else◌}
+use Rattle.std.proofs.Common.{◌≡◌, ℕ, zero, suc, ◌*◌, ◌^◌, ◌<◌, ◌≤◌, Bool, true, false, List, [], bytes_eq, codes, Option, Some, None, refl, sym, subst, arith, if◌then◌else◌}
 use Rattle.std.specs.List.{position}
 use Rattle.std.specs.Option.{unwrap_or}
 use Rattle.std.proofs.lemmas.List.Quantifiers.{position-Some}
 use Rattle.std.proofs.Math.Nat.{pow-suc}
-use Rattle.gabc_headers.specs.Book.{has_header, lines_by, macro_bit, macro_name, macros_below, macros_of, nabc_lines_of, nabc_values, value_named}
+use Rattle.gabc_headers.specs.Book.{has_header, lines_by, macro_name, macros_below, macros_of, nabc_lines_of, nabc_values, value_named}
 use Rattle.gabc_headers.specs.Canonical.{canonical_heads}
 use Rattle.gabc_headers.specs.Lines.{bytes_len}
 use Rattle.gabc_headers.specs.NabcLines.{values_in_range}

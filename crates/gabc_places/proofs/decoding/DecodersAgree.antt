@@ -1,5 +1,5 @@
 -- Of the character before, a decoder needs to know no more than whether it is a CR directly before the next byte.
-use Rattle.std.proofs.Common.{◌≡◌, ℕ, not, ◌&&◌, ◌||◌, ◌==◌, ◌+◌, ◌-◌, ◌<◌, Bool, true, false, cond, List, [], ◌∷◌, ◌++◌, length, take, refl, ap, sym, ◌∙◌, subst, arith, length-append, Result, Ok, Err, if◌then◌else◌}
+use Rattle.std.proofs.Common.{◌≡◌, ℕ, not, ◌&&◌, ◌||◌, ◌==◌, ◌+◌, ◌-◌, Bool, true, false, List, [], ◌∷◌, ◌++◌, length, take, refl, ap, sym, ◌∙◌, arith, length-append, Result, Ok, if◌then◌else◌}
 use Rattle.std.proofs.lemmas.Bool.{eqb-true}
 use Rattle.std.proofs.Math.Seq.{take-append_seam}
 use Rattle.std.specs.Char.{len_utf8}
@@ -14,7 +14,7 @@ use Rattle.gabc_places.specs.declared.place.Char.{Char}
 use Rattle.gabc_places.specs.declared.place.Place.{Place}
 use Rattle.gabc_places.specs.Text.{utf8_prefix_of, tail_of, is_left_out, is_shown, read_as}
 use Rattle.gabc_places.specs.DecoderMachine.{DecoderState, IsPartial, is_unfinished}
-use Rattle.gabc_places.specs.witness.DecoderEvents.{DecoderStep, stop_with, take_character, take_pending, take_byte, take_end, events_left}
+use Rattle.gabc_places.specs.witness.DecoderEvents.{DecoderStep, stop_with, take_character, take_pending, take_end, events_left}
 use Rattle.gabc_places.specs.DecoderTells.{TellTheSame}
 use Rattle.gabc_places.specs.Place.{next_place}
 use Rattle.gabc_places.proofs.utf8.PartOfACharacter.{nothing_is_partial, part_is, character_is}

@@ -1,5 +1,5 @@
 -- Which spans are open behind the parts of a kept text: those that the tags of its text leave open.
-use Rattle.std.proofs.Common.{◌≡◌, ℕ, ◌-◌, ◌<◌, ◌^◌, Bool, List, [], ◌∷◌, ◌++◌, codes, refl, ap, sym, ◌∙◌, arith}
+use Rattle.std.proofs.Common.{◌≡◌, ℕ, Bool, List, [], ◌∷◌, ◌++◌, codes, refl, ap, sym, ◌∙◌, arith}
 use lib.Utf8.{encode}
 use Rattle.gabc_text.specs.Events.{events_of}
 use Rattle.gabc_text.specs.declared.text_event.TextEnd.TheVariants as text_end
@@ -8,17 +8,15 @@ use Rattle.gabc_text.specs.declared.text_event.TextEvent.TheVariants as text
 use Rattle.gabc_text.specs.declared.text_event.TextPart.TheVariants as part
 use Rattle.gabc_text.specs.witness.Keeps.{said, said_of, said_at_end}
 use Rattle.gabc_text.specs.witness.SaidInFull.{IsSaidInFull}
-use Rattle.gabc_notes.specs.declared.stage.NoteEnd.TheVariants.{Next}
-use Rattle.gabc_notes.specs.declared.stage.NoteEvent.TheVariants.{Kept, Ended}
+use Rattle.gabc_notes.specs.declared.stage.NoteEvent.TheVariants.{Kept}
 use Rattle.gabc_score.specs.declared.before.Spans.{Spans}
 use Rattle.gabc_score.specs.declared.events.BodyEvent.{BodyEvent}
 use Rattle.gabc_score.specs.declared.events.BodyEvent.TheVariants.{Text, Notes}
 use Rattle.gabc_score.specs.Body.{events_onto}
 use Rattle.gabc_score.specs.Events.{next_line}
-use Rattle.gabc_score.specs.Syllable.{all_syllables, since_close, part_of, ended_parts_of, slice, is_open, is_open_after, is_eu, is_nlba}
+use Rattle.gabc_score.specs.Syllable.{all_syllables, since_close, part_of, ended_parts_of, slice, is_open, is_open_after}
 use Rattle.gabc_score.specs.SyllablesOfUnits.{span_tags}
 use Rattle.gabc_score.specs.machine.BodyBuilder.{with_all}
-use Rattle.gabc_score.specs.machine.Gatherer.{Gathered}
 use Rattle.gabc_score.specs.machine.PartKeeps.{in_notes, line_behind, kept_char, text_events, snippet_events, ended_events, earlier_events, events_before, said_by, begun}
 use Rattle.gabc_score.proofs.building.BuilderHoldsDefinition.{gathered}
 use Rattle.gabc_score.proofs.building.EventsOfSyllableParts.{onto_append, text_emitted}

@@ -1,5 +1,5 @@
 -- What a machine gives at a character, where no syllable is given.
-use Rattle.std.proofs.Common.{◌≡◌, ◌⊎◌, inl, inr, ℕ, ◌+◌, ◌-◌, ◌≤◌, ◌||◌, ◌&&◌, ◌++◌, not, nat_lt, Bool, true, false, List, [], ◌∷◌, length, length-append, take, drop, Option, Some, None, is_some, refl, sym, ap, ◌∙◌, arith}
+use Rattle.std.proofs.Common.{◌≡◌, ◌⊎◌, inl, inr, ℕ, ◌-◌, ◌≤◌, ◌||◌, ◌&&◌, ◌++◌, not, nat_lt, Bool, true, false, List, [], ◌∷◌, length, length-append, take, drop, Option, Some, None, is_some, refl, sym, ap, ◌∙◌, arith}
 use Rattle.std.specs.List.{list_any}
 use Rattle.std.proofs.lemmas.List.Folds.{list_any-append}
 use Rattle.std.proofs.lemmas.Bool.{true≢false}
@@ -25,7 +25,7 @@ use Rattle.gabc_score.specs.machine.BodyBuilder.{with_all, with_found, code_in}
 use Rattle.gabc_score.specs.machine.Gatherer.{Gathered}
 use Rattle.gabc_score.specs.machine.Preceded.{before_past, past_point}
 use Rattle.gabc_score.specs.machine.PartPushes.{ClosesLast}
-use Rattle.gabc_score.specs.machine.ReadAlone.{is_error, is_error_event, is_fine, Reads, ReadsAlone}
+use Rattle.gabc_score.specs.machine.ReadAlone.{is_error, is_error_event, Reads, ReadsAlone}
 use Rattle.gabc_score.specs.machine.ScoreStage.{placed_behind, with_held}
 use Rattle.gabc_score.specs.machine.SyllableBuilder.{nothing_open}
 use Rattle.gabc_score.proofs.score_events.WhatPrecedes.{Closed, same_or_closed}

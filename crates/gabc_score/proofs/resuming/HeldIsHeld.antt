@@ -1,10 +1,8 @@
 -- A machine that begins a text and holds nothing reads a text by itself as the definition says.
-use Rattle.std.proofs.Common.{◌≡◌, ℕ, ◌+◌, ◌<◌, ◌≤◌, ◌^◌, nat_lt, Bool, true, false, List, [], ◌∷◌, length, take, encode_utf8_all, Option, Some, None, refl, sym, ap, subst, ◌∙◌, arith}
-use Rattle.std.proofs.lemmas.Bool.{true≢false}
+use Rattle.std.proofs.Common.{◌≡◌, ℕ, ◌≤◌, nat_lt, true, List, [], ◌∷◌, length, take, None, refl, sym, ap, ◌∙◌, arith}
 use Rattle.std.proofs.lemmas.List.{length-take-le}
 use Rattle.gabc_places.specs.Place.{placed_characters_from}
 use Rattle.gabc_places.specs.StageLaw.{concat_of}
-use Rattle.gabc_places.specs.declared.place.Char.{Char}
 use Rattle.gabc_places.specs.declared.place.Place.{Place}
 use Rattle.gabc_places.proofs.PlacesOfAText.{length_placed}
 use Rattle.gabc_text.specs.Events.{CountsFit}
@@ -12,7 +10,6 @@ use Rattle.gabc_text.specs.TextStage.{fresh_stage}
 use Rattle.gabc_score.specs.declared.before.Before.{Before}
 use Rattle.gabc_score.specs.declared.before.Preceding.{Preceding}
 use Rattle.gabc_score.specs.declared.body_stage.BodyPart.TheVariants.{Text}
-use Rattle.gabc_score.specs.declared.events.BodyEvent.{BodyEvent}
 use Rattle.gabc_score.specs.declared.score_machine.ScoreMachine.{ScoreMachine}
 use Rattle.gabc_score.specs.declared.score_machine.ScorePart.{ScorePart}
 use Rattle.gabc_score.specs.declared.score_machine.ScorePart.TheVariants as score_part
@@ -28,7 +25,6 @@ use Rattle.gabc_score.specs.machine.Gatherer.{Gathered}
 use Rattle.gabc_score.specs.machine.PartKeeps.{begun, ReadAlike}
 use Rattle.gabc_score.specs.machine.ReadAlone.{is_alone, lists_of}
 use Rattle.gabc_score.specs.machine.ScoreMachine.{shown, IsInBody}
-use Rattle.gabc_score.specs.machine.SyllableBuilder.{nothing_open}
 use Rattle.gabc_score.specs.witness.BodyStage.{BodyStageState, part_with, running_events_left, texts_by_stage}
 use Rattle.gabc_score.proofs.building.OneListEachCharacter.{events_each}
 use Rattle.gabc_score.proofs.resuming.HeldIsRead.{found, alone}

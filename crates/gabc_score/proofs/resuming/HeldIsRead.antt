@@ -1,5 +1,5 @@
 -- A text that is read by itself is one syllable exactly where reading it one character after the other finds one.
-use Rattle.std.proofs.Common.{◌≡◌, ℕ, zero, suc, ◌+◌, ◌-◌, ◌<◌, ◌≤◌, ◌^◌, ◌||◌, ◌&&◌, ◌==◌, not, min, nat_lt, Bool, true, false, cond, List, [], ◌∷◌, ◌++◌, length, take, take_all, take-take, Option, Some, None, is_some, refl, sym, ap, subst, ◌∙◌, arith, append-nil}
+use Rattle.std.proofs.Common.{◌≡◌, ℕ, zero, suc, ◌+◌, ◌-◌, ◌<◌, ◌≤◌, ◌^◌, ◌||◌, ◌&&◌, not, min, nat_lt, Bool, true, false, cond, List, [], ◌∷◌, ◌++◌, length, take, take_all, take-take, Option, Some, None, is_some, refl, sym, ap, subst, ◌∙◌, arith, append-nil}
 use Rattle.std.proofs.lemmas.Bool.{true≢false}
 use Rattle.std.proofs.lemmas.Bool.Decides.{nat_tests}
 use Rattle.std.proofs.lemmas.List.{append_cancel_left}
@@ -23,7 +23,7 @@ use Rattle.gabc_score.specs.Canonical.{canonical}
 use Rattle.gabc_score.specs.Events.{texts_by_definition, text_from, events_from}
 use Rattle.gabc_score.specs.Before.{preceding_of}
 use Rattle.gabc_score.specs.ToldWithin.{written_behind}
-use Rattle.gabc_score.specs.HeldAgain.{LeavesOpen, emitted_first, emitted_behind, IsOneSyllable, MayBeHeld}
+use Rattle.gabc_score.specs.HeldAgain.{LeavesOpen, emitted_first, emitted_behind, MayBeHeld}
 use Rattle.gabc_score.specs.ScoreEvents.{findings_now, first_place}
 use Rattle.gabc_score.specs.Syllable.{UnplacedSyllable, all_syllables, since_close, kept_of}
 use Rattle.gabc_score.specs.machine.BodyBuilder.{with_all, code_in}

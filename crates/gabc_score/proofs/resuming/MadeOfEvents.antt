@@ -1,5 +1,5 @@
 -- What is made of events, behind whatever was emitted before: the syllables, and what they count.
-use Rattle.std.proofs.Common.{◌≡◌, ℕ, ◌+◌, ◌-◌, ◌<◌, ◌^◌, ◌||◌, not, min, nat_lt, Bool, true, false, List, [], ◌∷◌, ◌++◌, length, refl, sym, ap, subst, ◌∙◌, append_assoc, append-nil}
+use Rattle.std.proofs.Common.{◌≡◌, ℕ, ◌+◌, ◌-◌, ◌<◌, ◌^◌, ◌||◌, not, min, nat_lt, Bool, List, [], ◌∷◌, ◌++◌, length, refl, sym, ap, subst, ◌∙◌, append_assoc, append-nil}
 use Rattle.gabc_text.specs.declared.text_event.TextEnd.TheVariants as text_end
 use Rattle.gabc_text.specs.declared.text_event.TextEvent.TheVariants as text
 use Rattle.gabc_text.specs.declared.text_event.TextPart.{TextPart}
@@ -12,7 +12,7 @@ use Rattle.gabc_score.specs.declared.events.BodyEvent.TheVariants as event
 use Rattle.gabc_score.specs.Body.{is_longer, events_onto}
 use Rattle.gabc_score.specs.Canonical.{canonical}
 use Rattle.gabc_score.specs.HeldAgain.{LeavesOpen}
-use Rattle.gabc_score.specs.Syllable.{UnplacedSyllable, all_syllables, since_close, kept_of, view_of, snippets_of, ended_parts_of, is_eu, is_nlba}
+use Rattle.gabc_score.specs.Syllable.{UnplacedSyllable, all_syllables, kept_of, view_of, snippets_of, ended_parts_of}
 use Rattle.gabc_score.specs.machine.BodyBuilder.{with_all}
 use Rattle.gabc_score.specs.machine.Gatherer.{Gathered, with_event, with_snippet, with_made}
 use Rattle.gabc_score.specs.machine.PartKeeps.{ReadAlike}

@@ -1,5 +1,5 @@
 -- Events that leave given spans open.
-use Rattle.std.proofs.Common.{◌≡◌, ℕ, Bool, true, false, List, [], ◌∷◌, ◌++◌, refl}
+use Rattle.std.proofs.Common.{ℕ, Bool, true, false, List, [], ◌∷◌, ◌++◌, refl}
 use lib.Utf8.{encode}
 use Rattle.gabc_text.specs.declared.text_event.TextEvent.TheVariants.{Kept, Part}
 use Rattle.gabc_text.specs.declared.text_event.TextPart.TheVariants as part

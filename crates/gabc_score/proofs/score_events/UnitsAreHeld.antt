@@ -40,7 +40,7 @@ use Rattle.gabc_score.specs.UnitRead.{HoldsSomeUnit}
 use Rattle.gabc_score.specs.machine.BodyBuilder.{with_all}
 use Rattle.gabc_score.specs.machine.Gatherer.{Gathered}
 use Rattle.gabc_score.specs.machine.PartKeeps.{IsReading}
-use Rattle.gabc_score.specs.machine.PartMakes.{PartLaws, FollowEach, AreHeld, HoldUnits, PartMakes, characters_of}
+use Rattle.gabc_score.specs.machine.PartMakes.{PartLaws, FollowEach, HoldUnits, PartMakes, characters_of}
 use Rattle.gabc_score.specs.machine.Quiet.{TakesQuietly}
 use Rattle.gabc_score.specs.machine.ScoreMachine.{IsShort, IsScoreAt}
 use Rattle.gabc_score.specs.machine.ScoreStage.{placed_behind, with_held}

@@ -1,5 +1,5 @@
 -- What two slots gather behind syllables which another pair has read.
-use Rattle.std.specs.Prelude.{◌≡◌, nat_lt, Bool, true, false, Option, Some, None}
+use Rattle.std.specs.Prelude.{nat_lt, Bool, true, false, Option, Some, None}
 use Rattle.gabc_notes.specs.declared.item.ItemKind.{ItemKind}
 use Rattle.gabc_notes.specs.declared.item.ItemKind.TheVariants.{Clef}
 use Rattle.gabc_score.specs.declared.before.Before.{Before}

@@ -1,4 +1,4 @@
-use Rattle.std.proofs.Common.{◌≡◌, ℕ, ◌==◌, List, [], ◌∷◌, length, IsUtf8, IsTrue, refl, arith, sym, ◌∙◌, subst, ap}
+use Rattle.std.proofs.Common.{ℕ, ◌==◌, List, [], ◌∷◌, length, IsUtf8, IsTrue, refl, arith}
 use Rattle.std.proofs.lemmas.Bool.{eqb-true}
 use Rattle.std.proofs.lemmas.Str.{utf8_valid_len-IsUtf8}
 use Rattle.gabc_places.specs.DecoderMachine.{IsPartial}

@@ -1,6 +1,5 @@
-use Rattle.std.proofs.Common.{◌≡◌, ℕ, List, [], ◌∷◌, Bool, true, false, not, ◌&&◌, refl, arith, sym, ◌∙◌, subst}
-use Rattle.gabc_places.specs.declared.place.Place.{Place}
-use Rattle.gabc_places.specs.DecoderMachine.{IsPartial, IsReached, is_unfinished}
+use Rattle.std.proofs.Common.{◌≡◌, ℕ, List, [], ◌∷◌, Bool, true, not, ◌&&◌, refl, arith, ◌∙◌, subst}
+use Rattle.gabc_places.specs.DecoderMachine.{IsPartial, is_unfinished}
 use Rattle.gabc_places.proofs.laws.what_a_decoder_tells_may_be_told.Goals as goal
 
 none_pending : (p : List ℕ) (b : Bool) → (not (is_unfinished p) && b) ≡ true → p ≡ []

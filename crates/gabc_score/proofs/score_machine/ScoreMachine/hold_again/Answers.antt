@@ -1,19 +1,15 @@
-use Rattle.std.proofs.Common.{rules, ◌≡◌, ℕ, ◌≤◌, ◌∷◌, [], List, length, true, false, Some, None, refl, sym, ap, subst, ◌∙◌, arith}
+use Rattle.std.proofs.Common.{◌≡◌, ℕ, ◌≤◌, ◌∷◌, [], List, length, Some, refl, sym, ap, subst, ◌∙◌, arith}
 use Rattle.std.proofs.lemmas.Bool.{true≢false}
 use Rattle.std.specs.Str.{chars}
-use Rattle.gabc_places.specs.StageLaw.{concat_of}
 use Rattle.gabc_score.specs.declared.before.Preceding.{Preceding}
-use Rattle.gabc_score.specs.declared.body_stage.BodyPart.{BodyPart}
 use Rattle.gabc_score.specs.declared.score_machine.ScorePart.{ScorePart}
 use Rattle.gabc_score.specs.declared.score_machine.ScorePart.TheVariants as score_part
 use Rattle.gabc_score.specs.Body.{is_none}
 use Rattle.gabc_score.specs.ScoreEvents.{first_place}
 use Rattle.gabc_score.specs.ScoreTells.{before_with, held_in_body, in_body, reading_in_body}
 use Rattle.gabc_score.specs.Syllable.{UnplacedSyllable}
-use Rattle.gabc_score.specs.machine.BodyBuilder.{with_all}
 use Rattle.gabc_score.specs.machine.Gatherer.{Gathered}
 use Rattle.gabc_score.specs.machine.PartCounts.{CountsHold}
-use Rattle.gabc_score.specs.machine.ReadAlone.{lists_of}
 use Rattle.gabc_score.specs.machine.ScoreMachine.{IsInBody, IsScoreAt}
 use Rattle.gabc_score.specs.machine.SyllableBuilder.{OpenSyllable}
 use Rattle.gabc_score.specs.witness.BodyStage.{BodyStageState}

@@ -1,4 +1,4 @@
-use Rattle.std.proofs.Common.{◌≡◌, ◌∙◌, not, ap, sym}
+use Rattle.std.proofs.Common.{◌∙◌, not, ap}
 use Rattle.std.specs.List.{list_any}
 use Rattle.gabc_score.specs.machine.ReadAlone.{is_error_event}
 use Rattle.gabc_score.proofs.resuming.CharactersGathered.{reads_alone}

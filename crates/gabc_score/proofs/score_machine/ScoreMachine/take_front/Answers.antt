@@ -1,4 +1,4 @@
-use Rattle.std.proofs.Common.{◌≡◌, take, sym, subst}
+use Rattle.std.proofs.Common.{take, subst}
 use Rattle.gabc_score.specs.ScoreStage.{GivesNothing}
 use Rattle.gabc_score.specs.machine.Gatherer.{Gathered}
 use Rattle.gabc_score.specs.machine.ScoreMachine.{shown}
