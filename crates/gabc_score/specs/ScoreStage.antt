@@ -16,7 +16,7 @@ use Rattle.gabc_score.specs.declared.score_event.ScoreEvent.TheVariants as event
 use Rattle.gabc_score.specs.Before.{no_syllable, with_placed}
 use Rattle.gabc_score.specs.declared.score_machine.ScorePart.{ScorePart}
 use Rattle.gabc_score.specs.declared.score_machine.ScorePart.TheVariants as score_part
-use Rattle.gabc_score.specs.ScoreTells.{StandsAt}
+use Rattle.gabc_score.specs.ScoreTells.{StandsAt, StandsInFront}
 use Rattle.gabc_score.specs.ToldWithin.{AreCountsWithin, IsTextCharacter, TellsOfText, whole_syllables}
 use Rattle.gabc_score.specs.declared.syllable.Position.{Position}
 use Rattle.gabc_score.specs.ScoreEvents.{first_place, ScoreOutput, Found, Stop, Syllable, End, is_last, syllables_in}
@@ -138,6 +138,7 @@ pub record GivesAt (before : ScoreStageState) (x : HeadEvent) (after : ScoreStag
   pub told : MayCome before.limits before.held.next x → StandsInLine before → TellsOfText before → TellsOfText after
   pub law : (xs : List HeadEvent) → left_of before (x ∷ xs) ≡ outputs ∷ left_of after xs
   pub emitted : GivesOutputs outputs old new after.first after.second
+  pub front : before.part ≡ score_part.Heads → (lines macros canonical : ℕ) → x ≡ head_event.Heads lines macros canonical → StandsInFront after
 
 -- At the end of the inputs it gave what was still to come.
 pub record GivesLast (before after : ScoreStageState) (old new : BoundedList ScoreEvent) : Type 0 where

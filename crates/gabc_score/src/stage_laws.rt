@@ -22,7 +22,7 @@ ghost use Rattle.gabc_score.specs.Events.{texts_by_definition, text_from, events
 ghost use Rattle.gabc_score.specs.ScoreEvents.{HasNoEnd, ScoreOutput, fault_in, findings_in, has_end, head_events, outputs_of_text, score_outputs, syllables_in};
 ghost use Rattle.gabc_score.specs.HeldAside.{HoldTheSame, GiveTheSame};
 ghost use Rattle.gabc_score.specs.ReadAgain.{StandsBefore};
-ghost use Rattle.gabc_score.specs.ScoreTells.{before_of, held_of, reading_of, openers_of, is_in_comment, is_in_front, StandsAt};
+ghost use Rattle.gabc_score.specs.ScoreTells.{before_of, held_of, moved_to, reading_of, openers_of, is_in_comment, is_in_front, StandsAt, StandsInFront};
 ghost use Rattle.gabc_score.specs.ScoreStage.{AreCountsBelow, GivesAt, IsWithinAnywhere, MayCome, events_of};
 ghost use Rattle.gabc_score.specs.SpansPast.{FollowsSpans};
 ghost use Rattle.gabc_score.specs.UnitRead.{HoldsSomeUnit};
@@ -104,6 +104,16 @@ pub fn what_is_told_may_move(stage: &mut ScoreStage, at: Place)
     ensures { TellsOfText stage.old → TellsOfText stage.new }
 {
     stage.go_to(at);
+}
+
+/// In front of the first text a stage gives the same of whatever follows, wherever the next character is said to stand: its place counts only once
+/// the character has come.
+pub fn a_body_may_begin_anywhere(stage: &ScoreStage)
+    requires { StandsInFront stage.now }
+    ensures { (place : Place) (xs : List HeadEvent) →
+        left_of (moved_to place stage.now) xs ≡ left_of stage.now xs }
+{
+    stage.begins_anywhere();
 }
 
 /// A stage gives the end only where the end is among its inputs, whatever it has read.

@@ -17,4 +17,5 @@ returns-in-Over-clause-step c = rw c.in-Over.is (record {
   told = λ may here was. was;
   law = λ xs. refl;
   emitted = search rules;
+  front = λ heads. absurd (cc heads);
 })

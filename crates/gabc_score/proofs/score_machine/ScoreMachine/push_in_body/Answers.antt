@@ -21,6 +21,7 @@ returns-in-Found-clause-step c =
       told = λ may here was. was;
       law = λ xs. refl;
       emitted = record { events = c.push.ensures; few = omega arith; lent = refl };
+      front = λ heads. absurd (cc heads);
     })
 
 pub returns-in-Stop-clause-step : goal.returns-in-Stop-clause-step
@@ -41,6 +42,7 @@ returns-in-Stop-clause-step c =
       told = λ may here was body. absurd (cc (body, c.stop.ensures.part));
       law = search rules;
       emitted = c.stop.ensures.emitted;
+      front = λ heads. absurd (cc (heads, c.requires.part));
     }
 
 pub returns-in-Heads-clause-step : goal.returns-in-Heads-clause-step
@@ -59,4 +61,5 @@ returns-in-Heads-clause-step c =
       told = λ may here was. was;
       law = λ xs. refl;
       emitted = search rules;
+      front = λ heads. absurd (cc heads);
     })

@@ -30,6 +30,7 @@ returns-in-Found-clause-step c =
       told = λ may here was body. absurd (cc body);
       law = λ xs. refl;
       emitted = record { events = c.push.ensures; few = omega arith; lent = refl };
+      front = λ heads lines macros canonical is. absurd (cc is);
     })
 
 pub returns-in-Stop-clause-step : goal.returns-in-Stop-clause-step
@@ -48,6 +49,7 @@ returns-in-Stop-clause-step c =
       told = λ may here was body. absurd (cc body);
       law = λ xs. refl;
       emitted = record { events = c.push-in-Stop.ensures; few = omega arith; lent = refl };
+      front = λ heads lines macros canonical is. absurd (cc is);
     })
 
 pub returns-in-End-clause-step : goal.returns-in-End-clause-step
@@ -66,6 +68,7 @@ returns-in-End-clause-step c =
       told = λ may here was body. absurd (cc body);
       law = λ xs. refl;
       emitted = record { events = c.push-in-End.ensures; few = omega arith; lent = refl };
+      front = λ heads lines macros canonical is. absurd (cc is);
     })
 
 pub returns-in-Body-clause-step : goal.returns-in-Body-clause-step
@@ -84,6 +87,7 @@ returns-in-Body-clause-step c =
       told = λ may here was body. absurd (cc body);
       law = λ xs. refl;
       emitted = search rules;
+      front = λ heads lines macros canonical is. absurd (cc is);
     })
 
 pub returns-in-Heads-clause-step : goal.returns-in-Heads-clause-step
@@ -106,6 +110,7 @@ returns-in-Heads-clause-step c = record {
       (ap (λ (g : Gathered). g.made) (ap (λ (s : SlotPairState). s.gathered) c.start.ensures ∙ ap (λ (g : Gathered). record g { total = c.in-Heads.canonical }) c.requires.rests.nothing));
   law = search rules;
   emitted = search rules;
+  front = λ heads lines macros canonical is. search rules;
 }
 
 pub returns-in-Heads-clause-rests : goal.returns-in-Heads-clause-rests
