@@ -137,6 +137,11 @@ pub fn a_kept_text_is_read_again()
     ensures facts { (t : List ℕ) → view_facts (kept t) ≡ view_facts t }
 {}
 
+/// An LF before a text makes it begin a word. Nothing else that the text says changes by it.
+pub fn a_line_feed_begins_a_word()
+    ensures { (t : List ℕ) → view_facts (10 ∷ t) ≡ record (view_facts t) { word_start = true } }
+{}
+
 /// What is emitted of a text through the character behind a prefix of it, or through its end, is found no earlier than the text
 /// begins and no later than that character. All that is found is the text's findings, and each has a code below W9. They are
 /// warnings, if no error is among them.
