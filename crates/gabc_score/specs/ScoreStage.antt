@@ -16,7 +16,7 @@ use Rattle.gabc_score.specs.declared.score_event.ScoreEvent.TheVariants as event
 use Rattle.gabc_score.specs.Before.{no_syllable, with_placed}
 use Rattle.gabc_score.specs.declared.score_machine.ScorePart.{ScorePart}
 use Rattle.gabc_score.specs.declared.score_machine.ScorePart.TheVariants as score_part
-use Rattle.gabc_score.specs.ScoreTells.{StandsAt, StandsInFront}
+use Rattle.gabc_score.specs.ScoreTells.{StandsAt, StandsInFront, is_in_comment}
 use Rattle.gabc_score.specs.ToldWithin.{AreCountsWithin, IsTextCharacter, TellsOfText, whole_syllables}
 use Rattle.gabc_score.specs.declared.syllable.Position.{Position}
 use Rattle.gabc_score.specs.ScoreEvents.{first_place, ScoreOutput, Found, Stop, Syllable, End, is_last, syllables_in}
@@ -114,6 +114,16 @@ is_final (head_event.Body x) = false
 is_final (head_event.Found f) = false
 is_final (head_event.Heads lines macros canonical) = false
 
+-- an input is the LF at the end of a line of the body
+abbrev pub EndsLine : HeadEvent → Type 0
+EndsLine (head_event.Body x) = x.c ≡ 10
+EndsLine x = ⊥
+
+-- what is found in the headers is passed on
+abbrev pub PassesOn : HeadEvent → List ScoreOutput → Type 0
+PassesOn (head_event.Found f) outputs = outputs ≡ Found f ∷ []
+PassesOn x outputs = Unit {0}
+
 -- in the body a text has counted this place for the next character
 abbrev pub Counts : Place → ScoreStageState → Type 0
 Counts place s = s.part ≡ score_part.Body → StandsAt place s.body.part
@@ -130,6 +140,8 @@ pub record GivesAt (before : ScoreStageState) (x : HeadEvent) (after : ScoreStag
   pub limits : after.limits ≡ before.limits
   pub part : after.part ≡ part_past before.part x outputs
   pub last : (before.part ≡ score_part.Over → ⊥) → is_final x ≡ true → list_any is_last outputs ≡ true
+  pub passes : (before.part ≡ score_part.Over → ⊥) → PassesOn x outputs
+  pub line : EndsLine x → after.part ≡ score_part.Body → is_in_comment after.body.part ≡ false
   pub counts : (place : Place) → StandsHere x place → Counts place before → Counts (place_behind x place) after
   pub before_held : after.part ≡ score_part.Body → after.before ≡ preceding_past before.part x outputs before.before
   pub next : after.part ≡ score_part.Body → after.held.next ≡ next_past before.part x before.held.next

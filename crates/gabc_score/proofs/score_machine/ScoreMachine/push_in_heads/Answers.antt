@@ -1,8 +1,8 @@
-use Rattle.std.proofs.Common.{rules, [], ◌∷◌, refl, ap, sym, ◌∙◌, arith}
+use Rattle.std.proofs.Common.{rules, [], ◌∷◌, refl, ap, sym, subst, ◌∙◌, arith}
 use Rattle.std.proofs.lemmas.Bool.{false≢true}
 use Rattle.gabc_score.specs.ScoreEvents.{Found, Stop, End}
 use Rattle.gabc_score.specs.declared.bounds.Bounds.{Bounds}
-use Rattle.gabc_score.specs.ScoreStage.{is_final}
+use Rattle.gabc_score.specs.ScoreStage.{EndsLine, is_final}
 use Rattle.gabc_score.specs.machine.Gatherer.{Gathered}
 use Rattle.gabc_score.specs.machine.SlotPair.{SlotPairState}
 use Rattle.gabc_score.specs.witness.BodyStage.{BodyStageState}
@@ -22,6 +22,8 @@ returns-in-Found-clause-step c =
       limits = refl;
       part = refl;
       last = λ other final. absurd (cc final);
+      passes = λ other. refl;
+      line = λ lf. absurd lf;
       counts = λ place here was body. absurd (cc body);
       before_held = λ body. absurd (cc body);
       next = λ body. absurd (cc body);
@@ -41,6 +43,8 @@ returns-in-Stop-clause-step c =
       limits = refl;
       part = refl;
       last = λ other final. refl;
+      passes = λ other. tt;
+      line = λ lf. absurd lf;
       counts = λ place here was body. absurd (cc body);
       before_held = λ body. absurd (cc body);
       next = λ body. absurd (cc body);
@@ -60,6 +64,8 @@ returns-in-End-clause-step c =
       limits = refl;
       part = refl;
       last = λ other final. refl;
+      passes = λ other. tt;
+      line = λ lf. absurd lf;
       counts = λ place here was body. absurd (cc body);
       before_held = λ body. absurd (cc body);
       next = λ body. absurd (cc body);
@@ -79,6 +85,8 @@ returns-in-Body-clause-step c =
       limits = refl;
       part = refl;
       last = λ other final. absurd (cc final);
+      passes = λ other. tt;
+      line = λ lf body. absurd (cc body);
       counts = λ place here was body. absurd (cc body);
       before_held = λ body. absurd (cc body);
       next = λ body. absurd (cc body);
@@ -97,6 +105,8 @@ returns-in-Heads-clause-step c = record {
   limits = refl;
   part = search rules;
   last = λ other final. absurd (false≢true (sym (ap is_final c.in-Heads.is) ∙ final));
+  passes = λ other. rw c.in-Heads.is tt;
+  line = λ lf. absurd (subst EndsLine c.in-Heads.is lf);
   counts = search rules;
   before_held = search rules;
   next = search rules;

@@ -63,6 +63,8 @@ returns-in-Some-clause-step c =
       limits = c.stop.ensures.limits;
       part = leads_out c.args.self.now.part c.stop.new.self.part (head_event.Body c.args.x) (outputs_of [] (placed_behind c.args.self.now.has_lent held)) (Stop fault) c.requires.part c.stop.ensures.part refl;
       last = λ other final. absurd (cc final);
+      passes = λ other. tt;
+      line = λ lf body. absurd (cc (body, c.stop.ensures.part));
       counts = λ place here was body. absurd (cc (body, c.stop.ensures.part));
       before_held = λ body. absurd (cc (body, c.stop.ensures.part));
       next = λ body. absurd (cc (body, c.stop.ensures.part));
@@ -107,6 +109,8 @@ returns-after-self-clause-step c =
       limits = refl;
       part = stays_inside c.args.self.now.part c.args.self.now.part (head_event.Body c.args.x) fs lent c.requires.part c.requires.part;
       last = λ other final. absurd (cc final);
+      passes = λ other. tt;
+      line = λ lf body. c.take.ensures.line c.requires.rests.reading.parts c.requires.rests.reading.keeps lf;
       counts = λ place here was body. c.take.ensures.stands c.requires.rests.reading.parts c.requires.rests.reading.keeps
           (subst (λ p. StandsAt p c.args.self.now.body.part) (sym here) (was c.requires.part));
       before_held = λ body. past_in_body c.args.self.now.part (head_event.Body c.args.x) fs lent c.args.self.now.bounds.before c.pass.new.self.before c.requires.part
