@@ -17,3 +17,4 @@ pub mod NothingIsRead
 pub mod HeldIsHeld
 pub mod BehindSyllables
 pub mod BeginsAnywhere
+pub mod FrontsAgree

@@ -133,6 +133,11 @@ abbrev pub place_behind : HeadEvent → Place → Place
 place_behind (head_event.Body x) place = saturating_next_place x.place x.c
 place_behind x place = place
 
+-- the characters among these inputs stand one behind the other, the first of them at this place
+abbrev pub StandInLine : Place → List HeadEvent → Type 0
+StandInLine place [] = Unit {0}
+StandInLine place (x ∷ xs) = StandsHere x place × StandInLine (place_behind x place) xs
+
 -- At an input it gave what was to come for it, and goes on with what follows under the same limits.
 pub record GivesAt (before : ScoreStageState) (x : HeadEvent) (after : ScoreStageState) (old new : BoundedList ScoreEvent) : Type 0 where
   pub outputs : List ScoreOutput

@@ -209,6 +209,7 @@ pub fn a_comment_before_a_text_counts_for_nothing()
     ensures on { (s : TextStage) (c : ℕ) (t : List ℕ) → Keeps s [] → is_in_comment s ≡ true →
         (c == 10) ≡ false → events_left s (c ∷ t)
         ≡ [] ∷ events_left (moved_to (saturating_next_place (next_of s) c) s) t }
+    ensures stays { (s : TextStage) (place : Place) → Keeps s [] → Keeps (moved_to place s) [] }
     ensures text { (s : TextStage) (t : List ℕ) → Keeps s [] → is_in_comment s ≡ true →
         events_left s (10 ∷ t) ≡ events_left (fresh_stage (next_of s)) (10 ∷ t) }
     ensures end { (s : TextStage) → Keeps s [] → is_in_comment s ≡ true →

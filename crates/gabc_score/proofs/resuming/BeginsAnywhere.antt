@@ -66,11 +66,14 @@ module _ (limits : Limits) (lines macros : ℕ) (limit : ℕ) (made : List Unpla
 
 -- ---- a machine
 
-front_is : (p : BodyPart) → is_in_front p ≡ true → p ≡ part.Comment
+pub front_is : (p : BodyPart) → is_in_front p ≡ true → p ≡ part.Comment
 front_is part.Comment e = refl
 front_is (part.Text stage) e = absurd (cc e)
 front_is (part.Notes opened stage) e = absurd (cc e)
 front_is (part.Nabc line opened stage) e = absurd (cc e)
+
+pub front_reads : (p : BodyPart) (o : OpenSyllable) → is_in_front p ≡ true → CountsHold p o → o ≡ nothing_open
+front_reads p o front counts = subst (λ (b : BodyPart). CountsHold b o) (front_is p front) counts
 
 none_made : (made : List UnplacedSyllable) → held_in_body score_part.Body made ≡ None → made ≡ []
 none_made [] e = refl
@@ -91,7 +94,7 @@ module _ (m : ScoreMachine) (front : is_in_front m.body.part ≡ true) (first : 
   unread_in h none = is_unread m.pair.gathered nothing (alike.eu ∙ ap (λ (s : Spans). s.eu) closed) (alike.nlba ∙ ap (λ (s : Spans). s.nlba) closed) h.reading.uncut
     where
       nothing : m.pair.gathered.builder ≡ nothing_open
-      nothing = subst (λ (b : BodyPart). CountsHold b m.pair.gathered.builder) comment h.counts
+      nothing = front_reads m.body.part m.pair.gathered.builder front h.counts
 
       alike : ReadAlike m.pair.gathered (begun m.bounds.behind.spans)
       alike = nothing_alike m.body.nabc_lines m.body.macros m.body.part m.bounds.behind.spans m.pair.gathered h.reading (ap (λ (o : OpenSyllable). o.kept) nothing)
