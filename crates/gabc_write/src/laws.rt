@@ -17,6 +17,7 @@ ghost use Rattle.gabc_score.specs.Score.{score_of};
 ghost use Rattle.gabc_score.specs.Syllable.{UnplacedSyllable, PlacedSyllable};
 ghost use Rattle.gabc_score.specs.Canonical.{canonical, starts_word};
 ghost use Rattle.gabc_score.specs.declared.snippets.Snippet.{Snippet};
+ghost use Rattle.gabc_score.specs.declared.syllable.Position.{Position};
 ghost use Rattle.gabc_score.specs.ScoreTells.{held_of};
 ghost use Rattle.gabc_score.specs.Units.{BodyCutting, IsCut};
 ghost use Rattle.gabc_score.specs.UnitRead.{HoldsSomeUnit};
@@ -26,10 +27,11 @@ ghost use Rattle.gabc_write.specs.BodyAgain.{SyllableFacts, AreSyllables, FirstB
 ghost use Rattle.gabc_write.specs.FileAgain.{IsFileAgain};
 ghost use Rattle.gabc_write.specs.ScoreAgain.{IsPrintedScore, IsScoreAgain};
 ghost use Rattle.gabc_write.specs.PlainText.{IsText};
+ghost use Rattle.gabc_write.specs.SetDown.{SayTheSame};
 ghost use Rattle.gabc_write.specs.SyllableMeaning.{AreSame};
 ghost use Rattle.gabc_write.specs.SyllableRead.{as_it_stands, IsReadFromItsText, IsReadWhereItStands};
 ghost use Rattle.gabc_score.specs.Holding.{HasWholeSnippets, Holds, HoldsNoNotes};
-ghost use Rattle.gabc_write.specs.DumpOfSyllables.{lines_of_syllable, lines_of_syllables};
+ghost use Rattle.gabc_write.specs.DumpOfSyllables.{HaveOneDump, lines_of_syllable, lines_of_syllables};
 
 use gabc_score::ScoreStage;
 
@@ -193,4 +195,12 @@ pub fn syllables_that_say_the_same_have_one_dump()
         All (λ (s : PlacedSyllable). HasWholeSnippets s.made) ts →
         AreSame ss ts →
         lines_of_syllables number outset ss ≡ lines_of_syllables number outset ts }
+{}
+
+/// Two syllables that are held and say the same where they stand have one dump, wherever in their word they are written and whatever their texts say of
+/// the start of a word, if the spans of their snippets begin and end between characters.
+pub fn held_syllables_that_say_the_same_have_one_dump()
+    ensures { (first : Bool) (m n : UnplacedSyllable) (position : Position) → HasWholeSnippets m →
+        HasWholeSnippets n → SayTheSame first (Some m) (Some n) →
+        HaveOneDump (record { made = m; position = position }) (record { made = n; position = position }) }
 {}
