@@ -23,11 +23,11 @@ use Rattle.gabc_write.specs.SyllableRead.{as_it_stands, IsReadFromItsText}
 use Rattle.gabc_write.specs.machine.SetDown.{BeginsAlike}
 use Rattle.gabc_write.proofs.reading_again.HeldAgain.{bytes_behind, may_be_held, says_again, stands_for}
 
-abbrev told_before : ScoreStageState → Before
+abbrev pub told_before : ScoreStageState → Before
 told_before s = before_with s.body s.before
 
 -- in the body a stage tells what stands before
-told_in_body : {A : Type 0} → (p : ScorePart) (a : A) → is_some (in_body p a) ≡ true → in_body p a ≡ Some a
+pub told_in_body : {A : Type 0} → (p : ScorePart) (a : A) → is_some (in_body p a) ≡ true → in_body p a ≡ Some a
 told_in_body score_part.Heads a h = absurd (cc h)
 told_in_body score_part.Body a h = refl
 told_in_body score_part.Over a h = absurd (cc h)
