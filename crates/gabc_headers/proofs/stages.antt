@@ -4,4 +4,5 @@ pub mod CharactersOfAStage
 pub mod EventsOfAStage
 pub mod HeadersTakeThreeBytes
 pub mod HeldTextIsHeldAgain
+pub mod HeldTextIsWithinItsLimit
 pub mod MachineTakesText
