@@ -5,4 +5,5 @@ pub mod EventsOfAStage
 pub mod HeadersTakeThreeBytes
 pub mod HeldTextGrows
 pub mod HeldTextIsHeldAgain
+pub mod HeldTextIsWithinItsLimit
 pub mod MachineTakesText
