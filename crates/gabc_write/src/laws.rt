@@ -1,6 +1,6 @@
 //! Laws of the definitions alone. Each function's contract is a law; its body calls the laws below that it stands on.
 
-ghost use Rattle.std.specs.Prelude.{◌≡◌, ◌≤◌, ◌<◌, ◌+◌, ◌*◌, ◌^◌, ◌⊎◌, ◌++◌, ◌∷◌, ℕ, Bool, List, length, Some, Ok, encode_utf8_all, IfSome, IsUtf8};
+ghost use Rattle.std.specs.Prelude.{◌≡◌, ◌≤◌, ◌<◌, ◌+◌, ◌*◌, ◌^◌, ◌⊎◌, ◌++◌, ◌∷◌, ℕ, Bool, List, length, false, Some, Ok, encode_utf8_all, IfSome, IsUtf8};
 ghost use Rattle.std.specs.List.{All};
 ghost use Rattle.gabc_places.specs.declared.place.Place.{Place};
 ghost use Rattle.gabc_places.specs.declared.place.Char.{Char};
@@ -9,11 +9,12 @@ ghost use Rattle.gabc_places.specs.LargerLimits.{AreNoLess};
 ghost use Rattle.gabc_headers.specs.declared.heads.Heads.{Heads};
 ghost use Rattle.gabc_headers.specs.Heads.{heads_of};
 ghost use Rattle.gabc_headers.specs.Book.{nabc_lines_of};
-ghost use Rattle.gabc_neumes.specs.InForce.{InForce};
+ghost use Rattle.gabc_neumes.specs.InForce.{InForce, passed};
 ghost use Rattle.gabc_text.specs.ViewFacts.{view_facts};
 ghost use Rattle.gabc_score.specs.Events.{texts_by_definition};
 ghost use Rattle.gabc_score.specs.declared.ending.InputEnding.{InputEnding};
 ghost use Rattle.gabc_score.specs.Score.{score_of};
+ghost use Rattle.gabc_score.specs.Before.{sounds};
 ghost use Rattle.gabc_score.specs.Syllable.{UnplacedSyllable, PlacedSyllable};
 ghost use Rattle.gabc_score.specs.Canonical.{canonical, starts_word};
 ghost use Rattle.gabc_score.specs.declared.snippets.Snippet.{Snippet};
@@ -31,7 +32,7 @@ ghost use Rattle.gabc_write.specs.SetDown.{SayTheSame};
 ghost use Rattle.gabc_write.specs.SyllableMeaning.{AreSame};
 ghost use Rattle.gabc_write.specs.SyllableRead.{as_it_stands, IsReadFromItsText, IsReadWhereItStands};
 ghost use Rattle.gabc_score.specs.Holding.{HasWholeSnippets, Holds, HoldsNoNotes};
-ghost use Rattle.gabc_write.specs.DumpOfSyllables.{HaveOneDump, lines_of_syllable, lines_of_syllables};
+ghost use Rattle.gabc_write.specs.DumpOfSyllables.{HaveOneDump, lines_of_syllable, lines_of_syllables, steps_of_syllable};
 
 use gabc_score::ScoreStage;
 
@@ -185,6 +186,14 @@ pub fn a_dump_is_short()
         ≤ 64 * length (canonical (starts_word s.position) s.made) + 256 }
 {
     gabc_nabc::laws::names_are_short();
+}
+
+/// A syllable without a note or a clef in GABC leaves the clef in force that is in force before it.
+pub fn where_nothing_sounds_the_clef_stays()
+    ensures { (outset : InForce) (s : PlacedSyllable) → sounds s.made ≡ false →
+        (passed outset (steps_of_syllable s)).clef ≡ outset.clef }
+{
+    gabc_neumes::laws::steps_are_passed_one_by_one();
 }
 
 /// Syllables that say the same have the same lines in a dump, if the spans of their snippets begin and end between characters and the same is
