@@ -1,6 +1,7 @@
 pub mod CanonicalTextIsPrintedSyllable
 pub mod CanonicalTextsArePrinted
 pub mod HeldAgain
+pub mod HeldAreWrittenAlike
 pub mod HeldIsReadAgain
 pub mod HeldWithOneText
 pub mod NoErrorIsFoundAgain

@@ -2,10 +2,12 @@
 use Rattle.std.specs.Prelude.{◌≡◌, ◌==◌, Bool, List, Option, Some, None}
 use Rattle.gabc_headers.specs.declared.head_event.HeadEvent.{HeadEvent}
 use Rattle.gabc_score.specs.declared.syllable.Position.{Position}
+use Rattle.gabc_score.specs.Canonical.{canonical_in_place}
 use Rattle.gabc_score.specs.HeldAside.{HoldTheSame, GiveTheSame}
 use Rattle.gabc_score.specs.ScoreTells.{held_of}
 use Rattle.gabc_score.specs.Syllable.{UnplacedSyllable}
 use Rattle.gabc_score.specs.witness.ScoreStage.{ScoreStageState, left_of}
+use Rattle.gabc_write.specs.DumpOfSyllables.{HaveOneDump}
 use Rattle.gabc_write.specs.SyllableMeaning.{meaning_of}
 use Rattle.gabc_write.specs.SyllableRead.{as_it_stands}
 
@@ -22,3 +24,14 @@ pub record GoesOnAlike (told made : ScoreStageState) : Type 0 where
   pub held : HoldTheSame (told.before.syllables == 0) (held_of told) (held_of made)
   pub says : SayTheSame (told.before.syllables == 0) (held_of told) (held_of made)
   pub gives : (xs : List HeadEvent) → GiveTheSame (held_of told) (held_of made) (left_of told xs) (left_of made xs)
+
+-- Two syllables are written alike where both stand there in their word: they have one canonical text and one dump.
+pub record IsWrittenAlike (m n : UnplacedSyllable) (position : Position) : Type 0 where
+  pub canonical : canonical_in_place (record { made = m; position = position }) ≡ canonical_in_place (record { made = n; position = position })
+  pub dump : HaveOneDump (record { made = m; position = position }) (record { made = n; position = position })
+
+-- so are two that are held, wherever in their word
+abbrev pub AreWrittenAlike : Option UnplacedSyllable → Option UnplacedSyllable → Type 0
+AreWrittenAlike None None = Unit {0}
+AreWrittenAlike (Some m) (Some n) = (position : Position) → IsWrittenAlike m n position
+AreWrittenAlike _ _ = ⊥

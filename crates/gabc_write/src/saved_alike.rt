@@ -1,14 +1,16 @@
-//! The law by which a saved state stands for a stage: two stages over a score of which the same is saved go on alike. The function's contract is the
-//! law, and its body calls the laws that it stands on.
+//! Laws by which a saved state stands for a stage: two stages over a score of which the same is saved go on alike, and what they hold is written
+//! alike. Each function's contract is a law, and its body calls the laws that it stands on.
 
 ghost use Rattle.std.specs.Prelude.{◌≡◌, ◌==◌, true, is_some};
 ghost use Rattle.std.specs.Option.{option_map};
 ghost use Rattle.gabc_score.specs.HeldAside.{HoldTheSame};
 ghost use Rattle.gabc_score.specs.ScoreTells.{StandsAt, before_of, held_of, is_in_comment, is_in_front, openers_of, reading_of};
 ghost use Rattle.gabc_score.specs.ToldWithin.{TellsOfText, written_behind};
-ghost use Rattle.gabc_write.specs.SetDown.{GoesOnAlike, SayTheSame};
+ghost use Rattle.gabc_write.specs.SetDown.{AreWrittenAlike, GoesOnAlike, SayTheSame};
 
-use crate::laws::what_is_held_is_read_from_its_own_text;
+use crate::laws::{
+    held_syllables_that_say_the_same_have_one_dump, what_is_held_is_read_from_its_own_text,
+};
 use gabc_score::ScoreStage;
 use gabc_score::stage_laws::{
     spans_of_what_is_held_follow, stages_that_tell_the_same_agree, what_is_held_holds_a_unit,
@@ -64,4 +66,15 @@ pub fn what_is_saved_alike_goes_on_alike(one: &ScoreStage, other: &ScoreStage)
 {
     what_has_one_text_says_the_same(one, other);
     stages_that_tell_the_same_agree(one, other);
+}
+
+/// Of two stages that go on alike the syllables that they hold are written alike, wherever in their word: each has the canonical text of the other, and
+/// the dump of the other.
+pub fn what_goes_on_alike_is_written_alike(one: &ScoreStage, other: &ScoreStage)
+    ensures { GoesOnAlike one.now other.now → AreWrittenAlike (held_of one.now) (held_of other.now) }
+{
+    what_is_held_holds_a_unit(one);
+    what_is_held_holds_a_unit(other);
+    snippets_of_a_unit_stand_between_characters();
+    held_syllables_that_say_the_same_have_one_dump();
 }
