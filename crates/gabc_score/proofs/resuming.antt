@@ -16,3 +16,4 @@ pub mod HeldIsRead
 pub mod NothingIsRead
 pub mod HeldIsHeld
 pub mod BehindSyllables
+pub mod ResumedIsOfText

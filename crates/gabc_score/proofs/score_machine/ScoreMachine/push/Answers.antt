@@ -17,6 +17,8 @@ returns-in-Over-clause-step c = rw c.in-Over.is (record {
   stands = λ here was. was;
   whole = λ body. absurd (cc body);
   told = λ may here was. was;
+  holds = λ was. was;
+  first = λ was. was;
   law = λ xs. refl;
   emitted = search rules;
 })

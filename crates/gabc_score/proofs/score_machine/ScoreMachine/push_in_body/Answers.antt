@@ -21,6 +21,8 @@ returns-in-Found-clause-step c =
       stands = λ here was. was;
       whole = λ body. omega arith;
       told = λ may here was. was;
+      holds = λ was. was;
+      first = λ was. was;
       law = λ xs. refl;
       emitted = record { events = c.push.ensures; few = omega arith; lent = refl };
     })
@@ -43,6 +45,8 @@ returns-in-Stop-clause-step c =
       stands = λ here was body. absurd (cc (body, c.stop.ensures.part));
       whole = λ body. absurd (cc (body, c.stop.ensures.part));
       told = λ may here was body. absurd (cc (body, c.stop.ensures.part));
+      holds = λ was body. absurd (cc (body, c.stop.ensures.part));
+      first = λ was. record { held = λ body. absurd (cc (body, c.stop.ensures.part)); read = λ body. absurd (cc (body, c.stop.ensures.part)) };
       law = search rules;
       emitted = c.stop.ensures.emitted;
     }
@@ -63,6 +67,8 @@ returns-in-Heads-clause-step c =
       stands = λ here was. was;
       whole = λ body. omega arith;
       told = λ may here was. was;
+      holds = λ was. was;
+      first = λ was. was;
       law = λ xs. refl;
       emitted = search rules;
     })
