@@ -17,3 +17,5 @@ pub mod NothingIsRead
 pub mod HeldIsHeld
 pub mod BehindSyllables
 pub mod ResumedIsOfText
+pub mod BeginsAnywhere
+pub mod FrontsAgree

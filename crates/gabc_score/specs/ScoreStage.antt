@@ -16,7 +16,7 @@ use Rattle.gabc_score.specs.declared.score_event.ScoreEvent.TheVariants as event
 use Rattle.gabc_score.specs.Before.{no_syllable, with_placed}
 use Rattle.gabc_score.specs.declared.score_machine.ScorePart.{ScorePart}
 use Rattle.gabc_score.specs.declared.score_machine.ScorePart.TheVariants as score_part
-use Rattle.gabc_score.specs.ScoreTells.{StandsAt, is_in_comment}
+use Rattle.gabc_score.specs.ScoreTells.{StandsAt, StandsInFront, is_in_comment}
 use Rattle.gabc_score.specs.ToldWithin.{AreCountsWithin, FirstBegins, HoldsIfAny, IsTextCharacter, TellsOfText, whole_syllables}
 use Rattle.gabc_score.specs.declared.syllable.Position.{Position}
 use Rattle.gabc_score.specs.ScoreEvents.{first_place, ScoreOutput, Found, Stop, Syllable, End, is_last, syllables_in}
@@ -133,6 +133,11 @@ abbrev pub place_behind : HeadEvent → Place → Place
 place_behind (head_event.Body x) place = saturating_next_place x.place x.c
 place_behind x place = place
 
+-- the characters among these inputs stand one behind the other, the first of them at this place
+abbrev pub StandInLine : Place → List HeadEvent → Type 0
+StandInLine place [] = Unit {0}
+StandInLine place (x ∷ xs) = StandsHere x place × StandInLine (place_behind x place) xs
+
 -- At an input it gave what was to come for it, and goes on with what follows under the same limits.
 pub record GivesAt (before : ScoreStageState) (x : HeadEvent) (after : ScoreStageState) (old new : BoundedList ScoreEvent) : Type 0 where
   pub outputs : List ScoreOutput
@@ -152,6 +157,7 @@ pub record GivesAt (before : ScoreStageState) (x : HeadEvent) (after : ScoreStag
   pub first : FirstBegins before → FirstBegins after
   pub law : (xs : List HeadEvent) → left_of before (x ∷ xs) ≡ outputs ∷ left_of after xs
   pub emitted : GivesOutputs outputs old new after.first after.second
+  pub front : before.part ≡ score_part.Heads → (lines macros canonical : ℕ) → x ≡ head_event.Heads lines macros canonical → StandsInFront after
 
 -- At the end of the inputs it gave what was still to come.
 pub record GivesLast (before after : ScoreStageState) (old new : BoundedList ScoreEvent) : Type 0 where

@@ -24,8 +24,8 @@ ghost use Rattle.gabc_score.specs.HeldAside.{HoldTheSame, GiveTheSame};
 ghost use Rattle.gabc_score.specs.ReadAgain.{StandsBefore};
 ghost use Rattle.gabc_score.specs.Resumed.{StandsBehind};
 ghost use Rattle.gabc_score.specs.declared.before.Before.{Before};
-ghost use Rattle.gabc_score.specs.ScoreTells.{before_of, held_of, reading_of, openers_of, is_in_comment, is_in_front, StandsAt};
-ghost use Rattle.gabc_score.specs.ScoreStage.{AreCountsBelow, GivesAt, IsWithinAnywhere, MayCome, events_of};
+ghost use Rattle.gabc_score.specs.ScoreTells.{before_of, held_of, moved_to, reading_of, openers_of, is_in_comment, is_in_front, StandsAt, StandsInFront};
+ghost use Rattle.gabc_score.specs.ScoreStage.{AreCountsBelow, GivesAt, IsWithinAnywhere, MayCome, StandInLine, events_of};
 ghost use Rattle.gabc_score.specs.SpansPast.{FollowsSpans};
 ghost use Rattle.gabc_score.specs.UnitRead.{HoldsSomeUnit};
 ghost use Rattle.gabc_score.specs.witness.ReadAgain.{CanBeReadAgain};
@@ -118,6 +118,16 @@ pub fn a_resumed_stage_tells_of_a_text()
         AreCountsWithin limits before.nabc_lines before.macros before.canonical → TellsOfText s }
 {}
 
+/// In front of the first text a stage gives the same of whatever follows, wherever the next character is said to stand: its place counts only once
+/// the character has come.
+pub fn a_body_may_begin_anywhere(stage: &ScoreStage)
+    requires { StandsInFront stage.now }
+    ensures { (place : Place) (xs : List HeadEvent) →
+        left_of (moved_to place stage.now) xs ≡ left_of stage.now xs }
+{
+    stage.begins_anywhere();
+}
+
 /// A stage gives the end only where the end is among its inputs, whatever it has read.
 pub fn the_end_comes_with_the_end()
     ensures { (s : ScoreStageState) (xs : List HeadEvent) → HasNoEnd xs →
@@ -185,6 +195,26 @@ pub fn stages_that_tell_the_same_agree(one: &ScoreStage, other: &ScoreStage)
         (left_of one.now xs) (left_of other.now xs) }
 {
     one.agrees(other);
+}
+
+/// In front of the first text a stage gives the same as one that tells the same before, under the same limits, in a comment of a text of which nothing is
+/// read, if the characters that follow stand one behind the other from the place on that this text has counted. Only the syllable that the one holds stands
+/// where the other gives its own, which says the same.
+pub fn a_comment_in_front_is_one_in_a_text(one: &ScoreStage, other: &ScoreStage)
+    requires runs { is_some (before_of one.now) ≡ true }
+    requires limits { one.now.limits ≡ other.now.limits }
+    requires before { before_of one.now ≡ before_of other.now }
+    requires held { HoldTheSame (one.now.before.syllables == 0) (held_of one.now) (held_of other.now) }
+    requires front { is_in_front one.now.body.part ≡ true }
+    requires comment { is_in_comment other.now.body.part ≡ true }
+    requires reading { reading_of other.now ≡ [] }
+    requires next { one.now.held.next ≡ other.now.held.next }
+    requires stands { StandsAt other.now.held.next other.now.body.part }
+    ensures { (xs : List HeadEvent) → StandInLine one.now.held.next xs →
+        GiveTheSame (held_of one.now) (held_of other.now)
+        (left_of one.now xs) (left_of other.now xs) }
+{
+    one.fronts_agree(other);
 }
 
 /// The whole syllable that a stage holds, whatever it has read, holds some unit: a text and its notes, with one snippet where there are no NABC

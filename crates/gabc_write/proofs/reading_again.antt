@@ -2,6 +2,7 @@ pub mod CanonicalTextIsPrintedSyllable
 pub mod CanonicalTextsArePrinted
 pub mod HeldAgain
 pub mod HeldIsReadAgain
+pub mod HeldWithOneText
 pub mod NoErrorIsFoundAgain
 pub mod NoLimitIsPassedAgain
 pub mod PartsEndAtTheirMarks

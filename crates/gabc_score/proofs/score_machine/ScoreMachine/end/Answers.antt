@@ -37,6 +37,7 @@ returns-in-Some-clause-step c =
       first = λ was. record { held = λ body. absurd (cc (body, c.stop.ensures.part)); read = λ body. absurd (cc (body, c.stop.ensures.part)) };
       law = search rules;
       emitted = c.stop.ensures.emitted;
+      front = λ heads. absurd (cc (heads, c.requires.part));
     }
 
 pub returns-in-None-clause-step : goal.returns-in-None-clause-step
@@ -71,4 +72,5 @@ returns-in-None-clause-step c =
       first = λ was. record { held = λ body. absurd (cc body); read = λ body. absurd (cc body) };
       law = search rules;
       emitted = rw (sym c.slice-found.ensures) c.give_end.ensures.emitted;
+      front = λ heads. absurd (cc (heads, c.requires.part));
     }

@@ -21,4 +21,5 @@ returns-in-Over-clause-step c = rw c.in-Over.is (record {
   first = λ was. was;
   law = λ xs. refl;
   emitted = search rules;
+  front = λ heads. absurd (cc heads);
 })

@@ -25,6 +25,7 @@ returns-in-Found-clause-step c =
       first = λ was. was;
       law = λ xs. refl;
       emitted = record { events = c.push.ensures; few = omega arith; lent = refl };
+      front = λ heads. absurd (cc heads);
     })
 
 pub returns-in-Stop-clause-step : goal.returns-in-Stop-clause-step
@@ -49,6 +50,7 @@ returns-in-Stop-clause-step c =
       first = λ was. record { held = λ body. absurd (cc (body, c.stop.ensures.part)); read = λ body. absurd (cc (body, c.stop.ensures.part)) };
       law = search rules;
       emitted = c.stop.ensures.emitted;
+      front = λ heads. absurd (cc (heads, c.requires.part));
     }
 
 pub returns-in-Heads-clause-step : goal.returns-in-Heads-clause-step
@@ -71,4 +73,5 @@ returns-in-Heads-clause-step c =
       first = λ was. was;
       law = λ xs. refl;
       emitted = search rules;
+      front = λ heads. absurd (cc heads);
     })

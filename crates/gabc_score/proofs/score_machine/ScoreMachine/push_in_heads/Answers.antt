@@ -38,6 +38,7 @@ returns-in-Found-clause-step c =
       first = λ was. record { held = λ body. absurd (cc body); read = λ body. absurd (cc body) };
       law = λ xs. refl;
       emitted = record { events = c.push.ensures; few = omega arith; lent = refl };
+      front = λ heads lines macros canonical is. absurd (cc is);
     })
 
 pub returns-in-Stop-clause-step : goal.returns-in-Stop-clause-step
@@ -60,6 +61,7 @@ returns-in-Stop-clause-step c =
       first = λ was. record { held = λ body. absurd (cc body); read = λ body. absurd (cc body) };
       law = λ xs. refl;
       emitted = record { events = c.push-in-Stop.ensures; few = omega arith; lent = refl };
+      front = λ heads lines macros canonical is. absurd (cc is);
     })
 
 pub returns-in-End-clause-step : goal.returns-in-End-clause-step
@@ -82,6 +84,7 @@ returns-in-End-clause-step c =
       first = λ was. record { held = λ body. absurd (cc body); read = λ body. absurd (cc body) };
       law = λ xs. refl;
       emitted = record { events = c.push-in-End.ensures; few = omega arith; lent = refl };
+      front = λ heads lines macros canonical is. absurd (cc is);
     })
 
 pub returns-in-Body-clause-step : goal.returns-in-Body-clause-step
@@ -104,6 +107,7 @@ returns-in-Body-clause-step c =
       first = λ was. record { held = λ body. absurd (cc body); read = λ body. absurd (cc body) };
       law = λ xs. refl;
       emitted = search rules;
+      front = λ heads lines macros canonical is. absurd (cc is);
     })
 
 pub returns-in-Heads-clause-step : goal.returns-in-Heads-clause-step
@@ -134,6 +138,7 @@ returns-in-Heads-clause-step c = record {
   };
   law = search rules;
   emitted = search rules;
+  front = λ heads lines macros canonical is. search rules;
 }
 
 pub returns-in-Heads-clause-rests : goal.returns-in-Heads-clause-rests

@@ -75,6 +75,7 @@ returns-in-Some-clause-step c =
       first = λ was. record { held = λ body. absurd (cc (body, c.stop.ensures.part)); read = λ body. absurd (cc (body, c.stop.ensures.part)) };
       law = search rules;
       emitted = c.stop.ensures.emitted;
+      front = λ heads. absurd (cc (heads, c.requires.part));
     }
 
 pub returns-after-self-clause-step : goal.returns-after-self-clause-step
@@ -146,6 +147,7 @@ returns-after-self-clause-step c =
           (subst (λ p. StandsAt p c.args.self.now.body.part) (sym here) (was c.requires.part)));
       law = search rules;
       emitted = c.give_point-gave.ensures.emitted;
+      front = λ heads. absurd (cc (heads, c.requires.part));
     }
 
 pub returns-after-self-clause-rests : goal.returns-after-self-clause-rests
