@@ -33,6 +33,8 @@ returns-in-Some-clause-step c =
       stands = λ here was body. absurd (cc (body, c.stop.ensures.part));
       whole = λ body. absurd (cc (body, c.stop.ensures.part));
       told = λ may here was body. absurd (cc (body, c.stop.ensures.part));
+      holds = λ was body. absurd (cc (body, c.stop.ensures.part));
+      first = λ was. record { held = λ body. absurd (cc (body, c.stop.ensures.part)); read = λ body. absurd (cc (body, c.stop.ensures.part)) };
       law = search rules;
       emitted = c.stop.ensures.emitted;
       front = λ heads. absurd (cc (heads, c.requires.part));
@@ -66,6 +68,8 @@ returns-in-None-clause-step c =
       stands = λ here was body. absurd (cc body);
       whole = λ body. absurd (cc body);
       told = λ may here was body. absurd (cc body);
+      holds = λ was body. absurd (cc body);
+      first = λ was. record { held = λ body. absurd (cc body); read = λ body. absurd (cc body) };
       law = search rules;
       emitted = rw (sym c.slice-found.ensures) c.give_end.ensures.emitted;
       front = λ heads. absurd (cc (heads, c.requires.part));
