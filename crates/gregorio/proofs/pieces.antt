@@ -10,3 +10,4 @@ pub mod NothingIsKeptBack
 pub mod InputsAreEnded
 pub mod PartsStayInStep
 pub mod StatesOfInputs
+pub mod WritesAlike

@@ -5,3 +5,4 @@ pub mod InMemory
 pub mod InStep
 pub mod RunWriter
 pub mod ScoreWriter
+pub mod SavedAlike

@@ -24,6 +24,7 @@ mod outcome;
 mod output;
 mod run;
 mod run_writer;
+mod saved_alike;
 mod score_writer;
 mod source_ending;
 
