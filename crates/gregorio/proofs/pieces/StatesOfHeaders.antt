@@ -4,12 +4,11 @@ use Rattle.std.specs.List.{All}
 use Rattle.std.specs.Str.{chars}
 use Rattle.std.proofs.lemmas.List.Elements.{All-cons, All-head, All-nil, All-tail}
 use Rattle.std.proofs.lemmas.Str.{IsUtf8-append, IsUtf8-encode, IsUtf8-nil, chars-append, chars-nil}
-use Rattle.gabc_places.specs.TextOfAnInput.{IsTextCharacter}
+use Rattle.gabc_places.specs.TextOfAnInput.{IsPlain, IsText, IsTextCharacter}
 use Rattle.gabc_places.specs.declared.limits.Limits.{Limits}
 use Rattle.gabc_places.proofs.texts.CharactersOfStrings.{chars-encode}
-use Rattle.gabc_headers.specs.HeldText.{IsHeld}
+use Rattle.gabc_headers.specs.HeldText.{IsHeld, IsWithinHeaders}
 use Rattle.gabc_headers.specs.witness.HeadEvents.{HeadProgress, reading, behind, over}
-use Rattle.gregorio_state.specs.Conditions.{IsPlain, IsText, IsWithinHeaders}
 use Rattle.gregorio.specs.Saved.{GivesHeaders, phase_fields, state_of}
 use Rattle.gregorio.specs.machine.PartsOfStates.{AreHeaderFieldsIn}
 use Rattle.gregorio.specs.machine.ReadsHeaders.{IsReadAs, IsReadSoFar}
