@@ -11,6 +11,8 @@ ghost use Rattle.gabc_score.specs.ScoreStage.{AreCountsBelow};
 ghost use Rattle.gabc_score.specs.witness.ScoreStage.{left_of};
 ghost use Rattle.gregorio.specs.witness.Engine.{is_heads, writes_heads};
 ghost use Rattle.gabc_score.specs.declared.score_machine.ScorePart.{ScorePart};
+ghost use Rattle.gabc_score.specs.ToldWithin.{IsAtOutset};
+ghost use Rattle.gregorio.specs.machine.ClefInForce.{HasClefOfSounds};
 ghost use Rattle.gregorio.specs.machine.InStep.{HasForce, PassesOn, written_at};
 ghost use Rattle.gregorio.specs.machine.RunWriter.{HasRoomFor, IsInRoom, IsSteadyWriter, past_output, past_outputs};
 ghost use Rattle.gregorio.specs.machine.ScoreWriter.{output_of_event, outputs_of_events, IsOver, IsShortBook, IsSilent, emptied, fresh_writer, IsReserved, IsSteady, FitsEvents, WritesAt, WritesLast, WritesNothing};
@@ -135,6 +137,7 @@ impl ScoreWriter {
         ensures steady { IsSteady self.old self.new }
         ensures headed { self.new.writer.written.headed ≡ self.old.writer.written.headed }
     {
+        gabc_write::laws::where_nothing_sounds_the_clef_stays();
         self.events.clear();
         self.score.push(event, &mut self.events);
         write_events(&mut self.writer, &self.score, self.events.slice());
@@ -176,6 +179,26 @@ impl ScoreWriter {
         ensures over { IsSome self.now.writer.written.ended → IsSilent self.now.score }
     {
         gabc_score::stage_laws::at_most_one_syllable_is_held(&self.score);
+    }
+
+    /// Does nothing. Its contract is a law on what is in force: the clef has a line and each height an alteration, and in the body, where no note or
+    /// clef has come in GABC, there is no clef.
+    pub(crate) fn tells_what_is_in_force(&self)
+        ensures line { IfSome self.now.writer.written.force.clef
+            (λ clef. (1 ≤ clef.line) × (clef.line ≤ 5)) }
+        ensures heights { length self.now.writer.written.force.alters ≡ 15 }
+        ensures clef { HasClefOfSounds self.now.score self.now.writer.written }
+    {
+        self.writer.tells_what_is_in_force();
+    }
+
+    /// Does nothing but call a law. Its contract is one: in the body nothing stands before the first syllable.
+    pub(crate) fn begins_with_nothing(&self)
+        ensures { self.now.score.part ≡ ScorePart.Body → IsAtOutset self.now.score.before }
+    {
+        if self.score.before().is_some() {
+            gabc_score::stage_laws::what_is_told_is_within_the_limits(&self.score);
+        }
     }
 
     /// Returns whether the headers were written.

@@ -4,7 +4,9 @@ use Rattle.gregorio.proofs.pieces.HeadersAreRead.{given_of_input, room_for_given
 use Rattle.gabc_headers.specs.declared.head_event.HeadEvent.{HeadEvent as HeadItem}
 use Rattle.gabc_headers.specs.witness.HeadEvents.{HeaderStageState}
 use Rattle.gregorio.specs.machine.InStep.{PassesAll, StayInStep}
+use Rattle.gregorio.specs.machine.ReadsHeaders.{ReadsOn}
 use Rattle.gregorio.proofs.pieces.PartsStayInStep.{heads_in_step}
+use Rattle.gregorio.proofs.pieces.TextOfHeaders.{heads_read_on}
 use Rattle.gregorio.proofs.engine.read_in_heads.Goals as goal
 
 pub pass_on-requires-clause-room : goal.pass_on-requires-clause-room
@@ -42,4 +44,13 @@ returns-clause-step c =
     let new = c.pass_on.new.writer in
     subst (λ (s : HeaderStageState). StayInStep c.args.heads.now w (c.args.item ∷ []) s new) (sym c.push.ensures.state)
     (heads_in_step c.args.heads.now w new c.args.item c.requires.heads c.pass_on.ensures.steady.limits
+    (subst (λ (events : List HeadItem). PassesAll w events new) given.is c.pass_on.ensures.passes))
+
+pub returns-clause-reads : goal.returns-clause-reads
+returns-clause-reads c =
+    let given = given_of_input c.args.heads.now _ c.args.item c.args.from_heads.now c.clear.new.self c.push.new.out c.slice.result.now c.clear.ensures c.push.ensures.events c.slice.ensures in
+    let w = c.args.writer.now in
+    let new = c.pass_on.new.writer in
+    subst (λ (s : HeaderStageState). ReadsOn c.args.heads.now w (c.args.item ∷ []) s new) (sym c.push.ensures.state)
+    (heads_read_on c.a_held_text_grows.ensures.found c.args.heads.now w new c.args.item c.requires.heads
     (subst (λ (events : List HeadItem). PassesAll w events new) given.is c.pass_on.ensures.passes))

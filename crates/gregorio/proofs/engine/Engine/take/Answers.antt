@@ -36,4 +36,5 @@ invariant_of-self c =
         force = stay.force was.force;
         runs = λ running. stay.runs c.self.inside.decoder c.take-item.new.self c.take-item.ensures.moves was.runs running;
       };
+      headers = c.read_decoded.ensures.reads c.self.inside.decoder c.take-item.new.self c.take-item.ensures.moves was.runs c.self.invariant.headers;
     }
