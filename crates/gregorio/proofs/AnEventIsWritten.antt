@@ -98,6 +98,7 @@ module _ (score mid : ScoreStageState) (writer : RunWriterState) (now : ScoreWri
       before_held = step.before_held;
       counts = step.counts;
       written = ap (λ (v : RunWriterState). v.written) new_is;
+      tells = record { limits = step.limits; next = step.next; told = step.told; holds = step.holds; line = step.line; front = step.front };
     })
 
     -- where the run is over, the stage gives nothing more

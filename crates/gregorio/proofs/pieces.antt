@@ -10,3 +10,7 @@ pub mod NothingIsKeptBack
 pub mod InputsAreEnded
 pub mod PartsStayInStep
 pub mod StatesOfInputs
+pub mod BodiesBegin
+pub mod HeadersEnd
+pub mod TellsInStepOn
+pub mod StatesOfScores

@@ -9,6 +9,7 @@ use Rattle.gabc_score.specs.ScoreTells.{held_of, is_in_comment, openers_of, read
 use Rattle.gabc_score.specs.Syllable.{UnplacedSyllable}
 use Rattle.gabc_score.specs.declared.before.Preceding.{Preceding}
 use Rattle.gabc_score.specs.witness.ScoreStage.{ScoreStageState}
+use Rattle.gregorio_state.specs.Conditions.{AreCounts, AreOpeners, IsHeldWithin, IsText, MayBeInComment}
 use Rattle.gregorio_state.specs.Fields.{PhaseFields, ScoreFields, StateFields, InHeaders, InScore}
 use Rattle.gregorio_jobs.specs.declared.job.Format.{Format}
 use Rattle.gregorio_jobs.specs.declared.job.Format.TheVariants.{Gabc}
@@ -86,3 +87,17 @@ pub record IsStateOfInput (s : StateFields) : Type 0 where
   pub decoder : MayBeTold s.input_limit s.taken s.place s.pending s.after_cr
   pub syllables : AreSyllablesWithin s.taken s.phase
   pub force : IsForceIn s.format s.phase
+
+-- The part of a state that its score tells: all but what is in force, and which spans are open, before the syllable that is held.
+pub record IsScoreTold (s : StateFields) (f : ScoreFields) : Type 0 where
+  pub counts : AreCounts s f
+  pub held : IsHeldWithin s.syllable_limit f
+  pub openers : AreOpeners s.place f
+  pub comment : MayBeInComment s.after_cr f
+  pub kept : IsText f.kept
+  pub kept_short : length f.kept ≤ s.syllable_limit
+
+-- in the headers it tells nothing
+abbrev pub IsPhaseTold : StateFields → PhaseFields → Type 0
+IsPhaseTold s (InHeaders text) = Unit {0}
+IsPhaseTold s (InScore f) = IsScoreTold s f

@@ -5,3 +5,5 @@ pub mod InMemory
 pub mod InStep
 pub mod RunWriter
 pub mod ScoreWriter
+pub mod Telling
+pub mod TellsInStep

@@ -8,11 +8,12 @@ ghost use Rattle.gregorio.specs.declared.source_ending.SourceEnding.TheVariants.
 ghost use Rattle.gregorio_jobs.specs.declared.job.Status.TheVariants.{ReadFault};
 ghost use Rattle.gregorio.specs.Outcome.{outcome_of};
 ghost use Rattle.gregorio.specs.Engine.{IsPrompt, NothingWaits, is_running, with_waiting};
-ghost use Rattle.gregorio.specs.Saved.{IsStateOfInput, state_of};
+ghost use Rattle.gregorio.specs.Saved.{IsPhaseTold, IsStateOfInput, state_of};
 ghost use Rattle.gregorio.specs.witness.Engine.{streams_left};
 ghost use Rattle.gregorio.specs.Streams.{streams_of_outcome, ended_with};
 ghost use Rattle.gregorio.specs.machine.Engine.{GoTogether, IsEmpty, WritesAll, WritesItems, event_of_item, headed_past};
 ghost use Rattle.gregorio.specs.machine.InStep.{PassesAll, StayInStep};
+ghost use Rattle.gregorio.specs.machine.TellsInStep.{IsInHeads, StayTelling};
 ghost use Rattle.gregorio.specs.machine.ScoreWriter.{FitsEvents, IsReserved, IsShortBook, IsSteady};
 
 use crate::score_writer::ScoreWriter;
@@ -99,10 +100,12 @@ fn read(
     requires few { 2 ≤ from_heads.old.limit }
     requires reserved { IsReserved writer.old }
     requires empty { IsEmpty writer.old }
+    requires part { IsInHeads writer.old }
     ensures together { GoTogether heads.new writer.new }
     ensures few { from_heads.new.limit ≡ from_heads.old.limit }
     ensures writes { WritesItems heads.old writer.old (item ∷ []) heads.new writer.new }
     ensures step { StayInStep heads.old writer.old (item ∷ []) heads.new writer.new }
+    ensures tells { StayTelling heads.old writer.old (item ∷ []) writer.new }
     ensures room { FitsEvents writer.new (End ∷ []) }
     ensures steady { IsSteady writer.old writer.new }
 {
@@ -126,17 +129,22 @@ fn read_in_heads(
     requires few { 2 ≤ from_heads.old.limit }
     requires reserved { IsReserved writer.old }
     requires empty { IsEmpty writer.old }
+    requires part { IsInHeads writer.old }
     ensures together { GoTogether heads.new writer.new }
     ensures few { from_heads.new.limit ≡ from_heads.old.limit }
     ensures writes { WritesItems heads.old writer.old (item ∷ []) heads.new writer.new }
     ensures step { StayInStep heads.old writer.old (item ∷ []) heads.new writer.new }
+    ensures tells { StayTelling heads.old writer.old (item ∷ []) writer.new }
     ensures room { FitsEvents writer.new (End ∷ []) }
     ensures steady { IsSteady writer.old writer.new }
 {
     gabc_headers::laws::canonical_lines_are_within_the_limits();
+    gabc_headers::stage_laws::a_percent_ends_the_headers(heads);
+    gabc_score::stage_laws::headers_may_come();
     from_heads.clear();
     heads.push(item, from_heads);
     pass_on(from_heads.slice(), heads.book(), writer);
+    writer.begin_body(item);
 }
 
 /// Reads what the decoder has emitted.
@@ -151,10 +159,12 @@ fn read_decoded(
     requires few { 2 ≤ from_heads.old.limit }
     requires reserved { IsReserved writer.old }
     requires empty { IsEmpty writer.old }
+    requires part { IsInHeads writer.old }
     ensures together { GoTogether heads.new writer.new }
     ensures few { from_heads.new.limit ≡ from_heads.old.limit }
     ensures writes { WritesItems heads.old writer.old (option_to_list item) heads.new writer.new }
     ensures step { StayInStep heads.old writer.old (option_to_list item) heads.new writer.new }
+    ensures tells { StayTelling heads.old writer.old (option_to_list item) writer.new }
     ensures room { FitsEvents writer.new (End ∷ []) }
     ensures steady { IsSteady writer.old writer.new }
 {
@@ -233,6 +243,17 @@ impl Engine {
         ensures { IsStateOfInput (state_of self.now) }
     {
         gabc_places::laws::what_a_decoder_tells_may_be_told(&self.decoder);
+    }
+
+    /// Does nothing but call laws. Its contract is one: what an engine that runs saves of its score may stand in a state.
+    pub(crate) fn tells_of_its_score(&self)
+        requires runs { is_running self.now ≡ true }
+        ensures { IsPhaseTold (state_of self.now) (state_of self.now).phase }
+    {
+        gabc_places::laws::what_a_decoder_tells_may_be_told(&self.decoder);
+        if self.writer.headed() {
+            self.writer.tells_of_a_text();
+        }
     }
 
     /// Takes a byte.

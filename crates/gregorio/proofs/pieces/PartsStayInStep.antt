@@ -127,7 +127,7 @@ pub record IsInBody (progress : HeadProgress) (part : ScorePart) : Type 0 where
   pub behind_them : IsBehind progress
   pub body : part ≡ score_part.Body
 
-in_body : (progress : HeadProgress) (part : ScorePart) (headed : Bool) → headed ≡ true → AreInOnePart progress part headed → IsInBody progress part
+pub in_body : (progress : HeadProgress) (part : ScorePart) (headed : Bool) → headed ≡ true → AreInOnePart progress part headed → IsInBody progress part
 in_body (reading t) score_part.Heads headed is parts = absurd (false≢true (sym parts ∙ is))
 in_body (reading t) score_part.Body headed is parts = absurd parts
 in_body (reading t) score_part.Over headed is parts = absurd parts
@@ -145,7 +145,7 @@ abbrev place_at : ℕ → ℕ → Place
 place_at line column = record { line = line; column = column }
 
 -- columns and lines that 64 bits hold do not saturate
-same_next : (p : Place) (c : ℕ) → p.line + p.column < 2 ^ 33 → saturating_next_place p c ≡ next_place p c
+pub same_next : (p : Place) (c : ℕ) → p.line + p.column < 2 ^ 33 → saturating_next_place p c ≡ next_place p c
 same_next p c below = by (is_line_feed c)
   where
     by : (b : Bool) → (if b then place_at (min (p.line + 1) (2 ^ 64 - 1)) 1 else place_at p.line (min (p.column + 1) (2 ^ 64 - 1))) ≡ (if b then place_at (p.line + 1) 1 else place_at p.line (p.column + 1))
@@ -173,7 +173,7 @@ not_over part body is = cc (body, is)
 body_preceding : (x : Char) (outputs : List ScoreOutput) (part : ScorePart) (p : Preceding) → part ≡ score_part.Body → preceding_past part (head_event.Body x) outputs p ≡ with_placed p (syllables_in outputs)
 body_preceding x outputs part p body = rw body refl
 
-went_on_past : (old : ScoreStageState) (w : Written) (x : HeadEvent) (new : ScoreWriterState) (p : PassesOn old w x new) → is_none new.writer.written.ended ≡ true → GoesOn w p.outputs
+pub went_on_past : (old : ScoreStageState) (w : Written) (x : HeadEvent) (new : ScoreWriterState) (p : PassesOn old w x new) → is_none new.writer.written.ended ≡ true → GoesOn w p.outputs
 went_on_past old w x new p running = went_on w p.outputs (subst (λ (v : Written). is_none v.ended ≡ true) p.written running)
 
 near_behind : (d e : DecoderState) (x : Char) → MovesOn d (Ok x ∷ []) e → IsNear d.place d.taken → IsNear e.place e.taken
@@ -241,7 +241,7 @@ pub record InHeads (s : ScoreWriterState) : Type 0 where
 abbrev HeadsYet : ScoreWriterState → Type 0
 HeadsYet s = is_none s.writer.written.ended ≡ true → InHeads s
 
-heads_stay : (f : Finding) (outputs : List ScoreOutput) (part : ScorePart) → part ≡ score_part.Heads → list_any is_last outputs ≡ false → part_past part (head_event.Found f) outputs ≡ score_part.Heads
+pub heads_stay : (f : Finding) (outputs : List ScoreOutput) (part : ScorePart) → part ≡ score_part.Heads → list_any is_last outputs ≡ false → part_past part (head_event.Found f) outputs ≡ score_part.Heads
 heads_stay f outputs part heads none = rw (heads, none) refl
 
 found_passed : (f : Finding) (old mid : ScoreWriterState) → PassesOn old.score (written_at old.writer.written (head_event.Found f)) (head_event.Found f) mid → HeadsYet old → HeadsYet mid
@@ -278,7 +278,7 @@ headed_now : (headed : Bool) (ended : Option Status) → headed ≡ false → is
 headed_now headed None un runs = rw un refl
 headed_now headed (Some status) un runs = absurd (false≢true runs)
 
-to_body : (lines macros canonical : ℕ) (outputs : List ScoreOutput) (part : ScorePart) → part ≡ score_part.Heads → part_past part (head_event.Heads lines macros canonical) outputs ≡ score_part.Body
+pub to_body : (lines macros canonical : ℕ) (outputs : List ScoreOutput) (part : ScorePart) → part ≡ score_part.Heads → part_past part (head_event.Heads lines macros canonical) outputs ≡ score_part.Body
 to_body lines macros canonical outputs part heads = rw heads refl
 
 none_precedes : (lines macros canonical : ℕ) (outputs : List ScoreOutput) (part : ScorePart) (p : Preceding) → part ≡ score_part.Heads
@@ -341,7 +341,7 @@ module _ (found : List Finding) (t : List ℕ) (old new : ScoreWriterState) (yet
       (subst (λ (s : ScoreWriterState). is_none s.writer.written.ended ≡ true) (sym last.1.1.1.1) running))
   by_heads (Err stopped) all = by_end stopped.at_end stopped.fault all
 
-running_before : (events : List HeadEvent) (old new : ScoreWriterState) → PassesAll old events new → is_none new.writer.written.ended ≡ true → is_none old.writer.written.ended ≡ true
+pub running_before : (events : List HeadEvent) (old new : ScoreWriterState) → PassesAll old events new → is_none new.writer.written.ended ≡ true → is_none old.writer.written.ended ≡ true
 running_before [] old new all running = subst (λ (s : ScoreWriterState). is_none s.writer.written.ended ≡ true) (sym all) running
 running_before (x ∷ events) old new all running =
     (went_on_past old.score (written_at old.writer.written x) x all.0 all.1.0 (running_before events all.0 new all.1.1 running)).before
@@ -450,7 +450,7 @@ front_place : (at : Place) (n : ℕ) → behind_front at n at ≡ place_at at.li
 front_place at zero = ap (λ (m : ℕ). place_at at.line m) (omega arith)
 front_place at (suc n) = refl
 
-place_skipped : (d e : DecoderState) (n : ℕ) → Skips d n e → behind_front d.place n d.place ≡ e.place
+pub place_skipped : (d e : DecoderState) (n : ℕ) → Skips d n e → behind_front d.place n d.place ≡ e.place
 place_skipped d e n skips =
     front_place d.place n
     ∙ (ap (λ (m : ℕ). place_at m (d.place.column + n)) (sym skips.line) ∙ ap (λ (m : ℕ). place_at e.place.line m) (sym skips.column))
