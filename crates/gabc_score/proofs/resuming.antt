@@ -16,3 +16,5 @@ pub mod HeldIsRead
 pub mod NothingIsRead
 pub mod HeldIsHeld
 pub mod BehindSyllables
+pub mod BeginsAnywhere
+pub mod ResumedIsOfText

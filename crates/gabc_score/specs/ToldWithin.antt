@@ -93,21 +93,29 @@ pub record IsText (bytes : List ℕ) : Type 0 where
   pub utf8 : IsUtf8 bytes
   pub plain : All IsPlain (chars bytes)
 
--- a syllable begins a word
-abbrev pub BeginsWord : UnplacedSyllable → Type 0
-BeginsWord m = m.text.word_start ≡ true
-
--- What it tells is that of a text. The first syllable begins a word: the one that is held, or the one that is read behind the comment in front.
+-- What it tells is that of a text.
 pub record IsToldOfText (s : ScoreStageState) : Type 0 where
   pub counts : AreCountsWithin s.limits s.body.nabc_lines s.body.macros s.before.canonical
   pub next : IsPlace s.held.next
   pub openers : AreOpenersBefore s.held.next (openers_of s.body.part)
-  pub none_held : held_of s ≡ None → s.before.syllables ≡ 0
   pub reading : IsText s.held.gathered.builder.kept
   pub held : All (λ (m : UnplacedSyllable). IsText m.kept) s.held.gathered.made
-  pub first_held : s.before.syllables ≡ 0 → All BeginsWord s.held.gathered.made
-  pub first_read : s.held.gathered.made ≡ [] → (is_in_front s.body.part ≡ true) ⊎ (s.held.gathered.builder.view.word_start ≡ true)
 
 -- in the body it is
 abbrev pub TellsOfText : ScoreStageState → Type 0
 TellsOfText s = s.part ≡ score_part.Body → IsToldOfText s
+
+-- ---- whatever comes in
+
+-- in the body none is held only where no syllable was given
+abbrev pub HoldsIfAny : ScoreStageState → Type 0
+HoldsIfAny s = s.part ≡ score_part.Body → held_of s ≡ None → s.before.syllables ≡ 0
+
+-- a syllable begins a word
+abbrev pub BeginsWord : UnplacedSyllable → Type 0
+BeginsWord m = m.text.word_start ≡ true
+
+-- In the body the first syllable begins a word: the one that is held, or the one that is read behind the comment in front.
+pub record FirstBegins (s : ScoreStageState) : Type 0 where
+  pub held : s.part ≡ score_part.Body → s.before.syllables ≡ 0 → All BeginsWord s.held.gathered.made
+  pub read : s.part ≡ score_part.Body → s.held.gathered.made ≡ [] → (is_in_front s.body.part ≡ true) ⊎ (s.held.gathered.builder.view.word_start ≡ true)

@@ -27,6 +27,7 @@ mod ending;
 mod events;
 mod giving;
 mod held_units;
+mod in_front;
 mod kept_text;
 pub mod laws;
 mod moving;

@@ -17,7 +17,7 @@ use Rattle.gabc_score.specs.Resumed.{HoldsAgain, StandsBehind}
 use Rattle.gabc_score.specs.ScoreTells.{before_of, before_with, held_in_body, held_of, in_body}
 use Rattle.gabc_score.specs.SpansPast.{FollowsSpans}
 use Rattle.gabc_score.specs.Syllable.{UnplacedSyllable}
-use Rattle.gabc_score.specs.ToldWithin.{BeginsWord, IsHeldWithin, TellsOfText, written_behind}
+use Rattle.gabc_score.specs.ToldWithin.{BeginsWord, FirstBegins, IsHeldWithin, written_behind}
 use Rattle.gabc_score.specs.UnitRead.{HoldsSomeUnit}
 use Rattle.gabc_score.specs.witness.ScoreStage.{ScoreStageState}
 use Rattle.gabc_write.specs.SetDown.{SayTheSame}
@@ -44,8 +44,8 @@ held_begins score_part.Body [] m e = absurd (cc e)
 held_begins score_part.Body (x ∷ xs) m e = let same : x ≡ m = cc e in (refl, λ h. subst BeginsWord same (All-head BeginsWord x xs h))
 
 -- the first syllable that is held begins a word
-pub begins_at_first : (s : ScoreStageState) (m : UnplacedSyllable) → held_of s ≡ Some m → TellsOfText s → s.before.syllables ≡ 0 → BeginsWord m
-begins_at_first s m is tells first = let h = held_begins s.part s.held.gathered.made m is in h.1 ((tells h.0).first_held first)
+pub begins_at_first : (s : ScoreStageState) (m : UnplacedSyllable) → held_of s ≡ Some m → FirstBegins s → s.before.syllables ≡ 0 → BeginsWord m
+begins_at_first s m is tells first = let h = held_begins s.part s.held.gathered.made m is in h.1 (tells.held h.0 first)
 
 module _ (told old : ScoreStageState) (runs : is_some (before_of told) ≡ true) (stands : StandsBehind told.limits (told_before told) old) where
   before_told : before_of told ≡ Some (told_before told)
