@@ -100,6 +100,7 @@ module _ (score mid : ScoreStageState) (writer : RunWriterState) (now : ScoreWri
       counts = step.counts;
       written = ap (λ (v : RunWriterState). v.written) new_is;
       in_heads = λ heads. passed_in_heads score x step.outputs (left_of mid []) heads (step.law []);
+      tells = record { limits = step.limits; next = step.next; told = step.told; holds = step.holds; line = step.line; front = step.front };
     })
 
     -- where the run is over, the stage gives nothing more

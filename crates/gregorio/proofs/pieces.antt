@@ -10,7 +10,12 @@ pub mod FrontIsTaken
 pub mod NothingIsKeptBack
 pub mod InputsAreEnded
 pub mod PartsStayInStep
+pub mod StatesAreWhole
 pub mod StatesBeforeHeld
 pub mod StatesOfHeaders
 pub mod StatesOfInputs
 pub mod TextOfHeaders
+pub mod BodiesBegin
+pub mod HeadersEnd
+pub mod TellsInStepOn
+pub mod StatesOfScores

@@ -8,3 +8,5 @@ pub mod PartsOfStates
 pub mod ReadsHeaders
 pub mod RunWriter
 pub mod ScoreWriter
+pub mod Telling
+pub mod TellsInStep

@@ -145,7 +145,7 @@ abbrev place_at : ℕ → ℕ → Place
 place_at line column = record { line = line; column = column }
 
 -- columns and lines that 64 bits hold do not saturate
-same_next : (p : Place) (c : ℕ) → p.line + p.column < 2 ^ 33 → saturating_next_place p c ≡ next_place p c
+pub same_next : (p : Place) (c : ℕ) → p.line + p.column < 2 ^ 33 → saturating_next_place p c ≡ next_place p c
 same_next p c below = by (is_line_feed c)
   where
     by : (b : Bool) → (if b then place_at (min (p.line + 1) (2 ^ 64 - 1)) 1 else place_at p.line (min (p.column + 1) (2 ^ 64 - 1))) ≡ (if b then place_at (p.line + 1) 1 else place_at p.line (p.column + 1))
@@ -241,7 +241,7 @@ pub record InHeads (s : ScoreWriterState) : Type 0 where
 abbrev pub HeadsYet : ScoreWriterState → Type 0
 HeadsYet s = is_none s.writer.written.ended ≡ true → InHeads s
 
-heads_stay : (f : Finding) (outputs : List ScoreOutput) (part : ScorePart) → part ≡ score_part.Heads → list_any is_last outputs ≡ false → part_past part (head_event.Found f) outputs ≡ score_part.Heads
+pub heads_stay : (f : Finding) (outputs : List ScoreOutput) (part : ScorePart) → part ≡ score_part.Heads → list_any is_last outputs ≡ false → part_past part (head_event.Found f) outputs ≡ score_part.Heads
 heads_stay f outputs part heads none = rw (heads, none) refl
 
 pub found_passed : (f : Finding) (old mid : ScoreWriterState) → PassesOn old.score (written_at old.writer.written (head_event.Found f)) (head_event.Found f) mid → HeadsYet old → HeadsYet mid
@@ -278,7 +278,7 @@ headed_now : (headed : Bool) (ended : Option Status) → headed ≡ false → is
 headed_now headed None un runs = rw un refl
 headed_now headed (Some status) un runs = absurd (false≢true runs)
 
-to_body : (lines macros canonical : ℕ) (outputs : List ScoreOutput) (part : ScorePart) → part ≡ score_part.Heads → part_past part (head_event.Heads lines macros canonical) outputs ≡ score_part.Body
+pub to_body : (lines macros canonical : ℕ) (outputs : List ScoreOutput) (part : ScorePart) → part ≡ score_part.Heads → part_past part (head_event.Heads lines macros canonical) outputs ≡ score_part.Body
 to_body lines macros canonical outputs part heads = rw heads refl
 
 none_precedes : (lines macros canonical : ℕ) (outputs : List ScoreOutput) (part : ScorePart) (p : Preceding) → part ≡ score_part.Heads
@@ -450,7 +450,7 @@ front_place : (at : Place) (n : ℕ) → behind_front at n at ≡ place_at at.li
 front_place at zero = ap (λ (m : ℕ). place_at at.line m) (omega arith)
 front_place at (suc n) = refl
 
-place_skipped : (d e : DecoderState) (n : ℕ) → Skips d n e → behind_front d.place n d.place ≡ e.place
+pub place_skipped : (d e : DecoderState) (n : ℕ) → Skips d n e → behind_front d.place n d.place ≡ e.place
 place_skipped d e n skips =
     front_place d.place n
     ∙ (ap (λ (m : ℕ). place_at m (d.place.column + n)) (sym skips.line) ∙ ap (λ (m : ℕ). place_at e.place.line m) (sym skips.column))

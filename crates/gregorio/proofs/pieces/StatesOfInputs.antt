@@ -10,7 +10,7 @@ use Rattle.gregorio.specs.Saved.{AreSyllablesWithin, IsForceIn, IsStateOfInput, 
 use Rattle.gregorio.specs.witness.Engine.{EngineState}
 use Rattle.gregorio.specs.machine.InStep.{AreInOnePart, HasForce, RunsInStep}
 
-one_at_most : (held : Option UnplacedSyllable) → held_count held ≤ 1
+pub one_at_most : (held : Option UnplacedSyllable) → held_count held ≤ 1
 one_at_most None = omega arith
 one_at_most (Some m) = omega arith
 

@@ -28,6 +28,7 @@ use Rattle.gabc_score.specs.declared.score_machine.ScorePart.TheVariants as scor
 use Rattle.gregorio.specs.Outcome.{is_error_finding}
 use Rattle.gregorio.specs.machine.InStep.{AreInOnePart, PassesAll, RunsInStep, written_at}
 use Rattle.gregorio.specs.machine.ReadsHeaders.{IsReadAs, IsReadSoFar, ReadsHeaders, ReadsOn}
+use Rattle.gregorio.specs.machine.RunWriter.{RunWriterState}
 use Rattle.gregorio.specs.machine.ScoreWriter.{ScoreWriterState, fresh_writer}
 use Rattle.gregorio.specs.witness.Engine.{Written, behind_outputs}
 use Rattle.gregorio.proofs.pieces.PartsStayInStep.{HeadsYet, found_events, found_passed, in_heads, running_before, went_on_past}
@@ -113,6 +114,12 @@ heads_read_on law h old new item unheaded all d e moves ran reads running =
     let read = subst (λ (p : HeadProgress). IsReadSoFar h.limits p d.place old.writer.written.errors) i.1.0 (reads before) in
     subst (λ (p : HeadProgress). IsReadSoFar h.limits (progress_after h.limits p item) e.place new.writer.written.errors) (sym i.1.0)
     (read_item law h.limits i.0 d e old new (λ r. i.1.1) running read item moves here)
+
+-- where the writer stays and its stage alone is changed
+pub reads_begun : (h : HeaderStageState) (old mid new : ScoreWriterState) (item : Result Char Fault) → new.writer ≡ mid.writer → ReadsOn h old (item ∷ []) (stage_after h item) mid
+    → ReadsOn h old (item ∷ []) (stage_after h item) new
+reads_begun h old mid new item same reads d e moves ran were =
+    subst (λ (v : RunWriterState). ReadsHeaders e (stage_after h item) v.written) (sym same) (reads d e moves ran were)
 
 -- ---- behind the headers, and where nothing comes
 

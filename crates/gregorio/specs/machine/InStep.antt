@@ -17,6 +17,7 @@ use Rattle.gabc_score.specs.ScoreStage.{Counts, StandsHere, is_final, most_lent,
 use Rattle.gabc_score.specs.witness.ScoreStage.{ScoreStageState}
 use Rattle.gregorio.specs.witness.Engine.{Written, behind_heads, behind_outputs, writes_heads}
 use Rattle.gregorio.specs.machine.ScoreWriter.{ScoreWriterState}
+use Rattle.gregorio.specs.machine.Telling.{TellsOn}
 use Rattle.gregorio_jobs.specs.declared.job.Format.TheVariants.{Gabc}
 
 -- ---- a call
@@ -39,6 +40,7 @@ pub record PassesOn (old : ScoreStageState) (w : Written) (x : HeadEvent) (new :
   pub counts : (place : Place) → StandsHere x place → Counts place old → Counts (place_behind x place) new.score
   pub written : new.writer.written ≡ behind_outputs w outputs
   pub in_heads : old.part ≡ score_part.Heads → outputs ≡ given_in_heads x
+  pub tells : TellsOn old x new.score
 
 -- what is written where the headers are, if they are at this event
 abbrev pub written_at : Written → HeadEvent → Written

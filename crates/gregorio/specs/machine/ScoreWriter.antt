@@ -18,6 +18,7 @@ use Rattle.gregorio_jobs.specs.declared.job.Job.{Job}
 use Rattle.gregorio.specs.Streams.{Streams, behind_bytes, ended_with}
 use Rattle.gregorio.specs.witness.Engine.{Written, streams_from}
 use Rattle.gregorio.specs.machine.ClefInForce.{HasClefOfSounds}
+use Rattle.gregorio.specs.machine.Telling.{TellsThrough}
 use Rattle.gregorio.specs.machine.RunWriter.{RunWriterState, line_room, syllable_room, heads_room, last_room}
 use Rattle.gregorio_jobs.specs.declared.job.Format.{Format}
 use Rattle.gregorio_jobs.specs.declared.job.Status.{Status}
@@ -64,6 +65,7 @@ pub record WritesNothing (old : ScoreWriterState) (at : Place) (bytes : List ℕ
   pub counts : Counts at old.score → Counts (behind_front at (length bytes) at) new.score
   pub writer : new.writer ≡ old.writer
   pub law : (book : List (List ℕ × List ℕ)) (from_heads : List HeadEvent) → streams_of old book (body_inputs at bytes ++ from_heads) ≡ streams_of new book from_heads
+  pub tells : TellsThrough old.score at bytes new.score
 
 -- At the end of what comes it wrote what was still to come.
 pub record WritesLast (old new : ScoreWriterState) (status : Status) : Type 0 where

@@ -6,6 +6,7 @@ use Rattle.gregorio.proofs.pieces.InputsAreEnded.{ends_last, ends_now, over_of_i
 use Rattle.gregorio.proofs.pieces.BytesAreTaken.{still_reserved}
 use Rattle.gregorio.proofs.pieces.PartsStayInStep.{over_in_step}
 use Rattle.gregorio.proofs.pieces.TextOfHeaders.{over_reads}
+use Rattle.gregorio.proofs.pieces.TellsInStepOn.{over_tells}
 use Rattle.gregorio.proofs.engine.Engine.broken.Goals as goal
 
 pub finish-requires : goal.finish-requires
@@ -37,6 +38,7 @@ invariant_of-self c = record {
   reserved = still_reserved c.self.inside.writer c.finish.new.self c.finish.ensures.steady c.self.invariant.reserved;
   step = over_in_step c.self.inside.decoder c.self.inside.heads c.finish.new.self c.finish.result (c.finish.ensures.force c.self.invariant.step.force) c.finish.ensures.over.ended;
   headers = over_reads c.self.inside.decoder c.self.inside.heads c.finish.new.self.writer.written c.finish.result c.finish.ensures.over.ended;
+  tells = over_tells c.self.inside.decoder c.finish.new.self c.finish.result c.finish.ensures.over.ended;
 }
 
 pub returns-clause-last : goal.returns-clause-last
