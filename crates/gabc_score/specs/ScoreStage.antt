@@ -195,6 +195,7 @@ pub record GivesNothing (before : ScoreStageState) (at : Place) (bytes : List �
   pub first : FirstBegins before → FirstBegins after
   pub counts : Counts at before → Counts (behind_front at (length bytes) at) after
   pub law : (xs : List HeadEvent) → left_of before (body_inputs at bytes ++ xs) ≡ nothing_each bytes ++ left_of after xs
+  pub none : bytes ≡ [] → after.body.part ≡ before.body.part
 
 -- ---- counts that have not reached their last value
 

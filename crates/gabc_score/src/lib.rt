@@ -55,7 +55,7 @@ mod whole;
 pub use before::{Before, Spans};
 pub use body_stage::BodyStage;
 pub use body_tells::Openers;
-pub use canonical::{canon_len, canon_syllable};
+pub use canonical::{canon_len, canon_starting, canon_syllable};
 pub use ending::InputEnding;
 pub use events::BodyEvent;
 pub use score::Score;

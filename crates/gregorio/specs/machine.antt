@@ -1,8 +1,13 @@
 pub mod Buffers
+pub mod ClefInForce
 pub mod Compile
 pub mod Engine
 pub mod InMemory
 pub mod InStep
+pub mod PartsOfStates
+pub mod ReadsHeaders
 pub mod RunWriter
 pub mod ScoreWriter
 pub mod SavedAlike
+pub mod Telling
+pub mod TellsInStep

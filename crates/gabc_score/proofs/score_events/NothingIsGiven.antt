@@ -94,6 +94,7 @@ gives_more a b c at bytes byte next stands opens column is step passes = record 
       ∙ ap (λ (l : List (List ScoreOutput)). nothing_each bytes ++ l) (passes.law xs)
       ∙ sym (append_assoc (nothing_each bytes) ([] ∷ []) (left_of c xs))
       ∙ ap (λ (l : List (List ScoreOutput)). l ++ left_of c xs) (sym (nothing_one_more bytes byte));
+  none = λ none. let some = length-append bytes (byte ∷ []) in let zero = ap (λ (l : List ℕ). length l) none in absurd (omega (arith, some, zero));
 }
   where
     texts : IsToldOfText b → HoldsTexts c.held.gathered

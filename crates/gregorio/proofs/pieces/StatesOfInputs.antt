@@ -10,11 +10,11 @@ use Rattle.gregorio.specs.Saved.{AreSyllablesWithin, IsForceIn, IsStateOfInput, 
 use Rattle.gregorio.specs.witness.Engine.{EngineState}
 use Rattle.gregorio.specs.machine.InStep.{AreInOnePart, HasForce, RunsInStep}
 
-one_at_most : (held : Option UnplacedSyllable) → held_count held ≤ 1
+pub one_at_most : (held : Option UnplacedSyllable) → held_count held ≤ 1
 one_at_most None = omega arith
 one_at_most (Some m) = omega arith
 
-behind_is_headed : (part : ScorePart) (headed : Bool) (progress : HeadProgress) (book : List (List ℕ × List ℕ)) → progress ≡ behind book → AreInOnePart (behind book) part headed → headed ≡ true
+pub behind_is_headed : (part : ScorePart) (headed : Bool) (progress : HeadProgress) (book : List (List ℕ × List ℕ)) → progress ≡ behind book → AreInOnePart (behind book) part headed → headed ≡ true
 behind_is_headed score_part.Heads headed progress book e parts = absurd parts
 behind_is_headed score_part.Body headed progress book e parts = parts
 behind_is_headed score_part.Over headed progress book e parts = absurd parts
