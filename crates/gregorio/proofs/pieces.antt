@@ -20,3 +20,6 @@ pub mod BodiesBegin
 pub mod HeadersEnd
 pub mod TellsInStepOn
 pub mod StatesOfScores
+pub mod StreamsAgree
+pub mod SavedInHeaders
+pub mod SavedInBodies

@@ -42,10 +42,10 @@ use std::marker::Model;
 /// ```
 #[derive(Drop)]
 pub struct Engine {
-    decoder: Decoder,
-    heads: HeaderStage,
+    pub(crate) decoder: Decoder,
+    pub(crate) heads: HeaderStage,
     from_heads: Room<HeadEvent>,
-    writer: ScoreWriter,
+    pub(crate) writer: ScoreWriter,
 }
 
 impl Model for Engine {

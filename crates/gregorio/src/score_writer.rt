@@ -31,7 +31,7 @@ use std::marker::Model;
 /// Reads the score behind a stage of headers, and writes what it gives.
 #[derive(Drop)]
 pub(crate) struct ScoreWriter {
-    score: ScoreStage,
+    pub(crate) score: ScoreStage,
     events: Room<ScoreEvent>,
     writer: RunWriter,
 }

@@ -95,7 +95,7 @@ behind_by t found (Err stopped) = inr (by stopped.at_end)
     by true = just_found found
     by false = refl
 
-behind_or_none : (limits : Limits) (progress : HeadProgress) (item : Result Char Fault) → IsBehind (progress_after limits progress item) ⊎ (list_any is_heads (events_of_input limits progress item) ≡ false)
+pub behind_or_none : (limits : Limits) (progress : HeadProgress) (item : Result Char Fault) → IsBehind (progress_after limits progress item) ⊎ (list_any is_heads (events_of_input limits progress item) ≡ false)
 behind_or_none limits (reading t) (Ok c) = behind_by (t ++ c.c ∷ []) (new_findings limits t (t ++ c.c ∷ [])) (heads_of limits (t ++ c.c ∷ []))
 behind_or_none limits (reading t) (Err fault) = inr refl
 behind_or_none limits (behind book) (Ok c) = inl tt

@@ -1,0 +1,242 @@
+-- Two engines that save the same in the headers.
+use Rattle.std.proofs.Common.{◌≡◌, ℕ, ◌≤◌, List, [], ◌∷◌, ◌++◌, Bool, true, false, Option, None, Some, is_none, Result, encode_utf8, encode_utf8_all, refl, ap, sym, subst, ◌∙◌}
+use Rattle.std.proofs.lemmas.Bool.{false≢true}
+use Rattle.std.proofs.lemmas.List.Elements.{All-head, All-tail}
+use Rattle.std.proofs.lemmas.Str.{IsUtf8-encode, chars-append, chars-nil}
+use Rattle.std.specs.List.{All}
+use Rattle.std.specs.Str.{chars}
+use mathlib.Core.HLevel.{is_prop→PathP}
+use native.Mathlib.Bridge.{le_prop}
+use Rattle.gabc_places.proofs.texts.CharactersOfStrings.{chars-encode}
+use Rattle.gabc_places.specs.BoundedList.{BoundedList}
+use Rattle.gabc_places.specs.DecoderMachine.{DecoderState}
+use Rattle.gabc_places.specs.DecoderTells.{TellTheSame}
+use Rattle.gabc_places.specs.witness.DecoderEvents as decoder
+use Rattle.gabc_places.specs.TextOfAnInput.{IsTextCharacter}
+use Rattle.gabc_places.specs.declared.code.Fault.{Fault}
+use Rattle.gabc_places.specs.declared.limits.Limits.{Limits}
+use Rattle.gabc_places.specs.declared.place.Char.{Char}
+use Rattle.gabc_places.specs.declared.place.Place.{Place}
+use Rattle.gabc_headers.specs.declared.head_event.HeadEvent.{HeadEvent}
+use Rattle.gabc_headers.specs.witness.HeadEvents.{HeaderStageState, HeadProgress, reading, behind, over, events_left, text_held}
+use Rattle.gabc_neumes.specs.InForce.{InForce}
+use Rattle.gabc_score.specs.declared.score_machine.ScorePart.{ScorePart}
+use Rattle.gabc_score.specs.declared.score_machine.ScorePart.TheVariants as score_part
+use Rattle.gabc_score.specs.witness.ScoreStage.{ScoreStageState, left_of}
+use Rattle.gregorio_jobs.specs.declared.job.Status.{Status}
+use Rattle.gregorio_state.specs.Fields.{PhaseFields, StateFields, InHeaders, InScore}
+use Rattle.gregorio.specs.declared.source_ending.SourceEnding.{SourceEnding}
+use Rattle.gregorio.specs.Engine.{is_running}
+use Rattle.gregorio.specs.Saved.{phase_fields, state_of}
+use Rattle.gregorio.specs.witness.Engine.{EngineState, book_behind, head_events_left, items_left, streams_from, streams_left}
+use Rattle.gregorio.specs.machine.Engine.{IsEngine}
+use Rattle.gregorio.specs.machine.InStep.{AreInOnePart, HasForce, RunsInStep}
+use Rattle.gregorio.specs.machine.ReadsHeaders.{IsReadSoFar}
+use Rattle.gregorio.specs.machine.SavedAlike.{WriteTheSame}
+use Rattle.gregorio.specs.machine.ScoreWriter.{ScoreWriterState}
+use Rattle.gregorio.proofs.pieces.StreamsAgree.{no_matter_which_book, streams_agree}
+
+-- ---- limits of the same numbers, and what is written
+
+same_limits : (a b : Limits) → a.header ≡ b.header → a.syllable ≡ b.syllable → a.input ≡ b.input → a ≡ b
+same_limits a b header syllable input = λ i. record {
+  header = header i;
+  syllable = syllable i;
+  input = input i;
+  in_range = record {
+    header_least = is_prop→PathP (λ j. 64 ≤ header j) (λ j. le_prop) a.in_range.header_least b.in_range.header_least i;
+    header_most = is_prop→PathP (λ j. header j ≤ 16777216) (λ j. le_prop) a.in_range.header_most b.in_range.header_most i;
+    syllable_least = is_prop→PathP (λ j. 64 ≤ syllable j) (λ j. le_prop) a.in_range.syllable_least b.in_range.syllable_least i;
+    syllable_most = is_prop→PathP (λ j. syllable j ≤ 16777216) (λ j. le_prop) a.in_range.syllable_most b.in_range.syllable_most i;
+    input_least = is_prop→PathP (λ j. 64 ≤ input j) (λ j. le_prop) a.in_range.input_least b.in_range.input_least i;
+    input_most = is_prop→PathP (λ j. input j ≤ 4294967295) (λ j. le_prop) a.in_range.input_most b.in_range.input_most i;
+  };
+}
+
+pub limits_saved : (one other : EngineState) → state_of one ≡ state_of other → one.score.limits ≡ other.score.limits
+limits_saved one other same = same_limits one.score.limits other.score.limits (ap (λ (s : StateFields). s.header_limit) same) (ap (λ (s : StateFields). s.syllable_limit) same) (ap (λ (s : StateFields). s.input_limit) same)
+
+-- where they do not end a run
+none_both : (a b : Option Status) → is_none a ≡ true → is_none b ≡ true → a ≡ b
+none_both None None h k = refl
+none_both (Some x) b h k = absurd (false≢true h)
+none_both None (Some x) h k = absurd (false≢true k)
+
+-- what is written, where as much is written and the same is in force
+pub written_saved : (one other : EngineState) → state_of one ≡ state_of other → one.written.name ≡ other.written.name → is_none one.written.ended ≡ true → is_none other.written.ended ≡ true
+    → one.written.headed ≡ other.written.headed → one.written.count ≡ other.written.count → one.written.force ≡ other.written.force → one.written ≡ other.written
+written_saved one other same name runs other_runs headed count force =
+    let format = ap (λ (s : StateFields). s.format) same in
+    let all_warnings = ap (λ (s : StateFields). s.all_warnings) same in
+    let errors = ap (λ (s : StateFields). s.has_error) same in
+    let ended = none_both one.written.ended other.written.ended runs other_runs in
+    λ i. record { format = format i; name = name i; all_warnings = all_warnings i; headed = headed i; count = count i; force = force i; errors = errors i; ended = ended i }
+
+-- ---- the decoder
+
+pub decoders_saved : (one other : EngineState) → state_of one ≡ state_of other → TellTheSame one.decoder other.decoder
+decoders_saved one other same = record {
+  taken = ap (λ (s : StateFields). s.taken) same;
+  place = ap (λ (s : StateFields). s.place) same;
+  pending = ap (λ (s : StateFields). s.pending) same;
+  cr = ap (λ (s : StateFields). s.after_cr) same;
+}
+
+-- ---- in the headers
+
+-- a stage of headers is in them, and nothing else has begun
+record IsInHeads (progress : HeadProgress) (part : ScorePart) (headed : Bool) (text : List ℕ) : Type 0 where
+  pub reads : progress ≡ reading (text_held progress)
+  pub in_heads : part ≡ score_part.Heads
+  pub unheaded : headed ≡ false
+  pub bytes : encode_utf8_all (text_held progress) ≡ text
+
+heads_by_written : (progress : HeadProgress) (part : ScorePart) (headed : Bool) → headed ≡ false → AreInOnePart progress part headed → IsInHeads progress part headed (encode_utf8_all (text_held progress))
+heads_by_written (reading t) score_part.Heads headed is parts = record { reads = refl; in_heads = refl; unheaded = is; bytes = refl }
+heads_by_written (reading t) score_part.Body headed is parts = absurd parts
+heads_by_written (reading t) score_part.Over headed is parts = absurd parts
+heads_by_written (behind book) score_part.Heads headed is parts = absurd parts
+heads_by_written (behind book) score_part.Body headed is parts = absurd (false≢true (sym is ∙ parts))
+heads_by_written (behind book) score_part.Over headed is parts = absurd parts
+heads_by_written over part headed is parts = absurd parts
+
+abbrev is_in_headers : PhaseFields → Bool
+is_in_headers (InHeaders text) = true
+is_in_headers (InScore f) = false
+
+abbrev text_in : PhaseFields → List ℕ
+text_in (InHeaders text) = text
+text_in (InScore f) = []
+
+phase_by_progress : (progress : HeadProgress) (force : InForce) (s : ScoreStageState) → progress ≡ reading (text_held progress) → phase_fields progress force s ≡ InHeaders (encode_utf8_all (text_held progress))
+phase_by_progress progress force s reads = ap (λ (p : HeadProgress). phase_fields p force s) reads
+
+heads_by_phase : (progress : HeadProgress) (part : ScorePart) (headed : Bool) (force : InForce) (s : ScoreStageState) (text : List ℕ) → phase_fields progress force s ≡ InHeaders text → AreInOnePart progress part headed
+    → IsInHeads progress part headed text
+heads_by_phase (reading t) score_part.Heads headed force s text is parts = record { reads = refl; in_heads = refl; unheaded = parts; bytes = ap text_in is }
+heads_by_phase (reading t) score_part.Body headed force s text is parts = absurd parts
+heads_by_phase (reading t) score_part.Over headed force s text is parts = absurd parts
+heads_by_phase (behind book) part headed force s text is parts = absurd (false≢true (ap is_in_headers is))
+heads_by_phase over part headed force s text is parts = absurd parts
+
+-- the bytes of a text of an input tell its characters
+chars_back : (t : List ℕ) → All IsTextCharacter t → chars (encode_utf8_all t) ≡ t
+chars_back [] text = chars-nil
+chars_back (c ∷ t) text =
+    let here = All-head IsTextCharacter c t text in
+    chars-append (encode_utf8 c) (encode_utf8_all t) (IsUtf8-encode c here.scalar)
+    ∙ (ap (λ (cs : List ℕ). cs ++ chars (encode_utf8_all t)) (chars-encode c here.scalar) ∙ ap (λ (cs : List ℕ). c ∷ cs) (chars_back t (All-tail IsTextCharacter c t text)))
+
+text_read : (limits : Limits) (progress : HeadProgress) (place : Place) (error : Bool) → progress ≡ reading (text_held progress) → IsReadSoFar limits progress place error → All IsTextCharacter (text_held progress)
+text_read limits progress place error reads read = (subst (λ (p : HeadProgress). IsReadSoFar limits p place error) reads read).text
+
+-- before the body two scores under the same limits give the same
+same_heads : (one other : ScoreStageState) → one.limits ≡ other.limits → one.part ≡ score_part.Heads → other.part ≡ score_part.Heads → (from_heads : List HeadEvent) → left_of one from_heads ≡ left_of other from_heads
+same_heads one other limits part other_part from_heads =
+    ap (λ (p : ScorePart). left_of (record one { part = p }) from_heads) part
+    ∙ (ap (λ (l : Limits). left_of (record one { part = score_part.Heads; limits = l }) from_heads) limits
+    ∙ ap (λ (p : ScorePart). left_of (record other { part = p }) from_heads) (sym other_part))
+
+-- An engine that runs in its headers.
+pub record RunsInHeads (e : EngineState) : Type 0 where
+  pub runs : is_none e.written.ended ≡ true
+  pub step : RunsInStep e.decoder e.heads e.score e.written
+  pub force : HasForce e.written
+  pub read : IsReadSoFar e.heads.limits e.heads.progress e.decoder.place e.written.errors
+  pub limits : e.heads.limits ≡ e.score.limits
+
+-- Two decoders run under one limit, and tell the same.
+pub record AreDecodersAlike (one other : DecoderState) : Type 0 where
+  pub runs : one.running ≡ true
+  pub other_runs : other.running ≡ true
+  pub limit : one.limit ≡ other.limit
+  pub told : TellTheSame one other
+
+pub decoders_alike : (one other : EngineState) → RunsInStep one.decoder one.heads one.score one.written → RunsInStep other.decoder other.heads other.score other.written → state_of one ≡ state_of other
+    → AreDecodersAlike one.decoder other.decoder
+decoders_alike one other run other_run same = record {
+  runs = run.runs;
+  other_runs = other_run.runs;
+  limit = run.limit ∙ (ap (λ (s : StateFields). s.input_limit) same ∙ sym other_run.limit);
+  told = decoders_saved one other same;
+}
+
+-- What two engines in their headers have alike that save the same.
+pub record AreAlikeInHeads (one other : EngineState) : Type 0 where
+  pub written : one.written ≡ other.written
+  pub decoders : AreDecodersAlike one.decoder other.decoder
+  pub limits : one.heads.limits ≡ other.heads.limits
+  pub reads : one.heads.progress ≡ reading (text_held one.heads.progress)
+  pub other_reads : other.heads.progress ≡ reading (text_held other.heads.progress)
+  pub text : text_held one.heads.progress ≡ text_held other.heads.progress
+  pub gives : (from_heads : List HeadEvent) → WriteTheSame one.score other.score from_heads
+
+pub saved_in_heads : (one other : EngineState) → RunsInHeads one → RunsInHeads other → one.written.headed ≡ false → one.written.name ≡ other.written.name → state_of one ≡ state_of other → AreAlikeInHeads one other
+saved_in_heads one other run other_run headed name same =
+    let first = heads_by_written one.heads.progress one.score.part one.written.headed headed run.step.parts in
+    let phase : phase_fields other.heads.progress other.written.force other.score ≡ InHeaders (encode_utf8_all (text_held one.heads.progress)) =
+    sym (ap (λ (s : StateFields). s.phase) same) ∙ phase_by_progress one.heads.progress one.written.force one.score first.reads in
+    let second = heads_by_phase other.heads.progress other.score.part other.written.headed other.written.force other.score (encode_utf8_all (text_held one.heads.progress)) phase other_run.step.parts in
+    let count = run.step.none headed in
+    let other_count = other_run.step.none second.unheaded in
+    let limits = limits_saved one other same in
+    record {
+      written = written_saved one other same name run.runs other_run.runs (headed ∙ sym second.unheaded) (count ∙ sym other_count) (run.force.outset count ∙ sym (other_run.force.outset other_count));
+      decoders = decoders_alike one other run.step other_run.step same;
+      limits = run.limits ∙ (limits ∙ sym other_run.limits);
+      reads = first.reads;
+      other_reads = second.reads;
+      text =
+          sym (chars_back (text_held one.heads.progress) (text_read one.heads.limits one.heads.progress one.decoder.place one.written.errors first.reads run.read))
+          ∙ (ap chars (sym second.bytes) ∙ chars_back (text_held other.heads.progress) (text_read other.heads.limits other.heads.progress other.decoder.place other.written.errors second.reads other_run.read));
+      gives = λ from_heads w book. ap (λ lists. streams_from w book from_heads lists) (same_heads one.score other.score limits first.in_heads second.in_heads from_heads);
+    }
+
+-- ---- what both write
+
+heads_but_book : (one other : HeaderStageState) → one.limits ≡ other.limits → one.progress ≡ other.progress → record { limits = one.limits; progress = one.progress; book = other.book } ≡ other
+heads_but_book one other limits progress = λ i. record { limits = limits i; progress = progress i; book = other.book }
+
+pub heads_agree : (one other : EngineState) → AreAlikeInHeads one other → ((bytes : List ℕ) → decoder.events_left one.decoder bytes ≡ decoder.events_left other.decoder bytes)
+    → ((items : List (Result Char Fault)) → events_left one.heads.limits one.heads.progress items ≡ events_left other.heads.limits other.heads.progress items) → (ending : SourceEnding) (bytes : List ℕ)
+    → streams_left one ending bytes ≡ streams_left other ending bytes
+heads_agree one other alike decoded given ending bytes =
+    let items = items_left one ending bytes in
+    let from_heads = head_events_left one.heads ending items in
+    let progress = alike.reads ∙ (ap (λ (t : List ℕ). reading t) alike.text ∙ sym alike.other_reads) in
+    streams_agree one other ending bytes alike.written (decoded bytes) given
+    (no_matter_which_book one.written one.heads.limits one.heads.progress one.heads.book other.heads.book ending items (left_of one.score from_heads)
+    ∙ ap (λ (h : HeaderStageState). streams_from one.written (book_behind h items) from_heads (left_of one.score from_heads)) (heads_but_book one.heads other.heads alike.limits progress))
+    (alike.gives from_heads)
+
+-- ---- an engine shows its parts
+
+abbrev pub shown : DecoderState → HeaderStageState → ScoreWriterState → EngineState
+shown d h w = record { decoder = d; heads = h; score = w.score; written = w.writer.written; output = w.writer.out.items; messages = w.writer.messages.items }
+
+module _ (d : DecoderState) (h : HeaderStageState) (from_heads : BoundedList HeadEvent) (w : ScoreWriterState) (d2 : DecoderState) (h2 : HeaderStageState) (from_heads2 : BoundedList HeadEvent) (w2 : ScoreWriterState) where
+  abbrev here : EngineState
+  here = shown d h w
+
+  abbrev there : EngineState
+  there = shown d2 h2 w2
+
+  runs_in_heads : IsEngine d h from_heads w → is_running here ≡ true → RunsInHeads here
+  runs_in_heads is runs = record { runs = runs; step = is.step.runs runs; force = is.step.force; read = is.headers runs; limits = is.together.limits }
+
+  runs_in_heads_too : IsEngine d2 h2 from_heads2 w2 → is_running there ≡ true → RunsInHeads there
+  runs_in_heads_too is runs = record { runs = runs; step = is.step.runs runs; force = is.step.force; read = is.headers runs; limits = is.together.limits }
+
+  pub alike_in_heads : (one other : EngineState) → IsEngine d h from_heads w → IsEngine d2 h2 from_heads2 w2 → here ≡ one → there ≡ other → is_running one ≡ true → is_running other ≡ true → one.written.headed ≡ false
+      → one.written.name ≡ other.written.name → state_of one ≡ state_of other → AreAlikeInHeads here there
+  alike_in_heads one other is is2 view view2 runs runs2 headed name same =
+      saved_in_heads here there (runs_in_heads is (ap (λ (s : EngineState). is_running s) view ∙ runs)) (runs_in_heads_too is2 (ap (λ (s : EngineState). is_running s) view2 ∙ runs2))
+      (ap (λ (s : EngineState). s.written.headed) view ∙ headed)
+      (ap (λ (s : EngineState). s.written.name) view ∙ (name ∙ sym (ap (λ (s : EngineState). s.written.name) view2)))
+      (ap (λ (s : EngineState). state_of s) view ∙ (same ∙ sym (ap (λ (s : EngineState). state_of s) view2)))
+
+-- what is left of what they show is left of them
+pub left_of_shown : (a b one other : EngineState) → a ≡ one → b ≡ other → ((ending : SourceEnding) (bytes : List ℕ) → streams_left a ending bytes ≡ streams_left b ending bytes)
+    → (ending : SourceEnding) (bytes : List ℕ) → streams_left one ending bytes ≡ streams_left other ending bytes
+left_of_shown a b one other view view2 law ending bytes =
+    sym (ap (λ (s : EngineState). streams_left s ending bytes) view) ∙ (law ending bytes ∙ ap (λ (s : EngineState). streams_left s ending bytes) view2)

@@ -1,0 +1,131 @@
+-- Engines whose parts go on alike write the same of whatever follows.
+use Rattle.std.proofs.Common.{◌≡◌, ℕ, zero, suc, ◌⊎◌, inl, inr, List, [], ◌∷◌, ◌++◌, length, take, true, false, Bool, ◌||◌, Result, Ok, Err, refl, ap, sym, ◌∙◌}
+use Rattle.std.proofs.lemmas.List.Folds.{list_any-append}
+use Rattle.std.specs.List.{list_any}
+use Rattle.gabc_places.specs.StageLaw.{concat_of}
+use Rattle.gabc_places.specs.declared.code.Fault.{Fault}
+use Rattle.gabc_places.specs.declared.limits.Limits.{Limits}
+use Rattle.gabc_places.specs.declared.place.Char.{Char}
+use Rattle.gabc_places.specs.witness.DecoderEvents as decoder
+use Rattle.gabc_headers.specs.declared.heads.Heads.{Heads}
+use Rattle.gabc_headers.specs.declared.heads.HeadFault.{HeadFault}
+use Rattle.gabc_headers.specs.declared.head_event.HeadEvent.{HeadEvent}
+use Rattle.gabc_headers.specs.Heads.{heads_of}
+use Rattle.gabc_headers.specs.HeadEvents as heads
+use Rattle.gabc_headers.specs.witness.HeadEvents.{HeaderStageState, HeadProgress, reading, behind, over, IsBehind, book_at, events_at_end, events_left, events_of_end, events_of_input, progress_after, stage_past}
+use Rattle.gabc_score.specs.ScoreEvents.{ScoreOutput}
+use Rattle.gabc_score.specs.witness.ScoreStage.{left_of}
+use Rattle.gregorio.specs.declared.source_ending.SourceEnding.{SourceEnding}
+use Rattle.gregorio.specs.declared.source_ending.SourceEnding.TheVariants.{Whole as Ended, Broken}
+use Rattle.gregorio.specs.Outcome.{is_whole}
+use Rattle.gregorio.specs.witness.Engine.{EngineState, Written, book_behind, head_events_left, is_heads, items_left, streams_from, streams_left}
+use Rattle.gregorio.specs.machine.SavedAlike.{WriteTheSame}
+use Rattle.gregorio.proofs.StreamsOfOutputs.{first_false, in_body, second_false, without_heads}
+use Rattle.gregorio.proofs.pieces.ItemsAreRead.{behind_or_none}
+
+-- ---- no headers are whole among these
+
+abbrev NoHeads : List HeadEvent → Type 0
+NoHeads events = list_any is_heads events ≡ false
+
+none_in_both : (xs ys : List HeadEvent) → NoHeads xs → NoHeads ys → NoHeads (xs ++ ys)
+none_in_both xs ys h k = list_any-append is_heads xs ys ∙ (ap (λ (b : Bool). b || list_any is_heads ys) h ∙ k)
+
+none_in_first : (n : ℕ) (lists : List (List HeadEvent)) → NoHeads (concat_of lists) → NoHeads (concat_of (take n lists))
+none_in_first zero lists h = refl
+none_in_first (suc n) [] h = refl
+none_in_first (suc n) (xs ∷ lists) h =
+    let both = sym (list_any-append is_heads xs (concat_of lists)) ∙ h in
+    none_in_both xs (concat_of (take n lists)) (first_false (list_any is_heads xs) _ both) (none_in_first n lists (second_false (list_any is_heads xs) _ both))
+
+none_emitted : (ending : SourceEnding) (items : List (Result Char Fault)) (lists : List (List HeadEvent)) → NoHeads (concat_of lists) → NoHeads (heads.emitted_by (is_whole ending) items lists)
+none_emitted Ended items lists h = h
+none_emitted Broken items lists h = none_in_first (length items) lists h
+
+none_at_end : (limits : Limits) (progress : HeadProgress) → NoHeads (events_of_end limits progress)
+none_at_end limits (reading t) = by (heads_of limits t)
+  where
+    by : (r : Result Heads HeadFault) → NoHeads (events_at_end r)
+    by (Ok whole) = refl
+    by (Err stopped) = refl
+none_at_end limits (behind book) = refl
+none_at_end limits over = refl
+
+-- ---- the book
+
+-- behind the line `%%` the book is the one that was read, whatever was before
+one_book : (limits : Limits) (progress : HeadProgress) (old other : List (List ℕ × List ℕ)) (items : List (Result Char Fault)) → IsBehind progress
+    → (stage_past (record { limits = limits; progress = progress; book = book_at progress old }) items).book ≡ (stage_past (record { limits = limits; progress = progress; book = book_at progress other }) items).book
+one_book limits (behind book) old other items h = refl
+one_book limits (reading t) old other items h = absurd h
+one_book limits over old other items h = absurd h
+
+-- of two stages that differ in their books alone: both have one book behind these, or no headers are whole among what they give
+abbrev OneBookOrNone : Limits → HeadProgress → List (List ℕ × List ℕ) → List (List ℕ × List ℕ) → List (Result Char Fault) → Type 0
+OneBookOrNone limits progress old other items =
+    ((stage_past (record { limits = limits; progress = progress; book = old }) items).book ≡ (stage_past (record { limits = limits; progress = progress; book = other }) items).book)
+    ⊎ NoHeads (concat_of (events_left limits progress items))
+
+books_next : (limits : Limits) (progress : HeadProgress) (old other : List (List ℕ × List ℕ)) (x : Result Char Fault) (items : List (Result Char Fault))
+    → IsBehind (progress_after limits progress x) ⊎ NoHeads (events_of_input limits progress x)
+    → (let after = progress_after limits progress x in OneBookOrNone limits after (book_at after old) (book_at after other) items) → OneBookOrNone limits progress old other (x ∷ items)
+books_next limits progress old other x items (inl is) later = inl (one_book limits (progress_after limits progress x) old other items is)
+books_next limits progress old other x items (inr none) (inl same) = inl same
+books_next limits progress old other x items (inr none) (inr none_later) =
+    inr (none_in_both (events_of_input limits progress x) (concat_of (events_left limits (progress_after limits progress x) items)) none none_later)
+
+books_or_none : (limits : Limits) (progress : HeadProgress) (old other : List (List ℕ × List ℕ)) (items : List (Result Char Fault)) → OneBookOrNone limits progress old other items
+books_or_none limits progress old other [] = inr (none_in_both (events_of_end limits progress) [] (none_at_end limits progress) refl)
+books_or_none limits progress old other (x ∷ items) =
+    let after = progress_after limits progress x in
+    books_next limits progress old other x items (behind_or_none limits progress x) (books_or_none limits after (book_at after old) (book_at after other) items)
+
+module _ (w : Written) (limits : Limits) (progress : HeadProgress) (old other : List (List ℕ × List ℕ)) (ending : SourceEnding) (items : List (Result Char Fault)) (lists : List (List ScoreOutput)) where
+  abbrev one : HeaderStageState
+  one = record { limits = limits; progress = progress; book = old }
+
+  abbrev two : HeaderStageState
+  two = record { limits = limits; progress = progress; book = other }
+
+  abbrev given : List HeadEvent
+  given = head_events_left one ending items
+
+  either_book : OneBookOrNone limits progress old other items → streams_from w (book_behind one items) given lists ≡ streams_from w (book_behind two items) given lists
+  either_book (inl same) = ap (λ (book : List (List ℕ × List ℕ)). streams_from w book given lists) same
+  either_book (inr none) =
+      let never = inr (none_emitted ending items (events_left limits progress items) none) in
+      without_heads w (book_behind one items) given lists never ∙ sym (without_heads w (book_behind two items) given lists never)
+
+  -- The book that a stage had before makes no difference.
+  pub no_matter_which_book : streams_from w (book_behind one items) given lists ≡ streams_from w (book_behind two items) given lists
+  no_matter_which_book = either_book (books_or_none limits progress old other items)
+
+-- Where the headers are written, the book makes none.
+pub no_matter_which_book_behind : (w : Written) (book other : List (List ℕ × List ℕ)) (from_heads : List HeadEvent) (lists : List (List ScoreOutput)) → w.headed ≡ true
+    → streams_from w book from_heads lists ≡ streams_from w other from_heads lists
+no_matter_which_book_behind w book other from_heads lists headed = in_body w book from_heads lists headed ∙ sym (in_body w other from_heads lists headed)
+
+-- ---- two engines
+
+-- Their books make no difference.
+abbrev pub NoMatterWhichBook : EngineState → EngineState → SourceEnding → List ℕ → Type 0
+NoMatterWhichBook one other ending bytes =
+    let items = items_left one ending bytes in
+    let from_heads = head_events_left one.heads ending items in
+    streams_from one.written (book_behind one.heads items) from_heads (left_of one.score from_heads) ≡ streams_from one.written (book_behind other.heads items) from_heads (left_of one.score from_heads)
+
+-- Two engines have the same streams left: their decoders emit the same, and their stages of headers; their books make no difference; of what the scores give
+-- once these come, the same is written; and the same is written before.
+pub streams_agree : (one other : EngineState) (ending : SourceEnding) (bytes : List ℕ) → one.written ≡ other.written → decoder.events_left one.decoder bytes ≡ decoder.events_left other.decoder bytes
+    → ((items : List (Result Char Fault)) → events_left one.heads.limits one.heads.progress items ≡ events_left other.heads.limits other.heads.progress items) → NoMatterWhichBook one other ending bytes
+    → WriteTheSame one.score other.score (head_events_left one.heads ending (items_left one ending bytes)) → streams_left one ending bytes ≡ streams_left other ending bytes
+streams_agree one other ending bytes written decoded given books same =
+    let items = items_left one ending bytes in
+    let from_heads = head_events_left one.heads ending items in
+    let book = book_behind other.heads items in
+    books
+    ∙ (same one.written book
+    ∙ (ap (λ (w : Written). streams_from w book from_heads (left_of other.score from_heads)) written
+    ∙ (ap (λ (events : List HeadEvent). streams_from other.written book events (left_of other.score events)) (ap (λ (lists : List (List HeadEvent)). heads.emitted_by (is_whole ending) items lists) (given items))
+    ∙ ap (λ (xs : List (Result Char Fault)). let events = head_events_left other.heads ending xs in streams_from other.written (book_behind other.heads xs) events (left_of other.score events))
+    (ap (λ (lists : List (List (Result Char Fault))). heads.emitted_by (is_whole ending) bytes lists) decoded))))
