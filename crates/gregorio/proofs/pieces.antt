@@ -23,3 +23,4 @@ pub mod StatesOfScores
 pub mod StreamsAgree
 pub mod SavedInHeaders
 pub mod SavedInBodies
+pub mod ItemsStandInLine

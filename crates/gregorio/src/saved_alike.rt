@@ -52,6 +52,16 @@ fn writers_saved_alike_agree(one: &ScoreWriter, other: &ScoreWriter)
     what_is_saved_alike_writes_the_same(&one.score, &other.score);
 }
 
+/// So do two writers of scores, where the one stands in front of the first text, if the characters that come stand one behind the other.
+fn writers_in_front_agree(one: &ScoreWriter, other: &ScoreWriter)
+    requires saved { AreSavedAlike one.now.score other.now.score }
+    requires front { StandsInFront one.now.score }
+    ensures { (from_heads : List HeadEvent) → StandInLine one.now.score.held.next from_heads →
+        WriteTheSame one.now.score other.now.score from_heads }
+{
+    a_comment_in_front_writes_what_one_in_a_text_does(&one.score, &other.score);
+}
+
 /// Two engines that run in the headers, call their inputs the same and save the same write the same of whatever follows.
 fn engines_saved_alike_in_headers_agree(one: &Engine, other: &Engine)
     requires runs { is_running one.now ≡ true }
@@ -84,4 +94,24 @@ fn engines_saved_alike_in_the_body_agree(one: &Engine, other: &Engine)
     one.writer.tells_of_a_text();
     other.writer.tells_of_a_text();
     writers_saved_alike_agree(&one.writer, &other.writer);
+}
+
+/// So do two that run in the body, where the one stands in front of the first text.
+fn engines_saved_alike_in_front_agree(one: &Engine, other: &Engine)
+    requires runs { is_running one.now ≡ true }
+    requires other_runs { is_running other.now ≡ true }
+    requires body { one.now.written.headed ≡ true }
+    requires name { one.now.written.name ≡ other.now.written.name }
+    requires state { state_of one.now ≡ state_of other.now }
+    requires front { StandsInFront one.now.score }
+    ensures { (ending : SourceEnding) (bytes : List ℕ) →
+        streams_left one.now ending bytes ≡ streams_left other.now ending bytes }
+{
+    what_a_decoder_tells_may_be_told(&one.decoder);
+    what_a_decoder_tells_may_be_told(&other.decoder);
+    decoders_that_tell_the_same_agree(&one.decoder, &other.decoder);
+    stages_behind_headers_agree(&one.heads, &other.heads);
+    one.writer.tells_of_a_text();
+    other.writer.tells_of_a_text();
+    writers_in_front_agree(&one.writer, &other.writer);
 }

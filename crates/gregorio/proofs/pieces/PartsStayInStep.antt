@@ -157,7 +157,7 @@ pub record IsNear (p : Place) (n : ℕ) : Type 0 where
   pub column : 1 ≤ p.column
   pub near : p.line + p.column ≤ n + 2
 
-near_next : (p : Place) (c n : ℕ) → IsNear p n → IsNear (next_place p c) (n + 1)
+pub near_next : (p : Place) (c n : ℕ) → IsNear p n → IsNear (next_place p c) (n + 1)
 near_next p c n h = by (is_line_feed c)
   where
     by : (b : Bool) → IsNear (if b then place_at (p.line + 1) 1 else place_at p.line (p.column + 1)) (n + 1)

@@ -13,6 +13,7 @@ use Rattle.gabc_places.specs.declared.limits.Limits.{Limits}
 use Rattle.gabc_places.specs.declared.place.Place.{Place}
 use Rattle.gabc_headers.specs.witness.HeadEvents.{HeaderStageState, HeadProgress, reading, behind, over, IsBehind, events_left}
 use Rattle.gabc_neumes.specs.InForce.{InForce}
+use Rattle.gabc_score.specs.ScoreStage.{StandInLine}
 use Rattle.gabc_score.specs.ScoreTells.{StandsAt, before_of, before_with, held_of, in_body as in_body_of, openers_of}
 use Rattle.gabc_score.specs.Syllable.{UnplacedSyllable}
 use Rattle.gabc_score.specs.ToldWithin.{IsHeldWithin, IsToldWithin, written_behind}
@@ -31,6 +32,7 @@ use Rattle.gregorio.specs.machine.InStep.{AreInOnePart, RunsInStep}
 use Rattle.gregorio.specs.machine.SavedAlike.{AreSavedAlike, WriteTheSame}
 use Rattle.gregorio.specs.machine.ScoreWriter.{ScoreWriterState}
 use Rattle.gregorio.specs.machine.TellsInStep.{TellsInBody, TellsInStep}
+use Rattle.gregorio.proofs.pieces.ItemsStandInLine.{left_in_line}
 use Rattle.gregorio.proofs.pieces.PartsStayInStep.{IsInBody, in_body}
 use Rattle.gregorio.proofs.pieces.SavedInHeaders.{limits_saved, shown, written_saved}
 use Rattle.gregorio.proofs.pieces.StatesOfScores.{score_in_body}
@@ -135,6 +137,14 @@ module _ (one other : EngineState) (run : Runs one) (other_run : Runs other) (he
   pub other_headed : other.written.headed ≡ true
   other_headed = there.headed
 
+  -- the characters that come stand one behind the other
+  pub come_in_line : (ending : SourceEnding) (bytes : List ℕ) → StandInLine one.score.held.next (head_events_left one.heads ending (items_left one ending bytes))
+  come_in_line ending bytes =
+      let limit = run.step.limit in
+      let most = one.score.limits.in_range.input_most in
+      subst (λ (at : Place). StandInLine at (head_events_left one.heads ending (items_left one ending bytes))) (sym here.tells.next)
+      (left_in_line one (record { column = run.step.column; near = run.step.near }) run.decoder.within (omega (arith, limit, most)) one_behind ending bytes)
+
   same_fields : fields ≡ score_fields other.written.force other.score
   same_fields = sym (ap (fields_in fields) phase) ∙ ap (fields_in fields) (phase_in_body other.heads.progress other.written.force other.score other_behind)
 
@@ -213,13 +223,13 @@ module _ (one other : EngineState) (run : Runs one) (other_run : Runs other) (he
 
 pub bodies_agree : (one other : EngineState) → one.written ≡ other.written → one.written.headed ≡ true → ((bytes : List ℕ) → decoder.events_left one.decoder bytes ≡ decoder.events_left other.decoder bytes)
     → ((items : List (Result Char Fault)) → events_left one.heads.limits one.heads.progress items ≡ events_left other.heads.limits other.heads.progress items)
-    → ((from_heads : List HeadEvent) → WriteTheSame one.score other.score from_heads) → (ending : SourceEnding) (bytes : List ℕ) → streams_left one ending bytes ≡ streams_left other ending bytes
+    → ((ending : SourceEnding) (bytes : List ℕ) → WriteTheSame one.score other.score (head_events_left one.heads ending (items_left one ending bytes))) → (ending : SourceEnding) (bytes : List ℕ) → streams_left one ending bytes ≡ streams_left other ending bytes
 bodies_agree one other written headed decoded given gives ending bytes =
     let items = items_left one ending bytes in
     let from_heads = head_events_left one.heads ending items in
     streams_agree one other ending bytes written (decoded bytes) given
     (no_matter_which_book_behind one.written (book_behind one.heads items) (book_behind other.heads items) from_heads (left_of one.score from_heads) headed)
-    (gives from_heads)
+    (gives ending bytes)
 
 -- ---- an engine shows its parts
 

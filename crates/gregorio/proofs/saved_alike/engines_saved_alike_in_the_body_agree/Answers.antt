@@ -1,6 +1,6 @@
 use Rattle.std.proofs.Common.{ap, ◌∙◌}
 use Rattle.gregorio.specs.Engine.{is_running}
-use Rattle.gregorio.specs.witness.Engine.{EngineState}
+use Rattle.gregorio.specs.witness.Engine.{EngineState, head_events_left, items_left}
 use Rattle.gregorio.proofs.pieces.SavedInBodies.{bodies_agree, other_headed, runs_shown, saved_in_body, shown_alike, written_in_body}
 use Rattle.gregorio.proofs.pieces.SavedInHeaders.{left_of_shown, shown}
 use Rattle.gregorio.proofs.pieces.StatesOfScores.{score_in_body, score_of_text}
@@ -60,4 +60,5 @@ returns c =
     let alike = shown_alike one other c.args.one.now c.args.other.now c.one.view_is c.other.view_is c.requires.body c.requires.name c.requires.state in
     let written = written_in_body one other run other_run alike.headed alike.state c.tells_of_a_text.ensures.within c.tells_of_a_text-2.ensures.within alike.name in
     left_of_shown one other c.args.one.now c.args.other.now c.one.view_is c.other.view_is
-    (bodies_agree one other written alike.headed c.decoders_that_tell_the_same_agree.ensures c.stages_behind_headers_agree.ensures c.writers_saved_alike_agree.ensures)
+    (bodies_agree one other written alike.headed c.decoders_that_tell_the_same_agree.ensures c.stages_behind_headers_agree.ensures
+    (λ ending bytes. c.writers_saved_alike_agree.ensures (head_events_left one.heads ending (items_left one ending bytes))))
