@@ -16,7 +16,8 @@ ghost use Rattle.gregorio.specs.machine.ClefInForce.{HasClefOfSounds};
 ghost use Rattle.gregorio.specs.machine.InStep.{HasForce, PassesOn, written_at};
 ghost use Rattle.gregorio.specs.machine.TellsInStep.{BeginsBody};
 ghost use Rattle.gabc_score.specs.ScoreTells.{StandsInFront, before_of, held_of};
-ghost use Rattle.gabc_score.specs.ToldWithin.{IsText, IsToldWithin, TellsOfText, written_behind};
+ghost use Rattle.gabc_places.specs.TextOfAnInput.{IsText};
+ghost use Rattle.gabc_score.specs.ToldWithin.{IsToldWithin, TellsOfText, written_behind};
 ghost use Rattle.gregorio.specs.machine.RunWriter.{HasRoomFor, IsInRoom, IsSteadyWriter, past_output, past_outputs};
 ghost use Rattle.gregorio.specs.machine.ScoreWriter.{output_of_event, outputs_of_events, IsOver, IsShortBook, IsSilent, emptied, fresh_writer, IsReserved, IsSteady, FitsEvents, WritesAt, WritesLast, WritesNothing};
 
