@@ -1,5 +1,5 @@
 -- What an engine that runs saves is a state, by its parts.
-use Rattle.std.proofs.Common.{◌≡◌, ℕ, ◌+◌, Option, None, ap, arith}
+use Rattle.std.proofs.Common.{◌≡◌, ◌+◌, Option, None, ap, arith}
 use Rattle.gabc_headers.specs.witness.HeadEvents.{HeadProgress, reading, behind, over}
 use Rattle.gabc_score.specs.ScoreTells.{held_of}
 use Rattle.gabc_score.specs.Syllable.{UnplacedSyllable}
