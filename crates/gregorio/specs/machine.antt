@@ -4,4 +4,5 @@ pub mod Engine
 pub mod InMemory
 pub mod InStep
 pub mod RunWriter
+pub mod Saving
 pub mod ScoreWriter

@@ -178,6 +178,20 @@ impl ScoreWriter {
         gabc_score::stage_laws::at_most_one_syllable_is_held(&self.score);
     }
 
+    /// Returns the stage over the score.
+    pub(crate) fn score(&self) -> &ScoreStage
+        ensures { result.now ≡ self.now.score }
+    {
+        &self.score
+    }
+
+    /// Returns the writer of the run.
+    pub(crate) fn run_writer(&self) -> &RunWriter
+        ensures { result.now ≡ self.now.writer }
+    {
+        &self.writer
+    }
+
     /// Returns whether the headers were written.
     pub(crate) fn headed(&self) -> bool
         ensures { result ≡ self.now.writer.written.headed }
