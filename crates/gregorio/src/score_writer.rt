@@ -233,6 +233,20 @@ impl ScoreWriter {
         gabc_score::stage_laws::what_is_held_is_a_text(&self.score);
     }
 
+    /// Returns the stage over the score.
+    pub(crate) fn score(&self) -> &ScoreStage
+        ensures { result.now ≡ self.now.score }
+    {
+        &self.score
+    }
+
+    /// Returns the writer of the run.
+    pub(crate) fn run_writer(&self) -> &RunWriter
+        ensures { result.now ≡ self.now.writer }
+    {
+        &self.writer
+    }
+
     /// Returns whether the headers were written.
     pub(crate) fn headed(&self) -> bool
         ensures { result ≡ self.now.writer.written.headed }
