@@ -29,7 +29,7 @@ and_second false b h = absurd (cc)
 -- ---- the text before the line `%%`
 
 -- behind it stands `%%`
-marked_at : (s : Bool) (r : List ℕ) → is_scored s r ≡ true → (rest : List ℕ) × (r ≡ head_text s r ++ 37 ∷ 37 ∷ rest)
+pub marked_at : (s : Bool) (r : List ℕ) → is_scored s r ≡ true → (rest : List ℕ) × (r ≡ head_text s r ++ 37 ∷ 37 ∷ rest)
 marked_at s [] h = absurd (cc)
 marked_at s (c ∷ r) h = by (s && is_score_line (c ∷ r)) refl h (λ k. marked_at (c == 10) r k)
   where

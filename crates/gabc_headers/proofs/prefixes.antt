@@ -3,3 +3,4 @@ pub mod EventsGrow
 pub mod EventsMakeHeads
 pub mod EventsNeedNoEnd
 pub mod HeadsSoFar
+pub mod LastPercent

@@ -1,5 +1,5 @@
 -- The text of the headers that a stage holds until their line `%%`.
-use Rattle.std.specs.Prelude.{◌≡◌, ℕ, List, [], map, true, Result, Ok, Err}
+use Rattle.std.specs.Prelude.{◌≡◌, ◌⊎◌, ℕ, ◌-◌, ◌≤◌, List, [], length, drop, map, codes, true, Result, Ok, Err}
 use Rattle.gabc_places.specs.declared.place.Char.{Char}
 use Rattle.gabc_places.specs.declared.code.Fault.{Fault}
 use Rattle.gabc_places.specs.declared.code.Finding.{Finding}
@@ -13,6 +13,10 @@ pub record IsHeld (limits : Limits) (t : List ℕ) : Type 0 where
   pub stopped : HeadFault
   pub heads : heads_of limits t ≡ Err stopped
   pub at_end : stopped.at_end ≡ true
+
+-- Its bytes are within a limit, or one `%` that begins a line is above it.
+abbrev pub IsWithinHeaders : ℕ → List ℕ → Type 0
+IsWithinHeaders limit bytes = (length bytes ≤ limit) ⊎ (drop (limit - 1) bytes ≡ codes "\n%")
 
 -- what is found in it
 abbrev pub findings_held : Limits → List ℕ → List Finding

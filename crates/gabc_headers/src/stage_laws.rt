@@ -1,6 +1,6 @@
 //! Laws of a stage of headers. Each function's contract is a law. Its body drives a stage, gives it one input, calls other laws, or does nothing.
 
-ghost use Rattle.std.specs.Prelude.{◌≡◌, ◌+◌, ◌*◌, ◌≤◌, List, [], ◌∷◌, true, false, length, map, None, OnErr, OnOk, Result};
+ghost use Rattle.std.specs.Prelude.{◌≡◌, ℕ, ◌+◌, ◌*◌, ◌≤◌, List, [], ◌∷◌, ◌++◌, true, false, length, map, None, Ok, OnErr, OnOk, Result, encode_utf8_all};
 ghost use Rattle.std.specs.Char.{IsScalar};
 ghost use Rattle.std.specs.List.{All};
 ghost use Rattle.gabc_places.specs.declared.place.Char.{Char};
@@ -11,9 +11,10 @@ ghost use Rattle.gabc_places.specs.StageLaw.{concat_of};
 ghost use Rattle.gabc_places.specs.Text.{decoded_of};
 ghost use Rattle.gabc_headers.specs.declared.head_event.HeadEvent.TheVariants.{Body, Found};
 ghost use Rattle.gabc_headers.specs.Heads.{heads_of};
-ghost use Rattle.gabc_headers.specs.HeldText.{IsHeld, findings_held, holding, inputs_of, text_in};
+ghost use Rattle.gabc_headers.specs.declared.heads.Heads.{Heads};
+ghost use Rattle.gabc_headers.specs.HeldText.{IsHeld, IsWithinHeaders, findings_held, holding, inputs_of, text_in};
 ghost use Rattle.gabc_headers.specs.HeadEvents.{emitted_by, events_of_heads};
-ghost use Rattle.gabc_headers.specs.witness.HeadEvents.{reading, over, IsBehind, fresh_stage, stage_past, events_left, events_of_input, events_of_end, stage_after, stage_at, text_held};
+ghost use Rattle.gabc_headers.specs.witness.HeadEvents.{reading, over, IsBehind, fresh_stage, stage_past, events_left, events_of_input, events_of_end, new_findings, stage_after, stage_at, text_held};
 
 use crate::head_event::HeadEvent;
 use crate::header_stage::HeaderStage;
@@ -118,6 +119,24 @@ pub fn a_held_text_is_held_again()
         ≡ map (λ f. Found f) (findings_held limits (text_in xs)) }
 {}
 
+/// Of no character a text is held. Where a text is held, and held still with a character more, what was found in it stays found, and what is found
+/// more comes behind it.
+pub fn a_held_text_grows()
+    ensures begins { (limits : Limits) → IsHeld limits [] }
+    ensures found { (limits : Limits) (t : List ℕ) (c : ℕ) → All IsScalar t → IsScalar c →
+        IsHeld limits t → IsHeld limits (t ++ c ∷ []) → findings_held limits (t ++ c ∷ [])
+        ≡ findings_held limits t ++ new_findings limits t (t ++ c ∷ []) }
+{}
+
+/// The text that a stage holds is within the limit of the headers, or one `%` that begins a line is above it: the next character tells whether that
+/// belongs to the line `%%`.
+pub fn a_held_text_is_within_its_limit()
+    ensures { (limits : Limits) (t : List ℕ) → 1 ≤ limits.header → IsHeld limits t →
+        IsWithinHeaders limits.header (encode_utf8_all t) }
+{
+    gabc_places::laws::earliest_is_least();
+}
+
 /// Two stages behind their headers emit the same of whatever follows, whatever the headers were.
 pub fn stages_behind_headers_agree(one: &HeaderStage, other: &HeaderStage)
     requires one { IsBehind one.now.progress }
@@ -125,3 +144,11 @@ pub fn stages_behind_headers_agree(one: &HeaderStage, other: &HeaderStage)
     ensures { (xs : List (Result Char Fault)) → events_left one.now.limits one.now.progress xs
         ≡ events_left other.now.limits other.now.progress xs }
 {}
+
+/// The character with which the headers of a stage are whole is a `%`, the second one of their line.
+pub fn a_percent_ends_the_headers(stage: &HeaderStage)
+    ensures { (t : List ℕ) (c : ℕ) (heads : Heads) → stage.now.progress ≡ reading t →
+        heads_of stage.now.limits (t ++ c ∷ []) ≡ Ok heads → c ≡ 37 }
+{
+    stage.text();
+}

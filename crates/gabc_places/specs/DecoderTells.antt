@@ -5,6 +5,7 @@ use Rattle.gabc_places.specs.declared.place.Char.{Char}
 use Rattle.gabc_places.specs.declared.place.Place.{Place}
 use Rattle.gabc_places.specs.Place.{next_place}
 use Rattle.gabc_places.specs.DecoderMachine.{DecoderState, IsPartial, IsReached, BeginsLine, is_unfinished}
+use Rattle.gabc_places.specs.TextOfAnInput.{IsTextCharacter}
 
 -- whether the last character is a CR directly before the next byte
 abbrev pub is_after_cr : DecoderState → Bool
@@ -56,10 +57,24 @@ still_runs [] runs = runs
 still_runs (Ok x ∷ items) runs = runs
 still_runs (Err fault ∷ items) runs = false
 
--- With a byte, at which these came, a decoder goes on under its limit.
+-- what comes is a character of a text
+abbrev pub AreOfText : List (Result Char Fault) → Type 0
+AreOfText [] = Unit {0}
+AreOfText (Ok x ∷ items) = IsTextCharacter x.c
+AreOfText (Err fault ∷ items) = Unit {0}
+
+-- an LF comes
+abbrev pub EndALine : List (Result Char Fault) → Type 0
+EndALine [] = ⊥
+EndALine (Ok x ∷ items) = x.c ≡ 10
+EndALine (Err fault ∷ items) = ⊥
+
+-- With a byte, at which these came, a decoder goes on under its limit. Where a CR stands directly before the next byte then, this byte was the CR.
 pub record MovesOn (old : DecoderState) (items : List (Result Char Fault)) (new : DecoderState) : Type 0 where
   pub limit : new.limit ≡ old.limit
   pub taken : AreCounted items old.taken new.taken
   pub here : StandHere items old.place
   pub place : new.place ≡ moved_place items old.place
   pub runs : new.running ≡ still_runs items old.running
+  pub plain : AreOfText items
+  pub cr : new.running ≡ true → is_after_cr new ≡ true → EndALine items

@@ -18,8 +18,10 @@ pub mod LargerLimits
 pub mod Limits
 pub mod Message
 pub mod Place
+pub mod PlacesInOrder
 pub mod Put
 pub mod Skip
 pub mod StageLaw
 pub mod Text
+pub mod TextOfAnInput
 pub mod Trial

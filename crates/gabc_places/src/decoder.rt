@@ -1,6 +1,6 @@
 //! A stage from bytes to characters.
 
-ghost use Rattle.std.specs.Prelude.{◌≡◌, ◌↔◌, ℕ, ◌+◌, ◌-◌, ◌<◌, ◌≤◌, ◌^◌, List, [], ◌∷◌, ◌++◌, length, take, true, Result, IfSome, IsSome, IsTrue, option_to_list};
+ghost use Rattle.std.specs.Prelude.{◌≡◌, ◌↔◌, ℕ, ◌+◌, ◌-◌, ◌<◌, ◌≤◌, ◌^◌, List, [], ◌∷◌, ◌++◌, length, take, true, false, Result, IfSome, IsSome, IsTrue, option_to_list};
 ghost use Rattle.std.specs.List.{All};
 ghost use Rattle.gabc_places.specs.StageLaw.{concat_of, EmitsNothing};
 ghost use Rattle.gabc_places.specs.Decoder.{known_of, known_at_end};
@@ -260,6 +260,8 @@ impl Decoder {
         ensures line { self.new.place.line ≡ self.old.place.line }
         ensures column { self.new.place.column ≡ self.old.place.column + length bytes.now }
         ensures runs { self.new.running ≡ self.old.running }
+        ensures none { bytes.now ≡ [] → self.new ≡ self.old }
+        ensures cr { 0 < length bytes.now → is_after_cr self.new ≡ false }
     {
         if let Some(last) = bytes.last() {
             self.taken += bytes.len() as u32;

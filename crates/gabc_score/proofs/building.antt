@@ -7,6 +7,7 @@ pub mod EventsOfSyllableParts
 pub mod BuilderHoldsDefinition
 pub mod FirstKinds
 pub mod OneListEachCharacter
+pub mod PartsEndLines
 pub mod PartsKeepOn
 pub mod PartsMakeSyllables
 pub mod PartsMakeUnits

@@ -16,3 +16,6 @@ pub mod HeldIsRead
 pub mod NothingIsRead
 pub mod HeldIsHeld
 pub mod BehindSyllables
+pub mod ResumedIsOfText
+pub mod BeginsAnywhere
+pub mod FrontsAgree

@@ -16,8 +16,9 @@ use Rattle.gabc_score.specs.declared.score_event.ScoreEvent.TheVariants as event
 use Rattle.gabc_score.specs.Before.{no_syllable, with_placed}
 use Rattle.gabc_score.specs.declared.score_machine.ScorePart.{ScorePart}
 use Rattle.gabc_score.specs.declared.score_machine.ScorePart.TheVariants as score_part
-use Rattle.gabc_score.specs.ScoreTells.{StandsAt}
-use Rattle.gabc_score.specs.ToldWithin.{AreCountsWithin, IsTextCharacter, TellsOfText, whole_syllables}
+use Rattle.gabc_score.specs.ScoreTells.{StandsAt, StandsInFront, is_in_comment}
+use Rattle.gabc_places.specs.TextOfAnInput.{IsTextCharacter}
+use Rattle.gabc_score.specs.ToldWithin.{AreCountsWithin, FirstBegins, HoldsIfAny, TellsOfText, whole_syllables}
 use Rattle.gabc_score.specs.declared.syllable.Position.{Position}
 use Rattle.gabc_score.specs.ScoreEvents.{first_place, ScoreOutput, Found, Stop, Syllable, End, is_last, syllables_in}
 use Rattle.gabc_score.specs.Canonical.{canonical_in_place}
@@ -114,6 +115,16 @@ is_final (head_event.Body x) = false
 is_final (head_event.Found f) = false
 is_final (head_event.Heads lines macros canonical) = false
 
+-- an input is the LF at the end of a line of the body
+abbrev pub EndsLine : HeadEvent → Type 0
+EndsLine (head_event.Body x) = x.c ≡ 10
+EndsLine x = ⊥
+
+-- what is found in the headers is passed on
+abbrev pub PassesOn : HeadEvent → List ScoreOutput → Type 0
+PassesOn (head_event.Found f) outputs = outputs ≡ Found f ∷ []
+PassesOn x outputs = Unit {0}
+
 -- in the body a text has counted this place for the next character
 abbrev pub Counts : Place → ScoreStageState → Type 0
 Counts place s = s.part ≡ score_part.Body → StandsAt place s.body.part
@@ -123,6 +134,11 @@ abbrev pub place_behind : HeadEvent → Place → Place
 place_behind (head_event.Body x) place = saturating_next_place x.place x.c
 place_behind x place = place
 
+-- the characters among these inputs stand one behind the other, the first of them at this place
+abbrev pub StandInLine : Place → List HeadEvent → Type 0
+StandInLine place [] = Unit {0}
+StandInLine place (x ∷ xs) = StandsHere x place × StandInLine (place_behind x place) xs
+
 -- At an input it gave what was to come for it, and goes on with what follows under the same limits.
 pub record GivesAt (before : ScoreStageState) (x : HeadEvent) (after : ScoreStageState) (old new : BoundedList ScoreEvent) : Type 0 where
   pub outputs : List ScoreOutput
@@ -130,14 +146,19 @@ pub record GivesAt (before : ScoreStageState) (x : HeadEvent) (after : ScoreStag
   pub limits : after.limits ≡ before.limits
   pub part : after.part ≡ part_past before.part x outputs
   pub last : (before.part ≡ score_part.Over → ⊥) → is_final x ≡ true → list_any is_last outputs ≡ true
+  pub passes : (before.part ≡ score_part.Over → ⊥) → PassesOn x outputs
+  pub line : EndsLine x → after.part ≡ score_part.Body → is_in_comment after.body.part ≡ false
   pub counts : (place : Place) → StandsHere x place → Counts place before → Counts (place_behind x place) after
   pub before_held : after.part ≡ score_part.Body → after.before ≡ preceding_past before.part x outputs before.before
   pub next : after.part ≡ score_part.Body → after.held.next ≡ next_past before.part x before.held.next
   pub stands : StandsHere x before.held.next → StandsInLine before → StandsInLine after
   pub whole : after.part ≡ score_part.Body → whole_syllables after ≤ most_whole before.part x (whole_syllables before)
   pub told : MayCome before.limits before.held.next x → StandsInLine before → TellsOfText before → TellsOfText after
+  pub holds : HoldsIfAny before → HoldsIfAny after
+  pub first : FirstBegins before → FirstBegins after
   pub law : (xs : List HeadEvent) → left_of before (x ∷ xs) ≡ outputs ∷ left_of after xs
   pub emitted : GivesOutputs outputs old new after.first after.second
+  pub front : before.part ≡ score_part.Heads → (lines macros canonical : ℕ) → x ≡ head_event.Heads lines macros canonical → StandsInFront after
 
 -- At the end of the inputs it gave what was still to come.
 pub record GivesLast (before after : ScoreStageState) (old new : BoundedList ScoreEvent) : Type 0 where
@@ -171,8 +192,11 @@ pub record GivesNothing (before : ScoreStageState) (at : Place) (bytes : List �
   pub stands : at ≡ before.held.next → StandsInLine before → StandsInLine after
   pub whole : whole_syllables after ≡ whole_syllables before
   pub told : at ≡ before.held.next → StandsInLine before → TellsOfText before → TellsOfText after
+  pub holds : HoldsIfAny before → HoldsIfAny after
+  pub first : FirstBegins before → FirstBegins after
   pub counts : Counts at before → Counts (behind_front at (length bytes) at) after
   pub law : (xs : List HeadEvent) → left_of before (body_inputs at bytes ++ xs) ≡ nothing_each bytes ++ left_of after xs
+  pub none : bytes ≡ [] → after.body.part ≡ before.body.part
 
 -- ---- counts that have not reached their last value
 

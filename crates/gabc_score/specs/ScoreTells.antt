@@ -69,6 +69,13 @@ abbrev pub is_in_front : BodyPart → Bool
 is_in_front part.Comment = true
 is_in_front part = false
 
+-- It stands in front of the first text, where no syllable is whole and nothing is read of one.
+pub record StandsInFront (s : ScoreStageState) : Type 0 where
+  pub front : is_in_front s.body.part ≡ true
+  pub none_before : s.before.syllables ≡ 0
+  pub none_held : held_of s ≡ None
+  pub nothing_read : reading_of s ≡ []
+
 -- the place that a text has counted for the next character
 abbrev pub next_in : BodyPart → Option Place
 next_in (part.Text stage) = Some (text.next_of stage)

@@ -15,8 +15,8 @@ ghost use Rattle.gabc_score.specs.machine.PartKeeps.{in_text, BeginsSnippet, Par
 ghost use Rattle.gabc_score.specs.machine.PartMakes.{PartMakes};
 ghost use Rattle.gabc_score.specs.machine.PartOnly.{PartKeepsOnly};
 ghost use Rattle.gabc_score.specs.machine.PartStarts.{PartStarts};
-ghost use Rattle.gabc_score.specs.machine.PartOpens.{PartOpensOn};
-ghost use Rattle.gabc_score.specs.ScoreTells.{StandsAt, openers_of};
+ghost use Rattle.gabc_score.specs.machine.PartOpens.{PartEndsLine, PartOpensOn};
+ghost use Rattle.gabc_score.specs.ScoreTells.{StandsAt, is_in_comment, openers_of};
 ghost use Rattle.gabc_score.specs.machine.Quiet.{TakesQuietly};
 ghost use Rattle.gabc_score.specs.machine.ReadAgain.{ReadsAgain, OpensNotes};
 ghost use Rattle.gabc_score.specs.machine.SyllableBuilder.{OpenSyllable, nothing_open};
@@ -110,6 +110,7 @@ fn text_behind(mark: Place) -> BodyPart
     ensures keeps { (lines macros : ℕ) → PartKeeps lines macros result (in_text []) }
     ensures stands { StandsAt (behind_mark mark) result }
     ensures opens { openers_of result ≡ record { notes = None; inner = None } }
+    ensures outside { is_in_comment result ≡ false }
 {
     BodyPart::Text(TextStage::new(mark.saturating_after(')')))
 }
@@ -215,6 +216,8 @@ impl BodyStage {
             x self.old.part self.new.part self.new.events }
         ensures opens { PartOpensOn self.old.nabc_lines self.old.macros
             x self.old.part self.new.part }
+        ensures line { PartEndsLine self.old.nabc_lines self.old.macros
+            x self.old.part self.new.part }
         ensures only { PartKeepsOnly self.old.nabc_lines self.old.macros
             x self.old.part self.new.events }
         ensures over { self.new.over ≡ self.old.over }
@@ -277,6 +280,8 @@ impl BodyStage {
         ensures again { ReadsAgain self.old.nabc_lines self.old.macros
             x self.old.part self.new.part self.new.events }
         ensures opens { PartOpensOn self.old.nabc_lines self.old.macros
+            x self.old.part self.new.part }
+        ensures line { PartEndsLine self.old.nabc_lines self.old.macros
             x self.old.part self.new.part }
         ensures only { PartKeepsOnly self.old.nabc_lines self.old.macros
             x self.old.part self.new.events }

@@ -96,7 +96,14 @@ pub fn canon_syllable<S: Put>(syllable: &Syllable, out: &mut S)
         ≡ S.taken out.old (canonical (starts_word syllable.now.position)
         (unplaced_of syllable.now)) }
 {
-    put_start(syllable.starts_word(), out);
+    canon_starting(syllable, syllable.starts_word(), out);
+}
+
+/// Puts the canonical text of `syllable` as `canon_syllable` does, where it `starts` a word or not, whatever its position says.
+pub fn canon_starting<S: Put>(syllable: &Syllable, starts: bool, out: &mut S)
+    ensures { out.new ≡ S.taken out.old (canonical starts (unplaced_of syllable.now)) }
+{
+    put_start(starts, out);
     match kept_from(syllable) {
         Some(from) => out.put(&syllable.kept.as_bytes()[from..]),
         None => put_parts(syllable, out),

@@ -2,7 +2,9 @@
 
 ghost use Rattle.std.specs.Prelude.{◌≡◌, [], true, false, None, is_some};
 ghost use Rattle.gabc_score.specs.ReadAgain.{StandsBefore, TellsOfReading, TellsTheSameBut};
-ghost use Rattle.gabc_score.specs.ScoreTells.{before_of, is_in_comment, is_in_front};
+ghost use Rattle.gabc_score.specs.ScoreTells.{before_of, is_in_comment, is_in_front, openers_of, reading_of};
+ghost use Rattle.gabc_places.specs.TextOfAnInput.{IsText};
+ghost use Rattle.gabc_score.specs.ToldWithin.{AreOpenersBefore, IsPlace, TellsOfText};
 ghost use Rattle.gabc_score.specs.witness.ReadAgain.{CanBeReadAgain};
 ghost use Rattle.gabc_score.specs.witness.ScoreStage.{ScoreStageState};
 ghost use Rattle.gabc_score.specs.machine.ReadAgain.{outer_of, inner_of, place_in, IsRunAlike, IsSameBut, IsToldBy, PassesAgain, StandsSo, TakesAgain};
@@ -114,6 +116,10 @@ impl ScoreMachine {
         ensures limits { self.new.limits ≡ self.old.limits }
         ensures same { result ≡ true → TellsTheSameBut (shown self.old) (shown self.new) next }
         ensures over { result ≡ false → before_of (shown self.new) ≡ None }
+        ensures told { result ≡ true → IsPlace next →
+            AreOpenersBefore next (openers_of self.new.body.part) →
+            IsText (reading_of (shown self.new)) →
+            TellsOfText (shown self.old) → TellsOfText (shown self.new) }
         ensures again { (told : ScoreStageState) → CanBeReadAgain told →
             told.limits ≡ self.old.limits → before_of told ≡ before_of (shown self.old) →
             TellsOfReading told kept.now openers in_comment → StandsBefore (shown self.old) →
@@ -152,6 +158,9 @@ impl ScoreStage {
         ensures limits { self.new.limits ≡ self.old.limits }
         ensures same { result ≡ true → TellsTheSameBut self.old self.new next }
         ensures over { result ≡ false → before_of self.new ≡ None }
+        ensures told { result ≡ true → IsPlace next →
+            AreOpenersBefore next (openers_of self.new.body.part) →
+            IsText (reading_of self.new) → TellsOfText self.old → TellsOfText self.new }
         ensures again { (told : ScoreStageState) → CanBeReadAgain told →
             told.limits ≡ self.old.limits → before_of told ≡ before_of self.old →
             TellsOfReading told kept.now openers in_comment → StandsBefore self.old →

@@ -9,9 +9,11 @@ ghost use Rattle.gabc_score.specs.HeldAgain.{MayBeHeld};
 ghost use Rattle.gabc_score.specs.Resumed.{BeginsText, HoldsAgain, StandsBehind};
 ghost use Rattle.gabc_score.specs.ScoreTells.{before_of, before_with, held_of};
 ghost use Rattle.gabc_score.specs.Syllable.{UnplacedSyllable};
-ghost use Rattle.gabc_score.specs.ToldWithin.{IsAtOutset};
+ghost use Rattle.gabc_places.specs.TextOfAnInput.{IsText};
+ghost use Rattle.gabc_score.specs.ToldWithin.{IsAtOutset, TellsOfText};
 ghost use Rattle.gabc_score.specs.machine.PartCounts.{CountsHold};
 ghost use Rattle.gabc_score.specs.machine.PartKeeps.{in_text, PartKeeps};
+ghost use Rattle.gabc_score.specs.machine.PartOnly.{HoldsTexts};
 ghost use Rattle.gabc_score.specs.machine.SyllableBuilder.{nothing_open};
 ghost use Rattle.gabc_score.specs.machine.ReadAlone.{is_error_event, is_alone, lists_of, HasRead, ReadsAlone};
 ghost use Rattle.gabc_score.specs.machine.Resumed.{first_sounded, gathered_behind};
@@ -168,6 +170,8 @@ impl ScoreMachine {
         requires room { 16 ≤ room.old.limit }
         ensures room { room.new ≡ room.old }
         ensures rests { IsScore self.new }
+        ensures texts { result ≡ true → IsText text.now → HoldsTexts self.old.pair.gathered →
+            HoldsTexts self.new.pair.gathered }
         ensures alone { result ≡ is_alone self.old.limits self.old.pair.gathered
             (lists_of self.old (chars text.now)) }
         ensures goes { result ≡ true → HasRead self.old self.new
@@ -199,6 +203,8 @@ impl ScoreMachine {
         ensures rests { IsScore self.new }
         ensures held { result ≡ true →
             HoldsAgain (chars text.now) (shown self.old) (shown self.new) }
+        ensures told { result ≡ true → IsText text.now → TellsOfText (shown self.old) →
+            TellsOfText (shown self.new) }
         ensures refused { result ≡ false → (m : UnplacedSyllable) →
             MayBeHeld self.old.limits (before_with self.old.body self.old.bounds.before)
             (chars text.now) m → ⊥ }
@@ -241,6 +247,8 @@ impl ScoreStage {
         requires room { 16 ≤ room.old.limit }
         ensures room { room.new ≡ room.old }
         ensures held { result ≡ true → HoldsAgain (chars text.now) self.old self.new }
+        ensures told { result ≡ true → IsText text.now → TellsOfText self.old →
+            TellsOfText self.new }
         ensures refused { result ≡ false → (m : UnplacedSyllable) →
             MayBeHeld self.old.limits (before_with self.old.body self.old.before)
             (chars text.now) m → ⊥ }

@@ -90,6 +90,13 @@ impl ScoreStage {
         self.machine.at_most_one_is_held();
     }
 
+    /// Returns how much it keeps.
+    pub fn limits(&self) -> Limits
+        ensures { result ≡ self.now.limits }
+    {
+        self.machine.limits
+    }
+
     /// Returns what stands before the syllable that is held, or before the one that is read where none is held. Before the headers are whole, and
     /// behind the last event, it returns `None`.
     pub fn before(&self) -> Option<Before>

@@ -22,12 +22,15 @@ ghost use Rattle.gabc_score.specs.Events.{texts_by_definition, text_from, events
 ghost use Rattle.gabc_score.specs.ScoreEvents.{HasNoEnd, ScoreOutput, fault_in, findings_in, has_end, head_events, outputs_of_text, score_outputs, syllables_in};
 ghost use Rattle.gabc_score.specs.HeldAside.{HoldTheSame, GiveTheSame};
 ghost use Rattle.gabc_score.specs.ReadAgain.{StandsBefore};
-ghost use Rattle.gabc_score.specs.ScoreTells.{before_of, held_of, reading_of, openers_of, is_in_comment, is_in_front, StandsAt};
-ghost use Rattle.gabc_score.specs.ScoreStage.{AreCountsBelow, GivesAt, IsWithinAnywhere, MayCome, events_of};
+ghost use Rattle.gabc_score.specs.Resumed.{StandsBehind};
+ghost use Rattle.gabc_score.specs.declared.before.Before.{Before};
+ghost use Rattle.gabc_score.specs.ScoreTells.{before_of, held_of, moved_to, reading_of, openers_of, is_in_comment, is_in_front, StandsAt, StandsInFront};
+ghost use Rattle.gabc_score.specs.ScoreStage.{AreCountsBelow, GivesAt, IsWithinAnywhere, MayCome, StandInLine, events_of};
 ghost use Rattle.gabc_score.specs.SpansPast.{FollowsSpans};
 ghost use Rattle.gabc_score.specs.UnitRead.{HoldsSomeUnit};
 ghost use Rattle.gabc_score.specs.witness.ReadAgain.{CanBeReadAgain};
-ghost use Rattle.gabc_score.specs.ToldWithin.{BeginsWord, IsPlace, IsText, IsToldWithin, TellsOfText, written_behind};
+ghost use Rattle.gabc_places.specs.TextOfAnInput.{IsText};
+ghost use Rattle.gabc_score.specs.ToldWithin.{AreCountsWithin, BeginsWord, FirstBegins, IsPlace, IsToldWithin, TellsOfText, written_behind};
 ghost use Rattle.gabc_score.specs.witness.ScoreStage.{ScoreStageState, left_of};
 
 use crate::score_event::ScoreEvent;
@@ -97,13 +100,33 @@ pub fn headers_may_come()
     gabc_headers::laws::the_numbers_of_headers_are_in_range();
 }
 
-/// What a stage tells is still that of a text where its next character is said to stand there, if that is no earlier.
+/// What a stage tells is still that of a text where its next character is said to stand there, if that is no earlier; and its first syllable
+/// still begins a word.
 pub fn what_is_told_may_move(stage: &mut ScoreStage, at: Place)
     requires later { IsUpTo stage.old.held.next at }
     requires place { IsPlace at }
-    ensures { TellsOfText stage.old → TellsOfText stage.new }
+    ensures told { TellsOfText stage.old → TellsOfText stage.new }
+    ensures first { FirstBegins stage.old → FirstBegins stage.new }
 {
     stage.go_to(at);
+}
+
+/// What a stage tells that goes on behind syllables, and has read nothing yet, is that of a text, where the counts of what stands before it are in
+/// range.
+pub fn a_resumed_stage_tells_of_a_text()
+    ensures { (limits : Limits) (before : Before) (s : ScoreStageState) →
+        StandsBehind limits before s →
+        AreCountsWithin limits before.nabc_lines before.macros before.canonical → TellsOfText s }
+{}
+
+/// In front of the first text a stage gives the same of whatever follows, wherever the next character is said to stand: its place counts only once
+/// the character has come.
+pub fn a_body_may_begin_anywhere(stage: &ScoreStage)
+    requires { StandsInFront stage.now }
+    ensures { (place : Place) (xs : List HeadEvent) →
+        left_of (moved_to place stage.now) xs ≡ left_of stage.now xs }
+{
+    stage.begins_anywhere();
 }
 
 /// A stage gives the end only where the end is among its inputs, whatever it has read.
@@ -175,6 +198,26 @@ pub fn stages_that_tell_the_same_agree(one: &ScoreStage, other: &ScoreStage)
     one.agrees(other);
 }
 
+/// In front of the first text a stage gives the same as one that tells the same before, under the same limits, in a comment of a text of which nothing is
+/// read, if the characters that follow stand one behind the other from the place on that this text has counted. Only the syllable that the one holds stands
+/// where the other gives its own, which says the same.
+pub fn a_comment_in_front_is_one_in_a_text(one: &ScoreStage, other: &ScoreStage)
+    requires runs { is_some (before_of one.now) ≡ true }
+    requires limits { one.now.limits ≡ other.now.limits }
+    requires before { before_of one.now ≡ before_of other.now }
+    requires held { HoldTheSame (one.now.before.syllables == 0) (held_of one.now) (held_of other.now) }
+    requires front { is_in_front one.now.body.part ≡ true }
+    requires comment { is_in_comment other.now.body.part ≡ true }
+    requires reading { reading_of other.now ≡ [] }
+    requires next { one.now.held.next ≡ other.now.held.next }
+    requires stands { StandsAt other.now.held.next other.now.body.part }
+    ensures { (xs : List HeadEvent) → StandInLine one.now.held.next xs →
+        GiveTheSame (held_of one.now) (held_of other.now)
+        (left_of one.now xs) (left_of other.now xs) }
+{
+    one.fronts_agree(other);
+}
+
 /// The whole syllable that a stage holds, whatever it has read, holds some unit: a text and its notes, with one snippet where there are no NABC
 /// lines.
 pub fn what_is_held_holds_a_unit(stage: &ScoreStage)
@@ -191,10 +234,10 @@ pub fn spans_of_what_is_held_follow(stage: &ScoreStage)
     stage.follows_spans();
 }
 
-/// Where a stage tells what a text gives, and no syllable stands before the one that it holds, this one begins a word: the body's first text begins
-/// with the LF behind the comment.
+/// Where the first syllable of a stage begins a word, and no syllable stands before the one that it holds, this one does. It does as long as the
+/// stage has read all of its body: the first text begins with the LF behind the comment.
 pub fn the_first_begins_a_word(stage: &ScoreStage)
-    ensures { TellsOfText stage.now → stage.now.before.syllables ≡ 0 →
+    ensures { FirstBegins stage.now → stage.now.before.syllables ≡ 0 →
         IfSome (held_of stage.now) BeginsWord }
 {}
 

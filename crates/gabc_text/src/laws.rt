@@ -137,6 +137,11 @@ pub fn a_kept_text_is_read_again()
     ensures facts { (t : List ℕ) → view_facts (kept t) ≡ view_facts t }
 {}
 
+/// An LF before a text makes it begin a word. Nothing else that the text says changes by it.
+pub fn a_line_feed_begins_a_word()
+    ensures { (t : List ℕ) → view_facts (10 ∷ t) ≡ record (view_facts t) { word_start = true } }
+{}
+
 /// What is emitted of a text through the character behind a prefix of it, or through its end, is found no earlier than the text
 /// begins and no later than that character. All that is found is the text's findings, and each has a code below W9. They are
 /// warnings, if no error is among them.
@@ -204,6 +209,7 @@ pub fn a_comment_before_a_text_counts_for_nothing()
     ensures on { (s : TextStage) (c : ℕ) (t : List ℕ) → Keeps s [] → is_in_comment s ≡ true →
         (c == 10) ≡ false → events_left s (c ∷ t)
         ≡ [] ∷ events_left (moved_to (saturating_next_place (next_of s) c) s) t }
+    ensures stays { (s : TextStage) (place : Place) → Keeps s [] → Keeps (moved_to place s) [] }
     ensures text { (s : TextStage) (t : List ℕ) → Keeps s [] → is_in_comment s ≡ true →
         events_left s (10 ∷ t) ≡ events_left (fresh_stage (next_of s)) (10 ∷ t) }
     ensures end { (s : TextStage) → Keeps s [] → is_in_comment s ≡ true →

@@ -1,5 +1,5 @@
 -- The lines of a syllable in a dump, and its steps, are a function of what it says.
-use Rattle.std.proofs.Common.{◌≡◌, ℕ, ◌+◌, ◌==◌, List, [], ◌∷◌, ◌++◌, Option, Some, None, codes, drop, get_or, map, refl, sym, ap, ◌∙◌, if◌then◌else◌}
+use Rattle.std.proofs.Common.{◌≡◌, Bool, ℕ, ◌+◌, ◌==◌, List, [], ◌∷◌, ◌++◌, Option, Some, None, codes, drop, get_or, map, refl, sym, ap, ◌∙◌, if◌then◌else◌}
 use Rattle.std.specs.List.{All, flat_map}
 use Rattle.std.specs.Option.{option_map}
 use Rattle.std.specs.Fmt.{decimal}
@@ -7,12 +7,15 @@ use Rattle.std.proofs.lemmas.List.Elements.{All-head, All-tail}
 use Rattle.gabc_places.specs.declared.place.Span.{Span}
 use Rattle.gabc_neumes.specs.InForce.{InForce, ScoreStep, steps_of, passed}
 use Rattle.gabc_score.specs.Holding.{HasWholeSnippets}
-use Rattle.gabc_score.specs.Syllable.{PlacedSyllable, slice, text_at}
+use Rattle.gabc_score.specs.Syllable.{UnplacedSyllable, PlacedSyllable, slice, text_at}
 use Rattle.gabc_score.specs.declared.snippets.Snippet.{Snippet}
+use Rattle.gabc_score.specs.declared.syllable.Position.{Position}
 use Rattle.gabc_write.specs.DumpOfNotes.{last_text, lines_of_notes}
 use Rattle.gabc_write.specs.DumpOfNabc.{lines_of_nabc}
-use Rattle.gabc_write.specs.DumpOfSyllables.{position_word, line_of_text, line_of_translation, first_steps, steps_of_snippet, steps_of_snippets, steps_of_syllable, lines_of_snippet, lines_of_snippets, lines_of_syllable, lines_of_syllables}
+use Rattle.gabc_write.specs.DumpOfSyllables.{position_word, line_of_text, line_of_translation, first_steps, steps_of_snippet, steps_of_snippets, steps_of_syllable, lines_of_snippet, lines_of_snippets, lines_of_syllable, lines_of_syllables, HaveOneDump}
+use Rattle.gabc_write.specs.SetDown.{SayTheSame}
 use Rattle.gabc_write.specs.SyllableMeaning.{SyllableMeaning, meaning_of, AreSame}
+use Rattle.gabc_write.specs.SyllableRead.{as_it_stands}
 
 -- ---- the lines and the steps, by what is said
 
@@ -80,7 +83,19 @@ steps_are : (s : PlacedSyllable) → HasWholeSnippets s.made → steps_of_syllab
 unfolding steps_said
 steps_are s h = ap (λ (t : List ScoreStep). first_steps s.position ++ t) (all_steps_are s.made.kept s.made.snippets h)
 
--- syllables that say the same have the same lines
+-- syllables that say the same have one dump
+one_dump : (s t : PlacedSyllable) → HasWholeSnippets s.made → HasWholeSnippets t.made → meaning_of s ≡ meaning_of t → HaveOneDump s t
+one_dump s t a b e = record {
+  lines = λ number outset. lines_are number outset s a ∙ ap (lines_said number outset) e ∙ sym (lines_are number outset t b);
+  steps = steps_are s a ∙ ap steps_said e ∙ sym (steps_are t b);
+}
+
+pub held_dump : (first : Bool) (m n : UnplacedSyllable) (position : Position) → HasWholeSnippets m → HasWholeSnippets n → SayTheSame first (Some m) (Some n)
+    → HaveOneDump (record { made = m; position = position }) (record { made = n; position = position })
+held_dump first m n position a b says =
+    let h = one_dump (record { made = as_it_stands first m; position = position }) (record { made = as_it_stands first n; position = position }) a b (says position) in
+    record { lines = h.lines; steps = h.steps }
+
 pub same_lines : (number : ℕ) (outset : InForce) (ss ts : List PlacedSyllable)
     → All (λ (s : PlacedSyllable). HasWholeSnippets s.made) ss → All (λ (s : PlacedSyllable). HasWholeSnippets s.made) ts
     → AreSame ss ts → lines_of_syllables number outset ss ≡ lines_of_syllables number outset ts
@@ -91,12 +106,8 @@ same_lines number outset (s ∷ ss) (t ∷ ts) a b e =
     let P = λ (s : PlacedSyllable). HasWholeSnippets s.made in
     let head : meaning_of s ≡ meaning_of t = ap (λ (u : List SyllableMeaning). get_or u 0 (meaning_of s)) e in
     let tail : AreSame ss ts = ap (λ (u : List SyllableMeaning). drop 1 u) e in
-    let here = All-head P s ss a in
-    let there = All-head P t ts b in
-    let first : lines_of_syllable number outset s ≡ lines_of_syllable number outset t =
-    lines_are number outset s here ∙ ap (lines_said number outset) head ∙ sym (lines_are number outset t there) in
-    let steps : steps_of_syllable s ≡ steps_of_syllable t = steps_are s here ∙ ap steps_said head ∙ sym (steps_are t there) in
+    let one : HaveOneDump s t = one_dump s t (All-head P s ss a) (All-head P t ts b) head in
     let later = same_lines (number + 1) (passed outset (steps_of_syllable t)) ss ts (All-tail P s ss a) (All-tail P t ts b) tail in
-    ap (λ (u : List ℕ). u ++ lines_of_syllables (number + 1) (passed outset (steps_of_syllable s)) ss) first
-    ∙ (ap (λ (u : List ScoreStep). lines_of_syllable number outset t ++ lines_of_syllables (number + 1) (passed outset u) ss) steps
+    ap (λ (u : List ℕ). u ++ lines_of_syllables (number + 1) (passed outset (steps_of_syllable s)) ss) (one.lines number outset)
+    ∙ (ap (λ (u : List ScoreStep). lines_of_syllable number outset t ++ lines_of_syllables (number + 1) (passed outset u) ss) one.steps
     ∙ ap (λ (u : List ℕ). lines_of_syllable number outset t ++ u) later)

@@ -1,3 +1,4 @@
+pub mod ClefsStay
 pub mod DumpOfHeadersIsShort
 pub mod DumpOfWhatIsSaid
 pub mod DumpRows

@@ -1,7 +1,9 @@
 pub mod CanonicalTextIsPrintedSyllable
 pub mod CanonicalTextsArePrinted
 pub mod HeldAgain
+pub mod HeldAreWrittenAlike
 pub mod HeldIsReadAgain
+pub mod HeldWithOneText
 pub mod NoErrorIsFoundAgain
 pub mod NoLimitIsPassedAgain
 pub mod PartsEndAtTheirMarks

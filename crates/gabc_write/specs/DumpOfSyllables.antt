@@ -1,5 +1,5 @@
 -- The lines of syllables in a dump, and a whole dump.
-use Rattle.std.specs.Prelude.{ℕ, ◌+◌, ◌==◌, List, [], ◌∷◌, ◌++◌, Bool, Option, Some, None, length, codes, if◌then◌else◌}
+use Rattle.std.specs.Prelude.{◌≡◌, ℕ, ◌+◌, ◌==◌, List, [], ◌∷◌, ◌++◌, Bool, Option, Some, None, length, codes, if◌then◌else◌}
 use Rattle.std.specs.List.{flat_map}
 use Rattle.std.specs.Fmt.{decimal}
 use Rattle.gabc_places.specs.declared.place.Span.{Span}
@@ -69,6 +69,11 @@ lines_of_syllable number outset s =
     ++ (line_of_text (canonical_text s.made.text s.made.kept)
     ++ (line_of_translation s.made.kept s.made.text.translation
     ++ lines_of_snippets (passed outset (first_steps s.position)) s.made.kept s.made.snippets))
+
+-- two syllables have the same lines under each number, and the same is in force behind them, if it is before them
+pub record HaveOneDump (s t : PlacedSyllable) : Type 0 where
+  pub lines : (number : ℕ) (outset : InForce) → lines_of_syllable number outset s ≡ lines_of_syllable number outset t
+  pub steps : steps_of_syllable s ≡ steps_of_syllable t
 
 -- the lines of syllables, which are numbered from that number on
 abbrev pub lines_of_syllables : ℕ → InForce → List PlacedSyllable → List ℕ

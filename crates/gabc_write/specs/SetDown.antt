@@ -1,22 +1,37 @@
 -- A stage over a score that is set down again from what another one tells.
-use Rattle.std.specs.Prelude.{◌≡◌, ◌==◌, List, Option, Some, None}
+use Rattle.std.specs.Prelude.{◌≡◌, ◌==◌, Bool, List, Option, Some, None}
 use Rattle.gabc_headers.specs.declared.head_event.HeadEvent.{HeadEvent}
 use Rattle.gabc_score.specs.declared.syllable.Position.{Position}
+use Rattle.gabc_score.specs.Canonical.{canonical_in_place}
 use Rattle.gabc_score.specs.HeldAside.{HoldTheSame, GiveTheSame}
 use Rattle.gabc_score.specs.ScoreTells.{held_of}
 use Rattle.gabc_score.specs.Syllable.{UnplacedSyllable}
 use Rattle.gabc_score.specs.witness.ScoreStage.{ScoreStageState, left_of}
+use Rattle.gabc_write.specs.DumpOfSyllables.{HaveOneDump}
 use Rattle.gabc_write.specs.SyllableMeaning.{meaning_of}
+use Rattle.gabc_write.specs.SyllableRead.{as_it_stands}
 
--- of two syllables that are held both say the same, wherever they stand in their word
-abbrev pub SayTheSame : Option UnplacedSyllable → Option UnplacedSyllable → Type 0
-SayTheSame None None = Unit {0}
-SayTheSame (Some m) (Some n) = (position : Position) → meaning_of (record { made = m; position = position }) ≡ meaning_of (record { made = n; position = position })
-SayTheSame _ _ = ⊥
+-- of two syllables that are held both say the same where they stand, wherever in their word. `first` tells whether no syllable stands before them.
+abbrev pub SayTheSame : Bool → Option UnplacedSyllable → Option UnplacedSyllable → Type 0
+SayTheSame first None None = Unit {0}
+SayTheSame first (Some m) (Some n) =
+    (position : Position) → meaning_of (record { made = as_it_stands first m; position = position }) ≡ meaning_of (record { made = as_it_stands first n; position = position })
+SayTheSame first _ _ = ⊥
 
 -- Whatever follows, the one gives what the other gives. Only the syllable that it holds stands where the other gives its own: it says the same, and
 -- has the same canonical text.
 pub record GoesOnAlike (told made : ScoreStageState) : Type 0 where
   pub held : HoldTheSame (told.before.syllables == 0) (held_of told) (held_of made)
-  pub says : SayTheSame (held_of told) (held_of made)
+  pub says : SayTheSame (told.before.syllables == 0) (held_of told) (held_of made)
   pub gives : (xs : List HeadEvent) → GiveTheSame (held_of told) (held_of made) (left_of told xs) (left_of made xs)
+
+-- Two syllables are written alike where both stand there in their word: they have one canonical text and one dump.
+pub record IsWrittenAlike (m n : UnplacedSyllable) (position : Position) : Type 0 where
+  pub canonical : canonical_in_place (record { made = m; position = position }) ≡ canonical_in_place (record { made = n; position = position })
+  pub dump : HaveOneDump (record { made = m; position = position }) (record { made = n; position = position })
+
+-- so are two that are held, wherever in their word
+abbrev pub AreWrittenAlike : Option UnplacedSyllable → Option UnplacedSyllable → Type 0
+AreWrittenAlike None None = Unit {0}
+AreWrittenAlike (Some m) (Some n) = (position : Position) → IsWrittenAlike m n position
+AreWrittenAlike _ _ = ⊥

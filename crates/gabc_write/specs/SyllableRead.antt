@@ -1,5 +1,5 @@
 -- A syllable that is read again from its own canonical text, apart from the score in which it stands.
-use Rattle.std.specs.Prelude.{◌≡◌, ℕ, ◌<◌, ◌≤◌, List, [], ◌∷◌, ◌++◌, length, encode_utf8_all}
+use Rattle.std.specs.Prelude.{◌≡◌, ℕ, ◌<◌, ◌≤◌, ◌||◌, Bool, List, [], ◌∷◌, ◌++◌, length, encode_utf8_all}
 use Rattle.std.specs.List.{All}
 use Rattle.gabc_places.specs.declared.place.Place.{Place}
 use Rattle.gabc_places.specs.Place.{placed_characters_from}
@@ -12,6 +12,10 @@ use Rattle.gabc_score.specs.SpansPast.{eu_past, nlba_past}
 use Rattle.gabc_score.specs.Syllable.{UnplacedSyllable, since_close, kept_of, all_syllables, is_eu, is_nlba}
 use Rattle.gabc_score.specs.UnitRead.{HoldsSomeUnit, first_events}
 use Rattle.gabc_write.specs.SyllableMeaning.{meaning_of}
+
+-- a syllable as it stands in a score: the first one begins a word, whatever its text says
+abbrev pub as_it_stands : Bool → UnplacedSyllable → UnplacedSyllable
+as_it_stands first m = record m { text = record m.text { word_start = first || m.text.word_start } }
 
 -- two syllables say the same, wherever both stand in their word, but for the spans that are open behind them
 abbrev pub SaysTheSame : UnplacedSyllable → UnplacedSyllable → Type 0
@@ -50,3 +54,7 @@ pub record IsReadFromItsText (lines macros : ℕ) (m : UnplacedSyllable) : Type 
   pub text : List ℕ
   pub bytes : canonical m.text.word_start m ≡ encode_utf8_all text
   pub read : (at : Place) (before : List BodyEvent) → since_close before ≡ [] → IsReadByItself lines macros m text at before
+
+-- so it is whether the syllable is the first one of a score or not
+abbrev pub IsReadWhereItStands : ℕ → ℕ → UnplacedSyllable → Type 0
+IsReadWhereItStands lines macros m = (first : Bool) → IsReadFromItsText lines macros (as_it_stands first m)

@@ -1,6 +1,6 @@
 //! Laws of the definitions alone. Each function's contract is a law; its body calls the laws below that it stands on.
 
-ghost use Rattle.std.specs.Prelude.{◌≡◌, ◌≤◌, ◌<◌, ◌+◌, ◌*◌, ◌^◌, ◌⊎◌, ◌++◌, ◌∷◌, ℕ, List, length, Some, Ok, encode_utf8_all, IfSome, IsUtf8};
+ghost use Rattle.std.specs.Prelude.{◌≡◌, ◌≤◌, ◌<◌, ◌+◌, ◌*◌, ◌^◌, ◌⊎◌, ◌++◌, ◌∷◌, ℕ, Bool, List, length, false, Some, Ok, encode_utf8_all, IfSome, IsUtf8};
 ghost use Rattle.std.specs.List.{All};
 ghost use Rattle.gabc_places.specs.declared.place.Place.{Place};
 ghost use Rattle.gabc_places.specs.declared.place.Char.{Char};
@@ -9,14 +9,16 @@ ghost use Rattle.gabc_places.specs.LargerLimits.{AreNoLess};
 ghost use Rattle.gabc_headers.specs.declared.heads.Heads.{Heads};
 ghost use Rattle.gabc_headers.specs.Heads.{heads_of};
 ghost use Rattle.gabc_headers.specs.Book.{nabc_lines_of};
-ghost use Rattle.gabc_neumes.specs.InForce.{InForce};
+ghost use Rattle.gabc_neumes.specs.InForce.{InForce, passed};
 ghost use Rattle.gabc_text.specs.ViewFacts.{view_facts};
 ghost use Rattle.gabc_score.specs.Events.{texts_by_definition};
 ghost use Rattle.gabc_score.specs.declared.ending.InputEnding.{InputEnding};
 ghost use Rattle.gabc_score.specs.Score.{score_of};
+ghost use Rattle.gabc_score.specs.Before.{sounds};
 ghost use Rattle.gabc_score.specs.Syllable.{UnplacedSyllable, PlacedSyllable};
 ghost use Rattle.gabc_score.specs.Canonical.{canonical, starts_word};
 ghost use Rattle.gabc_score.specs.declared.snippets.Snippet.{Snippet};
+ghost use Rattle.gabc_score.specs.declared.syllable.Position.{Position};
 ghost use Rattle.gabc_score.specs.ScoreTells.{held_of};
 ghost use Rattle.gabc_score.specs.Units.{BodyCutting, IsCut};
 ghost use Rattle.gabc_score.specs.UnitRead.{HoldsSomeUnit};
@@ -26,10 +28,11 @@ ghost use Rattle.gabc_write.specs.BodyAgain.{SyllableFacts, AreSyllables, FirstB
 ghost use Rattle.gabc_write.specs.FileAgain.{IsFileAgain};
 ghost use Rattle.gabc_write.specs.ScoreAgain.{IsPrintedScore, IsScoreAgain};
 ghost use Rattle.gabc_write.specs.PlainText.{IsText};
+ghost use Rattle.gabc_write.specs.SetDown.{SayTheSame};
 ghost use Rattle.gabc_write.specs.SyllableMeaning.{AreSame};
-ghost use Rattle.gabc_write.specs.SyllableRead.{IsReadFromItsText};
+ghost use Rattle.gabc_write.specs.SyllableRead.{as_it_stands, IsReadFromItsText, IsReadWhereItStands};
 ghost use Rattle.gabc_score.specs.Holding.{HasWholeSnippets, Holds, HoldsNoNotes};
-ghost use Rattle.gabc_write.specs.DumpOfSyllables.{lines_of_syllable, lines_of_syllables};
+ghost use Rattle.gabc_write.specs.DumpOfSyllables.{HaveOneDump, lines_of_syllable, lines_of_syllables, steps_of_syllable};
 
 use gabc_score::ScoreStage;
 
@@ -52,11 +55,14 @@ pub fn syllable_again()
 
 /// A syllable that holds a unit with notes is read again from its own canonical text, by itself: wherever this text stands and whatever was emitted
 /// before, it is one syllable, whole with its last character, that says the same, leaves the same spans open and has the same
-/// canonical text. No error is found in it.
+/// canonical text. No error is found in it. So it is where the syllable is the first one of a score, whose canonical text begins a word whatever its
+/// own text says: what is read begins a word then.
 pub fn a_syllable_is_read_from_its_own_text()
-    ensures { (lines macros : ℕ) (m : UnplacedSyllable) → HoldsSomeUnit lines m →
-        length (canonical m.text.word_start m) < 2 ^ 63 → IsReadFromItsText lines macros m }
+    ensures { (lines macros : ℕ) (first : Bool) (m : UnplacedSyllable) → HoldsSomeUnit lines m →
+        (let n = as_it_stands first m in
+        length (canonical n.text.word_start n) < 2 ^ 63 → IsReadFromItsText lines macros n) }
 {
+    gabc_text::laws::a_line_feed_begins_a_word();
     gabc_text::laws::spans_stand_for_the_view();
     gabc_text::laws::canonical_is_printed();
     gabc_text::laws::findings_lie_within();
@@ -66,10 +72,10 @@ pub fn a_syllable_is_read_from_its_own_text()
 }
 
 /// The whole syllable that a stage over a score holds, whatever the stage has read, is read again from its own canonical text, by itself, as one
-/// syllable that says the same, without an error.
+/// syllable that says the same, without an error. So it is if it is said to be the first one of the score.
 pub fn what_is_held_is_read_from_its_own_text(stage: &ScoreStage)
-    ensures { IfSome (held_of stage.now)
-        (IsReadFromItsText stage.now.body.nabc_lines stage.now.body.macros) }
+    ensures { IfSome (held_of stage.now) (IsReadWhereItStands stage.now.body.nabc_lines
+        stage.now.body.macros) }
 {
     gabc_score::stage_laws::what_is_held_holds_a_unit(stage);
     gabc_score::stage_laws::what_is_held_is_within_the_limits(stage);
@@ -182,6 +188,14 @@ pub fn a_dump_is_short()
     gabc_nabc::laws::names_are_short();
 }
 
+/// A syllable without a note or a clef in GABC leaves the clef in force that is in force before it.
+pub fn where_nothing_sounds_the_clef_stays()
+    ensures { (outset : InForce) (s : PlacedSyllable) → sounds s.made ≡ false →
+        (passed outset (steps_of_syllable s)).clef ≡ outset.clef }
+{
+    gabc_neumes::laws::steps_are_passed_one_by_one();
+}
+
 /// Syllables that say the same have the same lines in a dump, if the spans of their snippets begin and end between characters and the same is
 /// in force before both.
 pub fn syllables_that_say_the_same_have_one_dump()
@@ -190,4 +204,12 @@ pub fn syllables_that_say_the_same_have_one_dump()
         All (λ (s : PlacedSyllable). HasWholeSnippets s.made) ts →
         AreSame ss ts →
         lines_of_syllables number outset ss ≡ lines_of_syllables number outset ts }
+{}
+
+/// Two syllables that are held and say the same where they stand have one dump, wherever in their word they are written and whatever their texts say of
+/// the start of a word, if the spans of their snippets begin and end between characters.
+pub fn held_syllables_that_say_the_same_have_one_dump()
+    ensures { (first : Bool) (m n : UnplacedSyllable) (position : Position) → HasWholeSnippets m →
+        HasWholeSnippets n → SayTheSame first (Some m) (Some n) →
+        HaveOneDump (record { made = m; position = position }) (record { made = n; position = position }) }
 {}

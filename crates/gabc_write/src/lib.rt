@@ -19,6 +19,7 @@ mod dump_syllables;
 mod escape;
 pub mod laws;
 mod message;
+pub mod saved_alike;
 mod scratch;
 pub mod set_down;
 

@@ -4,7 +4,7 @@
 ghost use Rattle.std.specs.Prelude.{◌≡◌, ◌≤◌, [], true, false, is_some, IfSome};
 ghost use Rattle.gabc_score.specs.Resumed.{StandsBehind};
 ghost use Rattle.gabc_score.specs.ScoreTells.{StandsAt, before_of, before_with, held_of, is_in_front};
-ghost use Rattle.gabc_score.specs.ToldWithin.{IsToldWithin, TellsOfText, written_behind};
+ghost use Rattle.gabc_score.specs.ToldWithin.{IsToldWithin, written_behind};
 ghost use Rattle.gabc_write.specs.SetDown.{GoesOnAlike};
 ghost use Rattle.gabc_write.specs.machine.SetDown.{BeginsAlike, TellsAlike};
 
@@ -28,7 +28,6 @@ fn hold_told(
 ) -> bool
     requires runs { is_some (before_of told.now) ≡ true }
     requires within { IsToldWithin told.now }
-    requires tells { TellsOfText told.now }
     requires text { IfSome (held_of told.now) (λ m. held.now ≡ written_behind told.now.before m) }
     requires stands { StandsBehind told.now.limits (before_with told.now.body told.now.before)
         stage.old }
@@ -83,7 +82,6 @@ pub fn a_stage_is_set_down_again(
     requires runs { is_some (before_of told.now) ≡ true }
     requires front { is_in_front told.now.body.part ≡ false }
     requires next { StandsAt told.now.held.next told.now.body.part }
-    requires tells { TellsOfText told.now }
     requires text { IfSome (held_of told.now) (λ m. held.now ≡ written_behind told.now.before m) }
     requires stands { StandsBehind told.now.limits (before_with told.now.body told.now.before)
         stage.old }

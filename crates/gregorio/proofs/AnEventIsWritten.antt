@@ -17,6 +17,7 @@ use Rattle.gregorio.specs.witness.Engine.{Written, behind_output, behind_outputs
 use Rattle.gregorio.specs.machine.InStep.{PassesOn}
 use Rattle.gregorio.specs.machine.RunWriter.{RunWriterState, HasRoomFor, IsInRoom, IsSteadyWriter, last_room, line_room, lines_room, past_end, past_outputs, syllable_room, texts_room, with_heads}
 use Rattle.gregorio.specs.machine.ScoreWriter.{ScoreWriterState, FitsEvents, IsSilent, WritesAt, WritesLast, event_room, outputs_of_events, streams_of}
+use Rattle.gregorio.proofs.PassedInHeads.{passed_in_heads}
 use Rattle.gregorio.proofs.OutputsOfEvents.{as_many_emitted, emitted_is, ends_at_last, nothing_left}
 use Rattle.gregorio.proofs.RoomForAnEvent.{event_has_room, event_in_room, lines_within, room_behind, texts_are}
 use Rattle.gregorio.proofs.StreamsOfOutputs.{EndsAtLast, headed_stays, heads_come_first, no_heads_at, second_empty}
@@ -98,6 +99,8 @@ module _ (score mid : ScoreStageState) (writer : RunWriterState) (now : ScoreWri
       before_held = step.before_held;
       counts = step.counts;
       written = ap (λ (v : RunWriterState). v.written) new_is;
+      in_heads = λ heads. passed_in_heads score x step.outputs (left_of mid []) heads (step.law []);
+      tells = record { limits = step.limits; next = step.next; told = step.told; holds = step.holds; line = step.line; front = step.front };
     })
 
     -- where the run is over, the stage gives nothing more

@@ -1,5 +1,6 @@
 -- What an engine writes of the pieces of its input.
 pub mod BytesAreJoined
+pub mod ClefsOfSounds
 pub mod EventsAreWritten
 pub mod RoomIsLeft
 pub mod ItemsAreRead
@@ -9,4 +10,12 @@ pub mod FrontIsTaken
 pub mod NothingIsKeptBack
 pub mod InputsAreEnded
 pub mod PartsStayInStep
+pub mod StatesAreWhole
+pub mod StatesBeforeHeld
+pub mod StatesOfHeaders
 pub mod StatesOfInputs
+pub mod TextOfHeaders
+pub mod BodiesBegin
+pub mod HeadersEnd
+pub mod TellsInStepOn
+pub mod StatesOfScores

@@ -1,7 +1,13 @@
 pub mod Buffers
+pub mod ClefInForce
 pub mod Compile
 pub mod Engine
 pub mod InMemory
 pub mod InStep
+pub mod PartsOfStates
+pub mod ReadsHeaders
 pub mod RunWriter
+pub mod Saving
 pub mod ScoreWriter
+pub mod Telling
+pub mod TellsInStep

@@ -1,23 +1,33 @@
 //! A run that takes its input in pieces.
 
-ghost use Rattle.std.specs.Prelude.{◌≡◌, ◌<◌, ◌≤◌, ◌-◌, List, [], ◌∷◌, ◌++◌, length, take, true, false, ℕ, IfOk, option_to_list};
+ghost use Rattle.std.specs.Prelude.{◌≡◌, ◌<◌, ◌≤◌, ◌-◌, List, [], ◌∷◌, ◌++◌, length, take, true, false, ℕ, IfOk, None, option_to_list};
 ghost use Rattle.gabc_headers.specs.declared.head_event.HeadEvent.{HeadEvent as HeadItem};
 ghost use Rattle.gabc_headers.specs.declared.head_event.HeadEvent.TheVariants.{End};
+ghost use Rattle.gabc_headers.specs.witness.HeadEvents.{IsInHeaders};
+ghost use Rattle.gabc_score.specs.declared.score_machine.ScorePart.TheVariants.{Body as InBody};
 ghost use Rattle.gregorio.specs.declared.source_ending.SourceEnding.{SourceEnding as EndOfSource};
 ghost use Rattle.gregorio.specs.declared.source_ending.SourceEnding.TheVariants.{Whole, Broken};
+ghost use Rattle.gregorio_state.specs.Conditions.{AreStateFields};
 ghost use Rattle.gregorio_jobs.specs.declared.job.Status.TheVariants.{ReadFault};
 ghost use Rattle.gregorio.specs.Outcome.{outcome_of};
 ghost use Rattle.gregorio.specs.Engine.{IsPrompt, NothingWaits, is_running, with_waiting};
-ghost use Rattle.gregorio.specs.Saved.{IsStateOfInput, state_of};
+ghost use Rattle.gabc_headers.specs.witness.HeadEvents.{reading};
+ghost use Rattle.gabc_score.specs.ScoreTells.{held_of};
+ghost use Rattle.gregorio.specs.Saved.{GivesHeaders, IsPhaseTold, IsStateOfInput, state_of};
+ghost use Rattle.gregorio.specs.machine.PartsOfStates.{AreBeforeHeldIn, AreHeaderFieldsIn};
 ghost use Rattle.gregorio.specs.witness.Engine.{streams_left};
 ghost use Rattle.gregorio.specs.Streams.{streams_of_outcome, ended_with};
 ghost use Rattle.gregorio.specs.machine.Engine.{GoTogether, IsEmpty, WritesAll, WritesItems, event_of_item, headed_past};
 ghost use Rattle.gregorio.specs.machine.InStep.{PassesAll, StayInStep};
+ghost use Rattle.gregorio.specs.machine.ReadsHeaders.{ReadsOn};
+ghost use Rattle.gregorio.specs.machine.TellsInStep.{IsInHeads, StayTelling};
 ghost use Rattle.gregorio.specs.machine.ScoreWriter.{FitsEvents, IsReserved, IsShortBook, IsSteady};
 
+use crate::run_writer::RunWriter;
 use crate::score_writer::ScoreWriter;
 use gabc_headers::{HeadEvent, HeaderBook, HeaderStage};
 use gabc_places::{Char, Decoder, Fault, Limits, Room, Stage};
+use gabc_score::ScoreStage;
 use gregorio_jobs::{Job, Status};
 use std::alloc::{AllocError, Global};
 use std::hash::DefaultHasher;
@@ -99,10 +109,13 @@ fn read(
     requires few { 2 ≤ from_heads.old.limit }
     requires reserved { IsReserved writer.old }
     requires empty { IsEmpty writer.old }
+    requires part { IsInHeads writer.old }
     ensures together { GoTogether heads.new writer.new }
     ensures few { from_heads.new.limit ≡ from_heads.old.limit }
     ensures writes { WritesItems heads.old writer.old (item ∷ []) heads.new writer.new }
     ensures step { StayInStep heads.old writer.old (item ∷ []) heads.new writer.new }
+    ensures reads { ReadsOn heads.old writer.old (item ∷ []) heads.new writer.new }
+    ensures tells { StayTelling heads.old writer.old (item ∷ []) writer.new }
     ensures room { FitsEvents writer.new (End ∷ []) }
     ensures steady { IsSteady writer.old writer.new }
 {
@@ -126,17 +139,24 @@ fn read_in_heads(
     requires few { 2 ≤ from_heads.old.limit }
     requires reserved { IsReserved writer.old }
     requires empty { IsEmpty writer.old }
+    requires part { IsInHeads writer.old }
     ensures together { GoTogether heads.new writer.new }
     ensures few { from_heads.new.limit ≡ from_heads.old.limit }
     ensures writes { WritesItems heads.old writer.old (item ∷ []) heads.new writer.new }
     ensures step { StayInStep heads.old writer.old (item ∷ []) heads.new writer.new }
+    ensures reads { ReadsOn heads.old writer.old (item ∷ []) heads.new writer.new }
+    ensures tells { StayTelling heads.old writer.old (item ∷ []) writer.new }
     ensures room { FitsEvents writer.new (End ∷ []) }
     ensures steady { IsSteady writer.old writer.new }
 {
     gabc_headers::laws::canonical_lines_are_within_the_limits();
+    gabc_headers::stage_laws::a_held_text_grows();
+    gabc_headers::stage_laws::a_percent_ends_the_headers(heads);
+    gabc_score::stage_laws::headers_may_come();
     from_heads.clear();
     heads.push(item, from_heads);
     pass_on(from_heads.slice(), heads.book(), writer);
+    writer.begin_body(item);
 }
 
 /// Reads what the decoder has emitted.
@@ -151,10 +171,13 @@ fn read_decoded(
     requires few { 2 ≤ from_heads.old.limit }
     requires reserved { IsReserved writer.old }
     requires empty { IsEmpty writer.old }
+    requires part { IsInHeads writer.old }
     ensures together { GoTogether heads.new writer.new }
     ensures few { from_heads.new.limit ≡ from_heads.old.limit }
     ensures writes { WritesItems heads.old writer.old (option_to_list item) heads.new writer.new }
     ensures step { StayInStep heads.old writer.old (option_to_list item) heads.new writer.new }
+    ensures reads { ReadsOn heads.old writer.old (option_to_list item) heads.new writer.new }
+    ensures tells { StayTelling heads.old writer.old (option_to_list item) writer.new }
     ensures room { FitsEvents writer.new (End ∷ []) }
     ensures steady { IsSteady writer.old writer.new }
 {
@@ -196,6 +219,7 @@ impl Engine {
     {
         gabc_places::laws::texts_are_scalars_within_the_limit();
         gabc_headers::laws::the_book_is_read();
+        gabc_headers::stage_laws::a_held_text_grows();
         gabc_score::laws::a_stage_of_headers_emits_the_events();
         gabc_score::laws::a_score_says_what_it_emits();
         gabc_score::laws::nothing_follows_the_end();
@@ -233,6 +257,90 @@ impl Engine {
         ensures { IsStateOfInput (state_of self.now) }
     {
         gabc_places::laws::what_a_decoder_tells_may_be_told(&self.decoder);
+    }
+
+    /// Does nothing but call a law. Its contract is one: what an engine that runs saves in the headers is their text so far, a text of an input within
+    /// the limit, and its place and its errors are those that this text gives.
+    pub(crate) fn tells_of_its_headers(&self)
+        requires runs { is_running self.now ≡ true }
+        ensures fields { AreHeaderFieldsIn (state_of self.now) (state_of self.now).phase }
+        ensures gives { (t : List ℕ) → self.now.heads.progress ≡ reading t →
+            GivesHeaders self.now.score.limits t self.now.decoder.place self.now.written.errors }
+    {
+        // what holds of an engine is known where a field is used
+        let _ = &self.heads;
+        gabc_headers::stage_laws::a_held_text_is_within_its_limit();
+    }
+
+    /// Does nothing but call laws. Its contract is one: what an engine that runs saves in the score of what stands before the syllable that is held
+    /// may stand in a state, if none is held only where none is whole.
+    pub(crate) fn tells_what_stands_before(&self)
+        requires runs { is_running self.now ≡ true }
+        ensures { (held_of self.now.score ≡ None → self.now.score.before.syllables ≡ 0) →
+            AreBeforeHeldIn self.now.written.format (state_of self.now).phase }
+    {
+        self.writer.tells_what_is_in_force();
+        self.writer.begins_with_nothing();
+    }
+
+    /// Does nothing but call laws. Its contract is one: what an engine that runs saves of its score may stand in a state.
+    pub(crate) fn tells_of_its_score(&self)
+        requires runs { is_running self.now ≡ true }
+        ensures { IsPhaseTold (state_of self.now) (state_of self.now).phase }
+    {
+        gabc_places::laws::what_a_decoder_tells_may_be_told(&self.decoder);
+        if self.writer.headed() {
+            self.writer.tells_of_a_text();
+        }
+    }
+
+    /// Does nothing but call laws. Its contract is one: what an engine that runs saves is a state.
+    pub(crate) fn tells_a_state(&self)
+        requires runs { is_running self.now ≡ true }
+        ensures { AreStateFields (state_of self.now) }
+    {
+        self.tells_its_input();
+        self.tells_of_its_headers();
+        self.tells_of_its_score();
+        self.tells_what_stands_before();
+    }
+
+    /// Does nothing. Its contract is a law: behind its headers an engine that runs stands in the body.
+    pub(crate) fn stands_in_the_body(&self)
+        requires runs { is_running self.now ≡ true }
+        requires behind { IsInHeaders self.now.heads.progress → ⊥ }
+        ensures { self.now.score.part ≡ InBody }
+    {
+        // that the parts are in step is known where a field is used
+        let _ = &self.decoder;
+    }
+
+    /// Returns the decoder.
+    pub(crate) fn decoder(&self) -> &Decoder
+        ensures { result.now ≡ self.now.decoder }
+    {
+        &self.decoder
+    }
+
+    /// Returns the stage of headers.
+    pub(crate) fn heads(&self) -> &HeaderStage
+        ensures { result.now ≡ self.now.heads }
+    {
+        &self.heads
+    }
+
+    /// Returns the stage over the score.
+    pub(crate) fn score(&self) -> &ScoreStage
+        ensures { result.now ≡ self.now.score }
+    {
+        self.writer.score()
+    }
+
+    /// Returns the writer of the run.
+    pub(crate) fn run_writer(&self) -> &RunWriter
+        ensures { result.now.written ≡ self.now.written }
+    {
+        self.writer.run_writer()
     }
 
     /// Takes a byte.

@@ -1,6 +1,6 @@
 //! What a run writes, in rooms that are reserved.
 
-ghost use Rattle.std.specs.Prelude.{◌≡◌, ◌+◌, ◌*◌, ◌^◌, ◌<◌, ◌≤◌, [], IfOk, Some, true, length, string_bytes, encode_utf8_all};
+ghost use Rattle.std.specs.Prelude.{◌≡◌, ◌+◌, ◌*◌, ◌^◌, ◌<◌, ◌≤◌, [], IfOk, IfSome, Some, true, length, string_bytes, encode_utf8_all};
 ghost use Rattle.gabc_headers.specs.Canonical.{canonical_heads};
 ghost use Rattle.gabc_score.specs.Canonical.{canonical_in_place};
 ghost use Rattle.gabc_write.specs.Message.{line_of};
@@ -140,6 +140,44 @@ impl RunWriter {
             messages: message_room(alloc, name.len())?,
             scratch: Scratch::with_limit(alloc, syllable)?,
         })
+    }
+
+    /// Does nothing. Its contract is a law: the clef in force has a line, and each height an alteration.
+    pub(crate) fn tells_what_is_in_force(&self)
+        ensures line { IfSome self.now.written.force.clef
+            (λ clef. (1 ≤ clef.line) × (clef.line ≤ 5)) }
+        ensures heights { length self.now.written.force.alters ≡ 15 }
+    {
+        let _ = self.alterations.clef();
+        let _ = self.alterations.alters();
+    }
+
+    /// Returns the format of the output.
+    pub(crate) fn format(&self) -> Format
+        ensures { result ≡ self.now.written.format }
+    {
+        self.format
+    }
+
+    /// Returns whether warnings are told.
+    pub(crate) fn all_warnings(&self) -> bool
+        ensures { result ≡ self.now.written.all_warnings }
+    {
+        self.all_warnings
+    }
+
+    /// Returns what is in force behind the syllables that were written, in a dump.
+    pub(crate) fn alterations(&self) -> &Alterations
+        ensures { result.now ≡ self.now.written.force }
+    {
+        &self.alterations
+    }
+
+    /// Returns whether an error was found.
+    pub(crate) fn has_error(&self) -> bool
+        ensures { result ≡ self.now.written.errors }
+    {
+        self.errors
     }
 
     /// Returns whether the headers were written.

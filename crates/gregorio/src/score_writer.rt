@@ -1,6 +1,6 @@
 //! What a run does with what a stage of headers emits.
 
-ghost use Rattle.std.specs.Prelude.{◌≡◌, ◌≤◌, ◌||◌, ℕ, List, [], ◌∷◌, length, take, false, IfOk, IfSome, IsSome};
+ghost use Rattle.std.specs.Prelude.{◌≡◌, ◌≤◌, ◌||◌, ℕ, List, [], ◌∷◌, length, take, true, false, is_some, IfOk, IfSome, IsSome};
 ghost use Rattle.std.specs.List.{All};
 ghost use Rattle.gabc_places.specs.Skip.{IsPrintable};
 ghost use Rattle.gabc_headers.specs.declared.head_event.HeadEvent.{HeadEvent as HeadItem};
@@ -11,13 +11,19 @@ ghost use Rattle.gabc_score.specs.ScoreStage.{AreCountsBelow};
 ghost use Rattle.gabc_score.specs.witness.ScoreStage.{left_of};
 ghost use Rattle.gregorio.specs.witness.Engine.{is_heads, writes_heads};
 ghost use Rattle.gabc_score.specs.declared.score_machine.ScorePart.{ScorePart};
+ghost use Rattle.gabc_score.specs.ToldWithin.{IsAtOutset};
+ghost use Rattle.gregorio.specs.machine.ClefInForce.{HasClefOfSounds};
 ghost use Rattle.gregorio.specs.machine.InStep.{HasForce, PassesOn, written_at};
+ghost use Rattle.gregorio.specs.machine.TellsInStep.{BeginsBody};
+ghost use Rattle.gabc_score.specs.ScoreTells.{StandsInFront, before_of, held_of};
+ghost use Rattle.gabc_places.specs.TextOfAnInput.{IsText};
+ghost use Rattle.gabc_score.specs.ToldWithin.{IsToldWithin, TellsOfText, written_behind};
 ghost use Rattle.gregorio.specs.machine.RunWriter.{HasRoomFor, IsInRoom, IsSteadyWriter, past_output, past_outputs};
 ghost use Rattle.gregorio.specs.machine.ScoreWriter.{output_of_event, outputs_of_events, IsOver, IsShortBook, IsSilent, emptied, fresh_writer, IsReserved, IsSteady, FitsEvents, WritesAt, WritesLast, WritesNothing};
 
 use crate::run_writer::RunWriter;
 use gabc_headers::{HeadEvent, HeaderBook};
-use gabc_places::{Limits, Place, Room, Stage};
+use gabc_places::{Char, Fault, Limits, Place, Room, Stage};
 use gabc_score::{ScoreEvent, ScoreStage};
 use gregorio_jobs::{Job, Status};
 use std::alloc::{AllocError, Global};
@@ -135,9 +141,25 @@ impl ScoreWriter {
         ensures steady { IsSteady self.old self.new }
         ensures headed { self.new.writer.written.headed ≡ self.old.writer.written.headed }
     {
+        gabc_write::laws::where_nothing_sounds_the_clef_stays();
         self.events.clear();
         self.score.push(event, &mut self.events);
         write_events(&mut self.writer, &self.score, self.events.slice());
+    }
+
+    /// Says, if the headers are written, that the body begins behind `item`, their last character.
+    pub(crate) fn begin_body(&mut self, item: Result<Char, Fault>)
+        requires front { self.old.writer.written.headed ≡ true → StandsInFront self.old.score }
+        ensures { BeginsBody item self.old self.new }
+    {
+        let Ok(x) = item else {
+            return;
+        };
+        if !self.headed() {
+            return;
+        }
+        gabc_score::stage_laws::a_body_may_begin_anywhere(&self.score);
+        self.score.go_to(x.place.saturating_after(x.c));
     }
 
     /// Takes characters from the front of `bytes` at which nothing is written, and returns how many: none before the headers are written. They are
@@ -176,6 +198,53 @@ impl ScoreWriter {
         ensures over { IsSome self.now.writer.written.ended → IsSilent self.now.score }
     {
         gabc_score::stage_laws::at_most_one_syllable_is_held(&self.score);
+    }
+
+    /// Does nothing. Its contract is a law on what is in force: the clef has a line and each height an alteration, and in the body, where no note or
+    /// clef has come in GABC, there is no clef.
+    pub(crate) fn tells_what_is_in_force(&self)
+        ensures line { IfSome self.now.writer.written.force.clef
+            (λ clef. (1 ≤ clef.line) × (clef.line ≤ 5)) }
+        ensures heights { length self.now.writer.written.force.alters ≡ 15 }
+        ensures clef { HasClefOfSounds self.now.score self.now.writer.written }
+    {
+        self.writer.tells_what_is_in_force();
+    }
+
+    /// Does nothing but call a law. Its contract is one: in the body nothing stands before the first syllable.
+    pub(crate) fn begins_with_nothing(&self)
+        ensures { self.now.score.part ≡ ScorePart.Body → IsAtOutset self.now.score.before }
+    {
+        if self.score.before().is_some() {
+            gabc_score::stage_laws::what_is_told_is_within_the_limits(&self.score);
+        }
+    }
+
+    /// Does nothing but call laws. Its contract is one: what its stage tells in the body is within the limits, and the syllable that it holds is a
+    /// text.
+    pub(crate) fn tells_of_a_text(&self)
+        requires body { is_some (before_of self.now.score) ≡ true }
+        requires told { TellsOfText self.now.score }
+        ensures within { IsToldWithin self.now.score }
+        ensures held { IfSome (held_of self.now.score)
+            (λ m. IsText (written_behind self.now.score.before m)) }
+    {
+        gabc_score::stage_laws::what_is_told_is_within_the_limits(&self.score);
+        gabc_score::stage_laws::what_is_held_is_a_text(&self.score);
+    }
+
+    /// Returns the stage over the score.
+    pub(crate) fn score(&self) -> &ScoreStage
+        ensures { result.now ≡ self.now.score }
+    {
+        &self.score
+    }
+
+    /// Returns the writer of the run.
+    pub(crate) fn run_writer(&self) -> &RunWriter
+        ensures { result.now ≡ self.now.writer }
+    {
+        &self.writer
     }
 
     /// Returns whether the headers were written.

@@ -6,7 +6,7 @@ use Rattle.std.proofs.lemmas.Bool.{eqb-false, ne_eqb}
 use Rattle.std.proofs.lemmas.List.Elements.{All-from_recursion}
 use Rattle.gabc_neumes.specs.declared.sound.Alter.{Alter}
 use Rattle.gabc_neumes.specs.declared.sound.Alter.TheVariants as alter
-use Rattle.gregorio_state.specs.Conditions.{IsPlain, IsText}
+use Rattle.gabc_places.specs.TextOfAnInput.{IsPlain, IsText}
 use Rattle.gregorio_state.specs.machine.Tests.{is_plain, is_none}
 
 both : (a b : Bool) → (a && b) ≡ true → (a ≡ true) × (b ≡ true)

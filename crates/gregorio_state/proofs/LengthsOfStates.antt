@@ -11,7 +11,8 @@ use Rattle.gabc_places.proofs.utf8.CharacterByCharacter.{partial_short}
 use Rattle.gabc_neumes.specs.declared.sound.Clef.{Clef}
 use Rattle.gregorio_state.specs.Fields.{StateFields, ScoreFields, PhaseFields, InHeaders, InScore}
 use Rattle.gregorio_state.specs.StateBytes.{number_bytes, text_bytes, place_bytes, opener_bytes, clef_bytes, alter_number, score_parts, score_bytes, phase_bytes, state_parts, state_bytes}
-use Rattle.gregorio_state.specs.Conditions.{AreStateFields, ArePhaseFields, IsWithinHeaders}
+use Rattle.gabc_headers.specs.HeldText.{IsWithinHeaders}
+use Rattle.gregorio_state.specs.Conditions.{AreStateFields, ArePhaseFields}
 use Rattle.gregorio_state.specs.machine.Lengths.{AreShort}
 
 pub short_pending : (s : StateFields) → AreStateFields s → length s.pending < 4

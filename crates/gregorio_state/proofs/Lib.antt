@@ -1,6 +1,7 @@
 mod AltersAreRead
 mod FieldsAreRead
 mod FieldsAreTested
+mod HeldTexts
 mod LengthsOfStates
 mod NumbersAreRead
 mod PartsAreWritten

@@ -7,7 +7,8 @@ use Rattle.gabc_places.specs.DecoderMachine.{IsReached}
 use Rattle.gabc_places.specs.declared.place.Place.{Place}
 use Rattle.gregorio_state.specs.Fields.{StateFields, ScoreFields, PhaseFields, InHeaders, InScore}
 use Rattle.gregorio_state.specs.StateBytes.{number_bytes, flag_bytes, text_bytes, place_bytes, opener_bytes, spans_number, format_number, clef_bytes, alter_number, score_bytes, phase_bytes, state_bytes}
-use Rattle.gregorio_state.specs.Conditions.{LiesBefore, IsEarlier, AreScoreFields, ArePhaseFields, AreStateFields}
+use Rattle.gabc_places.specs.PlacesInOrder.{LiesBefore, IsEarlier}
+use Rattle.gregorio_state.specs.Conditions.{AreScoreFields, ArePhaseFields, AreStateFields}
 use Rattle.gregorio_state.specs.machine.Lengths.{AreShort}
 use Rattle.gregorio_state.specs.machine.Reading.{score_of_bytes, phase_of_bytes, state_of_bytes}
 use Rattle.gregorio_state.proofs.FieldsAreRead.{again_16, again_32, flag_again, format_again, spans_again, text_again, end_again, pending_again, place_again, FitsPlace, opener_again, clef_again, alters_again, tag_again, limits_again}

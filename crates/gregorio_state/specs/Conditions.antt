@@ -1,44 +1,17 @@
 -- What holds of the fields of a saved state by themselves. That a text is read as it says stands with the engine that reads it: that the text of
 -- the headers ends there and gives this place and these errors; that the held text is a whole syllable, given back when it is read; that the
 -- kept text is given back, holds no whole syllable, and is inside what the openers say; that no comment is open behind an unpaired `$`.
-use Rattle.std.specs.Prelude.{◌≡◌, ◌≢◌, ◌↔◌, ◌⊎◌, ℕ, ◌+◌, ◌-◌, ◌^◌, ◌<◌, ◌≤◌, List, [], ◌∷◌, length, drop, Bool, true, false, Option, Some, None, codes, IfSome}
-use Rattle.std.specs.List.{All}
-use Rattle.std.specs.Str.{IsUtf8, chars}
+use Rattle.std.specs.Prelude.{◌≡◌, ◌↔◌, ℕ, ◌+◌, ◌<◌, ◌≤◌, List, [], ◌∷◌, length, Bool, true, false, None, IfSome}
 use Rattle.gabc_places.specs.DecoderTells.{MayBeTold}
 use Rattle.gabc_places.specs.Limits.{AreLimits}
+use Rattle.gabc_places.specs.PlacesInOrder.{AreInOrder, LiesBefore}
+use Rattle.gabc_places.specs.TextOfAnInput.{IsText}
+use Rattle.gabc_headers.specs.HeldText.{IsWithinHeaders}
 use Rattle.gabc_places.specs.declared.place.Place.{Place}
 use Rattle.gabc_neumes.specs.InForce.{nothing_in_force}
 use Rattle.gregorio_jobs.specs.declared.job.Format.{Format}
 use Rattle.gregorio_jobs.specs.declared.job.Format.TheVariants as formats
 use Rattle.gregorio_state.specs.Fields.{StateFields, ScoreFields, PhaseFields, InHeaders, InScore}
-
--- a text of an input has no CR and no U+FEFF
-abbrev pub IsPlain : ℕ → Type 0
-IsPlain c = (c ≢ 13) × (c ≢ 0xFEFF)
-
--- the bytes are those of a text of an input
-pub record IsText (bytes : List ℕ) : Type 0 where
-  pub utf8 : IsUtf8 bytes
-  pub plain : All IsPlain (chars bytes)
-
--- A text of headers is within a limit, or one `%` that begins a line is above it.
-abbrev pub IsWithinHeaders : ℕ → List ℕ → Type 0
-IsWithinHeaders limit bytes = (length bytes ≤ limit) ⊎ (drop (limit - 1) bytes ≡ codes "\n%")
-
-abbrev pub IsEarlier : Place → Place → Type 0
-IsEarlier p q = (p.line < q.line) ⊎ ((p.line ≡ q.line) × (p.column < q.column))
-
--- an opener is a place of the text before the next character
-pub record LiesBefore (next p : Place) : Type 0 where
-  pub line : 1 ≤ p.line
-  pub column : 1 ≤ p.column
-  pub in_64_bits : p.column < 2 ^ 64
-  pub earlier : IsEarlier p next
-
--- of two openers the second stands behind the first
-abbrev pub AreInOrder : Option Place → Option Place → Type 0
-AreInOrder (Some p) (Some q) = IsEarlier p q
-AreInOrder _ _ = Unit {0}
 
 abbrev pub BeginsWithLf : List ℕ → Type 0
 BeginsWithLf [] = ⊥

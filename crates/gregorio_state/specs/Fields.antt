@@ -46,6 +46,19 @@ pub record StateFields : Type 0 where
   pub has_error : Bool
   pub phase : PhaseFields
 
+-- ---- fields with another held text
+
+abbrev pub with_held : List ℕ → ScoreFields → ScoreFields
+with_held text f = record f { held = text }
+
+abbrev pub phase_holding : List ℕ → PhaseFields → PhaseFields
+phase_holding text (InHeaders headers) = InHeaders headers
+phase_holding text (InScore f) = InScore (with_held text f)
+
+-- the headers hold none
+abbrev pub holding : List ℕ → StateFields → StateFields
+holding text s = record s { phase = phase_holding text s.phase }
+
 -- ---- the same of the fields in code, wherever their texts lie in memory
 
 abbrev pub score_of : code_score.ScoreFields → ScoreFields

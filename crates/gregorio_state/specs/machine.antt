@@ -1,3 +1,4 @@
+pub mod HeldTexts
 pub mod Lengths
 pub mod Reading
 pub mod Tests

@@ -5,7 +5,10 @@ ghost use Rattle.std.specs.List.{list_all};
 ghost use Rattle.std.specs.Str.{chars};
 ghost use Rattle.gabc_neumes.specs.InForce.{nothing_in_force};
 ghost use Rattle.gregorio_state.specs.Fields.{score_of, phase_of, fields_of};
-ghost use Rattle.gregorio_state.specs.Conditions.{IsText, IsWithinHeaders, IsEarlier, LiesBefore, AreInOrder, BeginsWithLf, AreCounts, IsAtOutset, AreBeforeHeld, IsHeldWithin, AreOpeners, MayBeInComment, AreScoreFields, AreHeaderFields, ArePhaseFields, AreStateFields};
+ghost use Rattle.gabc_headers.specs.HeldText.{IsWithinHeaders};
+ghost use Rattle.gabc_places.specs.PlacesInOrder.{IsEarlier, LiesBefore, AreInOrder};
+ghost use Rattle.gabc_places.specs.TextOfAnInput.{IsText};
+ghost use Rattle.gregorio_state.specs.Conditions.{BeginsWithLf, AreCounts, IsAtOutset, AreBeforeHeld, IsHeldWithin, AreOpeners, MayBeInComment, AreScoreFields, AreHeaderFields, ArePhaseFields, AreStateFields};
 ghost use Rattle.gregorio_state.specs.machine.Tests.{is_plain, is_none};
 
 use crate::fields::{Phase, ScoreFields, StateFields};

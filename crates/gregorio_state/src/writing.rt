@@ -1,14 +1,16 @@
 //! The bytes of a saved state, written.
 
-ghost use Rattle.std.specs.Prelude.{◌≡◌, ◌++◌, ◌+◌, ◌*◌, ◌<◌, ◌≤◌, ◌^◌, max, map, length, drop, OnOk, OnErr, IfOk};
+ghost use Rattle.std.specs.Prelude.{◌≡◌, ◌++◌, ◌+◌, ◌*◌, ◌<◌, ◌≤◌, ◌^◌, max, map, length, drop, OnOk, OnErr, IfOk, IsOk};
 ghost use Rattle.std.specs.Int.{w16, w32, w64};
-ghost use Rattle.gregorio_state.specs.Fields.{score_of, phase_of, fields_of};
+ghost use Rattle.gregorio_state.specs.Fields.{score_of, phase_of, fields_of, holding, phase_holding, with_held};
+ghost use Rattle.gregorio_state.specs.machine.HeldTexts.{text_held};
 ghost use Rattle.gregorio_state.specs.Conditions.{AreStateFields};
 ghost use Rattle.gabc_places.specs.Filling.{filled};
 ghost use Rattle.gregorio_state.specs.machine.Lengths.{AreShort};
 ghost use Rattle.gregorio_state.specs.StateBytes.{number_bytes, flag_bytes, text_bytes, place_bytes, opener_bytes, spans_number, format_number, clef_bytes, alter_number, score_bytes, phase_bytes, state_bytes};
 
 use crate::fields::{Phase, ScoreFields, StateFields};
+use crate::put_text::PutText;
 use crate::too_short::TooShort;
 use gabc_neumes::{Alter, Clef};
 use gabc_places::{BufferFiller, ByteCounter, Place, Put};
@@ -45,13 +47,23 @@ fn put_flag<S: Put>(flag: bool, out: &mut S)
     out.put(&[u8::from(flag)]);
 }
 
-/// Puts the length of `text` and `text`.
-fn put_text<S: Put>(text: &str, out: &mut S)
-    requires { length text.now < 2 ^ 32 }
-    ensures { out.new ≡ S.taken out.old (text_bytes text.now) }
+/// Returns the number of bytes of `text`.
+fn len_of<T: PutText>(text: &T) -> usize
+    requires { length (T.text text.now) < 2 ^ 32 }
+    ensures { result ≡ length (T.text text.now) }
 {
-    put_u32(text.len() as u32, out);
-    out.put(text.as_bytes());
+    let mut counter = ByteCounter::new();
+    text.put_into(&mut counter);
+    counter.count()
+}
+
+/// Puts the length of `text` and `text`.
+fn put_text<T: PutText, S: Put>(text: &T, out: &mut S)
+    requires { length (T.text text.now) < 2 ^ 32 }
+    ensures { out.new ≡ S.taken out.old (text_bytes (T.text text.now)) }
+{
+    put_u32(len_of(text) as u32, out);
+    text.put_into(out);
 }
 
 /// Puts `place`.
@@ -124,11 +136,12 @@ fn number_of_spans(eu: bool, nlba: bool) -> u8
 }
 
 impl ScoreFields<'_> {
-    /// Puts the fields in their order. Each text has to have less than 2 ^ 32 bytes.
-    fn write<S: Put>(&self, out: &mut S)
-        requires held { length self.now.held.now < 2 ^ 32 }
+    /// Puts the fields in their order, with `held` for the held text. Each text has to have less than 2 ^ 32 bytes.
+    fn write<H: PutText, S: Put>(&self, held: &H, out: &mut S)
+        requires held { length (H.text held.now) < 2 ^ 32 }
         requires kept { length self.now.kept.now < 2 ^ 32 }
-        ensures { out.new ≡ S.taken out.old (score_bytes (score_of self.now)) }
+        ensures { out.new
+            ≡ S.taken out.old (score_bytes (with_held (H.text held.now) (score_of self.now))) }
     {
         out.put(&[self.nabc_lines]);
         put_u16(self.macros, out);
@@ -138,19 +151,31 @@ impl ScoreFields<'_> {
         put_flag(self.sounded, out);
         put_clef(self.clef, out);
         put_alters(&self.alters, out);
-        put_text(self.held, out);
+        put_text(held, out);
         put_flag(self.in_comment, out);
         put_opener(self.notes_opener, out);
         put_opener(self.inner_opener, out);
-        put_text(self.kept, out);
+        put_text(&self.kept, out);
     }
 }
 
 impl Phase<'_> {
-    /// Puts 0 and the text of the headers, or 1 and the fields of the score. Each text has to have less than 2 ^ 32 bytes.
-    fn write<S: Put>(&self, out: &mut S)
-        requires { AreShort (phase_of self.now) }
-        ensures { out.new ≡ S.taken out.old (phase_bytes (phase_of self.now)) }
+    /// Returns the held text. In the headers it is empty.
+    fn held(&self) -> &str
+        ensures { result.now ≡ text_held (phase_of self.now) }
+    {
+        match self {
+            Phase::Headers(_) => "",
+            Phase::Score(fields) => fields.held,
+        }
+    }
+
+    /// Puts 0 and the text of the headers, or 1 and the fields of the score with `held` for the held text. Each text has to have less than
+    /// 2 ^ 32 bytes.
+    fn write<H: PutText, S: Put>(&self, held: &H, out: &mut S)
+        requires { AreShort (phase_holding (H.text held.now) (phase_of self.now)) }
+        ensures { out.new
+            ≡ S.taken out.old (phase_bytes (phase_holding (H.text held.now) (phase_of self.now))) }
     {
         match self {
             Phase::Headers(text) => {
@@ -159,7 +184,7 @@ impl Phase<'_> {
             }
             Phase::Score(fields) => {
                 out.put(&[1]);
-                fields.write(out);
+                fields.write(held, out);
             }
         }
     }
@@ -170,6 +195,16 @@ impl StateFields<'_> {
     pub fn write<S: Put>(&self, out: &mut S)
         requires { AreStateFields (fields_of self.now) }
         ensures { out.new ≡ S.taken out.old (state_bytes (fields_of self.now)) }
+    {
+        let held = self.phase.held();
+        self.write_holding(&held, out);
+    }
+
+    /// Puts the bytes of the state with `held` for the held text.
+    fn write_holding<H: PutText, S: Put>(&self, held: &H, out: &mut S)
+        requires { AreStateFields (holding (H.text held.now) (fields_of self.now)) }
+        ensures { out.new
+            ≡ S.taken out.old (state_bytes (holding (H.text held.now) (fields_of self.now))) }
     {
         out.put(b"GSAV");
         out.put(&[3]);
@@ -184,15 +219,16 @@ impl StateFields<'_> {
         out.put(self.pending);
         put_flag(self.after_cr, out);
         put_flag(self.has_error, out);
-        self.phase.write(out);
+        self.phase.write(held, out);
     }
 
-    /// Writes the bytes of the state to the front of `buf`, as many as there is room for.
-    fn fill(&self, buf: &mut [u8])
-        requires { AreStateFields (fields_of self.now) }
-        ensures { buf.new ≡ filled buf.old 0 (state_bytes (fields_of self.now)) }
+    /// Writes the bytes of the state with `held` for the held text to the front of `buf`, as many as there is room for.
+    fn fill<H: PutText>(&self, held: &H, buf: &mut [u8])
+        requires { AreStateFields (holding (H.text held.now) (fields_of self.now)) }
+        ensures { buf.new
+            ≡ filled buf.old 0 (state_bytes (holding (H.text held.now) (fields_of self.now))) }
     {
-        self.write(&mut BufferFiller { buf, len: 0 });
+        self.write_holding(held, &mut BufferFiller { buf, len: 0 });
     }
 
     /// Writes the bytes of the state to the front of `buf`, and returns how many they are. The error is that of a `buf` that has fewer bytes than
@@ -206,11 +242,30 @@ impl StateFields<'_> {
             (length buf.old < length (state_bytes (fields_of self.now))) }
         ensures unchanged { OnErr result (buf.new ≡ buf.old) }
     {
-        let len = self.len();
+        let held = self.phase.held();
+        self.save_holding(&held, buf)
+    }
+
+    /// Writes the bytes of the state as `save_into` does, with the text `held` for the held text of the fields, which is not read. The fields with
+    /// that text have to meet the conditions of a saved state. A `buf` that is as long as `len` can tell is not too short.
+    pub fn save_holding<H: PutText>(&self, held: &H, buf: &mut [u8]) -> Result<usize, TooShort>
+        requires { AreStateFields (holding (H.text held.now) (fields_of self.now)) }
+        ensures written { OnOk result (
+            let bytes = state_bytes (holding (H.text held.now) (fields_of self.now)) in
+            buf.new ≡ bytes ++ drop (length bytes) buf.old) }
+        ensures len { IfOk result (λ len. len
+            ≡ length (state_bytes (holding (H.text held.now) (fields_of self.now)))) }
+        ensures longer { OnErr result (length buf.old
+            < length (state_bytes (holding (H.text held.now) (fields_of self.now)))) }
+        ensures unchanged { OnErr result (buf.new ≡ buf.old) }
+        ensures short { max self.now.limits.header (2 * self.now.limits.syllable) + 128
+            ≤ length buf.old → IsOk result }
+    {
+        let len = self.len_holding(held);
         if buf.len() < len {
             return Err(TooShort);
         }
-        self.fill(buf);
+        self.fill(held, buf);
         Ok(len)
     }
 
@@ -222,8 +277,20 @@ impl StateFields<'_> {
         ensures short { result
             ≤ max self.now.limits.header (2 * self.now.limits.syllable) + 128 }
     {
+        let held = self.phase.held();
+        self.len_holding(&held)
+    }
+
+    /// Returns the number of bytes of the state with `held` for the held text.
+    fn len_holding<H: PutText>(&self, held: &H) -> usize
+        requires { AreStateFields (holding (H.text held.now) (fields_of self.now)) }
+        ensures len { result
+            ≡ length (state_bytes (holding (H.text held.now) (fields_of self.now))) }
+        ensures short { result
+            ≤ max self.now.limits.header (2 * self.now.limits.syllable) + 128 }
+    {
         let mut counter = ByteCounter::new();
-        self.write(&mut counter);
+        self.write_holding(held, &mut counter);
         counter.count()
     }
 }

@@ -133,7 +133,7 @@ module _ (limits : Limits) (held : List ℕ) (c : ℕ) (heads : Heads) (now : he
       let o : heads_of limits held ≡ Ok again.0 = subst (λ (x : List ℕ). heads_of limits x ≡ Ok again.0) e again.1 in
       absurd (let g : Err f ≡ Ok again.0 = sym before ∙ o in cc)
 
-  mark_last : head_len t + 2 ≡ length t
+  pub mark_last : head_len t + 2 ≡ length t
   mark_last =
       let l = score_behind limits t heads now in
       let n = length-append held (c ∷ []) in

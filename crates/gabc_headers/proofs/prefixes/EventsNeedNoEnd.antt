@@ -95,7 +95,7 @@ with_end limits progress (x ∷ xs) =
     ∙ (sym (append_assoc now (given_so_far limits next xs) (events_of_end limits (progress_past limits next xs)))
     ∙ ap (λ (l : List HeadEvent). l ++ events_of_end limits (progress_past limits next xs)) (sym (concat-cons now (take (length xs) (events_left limits next xs))))))
 
-with_input : (limits : Limits) (progress : HeadProgress) (xs : List (Result Char Fault)) (last : Result Char Fault)
+pub with_input : (limits : Limits) (progress : HeadProgress) (xs : List (Result Char Fault)) (last : Result Char Fault)
     → given_so_far limits progress (xs ++ last ∷ []) ≡ given_so_far limits progress xs ++ events_of_input limits (progress_past limits progress xs) last
 with_input limits progress [] last = concat-cons (events_of_input limits progress last) [] ∙ append-nil (events_of_input limits progress last)
 with_input limits progress (x ∷ xs) last =

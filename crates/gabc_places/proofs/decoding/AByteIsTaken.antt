@@ -35,12 +35,13 @@ spelled : (x : ℕ) → x < 128 → x ∷ [] ≡ encode x ++ []
 unfolding encode
 spelled x less = sym (append-nil (encode x) ∙ by_true _ _ _ (lt-ltb x 128 less))
 
-scalar : (x : ℕ) → x < 128 → IsScalar x
-scalar x less = grind (arith, nat_tests)
+-- a byte below 128 is a character
+pub plain_is_scalar : (x : ℕ) → x < 128 → IsScalar x
+plain_is_scalar x less = grind (arith, nat_tests)
 
 -- a byte below 128, with nothing pending, is a character
 ascii : (x : ℕ) → x < 128 → utf8_prefix_of (x ∷ []) ≡ x ∷ []
-ascii x less = ap utf8_prefix_of (spelled x less) ∙ utf8_prefix_of-past x [] (scalar x less) ∙ ap (λ l. x ∷ l) (utf8_prefix_of-none [] nothing_is_partial.none)
+ascii x less = ap utf8_prefix_of (spelled x less) ∙ utf8_prefix_of-past x [] (plain_is_scalar x less) ∙ ap (λ l. x ∷ l) (utf8_prefix_of-none [] nothing_is_partial.none)
 
 pub plain_byte_taken : (x : ℕ) (s : DecoderState) → s.running ≡ true → (s.taken ≡ s.limit → ⊥) → s.pending ≡ [] → x < 128
     → take_byte x s ≡ take_character x (record s { taken = s.taken + 1 })

@@ -1,16 +1,22 @@
 -- Where a decoder stands behind a byte.
-use Rattle.std.proofs.Common.{◌≡◌, ℕ, ◌+◌, Bool, true, false, List, [], ◌∷◌, ◌++◌, Option, option_to_list, Result, refl, sym, subst, arith}
+use Rattle.std.proofs.Common.{◌≡◌, ℕ, ◌+◌, not, Bool, true, false, List, [], ◌∷◌, ◌++◌, ◌==◌, ◌&&◌, Option, option_to_list, Result, refl, sym, subst, arith}
+use Rattle.std.proofs.lemmas.Bool.{and_parts, and_right}
+use Rattle.std.proofs.lemmas.Bool.Decides.{nat_tests}
+use Rattle.std.specs.Char.{IsScalar}
+use lib.Utf8.{scalars}
 use Rattle.gabc_places.specs.declared.place.Char.{Char}
 use Rattle.gabc_places.specs.declared.code.Code.{Code}
 use Rattle.gabc_places.specs.declared.code.Code.TheVariants.{F1}
 use Rattle.gabc_places.specs.declared.code.Fault.{Fault}
 use Rattle.gabc_places.specs.declared.decoded.Tail.{Tail}
 use Rattle.gabc_places.specs.declared.decoded.Tail.TheVariants.{Nothing, Part, Wrong}
-use Rattle.gabc_places.specs.Text.{is_left_out, utf8_prefix_of, tail_of}
-use Rattle.gabc_places.specs.DecoderMachine.{DecoderState}
-use Rattle.gabc_places.specs.DecoderTells.{MovesOn}
+use Rattle.gabc_places.specs.Text.{is_left_out, read_as, utf8_prefix_of, tail_of}
+use Rattle.gabc_places.specs.TextOfAnInput.{IsTextCharacter}
+use Rattle.gabc_places.specs.DecoderMachine.{DecoderState, is_unfinished}
+use Rattle.gabc_places.specs.DecoderTells.{MovesOn, is_after_cr}
 use Rattle.gabc_places.specs.witness.DecoderEvents.{DecoderStep, stop_with, take_character, take_pending}
 use Rattle.gabc_places.specs.machine.Decoder.{take_part}
+use Rattle.gabc_places.proofs.texts.TextsAreScalars.{prefix_scalars}
 
 -- behind a byte that is counted it stands where it did
 pub record IsCounted (s mid : DecoderState) : Type 0 where
@@ -29,43 +35,83 @@ moves_with s new t item moves e h =
 stop_moves : (code : Code) (s mid : DecoderState) → IsCounted s mid → Moves s (stop_with code mid)
 stop_moves code s mid counted =
     let taken = counted.taken in
-    record { limit = counted.limit; taken = (omega (arith, taken), omega (arith, taken)); here = tt; place = counted.place; runs = refl }
+    record { limit = counted.limit; taken = (omega (arith, taken), omega (arith, taken)); here = tt; place = counted.place; runs = refl; plain = tt; cr = λ runs. absurd (cc) }
 
 -- nothing came
-quiet_moves : (s mid : DecoderState) (pending : List ℕ) (previous : ℕ) → IsCounted s mid → MovesOn s [] (record mid { pending = pending; previous = previous })
-quiet_moves s mid pending previous counted =
+quiet_moves : (s mid : DecoderState) (pending : List ℕ) (previous : ℕ) → IsCounted s mid → is_after_cr (record mid { pending = pending; previous = previous }) ≡ false
+    → MovesOn s [] (record mid { pending = pending; previous = previous })
+quiet_moves s mid pending previous counted past =
     let taken = counted.taken in
-    record { limit = counted.limit; taken = (omega (arith, taken), omega (arith, taken)); here = tt; place = counted.place; runs = counted.running }
+    record { limit = counted.limit; taken = (omega (arith, taken), omega (arith, taken)); here = tt; place = counted.place; runs = counted.running; plain = tt; cr = λ runs cr. absurd (cc) }
 
-character_moves : (c : ℕ) (s mid : DecoderState) → IsCounted s mid → Moves s (take_character c mid)
-character_moves c s mid counted = by (is_left_out (mid.previous, c)) refl
+-- it is no CR: an LF stands for that
+of_text : (previous c : ℕ) → IsScalar c → is_left_out (previous, c) ≡ false → IsTextCharacter (read_as c)
+of_text previous c scalar shown = by (c == 13) refl
+  where
+    shown_plainly : (c ≡ 0xFEFF) → ⊥
+    shown_plainly e = absurd (grind (arith, nat_tests, e, shown))
+
+    by : (b : Bool) → (c == 13) ≡ b → IsTextCharacter (read_as c)
+    by true e = rw e (record { scalar = refl; plain = ((λ h. absurd (omega (arith, h))), (λ h. absurd (omega (arith, h)))) })
+    by false e = rw e (record { scalar = scalar; plain = ((λ h. absurd (grind (arith, nat_tests, e, h))), shown_plainly) })
+
+-- only a CR is a CR before the next byte
+left_out_is_no_return : (unfinished : Bool) (previous c : ℕ) → is_left_out (previous, c) ≡ true → (not unfinished && (c == 13)) ≡ false
+left_out_is_no_return unfinished previous c left = by (c == 13) refl
+  where
+    no_return : c ≡ 13 → is_left_out (previous, c) ≡ false
+    no_return e = grind (arith, nat_tests, e)
+
+    by : (b : Bool) → (c == 13) ≡ b → (not unfinished && (c == 13)) ≡ false
+    by true e = absurd (grind (arith, nat_tests, e, left, no_return))
+    by false e = and_right _ _ e
+
+a_return_ends_a_line : (unfinished : Bool) (c : ℕ) → (not unfinished && (c == 13)) ≡ true → read_as c ≡ 10
+a_return_ends_a_line unfinished c cr = rw (and_parts (not unfinished) (c == 13) cr).1
+
+character_moves : (c : ℕ) (s mid : DecoderState) → IsScalar c → IsCounted s mid → Moves s (take_character c mid)
+character_moves c s mid scalar counted = by (is_left_out (mid.previous, c)) refl
   where
     by : (b : Bool) → is_left_out (mid.previous, c) ≡ b → Moves s (take_character c mid)
-    by true e = rw e (quiet_moves s mid mid.pending c counted)
-    by false e = rw e (record { limit = counted.limit; taken = counted.taken; here = counted.place; place = refl; runs = counted.running })
+    by true e = rw e (quiet_moves s mid mid.pending c counted (left_out_is_no_return (is_unfinished mid.pending) mid.previous c e))
+    by false e = rw e
+        (record {
+          limit = counted.limit;
+          taken = counted.taken;
+          here = counted.place;
+          place = refl;
+          runs = counted.running;
+          plain = of_text mid.previous c scalar e;
+          cr = λ runs cr. a_return_ends_a_line (is_unfinished mid.pending) c cr;
+        })
 
-pending_moves : (bytes cs : List ℕ) (tail : Tail) (s mid : DecoderState) → IsCounted s mid → Moves s (take_pending bytes cs tail mid)
-pending_moves bytes (c ∷ cs) tail s mid counted = character_moves c s mid counted
-pending_moves bytes [] Wrong s mid counted = stop_moves F1 s mid counted
-pending_moves bytes [] Part s mid counted = quiet_moves s mid bytes mid.previous counted
-pending_moves bytes [] Nothing s mid counted = quiet_moves s mid bytes mid.previous counted
+-- where bytes are pending, no CR stands before the next one
+pending_moves : (bytes cs : List ℕ) (tail : Tail) (s mid : DecoderState) → is_unfinished bytes ≡ true → scalars cs ≡ true → IsCounted s mid → Moves s (take_pending bytes cs tail mid)
+pending_moves bytes (c ∷ cs) tail s mid pending scalar counted = character_moves c s mid (and_parts _ _ scalar).0 counted
+pending_moves bytes [] Wrong s mid pending scalar counted = stop_moves F1 s mid counted
+pending_moves bytes [] Part s mid pending scalar counted = quiet_moves s mid bytes mid.previous counted (rw pending refl)
+pending_moves bytes [] Nothing s mid pending scalar counted = quiet_moves s mid bytes mid.previous counted (rw pending refl)
+
+some_pending : (bytes : List ℕ) (x : ℕ) → is_unfinished (bytes ++ x ∷ []) ≡ true
+some_pending [] x = refl
+some_pending (b ∷ bytes) x = refl
 
 -- ---- what a call returns
 
-pub character_moves_on : (c : ℕ) (s mid new : DecoderState) (item : Option (Result Char Fault)) → IsCounted s mid → new ≡ (take_character c mid).state → option_to_list item ≡ (take_character c mid).events
+pub character_moves_on : (c : ℕ) (s mid new : DecoderState) (item : Option (Result Char Fault)) → IsScalar c → IsCounted s mid → new ≡ (take_character c mid).state → option_to_list item ≡ (take_character c mid).events
     → MovesOn s (option_to_list item) new
-character_moves_on c s mid new item counted e h = moves_with s new (take_character c mid) item (character_moves c s mid counted) e h
+character_moves_on c s mid new item scalar counted e h = moves_with s new (take_character c mid) item (character_moves c s mid scalar counted) e h
 
 pub part_moves_on : (x : ℕ) (s mid new : DecoderState) (item : Option (Result Char Fault)) → IsCounted s mid → new ≡ (take_part x mid).state → option_to_list item ≡ (take_part x mid).events
     → MovesOn s (option_to_list item) new
 part_moves_on x s mid new item counted e h =
     let bytes = mid.pending ++ x ∷ [] in
     moves_with s new (take_part x mid) item
-    (pending_moves bytes (utf8_prefix_of bytes) (tail_of bytes) s (record mid { pending = [] }) (record { limit = counted.limit; taken = counted.taken; place = counted.place; running = counted.running })) e h
+    (pending_moves bytes (utf8_prefix_of bytes) (tail_of bytes) s (record mid { pending = [] }) (some_pending mid.pending x) (prefix_scalars bytes) (record { limit = counted.limit; taken = counted.taken; place = counted.place; running = counted.running })) e h
 
 -- a fault at a byte that is not taken
 pub fault_moves_on : (code : Code) (s new : DecoderState) (item : Option (Result Char Fault)) → new ≡ (stop_with code s).state → option_to_list item ≡ (stop_with code s).events → MovesOn s (option_to_list item) new
-fault_moves_on code s new item e h = moves_with s new (stop_with code s) item (record { limit = refl; taken = (omega arith, omega arith); here = tt; place = refl; runs = refl }) e h
+fault_moves_on code s new item e h = moves_with s new (stop_with code s) item (record { limit = refl; taken = (omega arith, omega arith); here = tt; place = refl; runs = refl; plain = tt; cr = λ runs. absurd (cc) }) e h
 
-pub nothing_moves_on : (s : DecoderState) → MovesOn s [] s
-nothing_moves_on s = record { limit = refl; taken = (omega arith, omega arith); here = tt; place = refl; runs = refl }
+pub nothing_moves_on : (s : DecoderState) → s.running ≡ false → MovesOn s [] s
+nothing_moves_on s over = record { limit = refl; taken = (omega arith, omega arith); here = tt; place = refl; runs = refl; plain = tt; cr = λ runs. absurd (cc) }

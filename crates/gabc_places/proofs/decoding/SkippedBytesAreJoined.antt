@@ -1,8 +1,11 @@
 -- Printable bytes that are skipped at once give what they give one by one.
-use Rattle.std.proofs.Common.{◌≡◌, ℕ, ◌+◌, ◌-◌, ◌≤◌, List, [], ◌∷◌, ◌++◌, length, true, Some, Result, Ok, ap, ap₂, ◌∙◌, arith}
+use Rattle.std.proofs.Common.{◌≡◌, ℕ, ◌+◌, ◌-◌, ◌<◌, ◌≤◌, Bool, false, not, ◌==◌, ◌&&◌, List, [], ◌∷◌, ◌++◌, length, true, Some, Result, Ok, ap, ap₂, sym, subst, ◌∙◌, arith}
 use native.Mathlib.Numerals.{unary_clauses}
 use Rattle.std.specs.List.{All, slice_get}
-use Rattle.std.proofs.lemmas.List.Elements.{All-head, All-tail}
+use Rattle.std.proofs.lemmas.Bool.{and_right}
+use Rattle.std.proofs.lemmas.Bool.Decides.{nat_tests}
+use Rattle.std.proofs.lemmas.List.Elements.{All-head, All-tail, All-get_or}
+use Rattle.std.proofs.lemmas.Option.{slice_get_within, get_or_from_slice_get}
 use Rattle.gabc_places.specs.declared.place.Char.{Char}
 use Rattle.gabc_places.specs.declared.code.Fault.{Fault}
 use Rattle.gabc_places.specs.Skip.{IsPrintable, most_skipped, skipped_events}
@@ -58,3 +61,13 @@ pub skipped_joined : (bytes : List ℕ) (s : DecoderState) (y : ℕ) → length 
 skipped_joined bytes s y few printable last more =
     skipped bytes s few printable more
     ∙ ap (λ (p : ℕ). skipped_events s.place bytes ++ events_left (moved_to s (s.taken + length bytes) (s.place.column + length bytes) p) more) (last_is s.previous y bytes last)
+
+-- the last of printable bytes is no CR
+pub last_is_no_return : (bytes : List ℕ) (unfinished : Bool) (y : ℕ) → All IsPrintable bytes → Some y ≡ slice_get bytes (length bytes - 1) → (not unfinished && (y == 13)) ≡ false
+last_is_no_return bytes unfinished y printable last = and_right (not unfinished) (y == 13) (grind (arith, nat_tests, is_printable.0))
+  where
+    at_the_end : length bytes - 1 < length bytes
+    at_the_end = slice_get_within bytes (length bytes - 1) y (sym last)
+
+    is_printable : IsPrintable y
+    is_printable = subst IsPrintable (get_or_from_slice_get bytes (length bytes - 1) y y (sym last)) (All-get_or IsPrintable bytes (length bytes - 1) y at_the_end printable)

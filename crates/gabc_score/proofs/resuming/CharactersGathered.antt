@@ -128,6 +128,7 @@ reads_alone old new x given left fine r none empty body other = by (code_in old.
           now = r.now;
           after = r.after;
           law = r.law;
+          only = r.only;
           body = λ good. g.body;
           fine_is =
               body g.part
@@ -143,6 +144,7 @@ reads_alone old new x given left fine r none empty body other = by (code_in old.
           now = r.now;
           after = r.after;
           law = r.law;
+          only = r.only;
           body = λ good. absurd (true≢false (sym good ∙ bad));
           fine_is = bad ∙ ap (λ (code : Option Code). not (is_some code) && not (list_any is_error (findings_now r.now))) (sym e);
           goes = λ good. absurd (true≢false (sym good ∙ bad));

@@ -30,14 +30,14 @@ use Rattle.gabc_score.proofs.building.OneListEachCharacter.{events_each}
 use Rattle.gabc_score.proofs.resuming.HeldIsRead.{found, alone}
 use Rattle.gabc_score.proofs.resuming.NothingIsRead.{nothing_alike}
 
-none_in_body : (p : ScorePart) (ms : List UnplacedSyllable) → p ≡ score_part.Body → held_in_body p ms ≡ None → ms ≡ []
+pub none_in_body : (p : ScorePart) (ms : List UnplacedSyllable) → p ≡ score_part.Body → held_in_body p ms ≡ None → ms ≡ []
 none_in_body p ms e h = by ms (sym (ap (λ (q : ScorePart). held_in_body q ms) e) ∙ h)
   where
     by : (ms : List UnplacedSyllable) → held_in_body score_part.Body ms ≡ None → ms ≡ []
     by [] h = refl
     by (m ∷ ms) h = absurd (cc h)
 
-nothing_in_body : (p : ScorePart) (kept : List ℕ) → p ≡ score_part.Body → reading_in_body p kept ≡ [] → kept ≡ []
+pub nothing_in_body : (p : ScorePart) (kept : List ℕ) → p ≡ score_part.Body → reading_in_body p kept ≡ [] → kept ≡ []
 nothing_in_body p kept e h = sym (ap (λ (q : ScorePart). reading_in_body q kept) e) ∙ h
 
 -- the text is one syllable

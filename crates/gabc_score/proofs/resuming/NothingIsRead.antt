@@ -21,6 +21,10 @@ pub nothing_alike : (lines macros : ℕ) (p : BodyPart) (spans : Spans) (g : Gat
 unfolding text.said_of
 nothing_alike lines macros p spans g r e = subst (λ (q : KeptParts). ReadAlike g (with_all (begun spans) (said_by lines q))) (empty_parts r.parts (encodes_same (joined r.parts) [] (sym r.kept ∙ e))) r.said
 
+-- the part keeps nothing
+pub nothing_kept : (lines macros : ℕ) (p : BodyPart) (spans : Spans) (g : Gathered) → IsReading lines macros p spans g → g.builder.kept ≡ [] → PartKeeps lines macros p (in_text [])
+nothing_kept lines macros p spans g r e = subst (PartKeeps lines macros p) (empty_parts r.parts (encodes_same (joined r.parts) [] (sym r.kept ∙ e))) r.keeps
+
 -- so another part that begins a text reads it
 pub begins_again : (lines macros : ℕ) (p after : BodyPart) (spans : Spans) (g : Gathered) → IsReading lines macros p spans g → g.builder ≡ nothing_open → PartKeeps lines macros after (in_text [])
     → IsReading lines macros after spans g

@@ -2,7 +2,6 @@
 use Rattle.std.proofs.Common.{◌≡◌, ◌⊎◌, inl, inr, ℕ, ◌+◌, ◌≤◌, ◌==◌, ◌||◌, not, nat_lt, min, List, [], ◌∷◌, ◌++◌, length, Bool, true, false, Option, Some, None, is_some, refl, sym, ap, ◌∙◌, subst, arith}
 use Rattle.std.proofs.lemmas.Str.{encodes_same}
 use Rattle.gabc_places.specs.declared.limits.Limits.{Limits}
-use Rattle.gabc_places.specs.declared.place.Char.{Char}
 use Rattle.gabc_places.specs.declared.place.Place.{Place}
 use Rattle.gabc_headers.specs.declared.head_event.HeadEvent.{HeadEvent}
 use Rattle.gabc_text.specs.BuiltText.{empty_view}
@@ -175,8 +174,7 @@ module _ (text_kept : (s : TextStage) (a b : List ℕ) (c : ℕ) → text.Keeps 
   pub bodies_keep : KeepTheSame a.body.nabc_lines a.body.macros a.body.part b.body.part
   bodies_keep = record { parts = ra.reading.parts; one = ra.reading.keeps; other = subst (PartKeeps a.body.nabc_lines a.body.macros b.body.part) (sym same_parts) other_keeps }
 
-  module _ (next : a.next ≡ b.next) (alike : HeldAlike (a.bounds.before.syllables == 0) a.pair.gathered.made b.pair.gathered.made)
-      (events : (xs : List Char) → running_events_left a.body xs ≡ running_events_left b.body xs) where
+  module _ (next : a.next ≡ b.next) (alike : HeldAlike (a.bounds.before.syllables == 0) a.pair.gathered.made b.pair.gathered.made) where
     behind_same : with_each a.bounds.before a.pair.gathered.made ≡ with_each b.bounds.before b.pair.gathered.made
     behind_same = each_same a.bounds.before a.pair.gathered.made b.pair.gathered.made alike ∙ ap (λ (p : Preceding). with_each p b.pair.gathered.made) same_before
 
@@ -229,16 +227,18 @@ module _ (text_kept : (s : TextStage) (a b : List ℕ) (c : ℕ) → text.Keeps 
         twins : (not a.has_lent || m.text.word_start) ≡ (not a.has_lent || n.text.word_start)
         twins = ap (λ (x : Bool). x || m.text.word_start) first ∙ e.1.1.starts ∙ ap (λ (x : Bool). x || n.text.word_start) (sym first)
 
-    left_by_lists : (xs : List HeadEvent) → body_left b.limits (held_score b) (running_events_left b.body (characters_in xs)) xs ≡ body_left a.limits (record (held_score a) { gathered = b.pair.gathered }) (running_events_left a.body (characters_in xs)) xs
-    left_by_lists xs =
+    left_by_lists : (xs : List HeadEvent) → running_events_left a.body (characters_in xs) ≡ running_events_left b.body (characters_in xs)
+        → body_left b.limits (held_score b) (running_events_left b.body (characters_in xs)) xs ≡ body_left a.limits (record (held_score a) { gathered = b.pair.gathered }) (running_events_left a.body (characters_in xs)) xs
+    left_by_lists xs events =
         ap (λ (l : Limits). body_left l (held_score b) (running_events_left b.body (characters_in xs)) xs) (sym same_limits)
         ∙ ap (λ (s : HeldScore). body_left a.limits s (running_events_left b.body (characters_in xs)) xs) score_same
-        ∙ ap (λ (ls : List (List BodyEvent)). body_left a.limits (record (held_score a) { gathered = b.pair.gathered }) ls xs) (sym (events (characters_in xs)))
+        ∙ ap (λ (ls : List (List BodyEvent)). body_left a.limits (record (held_score a) { gathered = b.pair.gathered }) ls xs) (sym events)
 
-    -- What is left for them is the same, but for the syllable that is held.
-    pub bodies_give : (xs : List HeadEvent) → GiveTheSame (held_in_body score_part.Body a.pair.gathered.made) (held_in_body score_part.Body b.pair.gathered.made)
+    -- What is left for them is the same, but for the syllable that is held, where their bodies emit the same.
+    pub bodies_give : (xs : List HeadEvent) → running_events_left a.body (characters_in xs) ≡ running_events_left b.body (characters_in xs)
+        → GiveTheSame (held_in_body score_part.Body a.pair.gathered.made) (held_in_body score_part.Body b.pair.gathered.made)
         (body_left a.limits (held_score a) (running_events_left a.body (characters_in xs)) xs) (body_left b.limits (held_score b) (running_events_left b.body (characters_in xs)) xs)
-    bodies_give xs = by alike.held
+    bodies_give xs events = by alike.held
       where
         with_held_by : (ms ns : List UnplacedSyllable) → a.pair.gathered.made ≡ ms → b.pair.gathered.made ≡ ns
             → GiveTheSame (held_in_body score_part.Body ms) (held_in_body score_part.Body ns) (body_left a.limits (held_score a) (running_events_left a.body (characters_in xs)) xs) (body_left b.limits (held_score b) (running_events_left b.body (characters_in xs)) xs)
@@ -249,7 +249,7 @@ module _ (text_kept : (s : TextStage) (a b : List ℕ) (c : ℕ) → text.Keeps 
             (subst (λ (made : List UnplacedSyllable). GiveTheSame (held_in_body score_part.Body ms) (held_in_body score_part.Body made) (body_left a.limits (held_score a) (running_events_left a.body (characters_in xs)) xs) (body_left b.limits (held_score b) (running_events_left b.body (characters_in xs)) xs)) (sym f) given)
 
         left : (m n : UnplacedSyllable) → IsAside m n a.has_lent a.pair.gathered b.pair.gathered → AreSameLists m n (body_left a.limits (held_score a) (running_events_left a.body (characters_in xs)) xs) (body_left b.limits (held_score b) (running_events_left b.body (characters_in xs)) xs)
-        left m n h = subst (AreSameLists m n (body_left a.limits (held_score a) (running_events_left a.body (characters_in xs)) xs)) (sym (left_by_lists xs)) (left_same m n a.limits xs (running_events_left a.body (characters_in xs)) (held_score a) b.pair.gathered h)
+        left m n h = subst (AreSameLists m n (body_left a.limits (held_score a) (running_events_left a.body (characters_in xs)) xs)) (sym (left_by_lists xs events)) (left_same m n a.limits xs (running_events_left a.body (characters_in xs)) (held_score a) b.pair.gathered h)
 
         by : ((a.pair.gathered.made ≡ []) × (b.pair.gathered.made ≡ [])) ⊎ ((m : UnplacedSyllable) × ((n : UnplacedSyllable) × ((a.pair.gathered.made ≡ m ∷ []) × ((b.pair.gathered.made ≡ n ∷ []) × MayStandFor (a.bounds.before.syllables == 0) m n))))
             → GiveTheSame (held_in_body score_part.Body a.pair.gathered.made) (held_in_body score_part.Body b.pair.gathered.made)

@@ -12,14 +12,15 @@ use Rattle.gabc_score.specs.declared.before.Preceding.{Preceding}
 use Rattle.gabc_score.specs.declared.body_stage.BodyPart.TheVariants as part
 use Rattle.gabc_score.specs.declared.events.BodyEvent.{BodyEvent}
 use Rattle.gabc_score.specs.declared.score_machine.ScorePart.TheVariants as score_part
-use Rattle.gabc_score.specs.ScoreTells.{is_in_front, held_in_body}
+use Rattle.gabc_score.specs.ScoreTells.{held_in_body}
 use Rattle.gabc_score.specs.declared.bounds.Bounds.{Bounds}
 use Rattle.gabc_score.specs.Before.{with_one, with_each, with_placed}
 use Rattle.gabc_score.specs.Body.{is_none}
 use Rattle.gabc_score.specs.Syllable.{UnplacedSyllable, PlacedSyllable}
 use Rattle.gabc_score.specs.ScoreEvents.{first_place}
 use Rattle.gabc_score.specs.ScoreStage.{MayCome}
-use Rattle.gabc_score.specs.ToldWithin.{IsPlace, AreCountsWithin, BeginsWord, IsText, IsToldOfText}
+use Rattle.gabc_places.specs.TextOfAnInput.{IsText}
+use Rattle.gabc_score.specs.ToldWithin.{IsPlace, AreCountsWithin, IsToldOfText}
 use Rattle.gabc_score.specs.witness.BodyStage.{BodyStageState}
 use Rattle.gabc_score.specs.witness.ScoreStage.{ScoreStageState}
 use Rattle.gabc_score.proofs.score_events.TextsArePlain.{nothing_plain}
@@ -112,7 +113,4 @@ begins_of_text limits next input lines macros canonical body bounds is at begun 
       reading = subst IsText (sym none) nothing_plain;
       held = subst (All (λ (m : UnplacedSyllable). IsText m.kept)) (sym empty) (All-nil (λ (m : UnplacedSyllable). IsText m.kept));
       openers = rw (b ∙ at) (record { notes = tt; inner = tt; in_order = tt });
-      first_held = λ first. subst (All BeginsWord) (sym empty) (All-nil BeginsWord);
-      first_read = λ none. inl (ap (λ (k : BodyStageState). is_in_front k.part) (b ∙ at));
-      none_held = λ none. ap (λ (q : Preceding). q.syllables) (p ∙ ap (λ (k : Bounds). k.before) begun);
     }

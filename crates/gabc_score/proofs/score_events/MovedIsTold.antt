@@ -6,7 +6,7 @@ use Rattle.gabc_text.specs.StageTells as text_tells
 use Rattle.gabc_score.specs.declared.body_stage.BodyPart.{BodyPart}
 use Rattle.gabc_score.specs.declared.body_stage.BodyPart.TheVariants as part
 use Rattle.gabc_score.specs.ScoreTells.{is_in_front, moved_part, moved_to, openers_of}
-use Rattle.gabc_score.specs.ToldWithin.{IsPlace, AreOpenersBefore, TellsOfText}
+use Rattle.gabc_score.specs.ToldWithin.{IsPlace, AreOpenersBefore, FirstBegins, TellsOfText}
 use Rattle.gabc_score.specs.witness.ScoreStage.{ScoreStageState}
 use Rattle.gabc_score.proofs.score_events.OpenersInOrder.{openers_moved}
 
@@ -35,8 +35,9 @@ moved_is_told at s up is told body =
       next = is;
       reading = t.reading;
       held = t.held;
-      first_held = t.first_held;
-      first_read = λ none. starts at s.body.part (t.first_read none);
       openers = subst (AreOpenersBefore at) (sym (openers_stay at s.body.part)) (openers_moved s.held.next at (openers_of s.body.part) up t.openers);
-      none_held = t.none_held;
     }
+
+-- and the first syllable begins a word there
+pub moved_begins : (at : Place) (s : ScoreStageState) → FirstBegins s → FirstBegins (moved_to at s)
+moved_begins at s begins = record { held = begins.held; read = λ body none. starts at s.body.part (begins.read body none) }

@@ -15,7 +15,9 @@ use Rattle.gabc_score.specs.ScoreStage.{GivesNothing, behind_front, body_inputs,
 use Rattle.gabc_score.specs.declared.score_machine.ScorePart.{ScorePart}
 use Rattle.gabc_score.specs.declared.before.Preceding.{Preceding}
 use Rattle.gabc_score.specs.ScoreTells.{StandsAt, held_in_body, openers_of}
-use Rattle.gabc_score.specs.ToldWithin.{BeginsWord, IsPlace, IsEarlier, AreOpenersBefore, IsTextCharacter, IsToldOfText}
+use Rattle.gabc_places.specs.TextOfAnInput.{IsTextCharacter}
+use Rattle.gabc_places.specs.PlacesInOrder.{IsEarlier}
+use Rattle.gabc_score.specs.ToldWithin.{BeginsWord, IsPlace, AreOpenersBefore, IsToldOfText}
 use Rattle.gabc_score.specs.witness.ScoreStage.{ScoreStageState, left_of}
 use Rattle.gabc_score.specs.machine.PartOnly.{HoldsTexts}
 use Rattle.gabc_score.specs.machine.PartOpens.{OpensOn}
@@ -70,16 +72,18 @@ gives_more a b c at bytes byte next stands opens column is step passes = record 
     counts = rw (passes.limits, passes.lines, passes.macros, passes.before_held) (step.told here was old (sym passes.part ∙ body)).counts;
     reading = (texts (step.told here was old (sym passes.part ∙ body))).0;
     held = (texts (step.told here was old (sym passes.part ∙ body))).1;
-    first_held = λ first. subst (All BeginsWord) (sym passes.made) ((step.told here was old (sym passes.part ∙ body)).first_held (sym (ap (λ (p : Preceding). p.syllables) passes.before_held) ∙ first));
-    first_read = λ none. passes.starts ((step.told here was old (sym passes.part ∙ body)).first_read (sym passes.made ∙ none));
     next = subst IsPlace (sym next) (behind (step.told here was old (sym passes.part ∙ body)).next here).0;
     openers = subst (λ (p : Place). AreOpenersBefore p (openers_of c.body.part)) (sym next)
         (opens_in_order (char_behind at (length bytes) byte).place (behind_front at (length bytes + 1) a.held.next) (behind (step.told here was old (sym passes.part ∙ body)).next here).1
         (subst IsPlace (there here) (step.told here was old (sym passes.part ∙ body)).next) (openers_of b.body.part) (openers_of c.body.part)
         (opens (subst (λ (p : Place). StandsAt p b.body.part) (there here) (step.stands here was (sym passes.part ∙ body))))
         (subst (λ (p : Place). AreOpenersBefore p (openers_of b.body.part)) (there here) (step.told here was old (sym passes.part ∙ body)).openers));
-    none_held = λ none. ap (λ (p : Preceding). p.syllables) passes.before_held ∙ (step.told here was old (sym passes.part ∙ body)).none_held
-        (sym (ap (λ (k : ScorePart). held_in_body k c.held.gathered.made) passes.part ∙ ap (held_in_body b.part) passes.made) ∙ none);
+  };
+  holds = λ was body none. ap (λ (p : Preceding). p.syllables) passes.before_held
+      ∙ step.holds was (sym passes.part ∙ body) (sym (ap (λ (k : ScorePart). held_in_body k c.held.gathered.made) passes.part ∙ ap (held_in_body b.part) passes.made) ∙ none);
+  first = λ was. record {
+    held = λ body first. subst (All BeginsWord) (sym passes.made) ((step.first was).held (sym passes.part ∙ body) (sym (ap (λ (p : Preceding). p.syllables) passes.before_held) ∙ first));
+    read = λ body none. passes.starts ((step.first was).read (sym passes.part ∙ body) (sym passes.made ∙ none));
   };
   counts = λ was body.
       subst (λ (p : Place). StandsAt p c.body.part) (next ∙ same_front at a.held.next at (length bytes) ∙ ap (λ (n : ℕ). behind_front at n at) (sym (length-append bytes (byte ∷ []))))
@@ -92,6 +96,7 @@ gives_more a b c at bytes byte next stands opens column is step passes = record 
       ∙ ap (λ (l : List (List ScoreOutput)). nothing_each bytes ++ l) (passes.law xs)
       ∙ sym (append_assoc (nothing_each bytes) ([] ∷ []) (left_of c xs))
       ∙ ap (λ (l : List (List ScoreOutput)). l ++ left_of c xs) (sym (nothing_one_more bytes byte));
+  none = λ none. let some = length-append bytes (byte ∷ []) in let zero = ap (λ (l : List ℕ). length l) none in absurd (omega (arith, some, zero));
 }
   where
     texts : IsToldOfText b → HoldsTexts c.held.gathered

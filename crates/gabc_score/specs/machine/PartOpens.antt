@@ -1,10 +1,10 @@
 -- What is open in a part of the body was open before a character, or begins with it.
-use Rattle.std.specs.Prelude.{◌≡◌, ◌⊎◌, ℕ, Some, None}
+use Rattle.std.specs.Prelude.{◌≡◌, ◌⊎◌, ℕ, Some, None, false}
 use Rattle.gabc_places.specs.declared.place.Char.{Char}
 use Rattle.gabc_places.specs.declared.place.Place.{Place}
 use Rattle.gabc_score.specs.declared.body_stage.BodyPart.{BodyPart}
 use Rattle.gabc_score.specs.declared.body_tells.Openers.{Openers}
-use Rattle.gabc_score.specs.ScoreTells.{StandsAt, openers_of}
+use Rattle.gabc_score.specs.ScoreTells.{StandsAt, is_in_comment, openers_of}
 use Rattle.gabc_score.specs.machine.PartKeeps.{KeptParts, PartKeeps}
 
 -- Behind a character at this place the notes are the same, or nothing is open inside them. What is open inside begins with the character, or was open.
@@ -16,3 +16,7 @@ pub record OpensOn (at : Place) (before after : Openers) : Type 0 where
 abbrev pub PartOpensOn : ℕ → ℕ → Char → BodyPart → BodyPart → Type 0
 PartOpensOn lines macros x before after =
     (p : KeptParts) → PartKeeps lines macros before p → StandsAt x.place before → OpensOn x.place (openers_of before) (openers_of after)
+
+-- nor is a comment open behind an LF
+abbrev pub PartEndsLine : ℕ → ℕ → Char → BodyPart → BodyPart → Type 0
+PartEndsLine lines macros x before after = (p : KeptParts) → PartKeeps lines macros before p → x.c ≡ 10 → is_in_comment after ≡ false

@@ -1,6 +1,6 @@
 -- What becomes of a text that is read by itself: whether it is one syllable, behind which no limit is passed.
 use Rattle.std.specs.Prelude.{◌≡◌, ℕ, ◌&&◌, ◌≤◌, not, List, [], ◌∷◌, ◌++◌, Bool, true, false, None, is_some, length, take}
-use Rattle.std.specs.List.{list_any}
+use Rattle.std.specs.List.{All, list_any}
 use Rattle.gabc_places.specs.BoundedList.{BoundedList, extended_by}
 use Rattle.gabc_places.specs.Place.{placed_characters_from}
 use Rattle.gabc_places.specs.StageLaw.{concat_of}
@@ -22,6 +22,7 @@ use Rattle.gabc_score.specs.ScoreEvents.{findings_now, first_place, outputs_of}
 use Rattle.gabc_score.specs.ScoreStage.{events_of}
 use Rattle.gabc_score.specs.machine.BodyBuilder.{with_all, code_in}
 use Rattle.gabc_score.specs.machine.Gatherer.{Gathered}
+use Rattle.gabc_score.specs.machine.PartOnly.{IsKeptOf, kept_codes}
 use Rattle.gabc_score.specs.machine.PartPushes.{ClosesLast}
 use Rattle.gabc_score.specs.machine.ScoreStage.{with_held}
 use Rattle.gabc_score.specs.machine.SyllableBuilder.{nothing_open}
@@ -46,6 +47,7 @@ pub record Reads (old new : ScoreMachine) (x : Char) (given left : BoundedList S
   pub after : BodyStageState
   pub law : (xs : List Char) → running_events_left old.body (x ∷ xs) ≡ now ∷ running_events_left after xs
   pub last : ClosesLast now
+  pub only : All (IsKeptOf x.c) (kept_codes now)
   pub limits : new.limits ≡ old.limits
   pub gathers : code_in old.limits (with_all old.pair.gathered now) ≡ None → Gathers old new x now after given left
   pub stops : (code_in old.limits (with_all old.pair.gathered now) ≡ None → ⊥) → new.part ≡ score_part.Over
@@ -89,6 +91,7 @@ pub record ReadsAlone (old new : ScoreMachine) (x : Char) (fine : Bool) : Type 0
   pub now : List BodyEvent
   pub after : BodyStageState
   pub law : (xs : List Char) → running_events_left old.body (x ∷ xs) ≡ now ∷ running_events_left after xs
+  pub only : All (IsKeptOf x.c) (kept_codes now)
   pub body : fine ≡ true → new.body ≡ after
   pub fine_is : fine ≡ is_fine old.limits old.pair.gathered now
   pub goes : fine ≡ true → GoesOn old new (with_all old.pair.gathered now)

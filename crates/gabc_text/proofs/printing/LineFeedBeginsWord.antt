@@ -1,9 +1,12 @@
--- A text that begins with an LF begins a word.
-use Rattle.std.proofs.Common.{◌≡◌, ℕ, List, [], ◌∷◌, Bool, true, false, ◌||◌, refl}
+-- A text that begins with an LF begins a word, and says nothing else that it would not say without this LF.
+use Rattle.std.proofs.Common.{◌≡◌, ℕ, ◌+◌, List, [], ◌∷◌, ◌++◌, Bool, true, false, not, ◌||◌, ◌&&◌, is_some, length, Option, Some, None, refl, ap, ap₂}
+use Rattle.gabc_text.specs.declared.styles.Style.{Style}
+use Rattle.gabc_text.specs.declared.styles.Style.TheVariants.{B, C, E, I, Sc, Tt, Ul}
+use Rattle.gabc_text.specs.declared.view.PieceKind.{PieceKind}
 use Rattle.gabc_text.specs.declared.token.TokenKind.TheVariants as kind
-use Rattle.gabc_text.specs.Token.{Token, tokens_after}
-use Rattle.gabc_text.specs.View.{starts_word}
-use Rattle.gabc_text.specs.ViewFacts.{view_facts}
+use Rattle.gabc_text.specs.Token.{Token, tokens, tokens_after}
+use Rattle.gabc_text.specs.View.{along, PieceFacts, effect, kind_of, piece_of, pieces_at, is_space, is_begin, is_open, is_open_after, open_styles, has_word, has_begin, has_end, has_translation, is_word_kind, follows_blank, starts_word, count_pieces, begin_of, end_of, centre_by}
+use Rattle.gabc_text.specs.ViewFacts.{ViewFacts, view_facts, but_blank, translation_text}
 use Rattle.gabc_text.proofs.machine.TokensOneAfterAnother.{onto}
 
 stays : (ks before : List Token) → starts_word before ≡ true → starts_word (onto ks before) ≡ true
@@ -14,5 +17,93 @@ stays (k ∷ ks) before h = stays ks (k ∷ before) (rw h (either _))
     either true = refl
     either false = refl
 
+abbrev line_feed : Token
+line_feed = record { kind = kind.Blank; first = 10; more = [] }
+
 pub begins_word : (t : List ℕ) → (view_facts (10 ∷ t)).word_start ≡ true
-begins_word t = stays (tokens_after 0 t) (record { kind = kind.Blank; first = 10; more = [] } ∷ []) refl
+begins_word t = stays (tokens_after 0 t) (line_feed ∷ []) refl
+
+-- ---- two lists of tokens that say the same, but for the blank before all of them
+
+-- behind a piece they follow a blank alike
+record Alike (b c : List Token) : Type 0 where
+  styles : (s : Style) → is_open s b ≡ is_open s c
+  word : has_word b ≡ has_word c
+  blank : has_word c ≡ true → follows_blank b ≡ follows_blank c
+  begun : has_begin b ≡ has_begin c
+  ended : has_end b ≡ has_end c
+  translated : has_translation b ≡ has_translation c
+  count : count_pieces b ≡ count_pieces c
+  begin : begin_of b ≡ begin_of c
+  end : end_of b ≡ end_of c
+  translation : translation_text b ≡ translation_text c
+
+alike_pieces : (b c : List Token) (k : Token) → Alike b c → pieces_at b k ≡ pieces_at c k
+alike_pieces b c k h = by (kind_of k)
+  where
+    open_alike : open_styles b ≡ open_styles c
+    open_alike = rw (h.styles B, h.styles C, h.styles E, h.styles I, h.styles Sc, h.styles Tt, h.styles Ul) refl
+
+    follows : (space word : Bool) → has_word c ≡ word → (space && word && not (follows_blank b)) ≡ (space && word && not (follows_blank c))
+    follows true true e = ap not (h.blank e)
+    follows true false e = refl
+    follows false word e = refl
+
+    by : (o : Option PieceKind) → piece_of b k o ≡ piece_of c k o
+    by (Some q) = rw open_alike refl
+    by None = rw (open_alike, h.word, follows (is_space k.kind) (has_word c) refl) refl
+
+-- a token that both have
+alike_more : (b c : List Token) (k : Token) → Alike b c → Alike (k ∷ b) (k ∷ c)
+alike_more b c k h = record {
+  styles = λ s. ap (is_open_after s (effect k)) (h.styles s);
+  word = ap (λ (x : Bool). is_word_kind (kind_of k) || x) h.word;
+  blank = by (kind_of k);
+  begun = ap (λ (x : Bool). is_begin k.kind || x) h.begun;
+  ended = rw (h.begun, h.ended) refl;
+  translated = rw (h.translated) refl;
+  count = ap₂ (λ (n : ℕ) (ps : List PieceFacts). n + length ps) h.count (alike_pieces b c k h);
+  begin = rw (h.begun, h.count, h.begin) refl;
+  end = rw (h.begun, h.ended, h.count, h.end) refl;
+  translation = rw (h.translated, h.translation) refl;
+}
+  where
+    by : (o : Option PieceKind) → (is_word_kind o || has_word c) ≡ true → (is_space k.kind || (not (is_some o) && follows_blank b)) ≡ (is_space k.kind || (not (is_some o) && follows_blank c))
+    by (Some q) e = refl
+    by None e = ap (λ (x : Bool). is_space k.kind || x) (h.blank e)
+
+alike_onto : (ks b c : List Token) → Alike b c → Alike (onto ks b) (onto ks c)
+alike_onto [] b c h = h
+alike_onto (k ∷ ks) b c h = alike_onto ks (k ∷ b) (k ∷ c) (alike_more b c k h)
+
+alike_along : (ks b c : List Token) → Alike b c → along pieces_at b ks ≡ along pieces_at c ks
+alike_along [] b c h = refl
+alike_along (k ∷ ks) b c h = ap₂ (λ (xs ys : List PieceFacts). xs ++ ys) (alike_pieces b c k h) (alike_along ks (k ∷ b) (k ∷ c) (alike_more b c k h))
+
+-- ---- the LF
+
+behind_line_feed : Alike (line_feed ∷ []) []
+behind_line_feed = record {
+  styles = λ s. refl;
+  word = refl;
+  blank = λ e. absurd (cc e);
+  begun = refl;
+  ended = refl;
+  translated = refl;
+  count = refl;
+  begin = refl;
+  end = refl;
+  translation = refl;
+}
+
+pub begins_word_alone : (t : List ℕ) → view_facts (10 ∷ t) ≡ record (view_facts t) { word_start = true }
+begins_word_alone t =
+    let ks = tokens t in
+    let h : Alike (onto ks (line_feed ∷ [])) (onto ks []) = alike_onto ks (line_feed ∷ []) [] behind_line_feed in
+    let pieces : along pieces_at (line_feed ∷ []) ks ≡ along pieces_at [] ks = alike_along ks (line_feed ∷ []) [] behind_line_feed in
+    all (begins_word t) (ap but_blank pieces) (ap (λ (ps : List PieceFacts). length (but_blank ps)) pieces) h.begin h.end h.translation
+  where
+    all : {w w' : Bool} {ps ps' : List PieceFacts} {n n' : ℕ} {b b' e e' : Option ℕ} {t t' : Option (List ℕ)} → w ≡ w' → ps ≡ ps' → n ≡ n' → b ≡ b' → e ≡ e' → t ≡ t'
+        → (let one : ViewFacts = record { word_start = w; pieces = ps; centre = centre_by n b e; translation = t } in
+        let other : ViewFacts = record { word_start = w'; pieces = ps'; centre = centre_by n' b' e'; translation = t' } in one ≡ other)
+    all c d f g h i = rw (c, d, f, g, h, i) refl

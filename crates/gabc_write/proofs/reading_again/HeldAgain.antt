@@ -1,5 +1,5 @@
 -- The text of a syllable may be held again behind what stands before it, and what may be held with it may stand for that syllable.
-use Rattle.std.proofs.Common.{◌≡◌, ℕ, ◌+◌, ◌<◌, ◌≤◌, ◌==◌, ◌||◌, ◌&&◌, Bool, true, false, List, [], ◌∷◌, ◌++◌, length, get_or, map, is_some, encode_utf8_all, Some, refl, sym, ap, ap₂, subst, ◌∙◌, arith, eqb-true}
+use Rattle.std.proofs.Common.{◌≡◌, ℕ, ◌+◌, ◌<◌, ◌≤◌, ◌==◌, ◌||◌, ◌&&◌, Bool, true, false, List, [], ◌∷◌, ◌++◌, length, get_or, map, is_some, encode_utf8_all, Some, refl, sym, ap, ap₂, subst, ◌∙◌, arith}
 use Rattle.std.specs.List.{All, list_any}
 use Rattle.std.proofs.lemmas.List.{append_cancel_left}
 use Rattle.std.proofs.lemmas.List.Elements.{All-head, All-tail}
@@ -21,7 +21,7 @@ use Rattle.gabc_score.specs.ToldWithin.{written_behind}
 use Rattle.gabc_score.specs.UnitRead.{HoldsSomeUnit}
 use Rattle.gabc_write.specs.SetDown.{SayTheSame}
 use Rattle.gabc_write.specs.SyllableMeaning.{SyllableMeaning, meaning_of}
-use Rattle.gabc_write.specs.SyllableRead.{SaysTheSame, IsReadByItself, IsReadFromItsText}
+use Rattle.gabc_write.specs.SyllableRead.{as_it_stands, SaysTheSame, IsReadByItself, IsReadFromItsText}
 
 -- ---- whether it sounds is said
 
@@ -51,37 +51,34 @@ last_one xs x y e = ap (λ l. get_or l 0 x) (append_cancel_left xs (x ∷ []) (y
 
 -- ---- behind what stands before it
 
-module _ (limits : Limits) (before : Before) (m : UnplacedSyllable) (own : IsReadFromItsText before.nabc_lines before.macros m)
-    (first : before.syllables ≡ 0 → m.text.word_start ≡ true) where
-  starts_are : (n : UnplacedSyllable) → n.text.word_start ≡ m.text.word_start → ((before.syllables == 0) || n.text.word_start) ≡ m.text.word_start
-  starts_are n e = by (before.syllables == 0) refl
-    where
-      by : (b : Bool) → (before.syllables == 0) ≡ b → (b || n.text.word_start) ≡ m.text.word_start
-      by true g = sym (first (eqb-true before.syllables 0 g))
-      by false g = e
+starts_again : (first : Bool) (m n : UnplacedSyllable) → n.text.word_start ≡ (first || m.text.word_start) → (first || n.text.word_start) ≡ n.text.word_start
+starts_again true m n e = sym e
+starts_again false m n e = refl
+
+module _ (limits : Limits) (before : Before) (m : UnplacedSyllable) (own : IsReadFromItsText before.nabc_lines before.macros (as_it_stands (before.syllables == 0) m)) where
+  abbrev first : Bool
+  first = before.syllables == 0
+
+  starts_are : (n : UnplacedSyllable) → SaysTheSame n (as_it_stands first m) → (first || n.text.word_start) ≡ n.text.word_start
+  starts_are n says = starts_again first m n (ap (λ (s : SyllableMeaning). s.word_start) (says One))
 
   -- one that says the same, with the same text, has the same canonical text there
-  behind_is : (n : UnplacedSyllable) → SaysTheSame n m → canonical n.text.word_start n ≡ canonical m.text.word_start m → written_behind (preceding_of before) n ≡ canonical m.text.word_start m
-  behind_is n says e =
-      let starts : n.text.word_start ≡ m.text.word_start = ap (λ (s : SyllableMeaning). s.word_start) (says One) in
-      ap (λ (b : Bool). canonical b n) (starts_are n starts ∙ sym starts) ∙ e
-
-  own_behind : written_behind (preceding_of before) m ≡ canonical m.text.word_start m
-  own_behind = ap (λ (b : Bool). canonical b m) (starts_are m refl)
+  behind_is : (n : UnplacedSyllable) → SaysTheSame n (as_it_stands first m) → canonical n.text.word_start n ≡ written_behind (preceding_of before) m → written_behind (preceding_of before) n ≡ written_behind (preceding_of before) m
+  behind_is n says e = ap (λ (b : Bool). canonical b n) (starts_are n says) ∙ e
 
   pub bytes_behind : written_behind (preceding_of before) m ≡ encode_utf8_all own.text
-  bytes_behind = own_behind ∙ own.bytes
+  bytes_behind = own.bytes
 
   module _ (opened : CanBeOpen before.spans) (short : length (written_behind (preceding_of before) m) ≤ limits.syllable)
       (file : before.canonical + length (written_behind (preceding_of before) m) < limits.input) where
-    read : IsReadByItself before.nabc_lines before.macros m own.text first_place opened.before
+    read : IsReadByItself before.nabc_lines before.macros (as_it_stands first m) own.text first_place opened.before
     read = own.read first_place opened.before opened.leaves.nothing
 
     few : length (encode_utf8_all own.text) ≤ limits.syllable
     few = subst (λ (t : List ℕ). length t ≤ limits.syllable) bytes_behind short
 
     again_behind : written_behind (preceding_of before) read.again ≡ written_behind (preceding_of before) m
-    again_behind = behind_is read.again read.says read.same_text ∙ sym own_behind
+    again_behind = behind_is read.again read.says read.same_text
 
     again_may_be_held : MayBeHeld limits before own.text read.again
     again_may_be_held =
@@ -104,28 +101,28 @@ module _ (limits : Limits) (before : Before) (m : UnplacedSyllable) (own : IsRea
 
   module _ (spans : FollowsSpans before.spans m) (holds : HoldsSomeUnit before.nabc_lines m)
       (whole : (lines : ℕ) (n : UnplacedSyllable) → HoldsSomeUnit lines n → HasWholeSnippets n) (n : UnplacedSyllable) (h : MayBeHeld limits before own.text n) where
-    one : IsReadByItself before.nabc_lines before.macros m own.text first_place h.read.before
+    one : IsReadByItself before.nabc_lines before.macros (as_it_stands first m) own.text first_place h.read.before
     one = own.read first_place h.read.before h.read.leaves.nothing
 
-    one_stands : MayStandFor (before.syllables == 0) m one.again
+    one_stands : MayStandFor first m one.again
     one_stands =
-        let starts : one.again.text.word_start ≡ m.text.word_start = ap (λ (s : SyllableMeaning). s.word_start) (one.says One) in
         record {
-          starts = starts_are m refl ∙ sym (starts_are one.again starts);
-          canonical = own_behind ∙ sym (behind_is one.again one.says one.same_text);
+          starts = sym (starts_are one.again one.says ∙ ap (λ (s : SyllableMeaning). s.word_start) (one.says One));
+          canonical = sym (behind_is one.again one.says one.same_text);
           eu = spans.eu ∙ sym (one.eu_is ∙ ap (eu_past m) h.read.leaves.eu);
           nlba = spans.nlba ∙ sym (one.nlba_is ∙ ap (nlba_past m) h.read.leaves.nlba);
-          sounds = same_sound one.again m (whole before.nabc_lines one.again one.holds) (whole before.nabc_lines m holds) one.says;
+          sounds = same_sound one.again (as_it_stands first m) (whole before.nabc_lines one.again one.holds) (whole before.nabc_lines m holds) one.says;
         }
 
     one_is : one.again ≡ n
     one_is = last_one (all_syllables h.read.before) one.again n (sym one.one ∙ h.read.one)
 
-    pub stands_for : MayStandFor (before.syllables == 0) m n
-    stands_for = subst (MayStandFor (before.syllables == 0) m) one_is one_stands
+    pub stands_for : MayStandFor first m n
+    stands_for = subst (MayStandFor first m) one_is one_stands
 
-    pub says_again : SayTheSame (Some m) (Some n)
+    pub says_again : SayTheSame first (Some m) (Some n)
     says_again position =
-        ap₂ (λ (eu nlba : Bool). meaning_of (record { made = record m { eu = eu; nlba = nlba }; position = position })) one_stands.eu one_stands.nlba
+        ap₂ (λ (eu nlba : Bool). meaning_of (record { made = record (as_it_stands first m) { eu = eu; nlba = nlba }; position = position })) one_stands.eu one_stands.nlba
         ∙ sym (one.says position)
-        ∙ ap (λ (s : UnplacedSyllable). meaning_of (record { made = s; position = position })) one_is
+        ∙ ap (λ (b : Bool). meaning_of (record { made = record one.again { text = record one.again.text { word_start = b } }; position = position })) (sym (starts_are one.again one.says))
+        ∙ ap (λ (s : UnplacedSyllable). meaning_of (record { made = as_it_stands first s; position = position })) one_is

@@ -1,10 +1,8 @@
 -- A stage that stands behind the same holds by its text what may stand for the syllable that is held.
-use Rattle.std.proofs.Common.{◌≡◌, ℕ, ◌<◌, ◌≤◌, ◌^◌, Bool, true, false, List, [], ◌∷◌, length, Option, Some, None, IfSome, is_some, refl, sym, ap, subst, ◌∙◌, arith}
+use Rattle.std.proofs.Common.{◌≡◌, ℕ, ◌<◌, ◌≤◌, ◌^◌, Bool, true, false, List, length, Option, Some, None, IfSome, is_some, refl, sym, ap, subst, ◌∙◌, arith}
 use Rattle.std.specs.Prelude.{IsUtf8, ◌==◌}
 use Rattle.std.specs.Str.{chars}
 use Rattle.std.proofs.lemmas.Str.{chars_from_encodes}
-use Rattle.std.specs.List.{All}
-use Rattle.std.proofs.lemmas.List.Elements.{All-head}
 use Rattle.gabc_places.specs.declared.limits.Limits.{Limits}
 use Rattle.gabc_score.specs.declared.before.Before.{Before}
 use Rattle.gabc_score.specs.declared.before.Spans.{Spans}
@@ -14,38 +12,28 @@ use Rattle.gabc_score.specs.HeldAgain.{CanBeOpen, MayBeHeld}
 use Rattle.gabc_score.specs.HeldAside.{HoldTheSame, MayStandFor}
 use Rattle.gabc_score.specs.Holding.{HasWholeSnippets}
 use Rattle.gabc_score.specs.Resumed.{HoldsAgain, StandsBehind}
-use Rattle.gabc_score.specs.ScoreTells.{before_of, before_with, held_in_body, held_of, in_body}
+use Rattle.gabc_score.specs.ScoreTells.{before_of, before_with, held_of, in_body}
 use Rattle.gabc_score.specs.SpansPast.{FollowsSpans}
 use Rattle.gabc_score.specs.Syllable.{UnplacedSyllable}
-use Rattle.gabc_score.specs.ToldWithin.{BeginsWord, IsHeldWithin, TellsOfText, written_behind}
+use Rattle.gabc_score.specs.ToldWithin.{IsHeldWithin, written_behind}
 use Rattle.gabc_score.specs.UnitRead.{HoldsSomeUnit}
 use Rattle.gabc_score.specs.witness.ScoreStage.{ScoreStageState}
 use Rattle.gabc_write.specs.SetDown.{SayTheSame}
-use Rattle.gabc_write.specs.SyllableRead.{IsReadFromItsText}
+use Rattle.gabc_write.specs.SyllableRead.{as_it_stands, IsReadFromItsText}
 use Rattle.gabc_write.specs.machine.SetDown.{BeginsAlike}
 use Rattle.gabc_write.proofs.reading_again.HeldAgain.{bytes_behind, may_be_held, says_again, stands_for}
 
-abbrev told_before : ScoreStageState → Before
+abbrev pub told_before : ScoreStageState → Before
 told_before s = before_with s.body s.before
 
 -- in the body a stage tells what stands before
-told_in_body : {A : Type 0} → (p : ScorePart) (a : A) → is_some (in_body p a) ≡ true → in_body p a ≡ Some a
+pub told_in_body : {A : Type 0} → (p : ScorePart) (a : A) → is_some (in_body p a) ≡ true → in_body p a ≡ Some a
 told_in_body score_part.Heads a h = absurd (cc h)
 told_in_body score_part.Body a h = refl
 told_in_body score_part.Over a h = absurd (cc h)
 
 pub some_held : (P : UnplacedSyllable → Type 0) (o : Option UnplacedSyllable) (m : UnplacedSyllable) → o ≡ Some m → IfSome o P → P m
 some_held P o m is h = subst (λ (x : Option UnplacedSyllable). IfSome x P) is h
-
-held_begins : (p : ScorePart) (made : List UnplacedSyllable) (m : UnplacedSyllable) → held_in_body p made ≡ Some m → (p ≡ score_part.Body) × (All BeginsWord made → BeginsWord m)
-held_begins score_part.Heads made m e = absurd (cc e)
-held_begins score_part.Over made m e = absurd (cc e)
-held_begins score_part.Body [] m e = absurd (cc e)
-held_begins score_part.Body (x ∷ xs) m e = let same : x ≡ m = cc e in (refl, λ h. subst BeginsWord same (All-head BeginsWord x xs h))
-
--- the first syllable that is held begins a word
-pub begins_at_first : (s : ScoreStageState) (m : UnplacedSyllable) → held_of s ≡ Some m → TellsOfText s → s.before.syllables ≡ 0 → BeginsWord m
-begins_at_first s m is tells first = let h = held_begins s.part s.held.gathered.made m is in h.1 ((tells h.0).first_held first)
 
 module _ (told old : ScoreStageState) (runs : is_some (before_of told) ≡ true) (stands : StandsBehind told.limits (told_before told) old) where
   before_told : before_of told ≡ Some (told_before told)
@@ -65,7 +53,7 @@ module _ (told old : ScoreStageState) (runs : is_some (before_of told) ≡ true)
       held =
           subst (λ (o : Option UnplacedSyllable). HoldTheSame (told.before.syllables == 0) o (held_of old)) (sym none)
           (subst (HoldTheSame (told.before.syllables == 0) None) (sym stands.none_held) tt);
-      says = subst (λ (o : Option UnplacedSyllable). SayTheSame o (held_of old)) (sym none) (subst (SayTheSame None) (sym stands.none_held) tt);
+      says = subst (λ (o : Option UnplacedSyllable). SayTheSame (told.before.syllables == 0) o (held_of old)) (sym none) (subst (SayTheSame (told.before.syllables == 0) None) (sym stands.none_held) tt);
     };
     begins = stands.begins;
   }
@@ -74,16 +62,16 @@ module _ (told old : ScoreStageState) (runs : is_some (before_of told) ≡ true)
     pub held_fits : length held < 2 ^ 63
     held_fits = let few = subst (λ (t : List ℕ). length t ≤ told.limits.syllable) (sym text) within.short in let most = told.limits.in_range.syllable_most in omega (arith, few, most)
 
-    module _ (utf8 : IsUtf8 held) (own : IsReadFromItsText told.body.nabc_lines told.body.macros m) (first : told.before.syllables ≡ 0 → BeginsWord m) where
+    module _ (utf8 : IsUtf8 held) (own : IsReadFromItsText told.body.nabc_lines told.body.macros (as_it_stands (told.before.syllables == 0) m)) where
       text_is : own.text ≡ chars held
-      text_is = chars_from_encodes own.text held utf8 (sym (bytes_behind told.limits (told_before told) m own first) ∙ sym text)
+      text_is = chars_from_encodes own.text held utf8 (sym (bytes_behind told.limits (told_before told) m own) ∙ sym text)
 
       -- the text may be held there
       pub is_held : (opened : (spans : Spans) → CanBeOpen spans) (result : Bool)
           → (result ≡ false → (n : UnplacedSyllable) → MayBeHeld old.limits (told_before old) (chars held) n → ⊥) → result ≡ true
       is_held opened true refused = refl
       is_held opened false refused =
-          let k = may_be_held told.limits (told_before told) m own first (opened told.before.spans) within.short within.file in
+          let k = may_be_held told.limits (told_before told) m own (opened told.before.spans) within.short within.file in
           absurd (refused refl k.0
           (subst (λ (limits : Limits). MayBeHeld limits (told_before old) (chars held) k.0) (sym stands.limits_are)
           (subst (λ (b : Before). MayBeHeld told.limits b (chars held) k.0) (sym before_old)
@@ -96,8 +84,8 @@ module _ (told old : ScoreStageState) (runs : is_some (before_of told) ≡ true)
           subst (λ (limits : Limits). MayBeHeld limits (told_before told) own.text h.m) stands.limits_are
           (subst (λ (b : Before). MayBeHeld old.limits b own.text h.m) before_old
           (subst (λ (t : List ℕ). MayBeHeld old.limits (told_before old) t h.m) (sym text_is) h.may)) in
-          let stand : MayStandFor (told.before.syllables == 0) m h.m = stands_for told.limits (told_before told) m own first spans holds whole h.m may in
-          let says : SayTheSame (Some m) (Some h.m) = says_again told.limits (told_before told) m own first spans holds whole h.m may in
+          let stand : MayStandFor (told.before.syllables == 0) m h.m = stands_for told.limits (told_before told) m own spans holds whole h.m may in
+          let says : SayTheSame (told.before.syllables == 0) (Some m) (Some h.m) = says_again told.limits (told_before told) m own spans holds whole h.m may in
           record {
             holds = record {
               limits_are = h.limits ∙ stands.limits_are;
@@ -105,7 +93,7 @@ module _ (told old : ScoreStageState) (runs : is_some (before_of told) ≡ true)
               held =
                   subst (λ (o : Option UnplacedSyllable). HoldTheSame (told.before.syllables == 0) o (held_of new)) (sym is)
                   (subst (HoldTheSame (told.before.syllables == 0) (Some m)) (sym h.held) stand);
-              says = subst (λ (o : Option UnplacedSyllable). SayTheSame o (held_of new)) (sym is) (subst (SayTheSame (Some m)) (sym h.held) says);
+              says = subst (λ (o : Option UnplacedSyllable). SayTheSame (told.before.syllables == 0) o (held_of new)) (sym is) (subst (SayTheSame (told.before.syllables == 0) (Some m)) (sym h.held) says);
             };
             begins = h.begins;
           }

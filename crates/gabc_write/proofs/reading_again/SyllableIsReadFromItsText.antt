@@ -1,8 +1,8 @@
 -- The canonical text of a syllable that holds a unit is read by itself as a syllable that says the same.
-use Rattle.std.proofs.Common.{◌≡◌, ℕ, suc, ◌<◌, ◌≤◌, ◌^◌, List, [], ◌∷◌, ◌++◌, map, length, Bool, false, codes, refl, sym, ap, ap₂, subst, ◌∙◌, append-nil, arith}
+use Rattle.std.proofs.Common.{◌≡◌, ℕ, suc, ◌<◌, ◌≤◌, ◌^◌, List, [], ◌∷◌, ◌++◌, map, length, Bool, true, false, ◌||◌, codes, refl, sym, ap, ap₂, subst, ◌∙◌, append-nil, arith}
 use Rattle.std.specs.List.{All}
 use Rattle.std.proofs.lemmas.List.{length-map}
-use lib.Utf8.{encodes}
+use lib.Utf8.{encode, encodes}
 use Rattle.gabc_places.specs.declared.place.Place.{Place}
 use Rattle.gabc_places.specs.declared.place.Char.{Char}
 use Rattle.gabc_places.specs.declared.place.Span.{Span}
@@ -13,6 +13,7 @@ use Rattle.gabc_text.specs.Canonical.{canonical_text}
 use Rattle.gabc_text.specs.Events.{codes_of}
 use Rattle.gabc_text.specs.Printed.{text_tokens, text_of_tokens}
 use Rattle.gabc_text.specs.TextRead.{view_in}
+use Rattle.gabc_text.specs.TextView.{ViewContent}
 use Rattle.gabc_text.specs.View.{findings}
 use Rattle.gabc_text.specs.ViewFacts.{ViewFacts, view_facts, StandsFor, StandsForView, has_error}
 use Rattle.gabc_notes.specs.ReadAgain.{IsWarning}
@@ -30,13 +31,13 @@ use Rattle.gabc_score.specs.Units.{EndedPart, BodyUnit, LastUnit, JustText, Cuts
 use Rattle.gabc_write.specs.SyllableAgain.{printed_syllable, AreSnippets, AreSnippetsAgain, AreUnitsFrom, SaysAgain, IsPrinted, IsOneUnit}
 use Rattle.gabc_write.specs.BodyAgain.{SyllableFacts}
 use Rattle.gabc_write.specs.SyllableMeaning.{PieceMeaning, meaning_of_piece, SyllableMeaning}
-use Rattle.gabc_write.specs.SyllableRead.{SaysTheSame, IsReadByItself, IsReadFromItsText}
+use Rattle.gabc_write.specs.SyllableRead.{as_it_stands, SaysTheSame, IsReadByItself, IsReadFromItsText}
 use Rattle.gabc_write.proofs.reading_again.NoErrorIsFoundAgain.{snippets_warn}
 use Rattle.gabc_score.specs.WithinLimits.{KeepsWithin}
 use Rattle.gabc_write.proofs.reading_again.NoLimitIsPassedAgain.{one_keeps}
 use Rattle.gabc_write.proofs.reading_again.PlacedCharacters.{codes_placed}
 use Rattle.gabc_write.proofs.reading_again.ScoreReadAgainIsTheSame.{kept_again, some_parts}
-use Rattle.gabc_write.proofs.reading_again.SyllablesSayTheSame.{one_said}
+use Rattle.gabc_write.proofs.reading_again.SyllablesSayTheSame.{one_said, said_by}
 
 -- ---- spans, by what pieces say
 
@@ -63,6 +64,43 @@ as_many lines macros line [] behind (s ∷ ss) h = absurd h
 as_many lines macros line (e ∷ es) behind [] h = absurd h
 as_many lines macros line (e ∷ es) behind (s ∷ ss) h = ap suc (as_many lines macros (next_line lines line) es behind ss h.1)
 
+-- ---- the LF before a first syllable
+
+-- a text, and the same with an LF before it
+abbrev text_for : Bool → List ℕ → List ℕ
+text_for false t = t
+text_for true t = 10 ∷ t
+
+-- a syllable of this view, whose text begins a word as it does itself, and its canonical text
+record IsSaidBy (v : ViewFacts) (ss : List (List ℕ)) (m : UnplacedSyllable) : Type 0 where
+  starts : m.text.word_start ≡ v.word_start
+  bytes : canonical m.text.word_start m ≡ encodes (printed_syllable v ss)
+
+with_line_feed : (v : ViewFacts) (ss : List (List ℕ)) → v.word_start ≡ false → encodes (printed_syllable (record v { word_start = true }) ss) ≡ 10 ∷ encodes (printed_syllable v ss)
+unfolding encode
+with_line_feed v ss e = rw e refl
+
+said_as_first : (v : ViewFacts) (ss : List (List ℕ)) (m : UnplacedSyllable) → IsSaidBy v ss m → canonical true m ≡ encodes (printed_syllable (record v { word_start = true }) ss)
+said_as_first v ss m h = by m.text.word_start refl
+  where
+    by : (b : Bool) → m.text.word_start ≡ b → canonical true m ≡ encodes (printed_syllable (record v { word_start = true }) ss)
+    by true e =
+        ap (λ (b : Bool). canonical b m) (sym e) ∙ h.bytes
+        ∙ ap (λ (b : Bool). encodes (printed_syllable (record v { word_start = b }) ss)) (sym h.starts ∙ e)
+    by false e =
+        ap (λ (bytes : List ℕ). 10 ∷ bytes) (ap (λ (b : Bool). canonical b m) (sym e) ∙ h.bytes)
+        ∙ sym (with_line_feed v ss (sym h.starts ∙ e))
+
+said_where_it_stands : (first : Bool) (v : ViewFacts) (ss : List (List ℕ)) (m : UnplacedSyllable) → IsSaidBy v ss m
+    → canonical (first || m.text.word_start) m ≡ encodes (printed_syllable (record v { word_start = first || m.text.word_start }) ss)
+said_where_it_stands true v ss m h = said_as_first v ss m h
+said_where_it_stands false v ss m h = h.bytes ∙ ap (λ (b : Bool). encodes (printed_syllable (record v { word_start = b }) ss)) (sym h.starts)
+
+view_for : (begins : (t : List ℕ) → view_facts (10 ∷ t) ≡ record (view_facts t) { word_start = true }) (first : Bool) (t : List ℕ)
+    → view_facts (text_for first t) ≡ record (view_facts t) { word_start = first || (view_facts t).word_start }
+view_for begins true t = begins t
+view_for begins false t = refl
+
 module _ (starts : (t : List ℕ) → (view_in t).word_start ≡ (view_facts t).word_start) (centres : (t : List ℕ) → (view_in t).centre ≡ (view_facts t).centre)
     (printed_text : (whole t : List ℕ) → StandsForView whole (view_in t) t → canonical_text (view_in t) (encodes whole) ≡ encodes (text_of_tokens (text_tokens (view_facts t))))
     (bytes_stand : (text : List ℕ) (span : Span) (part : List ℕ) → StandsFor text span part → slice span (encodes text) ≡ encodes part)
@@ -75,16 +113,32 @@ module _ (starts : (t : List ℕ) → (view_in t).word_start ≡ (view_facts t).
     (warns : (lines macros : ℕ) (at : Place) (u : BodyUnit) (units : List BodyUnit) (last : LastUnit) → (let xs = characters_from (u ∷ units) last in let behind = characters_from units last in
     length (encodes (codes_of xs)) < 2 ^ 63 → Cuts texts_by_definition lines macros (text_from texts_by_definition at xs) (units_pieces lines (u ∷ units) last) (last_characters last)
     → TextWarns (score_unit u behind).text → SnippetsWarn lines macros 0 (snippets_in u) behind → All IsWarning (findings_of (events_onto (first_events lines macros at xs (length (characters_in u))) [])))) where
-  module _ (lines macros : ℕ) (m : UnplacedSyllable) (h : HoldsSomeUnit lines m) (short : length (canonical m.text.word_start m) < 2 ^ 63) where
+  module _ (begins : (t : List ℕ) → view_facts (10 ∷ t) ≡ record (view_facts t) { word_start = true }) (lines macros : ℕ) (first : Bool) (m : UnplacedSyllable) (h : HoldsSomeUnit lines m)
+      (short : length (canonical (first || m.text.word_start) m) < 2 ^ 63) where
     own : IsPrinted lines h.unit m
     own = printed lines h.unit m h.holds h.single
 
+    starts_so : m.text.word_start ≡ (view_facts h.unit.text).word_start
+    starts_so = ap (λ (v : ViewContent). v.word_start) h.holds.view_is ∙ starts h.unit.text
+
+    -- what is printed of the syllable where it stands
+    abbrev said : ViewFacts
+    said = view_facts (text_for first h.unit.text)
+
+    said_is : said ≡ record (view_facts h.unit.text) { word_start = first || m.text.word_start }
+    said_is = view_for begins first h.unit.text ∙ ap (λ (b : Bool). record (view_facts h.unit.text) { word_start = first || b }) (sym starts_so)
+
     abbrev text : List ℕ
-    text = printed_syllable (view_facts h.unit.text) own.snippets
+    text = printed_syllable said own.snippets
+
+    bytes_are : canonical (first || m.text.word_start) m ≡ encodes text
+    bytes_are =
+        said_where_it_stands first (view_facts h.unit.text) own.snippets m (record { starts = starts_so; bytes = own.bytes })
+        ∙ ap (λ (v : ViewFacts). encodes (printed_syllable v own.snippets)) (sym said_is)
 
     module _ (at : Place) (before : List BodyEvent) (since : since_close before ≡ []) where
-      o : IsOneUnit lines macros at (view_facts h.unit.text) own.snippets []
-      o = read_again lines macros at h.unit.text own.snippets [] own.are_snippets
+      o : IsOneUnit lines macros at said own.snippets []
+      o = read_again lines macros at (text_for first h.unit.text) own.snippets [] own.are_snippets
 
       abbrev unit : BodyUnit
       unit = o.unit
@@ -95,8 +149,8 @@ module _ (starts : (t : List ℕ) → (view_in t).word_start ≡ (view_facts t).
       abbrev xs : List Char
       xs = characters_in unit ++ []
 
-      says_again : SaysAgain lines macros unit [] (view_facts h.unit.text) own.snippets
-      says_again = subst (λ (ys : List Char). SaysAgain lines macros unit ys (view_facts h.unit.text) own.snippets) o.behind_is o.again
+      says_again : SaysAgain lines macros unit [] said own.snippets
+      says_again = subst (λ (ys : List Char). SaysAgain lines macros unit ys said own.snippets) o.behind_is o.again
 
       alone : AreUnitsFrom lines macros at (placed_characters_from at (text ++ [])) (unit ∷ []) (JustText [])
       alone = o.one_more at [] (JustText []) (record { characters = o.behind_is; cut = tt })
@@ -111,7 +165,7 @@ module _ (starts : (t : List ℕ) → (view_in t).word_start ≡ (view_facts t).
       cuts = subst (λ (ys : List Char). Cuts texts_by_definition lines macros (text_from texts_by_definition at ys) (units_pieces lines (unit ∷ []) (JustText [])) []) alone.characters alone.cut
 
       fits : length (encodes (codes_of xs)) < 2 ^ 63
-      fits = subst (λ (t : List ℕ). length t < 2 ^ 63) (own.bytes ∙ ap encodes (sym (ap codes_of xs_are ∙ codes_placed at text))) short
+      fits = subst (λ (t : List ℕ). length t < 2 ^ 63) (bytes_are ∙ ap encodes (sym (ap codes_of xs_are ∙ codes_placed at text))) short
 
       g : GivesOneSyllable lines macros at unit [] before
       g = gives lines macros at unit [] (JustText []) before fits cuts since
@@ -131,16 +185,19 @@ module _ (starts : (t : List ℕ) → (view_in t).word_start ≡ (view_facts t).
       snippets_are = again_printed.own (some_parts lines macros unit.nexts unit.final) ∙ kept_again lines macros 0 (snippets_in unit) [] own.snippets says_again.snippets
 
       keeps : KeepsWithin (length (encodes text)) read_unit
-      keeps = one_keeps lines macros (length (encodes text)) unit [] (view_facts h.unit.text) own.snippets says_again (omega arith)
+      keeps = one_keeps lines macros (length (encodes text)) unit [] said own.snippets says_again (omega arith)
 
-      says : SaysTheSame g.made m
+      says : SaysTheSame g.made (as_it_stands first m)
       says position =
+          let here : SyllableFacts = record { view = said; snippets = own.snippets } in
           let facts : SyllableFacts = record { view = view_facts h.unit.text; snippets = own.snippets } in
-          one_said starts centres printed_text bytes_stand lines read_unit (record { made = g.made; position = position }) facts g.holds (sym says_again.view_stays) (again_printed.texts ∙ ap (map encodes) snippets_are)
-          ∙ sym (one_said starts centres printed_text bytes_stand lines h.unit (record { made = record m { eu = g.made.eu; nlba = g.made.nlba }; position = position }) facts
-          (record { whole = h.holds.whole; kept_is = h.holds.kept_is; view_is = h.holds.view_is; stands = h.holds.stands; notes = h.holds.notes }) refl own.texts)
+          one_said starts centres printed_text bytes_stand lines read_unit (record { made = g.made; position = position }) here g.holds (sym says_again.view_stays) (again_printed.texts ∙ ap (map encodes) snippets_are)
+          ∙ ap (λ (v : ViewFacts). said_by lines (record { view = v; snippets = own.snippets }) position g.made.eu g.made.nlba) said_is
+          ∙ sym (ap (λ (s : SyllableMeaning). record s { word_start = first || m.text.word_start })
+          (one_said starts centres printed_text bytes_stand lines h.unit (record { made = record m { eu = g.made.eu; nlba = g.made.nlba }; position = position }) facts
+          (record { whole = h.holds.whole; kept_is = h.holds.kept_is; view_is = h.holds.view_is; stands = h.holds.stands; notes = h.holds.notes }) refl own.texts))
 
-      read_by_itself : IsReadByItself lines macros m text at before
+      read_by_itself : IsReadByItself lines macros (as_it_stands first m) text at before
       read_by_itself =
           record {
             again = g.made;
@@ -154,12 +211,12 @@ module _ (starts : (t : List ℕ) → (view_in t).word_start ≡ (view_facts t).
             few = g.few (length (encodes text)) keeps;
             holds = record { unit = read_unit; noted = some_parts lines macros unit.nexts unit.final; single = single; holds = g.holds };
             says = says;
-            eu_is = g.eu_is ∙ same_past (codes "<eu>") (codes "</eu>") g.made m (is_eu before) says;
-            nlba_is = g.nlba_is ∙ same_past (codes "<nlba>") (codes "</nlba>") g.made m (is_nlba before) says;
+            eu_is = g.eu_is ∙ same_past (codes "<eu>") (codes "</eu>") g.made (as_it_stands first m) (is_eu before) says;
+            nlba_is = g.nlba_is ∙ same_past (codes "<nlba>") (codes "</nlba>") g.made (as_it_stands first m) (is_nlba before) says;
             open_eu = ap₂ (λ (ys : List Char) (n : ℕ). is_eu (events_onto (first_events lines macros at ys n) before)) (sym xs_are) (sym size_is) ∙ g.open_eu;
             open_nlba = ap₂ (λ (ys : List Char) (n : ℕ). is_nlba (events_onto (first_events lines macros at ys n) before)) (sym xs_are) (sym size_is) ∙ g.open_nlba;
-            same_text = again_printed.bytes ∙ ap₂ (λ (v : ViewFacts) (ss : List (List ℕ)). encodes (printed_syllable v ss)) says_again.view_stays snippets_are ∙ sym own.bytes;
+            same_text = again_printed.bytes ∙ ap₂ (λ (v : ViewFacts) (ss : List (List ℕ)). encodes (printed_syllable v ss)) says_again.view_stays snippets_are ∙ sym bytes_are;
           }
 
-    pub read_from_its_text : IsReadFromItsText lines macros m
-    read_from_its_text = record { text = text; bytes = own.bytes; read = read_by_itself }
+    pub read_from_its_text : IsReadFromItsText lines macros (as_it_stands first m)
+    read_from_its_text = record { text = text; bytes = bytes_are; read = read_by_itself }

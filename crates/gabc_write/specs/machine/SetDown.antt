@@ -11,7 +11,7 @@ pub record HoldsAlike (told s : ScoreStageState) : Type 0 where
   pub limits_are : s.limits ≡ told.limits
   pub before_is : before_of s ≡ before_of told
   pub held : HoldTheSame (told.before.syllables == 0) (held_of told) (held_of s)
-  pub says : SayTheSame (held_of told) (held_of s)
+  pub says : SayTheSame (told.before.syllables == 0) (held_of told) (held_of s)
 
 -- it begins a text there
 pub record BeginsAlike (told s : ScoreStageState) : Type 0 where

@@ -127,7 +127,7 @@ pub record IsInBody (progress : HeadProgress) (part : ScorePart) : Type 0 where
   pub behind_them : IsBehind progress
   pub body : part ≡ score_part.Body
 
-in_body : (progress : HeadProgress) (part : ScorePart) (headed : Bool) → headed ≡ true → AreInOnePart progress part headed → IsInBody progress part
+pub in_body : (progress : HeadProgress) (part : ScorePart) (headed : Bool) → headed ≡ true → AreInOnePart progress part headed → IsInBody progress part
 in_body (reading t) score_part.Heads headed is parts = absurd (false≢true (sym parts ∙ is))
 in_body (reading t) score_part.Body headed is parts = absurd parts
 in_body (reading t) score_part.Over headed is parts = absurd parts
@@ -145,7 +145,7 @@ abbrev place_at : ℕ → ℕ → Place
 place_at line column = record { line = line; column = column }
 
 -- columns and lines that 64 bits hold do not saturate
-same_next : (p : Place) (c : ℕ) → p.line + p.column < 2 ^ 33 → saturating_next_place p c ≡ next_place p c
+pub same_next : (p : Place) (c : ℕ) → p.line + p.column < 2 ^ 33 → saturating_next_place p c ≡ next_place p c
 same_next p c below = by (is_line_feed c)
   where
     by : (b : Bool) → (if b then place_at (min (p.line + 1) (2 ^ 64 - 1)) 1 else place_at p.line (min (p.column + 1) (2 ^ 64 - 1))) ≡ (if b then place_at (p.line + 1) 1 else place_at p.line (p.column + 1))
@@ -164,7 +164,7 @@ near_next p c n h = by (is_line_feed c)
     by true = let column = h.column in let near = h.near in record { column = omega arith; near = omega (arith, column, near) }
     by false = let near = h.near in record { column = omega arith; near = omega (arith, near) }
 
-body_goes : (x : HeadEvent) (outputs : List ScoreOutput) (part : ScorePart) → part ≡ score_part.Body → list_any is_last outputs ≡ false → part_past part x outputs ≡ score_part.Body
+pub body_goes : (x : HeadEvent) (outputs : List ScoreOutput) (part : ScorePart) → part ≡ score_part.Body → list_any is_last outputs ≡ false → part_past part x outputs ≡ score_part.Body
 body_goes x outputs part body none = rw (body, none) refl
 
 not_over : (part : ScorePart) → part ≡ score_part.Body → part ≡ score_part.Over → ⊥
@@ -173,7 +173,7 @@ not_over part body is = cc (body, is)
 body_preceding : (x : Char) (outputs : List ScoreOutput) (part : ScorePart) (p : Preceding) → part ≡ score_part.Body → preceding_past part (head_event.Body x) outputs p ≡ with_placed p (syllables_in outputs)
 body_preceding x outputs part p body = rw body refl
 
-went_on_past : (old : ScoreStageState) (w : Written) (x : HeadEvent) (new : ScoreWriterState) (p : PassesOn old w x new) → is_none new.writer.written.ended ≡ true → GoesOn w p.outputs
+pub went_on_past : (old : ScoreStageState) (w : Written) (x : HeadEvent) (new : ScoreWriterState) (p : PassesOn old w x new) → is_none new.writer.written.ended ≡ true → GoesOn w p.outputs
 went_on_past old w x new p running = went_on w p.outputs (subst (λ (v : Written). is_none v.ended ≡ true) p.written running)
 
 near_behind : (d e : DecoderState) (x : Char) → MovesOn d (Ok x ∷ []) e → IsNear d.place d.taken → IsNear e.place e.taken
@@ -238,13 +238,13 @@ pub record InHeads (s : ScoreWriterState) : Type 0 where
   pub unheaded : s.writer.written.headed ≡ false
   pub none : s.writer.written.count ≡ 0
 
-abbrev HeadsYet : ScoreWriterState → Type 0
+abbrev pub HeadsYet : ScoreWriterState → Type 0
 HeadsYet s = is_none s.writer.written.ended ≡ true → InHeads s
 
-heads_stay : (f : Finding) (outputs : List ScoreOutput) (part : ScorePart) → part ≡ score_part.Heads → list_any is_last outputs ≡ false → part_past part (head_event.Found f) outputs ≡ score_part.Heads
+pub heads_stay : (f : Finding) (outputs : List ScoreOutput) (part : ScorePart) → part ≡ score_part.Heads → list_any is_last outputs ≡ false → part_past part (head_event.Found f) outputs ≡ score_part.Heads
 heads_stay f outputs part heads none = rw (heads, none) refl
 
-found_passed : (f : Finding) (old mid : ScoreWriterState) → PassesOn old.score (written_at old.writer.written (head_event.Found f)) (head_event.Found f) mid → HeadsYet old → HeadsYet mid
+pub found_passed : (f : Finding) (old mid : ScoreWriterState) → PassesOn old.score (written_at old.writer.written (head_event.Found f)) (head_event.Found f) mid → HeadsYet old → HeadsYet mid
 found_passed f old mid p yet = λ running.
     let w = written_at old.writer.written (head_event.Found f) in
     let on = went_on_past old.score w (head_event.Found f) mid p running in
@@ -256,7 +256,7 @@ found_passed f old mid p yet = λ running.
       none = ap (λ (v : Written). v.count) p.written ∙ (none_counted p.outputs w unheaded ∙ i.none);
     }
 
-abbrev found_events : List Finding → List HeadEvent
+abbrev pub found_events : List Finding → List HeadEvent
 found_events fs = map (λ f. head_event.Found f) fs
 
 found_all : (fs : List Finding) (rest : List HeadEvent) (old new : ScoreWriterState) → HeadsYet old → PassesAll old (found_events fs ++ rest) new → (mid : ScoreWriterState) × (HeadsYet mid × PassesAll mid rest new)
@@ -278,7 +278,7 @@ headed_now : (headed : Bool) (ended : Option Status) → headed ≡ false → is
 headed_now headed None un runs = rw un refl
 headed_now headed (Some status) un runs = absurd (false≢true runs)
 
-to_body : (lines macros canonical : ℕ) (outputs : List ScoreOutput) (part : ScorePart) → part ≡ score_part.Heads → part_past part (head_event.Heads lines macros canonical) outputs ≡ score_part.Body
+pub to_body : (lines macros canonical : ℕ) (outputs : List ScoreOutput) (part : ScorePart) → part ≡ score_part.Heads → part_past part (head_event.Heads lines macros canonical) outputs ≡ score_part.Body
 to_body lines macros canonical outputs part heads = rw heads refl
 
 none_precedes : (lines macros canonical : ℕ) (outputs : List ScoreOutput) (part : ScorePart) (p : Preceding) → part ≡ score_part.Heads
@@ -309,7 +309,7 @@ heads_passed lines macros canonical book old mid p yet running =
       counts = λ place. p.counts place tt (λ was. absurd (cc (was, i.part)));
     }
 
-stop_passed : (fault : Fault) (old mid : ScoreWriterState) → PassesOn old.score (written_at old.writer.written (head_event.Stop fault)) (head_event.Stop fault) mid → HeadsYet old
+pub stop_passed : (fault : Fault) (old mid : ScoreWriterState) → PassesOn old.score (written_at old.writer.written (head_event.Stop fault)) (head_event.Stop fault) mid → HeadsYet old
     → is_none mid.writer.written.ended ≡ true → ⊥
 stop_passed fault old mid p yet running =
     let x = head_event.Stop fault in
@@ -341,12 +341,12 @@ module _ (found : List Finding) (t : List ℕ) (old new : ScoreWriterState) (yet
       (subst (λ (s : ScoreWriterState). is_none s.writer.written.ended ≡ true) (sym last.1.1.1.1) running))
   by_heads (Err stopped) all = by_end stopped.at_end stopped.fault all
 
-running_before : (events : List HeadEvent) (old new : ScoreWriterState) → PassesAll old events new → is_none new.writer.written.ended ≡ true → is_none old.writer.written.ended ≡ true
+pub running_before : (events : List HeadEvent) (old new : ScoreWriterState) → PassesAll old events new → is_none new.writer.written.ended ≡ true → is_none old.writer.written.ended ≡ true
 running_before [] old new all running = subst (λ (s : ScoreWriterState). is_none s.writer.written.ended ≡ true) (sym all) running
 running_before (x ∷ events) old new all running =
     (went_on_past old.score (written_at old.writer.written x) x all.0 all.1.0 (running_before events all.0 new all.1.1 running)).before
 
-in_heads : (progress : HeadProgress) (s : ScoreWriterState) → s.writer.written.headed ≡ false → AreInOnePart progress s.score.part s.writer.written.headed → s.writer.written.count ≡ 0
+pub in_heads : (progress : HeadProgress) (s : ScoreWriterState) → s.writer.written.headed ≡ false → AreInOnePart progress s.score.part s.writer.written.headed → s.writer.written.count ≡ 0
     → (t : List ℕ) × ((progress ≡ reading t) × InHeads s)
 in_heads progress s un parts none = by progress s.score.part s.writer.written.headed un parts refl refl
   where
@@ -450,7 +450,7 @@ front_place : (at : Place) (n : ℕ) → behind_front at n at ≡ place_at at.li
 front_place at zero = ap (λ (m : ℕ). place_at at.line m) (omega arith)
 front_place at (suc n) = refl
 
-place_skipped : (d e : DecoderState) (n : ℕ) → Skips d n e → behind_front d.place n d.place ≡ e.place
+pub place_skipped : (d e : DecoderState) (n : ℕ) → Skips d n e → behind_front d.place n d.place ≡ e.place
 place_skipped d e n skips =
     front_place d.place n
     ∙ (ap (λ (m : ℕ). place_at m (d.place.column + n)) (sym skips.line) ∙ ap (λ (m : ℕ). place_at e.place.line m) (sym skips.column))

@@ -12,6 +12,8 @@ use Rattle.gregorio.specs.declared.source_ending.SourceEnding.{SourceEnding}
 use Rattle.gregorio.specs.Streams.{Streams, behind_bytes}
 use Rattle.gregorio.specs.witness.Engine.{book_behind, head_events_left, is_heads}
 use Rattle.gregorio.specs.machine.InStep.{IsInStep}
+use Rattle.gregorio.specs.machine.ReadsHeaders.{ReadsHeaders}
+use Rattle.gregorio.specs.machine.TellsInStep.{IsTelling}
 use Rattle.gregorio.specs.machine.ScoreWriter.{ScoreWriterState, streams_of, IsBookAt, IsShortBook, IsReserved}
 
 -- ---- events of the headers, one after the other
@@ -83,3 +85,5 @@ pub record IsEngine (decoder : DecoderState) (heads : HeaderStageState) (from_he
   pub together : GoTogether heads w
   pub reserved : IsReserved w
   pub step : IsInStep decoder heads w.score w.writer.written
+  pub headers : ReadsHeaders decoder heads w.writer.written
+  pub tells : IsTelling decoder w

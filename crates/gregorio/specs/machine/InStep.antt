@@ -7,18 +7,28 @@ use Rattle.gabc_places.specs.declared.code.Fault.{Fault}
 use Rattle.gabc_places.specs.declared.place.Char.{Char}
 use Rattle.gabc_places.specs.declared.place.Place.{Place}
 use Rattle.gabc_headers.specs.declared.head_event.HeadEvent.{HeadEvent}
+use Rattle.gabc_headers.specs.declared.head_event.HeadEvent.TheVariants as head_event
 use Rattle.gabc_headers.specs.witness.HeadEvents.{HeaderStageState, HeadProgress, reading, behind}
 use Rattle.gabc_neumes.specs.InForce.{nothing_in_force}
 use Rattle.gabc_score.specs.declared.score_machine.ScorePart.{ScorePart}
 use Rattle.gabc_score.specs.declared.score_machine.ScorePart.TheVariants as score_part
-use Rattle.gabc_score.specs.ScoreEvents.{ScoreOutput, is_last, syllables_in}
+use Rattle.gabc_score.specs.ScoreEvents.{ScoreOutput, Found, Stop, End, is_last, syllables_in}
 use Rattle.gabc_score.specs.ScoreStage.{Counts, StandsHere, is_final, most_lent, part_past, place_behind, preceding_past}
 use Rattle.gabc_score.specs.witness.ScoreStage.{ScoreStageState}
 use Rattle.gregorio.specs.witness.Engine.{Written, behind_heads, behind_outputs, writes_heads}
 use Rattle.gregorio.specs.machine.ScoreWriter.{ScoreWriterState}
+use Rattle.gregorio.specs.machine.Telling.{TellsOn}
 use Rattle.gregorio_jobs.specs.declared.job.Format.TheVariants.{Gabc}
 
 -- ---- a call
+
+-- what the score gives of an event in the headers
+abbrev pub given_in_heads : HeadEvent → List ScoreOutput
+given_in_heads (head_event.Found f) = Found f ∷ []
+given_in_heads (head_event.Stop fault) = Stop fault ∷ []
+given_in_heads head_event.End = End ∷ []
+given_in_heads (head_event.Body x) = []
+given_in_heads (head_event.Heads lines macros canonical) = []
 
 -- At an event the score gave these, and what is written is what stands behind them.
 pub record PassesOn (old : ScoreStageState) (w : Written) (x : HeadEvent) (new : ScoreWriterState) : Type 0 where
@@ -29,6 +39,8 @@ pub record PassesOn (old : ScoreStageState) (w : Written) (x : HeadEvent) (new :
   pub before_held : new.score.part ≡ score_part.Body → new.score.before ≡ preceding_past old.part x outputs old.before
   pub counts : (place : Place) → StandsHere x place → Counts place old → Counts (place_behind x place) new.score
   pub written : new.writer.written ≡ behind_outputs w outputs
+  pub in_heads : old.part ≡ score_part.Heads → outputs ≡ given_in_heads x
+  pub tells : TellsOn old x new.score
 
 -- what is written where the headers are, if they are at this event
 abbrev pub written_at : Written → HeadEvent → Written

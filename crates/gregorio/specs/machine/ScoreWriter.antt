@@ -17,6 +17,8 @@ use Rattle.gregorio.specs.Outcome.{input_name}
 use Rattle.gregorio_jobs.specs.declared.job.Job.{Job}
 use Rattle.gregorio.specs.Streams.{Streams, behind_bytes, ended_with}
 use Rattle.gregorio.specs.witness.Engine.{Written, streams_from}
+use Rattle.gregorio.specs.machine.ClefInForce.{HasClefOfSounds}
+use Rattle.gregorio.specs.machine.Telling.{TellsThrough}
 use Rattle.gregorio.specs.machine.RunWriter.{RunWriterState, line_room, syllable_room, heads_room, last_room}
 use Rattle.gregorio_jobs.specs.declared.job.Format.{Format}
 use Rattle.gregorio_jobs.specs.declared.job.Status.{Status}
@@ -63,6 +65,7 @@ pub record WritesNothing (old : ScoreWriterState) (at : Place) (bytes : List ℕ
   pub counts : Counts at old.score → Counts (behind_front at (length bytes) at) new.score
   pub writer : new.writer ≡ old.writer
   pub law : (book : List (List ℕ × List ℕ)) (from_heads : List HeadEvent) → streams_of old book (body_inputs at bytes ++ from_heads) ≡ streams_of new book from_heads
+  pub tells : TellsThrough old.score at bytes new.score
 
 -- At the end of what comes it wrote what was still to come.
 pub record WritesLast (old new : ScoreWriterState) (status : Status) : Type 0 where
@@ -85,6 +88,7 @@ pub record IsOver (written : Written) (score : ScoreStageState) (status : Status
 pub record IsScoreWriter (score : ScoreStageState) (events : BoundedList ScoreEvent) (writer : RunWriterState) : Type 0 where
   pub room : 16 ≤ events.limit
   pub silent : IsSome writer.written.ended → IsSilent score
+  pub clef : HasClefOfSounds score writer.written
 
 -- what no call changes: the limits, the format and the name, and how much the rooms take
 pub record IsSteady (old new : ScoreWriterState) : Type 0 where

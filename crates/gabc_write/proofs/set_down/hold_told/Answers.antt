@@ -1,10 +1,10 @@
-use Rattle.std.proofs.Common.{◌≡◌}
+use Rattle.std.proofs.Common.{◌≡◌, ◌==◌}
 use Rattle.gabc_score.specs.SpansPast.{FollowsSpans}
 use Rattle.gabc_score.specs.Syllable.{UnplacedSyllable, unplaced_of}
 use Rattle.gabc_score.specs.ToldWithin.{IsHeldWithin, written_behind}
 use Rattle.gabc_score.specs.UnitRead.{HoldsSomeUnit}
-use Rattle.gabc_write.specs.SyllableRead.{IsReadFromItsText}
-use Rattle.gabc_write.proofs.reading_again.StageHoldsAgain.{begins_at_first, begins_with_one, is_held, some_held}
+use Rattle.gabc_write.specs.SyllableRead.{IsReadWhereItStands}
+use Rattle.gabc_write.proofs.reading_again.StageHoldsAgain.{begins_with_one, is_held, some_held}
 use Rattle.gabc_write.proofs.set_down.hold_told.Goals as goal
 
 pub returns-clause-holds : goal.returns-clause-holds
@@ -15,8 +15,8 @@ returns-clause-holds c =
     is_held told c.args.stage.now c.requires.runs c.requires.stands m is
     (some_held (IsHeldWithin told.limits told.before) _ m is c.requires.within.held) c.args.held.now
     (some_held (λ (n : UnplacedSyllable). c.args.held.now ≡ written_behind told.before n) _ m is c.requires.text) c.utf8.held
-    (some_held (IsReadFromItsText told.body.nabc_lines told.body.macros) _ m is c.what_is_held_is_read_from_its_own_text.ensures)
-    (begins_at_first told m is c.requires.tells) c.some_events_leave_spans_open.ensures c.hold_again.result c.hold_again.ensures.refused
+    (some_held (IsReadWhereItStands told.body.nabc_lines told.body.macros) _ m is c.what_is_held_is_read_from_its_own_text.ensures (told.before.syllables == 0))
+    c.some_events_leave_spans_open.ensures c.hold_again.result c.hold_again.ensures.refused
 
 pub returns-clause-begins : goal.returns-clause-begins
 returns-clause-begins c =
@@ -26,7 +26,7 @@ returns-clause-begins c =
     begins_with_one told c.args.stage.now c.requires.runs c.requires.stands m is
     (some_held (IsHeldWithin told.limits told.before) _ m is c.requires.within.held) c.args.held.now
     (some_held (λ (n : UnplacedSyllable). c.args.held.now ≡ written_behind told.before n) _ m is c.requires.text) c.utf8.held
-    (some_held (IsReadFromItsText told.body.nabc_lines told.body.macros) _ m is c.what_is_held_is_read_from_its_own_text.ensures)
-    (begins_at_first told m is c.requires.tells) c.snippets_of_a_unit_stand_between_characters.ensures c.hold_again.new.self
+    (some_held (IsReadWhereItStands told.body.nabc_lines told.body.macros) _ m is c.what_is_held_is_read_from_its_own_text.ensures (told.before.syllables == 0))
+    c.snippets_of_a_unit_stand_between_characters.ensures c.hold_again.new.self
     (some_held (FollowsSpans told.before.spans) _ m is c.spans_of_what_is_held_follow.ensures)
     (some_held (HoldsSomeUnit told.body.nabc_lines) _ m is c.what_is_held_holds_a_unit.ensures) (c.hold_again.ensures.held (returns-clause-holds c))

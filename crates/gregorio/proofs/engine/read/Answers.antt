@@ -8,8 +8,10 @@ use Rattle.gregorio.specs.machine.Engine.{event_of_item}
 use Rattle.gregorio.specs.machine.ScoreWriter.{FitsEvents, WritesAt}
 use Rattle.gregorio.proofs.pieces.ItemsAreRead.{reads_item}
 use Rattle.gregorio.specs.machine.InStep.{PassesOn}
-use Rattle.gregorio.proofs.pieces.PartsStayInStep.{body_in_step}
+use Rattle.gregorio.proofs.pieces.PartsStayInStep.{body_in_step, went_on_past}
+use Rattle.gregorio.proofs.pieces.TellsInStepOn.{body_stays_telling}
 use Rattle.gregorio.proofs.pieces.RoomIsLeft.{item_is_few, room_for_first, room_with_end}
+use Rattle.gregorio.proofs.pieces.TextOfHeaders.{body_reads_on}
 use Rattle.gregorio.proofs.engine.read.Goals as goal
 
 no_heads : (item : Result Char Fault) → is_heads (event_of_item item) ≡ false
@@ -52,3 +54,17 @@ returns-clause-step c =
     let w = c.args.writer.now in
     body_in_step c.args.heads.now w c.pass.new.self c.args.item (sym c.headed.ensures ∙ c.if-not-headed.false) c.pass.ensures.steady.limits
     (subst (λ (x : HeadItem). PassesOn w.score w.writer.written x c.pass.new.self) c.body_event.ensures c.pass.ensures.passes)
+
+pub returns-clause-reads : goal.returns-clause-reads
+returns-clause-reads c =
+    let w = c.args.writer.now in
+    let passes = subst (λ (x : HeadItem). PassesOn w.score w.writer.written x c.pass.new.self) c.body_event.ensures c.pass.ensures.passes in
+    body_reads_on c.args.heads.now w c.pass.new.self c.args.item (sym c.headed.ensures ∙ c.if-not-headed.false)
+    (λ running. (went_on_past w.score w.writer.written (event_of_item c.args.item) c.pass.new.self passes running).before)
+
+pub returns-clause-tells : goal.returns-clause-tells
+returns-clause-tells c =
+    let w = c.args.writer.now in
+    let headed = sym c.headed.ensures ∙ c.if-not-headed.false in
+    let passes = subst (λ (x : HeadItem). PassesOn w.score w.writer.written x c.pass.new.self) c.body_event.ensures c.pass.ensures.passes in
+    body_stays_telling c.args.heads.now w c.pass.new.self c.args.item headed (body_in_step c.args.heads.now w c.pass.new.self c.args.item headed c.pass.ensures.steady.limits passes) passes

@@ -2,10 +2,11 @@ use Rattle.gabc_places.specs.declared.place.Place.{Place}
 use Rattle.std.proofs.Common.{◌≡◌, IfSome, true, refl, subst, ◌+◌, arith, sym, ap, ◌∙◌}
 use Rattle.std.proofs.lemmas.Bool.Decides.{nat_tests}
 use Rattle.gabc_places.specs.declared.code.Code.TheVariants.{F7}
+use Rattle.std.specs.Char.{IsScalar}
 use Rattle.gabc_places.specs.DecoderMachine.{DecoderState, is_fault_item}
 use Rattle.gabc_places.specs.witness.DecoderEvents.{DecoderStep, take_character, take_byte}
 use Rattle.gabc_places.specs.contracts.decoder.Decoder.{the_view}
-use Rattle.gabc_places.proofs.decoding.AByteIsTaken.{plain_byte_taken, nothing_pending}
+use Rattle.gabc_places.proofs.decoding.AByteIsTaken.{plain_byte_taken, plain_is_scalar, nothing_pending}
 use Rattle.gabc_places.proofs.decoding.ADecoderMoves.{character_moves_on, fault_moves_on, part_moves_on}
 use Rattle.gabc_places.proofs.decoding.ADecoderStops.{fault_stops, part_stops, part_stays, character_is_none, item_of_byte}
 use Rattle.gabc_places.proofs.decoder.Decoder.take.Goals as goal
@@ -40,7 +41,7 @@ returns-then-self-clause-moves c = fault_moves_on F7 c.args.self.now c.stop.new.
 pub returns-then-is_empty-clause-moves : goal.returns-then-is_empty-clause-moves
 returns-then-is_empty-clause-moves c =
     rw (← c.self.view_is) (character_moves_on c.from.result (the_view c.self.inside) (the_view (record c.self.inside { taken = c.self.inside.taken + 1 })) c.take_character.new.self c.take_character.result
-    (record { limit = refl; taken = refl; place = refl; running = refl }) c.take_character.ensures.state c.take_character.ensures.events)
+    (subst IsScalar (sym c.from.ensures) (plain_is_scalar c.args.byte c.if-byte-lt128.true)) (record { limit = refl; taken = refl; place = refl; running = refl }) c.take_character.ensures.state c.take_character.ensures.events)
 
 pub returns-clause-moves : goal.returns-clause-moves
 returns-clause-moves c =

@@ -6,12 +6,14 @@ use Rattle.gabc_notes.specs.witness.ItemMachine as notes
 use Rattle.gabc_notes.specs.declared.stage.NoteEvent.{NoteEvent}
 use Rattle.gabc_score.specs.declared.body_stage.BodyPart.TheVariants as part
 use Rattle.gabc_score.specs.Events.{is_text_end, is_next, is_close, note_event}
+use Rattle.gabc_score.specs.witness.BodyStage.{BodyStageState}
 use Rattle.gabc_score.proofs.building.EventsOfSnippets.{snippet_emits}
 use Rattle.gabc_score.proofs.building.CountsOfParts.{text_goes, text_ends, notes_go, notes_close}
 use Rattle.gabc_score.proofs.building.PartsOfKeptText.{text_keeps_on, text_ends_on}
 use Rattle.gabc_score.proofs.building.PartsKeepOn.{gabc_keeps_on, gabc_ends_on, gabc_closes_on, gabc_next_makes, gabc_makes, nabc_keeps_on, nabc_ends_on, nabc_closes_on, nabc_next_makes, nabc_makes}
 use Rattle.gabc_score.proofs.building.PartsMakeSyllables.{text_makes, notes_make_none}
 use Rattle.gabc_score.proofs.building.PartsKeepOn.{gabc_keeps_on, gabc_ends_on, gabc_closes_on, nabc_keeps_on, nabc_ends_on, nabc_closes_on}
+use Rattle.gabc_score.proofs.building.PartsEndLines.{ends_outside, no_open_comment, text_ends_line, gabc_ends_line, nabc_ends_line}
 use Rattle.gabc_score.proofs.building.PartsKeepOnly.{text_keeps_only, gabc_keeps_only, nabc_keeps_only}
 use Rattle.gabc_score.proofs.building.PartsOpenOn.{opened_at, same_open, notes_open, next_opens, none_open, text_opens_on, gabc_opens_on}
 use Rattle.gabc_score.proofs.building.PartsStandOn.{snippet_stands, text_stands_on, gabc_closes_at, nabc_closes_at}
@@ -339,6 +341,48 @@ pub returns-else-close-2-clause-opens : goal.returns-else-close-2-clause-opens
 returns-else-close-2-clause-opens c =
     rw (← c.self.view_is, c.in-Nabc.is)
     (λ p keeps at. same_open c.args.x.place (opened_at (Some c.in-Nabc.opened)))
+
+-- ---- the end of a line
+
+pub returns-in-Comment-clause-line : goal.returns-in-Comment-clause-line
+returns-in-Comment-clause-line c = λ p keeps lf. absurd (no_open_comment c.args.x c.args.self.now.part (ap (λ (s : BodyStageState). s.part) (sym c.self.view_is) ∙ c.in-Comment.is) (c.requires.part []) lf)
+
+pub returns-then-ended-clause-line : goal.returns-then-ended-clause-line
+returns-then-ended-clause-line c = ends_outside c.args.self.now.nabc_lines c.args.self.now.macros c.args.x c.args.self.now.part c.snippet-self-inside.result c.snippet-self-inside.ensures.tells.1
+
+pub returns-else-ended-clause-line : goal.returns-else-ended-clause-line
+returns-else-ended-clause-line c =
+    rw (← c.self.view_is, c.in-Text.is)
+    (text_ends_line c.self.inside.nabc_lines c.self.inside.macros c.args.x c.in-Text.stage c.push_text.new.stage c.push_text.new.events.items c.push_text.ensures.keeps
+    (sym (c.ends_text-ended.ensures ∙ ap (list_any is_text_end) c.slice.ensures) ∙ c.if-ended.false))
+
+pub returns-then-next-clause-line : goal.returns-then-next-clause-line
+returns-then-next-clause-line c = ends_outside c.args.self.now.nabc_lines c.args.self.now.macros c.args.x c.args.self.now.part c.next_snippet-self-inside.result c.next_snippet-self-inside.ensures.tells.1
+
+pub returns-then-close-clause-line : goal.returns-then-close-clause-line
+returns-then-close-clause-line c = ends_outside c.args.self.now.nabc_lines c.args.self.now.macros c.args.x c.args.self.now.part c.text_behind-self-inside.result c.text_behind-self-inside.ensures.outside
+
+pub returns-else-close-clause-line : goal.returns-else-close-clause-line
+returns-else-close-clause-line c =
+    rw (← c.self.view_is, c.in-Notes.is)
+    (gabc_ends_line c.self.inside.nabc_lines c.self.inside.macros c.args.x c.in-Notes.opened c.in-Notes.stage c.push_gabc.new.stage c.push_gabc.new.events.items c.push_gabc.ensures.keeps
+    (sym (c.ends_at_next-next.ensures ∙ ap (list_any is_next) c.slice-in-Notes.ensures) ∙ c.if-next.false)
+    (sym (c.ends_at_close-close.ensures ∙ ap (list_any is_close) c.slice-in-Notes-2.ensures) ∙ c.if-close.false))
+
+pub returns-then-next-2-clause-line : goal.returns-then-next-2-clause-line
+returns-then-next-2-clause-line c =
+    ends_outside c.args.self.now.nabc_lines c.args.self.now.macros c.args.x c.args.self.now.part c.next_snippet-self-inside-then-next-2.result c.next_snippet-self-inside-then-next-2.ensures.tells.1
+
+pub returns-then-close-2-clause-line : goal.returns-then-close-2-clause-line
+returns-then-close-2-clause-line c =
+    ends_outside c.args.self.now.nabc_lines c.args.self.now.macros c.args.x c.args.self.now.part c.text_behind-self-inside-then-close-2.result c.text_behind-self-inside-then-close-2.ensures.outside
+
+pub returns-else-close-2-clause-line : goal.returns-else-close-2-clause-line
+returns-else-close-2-clause-line c =
+    rw (← c.self.view_is, c.in-Nabc.is)
+    (nabc_ends_line c.self.inside.nabc_lines c.self.inside.macros c.args.x c.in-Nabc.line c.in-Nabc.opened c.in-Nabc.stage c.push_nabc.new.stage c.push_nabc.new.events.items c.push_nabc.ensures.keeps
+    (sym (c.ends_at_next-next-in-Nabc.ensures ∙ ap (list_any is_next) c.slice-in-Nabc.ensures) ∙ c.if-next-2.false)
+    (sym (c.ends_at_close-close-in-Nabc.ensures ∙ ap (list_any is_close) c.slice-in-Nabc-2.ensures) ∙ c.if-close-2.false))
 
 -- ---- what is kept
 

@@ -7,7 +7,7 @@ use Rattle.gabc_score.specs.Events.{events_from}
 use Rattle.gabc_score.specs.witness.BodyStage.{BodyStageState, part_with, running_events_left, texts_by_stage}
 use Rattle.gabc_score.proofs.score_events.FirstBeginsWord.{front_is, lf_starts}
 use Rattle.gabc_score.proofs.building.PartsMakeSyllables.{first_text_makes, text_makes}
-use Rattle.gabc_score.specs.machine.PartOpens.{PartOpensOn}
+use Rattle.gabc_score.specs.machine.PartOpens.{PartEndsLine, PartOpensOn}
 use Rattle.gabc_score.proofs.building.PartsOpenOn.{first_text_opens}
 use Rattle.gabc_score.proofs.building.PartsStandOn.{first_text_stands}
 use Rattle.gabc_score.proofs.body_stage.BodyStage.take.Goals.{in-Comment+else-x-ne10, in_default}
@@ -50,4 +50,13 @@ returns-clause-starts c = elim c.match-self.branch [
       (subst (λ (b : BodyPart). events_from texts_by_stage c.match-self.self.nabc_lines c.match-self.self.macros (part_with b (c.args.x ∷ [])) (c.args.x ∷ []) ≡ c.push_part.new.self.events ∷ running_events_left c.push_part.new.self [])
       (ap (λ (s : BodyStageState). s.part) w.self-is) (c.push_part.ensures.events.law [])))
   | in_default w ↦ λ front. absurd (w.in_default.not-Comment (ap (λ (s : BodyStageState). s.part) c.self.view_is ∙ front_is c.args.self.now.part front))
+]
+
+pub returns-then-x-ne10-clause-line : goal.returns-then-x-ne10-clause-line
+returns-then-x-ne10-clause-line c = λ p keeps lf. absurd (c.if-x-ne10.true lf)
+
+pub returns-clause-line : goal.returns-clause-line
+returns-clause-line c = elim c.match-self.branch [
+  | in-Comment+else-x-ne10 w ↦ λ p keeps. c.push_part.ensures.line (in_text []) (subst (λ (b : BodyPart). PartKeeps c.match-self.self.nabc_lines c.match-self.self.macros b (in_text [])) (sym (ap (λ (s : BodyStageState). s.part) w.self-is)) w.new.ensures.keeps)
+  | in_default w ↦ subst (λ (s : BodyStageState). PartEndsLine s.nabc_lines s.macros c.args.x s.part c.push_part.new.self.part) w.self-is c.push_part.ensures.line
 ]

@@ -25,14 +25,19 @@ returns-in-Some-clause-step c =
       limits = c.stop.ensures.limits;
       part = leads_out c.args.self.now.part c.stop.new.self.part head_event.End (outputs_of [] (placed_behind c.args.self.now.has_lent held)) (Stop c.in-Some.fault) c.requires.part c.stop.ensures.part refl;
       last = λ other final. last_behind (outputs_of [] (placed_behind c.args.self.now.has_lent held)) (Stop c.in-Some.fault) refl;
+      passes = λ other. tt;
+      line = λ lf. absurd lf;
       counts = λ place here was body. absurd (cc (body, c.stop.ensures.part));
       before_held = λ body. absurd (cc (body, c.stop.ensures.part));
       next = λ body. absurd (cc (body, c.stop.ensures.part));
       stands = λ here was body. absurd (cc (body, c.stop.ensures.part));
       whole = λ body. absurd (cc (body, c.stop.ensures.part));
       told = λ may here was body. absurd (cc (body, c.stop.ensures.part));
+      holds = λ was body. absurd (cc (body, c.stop.ensures.part));
+      first = λ was. record { held = λ body. absurd (cc (body, c.stop.ensures.part)); read = λ body. absurd (cc (body, c.stop.ensures.part)) };
       law = search rules;
       emitted = c.stop.ensures.emitted;
+      front = λ heads. absurd (cc (heads, c.requires.part));
     }
 
 pub returns-in-None-clause-step : goal.returns-in-None-clause-step
@@ -55,12 +60,17 @@ returns-in-None-clause-step c =
       limits = refl;
       part = leads_out c.args.self.now.part _ head_event.End (outputs_of found lent) End c.requires.part refl refl;
       last = λ other final. last_behind (outputs_of found lent) End refl;
+      passes = λ other. tt;
+      line = λ lf. absurd lf;
       counts = λ place here was body. absurd (cc body);
       before_held = λ body. absurd (cc body);
       next = λ body. absurd (cc body);
       stands = λ here was body. absurd (cc body);
       whole = λ body. absurd (cc body);
       told = λ may here was body. absurd (cc body);
+      holds = λ was body. absurd (cc body);
+      first = λ was. record { held = λ body. absurd (cc body); read = λ body. absurd (cc body) };
       law = search rules;
       emitted = rw (sym c.slice-found.ensures) c.give_end.ensures.emitted;
+      front = λ heads. absurd (cc (heads, c.requires.part));
     }

@@ -15,6 +15,7 @@ use Rattle.gabc_score.specs.machine.SyllableBuilder.{OpenSyllable}
 use Rattle.gabc_score.specs.witness.BodyStage.{BodyStageState}
 use Rattle.gabc_score.proofs.resuming.HeldIsHeld.{found_alone, is_found}
 use Rattle.gabc_score.proofs.resuming.NothingIsRead.{begins_again}
+use Rattle.gabc_score.proofs.resuming.ResumedIsOfText.{first_is_place}
 use Rattle.gabc_score.proofs.texts_of_body.StageAndDefinitionAgree.{fits_behind_prefix}
 use Rattle.gabc_score.proofs.score_machine.ScoreMachine.hold_again.Goals as goal
 
@@ -90,3 +91,18 @@ returns-clause-rests c =
       units = rw (ap (λ (b : BodyStageState). b.nabc_lines) c.begin_text.ensures.text) was.units;
       within = was.within;
     })
+
+pub returns-clause-told : goal.returns-clause-told
+returns-clause-told c = λ held text told body.
+    let was = c.args.self.now in
+    let t = told c.requires.begins.body in
+    let on = c.read_all.ensures.goes c.if-not-read_all.false in
+    let b = c.begin_text.ensures.text in
+    let texts = c.read_all.ensures.texts c.if-not-read_all.false text (t.reading, t.held) in
+    record {
+      counts = rw (on.limits, ap (λ (s : BodyStageState). s.nabc_lines) b ∙ on.lines, ap (λ (s : BodyStageState). s.macros) b ∙ on.macros, on.before) t.counts;
+      next = first_is_place;
+      openers = rw (ap (λ (s : BodyStageState). s.part) b) (record { notes = tt; inner = tt; in_order = tt });
+      reading = texts.0;
+      held = texts.1;
+    }

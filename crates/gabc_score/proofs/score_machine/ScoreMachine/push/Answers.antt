@@ -9,12 +9,17 @@ returns-in-Over-clause-step c = rw c.in-Over.is (record {
   limits = refl;
   part = refl;
   last = λ other final. absurd (other refl);
+  passes = λ other. absurd (other refl);
+  line = λ lf body. absurd (cc body);
   counts = λ place here was body. absurd (cc body);
   before_held = λ body. absurd (cc body);
   next = λ body. absurd (cc body);
   stands = λ here was. was;
   whole = λ body. absurd (cc body);
   told = λ may here was. was;
+  holds = λ was. was;
+  first = λ was. was;
   law = λ xs. refl;
   emitted = search rules;
+  front = λ heads. absurd (cc heads);
 })

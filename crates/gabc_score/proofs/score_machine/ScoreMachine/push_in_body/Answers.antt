@@ -13,14 +13,19 @@ returns-in-Found-clause-step c =
       limits = refl;
       part = refl;
       last = λ other final. absurd (cc final);
+      passes = λ other. refl;
+      line = λ lf. absurd lf;
       counts = λ place here was. was;
       before_held = λ body. refl;
       next = λ body. refl;
       stands = λ here was. was;
       whole = λ body. omega arith;
       told = λ may here was. was;
+      holds = λ was. was;
+      first = λ was. was;
       law = λ xs. refl;
       emitted = record { events = c.push.ensures; few = omega arith; lent = refl };
+      front = λ heads. absurd (cc heads);
     })
 
 pub returns-in-Stop-clause-step : goal.returns-in-Stop-clause-step
@@ -33,14 +38,19 @@ returns-in-Stop-clause-step c =
       limits = c.stop.ensures.limits;
       part = leads_out c.args.self.now.part c.stop.new.self.part _ (outputs_of [] (placed_behind c.args.self.now.has_lent held)) (Stop c.in-Stop.fault) c.requires.part c.stop.ensures.part refl;
       last = λ other final. last_behind (outputs_of [] (placed_behind c.args.self.now.has_lent held)) (Stop c.in-Stop.fault) refl;
+      passes = λ other. rw c.in-Stop.is tt;
+      line = λ lf body. absurd (cc (body, c.stop.ensures.part));
       counts = λ place here was body. absurd (cc (body, c.stop.ensures.part));
       before_held = λ body. absurd (cc (body, c.stop.ensures.part));
       next = λ body. absurd (cc (body, c.stop.ensures.part));
       stands = λ here was body. absurd (cc (body, c.stop.ensures.part));
       whole = λ body. absurd (cc (body, c.stop.ensures.part));
       told = λ may here was body. absurd (cc (body, c.stop.ensures.part));
+      holds = λ was body. absurd (cc (body, c.stop.ensures.part));
+      first = λ was. record { held = λ body. absurd (cc (body, c.stop.ensures.part)); read = λ body. absurd (cc (body, c.stop.ensures.part)) };
       law = search rules;
       emitted = c.stop.ensures.emitted;
+      front = λ heads. absurd (cc (heads, c.requires.part));
     }
 
 pub returns-in-Heads-clause-step : goal.returns-in-Heads-clause-step
@@ -51,12 +61,17 @@ returns-in-Heads-clause-step c =
       limits = refl;
       part = refl;
       last = λ other final. absurd (cc final);
+      passes = λ other. tt;
+      line = λ lf. absurd lf;
       counts = λ place here was. was;
       before_held = λ body. refl;
       next = λ body. refl;
       stands = λ here was. was;
       whole = λ body. omega arith;
       told = λ may here was. was;
+      holds = λ was. was;
+      first = λ was. was;
       law = λ xs. refl;
       emitted = search rules;
+      front = λ heads. absurd (cc heads);
     })

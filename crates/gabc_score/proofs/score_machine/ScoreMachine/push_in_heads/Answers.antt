@@ -1,8 +1,12 @@
-use Rattle.std.proofs.Common.{rules, [], ◌∷◌, refl, ap, sym, ◌∙◌, arith}
+use Rattle.std.proofs.Common.{rules, inl, [], ◌∷◌, refl, ap, sym, subst, ◌∙◌, arith}
 use Rattle.std.proofs.lemmas.Bool.{false≢true}
+use Rattle.std.specs.List.{All}
+use Rattle.std.proofs.lemmas.List.Elements.{All-nil}
 use Rattle.gabc_score.specs.ScoreEvents.{Found, Stop, End}
 use Rattle.gabc_score.specs.declared.bounds.Bounds.{Bounds}
-use Rattle.gabc_score.specs.ScoreStage.{is_final}
+use Rattle.gabc_score.specs.ScoreStage.{EndsLine, is_final}
+use Rattle.gabc_score.specs.ScoreTells.{is_in_front}
+use Rattle.gabc_score.specs.ToldWithin.{BeginsWord}
 use Rattle.gabc_score.specs.machine.Gatherer.{Gathered}
 use Rattle.gabc_score.specs.machine.SlotPair.{SlotPairState}
 use Rattle.gabc_score.specs.witness.BodyStage.{BodyStageState}
@@ -22,14 +26,19 @@ returns-in-Found-clause-step c =
       limits = refl;
       part = refl;
       last = λ other final. absurd (cc final);
+      passes = λ other. refl;
+      line = λ lf. absurd lf;
       counts = λ place here was body. absurd (cc body);
       before_held = λ body. absurd (cc body);
       next = λ body. absurd (cc body);
       stands = λ here was body. absurd (cc body);
       whole = λ body. absurd (cc body);
       told = λ may here was body. absurd (cc body);
+      holds = λ was body. absurd (cc body);
+      first = λ was. record { held = λ body. absurd (cc body); read = λ body. absurd (cc body) };
       law = λ xs. refl;
       emitted = record { events = c.push.ensures; few = omega arith; lent = refl };
+      front = λ heads lines macros canonical is. absurd (cc is);
     })
 
 pub returns-in-Stop-clause-step : goal.returns-in-Stop-clause-step
@@ -40,14 +49,19 @@ returns-in-Stop-clause-step c =
       limits = refl;
       part = refl;
       last = λ other final. refl;
+      passes = λ other. tt;
+      line = λ lf. absurd lf;
       counts = λ place here was body. absurd (cc body);
       before_held = λ body. absurd (cc body);
       next = λ body. absurd (cc body);
       stands = λ here was body. absurd (cc body);
       whole = λ body. absurd (cc body);
       told = λ may here was body. absurd (cc body);
+      holds = λ was body. absurd (cc body);
+      first = λ was. record { held = λ body. absurd (cc body); read = λ body. absurd (cc body) };
       law = λ xs. refl;
       emitted = record { events = c.push-in-Stop.ensures; few = omega arith; lent = refl };
+      front = λ heads lines macros canonical is. absurd (cc is);
     })
 
 pub returns-in-End-clause-step : goal.returns-in-End-clause-step
@@ -58,14 +72,19 @@ returns-in-End-clause-step c =
       limits = refl;
       part = refl;
       last = λ other final. refl;
+      passes = λ other. tt;
+      line = λ lf. absurd lf;
       counts = λ place here was body. absurd (cc body);
       before_held = λ body. absurd (cc body);
       next = λ body. absurd (cc body);
       stands = λ here was body. absurd (cc body);
       whole = λ body. absurd (cc body);
       told = λ may here was body. absurd (cc body);
+      holds = λ was body. absurd (cc body);
+      first = λ was. record { held = λ body. absurd (cc body); read = λ body. absurd (cc body) };
       law = λ xs. refl;
       emitted = record { events = c.push-in-End.ensures; few = omega arith; lent = refl };
+      front = λ heads lines macros canonical is. absurd (cc is);
     })
 
 pub returns-in-Body-clause-step : goal.returns-in-Body-clause-step
@@ -76,14 +95,19 @@ returns-in-Body-clause-step c =
       limits = refl;
       part = refl;
       last = λ other final. absurd (cc final);
+      passes = λ other. tt;
+      line = λ lf body. absurd (cc body);
       counts = λ place here was body. absurd (cc body);
       before_held = λ body. absurd (cc body);
       next = λ body. absurd (cc body);
       stands = λ here was body. absurd (cc body);
       whole = λ body. absurd (cc body);
       told = λ may here was body. absurd (cc body);
+      holds = λ was body. absurd (cc body);
+      first = λ was. record { held = λ body. absurd (cc body); read = λ body. absurd (cc body) };
       law = λ xs. refl;
       emitted = search rules;
+      front = λ heads lines macros canonical is. absurd (cc is);
     })
 
 pub returns-in-Heads-clause-step : goal.returns-in-Heads-clause-step
@@ -93,6 +117,8 @@ returns-in-Heads-clause-step c = record {
   limits = refl;
   part = search rules;
   last = λ other final. absurd (false≢true (sym (ap is_final c.in-Heads.is) ∙ final));
+  passes = λ other. rw c.in-Heads.is tt;
+  line = λ lf. absurd (subst EndsLine c.in-Heads.is lf);
   counts = search rules;
   before_held = search rules;
   next = search rules;
@@ -104,8 +130,15 @@ returns-in-Heads-clause-step c = record {
       c.restart.ensures c.behind_headers-self.ensures may _ refl refl refl refl
       (ap (λ (g : Gathered). g.builder.kept) (ap (λ (s : SlotPairState). s.gathered) c.start.ensures ∙ ap (λ (g : Gathered). record g { total = c.in-Heads.canonical }) c.requires.rests.nothing))
       (ap (λ (g : Gathered). g.made) (ap (λ (s : SlotPairState). s.gathered) c.start.ensures ∙ ap (λ (g : Gathered). record g { total = c.in-Heads.canonical }) c.requires.rests.nothing));
+  holds = λ was body none. ap (λ (b : Bounds). b.before.syllables) c.behind_headers-self.ensures;
+  first = λ was. record {
+    held = λ body first. subst (All BeginsWord)
+        (sym (ap (λ (g : Gathered). g.made) (ap (λ (s : SlotPairState). s.gathered) c.start.ensures ∙ ap (λ (g : Gathered). record g { total = c.in-Heads.canonical }) c.requires.rests.nothing))) (All-nil BeginsWord);
+    read = λ body none. inl (ap (λ (s : BodyStageState). is_in_front s.part) c.restart.ensures);
+  };
   law = search rules;
   emitted = search rules;
+  front = λ heads lines macros canonical is. search rules;
 }
 
 pub returns-in-Heads-clause-rests : goal.returns-in-Heads-clause-rests

@@ -11,7 +11,8 @@ use Rattle.gabc_places.specs.Place.{saturating_next_place}
 use Rattle.gabc_score.specs.ScoreStage.{IsWithin, Lends, MayCome}
 use Rattle.gabc_score.specs.declared.score_machine.ScorePart.{ScorePart}
 use Rattle.gabc_score.specs.ScoreTells.{held_in_body, StandsAt, openers_of}
-use Rattle.gabc_score.specs.ToldWithin.{IsPlace, IsEarlier, AreOpenersBefore, IsToldOfText}
+use Rattle.gabc_places.specs.PlacesInOrder.{IsEarlier}
+use Rattle.gabc_score.specs.ToldWithin.{IsPlace, AreOpenersBefore, IsToldOfText}
 use Rattle.gabc_score.specs.machine.PartOnly.{HoldsTexts, kept_codes}
 use Rattle.gabc_score.specs.machine.ScoreMachine.{IsShort, shown}
 use Rattle.gabc_score.specs.machine.ScoreStage.{placed_behind, with_held}
@@ -63,14 +64,19 @@ returns-in-Some-clause-step c =
       limits = c.stop.ensures.limits;
       part = leads_out c.args.self.now.part c.stop.new.self.part (head_event.Body c.args.x) (outputs_of [] (placed_behind c.args.self.now.has_lent held)) (Stop fault) c.requires.part c.stop.ensures.part refl;
       last = λ other final. absurd (cc final);
+      passes = λ other. tt;
+      line = λ lf body. absurd (cc (body, c.stop.ensures.part));
       counts = λ place here was body. absurd (cc (body, c.stop.ensures.part));
       before_held = λ body. absurd (cc (body, c.stop.ensures.part));
       next = λ body. absurd (cc (body, c.stop.ensures.part));
       stands = λ here was body. absurd (cc (body, c.stop.ensures.part));
       whole = λ body. absurd (cc (body, c.stop.ensures.part));
       told = λ may here was body. absurd (cc (body, c.stop.ensures.part));
+      holds = λ was body. absurd (cc (body, c.stop.ensures.part));
+      first = λ was. record { held = λ body. absurd (cc (body, c.stop.ensures.part)); read = λ body. absurd (cc (body, c.stop.ensures.part)) };
       law = search rules;
       emitted = c.stop.ensures.emitted;
+      front = λ heads. absurd (cc (heads, c.requires.part));
     }
 
 pub returns-after-self-clause-step : goal.returns-after-self-clause-step
@@ -106,6 +112,8 @@ returns-after-self-clause-step c =
       limits = refl;
       part = stays_inside c.args.self.now.part c.args.self.now.part (head_event.Body c.args.x) fs lent c.requires.part c.requires.part;
       last = λ other final. absurd (cc final);
+      passes = λ other. tt;
+      line = λ lf body. c.take.ensures.line c.requires.rests.reading.parts c.requires.rests.reading.keeps lf;
       counts = λ place here was body. c.take.ensures.stands c.requires.rests.reading.parts c.requires.rests.reading.keeps
           (subst (λ p. StandsAt p c.args.self.now.body.part) (sym here) (was c.requires.part));
       before_held = λ body. past_in_body c.args.self.now.part (head_event.Body c.args.x) fs lent c.args.self.now.bounds.before c.pass.new.self.before c.requires.part
@@ -127,17 +135,20 @@ returns-after-self-clause-step c =
             (opens_in_order c.args.x.place (saturating_next_place c.args.x.place c.args.x.c) (behind may (was c.requires.part).next).1 (subst IsPlace (sym may.0) (was c.requires.part).next) (openers_of c.args.self.now.body.part) (openers_of c.take.new.self.part)
             (c.take.ensures.opens c.requires.rests.reading.parts c.requires.rests.reading.keeps (subst (λ p. StandsAt p c.args.self.now.body.part) (sym may.0) (here c.requires.part)))
             (subst (λ p. AreOpenersBefore p (openers_of c.args.self.now.body.part)) (sym may.0) (was c.requires.part).openers));
-        first_held = λ first. held_past c.args.self.now.body.part c.take.new.self.part b.before c.pass.new.self.before c.args.self.now.has_lent old c.give_point-gave.new.pair.gathered now c.take.ensures.once few there turned_is c.take.ensures.starts
-            (was c.requires.part).first_held (was c.requires.part).first_read first;
-        first_read = read_past c.args.self.now.body.part c.take.new.self.part b.before c.pass.new.self.before c.args.self.now.has_lent old c.give_point-gave.new.pair.gathered now c.take.ensures.once few there turned_is c.take.ensures.starts
-            (was c.requires.part).first_read;
-        none_held = λ none. none_past b.before c.pass.new.self.before c.args.self.now.has_lent old c.hold.new.pair.gathered c.give_point-gave.new.pair.gathered now c.take.ensures.once (ap (λ (k : Bounds). k.before) passed ∙ turns.given) c.give_point-gave.ensures.gathered is
-            (λ e. (was c.requires.part).none_held (ap (λ (k : ScorePart). held_in_body k old.made) c.requires.part ∙ e)) (ap (λ (k : ScorePart). held_in_body k c.give_point-gave.new.pair.gathered.made) (sym c.requires.part) ∙ none);
+      };
+      holds = λ was body none. none_past b.before c.pass.new.self.before c.args.self.now.has_lent old c.hold.new.pair.gathered c.give_point-gave.new.pair.gathered now c.take.ensures.once (ap (λ (k : Bounds). k.before) passed ∙ turns.given) c.give_point-gave.ensures.gathered is
+          (λ e. was c.requires.part (ap (λ (k : ScorePart). held_in_body k old.made) c.requires.part ∙ e)) (ap (λ (k : ScorePart). held_in_body k c.give_point-gave.new.pair.gathered.made) (sym c.requires.part) ∙ none);
+      first = λ was. record {
+        held = λ body first. held_past c.args.self.now.body.part c.take.new.self.part b.before c.pass.new.self.before c.args.self.now.has_lent old c.give_point-gave.new.pair.gathered now c.take.ensures.once few there turned_is c.take.ensures.starts
+            (was.held c.requires.part) (was.read c.requires.part) first;
+        read = λ body. read_past c.args.self.now.body.part c.take.new.self.part b.before c.pass.new.self.before c.args.self.now.has_lent old c.give_point-gave.new.pair.gathered now c.take.ensures.once few there turned_is c.take.ensures.starts
+            (was.read c.requires.part);
       };
       stands = λ here was body. subst (λ p. StandsAt p c.take.new.self.part) (sym c.saturating_after-self.ensures) (c.take.ensures.stands c.requires.rests.reading.parts c.requires.rests.reading.keeps
           (subst (λ p. StandsAt p c.args.self.now.body.part) (sym here) (was c.requires.part)));
       law = search rules;
       emitted = c.give_point-gave.ensures.emitted;
+      front = λ heads. absurd (cc (heads, c.requires.part));
     }
 
 pub returns-after-self-clause-rests : goal.returns-after-self-clause-rests
@@ -203,6 +214,7 @@ returns-in-Some-clause-reads c =
       after = c.take.new.self;
       law = c.take.ensures.events.law;
       last = c.take.ensures.once;
+      only = c.take.ensures.only c.requires.rests.reading.parts c.requires.rests.reading.keeps;
       limits = c.stop.ensures.limits;
       gathers = λ none. absurd (cc (sym c.in-Some.is ∙ (c.code.ensures.code ∙ (ap (code_in c.args.self.now.limits) is ∙ none))));
       stops = λ some. c.stop.ensures.part;
@@ -222,6 +234,7 @@ returns-after-self-clause-reads c =
       after = c.take.new.self;
       law = c.take.ensures.events.law;
       last = c.take.ensures.once;
+      only = c.take.ensures.only c.requires.rests.reading.parts c.requires.rests.reading.keeps;
       limits = refl;
       gathers = λ fine. record {
         part = c.requires.part;

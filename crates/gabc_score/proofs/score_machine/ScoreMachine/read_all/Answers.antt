@@ -1,16 +1,23 @@
-use Rattle.std.proofs.Common.{◌-◌, ◌^◌, length, sym, ap, subst, ◌∙◌, arith}
+use Rattle.std.proofs.Common.{◌≡◌, true, ◌-◌, ◌^◌, length, sym, ap, subst, ◌∙◌, arith}
+use Rattle.std.proofs.lemmas.Bool.{and_parts}
+use Rattle.std.proofs.lemmas.List.Elements.{All-head, All-tail}
+use Rattle.std.specs.List.{All}
 use Rattle.std.specs.Str.{chars}
 use Rattle.std.specs.Str.Iter.{chars_rest}
-use Rattle.std.proofs.lemmas.Str.{chars_past_char, IsUtf8-past_char}
+use Rattle.std.proofs.lemmas.Str.{chars_past_char, scalars-chars, IsUtf8-past_char}
+use lib.Utf8.{scalars}
 use Rattle.gabc_places.proofs.texts.CharactersOfStrings.{chars-none}
 use Rattle.gabc_places.specs.StageLaw.{concat_of}
 use Rattle.gabc_places.specs.declared.place.Place.{Place}
 use Rattle.gabc_places.proofs.PlacesOfAText.{within_on, shorter}
 use Rattle.gabc_score.specs.Body.{is_none}
 use Rattle.gabc_score.specs.declared.score_machine.ScorePart.{ScorePart}
+use Rattle.gabc_places.specs.TextOfAnInput.{IsPlain}
 use Rattle.gabc_score.specs.machine.BodyBuilder.{with_all}
+use Rattle.gabc_score.specs.machine.PartOnly.{HoldsTexts, kept_codes}
 use Rattle.gabc_score.specs.machine.ReadAlone.{is_alone, lists_from}
 use Rattle.gabc_score.specs.machine.ScoreMachine.{IsScoreAt}
+use Rattle.gabc_score.proofs.score_events.TextsArePlain.{of_character, plain_all}
 use Rattle.gabc_score.proofs.resuming.ReadOneByOne.{none_made, alone_on, gathered_on, not_alone, held_then}
 use Rattle.gabc_score.proofs.score_machine.ScoreMachine.read_all.Goals as goal
 
@@ -47,6 +54,14 @@ loop-c-preserved c =
           ∙ ap (λ cs. with_all c.loop-c.self.pair.gathered (concat_of (lists_from c.loop-c.self c.loop-c.place cs))) past
           ∙ gathered_on c.loop-c.self c.read_alone.new.self c.loop-c.place c.in-Some.c (chars next) c.read_alone.result r good
           ∙ ap (λ (p : Place). with_all c.read_alone.new.self.pair.gathered (concat_of (lists_from c.read_alone.new.self p (chars next)))) (sym c.after-place.ensures.next);
+      texts = λ text was.
+          let t = i.texts text was in
+          let plain = subst (All IsPlain) past t.0 in
+          let scalar = (and_parts _ _ (subst (λ cs. scalars cs ≡ true) past (scalars-chars rest i.utf8))).0 in (
+            All-tail IsPlain c.in-Some.c (chars next) plain,
+            subst HoldsTexts (sym on.gathered)
+                (plain_all c.loop-c.self.pair.gathered r.now (of_character c.in-Some.c (kept_codes r.now) (record { scalar = scalar; plain = All-head IsPlain c.in-Some.c (chars next) plain }) r.only) t.1),
+          );
       whole = λ some. ap (λ g. g.builder) on.gathered ∙ on.whole (sym (ap (λ g. is_none g.made) on.gathered) ∙ some);
       line = omega (arith, fits.0);
       column = omega (arith, fits.1);
@@ -94,3 +109,6 @@ returns-clause-goes c held =
       limits = i.limits;
       whole = λ some. ap (λ g. g.builder) all ∙ i.whole (ap (λ g. is_none g.made) (sym all) ∙ some);
     }
+
+pub returns-clause-texts : goal.returns-clause-texts
+returns-clause-texts c = λ held text was. (c.loop-c.invariant.texts text was).1

@@ -1,10 +1,13 @@
 use Rattle.std.proofs.Common.{◌≡◌, ◌+◌, ◌<◌, ◌^◌, length, false, IsUtf8}
+use Rattle.std.specs.List.{All}
 use Rattle.std.specs.Str.{chars}
 use Rattle.std.specs.Str.Iter.{chars_rest}
 use Rattle.gabc_places.specs.StageLaw.{concat_of}
 use Rattle.gabc_score.specs.declared.score_machine.ScorePart.TheVariants as score_part
 use Rattle.gabc_score.specs.Body.{is_none}
+use Rattle.gabc_places.specs.TextOfAnInput.{IsPlain, IsText}
 use Rattle.gabc_score.specs.machine.BodyBuilder.{with_all}
+use Rattle.gabc_score.specs.machine.PartOnly.{HoldsTexts}
 use Rattle.gabc_score.specs.machine.ReadAlone.{is_alone, lists_from, lists_of}
 use Rattle.gabc_score.specs.machine.ScoreMachine.{IsInBody}
 use Rattle.gabc_score.specs.machine.SyllableBuilder.{nothing_open}
@@ -26,6 +29,7 @@ invariant-loop-c l = record {
       ≡ is_alone l.self.limits l.self.pair.gathered (lists_from l.self l.place (chars (chars_rest l.c-iterator)));
   gathered : with_all l.initial.self.pair.gathered (concat_of (lists_of l.initial.self (chars l.fn.text)))
       ≡ with_all l.self.pair.gathered (concat_of (lists_from l.self l.place (chars (chars_rest l.c-iterator))));
+  texts : IsText l.fn.text → HoldsTexts l.initial.self.pair.gathered → All IsPlain (chars (chars_rest l.c-iterator)) × HoldsTexts l.self.pair.gathered;
   whole : is_none l.self.pair.gathered.made ≡ false → l.self.pair.gathered.builder ≡ nothing_open;
   line : l.place.line + length (chars_rest l.c-iterator) < 2 ^ 64;
   column : l.place.column + length (chars_rest l.c-iterator) < 2 ^ 64;

@@ -5,6 +5,8 @@ use Rattle.gregorio.specs.machine.Engine.{IsEmpty}
 use Rattle.gregorio.proofs.pieces.InputsAreEnded.{ends_last, ends_now, over_of_items, over_together, room_for_last}
 use Rattle.gregorio.proofs.pieces.BytesAreTaken.{still_reserved}
 use Rattle.gregorio.proofs.pieces.PartsStayInStep.{over_in_step}
+use Rattle.gregorio.proofs.pieces.TextOfHeaders.{over_reads}
+use Rattle.gregorio.proofs.pieces.TellsInStepOn.{over_tells}
 use Rattle.gregorio.proofs.engine.Engine.broken.Goals as goal
 
 pub finish-requires : goal.finish-requires
@@ -35,6 +37,8 @@ invariant_of-self c = record {
   together = over_together c.self.inside.heads c.self.inside.writer c.finish.new.self c.finish.result c.self.invariant.together c.finish.ensures.steady c.finish.ensures.over;
   reserved = still_reserved c.self.inside.writer c.finish.new.self c.finish.ensures.steady c.self.invariant.reserved;
   step = over_in_step c.self.inside.decoder c.self.inside.heads c.finish.new.self c.finish.result (c.finish.ensures.force c.self.invariant.step.force) c.finish.ensures.over.ended;
+  headers = over_reads c.self.inside.decoder c.self.inside.heads c.finish.new.self.writer.written c.finish.result c.finish.ensures.over.ended;
+  tells = over_tells c.self.inside.decoder c.finish.new.self c.finish.result c.finish.ensures.over.ended;
 }
 
 pub returns-clause-last : goal.returns-clause-last

@@ -13,7 +13,12 @@ use Rattle.gregorio.proofs.pieces.InputsAreEnded.{ends_given, ends_items, ends_n
 use Rattle.gregorio.proofs.pieces.BytesAreTaken.{none_wait, still_reserved}
 use Rattle.gregorio.proofs.pieces.EventsAreWritten.{steady_both}
 use Rattle.gregorio.proofs.pieces.PartsStayInStep.{force_past_all, over_in_step}
+use Rattle.gregorio.proofs.pieces.TextOfHeaders.{over_reads}
+use Rattle.gregorio.proofs.pieces.TellsInStepOn.{in_heads_yet, over_tells}
 use Rattle.gregorio.proofs.engine.Engine.end.Goals as goal
+
+pub read_decoded-requires-clause-part : goal.read_decoded-requires-clause-part
+read_decoded-requires-clause-part c = in_heads_yet c.self.inside.decoder c.self.inside.heads c.self.inside.writer c.self.invariant.step.runs
 
 pub finish-requires-2 : goal.finish-requires-2
 finish-requires-2 c =
@@ -61,6 +66,8 @@ invariant_of-self c =
       reserved = still_reserved c.self.inside.writer new (steady_both c.self.inside.writer w new c.read_decoded.ensures.steady steady) c.self.invariant.reserved;
       step = over_in_step c.end-item.new.self c.finish.new.self new c.finish-2.result
           (c.finish-2.ensures.force (force_past_all c.slice.result.now w c.pass_on.new.writer c.pass_on.ensures.passes (c.read_decoded.ensures.step.force c.self.invariant.step.force))) c.finish-2.ensures.over.ended;
+      headers = over_reads c.end-item.new.self c.finish.new.self new.writer.written c.finish-2.result c.finish-2.ensures.over.ended;
+      tells = over_tells c.end-item.new.self new c.finish-2.result c.finish-2.ensures.over.ended;
     }
 
 pub returns-clause-last : goal.returns-clause-last

@@ -2,6 +2,7 @@ use Rattle.std.proofs.Common.{option_to_list, ap, sym, ◌∙◌, ◌∷◌, ari
 use Rattle.gregorio.specs.witness.Engine.{EngineState, streams_left}
 use Rattle.gregorio.specs.machine.Engine.{IsEmpty}
 use Rattle.gregorio.proofs.pieces.BytesAreTaken.{byte_taken, still_reserved}
+use Rattle.gregorio.proofs.pieces.TellsInStepOn.{in_heads_yet}
 use Rattle.gregorio.proofs.engine.Engine.take.Goals as goal
 
 pub read_decoded-requires-clause-empty : goal.read_decoded-requires-clause-empty
@@ -9,6 +10,9 @@ read_decoded-requires-clause-empty c = record {
   output = ap (λ (s : EngineState). s.output) c.self.view_is ∙ c.requires.waits.output;
   messages = ap (λ (s : EngineState). s.messages) c.self.view_is ∙ c.requires.waits.messages;
 }
+
+pub read_decoded-requires-clause-part : goal.read_decoded-requires-clause-part
+read_decoded-requires-clause-part c = in_heads_yet c.self.inside.decoder c.self.inside.heads c.self.inside.writer c.self.invariant.step.runs
 
 pub returns-clause-law : goal.returns-clause-law
 returns-clause-law c =
@@ -36,4 +40,6 @@ invariant_of-self c =
         force = stay.force was.force;
         runs = λ running. stay.runs c.self.inside.decoder c.take-item.new.self c.take-item.ensures.moves was.runs running;
       };
+      headers = c.read_decoded.ensures.reads c.self.inside.decoder c.take-item.new.self c.take-item.ensures.moves was.runs c.self.invariant.headers;
+      tells = c.read_decoded.ensures.tells c.self.inside.decoder c.take-item.new.self c.take-item.ensures.moves was.runs c.self.invariant.tells;
     }

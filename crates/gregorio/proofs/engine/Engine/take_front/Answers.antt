@@ -1,4 +1,4 @@
-use Rattle.std.proofs.Common.{length, take, ◌++◌, List, ℕ, ap, sym, subst, ◌∙◌}
+use Rattle.std.proofs.Common.{◌≡◌, is_none, true, length, take, ◌++◌, List, ℕ, ap, sym, subst, ◌∙◌}
 use Rattle.gabc_places.specs.declared.place.Place.{Place}
 use Rattle.gregorio.specs.witness.Engine.{EngineState, streams_left}
 use Rattle.gregorio.specs.machine.RunWriter.{RunWriterState}
@@ -6,7 +6,11 @@ use Rattle.gregorio.specs.machine.ScoreWriter.{WritesNothing}
 use Rattle.gregorio.proofs.pieces.BytesAreTaken.{still_reserved}
 use Rattle.gregorio.proofs.pieces.FrontIsTaken.{front_is_taken, front_of_front, still_steady, still_together}
 use Rattle.gregorio.specs.machine.InStep.{IsInStep}
+use Rattle.gregorio.specs.machine.TellsInStep.{TellsInStep}
+use Rattle.gregorio.proofs.pieces.TellsInStepOn.{front_stays_telling}
 use Rattle.gregorio.proofs.pieces.PartsStayInStep.{Skips, front_in_step}
+use Rattle.gregorio.specs.machine.ReadsHeaders.{ReadsHeaders}
+use Rattle.gregorio.proofs.pieces.TextOfHeaders.{front_reads_on}
 use Rattle.gregorio.proofs.engine.Engine.take_front.Goals as goal
 
 pub invariant_of-self : goal.invariant_of-self
@@ -24,6 +28,11 @@ invariant_of-self c =
       reserved = still_reserved c.self.inside.writer c.take_front-count.new.self (still_steady _ _ _ _ c.take_front-count.ensures.writes) c.self.invariant.reserved;
       step = subst (λ (v : RunWriterState). IsInStep c.skip.new.self c.self.inside.heads new.score v.written) (sym writes.writer)
           (front_in_step d c.skip.new.self c.self.inside.heads w.score new.score w.writer.written (length front) skips writes.limits writes.part writes.before_held writes.counts c.self.invariant.step);
+      headers = subst (λ (v : RunWriterState). ReadsHeaders c.skip.new.self c.self.inside.heads v.written) (sym writes.writer)
+          (front_reads_on d c.skip.new.self c.self.inside.heads w (length front) skips.line skips.column writes.headed c.self.invariant.step.runs c.self.invariant.headers);
+      tells = subst (λ (v : RunWriterState). is_none v.written.ended ≡ true → TellsInStep c.skip.new.self new.score v.written) (sym writes.writer)
+          (λ running. front_stays_telling d c.skip.new.self c.self.inside.heads w.score new.score w.writer.written front skips c.skip.ensures.none c.skip.ensures.cr writes.tells
+          (c.self.invariant.step.runs running) (c.self.invariant.tells running));
     }
 
 pub returns-clause-law : goal.returns-clause-law

@@ -14,6 +14,8 @@ use Rattle.gregorio.specs.machine.ScoreWriter.{IsShortBook}
 use Rattle.gregorio.proofs.FreshEngineSaysOutcome.{LawsBelow, streams_are}
 use Rattle.gregorio.proofs.pieces.HeadersAreRead.{no_heads_are_short}
 use Rattle.gregorio.proofs.pieces.PartsStayInStep.{fresh_in_step}
+use Rattle.gregorio.proofs.pieces.TextOfHeaders.{fresh_reads}
+use Rattle.gregorio.proofs.pieces.TellsInStepOn.{fresh_tells}
 use Rattle.gregorio.proofs.engine.Engine.with_hasher.Goals as goal
 
 pub returns-in-Ok-clause-all : goal.returns-in-Ok-clause-all
@@ -57,4 +59,6 @@ invariant_of-result c =
       together = together;
       reserved = c.in-Ok.ensures.reserved;
       step = fresh_in_step c.args.job.now c.args.limits c.new.result c.in_ok-heads.heads c.in-Ok.writer c.new.ensures.fresh fresh c.in-Ok.ensures.fresh c.in-Ok.ensures.limits c.in-Ok.ensures.part;
+      headers = fresh_reads c.args.job.now c.args.limits c.new.result c.in_ok-heads.heads c.in-Ok.writer.writer.written c.a_held_text_grows.ensures.begins c.new.ensures.fresh fresh c.in-Ok.ensures.fresh;
+      tells = fresh_tells c.args.limits c.new.result c.in-Ok.writer c.new.ensures.fresh (ap (λ (w : Written). w.headed) c.in-Ok.ensures.fresh);
     }

@@ -1,4 +1,5 @@
-use Rattle.std.proofs.Common.{ap, sym, subst, ◌∙◌, arith}
+use Rattle.std.proofs.Common.{Option, is_none, ap, sym, subst, ◌∙◌, arith}
+use Rattle.std.proofs.lemmas.Bool.{both_ways}
 use Rattle.gabc_places.specs.BoundedList.{BoundedList}
 use Rattle.gabc_score.specs.declared.score_event.ScoreEvent.{ScoreEvent}
 use Rattle.gregorio.specs.machine.RunWriter.{RunWriterState, past_end}
@@ -7,6 +8,7 @@ use Rattle.gregorio.proofs.OutputsOfEvents.{nothing_left}
 use Rattle.gregorio.specs.machine.InStep.{HasForce}
 use Rattle.gregorio.specs.machine.ScoreWriter.{ScoreWriterState, outputs_of_events}
 use Rattle.gregorio.proofs.pieces.PartsStayInStep.{force_ended}
+use Rattle.gregorio_jobs.specs.declared.job.Status.{Status}
 use Rattle.gregorio.proofs.score_writer.ScoreWriter.finish.Goals as goal
 
 pub write_events-requires : goal.write_events-requires
@@ -33,7 +35,11 @@ pub invariant_of-self : goal.invariant_of-self
 invariant_of-self c =
     let given = ap (λ (r : BoundedList ScoreEvent). r.limit) c.finish.ensures.step.emitted.events in
     let cleared = ap (λ (r : BoundedList ScoreEvent). r.limit) c.clear.ensures in
-    record { room = omega (arith, c.self.invariant.room, given, cleared); silent = λ over xs. nothing_left c.finish.new.self xs c.finish.ensures.over }
+    record {
+      room = omega (arith, c.self.invariant.room, given, cleared);
+      silent = λ over xs. nothing_left c.finish.new.self xs c.finish.ensures.over;
+      clef = λ running. absurd (both_ways _ (ap (λ (o : Option Status). is_none o) c.cease.ensures.status) running);
+    }
 
 pub returns-clause-force : goal.returns-clause-force
 returns-clause-force c = λ had.

@@ -1,6 +1,7 @@
 use Rattle.std.proofs.Common.{take, ap, sym, ◌∙◌, subst}
 use Rattle.gregorio.specs.machine.ScoreWriter.{ScoreWriterState, WritesNothing}
 use Rattle.gregorio.proofs.pieces.FrontIsTaken.{none_is_given, nothing_is_given, silent_later}
+use Rattle.gregorio.proofs.pieces.ClefsOfSounds.{clef_kept}
 use Rattle.gregorio.proofs.score_writer.ScoreWriter.take_front.Goals as goal
 
 pub returns-then-not-headed-clause-writes : goal.returns-then-not-headed-clause-writes
@@ -18,4 +19,5 @@ pub invariant_of-self : goal.invariant_of-self
 invariant_of-self c = record {
   room = c.self.invariant.room;
   silent = λ over. silent_later c.self.inside.score c.take_front.new.self c.args.at (take c.take_front.result c.args.bytes.now) c.take_front.ensures.step (c.self.invariant.silent over);
+  clef = clef_kept c.self.inside.score c.take_front.new.self c.self.inside.writer.written c.take_front.ensures.step.part c.take_front.ensures.step.before_held c.self.invariant.clef;
 }

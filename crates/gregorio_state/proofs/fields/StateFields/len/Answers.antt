@@ -1,14 +1,12 @@
-use Rattle.std.proofs.Common.{ap, ◌∙◌, ◌≤◌, subst, sym}
-use Rattle.std.specs.Prelude.{max, ◌+◌, ◌*◌}
-use Rattle.gabc_places.specs.Put.{counted_with}
-use Rattle.gregorio_state.specs.Fields.{fields_of}
+use Rattle.std.proofs.Common.{length, ap, sym, subst, ◌∙◌}
+use Rattle.gregorio_state.specs.Conditions.{AreStateFields}
+use Rattle.gregorio_state.specs.Fields.{StateFields, fields_of}
 use Rattle.gregorio_state.specs.StateBytes.{state_bytes}
-use Rattle.gregorio_state.proofs.LengthsOfStates.{state_length, state_counted}
+use Rattle.gregorio_state.proofs.HeldTexts.{holding_its_own}
 use Rattle.gregorio_state.proofs.fields.StateFields.len.Goals as goal
 
-pub returns-clause-len : goal.returns-clause-len
-returns-clause-len c =
-    let s = fields_of c.args.self.now in c.count.ensures ∙ c.write.ensures ∙ ap (λ n. counted_with n (state_bytes s)) c.new-counter.ensures ∙ state_counted s c.requires
+pub len_holding-requires : goal.len_holding-requires
+len_holding-requires c = subst AreStateFields (sym (holding_its_own (fields_of c.args.self.now) c.held-held.result.now c.held-held.ensures)) c.requires
 
-pub returns-clause-short : goal.returns-clause-short
-returns-clause-short c = let s = fields_of c.args.self.now in subst (λ n. n ≤ max s.header_limit (2 * s.syllable_limit) + 128) (sym (returns-clause-len c)) (state_length s c.requires)
+pub returns-clause-len : goal.returns-clause-len
+returns-clause-len c = c.len_holding.ensures.len ∙ ap (λ (s : StateFields). length (state_bytes s)) (holding_its_own (fields_of c.args.self.now) c.held-held.result.now c.held-held.ensures)

@@ -1,17 +1,12 @@
-use Rattle.std.proofs.Common.{arith}
-use Rattle.gregorio_state.specs.Fields.{fields_of}
-use Rattle.gregorio_state.specs.StateBytes.{state_parts}
-use Rattle.gregorio_state.proofs.LengthsOfStates.{short_pending, short_texts}
-use Rattle.gregorio_state.proofs.PartsAreWritten.{taken_as_one}
+use Rattle.std.proofs.Common.{ap, sym, subst, ◌∙◌}
+use Rattle.gregorio_state.specs.Conditions.{AreStateFields}
+use Rattle.gregorio_state.specs.Fields.{StateFields, fields_of}
+use Rattle.gregorio_state.specs.StateBytes.{state_bytes}
+use Rattle.gregorio_state.proofs.HeldTexts.{holding_its_own}
 use Rattle.gregorio_state.proofs.fields.StateFields.write.Goals as goal
 
-pub overflow_cast-self : goal.overflow_cast-self
-overflow_cast-self g c = omega (arith, short_pending (fields_of c.args.self.now) c.requires)
-
-pub write-requires : goal.write-requires
-write-requires g c = short_texts (fields_of c.args.self.now) c.requires
+pub write_holding-requires : goal.write_holding-requires
+write_holding-requires g c = subst AreStateFields (sym (holding_its_own (fields_of c.args.self.now) c.held-held.result.now c.held-held.ensures)) c.requires
 
 pub returns : goal.returns
-returns g c =
-    rw (c.write.ensures, c.put_flag-3.ensures, c.put_flag-2.ensures, c.put-5.ensures, c.put-4.ensures, c.put_place.ensures, c.put_u32-4.ensures, c.put_u32-3.ensures, c.put_u32-2.ensures, c.put_u32.ensures, c.put_flag.ensures, c.put-3.ensures, c.number_of_format.ensures, c.put-2.ensures, c.put.ensures)
-    (taken_as_one g.S.Put.taken g.met.S.Put.taken_nothing g.met.S.Put.taken_both c.args.out.now (state_parts (fields_of c.args.self.now)))
+returns g c = c.write_holding.ensures ∙ ap (λ (s : StateFields). g.S.Put.taken c.args.out.now (state_bytes s)) (holding_its_own (fields_of c.args.self.now) c.held-held.result.now c.held-held.ensures)

@@ -1,0 +1,83 @@
+-- The text that a stage of headers holds, from the first character on.
+use Rattle.std.proofs.Common.{◌≡◌, ℕ, List, [], ◌∷◌, ◌++◌, map, true, false, refl, sym, ap, ◌∙◌, append-nil, Result, Ok, Err}
+use Rattle.std.specs.Char.{IsScalar}
+use Rattle.std.specs.List.{All}
+use Rattle.std.proofs.lemmas.List.{map-append}
+use Rattle.std.proofs.lemmas.List.Elements.{All-push}
+use Rattle.gabc_places.specs.declared.place.Char.{Char}
+use Rattle.gabc_places.specs.declared.code.Fault.{Fault}
+use Rattle.gabc_places.specs.declared.code.Finding.{Finding}
+use Rattle.gabc_places.specs.declared.limits.Limits.{Limits}
+use Rattle.gabc_places.specs.Place.{place_after}
+use Rattle.gabc_places.proofs.texts.PlacesOfCharacters.{placed-append}
+use Rattle.gabc_headers.specs.declared.head_event.HeadEvent.{HeadEvent}
+use Rattle.gabc_headers.specs.declared.head_event.HeadEvent.TheVariants.{Found, Stop, Body, Heads, End}
+use Rattle.gabc_headers.specs.declared.heads.Heads.{Heads as ReadHeads}
+use Rattle.gabc_headers.specs.declared.heads.HeadFault.{HeadFault}
+use Rattle.gabc_headers.specs.Heads.{findings_of}
+use Rattle.gabc_headers.specs.HeadEvents.{emitted_by, events_of_broken, inputs_behind}
+use Rattle.gabc_headers.specs.HeldText.{IsHeld, findings_held}
+use Rattle.gabc_headers.specs.witness.HeadEvents.{HeadProgress, reading, events_by, events_left, events_of_input, new_findings, progress_by}
+use Rattle.gabc_headers.proofs.entries.TextsAsBytes.{all_scalars}
+use Rattle.gabc_headers.proofs.prefixes.EventsMakeHeads.{open_progress}
+use Rattle.gabc_headers.proofs.prefixes.EventsNeedNoEnd.{broken_gives, progress_past, standing, with_input}
+
+pub held_at_first : (limits : Limits) → IsHeld limits []
+held_at_first limits = record { stopped = _; heads = refl; at_end = refl }
+
+abbrev so_far : Limits → List ℕ → List HeadEvent
+so_far limits t = emitted_by false (inputs_behind [] t) (events_left limits (reading []) (inputs_behind [] t))
+
+abbrev found : List Finding → List HeadEvent
+found fs = map (λ f. Found f) fs
+
+-- what a held text has emitted are its findings
+found_alone : (limits : Limits) (t : List ℕ) → All IsScalar t → IsHeld limits t → so_far limits t ≡ found (findings_held limits t)
+found_alone limits t scalars h =
+    broken_gives limits t (all_scalars t scalars)
+    ∙ ap (events_of_broken t) h.heads ∙ alone h.stopped h.at_end ∙ sym (ap (λ (r : Result ReadHeads HeadFault). found (findings_of r)) h.heads)
+  where
+    alone : (f : HeadFault) → f.at_end ≡ true → events_of_broken t (Err f) ≡ found f.findings
+    alone f e = rw e (append-nil (found f.findings))
+
+stands_held : (limits : Limits) (t : List ℕ) → All IsScalar t → IsHeld limits t → progress_past limits (reading []) (inputs_behind [] t) ≡ reading t
+stands_held limits t scalars h = standing limits t (all_scalars t scalars) ∙ ap (progress_by t) h.heads ∙ open_progress t h.stopped h.at_end
+
+-- at a character behind which the text is held what is found more is emitted
+more_found : (limits : Limits) (t : List ℕ) (x : Char) → IsHeld limits (t ++ x.c ∷ []) → events_of_input limits (reading t) (Ok x) ≡ found (new_findings limits t (t ++ x.c ∷ []))
+more_found limits t x h = ap (events_by (new_findings limits t (t ++ x.c ∷ []))) h.heads ∙ alone h.stopped h.at_end
+  where
+    alone : (f : HeadFault) → f.at_end ≡ true → events_by (new_findings limits t (t ++ x.c ∷ [])) (Err f) ≡ found (new_findings limits t (t ++ x.c ∷ []))
+    alone f e = rw e refl
+
+-- the findings among events
+abbrev found_in : List HeadEvent → List Finding
+found_in [] = []
+found_in (Found f ∷ events) = f ∷ found_in events
+found_in (Stop fault ∷ events) = found_in events
+found_in (Body x ∷ events) = found_in events
+found_in (Heads lines macros canonical ∷ events) = found_in events
+found_in (End ∷ events) = found_in events
+
+found_back : (fs : List Finding) → found_in (found fs) ≡ fs
+found_back [] = refl
+found_back (f ∷ fs) = ap (λ (gs : List Finding). f ∷ gs) (found_back fs)
+
+pub found_more_held : (limits : Limits) (t : List ℕ) (c : ℕ) → All IsScalar t → IsScalar c → IsHeld limits t → IsHeld limits (t ++ c ∷ [])
+    → findings_held limits (t ++ c ∷ []) ≡ findings_held limits t ++ new_findings limits t (t ++ c ∷ [])
+found_more_held limits t c scalars scalar held longer =
+    let x : Char = record { c = c; place = place_after t } in
+    let more = new_findings limits t (t ++ c ∷ []) in
+    let inputs : inputs_behind [] (t ++ c ∷ []) ≡ inputs_behind [] t ++ Ok x ∷ [] =
+    ap (λ (xs : List Char). map (λ c. Ok c) xs) (placed-append [] t (c ∷ [])) ∙ map-append (λ (c : Char). Ok c) _ (x ∷ []) in
+    let split : so_far limits (t ++ c ∷ []) ≡ so_far limits t ++ events_of_input limits (reading t) (Ok x) =
+    ap (λ (xs : List (Result Char Fault)). emitted_by false xs (events_left limits (reading []) xs)) inputs
+    ∙ with_input limits (reading []) (inputs_behind [] t) (Ok x)
+    ∙ ap (λ (p : HeadProgress). so_far limits t ++ events_of_input limits p (Ok x)) (stands_held limits t scalars held) in
+    let same : found (findings_held limits (t ++ c ∷ [])) ≡ found (findings_held limits t ++ more) =
+    sym (found_alone limits (t ++ c ∷ []) (All-push IsScalar t c scalars scalar) longer)
+    ∙ split
+    ∙ ap (λ (events : List HeadEvent). events ++ events_of_input limits (reading t) (Ok x)) (found_alone limits t scalars held)
+    ∙ ap (λ (events : List HeadEvent). found (findings_held limits t) ++ events) (more_found limits t x longer)
+    ∙ sym (map-append (λ (f : Finding). Found f) (findings_held limits t) more) in
+    sym (found_back (findings_held limits (t ++ c ∷ []))) ∙ ap found_in same ∙ found_back (findings_held limits t ++ more)

@@ -1,0 +1,129 @@
+-- In front of the first text the place of the next character counts for nothing until this character has come.
+use Rattle.std.proofs.Common.{◌≡◌, ℕ, List, [], ◌∷◌, Bool, true, false, Option, Some, None, refl, sym, ap, ◌∙◌, subst}
+use Rattle.std.specs.Option.{option_map}
+use Rattle.gabc_places.specs.StageLaw.{silence}
+use Rattle.gabc_places.specs.declared.code.Code.{Code}
+use Rattle.gabc_places.specs.declared.limits.Limits.{Limits}
+use Rattle.gabc_places.specs.declared.place.Place.{Place}
+use Rattle.gabc_headers.specs.declared.head_event.HeadEvent.{HeadEvent}
+use Rattle.gabc_headers.specs.declared.head_event.HeadEvent.TheVariants as head_event
+use Rattle.gabc_notes.specs.declared.item.ItemKind.{ItemKind}
+use Rattle.gabc_score.specs.declared.before.Preceding.{Preceding}
+use Rattle.gabc_score.specs.declared.before.Spans.{Spans}
+use Rattle.gabc_score.specs.declared.body_stage.BodyPart.{BodyPart}
+use Rattle.gabc_score.specs.declared.body_stage.BodyPart.TheVariants as part
+use Rattle.gabc_score.specs.declared.events.BodyEvent.{BodyEvent}
+use Rattle.gabc_score.specs.declared.score_machine.ScoreMachine.{ScoreMachine}
+use Rattle.gabc_score.specs.declared.score_machine.ScorePart.{ScorePart}
+use Rattle.gabc_score.specs.declared.score_machine.ScorePart.TheVariants as score_part
+use Rattle.gabc_score.specs.Before.{with_each}
+use Rattle.gabc_score.specs.Body.{fault_at}
+use Rattle.gabc_score.specs.Events.{InComment, events_from, events_in, events_at_end, part_at, part_behind}
+use Rattle.gabc_score.specs.ScoreEvents.{ScoreOutput, Found, characters_in}
+use Rattle.gabc_score.specs.ScoreTells.{is_in_front, held_in_body, moved_part}
+use Rattle.gabc_score.specs.Syllable.{UnplacedSyllable}
+use Rattle.gabc_score.specs.machine.BodyBuilder.{code_in, with_all}
+use Rattle.gabc_score.specs.machine.Gatherer.{Gathered}
+use Rattle.gabc_score.specs.machine.PartCounts.{CountsHold}
+use Rattle.gabc_score.specs.machine.PartKeeps.{begun, ReadAlike}
+use Rattle.gabc_score.specs.machine.ScoreMachine.{held_score, IsInBody, IsScoreAt}
+use Rattle.gabc_score.specs.machine.ScoreStage.{HeldScore, body_left, end_outputs_by, left_by, outputs_left, score_past}
+use Rattle.gabc_score.specs.machine.SyllableBuilder.{OpenSyllable, nothing_open}
+use Rattle.gabc_score.specs.witness.BodyStage.{running_events_left, texts_by_stage}
+use Rattle.gabc_score.proofs.resuming.NothingIsRead.{nothing_alike}
+
+-- nothing is read, no span is open, and what else was gathered stands there
+abbrev unread : ℕ → List UnplacedSyllable → Bool → ℕ → Bool → Option ItemKind → Gathered
+unread limit made follows total over first = record { limit = limit; builder = nothing_open; eu = false; nlba = false; made = made; follows = follows; total = total; over = over; cut = None; first_kind = first }
+
+module _ (limits : Limits) (lines macros : ℕ) (limit : ℕ) (made : List UnplacedSyllable) (follows : Bool) (total : ℕ) (over : Bool) (first : Option ItemKind) (has_lent : Bool) (p q : Place)
+    (fine : code_in limits (unread limit made follows total over first) ≡ None) where
+  abbrev at : Place → HeldScore
+  at place = record { next = place; gathered = unread limit made follows total over first; has_lent = has_lent }
+
+  abbrev ahead : List HeadEvent → List (List BodyEvent)
+  ahead xs = events_from texts_by_stage lines macros InComment (characters_in xs)
+
+  same_left : (xs : List HeadEvent) → body_left limits (at p) (ahead xs) xs ≡ body_left limits (at q) (ahead xs) xs
+  same_left [] = refl
+  same_left (head_event.Body x ∷ xs) = by (code_in limits (with_all (at p).gathered now))
+    where
+      now : List BodyEvent
+      now = events_in (part_at texts_by_stage InComment x (characters_in xs))
+
+      later : List (List BodyEvent)
+      later = events_from texts_by_stage lines macros (part_behind texts_by_stage lines macros (part_at texts_by_stage InComment x (characters_in xs)) x (characters_in xs)) (characters_in xs)
+
+      by : (c : Option Code) → left_by c (at p) x now xs (body_left limits (score_past (at p) x now) later xs) ≡ left_by c (at q) x now xs (body_left limits (score_past (at q) x now) later xs)
+      by (Some code) = refl
+      by None = refl
+  same_left (head_event.End ∷ xs) =
+      ap (λ (c : Option Code). end_outputs_by (at p) (events_at_end InComment) (option_map (fault_at p) c) ∷ silence xs) fine
+      ∙ sym (ap (λ (c : Option Code). end_outputs_by (at q) (events_at_end InComment) (option_map (fault_at q) c) ∷ silence xs) fine)
+  same_left (head_event.Stop fault ∷ xs) = refl
+  same_left (head_event.Found f ∷ xs) = ap (λ later. (Found f ∷ []) ∷ later) (same_left xs)
+  same_left (head_event.Heads l m c ∷ xs) = ap (λ later. [] ∷ later) (same_left xs)
+
+-- ---- a machine
+
+pub front_is : (p : BodyPart) → is_in_front p ≡ true → p ≡ part.Comment
+front_is part.Comment e = refl
+front_is (part.Text stage) e = absurd (cc e)
+front_is (part.Notes opened stage) e = absurd (cc e)
+front_is (part.Nabc line opened stage) e = absurd (cc e)
+
+pub front_reads : (p : BodyPart) (o : OpenSyllable) → is_in_front p ≡ true → CountsHold p o → o ≡ nothing_open
+front_reads p o front counts = subst (λ (b : BodyPart). CountsHold b o) (front_is p front) counts
+
+none_made : (made : List UnplacedSyllable) → held_in_body score_part.Body made ≡ None → made ≡ []
+none_made [] e = refl
+none_made (m ∷ made) e = absurd (cc e)
+
+is_unread : (g : Gathered) → g.builder ≡ nothing_open → g.eu ≡ false → g.nlba ≡ false → g.cut ≡ None → g ≡ unread g.limit g.made g.follows g.total g.over g.first_kind
+is_unread g builder eu nlba cut =
+    ap (λ (o : OpenSyllable). record g { builder = o }) builder
+    ∙ ap (λ (b : Bool). record g { builder = nothing_open; eu = b }) eu
+    ∙ ap (λ (b : Bool). record g { builder = nothing_open; eu = false; nlba = b }) nlba
+    ∙ ap (λ (c : Option Place). record g { builder = nothing_open; eu = false; nlba = false; cut = c }) cut
+
+module _ (m : ScoreMachine) (front : is_in_front m.body.part ≡ true) (first : m.bounds.before.syllables ≡ 0) (place : Place) where
+  comment : m.body.part ≡ part.Comment
+  comment = front_is m.body.part front
+
+  unread_in : IsInBody m → m.pair.gathered.made ≡ [] → m.pair.gathered ≡ unread m.pair.gathered.limit m.pair.gathered.made m.pair.gathered.follows m.pair.gathered.total m.pair.gathered.over m.pair.gathered.first_kind
+  unread_in h none = is_unread m.pair.gathered nothing (alike.eu ∙ ap (λ (s : Spans). s.eu) closed) (alike.nlba ∙ ap (λ (s : Spans). s.nlba) closed) h.reading.uncut
+    where
+      nothing : m.pair.gathered.builder ≡ nothing_open
+      nothing = front_reads m.body.part m.pair.gathered.builder front h.counts
+
+      alike : ReadAlike m.pair.gathered (begun m.bounds.behind.spans)
+      alike = nothing_alike m.body.nabc_lines m.body.macros m.body.part m.bounds.behind.spans m.pair.gathered h.reading (ap (λ (o : OpenSyllable). o.kept) nothing)
+
+      closed : m.bounds.behind.spans ≡ record { eu = false; nlba = false }
+      closed = ap (λ (p : Preceding). p.spans) (h.behind ∙ ap (with_each m.bounds.before) none ∙ h.within.outset first)
+
+  in_body : IsInBody m → m.pair.gathered.made ≡ [] → (xs : List HeadEvent)
+      → body_left m.limits (record (held_score m) { next = place }) (running_events_left (record m.body { part = moved_part place m.body.part }) (characters_in xs)) xs
+      ≡ body_left m.limits (held_score m) (running_events_left m.body (characters_in xs)) xs
+  in_body h none xs =
+      ap (λ (b : BodyPart). left place m.pair.gathered (moved_part place b)) comment
+      ∙ ap (λ (g : Gathered). left place g part.Comment) is
+      ∙ same_left m.limits m.body.nabc_lines m.body.macros g.limit g.made g.follows g.total g.over g.first_kind m.has_lent place m.next (sym (ap (code_in m.limits) is) ∙ h.code) xs
+      ∙ sym (ap (λ (g : Gathered). left m.next g part.Comment) is)
+      ∙ sym (ap (λ (b : BodyPart). left m.next m.pair.gathered b) comment)
+    where
+      g : Gathered
+      g = m.pair.gathered
+
+      is : g ≡ unread g.limit g.made g.follows g.total g.over g.first_kind
+      is = unread_in h none
+
+      left : Place → Gathered → BodyPart → List (List ScoreOutput)
+      left next gathered b = body_left m.limits (record { next = next; gathered = gathered; has_lent = m.has_lent }) (running_events_left (record m.body { part = b }) (characters_in xs)) xs
+
+  -- What is left for a machine in front does not hang on the place of the next character.
+  pub left_anywhere : (p : ScorePart) → IsScoreAt p m → held_in_body p m.pair.gathered.made ≡ None → (xs : List HeadEvent)
+      → outputs_left m.limits p (record (held_score m) { next = place }) (record m.body { part = moved_part place m.body.part }) xs ≡ outputs_left m.limits p (held_score m) m.body xs
+  left_anywhere score_part.Heads h none xs = refl
+  left_anywhere score_part.Over h none xs = refl
+  left_anywhere score_part.Body h none xs = in_body h (none_made m.pair.gathered.made none) xs

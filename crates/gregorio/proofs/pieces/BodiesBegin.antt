@@ -1,0 +1,117 @@
+-- A score that is told where its body begins goes on as it would have.
+use Rattle.std.proofs.Common.{◌≡◌, ℕ, ◌⊎◌, inl, inr, List, Bool, true, false, is_none, Result, Ok, Err, refl, ap, sym, subst, ◌∙◌}
+use Rattle.gabc_places.specs.DecoderMachine.{DecoderState}
+use Rattle.gabc_places.specs.declared.code.Fault.{Fault}
+use Rattle.gabc_places.specs.declared.place.Char.{Char}
+use Rattle.gabc_places.specs.declared.place.Place.{Place}
+use Rattle.gabc_headers.specs.declared.head_event.HeadEvent.{HeadEvent}
+use Rattle.gabc_headers.specs.witness.HeadEvents.{HeaderStageState, IsBehind}
+use Rattle.gabc_score.specs.declared.body_stage.BodyPart.{BodyPart}
+use Rattle.gabc_score.specs.declared.body_stage.BodyPart.TheVariants as part
+use Rattle.gabc_score.specs.ScoreEvents.{ScoreOutput}
+use Rattle.gabc_score.specs.ScoreTells.{StandsAt, StandsInFront, is_in_front, moved_part}
+use Rattle.gabc_score.specs.witness.ScoreStage.{ScoreStageState, left_of}
+use Rattle.gregorio.specs.Streams.{Streams, behind_bytes}
+use Rattle.gregorio.specs.witness.Engine.{Written, book_behind, head_events_left, streams_from}
+use Rattle.gregorio.specs.machine.Engine.{GoTogether, IsSettled, WritesItems}
+use Rattle.gregorio.specs.machine.InStep.{HasForce, RunsInStep, StayInStep}
+use Rattle.gregorio.specs.machine.RunWriter.{RunWriterState}
+use Rattle.gregorio.specs.machine.ScoreWriter.{ScoreWriterState, FitsEvents, IsSteady, streams_of}
+use Rattle.gregorio.specs.machine.TellsInStep.{BeginsBody, begun}
+
+abbrev begun_writer : Result Char Fault → Bool → ScoreWriterState → ScoreWriterState
+begun_writer item headed s = record s { score = begun item headed s.score }
+
+limits_begun : (item : Result Char Fault) (headed : Bool) (s : ScoreStageState) → (begun item headed s).limits ≡ s.limits
+limits_begun (Ok x) true s = refl
+limits_begun (Ok x) false s = refl
+limits_begun (Err fault) headed s = refl
+
+room_begun : (item : Result Char Fault) (headed : Bool) (s : ScoreWriterState) (events : List HeadEvent) → FitsEvents s events → FitsEvents (begun_writer item headed s) events
+room_begun (Ok x) true s events r = record { lines = r.lines; texts = r.texts; scratch = r.scratch }
+room_begun (Ok x) false s events r = record { lines = r.lines; texts = r.texts; scratch = r.scratch }
+room_begun (Err fault) headed s events r = record { lines = r.lines; texts = r.texts; scratch = r.scratch }
+
+steady_begun : (item : Result Char Fault) (headed : Bool) (old s : ScoreWriterState) → IsSteady old s → IsSteady old (begun_writer item headed s)
+steady_begun item headed old s a = record {
+  limits = limits_begun item headed s.score ∙ a.limits;
+  format = a.format;
+  name = a.name;
+  out = a.out;
+  messages = a.messages;
+  scratch = a.scratch;
+}
+
+-- in front no text has counted a place
+none_counts : (place at : Place) (b : BodyPart) → is_in_front b ≡ true → StandsAt place (moved_part at b)
+none_counts place at part.Comment front = tt
+none_counts place at (part.Text stage) front = absurd (cc front)
+none_counts place at (part.Notes opened stage) front = absurd (cc front)
+none_counts place at (part.Nabc line opened stage) front = absurd (cc front)
+
+step_begun : (item : Result Char Fault) (headed : Bool) (d : DecoderState) (h : HeaderStageState) (s : ScoreStageState) (w : Written) → (headed ≡ true → StandsInFront s) → RunsInStep d h s w
+    → RunsInStep d h (begun item headed s) w
+step_begun (Ok x) true d h s w front r = record {
+  runs = r.runs;
+  limit = r.limit;
+  parts = r.parts;
+  none = r.none;
+  count = r.count;
+  taken = r.taken;
+  column = r.column;
+  near = r.near;
+  counts = λ within body. none_counts d.place _ s.body.part (front refl).front;
+}
+step_begun (Ok x) false d h s w front r = r
+step_begun (Err fault) headed d h s w front r = r
+
+module _ (item : Result Char Fault) (old new : ScoreWriterState) (b : BeginsBody item old new) where
+  pub same_writer : new.writer ≡ old.writer
+  same_writer = ap (λ (s : ScoreWriterState). s.writer) b.is
+
+  same_streams : (book : List (List ℕ × List ℕ)) (from_heads : List HeadEvent) → streams_of new book from_heads ≡ streams_of old book from_heads
+  same_streams book from_heads =
+      ap (λ (v : RunWriterState). streams_from v.written book from_heads (left_of new.score from_heads)) same_writer
+      ∙ ap (λ (lists : List (List ScoreOutput)). streams_from old.writer.written book from_heads lists) (b.left from_heads)
+
+  pub room_of_begun : (events : List HeadEvent) → FitsEvents old events → FitsEvents new events
+  room_of_begun events room = subst (λ (s : ScoreWriterState). FitsEvents s events) (sym b.is) (room_begun item old.writer.written.headed old events room)
+
+  pub steady_of_begun : (first : ScoreWriterState) → IsSteady first old → IsSteady first new
+  steady_of_begun first a = subst (λ (s : ScoreWriterState). IsSteady first s) (sym b.is) (steady_begun item old.writer.written.headed first old a)
+
+  settled_begun : IsSettled old → IsSettled new
+  settled_begun settled = λ book other from_heads more. same_streams book from_heads ∙ (settled book other from_heads more ∙ sym (same_streams other more))
+
+  pub together_begun : (h : HeaderStageState) → GoTogether h old → GoTogether h new
+  together_begun h together = record {
+    limits = together.limits ∙ sym (ap (λ (s : ScoreWriterState). s.score.limits) b.is ∙ limits_begun item old.writer.written.headed old.score);
+    headed = λ e. by (together.headed (sym (ap (λ (v : RunWriterState). v.written.headed) same_writer) ∙ e));
+    book = together.book;
+    short = together.short;
+  }
+    where
+      by : IsBehind h.progress ⊎ IsSettled old → IsBehind h.progress ⊎ IsSettled new
+      by (inl is) = inl is
+      by (inr settled) = inr (settled_begun settled)
+
+  pub writes_begun : (h now : HeaderStageState) (first : ScoreWriterState) (items : List (Result Char Fault)) → WritesItems h first items now old → WritesItems h first items now new
+  writes_begun h now first items a = record {
+    output = a.output;
+    lines = a.lines;
+    out = ap (λ (v : RunWriterState). v.out) same_writer ∙ a.out;
+    messages = ap (λ (v : RunWriterState). v.messages) same_writer ∙ a.messages;
+    law = λ ending more.
+        a.law ending more
+        ∙ ap (λ (s : Streams). behind_bytes a.output a.lines s) (sym (same_streams (book_behind now more) (head_events_left now ending more)));
+  }
+
+  pub stay_begun : (h now : HeaderStageState) (first : ScoreWriterState) (items : List (Result Char Fault)) → (old.writer.written.headed ≡ true → StandsInFront old.score) → StayInStep h first items now old
+      → StayInStep h first items now new
+  stay_begun h now first items front stay = record {
+    force = λ had. subst (λ (v : RunWriterState). HasForce v.written) (sym same_writer) (stay.force had);
+    runs = λ d e moves ran running.
+        subst (λ (s : ScoreWriterState). RunsInStep e now s.score s.writer.written) (sym b.is)
+        (step_begun item old.writer.written.headed e now old.score old.writer.written front
+        (stay.runs d e moves ran (subst (λ (v : RunWriterState). is_none v.written.ended ≡ true) same_writer running)));
+  }

@@ -1,0 +1,247 @@
+-- A score goes on telling of a text in step with its decoder.
+use Rattle.std.proofs.Common.{◌≡◌, ℕ, ◌+◌, ◌^◌, ◌<◌, ◌≤◌, List, [], ◌∷◌, ◌++◌, length, map, Bool, true, false, Option, Some, is_none, Result, Ok, Err, if◌then◌else◌, refl, ap, sym, subst, ◌∙◌, arith}
+use Rattle.std.proofs.lemmas.Bool.{false≢true}
+use Rattle.std.proofs.lemmas.List.Elements.{All-head, All-tail}
+use Rattle.std.specs.List.{All}
+use Rattle.gabc_places.specs.DecoderMachine.{DecoderState, fresh_decoder}
+use Rattle.gabc_places.specs.DecoderTells.{MovesOn, is_after_cr}
+use Rattle.gabc_places.specs.Place.{next_place, saturating_next_place, is_line_feed}
+use Rattle.gabc_places.specs.declared.code.Fault.{Fault}
+use Rattle.gabc_places.specs.declared.code.Finding.{Finding}
+use Rattle.gabc_places.specs.declared.limits.Limits.{Limits}
+use Rattle.gabc_places.specs.declared.place.Char.{Char}
+use Rattle.gabc_places.specs.declared.place.Place.{Place}
+use Rattle.gabc_headers.specs.declared.head_event.HeadEvent.{HeadEvent}
+use Rattle.gabc_headers.specs.declared.head_event.HeadEvent.TheVariants as head_event
+use Rattle.gabc_headers.specs.declared.heads.Heads.{Heads}
+use Rattle.gabc_headers.specs.declared.heads.HeadFault.{HeadFault}
+use Rattle.gabc_headers.specs.Heads.{heads_of}
+use Rattle.gabc_headers.specs.HeadEvents.{event_of_book}
+use Rattle.gabc_headers.specs.witness.HeadEvents.{HeaderStageState, HeadProgress, reading, behind, over, events_by, events_of_input, new_findings}
+use Rattle.gabc_score.specs.declared.body_stage.BodyPart.{BodyPart}
+use Rattle.gabc_score.specs.declared.body_stage.BodyPart.TheVariants as part
+use Rattle.gabc_score.specs.declared.score_machine.ScorePart.{ScorePart}
+use Rattle.gabc_score.specs.declared.score_machine.ScorePart.TheVariants as score_part
+use Rattle.gabc_score.specs.ScoreStage.{IsPlaceBelow, MayCome, behind_front, next_past}
+use Rattle.gabc_score.specs.ScoreTells.{StandsAt, is_in_comment, is_in_front, moved_part, moved_to, openers_of}
+use Rattle.gabc_score.specs.ToldWithin.{AreOpenersBefore, IsPlace, TellsOfText}
+use Rattle.gabc_score.specs.witness.ScoreStage.{ScoreStageState}
+use Rattle.gregorio_jobs.specs.declared.job.Status.{Status}
+use Rattle.gregorio.specs.witness.Engine.{Written}
+use Rattle.gregorio.specs.machine.Engine.{event_of_item}
+use Rattle.gregorio.specs.machine.InStep.{AreInOnePart, PassesAll, PassesOn, RunsInStep, StayInStep}
+use Rattle.gregorio.specs.machine.ScoreWriter.{ScoreWriterState}
+use Rattle.gregorio.specs.machine.Telling.{TellsThrough}
+use Rattle.gregorio.specs.machine.TellsInStep.{BeginsBody, IsInHeads, IsTelling, StayTelling, TellsInBody, TellsInStep, begun}
+use Rattle.gregorio.proofs.pieces.HeadersEnd.{HeadersEnd, HeadersEndAt, stands_in_front}
+use Rattle.gregorio.proofs.pieces.PartsStayInStep.{Skips, in_body, place_skipped, running_before, same_next, went_on_past}
+
+-- ---- lines
+
+abbrev place_at : ℕ → ℕ → Place
+place_at line column = record { line = line; column = column }
+
+line_next : (p : Place) (c : ℕ) → 1 ≤ p.line → 1 ≤ (next_place p c).line
+line_next p c least = by (is_line_feed c)
+  where
+    by : (b : Bool) → 1 ≤ (if b then place_at (p.line + 1) 1 else place_at p.line (p.column + 1)).line
+    by true = omega arith
+    by false = least
+
+line_behind : (d e : DecoderState) (item : Result Char Fault) → MovesOn d (item ∷ []) e → 1 ≤ d.place.line → 1 ≤ e.place.line
+line_behind d e (Ok x) moves least =
+    subst (λ (p : Place). 1 ≤ p.line) (sym moves.place) (line_next x.place x.c (subst (λ (p : Place). 1 ≤ p.line) (sym moves.here) least))
+line_behind d e (Err fault) moves least = subst (λ (p : Place). 1 ≤ p.line) (sym moves.place) least
+
+-- ---- a character of the body
+
+module _ (d e : DecoderState) (h : HeaderStageState) (old new : ScoreWriterState) (x : Char) (moves : MovesOn d (Ok x ∷ []) e) (was : RunsInStep d h old.score old.writer.written)
+    (within : e.taken ≤ e.limit) where
+  were_within : d.taken ≤ d.limit
+  were_within = let more = moves.taken in let limit = moves.limit in omega (arith, more, limit, within)
+
+  few : x.place.line + x.place.column < 2 ^ 33
+  few =
+      let near = was.near in
+      let most = old.score.limits.in_range.input_most in
+      let limit = was.limit in
+      let taken = were_within in
+      subst (λ (p : Place). p.line + p.column < 2 ^ 33) (sym moves.here) (omega (arith, near, most, limit, taken))
+
+  place_below : IsPlaceBelow x
+  place_below = let most = few in (omega (arith, most), omega (arith, most))
+
+  next_is : saturating_next_place x.place x.c ≡ e.place
+  next_is = same_next x.place x.c few ∙ sym moves.place
+
+  body_told : PassesOn old.score old.writer.written (head_event.Body x) new → old.writer.written.headed ≡ true → new.writer.written.headed ≡ true → RunsInStep e h new.score new.writer.written
+      → TellsInBody d old.score → TellsInBody e new.score
+  body_told p headed still is t =
+      let before = in_body h.progress old.score.part old.writer.written.headed headed was.parts in
+      let now = in_body h.progress new.score.part new.writer.written.headed still is.parts in
+      let passed : next_past old.score.part (head_event.Body x) old.score.held.next ≡ saturating_next_place x.place x.c = ap (λ (q : ScorePart). next_past q (head_event.Body x) old.score.held.next) before.body in
+      record {
+        next = p.tells.next now.body ∙ (passed ∙ next_is);
+        told = p.tells.told (moves.here ∙ sym t.next, (place_below, moves.plain))
+            (λ body. subst (λ (place : Place). StandsAt place old.score.body.part) (sym t.next) (was.counts were_within body)) t.told;
+        holds = p.tells.holds t.holds;
+        comment = λ cr. p.tells.line (moves.cr is.runs cr) now.body;
+      }
+
+pub body_stays_telling : (h : HeaderStageState) (old new : ScoreWriterState) (item : Result Char Fault) → old.writer.written.headed ≡ true → StayInStep h old (item ∷ []) h new
+    → PassesOn old.score old.writer.written (event_of_item item) new → StayTelling h old (item ∷ []) new
+body_stays_telling h old new (Ok x) headed stay p = λ d e moves ran told running.
+    let on = went_on_past old.score old.writer.written (head_event.Body x) new p running in
+    let t = told on.before in
+    record {
+      line = line_behind d e (Ok x) moves t.line;
+      body = λ still within.
+          body_told d e h old new x moves (ran on.before) within p headed still (stay.runs d e moves ran running) (t.body headed (were_within d e h old new x moves (ran on.before) within));
+    }
+body_stays_telling h old new (Err fault) headed stay p = λ d e moves ran told running. absurd (false≢true (sym moves.runs ∙ (stay.runs d e moves ran running).runs))
+
+-- ---- no item
+
+pub nothing_stays_telling : (h : HeaderStageState) (s : ScoreWriterState) → StayTelling h s [] s
+nothing_stays_telling h s = λ d e moves ran told running.
+    let was = told running in
+    record {
+      line = subst (λ (p : Place). 1 ≤ p.line) (sym moves.place) was.line;
+      body = λ headed within.
+          let t = was.body headed (let more = moves.taken.0 in let limit = moves.limit in omega (arith, more, limit, within)) in
+          record { next = t.next ∙ sym moves.place; told = t.told; holds = t.holds; comment = λ cr. absurd (moves.cr (moves.runs ∙ (ran running).runs) cr) };
+    }
+
+-- ---- the end of the headers
+
+front_opens_nothing : (next at : Place) (b : BodyPart) → is_in_front b ≡ true → AreOpenersBefore next (openers_of (moved_part at b))
+front_opens_nothing next at part.Comment front = record { notes = tt; inner = tt; in_order = tt }
+front_opens_nothing next at (part.Text stage) front = absurd (cc front)
+front_opens_nothing next at (part.Notes opened stage) front = absurd (cc front)
+front_opens_nothing next at (part.Nabc line opened stage) front = absurd (cc front)
+
+-- in front the next character may stand anywhere
+told_anywhere : (at : Place) (s : ScoreStageState) → is_in_front s.body.part ≡ true → IsPlace at → TellsOfText s → TellsOfText (moved_to at s)
+told_anywhere at s front place told = λ body.
+    let t = told body in
+    record { counts = t.counts; next = place; openers = front_opens_nothing at at s.body.part front; reading = t.reading; held = t.held }
+
+last_of_all : (P : HeadEvent → Type 0) (fs : List Finding) (x : HeadEvent) → All P (map (λ f. head_event.Found f) fs ++ x ∷ []) → P x
+last_of_all P [] x all = All-head P x [] all
+last_of_all P (f ∷ fs) x all = last_of_all P fs x (All-tail P (head_event.Found f) (map (λ f. head_event.Found f) fs ++ x ∷ []) all)
+
+-- what the headers give may come
+abbrev HeadersMayCome : Type 0
+HeadersMayCome = (limits : Limits) (t : List ℕ) (x : Char) (next : Place) → All (MayCome limits next) (events_of_input limits (reading t) (Ok x))
+
+headers_came : HeadersMayCome → (limits : Limits) (t : List ℕ) (x : Char) (s : ScoreStageState) (end : HeadersEndAt limits t x s) → MayCome end.before.limits end.before.held.next (event_of_book end.heads.book)
+headers_came law limits t x s end =
+    let next = t ++ x.c ∷ [] in
+    let all = subst (λ (r : Result Heads HeadFault). All (MayCome limits end.before.held.next) (events_by (new_findings limits t next) r)) end.whole (law limits t x end.before.held.next) in
+    subst (λ (l : Limits). MayCome l end.before.held.next (event_of_book end.heads.book)) (sym end.same)
+    (last_of_all (MayCome limits end.before.held.next) (new_findings limits t next) (event_of_book end.heads.book) all)
+
+-- the headers of this stage end with a percent
+abbrev EndsWithPercent : HeaderStageState → Type 0
+EndsWithPercent h = (t : List ℕ) (c : ℕ) (heads : Heads) → h.progress ≡ reading t → heads_of h.limits (t ++ c ∷ []) ≡ Ok heads → c ≡ 37
+
+module _ (h now : HeaderStageState) (old mid : ScoreWriterState) (come : HeadersMayCome) (percent : EndsWithPercent h) (d e : DecoderState) (x : Char) (moves : MovesOn d (Ok x ∷ []) e)
+    (was : RunsInStep d h old.score old.writer.written) (is : RunsInStep e now mid.score mid.writer.written) (line : 1 ≤ e.place.line) (t : List ℕ) (here : h.progress ≡ reading t)
+    (end : HeadersEndAt h.limits t x mid.score) (front : is_in_front mid.score.body.part ≡ true) (within : e.taken ≤ e.limit) where
+  starts_as_place : IsPlace e.place
+  starts_as_place =
+      let near = is.near in
+      let column = is.column in
+      let most = mid.score.limits.in_range.input_most in
+      let limit = is.limit in
+      record { line = line; column = column; in_64_bits = omega (arith, near, most, limit, within) }
+
+  told_first : TellsOfText mid.score
+  told_first = end.tells.told (headers_came come h.limits t x mid.score end) (λ body. absurd (cc (body, end.part))) (λ body. absurd (cc (body, end.part)))
+
+  begins_in_step : TellsInBody e (moved_to (saturating_next_place x.place x.c) mid.score)
+  begins_in_step =
+      subst (λ (at : Place). TellsInBody e (moved_to at mid.score)) (sym (next_is d e h old mid x moves was within))
+      (record {
+        next = refl;
+        told = told_anywhere e.place mid.score front starts_as_place told_first;
+        holds = end.tells.holds (λ body. absurd (cc (body, end.part)));
+        comment = λ cr. let lf = moves.cr is.runs cr in let mark = percent t x.c end.heads here end.whole in absurd (omega (arith, lf, mark));
+      })
+
+begun_here : (item : Result Char Fault) (x : Char) (headed : Bool) (s : ScoreStageState) → item ≡ Ok x → headed ≡ true → begun item headed s ≡ moved_to (saturating_next_place x.place x.c) s
+begun_here item x headed s is on = rw (is, on) refl
+
+module _ (h now : HeaderStageState) (old mid new : ScoreWriterState) (item : Result Char Fault) (come : HeadersMayCome) (percent : EndsWithPercent h) (all : PassesAll old (events_of_input h.limits h.progress item) mid)
+    (stay : StayInStep h old (item ∷ []) now mid) (ends : mid.writer.written.headed ≡ true → HeadersEnd h.limits h.progress item mid.score) (begins : BeginsBody item mid new) where
+  same_written : new.writer.written ≡ mid.writer.written
+  same_written = ap (λ (s : ScoreWriterState). s.writer.written) begins.is
+
+  pub heads_stay_telling : StayTelling h old (item ∷ []) new
+  heads_stay_telling = λ d e moves ran told running.
+      let goes = subst (λ (w : Written). is_none w.ended ≡ true) same_written running in
+      let runs = running_before (events_of_input h.limits h.progress item) old mid all goes in
+      let is = stay.runs d e moves ran goes in
+      let least = line_behind d e item moves (told runs).line in
+      record {
+        line = least;
+        body = λ headed within.
+            let on = sym (ap (λ (w : Written). w.headed) same_written) ∙ headed in
+            let end = ends on in
+            subst (λ (s : ScoreStageState). TellsInBody e s) (sym (ap (λ (s : ScoreWriterState). s.score) begins.is ∙ begun_here item end.last mid.writer.written.headed mid.score end.is on))
+            (begins_in_step h now old mid come percent d e end.last (subst (λ (i : Result Char Fault). MovesOn d (i ∷ []) e) end.is moves) (ran runs) is least end.text end.was end.end
+            (stands_in_front h.limits h.progress item mid.score end).front within);
+      }
+
+-- ---- characters that are taken at once
+
+no_bytes : (bytes : List ℕ) → length bytes ≡ 0 → bytes ≡ []
+no_bytes [] none = refl
+no_bytes (byte ∷ bytes) none = absurd (omega (arith, none))
+
+pub front_stays_telling : (d e : DecoderState) (h : HeaderStageState) (old new : ScoreStageState) (w : Written) (bytes : List ℕ) → Skips d (length bytes) e → (bytes ≡ [] → e ≡ d) → (0 < length bytes → is_after_cr e ≡ false)
+    → TellsThrough old d.place bytes new → RunsInStep d h old w → TellsInStep d old w → TellsInStep e new w
+front_stays_telling d e h old new w bytes skips none some through was told =
+    let line = skips.line in
+    let least = told.line in
+    record {
+      line = omega (arith, line, least);
+      body = λ headed within.
+          let fewer : d.taken ≤ d.limit = (let taken = skips.taken in let limit = skips.limit in omega (arith, taken, limit, within)) in
+          let t = told.body headed fewer in
+          record {
+            next = through.next ∙ (ap (λ (p : Place). behind_front d.place (length bytes) p) t.next ∙ place_skipped d e (length bytes) skips);
+            told = through.told (sym t.next) (λ body. subst (λ (place : Place). StandsAt place old.body.part) (sym t.next) (was.counts fewer body)) t.told;
+            holds = through.holds t.holds;
+            comment = λ cr. by bytes refl cr t.comment;
+          };
+    }
+  where
+    by : (bs : List ℕ) → bs ≡ bytes → is_after_cr e ≡ true → (is_after_cr d ≡ true → is_in_comment old.body.part ≡ false) → is_in_comment new.body.part ≡ false
+    by [] is cr before =
+        ap (λ (b : BodyPart). is_in_comment b) (through.none (sym is)) ∙ before (sym (ap (λ (s : DecoderState). is_after_cr s) (none (sym is))) ∙ cr)
+    by (b ∷ bs) is cr before = absurd (false≢true (sym (some (subst (λ (l : List ℕ). 0 < length l) is (omega arith))) ∙ cr))
+
+-- ---- before the first byte, and where the run is over
+
+pub fresh_tells : (limits : Limits) (d : DecoderState) (s : ScoreWriterState) → d ≡ fresh_decoder limits.input → s.writer.written.headed ≡ false → IsTelling d s
+fresh_tells limits d s is unheaded = λ running.
+    let line = ap (λ (x : DecoderState). x.place.line) is in
+    record { line = omega (arith, line); body = λ headed. absurd (false≢true (sym unheaded ∙ headed)) }
+
+pub over_tells : (d : DecoderState) (s : ScoreWriterState) (status : Status) → s.writer.written.ended ≡ Some status → IsTelling d s
+over_tells d s status over_now = λ running. absurd (false≢true (sym (ap (λ (o : Option Status). is_none o) over_now) ∙ running))
+
+-- ---- the headers
+
+heads_part : (progress : HeadProgress) (part : ScorePart) (headed : Bool) → headed ≡ false → AreInOnePart progress part headed → part ≡ score_part.Heads
+heads_part (reading t) score_part.Heads headed un parts = refl
+heads_part (reading t) score_part.Body headed un parts = absurd parts
+heads_part (reading t) score_part.Over headed un parts = absurd parts
+heads_part (behind book) score_part.Heads headed un parts = absurd parts
+heads_part (behind book) score_part.Body headed un parts = absurd (false≢true (sym un ∙ parts))
+heads_part (behind book) score_part.Over headed un parts = absurd parts
+heads_part over part headed un parts = absurd parts
+
+pub in_heads_yet : (d : DecoderState) (h : HeaderStageState) (w : ScoreWriterState) → (is_none w.writer.written.ended ≡ true → RunsInStep d h w.score w.writer.written) → IsInHeads w
+in_heads_yet d h w ran = λ running un. heads_part h.progress w.score.part w.writer.written.headed un (ran running).parts

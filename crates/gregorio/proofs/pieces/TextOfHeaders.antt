@@ -1,0 +1,166 @@
+-- Of the text of headers that an engine reads the place and the errors are those that it gives.
+use Rattle.std.proofs.Common.{◌≡◌, ℕ, ◌+◌, ◌<◌, ◌||◌, zero, suc, List, [], ◌∷◌, ◌++◌, Bool, true, false, is_none, Option, Some, Result, Ok, Err, if◌then◌else◌, refl, ap, sym, subst, ◌∙◌, arith}
+use Rattle.std.proofs.Math.Bool.{or-false, or_assoc}
+use Rattle.std.proofs.lemmas.Bool.{false≢true}
+use Rattle.std.specs.Char.{IsScalar}
+use Rattle.std.specs.List.{All, list_any}
+use Rattle.std.proofs.lemmas.List.Elements.{All-nil, All-push, All-weaker}
+use Rattle.std.proofs.lemmas.List.Folds.{list_any-append}
+use Rattle.gabc_places.specs.DecoderMachine.{DecoderState, fresh_decoder}
+use Rattle.gabc_places.specs.DecoderTells.{MovesOn}
+use Rattle.gabc_places.specs.TextOfAnInput.{IsTextCharacter}
+use Rattle.gabc_places.specs.Place.{next_place}
+use Rattle.gabc_places.specs.declared.code.Fault.{Fault}
+use Rattle.gabc_places.specs.declared.code.Finding.{Finding}
+use Rattle.gabc_places.specs.declared.limits.Limits.{Limits}
+use Rattle.gabc_places.specs.declared.place.Char.{Char}
+use Rattle.gabc_places.specs.declared.place.Place.{Place}
+use Rattle.gabc_places.proofs.PlacesOfAText.{next_after}
+use Rattle.gabc_headers.specs.declared.head_event.HeadEvent.TheVariants as head_event
+use Rattle.gabc_headers.specs.declared.heads.Heads.{Heads}
+use Rattle.gabc_headers.specs.declared.heads.HeadFault.{HeadFault}
+use Rattle.gabc_headers.specs.Heads.{heads_of}
+use Rattle.gabc_headers.specs.HeldText.{IsHeld, findings_held}
+use Rattle.gabc_headers.specs.witness.HeadEvents.{HeaderStageState, HeadProgress, reading, behind, over, events_by, events_of_input, fresh_stage, new_findings, progress_after, progress_by, stage_after}
+use Rattle.gabc_score.specs.ScoreEvents.{ScoreOutput}
+use Rattle.gabc_score.specs.declared.score_machine.ScorePart.{ScorePart}
+use Rattle.gabc_score.specs.declared.score_machine.ScorePart.TheVariants as score_part
+use Rattle.gregorio.specs.Outcome.{is_error_finding}
+use Rattle.gregorio.specs.machine.InStep.{AreInOnePart, PassesAll, RunsInStep, written_at}
+use Rattle.gregorio.specs.machine.ReadsHeaders.{IsReadAs, IsReadSoFar, ReadsHeaders, ReadsOn}
+use Rattle.gregorio.specs.machine.RunWriter.{RunWriterState}
+use Rattle.gregorio.specs.machine.ScoreWriter.{ScoreWriterState, fresh_writer}
+use Rattle.gregorio.specs.witness.Engine.{Written, behind_outputs}
+use Rattle.gregorio.proofs.pieces.PartsStayInStep.{HeadsYet, found_events, found_passed, in_heads, running_before, went_on_past}
+use Rattle.gregorio_jobs.specs.declared.job.Job.{Job}
+use Rattle.gregorio_jobs.specs.declared.job.Status.{Status}
+
+-- ---- what is found
+
+-- in the headers the errors among findings are told
+found_errors : (fs : List Finding) (old new : ScoreWriterState) → HeadsYet old → PassesAll old (found_events fs) new → is_none new.writer.written.ended ≡ true
+    → new.writer.written.errors ≡ (old.writer.written.errors || list_any is_error_finding fs)
+found_errors [] old new yet all running = ap (λ (s : ScoreWriterState). s.writer.written.errors) (sym all) ∙ sym (or-false old.writer.written.errors)
+found_errors (f ∷ fs) old new yet all running =
+    let mid = all.0 in
+    let passes = all.1.0 in
+    let w = written_at old.writer.written (head_event.Found f) in
+    let here = running_before (found_events fs) mid new all.1.1 running in
+    let before = (went_on_past old.score w (head_event.Found f) mid passes here).before in
+    let first : mid.writer.written.errors ≡ (old.writer.written.errors || is_error_finding f) =
+    ap (λ (v : Written). v.errors) passes.written ∙ ap (λ (outputs : List ScoreOutput). (behind_outputs w outputs).errors) (passes.in_heads (yet before).part) in
+    found_errors fs mid new (found_passed f old mid passes yet) all.1.1 running
+    ∙ (ap (λ (b : Bool). b || list_any is_error_finding fs) first
+    ∙ or_assoc old.writer.written.errors (is_error_finding f) (list_any is_error_finding fs))
+
+same_place : (p q : Place) → q.line ≡ p.line → p.column ≡ q.column → p ≡ q
+same_place p q line column = ap (λ (n : ℕ). record p { column = n }) column ∙ ap (λ (n : ℕ). record q { line = n }) (sym line)
+
+-- ---- a character
+
+abbrev pub IsFoundBehind : Type 0
+IsFoundBehind = (limits : Limits) (t : List ℕ) (c : ℕ) → All IsScalar t → IsScalar c → IsHeld limits t → IsHeld limits (t ++ c ∷ [])
+    → findings_held limits (t ++ c ∷ []) ≡ findings_held limits t ++ new_findings limits t (t ++ c ∷ [])
+
+module _ (law : IsFoundBehind) (limits : Limits) (t : List ℕ) (x : Char) (plain : IsTextCharacter x.c) (place : Place) (here : x.place ≡ place) (old new : ScoreWriterState) (yet : HeadsYet old)
+    (running : is_none new.writer.written.ended ≡ true) (read : IsReadAs limits t place old.writer.written.errors) where
+  abbrev longer : List ℕ
+  longer = t ++ x.c ∷ []
+
+  abbrev more : List Finding
+  more = new_findings limits t longer
+
+  read_more : IsHeld limits longer → PassesAll old (found_events more) new → IsReadAs limits longer (next_place x.place x.c) new.writer.written.errors
+  read_more held all = record {
+    text = All-push IsTextCharacter t x.c read.text plain;
+    gives = record {
+      held = held;
+      next = ap (λ (p : Place). next_place p x.c) (here ∙ read.gives.next) ∙ next_after t x.c;
+      errors = found_errors more old new yet all running
+          ∙ (ap (λ (b : Bool). b || list_any is_error_finding more) read.gives.errors
+          ∙ sym (ap (λ (fs : List Finding). list_any is_error_finding fs) (law limits t x.c (All-weaker IsTextCharacter IsScalar (λ c is. is.scalar) t read.text) plain.scalar read.gives.held held)
+          ∙ list_any-append is_error_finding (findings_held limits t) more));
+    };
+  }
+
+  read_by_end : (stopped : HeadFault) (at_end : Bool) → heads_of limits longer ≡ Err stopped → stopped.at_end ≡ at_end
+      → PassesAll old (if at_end then found_events more else head_event.Stop stopped.fault ∷ []) new
+      → IsReadSoFar limits (if at_end then reading longer else over) (next_place x.place x.c) new.writer.written.errors
+  read_by_end stopped true is at_end all = read_more (record { stopped = stopped; heads = is; at_end = at_end }) all
+  read_by_end stopped false is at_end all = tt
+
+  pub read_by_heads : (r : Result Heads HeadFault) → heads_of limits longer ≡ r → PassesAll old (events_by more r) new
+      → IsReadSoFar limits (progress_by longer r) (next_place x.place x.c) new.writer.written.errors
+  read_by_heads (Ok heads) is all = tt
+  read_by_heads (Err stopped) is all = read_by_end stopped stopped.at_end is refl all
+
+-- ---- an item
+
+module _ (law : IsFoundBehind) (limits : Limits) (t : List ℕ) (d e : DecoderState) (old new : ScoreWriterState) (yet : HeadsYet old) (running : is_none new.writer.written.ended ≡ true)
+    (read : IsReadAs limits t d.place old.writer.written.errors) where
+  read_item : (item : Result Char Fault) → MovesOn d (item ∷ []) e → PassesAll old (events_of_input limits (reading t) item) new
+      → IsReadSoFar limits (progress_after limits (reading t) item) e.place new.writer.written.errors
+  read_item (Ok x) moves all =
+      subst (λ (p : Place). IsReadSoFar limits (progress_after limits (reading t) (Ok x)) p new.writer.written.errors) (sym moves.place)
+      (read_by_heads law limits t x moves.plain d.place moves.here old new yet running read (heads_of limits (t ++ x.c ∷ [])) refl all)
+  read_item (Err fault) moves all = tt
+
+pub heads_read_on : IsFoundBehind → (h : HeaderStageState) (old new : ScoreWriterState) (item : Result Char Fault) → old.writer.written.headed ≡ false → PassesAll old (events_of_input h.limits h.progress item) new → ReadsOn h old (item ∷ []) (stage_after h item) new
+heads_read_on law h old new item unheaded all d e moves ran reads running =
+    let before = running_before (events_of_input h.limits h.progress item) old new all running in
+    let was = ran before in
+    let i = in_heads h.progress old unheaded was.parts (was.none unheaded) in
+    let here = subst (λ (p : HeadProgress). PassesAll old (events_of_input h.limits p item) new) i.1.0 all in
+    let read = subst (λ (p : HeadProgress). IsReadSoFar h.limits p d.place old.writer.written.errors) i.1.0 (reads before) in
+    subst (λ (p : HeadProgress). IsReadSoFar h.limits (progress_after h.limits p item) e.place new.writer.written.errors) (sym i.1.0)
+    (read_item law h.limits i.0 d e old new (λ r. i.1.1) running read item moves here)
+
+-- where the writer stays and its stage alone is changed
+pub reads_begun : (h : HeaderStageState) (old mid new : ScoreWriterState) (item : Result Char Fault) → new.writer ≡ mid.writer → ReadsOn h old (item ∷ []) (stage_after h item) mid
+    → ReadsOn h old (item ∷ []) (stage_after h item) new
+reads_begun h old mid new item same reads d e moves ran were =
+    subst (λ (v : RunWriterState). ReadsHeaders e (stage_after h item) v.written) (sym same) (reads d e moves ran were)
+
+-- ---- behind the headers, and where nothing comes
+
+-- where they are written nothing of them is read any more
+headed_read : (limits : Limits) (progress : HeadProgress) (part : ScorePart) (headed : Bool) (place : Place) (error : Bool) → headed ≡ true → AreInOnePart progress part headed → IsReadSoFar limits progress place error
+headed_read limits (reading t) score_part.Heads headed place error is parts = absurd (false≢true (sym parts ∙ is))
+headed_read limits (reading t) score_part.Body headed place error is parts = absurd parts
+headed_read limits (reading t) score_part.Over headed place error is parts = absurd parts
+headed_read limits (behind book) part headed place error is parts = tt
+headed_read limits over part headed place error is parts = tt
+
+pub body_reads_on : (h : HeaderStageState) (old new : ScoreWriterState) (item : Result Char Fault) → old.writer.written.headed ≡ true
+    → (is_none new.writer.written.ended ≡ true → is_none old.writer.written.ended ≡ true) → ReadsOn h old (item ∷ []) h new
+body_reads_on h old new item headed earlier d e moves ran reads running =
+    headed_read h.limits h.progress old.score.part old.writer.written.headed e.place new.writer.written.errors headed (ran (earlier running)).parts
+
+pub nothing_reads_on : (h : HeaderStageState) (s : ScoreWriterState) → ReadsOn h s [] h s
+nothing_reads_on h s d e moves ran reads running =
+    subst (λ (p : Place). IsReadSoFar h.limits h.progress p s.writer.written.errors) (sym moves.place) (reads running)
+
+-- Characters of the body, or none, are taken at once.
+pub front_reads_on : (d e : DecoderState) (h : HeaderStageState) (s : ScoreWriterState) (n : ℕ) → e.place.line ≡ d.place.line → e.place.column ≡ d.place.column + n → (0 < n → s.writer.written.headed ≡ true)
+    → (is_none s.writer.written.ended ≡ true → RunsInStep d h s.score s.writer.written) → ReadsHeaders d h s.writer.written → ReadsHeaders e h s.writer.written
+front_reads_on d e h s zero line column headed ran reads running =
+    subst (λ (p : Place). IsReadSoFar h.limits h.progress p s.writer.written.errors) (same_place d.place e.place line (omega (arith, column))) (reads running)
+front_reads_on d e h s (suc n) line column headed ran reads running =
+    headed_read h.limits h.progress s.score.part s.writer.written.headed e.place s.writer.written.errors (headed (omega arith)) (ran running).parts
+
+-- ---- before the first byte, and behind the last
+
+pub fresh_reads : (job : Job) (limits : Limits) (d : DecoderState) (h : HeaderStageState) (w : Written) → ((limits : Limits) → IsHeld limits []) → d ≡ fresh_decoder limits.input → h ≡ fresh_stage limits → w ≡ fresh_writer job
+    → ReadsHeaders d h w
+fresh_reads job limits d h w law is_d is_h is_w running =
+    subst (λ (s : HeaderStageState). IsReadSoFar s.limits s.progress d.place w.errors) (sym is_h) (record {
+      text = All-nil IsTextCharacter;
+      gives = record {
+        held = law limits;
+        next = ap (λ (x : DecoderState). x.place) is_d;
+        errors = ap (λ (v : Written). v.errors) is_w;
+      };
+    })
+
+pub over_reads : (d : DecoderState) (h : HeaderStageState) (w : Written) (status : Status) → w.ended ≡ Some status → ReadsHeaders d h w
+over_reads d h w status over_is running = absurd (false≢true (sym (ap (λ (o : Option Status). is_none o) over_is) ∙ running))

@@ -1,0 +1,33 @@
+-- What an engine that runs has read of its headers.
+use Rattle.std.specs.Prelude.{◌≡◌, ℕ, List, Bool, true, is_none, Result}
+use Rattle.std.specs.List.{All}
+use Rattle.gabc_places.specs.DecoderMachine.{DecoderState}
+use Rattle.gabc_places.specs.DecoderTells.{MovesOn}
+use Rattle.gabc_places.specs.TextOfAnInput.{IsTextCharacter}
+use Rattle.gabc_places.specs.declared.code.Fault.{Fault}
+use Rattle.gabc_places.specs.declared.limits.Limits.{Limits}
+use Rattle.gabc_places.specs.declared.place.Char.{Char}
+use Rattle.gabc_places.specs.declared.place.Place.{Place}
+use Rattle.gabc_headers.specs.witness.HeadEvents.{HeaderStageState, HeadProgress, reading, behind, over}
+use Rattle.gregorio.specs.Saved.{GivesHeaders}
+use Rattle.gregorio.specs.machine.InStep.{RunsInStep}
+use Rattle.gregorio.specs.machine.ScoreWriter.{ScoreWriterState}
+use Rattle.gregorio.specs.witness.Engine.{Written}
+
+-- a text of an input that gives this place and tells whether an error is found in it
+pub record IsReadAs (limits : Limits) (t : List ℕ) (place : Place) (error : Bool) : Type 0 where
+  pub text : All IsTextCharacter t
+  pub gives : GivesHeaders limits t place error
+
+abbrev pub IsReadSoFar : Limits → HeadProgress → Place → Bool → Type 0
+IsReadSoFar limits (reading t) place error = IsReadAs limits t place error
+IsReadSoFar limits (behind book) place error = Unit {0}
+IsReadSoFar limits over place error = Unit {0}
+
+abbrev pub ReadsHeaders : DecoderState → HeaderStageState → Written → Type 0
+ReadsHeaders d h w = is_none w.ended ≡ true → IsReadSoFar h.limits h.progress d.place w.errors
+
+-- At these items it reads on, if the decoder moves on with them.
+abbrev pub ReadsOn : HeaderStageState → ScoreWriterState → List (Result Char Fault) → HeaderStageState → ScoreWriterState → Type 0
+ReadsOn h old items now new =
+    (d e : DecoderState) → MovesOn d items e → (is_none old.writer.written.ended ≡ true → RunsInStep d h old.score old.writer.written) → ReadsHeaders d h old.writer.written → ReadsHeaders e now new.writer.written

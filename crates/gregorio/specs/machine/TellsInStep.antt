@@ -1,0 +1,56 @@
+-- What an engine that runs tells of its score: that of a text, at the place of its decoder.
+use Rattle.std.specs.Prelude.{◌≡◌, ◌≤◌, List, Bool, true, false, is_none, Result, Ok, Err}
+use Rattle.gabc_places.specs.DecoderMachine.{DecoderState}
+use Rattle.gabc_places.specs.DecoderTells.{MovesOn, is_after_cr}
+use Rattle.gabc_places.specs.Place.{saturating_next_place}
+use Rattle.gabc_places.specs.declared.code.Fault.{Fault}
+use Rattle.gabc_places.specs.declared.place.Char.{Char}
+use Rattle.gabc_headers.specs.declared.head_event.HeadEvent.{HeadEvent}
+use Rattle.gabc_headers.specs.witness.HeadEvents.{HeaderStageState}
+use Rattle.gabc_score.specs.declared.score_machine.ScorePart.TheVariants as score_part
+use Rattle.gabc_score.specs.ScoreTells.{is_in_comment, moved_to}
+use Rattle.gabc_score.specs.ToldWithin.{HoldsIfAny, TellsOfText}
+use Rattle.gabc_score.specs.witness.ScoreStage.{ScoreStageState, left_of}
+use Rattle.gregorio.specs.witness.Engine.{Written}
+use Rattle.gregorio.specs.machine.InStep.{RunsInStep}
+use Rattle.gregorio.specs.machine.ScoreWriter.{ScoreWriterState}
+
+-- ---- where the body begins
+
+-- a run that goes on, and whose headers are not written, is in them
+abbrev pub IsInHeads : ScoreWriterState → Type 0
+IsInHeads w = is_none w.writer.written.ended ≡ true → w.writer.written.headed ≡ false → w.score.part ≡ score_part.Heads
+
+-- the score, where the body begins behind this character if the headers are written
+abbrev pub begun : Result Char Fault → Bool → ScoreStageState → ScoreStageState
+begun (Ok x) true s = moved_to (saturating_next_place x.place x.c) s
+begun (Ok x) false s = s
+begun (Err fault) headed s = s
+
+-- It is told where the body begins, and writes what it would have written.
+pub record BeginsBody (item : Result Char Fault) (old new : ScoreWriterState) : Type 0 where
+  pub is : new ≡ record old { score = begun item old.writer.written.headed old.score }
+  pub left : (from_heads : List HeadEvent) → left_of new.score from_heads ≡ left_of old.score from_heads
+
+-- ---- between two calls
+
+-- In the body the next character stands where the decoder does, and no comment is open directly behind a CR.
+pub record TellsInBody (d : DecoderState) (s : ScoreStageState) : Type 0 where
+  pub next : s.held.next ≡ d.place
+  pub told : TellsOfText s
+  pub holds : HoldsIfAny s
+  pub comment : is_after_cr d ≡ true → is_in_comment s.body.part ≡ false
+
+-- as long as no more bytes were taken than there may be
+pub record TellsInStep (d : DecoderState) (s : ScoreStageState) (w : Written) : Type 0 where
+  pub line : 1 ≤ d.place.line
+  pub body : w.headed ≡ true → d.taken ≤ d.limit → TellsInBody d s
+
+-- while the engine runs
+abbrev pub IsTelling : DecoderState → ScoreWriterState → Type 0
+IsTelling d w = is_none w.writer.written.ended ≡ true → TellsInStep d w.score w.writer.written
+
+-- At these items it goes on so, if the decoder moves on with them.
+abbrev pub StayTelling : HeaderStageState → ScoreWriterState → List (Result Char Fault) → ScoreWriterState → Type 0
+StayTelling h old items new =
+    (d e : DecoderState) → MovesOn d items e → (is_none old.writer.written.ended ≡ true → RunsInStep d h old.score old.writer.written) → IsTelling d old → IsTelling e new
