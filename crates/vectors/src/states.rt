@@ -79,7 +79,7 @@ fn saves(engine: &Engine, state: &[u8], buffer: &mut [u8]) -> bool
         Ok(saved) => {
             unchanged
                 && saved == len
-                && buffer[..len] == *state
+                && buffer.starts_with(state)
                 && buffer[len..].iter().all(|byte| *byte == 0)
         }
         Err(_) => false,

@@ -6,7 +6,8 @@ use Rattle.gabc_score.specs.declared.score_machine.ScorePart.{ScorePart}
 use Rattle.gabc_score.specs.declared.score_machine.ScorePart.TheVariants as score_part
 use Rattle.gabc_score.specs.ScoreTells.{held_of}
 use Rattle.gabc_score.specs.Syllable.{UnplacedSyllable}
-use Rattle.gregorio.specs.Saved.{AreSyllablesWithin, IsForceIn, IsStateOfInput, held_count, phase_fields, state_of}
+use Rattle.gregorio.specs.Saved.{held_count, phase_fields, state_of}
+use Rattle.gregorio.specs.machine.PartsOfStates.{AreSyllablesWithin, IsForceIn, IsStateOfInput}
 use Rattle.gregorio.specs.witness.Engine.{EngineState}
 use Rattle.gregorio.specs.machine.InStep.{AreInOnePart, HasForce, RunsInStep}
 

@@ -24,7 +24,8 @@ use Rattle.gabc_places.specs.declared.limits.Limits.{Limits}
 use Rattle.gabc_places.specs.TextOfAnInput.{IsPlain, IsText}
 use Rattle.gregorio_state.specs.Conditions.{AreCounts, AreOpeners, BeginsWithLf, IsHeldWithin, MayBeInComment}
 use Rattle.gregorio_state.specs.Fields.{ScoreFields}
-use Rattle.gregorio.specs.Saved.{IsPhaseTold, IsScoreTold, held_count, held_text, phase_fields, score_fields, state_of}
+use Rattle.gregorio.specs.Saved.{held_count, held_text, phase_fields, score_fields, state_of}
+use Rattle.gregorio.specs.machine.PartsOfStates.{IsPhaseTold, IsScoreTold}
 use Rattle.gregorio.specs.witness.Engine.{EngineState, Written}
 use Rattle.gregorio.specs.machine.InStep.{AreInOnePart, RunsInStep}
 use Rattle.gregorio.specs.machine.TellsInStep.{TellsInBody, TellsInStep}
