@@ -17,7 +17,8 @@ use Rattle.gabc_score.specs.Before.{no_syllable, with_placed}
 use Rattle.gabc_score.specs.declared.score_machine.ScorePart.{ScorePart}
 use Rattle.gabc_score.specs.declared.score_machine.ScorePart.TheVariants as score_part
 use Rattle.gabc_score.specs.ScoreTells.{StandsAt, StandsInFront, is_in_comment}
-use Rattle.gabc_score.specs.ToldWithin.{AreCountsWithin, FirstBegins, HoldsIfAny, IsTextCharacter, TellsOfText, whole_syllables}
+use Rattle.gabc_places.specs.TextOfAnInput.{IsTextCharacter}
+use Rattle.gabc_score.specs.ToldWithin.{AreCountsWithin, FirstBegins, HoldsIfAny, TellsOfText, whole_syllables}
 use Rattle.gabc_score.specs.declared.syllable.Position.{Position}
 use Rattle.gabc_score.specs.ScoreEvents.{first_place, ScoreOutput, Found, Stop, Syllable, End, is_last, syllables_in}
 use Rattle.gabc_score.specs.Canonical.{canonical_in_place}

@@ -1,9 +1,9 @@
 -- What a stage over a score tells in the body is within bounds.
-use Rattle.std.specs.Prelude.{◌≡◌, ◌≢◌, ◌⊎◌, ℕ, ◌+◌, ◌^◌, ◌<◌, ◌≤◌, ◌==◌, ◌||◌, List, [], length, true, Option, Some, None, IfSome}
-use Rattle.std.specs.Char.{IsScalar}
+use Rattle.std.specs.Prelude.{◌≡◌, ◌⊎◌, ℕ, ◌+◌, ◌^◌, ◌<◌, ◌≤◌, ◌==◌, ◌||◌, List, [], length, true, Option, None, IfSome}
 use Rattle.std.specs.List.{All}
-use Rattle.std.specs.Str.{IsUtf8, chars}
 use Rattle.gabc_places.specs.declared.limits.Limits.{Limits}
+use Rattle.gabc_places.specs.PlacesInOrder.{LiesBefore, AreInOrder}
+use Rattle.gabc_places.specs.TextOfAnInput.{IsText}
 use Rattle.gabc_places.specs.declared.place.Place.{Place}
 use Rattle.gabc_score.specs.declared.before.Preceding.{Preceding}
 use Rattle.gabc_score.specs.declared.body_stage.BodyPart.{BodyPart}
@@ -53,45 +53,17 @@ pub record AreCountsWithin (limits : Limits) (lines macros canonical : ℕ) : Ty
   pub headers : 2 ≤ canonical
   pub below : canonical < limits.input
 
-abbrev pub IsEarlier : Place → Place → Type 0
-IsEarlier p q = (p.line < q.line) ⊎ ((p.line ≡ q.line) × (p.column < q.column))
-
 -- a place of a text, whose column 64 bits hold
 pub record IsPlace (p : Place) : Type 0 where
   pub line : 1 ≤ p.line
   pub column : 1 ≤ p.column
   pub in_64_bits : p.column < 2 ^ 64
 
--- a place of the text before the next character
-pub record LiesBefore (next p : Place) : Type 0 where
-  pub line : 1 ≤ p.line
-  pub column : 1 ≤ p.column
-  pub in_64_bits : p.column < 2 ^ 64
-  pub earlier : IsEarlier p next
-
--- of two openers the second stands behind the first
-abbrev pub AreInOrder : Option Place → Option Place → Type 0
-AreInOrder (Some p) (Some q) = IsEarlier p q
-AreInOrder _ _ = Unit {0}
-
 -- what is open stands in its order before the next character
 pub record AreOpenersBefore (next : Place) (o : Openers) : Type 0 where
   pub notes : IfSome o.notes (LiesBefore next)
   pub inner : IfSome o.inner (LiesBefore next)
   pub in_order : AreInOrder o.notes o.inner
-
--- a character that a text of an input may have: no CR and no U+FEFF
-abbrev pub IsPlain : ℕ → Type 0
-IsPlain c = (c ≢ 13) × (c ≢ 0xFEFF)
-
-pub record IsTextCharacter (c : ℕ) : Type 0 where
-  pub scalar : IsScalar c
-  pub plain : IsPlain c
-
--- the bytes are those of a text of an input
-pub record IsText (bytes : List ℕ) : Type 0 where
-  pub utf8 : IsUtf8 bytes
-  pub plain : All IsPlain (chars bytes)
 
 -- What it tells is that of a text.
 pub record IsToldOfText (s : ScoreStageState) : Type 0 where

@@ -3,7 +3,8 @@
 ghost use Rattle.std.specs.Prelude.{◌≡◌, [], true, false, None, is_some};
 ghost use Rattle.gabc_score.specs.ReadAgain.{StandsBefore, TellsOfReading, TellsTheSameBut};
 ghost use Rattle.gabc_score.specs.ScoreTells.{before_of, is_in_comment, is_in_front, openers_of, reading_of};
-ghost use Rattle.gabc_score.specs.ToldWithin.{AreOpenersBefore, IsPlace, IsText, TellsOfText};
+ghost use Rattle.gabc_places.specs.TextOfAnInput.{IsText};
+ghost use Rattle.gabc_score.specs.ToldWithin.{AreOpenersBefore, IsPlace, TellsOfText};
 ghost use Rattle.gabc_score.specs.witness.ReadAgain.{CanBeReadAgain};
 ghost use Rattle.gabc_score.specs.witness.ScoreStage.{ScoreStageState};
 ghost use Rattle.gabc_score.specs.machine.ReadAgain.{outer_of, inner_of, place_in, IsRunAlike, IsSameBut, IsToldBy, PassesAgain, StandsSo, TakesAgain};

@@ -29,7 +29,8 @@ ghost use Rattle.gabc_score.specs.ScoreStage.{AreCountsBelow, GivesAt, IsWithinA
 ghost use Rattle.gabc_score.specs.SpansPast.{FollowsSpans};
 ghost use Rattle.gabc_score.specs.UnitRead.{HoldsSomeUnit};
 ghost use Rattle.gabc_score.specs.witness.ReadAgain.{CanBeReadAgain};
-ghost use Rattle.gabc_score.specs.ToldWithin.{AreCountsWithin, BeginsWord, FirstBegins, IsPlace, IsText, IsToldWithin, TellsOfText, written_behind};
+ghost use Rattle.gabc_places.specs.TextOfAnInput.{IsText};
+ghost use Rattle.gabc_score.specs.ToldWithin.{AreCountsWithin, BeginsWord, FirstBegins, IsPlace, IsToldWithin, TellsOfText, written_behind};
 ghost use Rattle.gabc_score.specs.witness.ScoreStage.{ScoreStageState, left_of};
 
 use crate::score_event::ScoreEvent;

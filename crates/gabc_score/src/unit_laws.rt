@@ -18,7 +18,7 @@ ghost use Rattle.gabc_score.specs.Holding.{HoldsWithNotes, HasWholeSnippets};
 ghost use Rattle.gabc_score.specs.SpansPast.{eu_past, nlba_past};
 ghost use Rattle.gabc_score.specs.Syllable.{UnplacedSyllable, PlacedSyllable, since_close};
 ghost use Rattle.gabc_score.specs.SyllablesOfUnits.{ScoreUnit, AreSyllablesOf, characters_in, characters_from, score_unit, snippets_in};
-ghost use Rattle.gabc_score.specs.ToldWithin.{IsText};
+ghost use Rattle.gabc_places.specs.TextOfAnInput.{IsText};
 ghost use Rattle.gabc_score.specs.UnitRead.{HoldsSomeUnit, GivesOneSyllable, first_events};
 ghost use Rattle.gabc_score.specs.Units.{BodyUnit, LastUnit, Cuts, units_pieces, last_characters};
 

@@ -1,13 +1,11 @@
 -- The state that an engine saves, field by field.
-use Rattle.std.specs.Prelude.{◌≡◌, ℕ, ◌+◌, ◌≤◌, ◌==◌, ◌||◌, List, [], length, Bool, Option, Some, None, encode_utf8_all}
+use Rattle.std.specs.Prelude.{◌≡◌, ℕ, ◌+◌, ◌==◌, ◌||◌, List, [], length, Bool, Option, Some, None, encode_utf8_all}
 use Rattle.std.specs.List.{list_any}
 use Rattle.gabc_headers.specs.HeldText.{IsHeld, findings_held}
 use Rattle.gabc_headers.specs.witness.HeadEvents.{HeadProgress, reading, behind, over}
-use Rattle.gabc_neumes.specs.InForce.{InForce, nothing_in_force}
-use Rattle.gabc_places.specs.DecoderTells.{MayBeTold, is_after_cr}
-use Rattle.gabc_places.specs.Limits.{AreLimits}
+use Rattle.gabc_neumes.specs.InForce.{InForce}
+use Rattle.gabc_places.specs.DecoderTells.{is_after_cr}
 use Rattle.gabc_places.specs.Place.{place_after}
-use Rattle.gabc_places.specs.TextOfAnInput.{IsText}
 use Rattle.gabc_places.specs.declared.limits.Limits.{Limits}
 use Rattle.gabc_places.specs.declared.place.Place.{Place}
 use Rattle.gabc_score.specs.Canonical.{canonical}
@@ -15,10 +13,7 @@ use Rattle.gabc_score.specs.ScoreTells.{held_of, is_in_comment, openers_of, read
 use Rattle.gabc_score.specs.Syllable.{UnplacedSyllable}
 use Rattle.gabc_score.specs.declared.before.Preceding.{Preceding}
 use Rattle.gabc_score.specs.witness.ScoreStage.{ScoreStageState}
-use Rattle.gregorio_state.specs.Conditions.{AreCounts, AreOpeners, IsHeldWithin, MayBeInComment}
 use Rattle.gregorio_state.specs.Fields.{PhaseFields, ScoreFields, StateFields, InHeaders, InScore}
-use Rattle.gregorio_jobs.specs.declared.job.Format.{Format}
-use Rattle.gregorio_jobs.specs.declared.job.Format.TheVariants.{Gabc}
 use Rattle.gregorio.specs.Outcome.{is_error_finding}
 use Rattle.gregorio.specs.witness.Engine.{EngineState}
 
@@ -74,43 +69,8 @@ state_of e = record {
   phase = phase_fields e.heads.progress e.written.force e.score;
 }
 
--- no more syllables are whole than bytes were taken
-abbrev pub AreSyllablesWithin : ℕ → PhaseFields → Type 0
-AreSyllablesWithin taken (InHeaders text) = Unit {0}
-AreSyllablesWithin taken (InScore f) = f.syllables ≤ taken
-
--- What is in force is tracked for a dump alone, and before the first syllable nothing is.
-pub record IsForceBefore (format : Format) (f : ScoreFields) : Type 0 where
-  pub untracked : format ≡ Gabc → f.in_force ≡ nothing_in_force
-  pub outset : f.syllables ≡ 0 → f.in_force ≡ nothing_in_force
-
-abbrev pub IsForceIn : Format → PhaseFields → Type 0
-IsForceIn format (InHeaders text) = Unit {0}
-IsForceIn format (InScore f) = IsForceBefore format f
-
--- The part of a state that hangs on what comes before it: the limits, what its decoder tells, how many syllables there are, and what is in force.
-pub record IsStateOfInput (s : StateFields) : Type 0 where
-  pub limits : AreLimits s.header_limit s.syllable_limit s.input_limit
-  pub decoder : MayBeTold s.input_limit s.taken s.place s.pending s.after_cr
-  pub syllables : AreSyllablesWithin s.taken s.phase
-  pub force : IsForceIn s.format s.phase
-
 -- A stage holds this text of headers, behind which the next character stands, and these are the errors that are found in it: some or none.
 pub record GivesHeaders (limits : Limits) (t : List ℕ) (place : Place) (error : Bool) : Type 0 where
   pub held : IsHeld limits t
   pub next : place ≡ place_after t
   pub errors : error ≡ list_any is_error_finding (findings_held limits t)
-
--- The part of a state that its score tells: all but what is in force, and which spans are open, before the syllable that is held.
-pub record IsScoreTold (s : StateFields) (f : ScoreFields) : Type 0 where
-  pub counts : AreCounts s f
-  pub held : IsHeldWithin s.syllable_limit f
-  pub openers : AreOpeners s.place f
-  pub comment : MayBeInComment s.after_cr f
-  pub kept : IsText f.kept
-  pub kept_short : length f.kept ≤ s.syllable_limit
-
--- in the headers it tells nothing
-abbrev pub IsPhaseTold : StateFields → PhaseFields → Type 0
-IsPhaseTold s (InHeaders text) = Unit {0}
-IsPhaseTold s (InScore f) = IsScoreTold s f

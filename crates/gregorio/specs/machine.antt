@@ -7,6 +7,7 @@ pub mod InStep
 pub mod PartsOfStates
 pub mod ReadsHeaders
 pub mod RunWriter
+pub mod Saving
 pub mod ScoreWriter
 pub mod SavedAlike
 pub mod Telling

@@ -3,6 +3,8 @@
 ghost use Rattle.std.specs.Prelude.{◌≡◌, ◌<◌, ◌≤◌, ◌-◌, List, [], ◌∷◌, ◌++◌, length, take, true, false, ℕ, IfOk, None, option_to_list};
 ghost use Rattle.gabc_headers.specs.declared.head_event.HeadEvent.{HeadEvent as HeadItem};
 ghost use Rattle.gabc_headers.specs.declared.head_event.HeadEvent.TheVariants.{End};
+ghost use Rattle.gabc_headers.specs.witness.HeadEvents.{IsInHeaders};
+ghost use Rattle.gabc_score.specs.declared.score_machine.ScorePart.TheVariants.{Body as InBody};
 ghost use Rattle.gregorio.specs.declared.source_ending.SourceEnding.{SourceEnding as EndOfSource};
 ghost use Rattle.gregorio.specs.declared.source_ending.SourceEnding.TheVariants.{Whole, Broken};
 ghost use Rattle.gregorio_state.specs.Conditions.{AreStateFields};
@@ -11,8 +13,8 @@ ghost use Rattle.gregorio.specs.Outcome.{outcome_of};
 ghost use Rattle.gregorio.specs.Engine.{IsPrompt, NothingWaits, is_running, with_waiting};
 ghost use Rattle.gabc_headers.specs.witness.HeadEvents.{reading};
 ghost use Rattle.gabc_score.specs.ScoreTells.{held_of};
-ghost use Rattle.gregorio.specs.Saved.{GivesHeaders, IsPhaseTold, IsStateOfInput, state_of};
-ghost use Rattle.gregorio.specs.machine.PartsOfStates.{AreBeforeHeldIn, AreHeaderFieldsIn};
+ghost use Rattle.gregorio.specs.Saved.{GivesHeaders, state_of};
+ghost use Rattle.gregorio.specs.machine.PartsOfStates.{AreBeforeHeldIn, AreHeaderFieldsIn, IsPhaseTold, IsStateOfInput};
 ghost use Rattle.gregorio.specs.witness.Engine.{streams_left};
 ghost use Rattle.gregorio.specs.Streams.{streams_of_outcome, ended_with};
 ghost use Rattle.gregorio.specs.machine.Engine.{GoTogether, IsEmpty, WritesAll, WritesItems, event_of_item, headed_past};
@@ -21,9 +23,11 @@ ghost use Rattle.gregorio.specs.machine.ReadsHeaders.{ReadsOn};
 ghost use Rattle.gregorio.specs.machine.TellsInStep.{IsInHeads, StayTelling};
 ghost use Rattle.gregorio.specs.machine.ScoreWriter.{FitsEvents, IsReserved, IsShortBook, IsSteady};
 
+use crate::run_writer::RunWriter;
 use crate::score_writer::ScoreWriter;
 use gabc_headers::{HeadEvent, HeaderBook, HeaderStage};
 use gabc_places::{Char, Decoder, Fault, Limits, Room, Stage};
+use gabc_score::ScoreStage;
 use gregorio_jobs::{Job, Status};
 use std::alloc::{AllocError, Global};
 use std::hash::DefaultHasher;
@@ -299,6 +303,44 @@ impl Engine {
         self.tells_of_its_headers();
         self.tells_of_its_score();
         self.tells_what_stands_before();
+    }
+
+    /// Does nothing. Its contract is a law: behind its headers an engine that runs stands in the body.
+    pub(crate) fn stands_in_the_body(&self)
+        requires runs { is_running self.now ≡ true }
+        requires behind { IsInHeaders self.now.heads.progress → ⊥ }
+        ensures { self.now.score.part ≡ InBody }
+    {
+        // that the parts are in step is known where a field is used
+        let _ = &self.decoder;
+    }
+
+    /// Returns the decoder.
+    pub(crate) fn decoder(&self) -> &Decoder
+        ensures { result.now ≡ self.now.decoder }
+    {
+        &self.decoder
+    }
+
+    /// Returns the stage of headers.
+    pub(crate) fn heads(&self) -> &HeaderStage
+        ensures { result.now ≡ self.now.heads }
+    {
+        &self.heads
+    }
+
+    /// Returns the stage over the score.
+    pub(crate) fn score(&self) -> &ScoreStage
+        ensures { result.now ≡ self.now.score }
+    {
+        self.writer.score()
+    }
+
+    /// Returns the writer of the run.
+    pub(crate) fn run_writer(&self) -> &RunWriter
+        ensures { result.now.written ≡ self.now.written }
+    {
+        self.writer.run_writer()
     }
 
     /// Takes a byte.

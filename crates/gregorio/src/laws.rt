@@ -15,10 +15,6 @@ ghost use Rattle.gregorio.specs.PrefixOfAStop.{IsPrefixBeforeStop};
 ghost use Rattle.gregorio.specs.Outcome.{is_read_whole, outcome_of, output_of};
 ghost use Rattle.gregorio_jobs.specs.declared.job.Format.{Format};
 ghost use Rattle.gregorio.specs.Run.{Use, Done};
-ghost use Rattle.gregorio.specs.Engine.{is_running};
-ghost use Rattle.gregorio.specs.Saved.{IsStateOfInput, state_of};
-
-use crate::engine::Engine;
 
 /// A canonical output whose headers are whole, also that of a run that was stopped or broken off, is compiled again under the same
 /// limits, or larger ones, without a fault and without an error: it has the same book, its syllables say the same, its canonical
@@ -72,13 +68,4 @@ pub fn a_stopped_run_writes_what_its_prefix_writes()
     gabc_score::laws::whole_prefixes_are_first_characters();
     gabc_score::laws::the_syllables_are_those_of_the_units();
     gabc_score::laws::a_stopped_score_is_that_of_its_prefix();
-}
-
-/// What an engine that runs saves of its input may stand in a state: its limits are limits, a decoder can be made from what its decoder tells, no more
-/// syllables are whole than bytes were taken, and what is in force is tracked for a dump alone, behind a first syllable.
-pub fn what_is_saved_of_an_input_may_stand(engine: &Engine)
-    requires runs { is_running engine.now ≡ true }
-    ensures { IsStateOfInput (state_of engine.now) }
-{
-    engine.tells_its_input();
 }

@@ -25,12 +25,14 @@ mod output;
 mod run;
 mod run_writer;
 mod saved_alike;
+mod saving;
 mod score_writer;
 mod source_ending;
 
 pub use engine::Engine;
 pub use findings::is_shown;
 pub use gregorio_jobs::{Format, Input, Job, Name, Output, Plan, Refusal, Status, Words, plan};
+pub use gregorio_state::TooShort;
 pub use outcome::Outcome;
 pub use run::{compile, compile_with_hasher};
 pub use source_ending::SourceEnding;

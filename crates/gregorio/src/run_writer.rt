@@ -152,6 +152,34 @@ impl RunWriter {
         let _ = self.alterations.alters();
     }
 
+    /// Returns the format of the output.
+    pub(crate) fn format(&self) -> Format
+        ensures { result ≡ self.now.written.format }
+    {
+        self.format
+    }
+
+    /// Returns whether warnings are told.
+    pub(crate) fn all_warnings(&self) -> bool
+        ensures { result ≡ self.now.written.all_warnings }
+    {
+        self.all_warnings
+    }
+
+    /// Returns what is in force behind the syllables that were written, in a dump.
+    pub(crate) fn alterations(&self) -> &Alterations
+        ensures { result.now ≡ self.now.written.force }
+    {
+        &self.alterations
+    }
+
+    /// Returns whether an error was found.
+    pub(crate) fn has_error(&self) -> bool
+        ensures { result ≡ self.now.written.errors }
+    {
+        self.errors
+    }
+
     /// Returns whether the headers were written.
     pub(crate) fn headed(&self) -> bool
         ensures { result ≡ self.now.written.headed }

@@ -16,7 +16,8 @@ ghost use Rattle.gregorio.specs.machine.ClefInForce.{HasClefOfSounds};
 ghost use Rattle.gregorio.specs.machine.InStep.{HasForce, PassesOn, written_at};
 ghost use Rattle.gregorio.specs.machine.TellsInStep.{BeginsBody};
 ghost use Rattle.gabc_score.specs.ScoreTells.{StandsInFront, before_of, held_of};
-ghost use Rattle.gabc_score.specs.ToldWithin.{IsText, IsToldWithin, TellsOfText, written_behind};
+ghost use Rattle.gabc_places.specs.TextOfAnInput.{IsText};
+ghost use Rattle.gabc_score.specs.ToldWithin.{IsToldWithin, TellsOfText, written_behind};
 ghost use Rattle.gregorio.specs.machine.RunWriter.{HasRoomFor, IsInRoom, IsSteadyWriter, past_output, past_outputs};
 ghost use Rattle.gregorio.specs.machine.ScoreWriter.{output_of_event, outputs_of_events, IsOver, IsShortBook, IsSilent, emptied, fresh_writer, IsReserved, IsSteady, FitsEvents, WritesAt, WritesLast, WritesNothing};
 
@@ -230,6 +231,20 @@ impl ScoreWriter {
     {
         gabc_score::stage_laws::what_is_told_is_within_the_limits(&self.score);
         gabc_score::stage_laws::what_is_held_is_a_text(&self.score);
+    }
+
+    /// Returns the stage over the score.
+    pub(crate) fn score(&self) -> &ScoreStage
+        ensures { result.now ≡ self.now.score }
+    {
+        &self.score
+    }
+
+    /// Returns the writer of the run.
+    pub(crate) fn run_writer(&self) -> &RunWriter
+        ensures { result.now ≡ self.now.writer }
+    {
+        &self.writer
     }
 
     /// Returns whether the headers were written.

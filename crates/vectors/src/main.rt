@@ -15,6 +15,7 @@ mod row;
 mod run;
 mod scores;
 mod show;
+mod states;
 mod texts;
 mod writes;
 
@@ -25,6 +26,7 @@ use gregorio::Format;
 use pieces::{Wanted, agrees_in_pieces};
 use row::{Row, row_of};
 use run::{Request, run};
+use states::is_saved;
 use std::alloc::Global;
 use std::{fs, io};
 
@@ -282,6 +284,25 @@ fn check_calls(rt: &HostRuntime, path: &str) -> io::Result<()> {
     println!(rt; "{path}: {agreed} of {rows} rows agree")
 }
 
+/// Saves the runs of a file. The first line of the file is its head.
+fn check_states(rt: &HostRuntime, path: &str) -> io::Result<()> {
+    let text = fs::read_to_string(rt, path)?;
+    let mut rows = 0u32;
+    let mut agreed = 0u32;
+    for (number, line) in text.as_str().lines().enumerate() {
+        if number == 0 {
+            continue;
+        }
+        rows = rows.saturating_add(1);
+        if is_saved(rt.alloc(), line)? {
+            agreed = agreed.saturating_add(1);
+        } else {
+            println!(rt; "{path}: the state on line {number} differs")?;
+        }
+    }
+    println!(rt; "{path}: {agreed} of {rows} states agree")
+}
+
 fn main(rt: HostRuntime) -> io::Result<()> {
     check_rows(&rt, "rows.tsv")?;
     check_rows(&rt, "canonical.tsv")?;
@@ -291,6 +312,7 @@ fn main(rt: HostRuntime) -> io::Result<()> {
     check_rows(&rt, "nabc_lines.tsv")?;
     check_rows(&rt, "sources.tsv")?;
     check_sinks(&rt, "sinks.tsv")?;
+    check_states(&rt, "states.tsv")?;
     check_scores(&rt)?;
     for path in CALLS {
         check_calls(&rt, path)?;

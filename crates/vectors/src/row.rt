@@ -28,7 +28,7 @@ enum Escape {
 }
 
 /// The value of a hexadecimal digit.
-fn digit(byte: u8) -> u8 {
+pub(crate) fn digit(byte: u8) -> u8 {
     match byte {
         b'0'..=b'9' => byte - b'0',
         b'A'..=b'F' => byte - b'A' + 10,
@@ -111,7 +111,7 @@ fn row_with(
 }
 
 /// The format that these options name.
-fn format_of(options: &str) -> Format {
+pub(crate) fn format_of(options: &str) -> Format {
     if options.contains("-F dump") {
         Format::Dump
     } else {

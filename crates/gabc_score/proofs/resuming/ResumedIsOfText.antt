@@ -11,7 +11,8 @@ use Rattle.gabc_score.specs.declared.score_machine.ScorePart.TheVariants as scor
 use Rattle.gabc_score.specs.Resumed.{StandsBehind}
 use Rattle.gabc_score.specs.ScoreEvents.{first_place}
 use Rattle.gabc_score.specs.ScoreTells.{before_with, in_body, openers_of, reading_in_body, reading_of}
-use Rattle.gabc_score.specs.ToldWithin.{AreCountsWithin, AreOpenersBefore, IsPlace, IsText, TellsOfText}
+use Rattle.gabc_places.specs.TextOfAnInput.{IsText}
+use Rattle.gabc_score.specs.ToldWithin.{AreCountsWithin, AreOpenersBefore, IsPlace, TellsOfText}
 use Rattle.gabc_score.specs.machine.PartOnly.{HasText}
 use Rattle.gabc_score.specs.witness.ScoreStage.{ScoreStageState}
 use Rattle.gabc_score.proofs.resuming.HeldIsHeld.{none_in_body, nothing_in_body}

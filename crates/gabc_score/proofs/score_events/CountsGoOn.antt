@@ -19,7 +19,8 @@ use Rattle.gabc_score.specs.Body.{is_none}
 use Rattle.gabc_score.specs.Syllable.{UnplacedSyllable, PlacedSyllable}
 use Rattle.gabc_score.specs.ScoreEvents.{first_place}
 use Rattle.gabc_score.specs.ScoreStage.{MayCome}
-use Rattle.gabc_score.specs.ToldWithin.{IsPlace, AreCountsWithin, IsText, IsToldOfText}
+use Rattle.gabc_places.specs.TextOfAnInput.{IsText}
+use Rattle.gabc_score.specs.ToldWithin.{IsPlace, AreCountsWithin, IsToldOfText}
 use Rattle.gabc_score.specs.witness.BodyStage.{BodyStageState}
 use Rattle.gabc_score.specs.witness.ScoreStage.{ScoreStageState}
 use Rattle.gabc_score.proofs.score_events.TextsArePlain.{nothing_plain}

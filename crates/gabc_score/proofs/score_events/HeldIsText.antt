@@ -9,7 +9,8 @@ use Rattle.gabc_score.specs.declared.score_machine.ScorePart.TheVariants as scor
 use Rattle.gabc_score.specs.Canonical.{canonical}
 use Rattle.gabc_score.specs.ScoreTells.{held_in_body}
 use Rattle.gabc_score.specs.Syllable.{UnplacedSyllable}
-use Rattle.gabc_score.specs.ToldWithin.{IsText, written_behind}
+use Rattle.gabc_places.specs.TextOfAnInput.{IsText}
+use Rattle.gabc_score.specs.ToldWithin.{written_behind}
 use Rattle.gabc_score.specs.UnitRead.{HoldsSomeUnit}
 
 pub held_is_text : ((lines : ℕ) (m : UnplacedSyllable) → HoldsSomeUnit lines m → IsText m.kept → (starts : Bool) → IsText (canonical starts m)) → (lines : ℕ) (p : Preceding) (part : ScorePart) (made : List UnplacedSyllable)

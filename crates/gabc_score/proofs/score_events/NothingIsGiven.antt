@@ -15,7 +15,9 @@ use Rattle.gabc_score.specs.ScoreStage.{GivesNothing, behind_front, body_inputs,
 use Rattle.gabc_score.specs.declared.score_machine.ScorePart.{ScorePart}
 use Rattle.gabc_score.specs.declared.before.Preceding.{Preceding}
 use Rattle.gabc_score.specs.ScoreTells.{StandsAt, held_in_body, openers_of}
-use Rattle.gabc_score.specs.ToldWithin.{BeginsWord, IsPlace, IsEarlier, AreOpenersBefore, IsTextCharacter, IsToldOfText}
+use Rattle.gabc_places.specs.TextOfAnInput.{IsTextCharacter}
+use Rattle.gabc_places.specs.PlacesInOrder.{IsEarlier}
+use Rattle.gabc_score.specs.ToldWithin.{BeginsWord, IsPlace, AreOpenersBefore, IsToldOfText}
 use Rattle.gabc_score.specs.witness.ScoreStage.{ScoreStageState, left_of}
 use Rattle.gabc_score.specs.machine.PartOnly.{HoldsTexts}
 use Rattle.gabc_score.specs.machine.PartOpens.{OpensOn}

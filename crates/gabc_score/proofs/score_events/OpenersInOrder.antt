@@ -7,7 +7,8 @@ use Rattle.gabc_places.specs.Findings.{IsUpTo}
 use Rattle.gabc_places.specs.Place.{is_line_feed, saturating_next_place}
 use Rattle.gabc_score.specs.declared.body_tells.Openers.{Openers}
 use Rattle.gabc_score.specs.ScoreStage.{behind_front}
-use Rattle.gabc_score.specs.ToldWithin.{IsEarlier, IsPlace, LiesBefore, AreInOrder, AreOpenersBefore}
+use Rattle.gabc_places.specs.PlacesInOrder.{IsEarlier, LiesBefore, AreInOrder}
+use Rattle.gabc_score.specs.ToldWithin.{IsPlace, AreOpenersBefore}
 use Rattle.gabc_score.specs.machine.PartOpens.{OpensOn}
 
 earlier_then : (p q r : Place) → IsEarlier p q → IsEarlier q r → IsEarlier p r

@@ -15,7 +15,7 @@ use Rattle.gabc_notes.specs.declared.stage.NoteEvent.TheVariants as note
 use Rattle.gabc_score.specs.declared.events.BodyEvent.{BodyEvent}
 use Rattle.gabc_score.specs.declared.events.BodyEvent.TheVariants as event
 use Rattle.gabc_score.specs.Syllable.{is_seam, prefix_of}
-use Rattle.gabc_score.specs.ToldWithin.{IsPlain, IsText, IsTextCharacter}
+use Rattle.gabc_places.specs.TextOfAnInput.{IsPlain, IsText, IsTextCharacter}
 use Rattle.gabc_score.specs.machine.BodyBuilder.{with_all}
 use Rattle.gabc_score.specs.machine.Gatherer.{Gathered, with_event, with_snippet}
 use Rattle.gabc_score.specs.machine.PartOnly.{HasText, HoldsTexts, IsKeptOf, kept_codes}

@@ -23,7 +23,7 @@ use Rattle.gabc_score.specs.Canonical.{canonical, translation_text, with_bars}
 use Rattle.gabc_score.specs.Holding.{ReadSnippet}
 use Rattle.gabc_score.specs.Syllable.{UnplacedSyllable, slice}
 use Rattle.gabc_score.specs.SyllablesOfUnits.{HoldsUnit, NotesAre}
-use Rattle.gabc_score.specs.ToldWithin.{IsPlain, IsText, IsTextCharacter}
+use Rattle.gabc_places.specs.TextOfAnInput.{IsPlain, IsText, IsTextCharacter}
 use Rattle.gabc_score.specs.UnitRead.{HoldsSomeUnit}
 use Rattle.gabc_score.proofs.holding.SnippetsAreHeld.{bytes_stand}
 use Rattle.gabc_score.proofs.score_events.TextsArePlain.{nothing_plain, plain_more}

@@ -14,7 +14,8 @@ use Rattle.gabc_score.specs.Holding.{HasWholeSnippets}
 use Rattle.gabc_score.specs.ScoreTells.{before_of, held_of}
 use Rattle.gabc_score.specs.SpansPast.{FollowsSpans}
 use Rattle.gabc_score.specs.Syllable.{UnplacedSyllable}
-use Rattle.gabc_score.specs.ToldWithin.{IsHeldWithin, IsText, written_behind}
+use Rattle.gabc_places.specs.TextOfAnInput.{IsText}
+use Rattle.gabc_score.specs.ToldWithin.{IsHeldWithin, written_behind}
 use Rattle.gabc_score.specs.UnitRead.{HoldsSomeUnit}
 use Rattle.gabc_score.specs.witness.ScoreStage.{ScoreStageState}
 use Rattle.gabc_write.specs.SetDown.{SayTheSame}

@@ -5,8 +5,8 @@ use Rattle.gabc_score.specs.ScoreTells.{held_of}
 use Rattle.gabc_score.specs.Syllable.{UnplacedSyllable}
 use Rattle.gregorio_state.specs.Conditions.{AreBeforeHeld, ArePhaseFields, AreScoreFields, AreStateFields}
 use Rattle.gregorio_state.specs.Fields.{PhaseFields, ScoreFields}
-use Rattle.gregorio.specs.Saved.{IsPhaseTold, IsScoreTold, IsStateOfInput, held_count, held_text, phase_fields, score_fields, state_of}
-use Rattle.gregorio.specs.machine.PartsOfStates.{AreBeforeHeldIn, AreHeaderFieldsIn}
+use Rattle.gregorio.specs.Saved.{held_count, held_text, phase_fields, score_fields, state_of}
+use Rattle.gregorio.specs.machine.PartsOfStates.{AreBeforeHeldIn, AreHeaderFieldsIn, IsPhaseTold, IsScoreTold, IsStateOfInput}
 use Rattle.gregorio.specs.witness.Engine.{EngineState}
 
 module _ (e : EngineState) where

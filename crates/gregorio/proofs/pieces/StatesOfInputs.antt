@@ -1,12 +1,13 @@
 -- What the state of an engine that runs says of its input.
 use Rattle.std.proofs.Common.{◌≡◌, ℕ, ◌≤◌, List, Bool, true, Option, Some, None, refl, subst, arith}
 use Rattle.gabc_places.specs.DecoderTells.{MayBeTold, is_after_cr}
-use Rattle.gabc_headers.specs.witness.HeadEvents.{HeadProgress, reading, behind, over}
+use Rattle.gabc_headers.specs.witness.HeadEvents.{HeadProgress, reading, behind, over, IsInHeaders}
 use Rattle.gabc_score.specs.declared.score_machine.ScorePart.{ScorePart}
 use Rattle.gabc_score.specs.declared.score_machine.ScorePart.TheVariants as score_part
 use Rattle.gabc_score.specs.ScoreTells.{held_of}
 use Rattle.gabc_score.specs.Syllable.{UnplacedSyllable}
-use Rattle.gregorio.specs.Saved.{AreSyllablesWithin, IsForceIn, IsStateOfInput, held_count, phase_fields, state_of}
+use Rattle.gregorio.specs.Saved.{held_count, phase_fields, state_of}
+use Rattle.gregorio.specs.machine.PartsOfStates.{AreSyllablesWithin, IsForceIn, IsStateOfInput}
 use Rattle.gregorio.specs.witness.Engine.{EngineState}
 use Rattle.gregorio.specs.machine.InStep.{AreInOnePart, HasForce, RunsInStep}
 
@@ -18,6 +19,14 @@ pub behind_is_headed : (part : ScorePart) (headed : Bool) (progress : HeadProgre
 behind_is_headed score_part.Heads headed progress book e parts = absurd parts
 behind_is_headed score_part.Body headed progress book e parts = parts
 behind_is_headed score_part.Over headed progress book e parts = absurd parts
+
+-- behind the headers it is in the body
+pub is_in_the_body : (progress : HeadProgress) (part : ScorePart) (headed : Bool) → (IsInHeaders progress → ⊥) → AreInOnePart progress part headed → part ≡ score_part.Body
+is_in_the_body (reading t) part headed past parts = absurd (past tt)
+is_in_the_body (behind book) score_part.Heads headed past parts = absurd parts
+is_in_the_body (behind book) score_part.Body headed past parts = refl
+is_in_the_body (behind book) score_part.Over headed past parts = absurd parts
+is_in_the_body over part headed past parts = absurd parts
 
 module _ (e : EngineState) (force : HasForce e.written) (run : RunsInStep e.decoder e.heads e.score e.written) where
   syllables : (p : HeadProgress) → AreInOnePart p e.score.part e.written.headed → AreSyllablesWithin e.decoder.taken (phase_fields p e.written.force e.score)

@@ -16,24 +16,21 @@ use Rattle.gabc_score.specs.declared.score_machine.ScorePart.TheVariants as scor
 use Rattle.gabc_score.specs.Canonical.{canonical}
 use Rattle.gabc_score.specs.ScoreTells.{before_of, before_with, held_of, in_body as in_body_of, openers_of, reading_in_body}
 use Rattle.gabc_score.specs.Syllable.{UnplacedSyllable}
-use Rattle.gabc_score.specs.ToldWithin as told
 use Rattle.gabc_score.specs.witness.BodyStage.{BodyStageState}
 use Rattle.gabc_score.specs.witness.ScoreStage.{ScoreStageState}
+use Rattle.gabc_score.specs.ToldWithin as told
 use Rattle.gabc_score.specs.ToldWithin.{IsToldWithin, written_behind}
 use Rattle.gabc_places.specs.declared.limits.Limits.{Limits}
-use Rattle.gabc_places.specs.PlacesInOrder.{AreInOrder, LiesBefore}
 use Rattle.gabc_places.specs.TextOfAnInput.{IsPlain, IsText}
 use Rattle.gregorio_state.specs.Conditions.{AreCounts, AreOpeners, BeginsWithLf, IsHeldWithin, MayBeInComment}
 use Rattle.gregorio_state.specs.Fields.{ScoreFields}
-use Rattle.gregorio.specs.Saved.{IsPhaseTold, IsScoreTold, held_count, held_text, phase_fields, score_fields, state_of}
+use Rattle.gregorio.specs.Saved.{held_count, held_text, phase_fields, score_fields, state_of}
+use Rattle.gregorio.specs.machine.PartsOfStates.{IsPhaseTold, IsScoreTold}
 use Rattle.gregorio.specs.witness.Engine.{EngineState, Written}
 use Rattle.gregorio.specs.machine.InStep.{AreInOnePart, RunsInStep}
 use Rattle.gregorio.specs.machine.TellsInStep.{TellsInBody, TellsInStep}
 use Rattle.gregorio.proofs.pieces.PartsStayInStep.{in_body}
 use Rattle.gregorio.proofs.pieces.StatesOfInputs.{behind_is_headed, one_at_most}
-
-text_is : (bytes : List ℕ) → told.IsText bytes → IsText bytes
-text_is bytes t = record { utf8 = t.utf8; plain = t.plain }
 
 no_text : IsText []
 no_text = record { utf8 = IsUtf8-nil; plain = subst (All IsPlain) (sym chars-nil) (All-nil IsPlain) }
@@ -44,9 +41,9 @@ module _ (limits : Limits) (p : Preceding) where
   abbrev Within : Option UnplacedSyllable → Type 0
   Within held = IfSome held (told.IsHeldWithin limits p)
 
-  held_is_text : (held : Option UnplacedSyllable) → IfSome held (λ m. told.IsText (written_behind p m)) → IsText (held_text p held)
+  held_is_text : (held : Option UnplacedSyllable) → IfSome held (λ m. IsText (written_behind p m)) → IsText (held_text p held)
   held_is_text None t = no_text
-  held_is_text (Some m) t = text_is (written_behind p m) t
+  held_is_text (Some m) t = t
 
   held_is_short : (held : Option UnplacedSyllable) → Within held → length (held_text p held) ≤ limits.syllable
   held_is_short None within = omega arith
@@ -73,15 +70,6 @@ module _ (limits : Limits) (p : Preceding) where
 
 -- ---- what is open
 
-lies_before : (next : Place) (opener : Option Place) → IfSome opener (told.LiesBefore next) → IfSome opener (LiesBefore next)
-lies_before next None h = tt
-lies_before next (Some p) h = record { line = h.line; column = h.column; in_64_bits = h.in_64_bits; earlier = h.earlier }
-
-in_order : (one other : Option Place) → told.AreInOrder one other → AreInOrder one other
-in_order None other h = tt
-in_order (Some p) None h = tt
-in_order (Some p) (Some q) h = h
-
 openers_are : (next place : Place) (o : Openers) → next ≡ place → told.AreOpenersBefore next o → told.AreOpenersBefore place o
 openers_are next place o is h = subst (λ (at : Place). told.AreOpenersBefore at o) is h
 
@@ -92,7 +80,7 @@ kept_is part kept body = rw body refl
 
 module _ (e : EngineState) (run : RunsInStep e.decoder e.heads e.score e.written) (decoder : MayBeTold e.decoder.limit e.decoder.taken e.decoder.place e.decoder.pending (is_after_cr e.decoder))
     (tells : TellsInStep e.decoder e.score e.written) where
-  module _ (headed : e.written.headed ≡ true) (within : IsToldWithin e.score) (is_text : IfSome (held_of e.score) (λ m. told.IsText (written_behind e.score.before m))) where
+  module _ (headed : e.written.headed ≡ true) (within : IsToldWithin e.score) (is_text : IfSome (held_of e.score) (λ m. IsText (written_behind e.score.before m))) where
     abbrev f : ScoreFields
     f = score_fields e.written.force e.score
 
@@ -137,7 +125,7 @@ module _ (e : EngineState) (run : RunsInStep e.decoder e.heads e.score e.written
     score_openers =
         let o = openers_of e.score.body.part in
         let h = openers_are e.score.held.next e.decoder.place o in_step.next of_text.openers in
-        record { notes = lies_before e.decoder.place o.notes h.notes; inner = lies_before e.decoder.place o.inner h.inner; in_order = in_order o.notes o.inner h.in_order }
+        record { notes = h.notes; inner = h.inner; in_order = h.in_order }
 
     score_comment : MayBeInComment (is_after_cr e.decoder) f
     score_comment = record { cr = in_step.comment; inner = within.comment }
@@ -148,7 +136,7 @@ module _ (e : EngineState) (run : RunsInStep e.decoder e.heads e.score e.written
       held = score_held;
       openers = score_openers;
       comment = score_comment;
-      kept = text_is f.kept (subst told.IsText (sym (kept_is e.score.part e.score.held.gathered.builder.kept body)) of_text.reading);
+      kept = subst IsText (sym (kept_is e.score.part e.score.held.gathered.builder.kept body)) of_text.reading;
       kept_short = within.reading;
     }
 

@@ -82,7 +82,7 @@ module _ (d e : DecoderState) (h : HeaderStageState) (old new : ScoreWriterState
       let passed : next_past old.score.part (head_event.Body x) old.score.held.next ≡ saturating_next_place x.place x.c = ap (λ (q : ScorePart). next_past q (head_event.Body x) old.score.held.next) before.body in
       record {
         next = p.tells.next now.body ∙ (passed ∙ next_is);
-        told = p.tells.told (moves.here ∙ sym t.next, (place_below, record { scalar = moves.plain.scalar; plain = moves.plain.plain }))
+        told = p.tells.told (moves.here ∙ sym t.next, (place_below, moves.plain))
             (λ body. subst (λ (place : Place). StandsAt place old.score.body.part) (sym t.next) (was.counts were_within body)) t.told;
         holds = p.tells.holds t.holds;
         comment = λ cr. p.tells.line (moves.cr is.runs cr) now.body;

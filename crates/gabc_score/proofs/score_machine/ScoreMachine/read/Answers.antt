@@ -11,7 +11,8 @@ use Rattle.gabc_places.specs.Place.{saturating_next_place}
 use Rattle.gabc_score.specs.ScoreStage.{IsWithin, Lends, MayCome}
 use Rattle.gabc_score.specs.declared.score_machine.ScorePart.{ScorePart}
 use Rattle.gabc_score.specs.ScoreTells.{held_in_body, StandsAt, openers_of}
-use Rattle.gabc_score.specs.ToldWithin.{IsPlace, IsEarlier, AreOpenersBefore, IsToldOfText}
+use Rattle.gabc_places.specs.PlacesInOrder.{IsEarlier}
+use Rattle.gabc_score.specs.ToldWithin.{IsPlace, AreOpenersBefore, IsToldOfText}
 use Rattle.gabc_score.specs.machine.PartOnly.{HoldsTexts, kept_codes}
 use Rattle.gabc_score.specs.machine.ScoreMachine.{IsShort, shown}
 use Rattle.gabc_score.specs.machine.ScoreStage.{placed_behind, with_held}

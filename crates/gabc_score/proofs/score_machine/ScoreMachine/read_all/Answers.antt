@@ -12,7 +12,7 @@ use Rattle.gabc_places.specs.declared.place.Place.{Place}
 use Rattle.gabc_places.proofs.PlacesOfAText.{within_on, shorter}
 use Rattle.gabc_score.specs.Body.{is_none}
 use Rattle.gabc_score.specs.declared.score_machine.ScorePart.{ScorePart}
-use Rattle.gabc_score.specs.ToldWithin.{IsPlain}
+use Rattle.gabc_places.specs.TextOfAnInput.{IsPlain}
 use Rattle.gabc_score.specs.machine.BodyBuilder.{with_all}
 use Rattle.gabc_score.specs.machine.PartOnly.{HoldsTexts, kept_codes}
 use Rattle.gabc_score.specs.machine.ReadAlone.{is_alone, lists_from}

@@ -1,6 +1,7 @@
 use Rattle.std.proofs.Common.{ap, subst, ◌∙◌}
 use Rattle.gregorio.specs.Engine.{is_running}
-use Rattle.gregorio.specs.Saved.{IsStateOfInput, state_of}
+use Rattle.gregorio.specs.Saved.{state_of}
+use Rattle.gregorio.specs.machine.PartsOfStates.{IsStateOfInput}
 use Rattle.gregorio.specs.witness.Engine.{EngineState}
 use Rattle.gregorio.proofs.pieces.StatesOfInputs.{state_of_input}
 use Rattle.gregorio.proofs.engine.Engine.tells_its_input.Goals as goal

@@ -1,6 +1,7 @@
 use Rattle.std.proofs.Common.{ap, sym, subst, ◌∙◌}
 use Rattle.gregorio.specs.Engine.{is_running}
-use Rattle.gregorio.specs.Saved.{IsPhaseTold, state_of}
+use Rattle.gregorio.specs.Saved.{state_of}
+use Rattle.gregorio.specs.machine.PartsOfStates.{IsPhaseTold}
 use Rattle.gregorio.specs.witness.Engine.{EngineState}
 use Rattle.gregorio.proofs.pieces.StatesOfScores.{score_in_body, score_of_text, state_of_headers, state_of_score}
 use Rattle.gregorio.proofs.engine.Engine.tells_of_its_score.Goals as goal
