@@ -24,7 +24,7 @@ mod outcome;
 mod output;
 mod run;
 mod run_writer;
-mod saved_alike;
+pub mod saved_alike;
 mod saving;
 mod score_writer;
 mod source_ending;

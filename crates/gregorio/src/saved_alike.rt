@@ -96,8 +96,9 @@ fn engines_saved_alike_in_the_body_agree(one: &Engine, other: &Engine)
     writers_saved_alike_agree(&one.writer, &other.writer);
 }
 
-/// So do two that run in the body, where the one stands in front of the first text.
-fn engines_saved_alike_in_front_agree(one: &Engine, other: &Engine)
+/// Two engines that run behind their headers, call their inputs the same and save the same write the same of whatever follows, and end alike, where the one
+/// stands in front of the first text: the other may stand there too, or in a comment of a text of which nothing is read.
+pub fn engines_in_front_that_save_the_same_agree(one: &Engine, other: &Engine)
     requires runs { is_running one.now ≡ true }
     requires other_runs { is_running other.now ≡ true }
     requires body { one.now.written.headed ≡ true }
@@ -114,4 +115,23 @@ fn engines_saved_alike_in_front_agree(one: &Engine, other: &Engine)
     one.writer.tells_of_a_text();
     other.writer.tells_of_a_text();
     writers_in_front_agree(&one.writer, &other.writer);
+}
+
+/// Two engines that run, call their inputs the same and save the same write the same of whatever follows, and end alike: all by which a run goes on stands in
+/// its state. Behind the headers both stand in front of the first text, or neither does.
+pub fn engines_that_save_the_same_agree(one: &Engine, other: &Engine)
+    requires runs { is_running one.now ≡ true }
+    requires other_runs { is_running other.now ≡ true }
+    requires name { one.now.written.name ≡ other.now.written.name }
+    requires state { state_of one.now ≡ state_of other.now }
+    requires front { one.now.written.headed ≡ true →
+        is_in_front one.now.score.body.part ≡ is_in_front other.now.score.body.part }
+    ensures { (ending : SourceEnding) (bytes : List ℕ) →
+        streams_left one.now ending bytes ≡ streams_left other.now ending bytes }
+{
+    if one.writer.headed() {
+        engines_saved_alike_in_the_body_agree(one, other);
+    } else {
+        engines_saved_alike_in_headers_agree(one, other);
+    }
 }

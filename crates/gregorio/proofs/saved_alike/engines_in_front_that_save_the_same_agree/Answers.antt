@@ -5,7 +5,7 @@ use Rattle.gregorio.specs.witness.Engine.{EngineState, head_events_left, items_l
 use Rattle.gregorio.proofs.pieces.SavedInBodies.{bodies_agree, come_in_line, other_headed, runs_shown, saved_in_body, shown_alike, written_in_body}
 use Rattle.gregorio.proofs.pieces.SavedInHeaders.{left_of_shown, shown}
 use Rattle.gregorio.proofs.pieces.StatesOfScores.{score_in_body, score_of_text}
-use Rattle.gregorio.proofs.saved_alike.engines_saved_alike_in_front_agree.Goals as goal
+use Rattle.gregorio.proofs.saved_alike.engines_in_front_that_save_the_same_agree.Goals as goal
 
 pub tells_of_a_text-requires-clause-body : goal.tells_of_a_text-requires-clause-body
 tells_of_a_text-requires-clause-body c =
