@@ -6,5 +6,6 @@ pub mod PrefixOfAStop
 pub mod Outcome
 pub mod Run
 pub mod Saved
+pub mod SavedState
 pub mod SourceBytes
 pub mod Streams

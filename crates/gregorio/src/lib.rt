@@ -28,6 +28,7 @@ pub mod saved_alike;
 mod saving;
 mod score_writer;
 mod source_ending;
+mod state_fault;
 
 pub use engine::Engine;
 pub use findings::is_shown;
@@ -36,3 +37,4 @@ pub use gregorio_state::TooShort;
 pub use outcome::Outcome;
 pub use run::{compile, compile_with_hasher};
 pub use source_ending::SourceEnding;
+pub use state_fault::StateFault;

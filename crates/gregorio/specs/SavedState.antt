@@ -1,0 +1,92 @@
+-- What a saved state is: fields that meet their conditions, and texts that are read as the fields say. It is judged by the limits that it tells
+-- itself.
+use Rattle.std.specs.Prelude.{◌≡◌, ◌≢◌, ℕ, ◌-◌, List, [], length, true, Some}
+use Rattle.std.specs.Str.{chars}
+use Rattle.gabc_places.specs.declared.limits.Limits.{Limits}
+use Rattle.gabc_score.specs.Before.{preceding_of}
+use Rattle.gabc_score.specs.HeldAgain.{MayBeHeld}
+use Rattle.gabc_score.specs.ScoreTells.{is_in_comment, is_in_front, openers_of, reading_of}
+use Rattle.gabc_score.specs.Syllable.{UnplacedSyllable}
+use Rattle.gabc_score.specs.ToldWithin.{written_behind}
+use Rattle.gabc_score.specs.declared.before.Before.{Before}
+use Rattle.gabc_score.specs.witness.ReadAgain.{CanBeReadAgain}
+use Rattle.gabc_score.specs.witness.ScoreStage.{ScoreStageState}
+use Rattle.gregorio_jobs.specs.declared.job.Job.{Job}
+use Rattle.gregorio_state.specs.Conditions.{AreStateFields}
+use Rattle.gregorio_state.specs.Fields.{PhaseFields, ScoreFields, StateFields, InHeaders, InScore}
+use Rattle.gregorio_state.specs.StateBytes.{state_bytes}
+use Rattle.gregorio.specs.Saved.{GivesHeaders}
+
+-- the limits that it tells
+abbrev pub limits_told : StateFields → Limits
+limits_told s = record { header = s.header_limit; syllable = s.syllable_limit; input = s.input_limit }
+
+-- ---- the held text
+
+-- What stands before the syllable that is held: the state counts that syllable, and its text is the last of the canonical file.
+abbrev pub before_held : ScoreFields → Before
+before_held f = record {
+  nabc_lines = f.nabc_lines;
+  macros = f.macros;
+  syllables = f.syllables - 1;
+  canonical = f.canonical - length f.held;
+  spans = record { eu = f.in_eu; nlba = f.in_nlba };
+  sounded = f.sounded;
+}
+
+-- Read by itself behind what stands before it, the held text is one syllable, whole with its last character: no error is found in it, no limit is
+-- passed, and it is the canonical text of that syllable.
+pub record IsHeldRead (limits : Limits) (f : ScoreFields) : Type 0 where
+  pub m : UnplacedSyllable
+  pub may : MayBeHeld limits (before_held f) (chars f.held) m
+  pub is : written_behind (preceding_of (before_held f)) m ≡ f.held
+
+-- ---- the kept text
+
+-- The kept text is what a stage over a score keeps that reads a syllable: read again, all of it is kept. This is open in it, and a comment is or is
+-- not. In front of the first text no syllable is whole.
+pub record IsKeptRead (limits : Limits) (f : ScoreFields) : Type 0 where
+  pub stage : ScoreStageState
+  pub keeps : CanBeReadAgain stage
+  pub limits_are : stage.limits ≡ limits
+  pub lines : stage.body.nabc_lines ≡ f.nabc_lines
+  pub macros : stage.body.macros ≡ f.macros
+  pub reading : reading_of stage ≡ f.kept
+  pub openers : openers_of stage.body.part ≡ record { notes = f.notes_opener; inner = f.inner_opener }
+  pub comment : is_in_comment stage.body.part ≡ f.in_comment
+  pub front : is_in_front stage.body.part ≡ true → f.syllables ≡ 0
+
+-- ---- a state
+
+pub record IsScoreRead (limits : Limits) (f : ScoreFields) : Type 0 where
+  pub held : f.held ≢ [] → IsHeldRead limits f
+  pub kept : IsKeptRead limits f
+
+-- The text of the headers ends there, and gives this place and these errors; or the texts of the score are read as it says.
+abbrev pub IsPhaseRead : StateFields → PhaseFields → Type 0
+IsPhaseRead s (InHeaders headers) = GivesHeaders (limits_told s) (chars headers) s.place s.has_error
+IsPhaseRead s (InScore f) = IsScoreRead (limits_told s) f
+
+-- the fields of a saved state
+pub record AreOfState (s : StateFields) : Type 0 where
+  pub fields : AreStateFields s
+  pub read : IsPhaseRead s s.phase
+
+-- It is one of this job under these limits. Nothing else of a job stands in a state.
+pub record IsOfJob (job : Job) (limits : Limits) (s : StateFields) : Type 0 where
+  pub limits_are : limits_told s ≡ limits
+  pub format : s.format ≡ job.format
+  pub all_warnings : s.all_warnings ≡ job.all_warnings
+
+-- These bytes are a saved state.
+pub record IsState (bytes : List ℕ) : Type 0 where
+  pub s : StateFields
+  pub is : bytes ≡ state_bytes s
+  pub fields : AreOfState s
+
+-- These bytes are one of another job, or under other limits.
+pub record IsOfAnother (job : Job) (limits : Limits) (bytes : List ℕ) : Type 0 where
+  pub s : StateFields
+  pub is : bytes ≡ state_bytes s
+  pub fields : AreOfState s
+  pub other : IsOfJob job limits s → ⊥
