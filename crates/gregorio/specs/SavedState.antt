@@ -1,11 +1,11 @@
 -- What a saved state is: fields that meet their conditions, and texts that are read as the fields say. It is judged by the limits that it tells
 -- itself.
-use Rattle.std.specs.Prelude.{◌≡◌, ◌≢◌, ℕ, ◌-◌, List, [], length, true, Some}
+use Rattle.std.specs.Prelude.{◌≡◌, ◌≢◌, ℕ, ◌-◌, List, [], length}
 use Rattle.std.specs.Str.{chars}
 use Rattle.gabc_places.specs.declared.limits.Limits.{Limits}
 use Rattle.gabc_score.specs.Before.{preceding_of}
 use Rattle.gabc_score.specs.HeldAgain.{MayBeHeld}
-use Rattle.gabc_score.specs.ScoreTells.{is_in_comment, is_in_front, openers_of, reading_of}
+use Rattle.gabc_score.specs.ReadAgain.{TellsOfReading}
 use Rattle.gabc_score.specs.Syllable.{UnplacedSyllable}
 use Rattle.gabc_score.specs.ToldWithin.{written_behind}
 use Rattle.gabc_score.specs.declared.before.Before.{Before}
@@ -43,18 +43,15 @@ pub record IsHeldRead (limits : Limits) (f : ScoreFields) : Type 0 where
 
 -- ---- the kept text
 
--- The kept text is what a stage over a score keeps that reads a syllable: read again, all of it is kept. This is open in it, and a comment is or is
--- not. In front of the first text no syllable is whole.
+-- The kept text is what a stage over a score keeps that reads a syllable behind the comment in front: read again, all of it is kept. This is open in
+-- it, and a comment is or is not.
 pub record IsKeptRead (limits : Limits) (f : ScoreFields) : Type 0 where
   pub stage : ScoreStageState
   pub keeps : CanBeReadAgain stage
   pub limits_are : stage.limits ≡ limits
   pub lines : stage.body.nabc_lines ≡ f.nabc_lines
   pub macros : stage.body.macros ≡ f.macros
-  pub reading : reading_of stage ≡ f.kept
-  pub openers : openers_of stage.body.part ≡ record { notes = f.notes_opener; inner = f.inner_opener }
-  pub comment : is_in_comment stage.body.part ≡ f.in_comment
-  pub front : is_in_front stage.body.part ≡ true → f.syllables ≡ 0
+  pub tells : TellsOfReading stage f.kept (record { notes = f.notes_opener; inner = f.inner_opener }) f.in_comment
 
 -- ---- a state
 

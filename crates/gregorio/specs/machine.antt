@@ -6,6 +6,7 @@ pub mod InMemory
 pub mod InStep
 pub mod PartsOfStates
 pub mod ReadsHeaders
+pub mod Restoring
 pub mod RunWriter
 pub mod Saving
 pub mod ScoreWriter
