@@ -27,16 +27,14 @@ no_comment_no_front (part.Text s) e front = absurd (true≢false (sym front))
 no_comment_no_front (part.Notes opened s) e front = absurd (true≢false (sym front))
 no_comment_no_front (part.Nabc line opened s) e front = absurd (true≢false (sym front))
 
-pub leaves_to : (before after : BodyPart) (now : List BodyEvent) → is_in_front after ≡ false → PartLeavesFront before after now
-leaves_to before after now e front = absurd (true≢false (sym front ∙ e))
-
+-- where the next character stands does not count
 pub front_moved : (at : Place) (b : BodyPart) → is_in_front (moved_part at b) ≡ is_in_front b
 front_moved at part.Comment = refl
 front_moved at (part.Text s) = refl
 front_moved at (part.Notes opened s) = refl
 front_moved at (part.Nabc line opened s) = refl
 
--- behind a character: in front still, nothing has come
+-- Behind a character the comment is still open only where nothing has come.
 pub front_past : (before after : BodyPart) (p behind : Preceding) (has_lent : _) (g h turned : Gathered) (now : List BodyEvent) → PartLeavesFront before after now → (is_in_front before ≡ true → NoneIsWhole p g)
     → h ≡ with_all g now → behind ≡ with_placed p (take (length h.made - 1) (placed_behind has_lent h.made)) → turned ≡ with_held h → is_in_front after ≡ true → NoneIsWhole behind turned
 front_past before after p behind has_lent g h turned now leaves was is there turns front = record {
