@@ -29,6 +29,7 @@ mod saving;
 mod score_writer;
 mod source_ending;
 mod state_fault;
+mod tells;
 
 pub use engine::Engine;
 pub use findings::is_shown;

@@ -13,6 +13,7 @@ ghost use Rattle.gregorio_state.specs.Fields.{InHeaders, fields_of, holding, pha
 ghost use Rattle.gregorio_state.specs.StateBytes.{state_bytes};
 ghost use Rattle.gregorio.specs.Engine.{NothingWaits, is_running};
 ghost use Rattle.gregorio.specs.Saved.{held_count, held_text, score_fields, state_of};
+ghost use Rattle.gregorio.specs.SavedState.{AreOfState};
 ghost use Rattle.gregorio.specs.machine.Saving.{text_when_held};
 
 use crate::engine::Engine;
@@ -164,11 +165,12 @@ impl Engine {
 
     /// Writes the saved state of the run to the front of `buf`, and returns how many bytes it has. The error is that of a `buf` that has fewer bytes
     /// than the state, and then it is unchanged. With 128 bytes and the limit of the headers, or 128 and twice that of a syllable, whichever is
-    /// more, it is not too short. What is written is a state, in the sense of `gregorio_state`. The run may not be over, and nothing may wait.
+    /// more, it is not too short. What is written is a state: the headers or the held and the kept text in it are read as it says, too. The run may
+    /// not be over, and nothing may wait.
     pub fn save_into(&self, buf: &mut [u8]) -> Result<usize, TooShort>
         requires runs { is_running self.now ≡ true }
         requires waits { NothingWaits self.now }
-        ensures state { AreStateFields (state_of self.now) }
+        ensures state { AreOfState (state_of self.now) }
         ensures written { OnOk result (buf.new ≡ state_bytes (state_of self.now)
             ++ drop (length (state_bytes (state_of self.now))) buf.old) }
         ensures len { IfOk result (λ len. len ≡ length (state_bytes (state_of self.now))) }
