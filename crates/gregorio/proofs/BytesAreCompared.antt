@@ -1,5 +1,5 @@
 -- What is left of a text behind bytes with which it begins.
-use Rattle.std.proofs.Common.{◌≡◌, ◌≢◌, ℕ, List, [], ◌∷◌, ◌++◌, Bool, true, false, Option, Some, None, MatchOption, Bor, inl, inr, refl, ap, sym, ◌∙◌}
+use Rattle.std.proofs.Common.{◌≡◌, ◌≢◌, ℕ, List, [], ◌∷◌, ◌++◌, Bool, true, Option, Some, None, MatchOption, Bor, inl, inr, refl, ap, sym, ◌∙◌}
 use Rattle.std.specs.Prelude.{◌==◌, ◌↔◌, IsTrue, if◌then◌else◌}
 use Rattle.std.specs.Option.{option_map}
 use Rattle.std.proofs.lemmas.List.{append-nil}
@@ -15,13 +15,13 @@ left_behind_front (b ∷ bytes) rest = left_at_one b (left_behind bytes (bytes +
 
 one_more : (b c : ℕ) (left : Option (List ℕ)) (text more rest : List ℕ) → (left ≡ Some rest → text ≡ more) → (if b == c then left else None) ≡ Some rest → c ∷ text ≡ b ∷ more
 one_more b c left text more rest front is = elim (eqb_tells b c) [
-    | inl (test, same) ↦
-        let here : left ≡ Some rest = rw test at is in
-        let next : text ≡ more = front here in
-        let at : c ≡ b = sym same in
-        rw (at, next) refl
-    | inr (test, other) ↦ let none : None ≡ Some rest = rw test at is in absurd (cc none)
-  ]
+  | inl (test, same) ↦
+      let here : left ≡ Some rest = rw test at is in
+      let next : text ≡ more = front here in
+      let at : c ≡ b = sym same in
+      rw (at, next) refl
+  | inr (test, other) ↦ let none : None ≡ Some rest = rw test at is in absurd (cc none)
+]
 
 pub front_of_left : (bytes text rest : List ℕ) → left_behind bytes text ≡ Some rest → text ≡ bytes ++ rest
 front_of_left [] text rest is = cc is
@@ -39,9 +39,9 @@ left_is bytes text (Some x) is = sym (ap (left_behind bytes) is ∙ left_behind_
 -- a text of which nothing is left behind these bytes, and only that, is the same
 pub same_text : (before after : Option (List ℕ)) (text bytes : List ℕ) (is_same : Bool) → before ≡ Some text → after ≡ compared_with before bytes → (IsTrue is_same ↔ after ≡ Some []) → IsTrue is_same ↔ bytes ≡ text
 same_text before after text bytes is_same fresh came told = (
-    λ same. sym (front_of_left bytes text [] (sym left ∙ told.0 same) ∙ append-nil bytes),
-    λ same. told.1 (left ∙ ap (λ (t : List ℕ). left_behind bytes t) (sym same ∙ sym (append-nil bytes)) ∙ left_behind_front bytes []),
-  )
+  λ same. sym (front_of_left bytes text [] (sym left ∙ told.0 same) ∙ append-nil bytes),
+  λ same. told.1 (left ∙ ap (λ (t : List ℕ). left_behind bytes t) (sym same ∙ sym (append-nil bytes)) ∙ left_behind_front bytes []),
+)
   where
     left : after ≡ left_behind bytes text
     left = came ∙ ap (λ (c : Option (List ℕ)). compared_with c bytes) fresh

@@ -1,5 +1,5 @@
 -- The held text of a state is read as its fields say, or it is not.
-use Rattle.std.proofs.Common.{◌≡◌, ◌≢◌, ℕ, zero, suc, ◌+◌, ◌-◌, List, [], length, false, Option, Some, None, refl, ap, sym, subst, ◌∙◌, arith}
+use Rattle.std.proofs.Common.{◌≡◌, ◌≢◌, ℕ, ◌-◌, List, [], length, false, Some, ap, sym, subst, ◌∙◌}
 use Rattle.std.proofs.lemmas.Bool.{false≢true}
 use Rattle.std.specs.Prelude.{◌==◌, ◌||◌}
 use Rattle.std.specs.Str.{chars}
@@ -10,16 +10,14 @@ use Rattle.gabc_score.specs.HeldAgain.{MayBeHeld}
 use Rattle.gabc_score.specs.Resumed.{HoldsAgain, StandsBehind}
 use Rattle.gabc_score.specs.ScoreTells.{before_of, before_with, held_of, in_body}
 use Rattle.gabc_score.specs.Syllable.{UnplacedSyllable}
-use Rattle.gabc_score.specs.ToldWithin.{TellsOfText, written_behind}
+use Rattle.gabc_score.specs.ToldWithin.{written_behind}
 use Rattle.gabc_score.specs.declared.before.Before.{Before}
 use Rattle.gabc_score.specs.declared.score_machine.ScorePart.{ScorePart}
 use Rattle.gabc_score.specs.declared.score_machine.ScorePart.TheVariants as score_part
 use Rattle.gabc_score.specs.witness.ScoreStage.{ScoreStageState}
-use Rattle.gregorio_state.specs.Conditions.{IsHeldWithin}
 use Rattle.gregorio_state.specs.Fields.{ScoreFields}
-use Rattle.gregorio.specs.Saved.{held_count, held_text}
+use Rattle.gregorio.specs.Saved.{held_text}
 use Rattle.gregorio.specs.SavedState.{IsHeldRead, before_held}
-use Rattle.gregorio.specs.machine.SettingDown.{HoldsHeld}
 
 -- ---- what a stage tells in the body
 
@@ -37,32 +35,9 @@ before_told s b is = told_in_body s.part (before_with s.body s.before) b is
 pub some_text : (text : List ℕ) → false ≡ (length text == 0) → text ≢ []
 some_text text some none = false≢true (some ∙ ap (λ (t : List ℕ). length t == 0) none)
 
-one_less : (n : ℕ) → (n ≡ 0 → ⊥) → (n - 1) + 1 ≡ n
-one_less zero some = absurd (some refl)
-one_less (suc n) some = omega arith
-
-module _ (f : ScoreFields) (old : ScoreStageState) (stands : StandsBehind old.limits (before_held f) old) (within : IsHeldWithin old.limits.syllable f) where
-  -- where there is none
-  pub holds_none : TellsOfText old → f.held ≡ [] → HoldsHeld f old
-  holds_none told none =
-      let whole : f.syllables ≡ 0 = within.none.0 none in
-      let held : held_count (held_of old) ≡ 0 = ap held_count stands.none_held in
-      record {
-        behind = record {
-          before_is = stands.before_is;
-          text = ap (held_text old.before) stands.none_held ∙ sym none;
-          count = omega (arith, whole, held);
-        };
-        begins = stands.begins;
-        told = told;
-      }
-
+module _ (f : ScoreFields) (old : ScoreStageState) (stands : StandsBehind old.limits (before_held f) old) where
   old_before : before_with old.body old.before ≡ before_held f
   old_before = before_told old (before_held f) stands.before_is
-
-  -- where it is no syllable
-  pub is_no_syllable : ((m : UnplacedSyllable) → MayBeHeld old.limits (before_with old.body old.before) (chars f.held) m → ⊥) → IsHeldRead old.limits f → ⊥
-  is_no_syllable none read = none read.m (subst (λ (b : Before). MayBeHeld old.limits b (chars f.held) read.m) (sym old_before) read.may)
 
   -- where it is one
   module _ (new : ScoreStageState) (holds : HoldsAgain (chars f.held) old new) where
@@ -83,12 +58,6 @@ module _ (f : ScoreFields) (old : ScoreStageState) (stands : StandsBehind old.li
 
     pub is_read : new_text ≡ f.held → IsHeldRead old.limits f
     is_read same = record { m = holds.m; may = may; is = sym text_is ∙ same }
-
-    pub holds_one : TellsOfText new → f.held ≢ [] → new_text ≡ f.held → HoldsHeld f new
-    holds_one told some same =
-        let held : held_count (held_of new) ≡ 1 = ap held_count holds.held in
-        let more : (f.syllables - 1) + 1 ≡ f.syllables = one_less f.syllables (λ none. some (within.none.1 none)) in
-        record { behind = record { before_is = new_before; text = same; count = omega (arith, held, more) }; begins = holds.begins; told = told }
 
     -- since a text is one syllable, it has the text that is told
     pub has_the_text : ((limits : Limits) (before : Before) (text : List ℕ) (m n : UnplacedSyllable) → MayBeHeld limits before text m → MayBeHeld limits before text n → m ≡ n) → IsHeldRead old.limits f → new_text ≡ f.held

@@ -1,16 +1,14 @@
 -- The kept text of a state is read as its fields say, or it is not.
-use Rattle.std.proofs.Common.{◌≡◌, ℕ, ◌+◌, ◌-◌, List, [], Bool, true, false, is_some, Option, Some, None, refl, ap, sym, subst, ◌∙◌}
+use Rattle.std.proofs.Common.{◌≡◌, ℕ, ◌+◌, ◌-◌, List, [], Bool, true, false, is_some, Option, Some, refl, ap, sym, subst, ◌∙◌}
 use Rattle.std.proofs.lemmas.Bool.{false≢true}
-use Rattle.gabc_places.specs.declared.limits.Limits.{Limits}
 use Rattle.gabc_places.specs.declared.place.Place.{Place}
 use Rattle.gabc_places.specs.TextOfAnInput.{IsText}
 use Rattle.gabc_score.specs.Before.{no_syllable, preceding_of}
 use Rattle.gabc_score.specs.ReadAgain.{CanBeReadInText, StandsBefore, TellsOfReading, TellsTheSameBut, no_openers}
-use Rattle.gabc_score.specs.ScoreTells.{StandsInFront, before_of, before_with, held_of, in_body, is_in_comment, is_in_front, openers_of, reading_in_body}
+use Rattle.gabc_score.specs.ScoreTells.{StandsInFront, before_of, before_with, in_body, is_in_comment, is_in_front, openers_of, reading_in_body}
 use Rattle.gabc_score.specs.Syllable.{UnplacedSyllable}
 use Rattle.gabc_score.specs.ToldWithin.{AreOpenersBefore, IsPlace, TellsOfText}
 use Rattle.gabc_score.specs.declared.before.Before.{Before}
-use Rattle.gabc_score.specs.declared.before.Preceding.{Preceding}
 use Rattle.gabc_score.specs.declared.body_stage.BodyPart.{BodyPart}
 use Rattle.gabc_score.specs.declared.body_stage.BodyPart.TheVariants as part
 use Rattle.gabc_score.specs.declared.body_tells.Openers.{Openers}

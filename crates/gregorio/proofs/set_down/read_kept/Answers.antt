@@ -19,8 +19,7 @@ returns-clause-read c =
     let limits = c.read_again.ensures.limits in
     let same = c.read_again.ensures.same c.if-not-read_again.false in
     let can = c.what_is_read_can_be_read_again.ensures (new_runs f old holds c.args.state.now.place new limits same) in
-    let kept_again = is_kept_again f old holds c.openers.result c.openers.ensures new c.read_again.result c.read_again.ensures.again in
-    (
+    let kept_again = is_kept_again f old holds c.openers.result c.openers.ensures new c.read_again.result c.read_again.ensures.again in (
       λ read. is_kept_read f old holds c.args.state.now.place new limits same (c.has_read.ensures.0 read) can c.a_comment_in_front_can_be_read_in_a_text.ensures,
       λ kept. c.has_read.ensures.1 (has_read f old holds new (kept_again kept).1),
     )
