@@ -15,6 +15,7 @@
 
 mod buffers;
 mod canonical;
+mod comparison;
 mod dump;
 mod engine;
 mod findings;
@@ -27,6 +28,7 @@ mod run_writer;
 pub mod saved_alike;
 mod saving;
 mod score_writer;
+mod set_down;
 mod source_ending;
 mod state_fault;
 mod tells;

@@ -18,12 +18,12 @@ ghost use Rattle.gregorio.specs.machine.Saving.{text_when_held};
 
 use crate::engine::Engine;
 use gabc_places::{ByteCounter, Put};
-use gabc_score::{Syllable, canon_starting};
+use gabc_score::{ScoreStage, Syllable, canon_starting};
 use gregorio_state::{Phase, PutText, ScoreFields, StateFields, TooShort};
 
 /// The syllable that a stage holds, if it holds one.
 #[derive(Clone, Copy)]
-struct HeldSyllable<'a> {
+pub(crate) struct HeldSyllable<'a> {
     syllable: Option<&'a Syllable>,
     /// Whether it is the first one of the score.
     first: bool,
@@ -36,6 +36,19 @@ impl PutText for HeldSyllable<'_> {
     fn put_into<S: Put>(&self, out: &mut S) {
         if let Some(syllable) = self.syllable {
             canon_starting(syllable, self.first || syllable.text.word_start, out);
+        }
+    }
+}
+
+impl<'a> HeldSyllable<'a> {
+    /// Returns the syllable that `stage` holds.
+    pub(crate) fn of(stage: &'a ScoreStage) -> HeldSyllable<'a>
+        ensures { text_when_held result.first (option_map (λ s. unplaced_of s.now) result.syllable)
+            ≡ held_text stage.now.before (held_of stage.now) }
+    {
+        HeldSyllable {
+            syllable: stage.held(),
+            first: stage.before().is_some_and(|before| before.syllables == 0),
         }
     }
 }
@@ -61,18 +74,6 @@ fn in_headers(headers: &str) -> Phase<'_>
 }
 
 impl Engine {
-    /// Returns the syllable that is held.
-    fn held_syllable(&self) -> HeldSyllable<'_>
-        ensures { text_when_held result.first (option_map (λ s. unplaced_of s.now) result.syllable)
-            ≡ held_text self.now.score.before (held_of self.now.score) }
-    {
-        let score = self.score();
-        HeldSyllable {
-            syllable: score.held(),
-            first: score.before().is_some_and(|before| before.syllables == 0),
-        }
-    }
-
     /// Returns how many syllables are held.
     fn held_count(&self) -> u32
         ensures { result ≡ held_count (held_of self.now.score) }
@@ -181,7 +182,7 @@ impl Engine {
             ≤ length buf.old → IsOk result }
     {
         self.tells_a_state();
-        let held = self.held_syllable();
+        let held = HeldSyllable::of(self.score());
         let fields = self.state_fields(held.len());
         fields.save_holding(&held, buf)
     }
