@@ -6,11 +6,13 @@
 
 mod call;
 mod ends;
+mod flipped;
 mod interrupted;
 mod nabc;
 mod neumes;
 mod notes;
 mod pieces;
+mod prefixes;
 mod printed;
 mod row;
 mod run;
@@ -23,10 +25,12 @@ mod writes;
 
 use call::is_answered;
 use ends::{Known, fills_sinks};
+use flipped::is_safe_turned;
 use gabc_places::Limits;
 use gregorio::Format;
 use interrupted::agrees_interrupted;
 use pieces::{Wanted, agrees_in_pieces};
+use prefixes::has_prefixes_alike;
 use row::{Row, row_of};
 use run::{Request, request_of, run};
 use states::{buffer_of, is_answered_so, is_saved};
@@ -233,8 +237,12 @@ enum Lines {
     Runs,
     /// Runs into sinks that fail.
     Sinks,
+    /// Runs over each prefix of an input, in pieces and by the whole forms.
+    Prefixes,
     /// Runs that are saved, and go on where they are restored.
     Saved,
+    /// Saved runs, of whose states a bit is turned.
+    Turned,
     /// States of which each is refused, or goes on.
     States,
     /// Calls of the crates below.
@@ -242,13 +250,28 @@ enum Lines {
 }
 
 impl Lines {
+    /// Returns what is counted.
+    fn name(self) -> &'static str {
+        match self {
+            Lines::Runs => "runs",
+            Lines::Sinks => "runs into sinks that fail",
+            Lines::Prefixes => "inputs with their prefixes",
+            Lines::Saved => "saved runs",
+            Lines::Turned => "states with a bit turned",
+            Lines::States => "states",
+            Lines::Calls => "calls",
+        }
+    }
+
     /// Returns whether what stands on this line of a file is as the line says. Tells where it is not.
     fn agree(self, rt: &HostRuntime, path: &str, number: usize, line: &str) -> io::Result<bool> {
         let alloc = rt.alloc();
         let agrees = match self {
             Lines::Runs => return row_agrees(rt, path, number, line),
             Lines::Sinks => row_fills_sinks(alloc, line)?,
+            Lines::Prefixes => has_prefixes_alike(alloc, line)?,
             Lines::Saved => is_saved(alloc, line)?,
+            Lines::Turned => is_safe_turned(alloc, line)?,
             Lines::States => is_answered_so(alloc, line)?,
             Lines::Calls => is_answered(alloc, line)?,
         };
@@ -260,7 +283,7 @@ impl Lines {
 }
 
 /// The files of lines.
-const FILES: [(&str, Lines); 17] = [
+const FILES: [(&str, Lines); 19] = [
     ("rows.tsv", Lines::Runs),
     ("canonical.tsv", Lines::Runs),
     ("canonical_w12.tsv", Lines::Runs),
@@ -269,7 +292,9 @@ const FILES: [(&str, Lines); 17] = [
     ("nabc_lines.tsv", Lines::Runs),
     ("sources.tsv", Lines::Runs),
     ("sinks.tsv", Lines::Sinks),
+    ("sinks.tsv", Lines::Prefixes),
     ("states.tsv", Lines::Saved),
+    ("states.tsv", Lines::Turned),
     ("damaged.tsv", Lines::States),
     ("bent.tsv", Lines::States),
     ("texts.tsv", Lines::Calls),
@@ -294,7 +319,7 @@ fn check_file(rt: &HostRuntime, path: &str, lines: Lines) -> io::Result<()> {
             agreed = agreed.saturating_add(1);
         }
     }
-    println!(rt; "{path}: {agreed} of {count} agree")
+    println!(rt; "{path}: {agreed} of {count} {} agree", lines.name())
 }
 
 fn main(rt: HostRuntime) -> io::Result<()> {

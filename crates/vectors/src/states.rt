@@ -27,7 +27,7 @@ pub(crate) fn buffer_of(alloc: Global, len: usize) -> Result<Vec<u8>, AllocError
 
 /// Returns whether `engine` saves `state` into a `buffer` of bytes that are 0, of which there are more, and leaves the others; and nothing into one that
 /// has a byte less.
-fn saves(engine: &Engine, state: &[u8], buffer: &mut [u8]) -> bool
+pub(crate) fn saves(engine: &Engine, state: &[u8], buffer: &mut [u8]) -> bool
     requires runs { is_running engine.now ≡ true }
     requires waits { NothingWaits engine.now }
 {
