@@ -18,15 +18,18 @@ mod canonical;
 mod dump;
 mod engine;
 mod findings;
+mod held_headers;
 mod in_memory;
 pub mod laws;
 mod outcome;
 mod output;
+mod restoring;
 mod run;
 mod run_writer;
 pub mod saved_alike;
 mod saving;
 mod score_writer;
+mod set_down;
 mod source_ending;
 mod state_fault;
 

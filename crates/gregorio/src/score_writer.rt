@@ -111,6 +111,27 @@ impl ScoreWriter {
         }
     }
 
+    /// Returns a writer that goes on with `score` and `writer`, and reserves the room of its events.
+    pub(crate) fn resume(
+        alloc: Global,
+        score: ScoreStage,
+        writer: RunWriter,
+    ) -> Result<ScoreWriter, AllocError> {
+        match Room::with_limit(alloc, 16) {
+            Ok(events) => Ok(ScoreWriter {
+                score,
+                events,
+                writer,
+            }),
+            Err(error) => {
+                // A proof follows a call faster than all that lies inside them.
+                drop(score);
+                drop(writer);
+                Err(error)
+            }
+        }
+    }
+
     /// Takes `event`, and writes what follows from it: first the headers, where it says that they are whole. Then they are `book`.
     pub(crate) fn push(&mut self, event: HeadEvent, book: &HeaderBook)
         requires room { FitsEvents self.old (event ∷ []) }

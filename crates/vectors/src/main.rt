@@ -5,6 +5,7 @@
 #![tactic(auto)]
 
 mod call;
+mod damaged;
 mod ends;
 mod nabc;
 mod neumes;
@@ -20,6 +21,7 @@ mod texts;
 mod writes;
 
 use call::is_answered;
+use damaged::is_answered_so;
 use ends::{Known, fills_sinks};
 use gabc_places::Limits;
 use gregorio::Format;
@@ -303,6 +305,25 @@ fn check_states(rt: &HostRuntime, path: &str) -> io::Result<()> {
     println!(rt; "{path}: {agreed} of {rows} states agree")
 }
 
+/// Hands the states of a file to runs that are to go on from them. The first line of the file is its head.
+fn check_damaged(rt: &HostRuntime, path: &str) -> io::Result<()> {
+    let text = fs::read_to_string(rt, path)?;
+    let mut rows = 0u32;
+    let mut agreed = 0u32;
+    for (number, line) in text.as_str().lines().enumerate() {
+        if number == 0 {
+            continue;
+        }
+        rows = rows.saturating_add(1);
+        if is_answered_so(rt.alloc(), line)? {
+            agreed = agreed.saturating_add(1);
+        } else {
+            println!(rt; "{path}: the answer on line {number} differs")?;
+        }
+    }
+    println!(rt; "{path}: {agreed} of {rows} answers agree")
+}
+
 fn main(rt: HostRuntime) -> io::Result<()> {
     check_rows(&rt, "rows.tsv")?;
     check_rows(&rt, "canonical.tsv")?;
@@ -313,6 +334,7 @@ fn main(rt: HostRuntime) -> io::Result<()> {
     check_rows(&rt, "sources.tsv")?;
     check_sinks(&rt, "sinks.tsv")?;
     check_states(&rt, "states.tsv")?;
+    check_damaged(&rt, "damaged.tsv")?;
     check_scores(&rt)?;
     for path in CALLS {
         check_calls(&rt, path)?;

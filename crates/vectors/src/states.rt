@@ -25,7 +25,7 @@ struct SavedRun {
 }
 
 /// The bytes of a column of hexadecimal digits, two each.
-fn bytes_of(alloc: Global, column: &str) -> Result<Vec<u8>, AllocError> {
+pub(crate) fn bytes_of(alloc: Global, column: &str) -> Result<Vec<u8>, AllocError> {
     let mut bytes = Vec::new(alloc);
     for pair in column.as_bytes().chunks(2) {
         if let [high, low] = pair {
@@ -66,7 +66,7 @@ fn feed_all(engine: &mut Engine, bytes: &[u8], written: &mut Count)
 }
 
 /// Whether `engine` saves `state` into a `buffer` that has more bytes, and leaves the others of it; and nothing into one that has a byte less.
-fn saves(engine: &Engine, state: &[u8], buffer: &mut [u8]) -> bool
+pub(crate) fn saves(engine: &Engine, state: &[u8], buffer: &mut [u8]) -> bool
     requires runs { is_running engine.now ≡ true }
     requires waits { NothingWaits engine.now }
 {
@@ -129,13 +129,13 @@ fn saved_run_of(alloc: Global, line: &str) -> Result<Option<SavedRun>, AllocErro
 }
 
 /// The limits of a column, if a run may have them.
-fn limits_in(column: &str) -> Option<Limits> {
+pub(crate) fn limits_in(column: &str) -> Option<Limits> {
     let (header, syllable, input) = limits_of(column)?;
     Limits::new(header, syllable, input)
 }
 
 /// A buffer of so many bytes.
-fn buffer_of(alloc: Global, len: usize) -> Result<Vec<u8>, AllocError> {
+pub(crate) fn buffer_of(alloc: Global, len: usize) -> Result<Vec<u8>, AllocError> {
     let mut buffer = Vec::new(alloc);
     for _ in 0..len {
         buffer.push(0)?;
