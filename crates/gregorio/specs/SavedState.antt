@@ -17,9 +17,11 @@ use Rattle.gregorio_state.specs.Fields.{PhaseFields, ScoreFields, StateFields, I
 use Rattle.gregorio_state.specs.StateBytes.{state_bytes}
 use Rattle.gregorio.specs.Saved.{GivesHeaders}
 
--- the limits that it tells
-abbrev pub limits_told : StateFields → Limits
-limits_told s = record { header = s.header_limit; syllable = s.syllable_limit; input = s.input_limit }
+-- These are the limits that it tells.
+pub record TellsLimits (s : StateFields) (limits : Limits) : Type 0 where
+  pub header : s.header_limit ≡ limits.header
+  pub syllable : s.syllable_limit ≡ limits.syllable
+  pub input : s.input_limit ≡ limits.input
 
 -- ---- the held text
 
@@ -60,18 +62,20 @@ pub record IsScoreRead (limits : Limits) (f : ScoreFields) : Type 0 where
   pub kept : IsKeptRead limits f
 
 -- The text of the headers ends there, and gives this place and these errors; or the texts of the score are read as it says.
-abbrev pub IsPhaseRead : StateFields → PhaseFields → Type 0
-IsPhaseRead s (InHeaders headers) = GivesHeaders (limits_told s) (chars headers) s.place s.has_error
-IsPhaseRead s (InScore f) = IsScoreRead (limits_told s) f
+abbrev pub IsPhaseRead : Limits → StateFields → PhaseFields → Type 0
+IsPhaseRead limits s (InHeaders headers) = GivesHeaders limits (chars headers) s.place s.has_error
+IsPhaseRead limits s (InScore f) = IsScoreRead limits f
 
 -- the fields of a saved state
 pub record AreOfState (s : StateFields) : Type 0 where
   pub fields : AreStateFields s
-  pub read : IsPhaseRead s s.phase
+  pub limits : Limits
+  pub limits_are : TellsLimits s limits
+  pub read : IsPhaseRead limits s s.phase
 
 -- It is one of this job under these limits. Nothing else of a job stands in a state.
 pub record IsOfJob (job : Job) (limits : Limits) (s : StateFields) : Type 0 where
-  pub limits_are : limits_told s ≡ limits
+  pub limits_are : TellsLimits s limits
   pub format : s.format ≡ job.format
   pub all_warnings : s.all_warnings ≡ job.all_warnings
 
