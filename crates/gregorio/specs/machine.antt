@@ -2,6 +2,7 @@ pub mod Buffers
 pub mod ClefInForce
 pub mod Compile
 pub mod Engine
+pub mod HeldHeaders
 pub mod InMemory
 pub mod InStep
 pub mod PartsOfStates

@@ -1,4 +1,11 @@
-//! A stage that holds the text of the headers so far.
+//! The text of the headers so far, read again by a stage.
+
+ghost use Rattle.std.specs.Prelude.{◌≡◌, ◌≤◌, ◌<◌, ◌^◌, length, Ok};
+ghost use Rattle.std.specs.List.{list_any};
+ghost use Rattle.std.specs.Str.{chars};
+ghost use Rattle.gabc_places.specs.Place.{place_after};
+ghost use Rattle.gabc_headers.specs.witness.HeadEvents.{events_of_input, fresh_stage, stage_after};
+ghost use Rattle.gregorio.specs.machine.HeldHeaders.{IsPushed, is_error_event as error_event};
 
 use crate::findings::is_error;
 use gabc_headers::{HeadEvent, HeaderStage};
@@ -13,31 +20,60 @@ pub(crate) struct HeldHeaders {
     pub(crate) has_error: bool,
 }
 
-/// Returns whether an error is among the findings of `events`.
-fn has_error(events: &[HeadEvent]) -> bool {
-    events.iter().any(|event| match event {
-        HeadEvent::Found(finding) => is_error(*finding),
+/// Returns whether an error is found.
+fn is_error_event(event: HeadEvent) -> bool
+    ensures { result ≡ error_event event }
+{
+    match event {
+        HeadEvent::Found(finding) => is_error(finding),
         _ => false,
-    })
+    }
 }
 
-/// Pushes the characters of `text` into `heads`, which is fresh, and returns what they give.
+/// Returns whether an error is found among these.
+fn has_error(events: &[HeadEvent]) -> bool
+    ensures { result ≡ list_any error_event events.now }
+{
+    events.iter().any(|event| is_error_event(*event))
+}
+
+/// Pushes `x` into `heads`, and returns whether an error is found with it. `events` has room for what the stage emits.
+fn push_character(heads: &mut HeaderStage, x: Char, events: &mut Room<HeadEvent>) -> bool
+    requires { 2 ≤ events.old.limit }
+    ensures room { events.new.limit ≡ events.old.limit }
+    ensures state { heads.new ≡ stage_after heads.old (Ok x) }
+    ensures error { result ≡ list_any error_event
+        (events_of_input heads.old.limits heads.old.progress (Ok x)) }
+{
+    events.clear();
+    heads.push(Ok(x), events);
+    has_error(events.slice())
+}
+
+/// Pushes the characters of `text` into `heads`, which stands before the first one, and returns what they give. `events` has room for what the stage
+/// emits of a character.
 pub(crate) fn push_text(
     heads: &mut HeaderStage,
     text: &str,
     events: &mut Room<HeadEvent>,
-) -> HeldHeaders {
+) -> HeldHeaders
+    requires fresh { heads.old ≡ fresh_stage heads.old.limits }
+    requires short { length text.now < 2 ^ 63 }
+    requires room { 2 ≤ events.old.limit }
+    ensures place { result.place ≡ place_after (chars text.now) }
+    ensures pushed { IsPushed heads.old.limits (chars text.now) heads.new result.has_error }
+{
+    gabc_headers::stage_laws::a_held_text_grows();
     let mut given = HeldHeaders {
         place: Place::START,
         has_error: false,
     };
     for c in text.chars() {
         let place = given.place;
-        events.clear();
-        heads.push(Ok(Char { c, place }), events);
+        let found = push_character(heads, Char { c, place }, events);
         given = HeldHeaders {
-            place: place.saturating_after(c),
-            has_error: given.has_error || has_error(events.slice()),
+            place: place.after(c),
+            has_error: given.has_error | found,
         };
     }
     given
