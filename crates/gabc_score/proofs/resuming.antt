@@ -19,3 +19,5 @@ pub mod BehindSyllables
 pub mod ResumedIsOfText
 pub mod BeginsAnywhere
 pub mod FrontsAgree
+pub mod CommentInText
+pub mod OneSyllable

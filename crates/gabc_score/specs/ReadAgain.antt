@@ -1,8 +1,9 @@
 -- A kept text that is read again: what a stage tells before it, and behind it.
-use Rattle.std.specs.Prelude.{◌≡◌, ℕ, List, [], Bool, true, false, Some, is_some}
+use Rattle.std.specs.Prelude.{◌≡◌, ℕ, List, [], Bool, true, false, Some, None, is_some}
 use Rattle.gabc_places.specs.declared.place.Place.{Place}
 use Rattle.gabc_score.specs.declared.body_tells.Openers.{Openers}
 use Rattle.gabc_score.specs.ScoreTells.{StandsAt, before_of, held_of, is_in_comment, is_in_front, next_of, openers_of, reading_of}
+use Rattle.gabc_score.specs.witness.ReadAgain.{CanBeReadAgain}
 use Rattle.gabc_score.specs.witness.ScoreStage.{ScoreStageState}
 
 -- A stage stands in the body before a syllable, in no comment.
@@ -24,3 +25,17 @@ pub record TellsTheSameBut (before after : ScoreStageState) (next : Place) : Typ
   pub held_same : held_of after ≡ held_of before
   pub next_is : next_of after ≡ Some next
   pub stands : StandsAt next after.body.part
+
+-- nothing is open
+abbrev pub no_openers : Openers
+no_openers = record { notes = None; inner = None }
+
+-- What can be read again is told in a comment of a text of which nothing is kept, behind the same and under the same limits.
+pub record CanBeReadInText (s : ScoreStageState) : Type 0 where
+  pub told : ScoreStageState
+  pub again : CanBeReadAgain told
+  pub limits : told.limits ≡ s.limits
+  pub lines : told.body.nabc_lines ≡ s.body.nabc_lines
+  pub macros : told.body.macros ≡ s.body.macros
+  pub before : before_of told ≡ before_of s
+  pub tells : TellsOfReading told [] no_openers true

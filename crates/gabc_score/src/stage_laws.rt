@@ -1,6 +1,6 @@
 //! Laws of a stage over a score. Each function's contract is a law. Its body drives a stage, gives it one input, calls other laws, or does nothing.
 
-ghost use Rattle.std.specs.Prelude.{◌≡◌, ◌==◌, ◌+◌, ◌*◌, ◌<◌, ◌≤◌, ◌^◌, ℕ, List, [], ◌∷◌, None, true, false, length, map, is_some, encode_utf8_all, IfOk, IfSome, OnErr, OnOk, Ok};
+ghost use Rattle.std.specs.Prelude.{◌≡◌, ◌==◌, ◌+◌, ◌*◌, ◌<◌, ◌≤◌, ◌^◌, ℕ, List, [], ◌∷◌, None, true, false, length, map, is_some, option_to_list, encode_utf8_all, IfOk, IfSome, OnErr, OnOk, Ok};
 ghost use Rattle.gabc_headers.specs.declared.head_event.HeadEvent.{HeadEvent};
 ghost use Rattle.gabc_headers.specs.declared.head_event.HeadEvent.TheVariants.{Stop};
 ghost use Rattle.std.specs.List.{All};
@@ -21,16 +21,18 @@ ghost use Rattle.gabc_score.specs.declared.ending.InputEnding.{InputEnding};
 ghost use Rattle.gabc_score.specs.Events.{texts_by_definition, text_from, events_from};
 ghost use Rattle.gabc_score.specs.ScoreEvents.{HasNoEnd, ScoreOutput, fault_in, findings_in, has_end, head_events, outputs_of_text, score_outputs, syllables_in};
 ghost use Rattle.gabc_score.specs.HeldAside.{HoldTheSame, GiveTheSame};
-ghost use Rattle.gabc_score.specs.ReadAgain.{StandsBefore};
+ghost use Rattle.gabc_score.specs.HeldAgain.{MayBeHeld};
+ghost use Rattle.gabc_score.specs.ReadAgain.{CanBeReadInText, StandsBefore};
 ghost use Rattle.gabc_score.specs.Resumed.{StandsBehind};
 ghost use Rattle.gabc_score.specs.declared.before.Before.{Before};
 ghost use Rattle.gabc_score.specs.ScoreTells.{before_of, held_of, moved_to, reading_of, openers_of, is_in_comment, is_in_front, StandsAt, StandsInFront};
 ghost use Rattle.gabc_score.specs.ScoreStage.{AreCountsBelow, GivesAt, IsWithinAnywhere, MayCome, StandInLine, events_of};
 ghost use Rattle.gabc_score.specs.SpansPast.{FollowsSpans};
+ghost use Rattle.gabc_score.specs.Syllable.{UnplacedSyllable};
 ghost use Rattle.gabc_score.specs.UnitRead.{HoldsSomeUnit};
 ghost use Rattle.gabc_score.specs.witness.ReadAgain.{CanBeReadAgain};
 ghost use Rattle.gabc_places.specs.TextOfAnInput.{IsText};
-ghost use Rattle.gabc_score.specs.ToldWithin.{AreCountsWithin, BeginsWord, FirstBegins, IsPlace, IsToldWithin, TellsOfText, written_behind};
+ghost use Rattle.gabc_score.specs.ToldWithin.{AreCountsWithin, BeginsWord, FirstBegins, IsPlace, IsToldWithin, TellsOfText, whole_syllables, written_behind};
 ghost use Rattle.gabc_score.specs.witness.ScoreStage.{ScoreStageState, left_of};
 
 use crate::score_event::ScoreEvent;
@@ -89,6 +91,15 @@ pub fn what_is_told_is_within_the_limits(stage: &ScoreStage)
     ensures { IsToldWithin stage.now }
 {
     stage.tells_within();
+}
+
+/// In the body the whole syllables are those that were given, and the one that is held, if one is, whatever a stage has read.
+pub fn whole_syllables_are_given_or_held(stage: &ScoreStage)
+    requires runs { is_some (before_of stage.now) ≡ true }
+    ensures { whole_syllables stage.now
+        ≡ stage.now.before.syllables + length (option_to_list (held_of stage.now)) }
+{
+    stage.gave_or_holds();
 }
 
 /// What a stage of headers gives before the body may come of a text, wherever the next character stands.
@@ -263,6 +274,18 @@ pub fn what_is_read_can_be_read_again(stage: &ScoreStage)
 {
     stage.can_be_read_again();
 }
+
+/// In front of the first text the comment that is open can be read again as one in a text of which nothing is kept.
+pub fn a_comment_in_front_can_be_read_in_a_text()
+    ensures { (s : ScoreStageState) → is_some (before_of s) ≡ true → StandsInFront s →
+        CanBeReadInText s }
+{}
+
+/// A text that is read by itself behind the same is one syllable, and no other.
+pub fn a_text_is_one_syllable()
+    ensures { (limits : Limits) (before : Before) (text : List ℕ) (m n : UnplacedSyllable) →
+        MayBeHeld limits before text m → MayBeHeld limits before text n → m ≡ n }
+{}
 
 /// Reads again what `told` tells of the syllable that it reads, in a stage that stands before this syllable. Both stand behind the same and under the same
 /// limits, and the syllables that they hold say the same. From then on `again` gives what `told` gives, but for the syllable that is held.

@@ -1,8 +1,8 @@
 //! That what a stage over a score tells is within bounds. Each function's contract is a law, and its body calls other laws or does nothing.
 
-ghost use Rattle.std.specs.Prelude.{◌≡◌, ℕ, true, is_some};
-ghost use Rattle.gabc_score.specs.ScoreTells.{before_of};
-ghost use Rattle.gabc_score.specs.ToldWithin.{HasNoCommentInside, IsToldWithin};
+ghost use Rattle.std.specs.Prelude.{◌≡◌, ◌+◌, ℕ, length, true, is_some, option_to_list};
+ghost use Rattle.gabc_score.specs.ScoreTells.{before_of, held_of};
+ghost use Rattle.gabc_score.specs.ToldWithin.{HasNoCommentInside, IsToldWithin, whole_syllables};
 ghost use Rattle.gabc_score.specs.machine.PartKeeps.{KeptParts, PartKeeps};
 ghost use Rattle.gabc_score.specs.machine.ScoreMachine.{shown, IsInBody};
 
@@ -33,6 +33,16 @@ impl ScoreMachine {
         self.pair.at_most_one_is_held();
         self.body.has_no_comment_inside();
     }
+
+    /// Does nothing but call laws. Its contract is one: in the body the whole syllables are those that were given, and the one that is held.
+    fn gave_or_holds(&self)
+        requires body { self.now.part ≡ ScorePart.Body }
+        requires rests { IsInBody self.now }
+        ensures { whole_syllables (shown self.now) ≡ self.now.bounds.before.syllables
+            + length (option_to_list (held_of (shown self.now))) }
+    {
+        self.pair.at_most_one_is_held();
+    }
 }
 
 impl ScoreStage {
@@ -42,5 +52,14 @@ impl ScoreStage {
         ensures { IsToldWithin self.now }
     {
         self.machine.tells_within();
+    }
+
+    /// Does nothing but call laws. Its contract is one: in the body the whole syllables are those that were given, and the one that is held.
+    pub(crate) fn gave_or_holds(&self)
+        requires { is_some (before_of self.now) ≡ true }
+        ensures { whole_syllables self.now
+            ≡ self.now.before.syllables + length (option_to_list (held_of self.now)) }
+    {
+        self.machine.gave_or_holds();
     }
 }

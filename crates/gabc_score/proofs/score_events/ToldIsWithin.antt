@@ -1,5 +1,5 @@
 -- What a machine tells in the body is within its limits.
-use Rattle.std.proofs.Common.{◌≡◌, ℕ, ◌+◌, ◌-◌, ◌≤◌, ◌<◌, ◌^◌, ◌||◌, ◌==◌, min, Bool, List, [], ◌∷◌, ◌++◌, cond, length, codes, refl, sym, subst, arith, length-append}
+use Rattle.std.proofs.Common.{◌≡◌, ℕ, ◌+◌, ◌-◌, ◌≤◌, ◌<◌, ◌^◌, ◌||◌, ◌==◌, min, Bool, List, [], ◌∷◌, ◌++◌, cond, length, codes, option_to_list, refl, sym, subst, arith, length-append}
 use Rattle.std.specs.Prelude.{IfSome}
 use Rattle.std.proofs.lemmas.Bool.Decides.{nat_tests}
 use Rattle.gabc_places.specs.declared.limits.Limits.{Limits}
@@ -54,3 +54,12 @@ tells_in_body m body h few comment = record {
   outset = h.within.outset;
   comment = comment;
 }
+
+-- those that were made are the one that is held
+pub held_made : (p : ScorePart) (made : List UnplacedSyllable) → p ≡ score_part.Body → length made ≤ 1 → length made ≡ length (option_to_list (held_in_body p made))
+held_made p made body few = subst (λ (k : ScorePart). length made ≡ length (option_to_list (held_in_body k made))) (sym body) (by made few)
+  where
+    by : (ms : List UnplacedSyllable) → length ms ≤ 1 → length ms ≡ length (option_to_list (held_in_body score_part.Body ms))
+    by [] h = refl
+    by (m ∷ []) h = refl
+    by (m ∷ n ∷ ms) h = absurd (omega (arith, h))

@@ -1,0 +1,33 @@
+-- A text that is read by itself behind the same is one syllable, whatever was emitted before it.
+use Rattle.std.proofs.Common.{◌≡◌, ℕ, List, [], ◌∷◌, ◌++◌, length, refl, sym, ap, ◌∙◌, arith}
+use Rattle.std.proofs.lemmas.List.{append_cancel_left}
+use Rattle.gabc_places.specs.declared.limits.Limits.{Limits}
+use Rattle.gabc_score.specs.declared.before.Before.{Before}
+use Rattle.gabc_score.specs.declared.events.BodyEvent.{BodyEvent}
+use Rattle.gabc_score.specs.HeldAgain.{MayBeHeld, emitted_first}
+use Rattle.gabc_score.specs.ScoreEvents.{first_place}
+use Rattle.gabc_score.specs.Syllable.{UnplacedSyllable, all_syllables}
+use Rattle.gabc_score.specs.machine.BodyBuilder.{with_all}
+use Rattle.gabc_score.specs.machine.PartKeeps.{begun}
+use Rattle.gabc_score.proofs.resuming.MadeOfEvents.{made_behind}
+
+module _ (limits : Limits) (b : Before) (text : List ℕ) where
+  -- what it emits
+  abbrev events : List BodyEvent
+  events = emitted_first b.nabc_lines b.macros first_place text (length text)
+
+  -- what is made of it where nothing was made before
+  abbrev made : List UnplacedSyllable
+  made = (with_all (begun b.spans) events).made
+
+  made_is : (m : UnplacedSyllable) → MayBeHeld limits b text m → made ≡ m ∷ []
+  made_is m may =
+      let r = may.read in
+      append_cancel_left (all_syllables r.before) made (m ∷ [])
+      (sym (made_behind (begun b.spans) b.spans refl refl refl refl r.before r.leaves 0 (omega arith) events).made ∙ r.one)
+
+  pub one_syllable : (m n : UnplacedSyllable) → MayBeHeld limits b text m → MayBeHeld limits b text n → m ≡ n
+  one_syllable m n may other = first (sym (made_is m may) ∙ made_is n other)
+    where
+      first : m ∷ [] ≡ n ∷ [] → m ≡ n
+      first e = cc e
