@@ -8,6 +8,7 @@ use Rattle.gabc_places.specs.declared.place.Char.{Char}
 use Rattle.gabc_headers.specs.HeldText.{inputs_of, text_in}
 use Rattle.gabc_headers.specs.Heads.{heads_by, line_place, stop_at, too_long}
 use Rattle.gabc_headers.specs.witness.HeadEvents.{HeaderStageState, HeadProgress, reading, behind, fresh_stage, progress_after, progress_by, progress_with, stage_at, stage_past}
+use Rattle.gregorio.specs.machine.HeldHeaders.{behind_mark}
 
 -- where no limit is passed
 one_by : (b : Bool) → b ≡ false
@@ -27,10 +28,6 @@ one_percent limits = one_by (nat_lt limits.header 1) (le-ltb limits.header 1 (le
 two_percents : (limits : Limits) → progress_with limits (37 ∷ []) 37 ≡ behind []
 two_percents limits =
     two_by (nat_lt limits.header 0) (nat_lt limits.input 3) (le-ltb limits.header 0 (omega arith)) (le-ltb limits.input 3 (let h = limits.in_range.input_least in omega (arith, h)))
-
--- behind the line `%%` alone
-abbrev pub behind_mark : Limits → HeaderStageState
-behind_mark limits = record { limits = limits; progress = behind []; book = [] }
 
 behind_two : (limits : Limits) (x y : Char) → x.c ≡ 37 → y.c ≡ 37 → stage_past (fresh_stage limits) (Ok x ∷ Ok y ∷ []) ≡ behind_mark limits
 behind_two limits x y one two =

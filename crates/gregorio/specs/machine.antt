@@ -7,6 +7,7 @@ pub mod InMemory
 pub mod InStep
 pub mod PartsOfStates
 pub mod ReadsHeaders
+pub mod Restored
 pub mod Restoring
 pub mod RunWriter
 pub mod Saving

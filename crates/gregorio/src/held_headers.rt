@@ -1,11 +1,13 @@
 //! The text of the headers so far, read again by a stage.
 
-ghost use Rattle.std.specs.Prelude.{◌≡◌, ◌≤◌, ◌<◌, ◌^◌, length, Ok};
+ghost use Rattle.std.specs.Prelude.{◌≡◌, ◌↔◌, ◌≤◌, ◌<◌, ◌^◌, length, true, IsTrue, Ok};
 ghost use Rattle.std.specs.List.{list_any};
 ghost use Rattle.std.specs.Str.{chars};
 ghost use Rattle.gabc_places.specs.Place.{place_after};
+ghost use Rattle.gabc_headers.specs.HeldText.{holding};
 ghost use Rattle.gabc_headers.specs.witness.HeadEvents.{events_of_input, fresh_stage, stage_after};
-ghost use Rattle.gregorio.specs.machine.HeldHeaders.{IsPushed, is_error_event as error_event};
+ghost use Rattle.gregorio.specs.Saved.{GivesHeaders};
+ghost use Rattle.gregorio.specs.machine.HeldHeaders.{IsPushed, behind_mark, is_error_event as error_event};
 
 use crate::findings::is_error;
 use gabc_headers::{HeadEvent, HeaderStage};
@@ -50,13 +52,9 @@ fn push_character(heads: &mut HeaderStage, x: Char, events: &mut Room<HeadEvent>
     has_error(events.slice())
 }
 
-/// Pushes the characters of `text` into `heads`, which stands before the first one, and returns what they give. `events` has room for what the stage
-/// emits of a character.
-pub(crate) fn push_text(
-    heads: &mut HeaderStage,
-    text: &str,
-    events: &mut Room<HeadEvent>,
-) -> HeldHeaders
+/// Pushes the characters of `text` into `heads`, which stands before the first one, and returns what they give. `events` has room for what is emitted of
+/// one.
+fn push_text(heads: &mut HeaderStage, text: &str, events: &mut Room<HeadEvent>) -> HeldHeaders
     requires fresh { heads.old ≡ fresh_stage heads.old.limits }
     requires short { length text.now < 2 ^ 63 }
     requires room { 2 ≤ events.old.limit }
@@ -77,4 +75,36 @@ pub(crate) fn push_text(
         };
     }
     given
+}
+
+/// Reads `text` with `heads`, which stands before its first character. Returns whether its end alone stops it, and it gives what `told` says. `events` has
+/// room for what is emitted of a character.
+pub(crate) fn holds_text(
+    heads: &mut HeaderStage,
+    text: &str,
+    told: HeldHeaders,
+    events: &mut Room<HeadEvent>,
+) -> bool
+    requires fresh { heads.old ≡ fresh_stage heads.old.limits }
+    requires short { length text.now < 2 ^ 63 }
+    requires room { 2 ≤ events.old.limit }
+    ensures gives { IsTrue result
+        ↔ GivesHeaders heads.old.limits (chars text.now) told.place told.has_error }
+    ensures holds { result ≡ true → heads.new ≡ holding heads.old.limits (chars text.now) }
+{
+    gabc_headers::stage_laws::a_held_text_is_held_again();
+    let given = push_text(heads, text, events);
+    if heads.text().is_none() {
+        return false;
+    }
+    given == told
+}
+
+/// Reads the line `%%` with `heads`, which stands before the first character of a text. `events` has room for what is emitted of a character.
+pub(crate) fn read_mark(heads: &mut HeaderStage, events: &mut Room<HeadEvent>)
+    requires fresh { heads.old ≡ fresh_stage heads.old.limits }
+    requires room { 2 ≤ events.old.limit }
+    ensures { heads.new ≡ behind_mark heads.old.limits }
+{
+    let _ = push_text(heads, "%%", events);
 }

@@ -1,76 +1,33 @@
 //! STUB: a stage over a score, set down again from the fields of a state.
 
+ghost use Rattle.std.specs.Prelude.{◌≡◌, false, Err, IfOk};
+ghost use Rattle.gabc_score.specs.ScoreTells.{is_in_front};
+ghost use Rattle.gregorio_state.specs.Conditions.{AreStateFields};
+ghost use Rattle.gregorio_state.specs.Fields.{InScore, fields_of, phase_of, score_of};
+ghost use Rattle.gregorio.specs.SavedState.{IsScoreRead};
+ghost use Rattle.gregorio.specs.machine.Restoring.{IsSetDown};
+
 use crate::state_fault::StateFault;
-use gabc_places::{ByteCounter, Room};
-use gabc_score::{Before, Openers, ScoreEvent, ScoreStage, Spans, canon_starting};
+use gabc_score::ScoreStage;
 use gregorio_state::{ScoreFields, StateFields};
 use std::alloc::Global;
 
-/// Returns what stands before the syllable that is held.
-fn before_held(fields: &ScoreFields) -> Before {
-    Before {
-        nabc_lines: fields.nabc_lines,
-        macros: fields.macros,
-        syllables: fields.syllables.saturating_sub(1) as u64,
-        canonical: (fields.canonical as usize).saturating_sub(fields.held.len()),
-        spans: Spans {
-            eu: fields.in_eu,
-            nlba: fields.in_nlba,
-        },
-        sounded: fields.sounded,
-    }
-}
-
-/// Returns whether the syllable that is held has this text.
-fn holds(alloc: Global, stage: &ScoreStage, first: bool, held: &str) -> Result<bool, StateFault> {
-    let Some(syllable) = stage.held() else {
-        return Ok(false);
-    };
-    let mut counter = ByteCounter::new();
-    canon_starting(syllable, first || syllable.text.word_start, &mut counter);
-    if counter.count() != held.len() {
-        return Ok(false);
-    }
-    let Ok(mut text) = Room::with_limit(alloc, held.len()) else {
-        return Err(StateFault::K0);
-    };
-    canon_starting(syllable, first || syllable.text.word_start, &mut text);
-    Ok(text.slice() == held.as_bytes())
-}
-
-/// Returns the stage over a score that `fields` set down.
+/// Returns a stage over a score that tells what `fields` say, the fields of the score of `state`. The error is `K1` where a text of them is not read
+/// as they say, under the limits of the state, and `K0` where there is no memory.
 pub(crate) fn set_down(
-    alloc: Global,
-    state: &StateFields,
-    fields: &ScoreFields,
-) -> Result<ScoreStage, StateFault> {
-    let Ok(mut room) = Room::<ScoreEvent>::with_limit(alloc, 16) else {
-        return Err(StateFault::K0);
-    };
-    let Ok(mut stage) = ScoreStage::resume(alloc, state.limits, before_held(fields)) else {
-        return Err(StateFault::K0);
-    };
-    if !fields.held.is_empty() {
-        let first = fields.syllables <= 1;
-        if !stage.hold_again(fields.held, &mut room) {
-            return Err(StateFault::K1);
-        }
-        if !holds(alloc, &stage, first, fields.held)? {
-            return Err(StateFault::K1);
-        }
-    }
-    let openers = Openers {
-        notes: fields.notes_opener,
-        inner: fields.inner_opener,
-    };
-    if !stage.read_again(fields.kept, openers, fields.in_comment, state.place) {
-        return Err(StateFault::K1);
-    }
-    if stage.reading() != fields.kept
-        || stage.openers() != Some(openers)
-        || stage.in_comment() != Some(fields.in_comment)
-    {
-        return Err(StateFault::K1);
-    }
-    Ok(stage)
+    _alloc: Global,
+    _state: &StateFields<'_>,
+    _fields: &ScoreFields<'_>,
+) -> Result<ScoreStage, StateFault>
+    requires state { AreStateFields (fields_of _state.now) }
+    requires phase { phase_of _state.now.phase ≡ InScore (score_of _fields.now) }
+    ensures told { IfOk result (λ stage.
+        IsSetDown (fields_of _state.now) (score_of _fields.now) stage) }
+    ensures front { IfOk result (λ stage. is_in_front stage.body.part ≡ false) }
+    ensures read { IfOk result (λ stage. IsScoreRead _state.now.limits (score_of _fields.now)) }
+    ensures refused { result ≡ Err StateFault.K1 →
+        IsScoreRead _state.now.limits (score_of _fields.now) → ⊥ }
+    ensures never { result ≡ Err StateFault.K2 → ⊥ }
+{
+    Err(StateFault::K0)
 }

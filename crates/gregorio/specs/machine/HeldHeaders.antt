@@ -1,5 +1,5 @@
 -- A text of headers that is pushed into a fresh stage, and what is found in it.
-use Rattle.std.specs.Prelude.{◌≡◌, ℕ, List, Bool, false}
+use Rattle.std.specs.Prelude.{◌≡◌, ℕ, List, [], Bool, false}
 use Rattle.std.specs.List.{All, list_any}
 use Rattle.std.specs.Char.{IsScalar}
 use Rattle.gabc_places.specs.declared.limits.Limits.{Limits}
@@ -32,3 +32,7 @@ pub record IsPushed (limits : Limits) (t : List ℕ) (h : HeaderStageState) (err
   pub scalars : All IsScalar t
   pub past : h ≡ stage_past (fresh_stage limits) (inputs_of xs)
   pub holds : HoldsSo limits t error h.progress
+
+-- behind the line `%%` alone
+abbrev pub behind_mark : Limits → HeaderStageState
+behind_mark limits = record { limits = limits; progress = behind []; book = [] }

@@ -1,5 +1,6 @@
 use Rattle.std.proofs.Common.{◌≡◌, ℕ, ◌-◌, ◌^◌, List, [], ◌∷◌, ◌++◌, length, true, IsUtf8, refl, sym, ap, subst, ◌∙◌, append_assoc, append-nil, arith}
 use Rattle.std.proofs.lemmas.Bool.{and_parts}
+use Rattle.std.specs.Char.{IsScalar}
 use Rattle.std.specs.Str.{chars}
 use Rattle.std.specs.Str.Iter.{chars_rest}
 use Rattle.gabc_places.specs.Place.{place_after}
@@ -37,7 +38,7 @@ loop-c-preserved c =
     let next = chars_rest c.next.new.self in
     let past = chars_past_char rest next c.in-Some.c i.utf8 step in
     let here = c.loop-c.given.place in
-    let scalar = (and_parts _ _ (subst (λ (cs : List ℕ). scalars cs ≡ true) past (scalars-chars rest i.utf8))).0 in
+    let scalar : IsScalar c.in-Some.c = (and_parts _ _ (subst (λ (cs : List ℕ). scalars cs ≡ true) past (scalars-chars rest i.utf8))).0 in
     let fits = within_on here (length rest) (length next) (2 ^ 64 - 1) (2 ^ 64 - 1) (shorter rest next c.in-Some.c step) (omega (arith, i.line)) (omega (arith, i.column)) c.in-Some.c c.after.result c.after.ensures.next in
     record {
       can = tt;
