@@ -1,11 +1,16 @@
 -- A stage over a score that is set down again from what another one tells.
-use Rattle.std.specs.Prelude.{◌≡◌, ◌==◌, Bool, List, Option, Some, None}
+use Rattle.std.specs.Prelude.{◌≡◌, ◌==◌, ℕ, Bool, List, Option, Some, None, encode_utf8_all}
+use Rattle.gabc_places.specs.declared.limits.Limits.{Limits}
 use Rattle.gabc_headers.specs.declared.head_event.HeadEvent.{HeadEvent}
 use Rattle.gabc_score.specs.declared.syllable.Position.{Position}
+use Rattle.gabc_score.specs.declared.before.Before.{Before}
+use Rattle.gabc_score.specs.Before.{preceding_of}
 use Rattle.gabc_score.specs.Canonical.{canonical_in_place}
+use Rattle.gabc_score.specs.HeldAgain.{MayBeHeld}
 use Rattle.gabc_score.specs.HeldAside.{HoldTheSame, GiveTheSame}
 use Rattle.gabc_score.specs.ScoreTells.{held_of}
 use Rattle.gabc_score.specs.Syllable.{UnplacedSyllable}
+use Rattle.gabc_score.specs.ToldWithin.{written_behind}
 use Rattle.gabc_score.specs.witness.ScoreStage.{ScoreStageState, left_of}
 use Rattle.gabc_write.specs.DumpOfSyllables.{HaveOneDump}
 use Rattle.gabc_write.specs.SyllableMeaning.{meaning_of}
@@ -17,6 +22,15 @@ SayTheSame first None None = Unit {0}
 SayTheSame first (Some m) (Some n) =
     (position : Position) → meaning_of (record { made = as_it_stands first m; position = position }) ≡ meaning_of (record { made = as_it_stands first n; position = position })
 SayTheSame first _ _ = ⊥
+
+-- Behind what `before` tells, the canonical text of a syllable spells this text. Read by itself the text is a syllable that may be held there, and has the
+-- same canonical text.
+pub record MayBeHeldByItsText (limits : Limits) (before : Before) (m : UnplacedSyllable) : Type 0 where
+  pub text : List ℕ
+  pub bytes : written_behind (preceding_of before) m ≡ encode_utf8_all text
+  pub again : UnplacedSyllable
+  pub may : MayBeHeld limits before text again
+  pub same_text : written_behind (preceding_of before) again ≡ written_behind (preceding_of before) m
 
 -- Whatever follows, the one gives what the other gives. Only the syllable that it holds stands where the other gives its own: it says the same, and
 -- has the same canonical text.

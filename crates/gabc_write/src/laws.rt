@@ -1,6 +1,6 @@
 //! Laws of the definitions alone. Each function's contract is a law; its body calls the laws below that it stands on.
 
-ghost use Rattle.std.specs.Prelude.{◌≡◌, ◌≤◌, ◌<◌, ◌+◌, ◌*◌, ◌^◌, ◌⊎◌, ◌++◌, ◌∷◌, ℕ, Bool, List, length, false, Some, Ok, encode_utf8_all, IfSome, IsUtf8};
+ghost use Rattle.std.specs.Prelude.{◌≡◌, ◌≤◌, ◌<◌, ◌+◌, ◌*◌, ◌^◌, ◌⊎◌, ◌++◌, ◌∷◌, ℕ, Bool, List, length, true, false, Some, Ok, encode_utf8_all, is_some, IfSome, IsUtf8};
 ghost use Rattle.std.specs.List.{All};
 ghost use Rattle.gabc_places.specs.declared.place.Place.{Place};
 ghost use Rattle.gabc_places.specs.declared.place.Char.{Char};
@@ -19,7 +19,7 @@ ghost use Rattle.gabc_score.specs.Syllable.{UnplacedSyllable, PlacedSyllable};
 ghost use Rattle.gabc_score.specs.Canonical.{canonical, starts_word};
 ghost use Rattle.gabc_score.specs.declared.snippets.Snippet.{Snippet};
 ghost use Rattle.gabc_score.specs.declared.syllable.Position.{Position};
-ghost use Rattle.gabc_score.specs.ScoreTells.{held_of};
+ghost use Rattle.gabc_score.specs.ScoreTells.{before_of, before_with, held_of};
 ghost use Rattle.gabc_score.specs.Units.{BodyCutting, IsCut};
 ghost use Rattle.gabc_score.specs.UnitRead.{HoldsSomeUnit};
 ghost use Rattle.gabc_score.specs.SyllablesOfUnits.{ScoreUnit, HoldsUnit, AreSyllablesOf, score_units};
@@ -28,7 +28,7 @@ ghost use Rattle.gabc_write.specs.BodyAgain.{SyllableFacts, AreSyllables, FirstB
 ghost use Rattle.gabc_write.specs.FileAgain.{IsFileAgain};
 ghost use Rattle.gabc_write.specs.ScoreAgain.{IsPrintedScore, IsScoreAgain};
 ghost use Rattle.gabc_write.specs.PlainText.{IsText};
-ghost use Rattle.gabc_write.specs.SetDown.{SayTheSame};
+ghost use Rattle.gabc_write.specs.SetDown.{MayBeHeldByItsText, SayTheSame};
 ghost use Rattle.gabc_write.specs.SyllableMeaning.{AreSame};
 ghost use Rattle.gabc_write.specs.SyllableRead.{as_it_stands, IsReadFromItsText, IsReadWhereItStands};
 ghost use Rattle.gabc_score.specs.Holding.{HasWholeSnippets, Holds, HoldsNoNotes};
@@ -80,6 +80,18 @@ pub fn what_is_held_is_read_from_its_own_text(stage: &ScoreStage)
     gabc_score::stage_laws::what_is_held_holds_a_unit(stage);
     gabc_score::stage_laws::what_is_held_is_within_the_limits(stage);
     a_syllable_is_read_from_its_own_text();
+}
+
+/// The whole syllable that a stage over a score holds in the body, whatever the stage has read, may be held by its canonical text: read by itself, behind
+/// what stands before the syllable, this text is one syllable with the same canonical text there. No limit is passed with it, and no error is found in it.
+pub fn what_is_held_may_be_held_by_its_text(stage: &ScoreStage)
+    requires runs { is_some (before_of stage.now) ≡ true }
+    ensures { IfSome (held_of stage.now) (MayBeHeldByItsText stage.now.limits
+        (before_with stage.now.body stage.now.before)) }
+{
+    gabc_score::stage_laws::what_is_told_is_within_the_limits(stage);
+    gabc_score::unit_laws::some_events_leave_spans_open();
+    what_is_held_is_read_from_its_own_text(stage);
 }
 
 /// The canonical texts of the syllables of a score's units, with the LF that ends a file, are a body of printed syllables, the

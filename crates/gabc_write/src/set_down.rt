@@ -8,15 +8,13 @@ ghost use Rattle.gabc_score.specs.ToldWithin.{IsToldWithin, written_behind};
 ghost use Rattle.gabc_write.specs.SetDown.{GoesOnAlike};
 ghost use Rattle.gabc_write.specs.machine.SetDown.{BeginsAlike, TellsAlike};
 
-use crate::laws::what_is_held_is_read_from_its_own_text;
+use crate::laws::{what_is_held_is_read_from_its_own_text, what_is_held_may_be_held_by_its_text};
 use gabc_places::Room;
 use gabc_score::stage_laws::{
     spans_of_what_is_held_follow, stages_that_tell_the_same_agree, what_is_held_holds_a_unit,
     what_is_read_can_be_read_again, what_is_told_is_within_the_limits,
 };
-use gabc_score::unit_laws::{
-    snippets_of_a_unit_stand_between_characters, some_events_leave_spans_open,
-};
+use gabc_score::unit_laws::snippets_of_a_unit_stand_between_characters;
 use gabc_score::{ScoreEvent, ScoreStage};
 
 /// Holds the syllable that `told` holds, if it holds one, by its canonical text `held`. Returns whether that text is a syllable.
@@ -40,10 +38,10 @@ fn hold_told(
     let Some(_) = told.held() else {
         return true;
     };
+    what_is_held_may_be_held_by_its_text(told);
     what_is_held_is_read_from_its_own_text(told);
     what_is_held_holds_a_unit(told);
     spans_of_what_is_held_follow(told);
-    some_events_leave_spans_open();
     snippets_of_a_unit_stand_between_characters();
     stage.hold_again(held, room)
 }

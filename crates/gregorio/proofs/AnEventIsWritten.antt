@@ -98,6 +98,7 @@ module _ (score mid : ScoreStageState) (writer : RunWriterState) (now : ScoreWri
       last = step.last;
       before_held = step.before_held;
       counts = step.counts;
+      whole = step.whole;
       written = ap (λ (v : RunWriterState). v.written) new_is;
       in_heads = λ heads. passed_in_heads score x step.outputs (left_of mid []) heads (step.law []);
       tells = record { limits = step.limits; next = step.next; told = step.told; holds = step.holds; line = step.line; front = step.front };

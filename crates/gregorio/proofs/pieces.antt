@@ -9,7 +9,9 @@ pub mod BytesAreTaken
 pub mod FrontIsTaken
 pub mod NothingIsKeptBack
 pub mod InputsAreEnded
+pub mod WrittenGoesOn
 pub mod PartsStayInStep
+pub mod HeadersStayInStep
 pub mod StatesAreWhole
 pub mod StatesBeforeHeld
 pub mod StatesOfHeaders

@@ -1,5 +1,5 @@
 -- The text of a syllable may be held again behind what stands before it, and what may be held with it may stand for that syllable.
-use Rattle.std.proofs.Common.{◌≡◌, ℕ, ◌+◌, ◌<◌, ◌≤◌, ◌==◌, ◌||◌, ◌&&◌, Bool, true, false, List, [], ◌∷◌, ◌++◌, length, get_or, map, is_some, encode_utf8_all, Some, refl, sym, ap, ap₂, subst, ◌∙◌, arith}
+use Rattle.std.proofs.Common.{◌≡◌, ℕ, ◌+◌, ◌<◌, ◌≤◌, ◌==◌, ◌||◌, ◌&&◌, Bool, true, false, List, [], ◌∷◌, ◌++◌, length, get_or, map, is_some, encode_utf8_all, Option, Some, None, IfSome, refl, sym, ap, ap₂, subst, ◌∙◌, arith}
 use Rattle.std.specs.List.{All, list_any}
 use Rattle.std.proofs.lemmas.List.{append_cancel_left}
 use Rattle.std.proofs.lemmas.List.Elements.{All-head, All-tail}
@@ -17,11 +17,11 @@ use Rattle.gabc_score.specs.Holding.{HasWholeSnippets}
 use Rattle.gabc_score.specs.ScoreEvents.{first_place}
 use Rattle.gabc_score.specs.SpansPast.{FollowsSpans, eu_past, nlba_past}
 use Rattle.gabc_score.specs.Syllable.{UnplacedSyllable, all_syllables, slice, text_at}
-use Rattle.gabc_score.specs.ToldWithin.{written_behind}
+use Rattle.gabc_score.specs.ToldWithin.{IsHeldWithin, written_behind}
 use Rattle.gabc_score.specs.UnitRead.{HoldsSomeUnit}
-use Rattle.gabc_write.specs.SetDown.{SayTheSame}
+use Rattle.gabc_write.specs.SetDown.{MayBeHeldByItsText, SayTheSame}
 use Rattle.gabc_write.specs.SyllableMeaning.{SyllableMeaning, meaning_of}
-use Rattle.gabc_write.specs.SyllableRead.{as_it_stands, SaysTheSame, IsReadByItself, IsReadFromItsText}
+use Rattle.gabc_write.specs.SyllableRead.{as_it_stands, SaysTheSame, IsReadByItself, IsReadFromItsText, IsReadWhereItStands}
 
 -- ---- whether it sounds is said
 
@@ -99,6 +99,9 @@ module _ (limits : Limits) (before : Before) (m : UnplacedSyllable) (own : IsRea
     pub may_be_held : (n : UnplacedSyllable) × MayBeHeld limits before own.text n
     may_be_held = (read.again, again_may_be_held)
 
+    pub by_its_text : MayBeHeldByItsText limits before m
+    by_its_text = record { text = own.text; bytes = bytes_behind; again = read.again; may = again_may_be_held; same_text = again_behind }
+
   module _ (spans : FollowsSpans before.spans m) (holds : HoldsSomeUnit before.nabc_lines m)
       (whole : (lines : ℕ) (n : UnplacedSyllable) → HoldsSomeUnit lines n → HasWholeSnippets n) (n : UnplacedSyllable) (h : MayBeHeld limits before own.text n) where
     one : IsReadByItself before.nabc_lines before.macros (as_it_stands first m) own.text first_place h.read.before
@@ -126,3 +129,8 @@ module _ (limits : Limits) (before : Before) (m : UnplacedSyllable) (own : IsRea
         ∙ sym (one.says position)
         ∙ ap (λ (b : Bool). meaning_of (record { made = record one.again { text = record one.again.text { word_start = b } }; position = position })) (sym (starts_are one.again one.says))
         ∙ ap (λ (s : UnplacedSyllable). meaning_of (record { made = as_it_stands first s; position = position })) one_is
+
+pub held_by_its_text : (limits : Limits) (before : Before) (o : Option UnplacedSyllable) → CanBeOpen before.spans → IfSome o (IsReadWhereItStands before.nabc_lines before.macros)
+    → IfSome o (IsHeldWithin limits (preceding_of before)) → IfSome o (MayBeHeldByItsText limits before)
+held_by_its_text limits before None opened own within = tt
+held_by_its_text limits before (Some m) opened own within = by_its_text limits before m (own (before.syllables == 0)) opened within.short within.file

@@ -5,10 +5,9 @@ use Rattle.std.specs.Str.{chars}
 use Rattle.std.proofs.lemmas.Str.{chars_from_encodes}
 use Rattle.gabc_places.specs.declared.limits.Limits.{Limits}
 use Rattle.gabc_score.specs.declared.before.Before.{Before}
-use Rattle.gabc_score.specs.declared.before.Spans.{Spans}
 use Rattle.gabc_score.specs.declared.score_machine.ScorePart.{ScorePart}
 use Rattle.gabc_score.specs.declared.score_machine.ScorePart.TheVariants as score_part
-use Rattle.gabc_score.specs.HeldAgain.{CanBeOpen, MayBeHeld}
+use Rattle.gabc_score.specs.HeldAgain.{MayBeHeld}
 use Rattle.gabc_score.specs.HeldAside.{HoldTheSame, MayStandFor}
 use Rattle.gabc_score.specs.Holding.{HasWholeSnippets}
 use Rattle.gabc_score.specs.Resumed.{HoldsAgain, StandsBehind}
@@ -18,10 +17,10 @@ use Rattle.gabc_score.specs.Syllable.{UnplacedSyllable}
 use Rattle.gabc_score.specs.ToldWithin.{IsHeldWithin, written_behind}
 use Rattle.gabc_score.specs.UnitRead.{HoldsSomeUnit}
 use Rattle.gabc_score.specs.witness.ScoreStage.{ScoreStageState}
-use Rattle.gabc_write.specs.SetDown.{SayTheSame}
+use Rattle.gabc_write.specs.SetDown.{MayBeHeldByItsText, SayTheSame}
 use Rattle.gabc_write.specs.SyllableRead.{as_it_stands, IsReadFromItsText}
 use Rattle.gabc_write.specs.machine.SetDown.{BeginsAlike}
-use Rattle.gabc_write.proofs.reading_again.HeldAgain.{bytes_behind, may_be_held, says_again, stands_for}
+use Rattle.gabc_write.proofs.reading_again.HeldAgain.{bytes_behind, says_again, stands_for}
 
 abbrev pub told_before : ScoreStageState → Before
 told_before s = before_with s.body s.before
@@ -62,20 +61,19 @@ module _ (told old : ScoreStageState) (runs : is_some (before_of told) ≡ true)
     pub held_fits : length held < 2 ^ 63
     held_fits = let few = subst (λ (t : List ℕ). length t ≤ told.limits.syllable) (sym text) within.short in let most = told.limits.in_range.syllable_most in omega (arith, few, most)
 
+    -- the text may be held there
+    pub is_held : IsUtf8 held → MayBeHeldByItsText told.limits (told_before told) m → (result : Bool)
+        → (result ≡ false → (n : UnplacedSyllable) → MayBeHeld old.limits (told_before old) (chars held) n → ⊥) → result ≡ true
+    is_held utf8 by true refused = refl
+    is_held utf8 by false refused =
+        absurd (refused refl by.again
+        (subst (λ (limits : Limits). MayBeHeld limits (told_before old) (chars held) by.again) (sym stands.limits_are)
+        (subst (λ (b : Before). MayBeHeld told.limits b (chars held) by.again) (sym before_old)
+        (subst (λ (t : List ℕ). MayBeHeld told.limits (told_before told) t by.again) (chars_from_encodes by.text held utf8 (sym by.bytes ∙ sym text)) by.may))))
+
     module _ (utf8 : IsUtf8 held) (own : IsReadFromItsText told.body.nabc_lines told.body.macros (as_it_stands (told.before.syllables == 0) m)) where
       text_is : own.text ≡ chars held
       text_is = chars_from_encodes own.text held utf8 (sym (bytes_behind told.limits (told_before told) m own) ∙ sym text)
-
-      -- the text may be held there
-      pub is_held : (opened : (spans : Spans) → CanBeOpen spans) (result : Bool)
-          → (result ≡ false → (n : UnplacedSyllable) → MayBeHeld old.limits (told_before old) (chars held) n → ⊥) → result ≡ true
-      is_held opened true refused = refl
-      is_held opened false refused =
-          let k = may_be_held told.limits (told_before told) m own (opened told.before.spans) within.short within.file in
-          absurd (refused refl k.0
-          (subst (λ (limits : Limits). MayBeHeld limits (told_before old) (chars held) k.0) (sym stands.limits_are)
-          (subst (λ (b : Before). MayBeHeld told.limits b (chars held) k.0) (sym before_old)
-          (subst (λ (t : List ℕ). MayBeHeld told.limits (told_before told) t k.0) text_is k.1))))
 
       pub begins_with_one : (whole : (lines : ℕ) (n : UnplacedSyllable) → HoldsSomeUnit lines n → HasWholeSnippets n) (new : ScoreStageState)
           → FollowsSpans told.before.spans m → HoldsSomeUnit told.body.nabc_lines m → HoldsAgain (chars held) old new → BeginsAlike told new

@@ -19,7 +19,8 @@ use Rattle.gregorio.specs.machine.ClefInForce.{HasClefOfSounds, IsClefIn}
 use Rattle.gregorio.specs.machine.InStep.{PassesOn, given_in_heads}
 use Rattle.gregorio.specs.machine.ScoreWriter.{ScoreWriterState}
 use Rattle.gregorio.specs.witness.Engine.{Written, behind_output, behind_outputs}
-use Rattle.gregorio.proofs.pieces.PartsStayInStep.{body_goes, went_on_past}
+use Rattle.gregorio.proofs.pieces.PartsStayInStep.{body_goes}
+use Rattle.gregorio.proofs.pieces.WrittenGoesOn.{went_on_past}
 use Rattle.gregorio_jobs.specs.declared.job.Format.{Format}
 use Rattle.gregorio_jobs.specs.declared.job.Format.TheVariants.{Gabc, Dump}
 

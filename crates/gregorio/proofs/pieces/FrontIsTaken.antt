@@ -47,6 +47,7 @@ nothing_is_given w at bytes score headed a = record {
   part = a.part;
   before_held = a.before_held;
   counts = a.counts;
+  whole = a.whole;
   writer = refl;
   law = λ book from_heads.
       in_body w.writer.written book (body_inputs at bytes ++ from_heads) (left_of w.score (body_inputs at bytes ++ from_heads)) headed
@@ -59,7 +60,7 @@ pub silent_later : (before after : ScoreStageState) (at : Place) (bytes : List �
 silent_later before after at bytes a silent = λ xs. sym (given_later before after at bytes a xs) ∙ silent (body_inputs at bytes ++ xs)
 
 pub none_is_given : (w : ScoreWriterState) (at : Place) → WritesNothing w at [] w
-none_is_given w at = record { headed = λ some. absurd (omega (arith, some)); limits = refl; part = refl; before_held = refl; counts = λ was. was; writer = refl; law = λ book from_heads. refl; tells = record { next = refl; told = λ here stands told. told; holds = λ holds. holds; none = λ none. refl } }
+none_is_given w at = record { headed = λ some. absurd (omega (arith, some)); limits = refl; part = refl; before_held = refl; counts = λ was. was; whole = refl; writer = refl; law = λ book from_heads. refl; tells = record { next = refl; told = λ here stands told. told; holds = λ holds. holds; none = λ none. refl } }
 
 -- ---- what a decoder gives
 

@@ -25,7 +25,8 @@ use Rattle.gregorio.specs.machine.Telling.{TellsOn}
 use Rattle.gregorio.specs.machine.TellsInStep.{IsInHeads}
 use Rattle.gregorio.proofs.StreamsOfOutputs.{headed_stays}
 use Rattle.gregorio.proofs.pieces.HeadersAreRead.{GivesInput}
-use Rattle.gregorio.proofs.pieces.PartsStayInStep.{heads_stay, went_on_past}
+use Rattle.gregorio.proofs.pieces.HeadersStayInStep.{heads_stay}
+use Rattle.gregorio.proofs.pieces.WrittenGoesOn.{went_on_past}
 
 -- the headers are not written, and a run that goes on is in them
 record BeforeHeads (limits : Limits) (s : ScoreWriterState) : Type 0 where

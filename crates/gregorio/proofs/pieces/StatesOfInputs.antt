@@ -1,19 +1,28 @@
 -- What the state of an engine that runs says of its input.
-use Rattle.std.proofs.Common.{◌≡◌, ℕ, ◌≤◌, List, Bool, true, Option, Some, None, refl, subst, arith}
+use Rattle.std.proofs.Common.{◌≡◌, ℕ, ◌+◌, ◌≤◌, List, [], ◌∷◌, length, Bool, true, refl, subst, arith}
 use Rattle.gabc_places.specs.DecoderTells.{MayBeTold, is_after_cr}
 use Rattle.gabc_headers.specs.witness.HeadEvents.{HeadProgress, reading, behind, over, IsInHeaders}
 use Rattle.gabc_score.specs.declared.score_machine.ScorePart.{ScorePart}
 use Rattle.gabc_score.specs.declared.score_machine.ScorePart.TheVariants as score_part
-use Rattle.gabc_score.specs.ScoreTells.{held_of}
+use Rattle.gabc_score.specs.ScoreTells.{held_in_body, held_of}
 use Rattle.gabc_score.specs.Syllable.{UnplacedSyllable}
+use Rattle.gabc_score.specs.ToldWithin.{whole_syllables}
+use Rattle.gabc_score.specs.witness.ScoreStage.{ScoreStageState}
 use Rattle.gregorio.specs.Saved.{held_count, phase_fields, state_of}
 use Rattle.gregorio.specs.machine.PartsOfStates.{AreSyllablesWithin, IsForceIn, IsStateOfInput}
 use Rattle.gregorio.specs.witness.Engine.{EngineState}
 use Rattle.gregorio.specs.machine.InStep.{AreInOnePart, HasForce, RunsInStep}
 
-pub one_at_most : (held : Option UnplacedSyllable) → held_count held ≤ 1
-one_at_most None = omega arith
-one_at_most (Some m) = omega arith
+-- a syllable that is held is whole
+held_is_whole : (part : ScorePart) (made : List UnplacedSyllable) → held_count (held_in_body part made) ≤ length made
+held_is_whole score_part.Body [] = omega arith
+held_is_whole score_part.Body (m ∷ ms) = omega arith
+held_is_whole score_part.Heads made = omega arith
+held_is_whole score_part.Over made = omega arith
+
+-- so those before it and it are among the whole ones
+pub held_among_whole : (s : ScoreStageState) → s.before.syllables + held_count (held_of s) ≤ whole_syllables s
+held_among_whole s = let few = held_is_whole s.part s.held.gathered.made in omega (arith, few)
 
 pub behind_is_headed : (part : ScorePart) (headed : Bool) (progress : HeadProgress) (book : List (List ℕ × List ℕ)) → progress ≡ behind book → AreInOnePart (behind book) part headed → headed ≡ true
 behind_is_headed score_part.Heads headed progress book e parts = absurd parts
@@ -33,8 +42,8 @@ module _ (e : EngineState) (force : HasForce e.written) (run : RunsInStep e.deco
   syllables (reading t) parts = tt
   syllables (behind book) parts =
       let taken = run.taken (behind_is_headed e.score.part e.written.headed (behind book) book refl parts) in
-      let one = one_at_most (held_of e.score) in
-      omega (arith, taken, one)
+      let among = held_among_whole e.score in
+      omega (arith, taken, among)
   syllables over parts = absurd parts
 
   in_force : (p : HeadProgress) → AreInOnePart p e.score.part e.written.headed → IsForceIn e.written.format (phase_fields p e.written.force e.score)

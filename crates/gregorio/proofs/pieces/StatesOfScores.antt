@@ -30,7 +30,7 @@ use Rattle.gregorio.specs.witness.Engine.{EngineState, Written}
 use Rattle.gregorio.specs.machine.InStep.{AreInOnePart, RunsInStep}
 use Rattle.gregorio.specs.machine.TellsInStep.{TellsInBody, TellsInStep}
 use Rattle.gregorio.proofs.pieces.PartsStayInStep.{in_body}
-use Rattle.gregorio.proofs.pieces.StatesOfInputs.{behind_is_headed, one_at_most}
+use Rattle.gregorio.proofs.pieces.StatesOfInputs.{behind_is_headed, held_among_whole}
 
 no_text : IsText []
 no_text = record { utf8 = IsUtf8-nil; plain = subst (All IsPlain) (sym chars-nil) (All-nil IsPlain) }
@@ -104,11 +104,11 @@ module _ (e : EngineState) (run : RunsInStep e.decoder e.heads e.score e.written
         let c = of_text.counts in
         let least = c.headers in
         let taken = run.taken headed in
-        let one = one_at_most held in
+        let among = held_among_whole e.score in
         record {
           nabc_lines = c.few_lines;
           macros = c.ten_macros;
-          syllables = omega (arith, taken, one);
+          syllables = omega (arith, taken, among);
           canonical = omega (arith, least);
           below = file_is_below e.score.limits e.score.before held within.held c.below;
         }

@@ -34,7 +34,8 @@ use Rattle.gregorio.specs.machine.ScoreWriter.{ScoreWriterState}
 use Rattle.gregorio.specs.machine.Telling.{TellsThrough}
 use Rattle.gregorio.specs.machine.TellsInStep.{BeginsBody, IsInHeads, IsTelling, StayTelling, TellsInBody, TellsInStep, begun}
 use Rattle.gregorio.proofs.pieces.HeadersEnd.{HeadersEnd, HeadersEndAt, stands_in_front}
-use Rattle.gregorio.proofs.pieces.PartsStayInStep.{Skips, in_body, place_skipped, running_before, same_next, went_on_past}
+use Rattle.gregorio.proofs.pieces.PartsStayInStep.{Skips, in_body, place_skipped, same_next}
+use Rattle.gregorio.proofs.pieces.WrittenGoesOn.{running_before, went_on_past}
 
 -- ---- lines
 

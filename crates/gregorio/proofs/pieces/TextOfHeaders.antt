@@ -31,7 +31,8 @@ use Rattle.gregorio.specs.machine.ReadsHeaders.{IsReadAs, IsReadSoFar, ReadsHead
 use Rattle.gregorio.specs.machine.RunWriter.{RunWriterState}
 use Rattle.gregorio.specs.machine.ScoreWriter.{ScoreWriterState, fresh_writer}
 use Rattle.gregorio.specs.witness.Engine.{Written, behind_outputs}
-use Rattle.gregorio.proofs.pieces.PartsStayInStep.{HeadsYet, found_events, found_passed, in_heads, running_before, went_on_past}
+use Rattle.gregorio.proofs.pieces.HeadersStayInStep.{HeadsYet, found_events, found_passed, in_heads}
+use Rattle.gregorio.proofs.pieces.WrittenGoesOn.{running_before, went_on_past}
 use Rattle.gregorio_jobs.specs.declared.job.Job.{Job}
 use Rattle.gregorio_jobs.specs.declared.job.Status.{Status}
 

@@ -13,7 +13,8 @@ use Rattle.gabc_neumes.specs.InForce.{nothing_in_force}
 use Rattle.gabc_score.specs.declared.score_machine.ScorePart.{ScorePart}
 use Rattle.gabc_score.specs.declared.score_machine.ScorePart.TheVariants as score_part
 use Rattle.gabc_score.specs.ScoreEvents.{ScoreOutput, Found, Stop, End, is_last, syllables_in}
-use Rattle.gabc_score.specs.ScoreStage.{Counts, StandsHere, is_final, most_lent, part_past, place_behind, preceding_past}
+use Rattle.gabc_score.specs.ScoreStage.{Counts, StandsHere, is_final, most_lent, most_whole, part_past, place_behind, preceding_past}
+use Rattle.gabc_score.specs.ToldWithin.{whole_syllables}
 use Rattle.gabc_score.specs.witness.ScoreStage.{ScoreStageState}
 use Rattle.gregorio.specs.witness.Engine.{Written, behind_heads, behind_outputs, writes_heads}
 use Rattle.gregorio.specs.machine.ScoreWriter.{ScoreWriterState}
@@ -38,6 +39,7 @@ pub record PassesOn (old : ScoreStageState) (w : Written) (x : HeadEvent) (new :
   pub last : (old.part ≡ score_part.Over → ⊥) → is_final x ≡ true → list_any is_last outputs ≡ true
   pub before_held : new.score.part ≡ score_part.Body → new.score.before ≡ preceding_past old.part x outputs old.before
   pub counts : (place : Place) → StandsHere x place → Counts place old → Counts (place_behind x place) new.score
+  pub whole : new.score.part ≡ score_part.Body → whole_syllables new.score ≤ most_whole old.part x (whole_syllables old)
   pub written : new.writer.written ≡ behind_outputs w outputs
   pub in_heads : old.part ≡ score_part.Heads → outputs ≡ given_in_heads x
   pub tells : TellsOn old x new.score
@@ -59,15 +61,15 @@ AreInOnePart (reading t) score_part.Heads headed = headed ≡ false
 AreInOnePart (behind book) score_part.Body headed = headed ≡ true
 AreInOnePart progress part headed = ⊥
 
--- An engine that runs: its decoder does, its stages are in one part, as many syllables are written as stand before the one that is held, and more
--- bytes are taken. In the body a text has counted the place where the decoder stands.
+-- An engine that runs: its decoder does, its stages are in one part, as many syllables are written as stand before the one that is held, and no more
+-- are whole than bytes were taken. In the body a text has counted the place where the decoder stands.
 pub record RunsInStep (d : DecoderState) (h : HeaderStageState) (s : ScoreStageState) (w : Written) : Type 0 where
   pub runs : d.running ≡ true
   pub limit : d.limit ≡ s.limits.input
   pub parts : AreInOnePart h.progress s.part w.headed
   pub none : w.headed ≡ false → w.count ≡ 0
   pub count : w.headed ≡ true → w.count ≡ s.before.syllables
-  pub taken : w.headed ≡ true → s.before.syllables + 1 ≤ d.taken
+  pub taken : w.headed ≡ true → whole_syllables s ≤ d.taken
   pub column : 1 ≤ d.place.column
   pub near : d.place.line + d.place.column ≤ d.taken + 2
   pub counts : d.taken ≤ d.limit → Counts d.place s

@@ -11,6 +11,7 @@ use Rattle.gabc_score.specs.declared.score_event.ScoreEvent.TheVariants as event
 use Rattle.gabc_neumes.specs.InForce.{nothing_in_force}
 use Rattle.gabc_score.specs.ScoreEvents.{ScoreOutput, Found, Stop, Syllable, End}
 use Rattle.gabc_score.specs.ScoreStage.{Counts, behind_front, body_inputs, lent_in}
+use Rattle.gabc_score.specs.ToldWithin.{whole_syllables}
 use Rattle.gabc_places.specs.StageLaw.{concat_of}
 use Rattle.gabc_score.specs.witness.ScoreStage.{ScoreStageState, left_of}
 use Rattle.gregorio.specs.Outcome.{input_name}
@@ -63,6 +64,7 @@ pub record WritesNothing (old : ScoreWriterState) (at : Place) (bytes : List ℕ
   pub part : new.score.part ≡ old.score.part
   pub before_held : new.score.before ≡ old.score.before
   pub counts : Counts at old.score → Counts (behind_front at (length bytes) at) new.score
+  pub whole : whole_syllables new.score ≡ whole_syllables old.score
   pub writer : new.writer ≡ old.writer
   pub law : (book : List (List ℕ × List ℕ)) (from_heads : List HeadEvent) → streams_of old book (body_inputs at bytes ++ from_heads) ≡ streams_of new book from_heads
   pub tells : TellsThrough old.score at bytes new.score

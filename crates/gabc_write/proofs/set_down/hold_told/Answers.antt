@@ -3,8 +3,9 @@ use Rattle.gabc_score.specs.SpansPast.{FollowsSpans}
 use Rattle.gabc_score.specs.Syllable.{UnplacedSyllable, unplaced_of}
 use Rattle.gabc_score.specs.ToldWithin.{IsHeldWithin, written_behind}
 use Rattle.gabc_score.specs.UnitRead.{HoldsSomeUnit}
+use Rattle.gabc_write.specs.SetDown.{MayBeHeldByItsText}
 use Rattle.gabc_write.specs.SyllableRead.{IsReadWhereItStands}
-use Rattle.gabc_write.proofs.reading_again.StageHoldsAgain.{begins_with_one, is_held, some_held}
+use Rattle.gabc_write.proofs.reading_again.StageHoldsAgain.{begins_with_one, is_held, some_held, told_before}
 use Rattle.gabc_write.proofs.set_down.hold_told.Goals as goal
 
 pub returns-clause-holds : goal.returns-clause-holds
@@ -15,8 +16,7 @@ returns-clause-holds c =
     is_held told c.args.stage.now c.requires.runs c.requires.stands m is
     (some_held (IsHeldWithin told.limits told.before) _ m is c.requires.within.held) c.args.held.now
     (some_held (λ (n : UnplacedSyllable). c.args.held.now ≡ written_behind told.before n) _ m is c.requires.text) c.utf8.held
-    (some_held (IsReadWhereItStands told.body.nabc_lines told.body.macros) _ m is c.what_is_held_is_read_from_its_own_text.ensures (told.before.syllables == 0))
-    c.some_events_leave_spans_open.ensures c.hold_again.result c.hold_again.ensures.refused
+    (some_held (MayBeHeldByItsText told.limits (told_before told)) _ m is c.what_is_held_may_be_held_by_its_text.ensures) c.hold_again.result c.hold_again.ensures.refused
 
 pub returns-clause-begins : goal.returns-clause-begins
 returns-clause-begins c =

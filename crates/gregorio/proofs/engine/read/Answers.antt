@@ -8,7 +8,8 @@ use Rattle.gregorio.specs.machine.Engine.{event_of_item}
 use Rattle.gregorio.specs.machine.ScoreWriter.{FitsEvents, WritesAt}
 use Rattle.gregorio.proofs.pieces.ItemsAreRead.{reads_item}
 use Rattle.gregorio.specs.machine.InStep.{PassesOn}
-use Rattle.gregorio.proofs.pieces.PartsStayInStep.{body_in_step, went_on_past}
+use Rattle.gregorio.proofs.pieces.PartsStayInStep.{body_in_step}
+use Rattle.gregorio.proofs.pieces.WrittenGoesOn.{went_on_past}
 use Rattle.gregorio.proofs.pieces.TellsInStepOn.{body_stays_telling}
 use Rattle.gregorio.proofs.pieces.RoomIsLeft.{item_is_few, room_for_first, room_with_end}
 use Rattle.gregorio.proofs.pieces.TextOfHeaders.{body_reads_on}

@@ -7,7 +7,7 @@ use Rattle.gregorio.specs.machine.InStep.{PassesAll, StayInStep}
 use Rattle.gregorio.specs.machine.ReadsHeaders.{ReadsOn}
 use Rattle.gregorio.proofs.pieces.BodiesBegin.{room_of_begun, same_writer, stay_begun, steady_of_begun, together_begun, writes_begun}
 use Rattle.gregorio.proofs.pieces.HeadersEnd.{headers_end_given, stands_in_front}
-use Rattle.gregorio.proofs.pieces.PartsStayInStep.{heads_in_step}
+use Rattle.gregorio.proofs.pieces.HeadersStayInStep.{heads_in_step}
 use Rattle.gregorio.proofs.pieces.TellsInStepOn.{heads_stay_telling}
 use Rattle.gregorio.proofs.pieces.TextOfHeaders.{heads_read_on, reads_begun}
 use Rattle.gregorio.proofs.engine.read_in_heads.Goals as goal

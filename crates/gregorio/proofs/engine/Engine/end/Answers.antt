@@ -12,7 +12,8 @@ use Rattle.gregorio.proofs.pieces.RoomIsLeft.{room_for_end}
 use Rattle.gregorio.proofs.pieces.InputsAreEnded.{ends_given, ends_items, ends_now, over_is_settled, over_of_items, over_stage, over_together}
 use Rattle.gregorio.proofs.pieces.BytesAreTaken.{none_wait, still_reserved}
 use Rattle.gregorio.proofs.pieces.EventsAreWritten.{steady_both}
-use Rattle.gregorio.proofs.pieces.PartsStayInStep.{force_past_all, over_in_step}
+use Rattle.gregorio.proofs.pieces.PartsStayInStep.{over_in_step}
+use Rattle.gregorio.proofs.pieces.WrittenGoesOn.{force_past_all}
 use Rattle.gregorio.proofs.pieces.TextOfHeaders.{over_reads}
 use Rattle.gregorio.proofs.pieces.TellsInStepOn.{in_heads_yet, over_tells}
 use Rattle.gregorio.proofs.engine.Engine.end.Goals as goal

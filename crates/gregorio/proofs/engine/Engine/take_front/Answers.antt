@@ -27,7 +27,7 @@ invariant_of-self c =
       together = still_together c.self.inside.writer c.take_front-count.new.self _ _ c.take_front-count.ensures.writes c.self.inside.heads c.self.invariant.together;
       reserved = still_reserved c.self.inside.writer c.take_front-count.new.self (still_steady _ _ _ _ c.take_front-count.ensures.writes) c.self.invariant.reserved;
       step = subst (λ (v : RunWriterState). IsInStep c.skip.new.self c.self.inside.heads new.score v.written) (sym writes.writer)
-          (front_in_step d c.skip.new.self c.self.inside.heads w.score new.score w.writer.written (length front) skips writes.limits writes.part writes.before_held writes.counts c.self.invariant.step);
+          (front_in_step d c.skip.new.self c.self.inside.heads w.score new.score w.writer.written (length front) skips writes.limits writes.part writes.before_held writes.whole writes.counts c.self.invariant.step);
       headers = subst (λ (v : RunWriterState). ReadsHeaders c.skip.new.self c.self.inside.heads v.written) (sym writes.writer)
           (front_reads_on d c.skip.new.self c.self.inside.heads w (length front) skips.line skips.column writes.headed c.self.invariant.step.runs c.self.invariant.headers);
       tells = subst (λ (v : RunWriterState). is_none v.written.ended ≡ true → TellsInStep c.skip.new.self new.score v.written) (sym writes.writer)

@@ -7,7 +7,7 @@ use Rattle.gregorio.proofs.AnEventIsWritten.{last_is_written, room_for_end, room
 use Rattle.gregorio.proofs.OutputsOfEvents.{nothing_left}
 use Rattle.gregorio.specs.machine.InStep.{HasForce}
 use Rattle.gregorio.specs.machine.ScoreWriter.{ScoreWriterState, outputs_of_events}
-use Rattle.gregorio.proofs.pieces.PartsStayInStep.{force_ended}
+use Rattle.gregorio.proofs.pieces.WrittenGoesOn.{force_ended}
 use Rattle.gregorio_jobs.specs.declared.job.Status.{Status}
 use Rattle.gregorio.proofs.score_writer.ScoreWriter.finish.Goals as goal
 

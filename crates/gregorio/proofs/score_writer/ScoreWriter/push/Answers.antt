@@ -3,7 +3,7 @@ use Rattle.gabc_headers.specs.declared.head_event.HeadEvent.{HeadEvent}
 use Rattle.gregorio.specs.machine.RunWriter.{RunWriterState, with_heads}
 use Rattle.gregorio.specs.machine.ScoreWriter.{ScoreWriterState, WritesAt}
 use Rattle.gregorio.specs.witness.Engine.{Written, is_heads}
-use Rattle.gregorio.proofs.pieces.PartsStayInStep.{no_heads, not_written}
+use Rattle.gregorio.proofs.pieces.WrittenGoesOn.{no_heads, not_written}
 use Rattle.gregorio.specs.machine.InStep.{PassesOn, written_at}
 use Rattle.gregorio.proofs.AnEventIsWritten.{heads_are_written}
 use Rattle.gregorio.proofs.score_writer.ScoreWriter.push.Goals.{in-Heads, in_default}

@@ -1,0 +1,197 @@
+-- The parts of an engine stay in step in its headers.
+use Rattle.std.proofs.Common.{◌≡◌, ℕ, ◌+◌, ◌||◌, not, List, [], ◌∷◌, ◌++◌, map, Bool, true, false, Option, Some, None, is_none, is_some, Result, Ok, Err, if◌then◌else◌, refl, ap, sym, subst, ◌∙◌, arith}
+use Rattle.std.proofs.lemmas.Bool.{false≢true}
+use Rattle.std.specs.List.{list_any}
+use Rattle.gabc_places.specs.DecoderMachine.{DecoderState}
+use Rattle.gabc_places.specs.DecoderTells.{MovesOn}
+use Rattle.gabc_places.specs.declared.code.Fault.{Fault}
+use Rattle.gabc_places.specs.declared.code.Finding.{Finding}
+use Rattle.gabc_places.specs.declared.limits.Limits.{Limits}
+use Rattle.gabc_places.specs.declared.place.Char.{Char}
+use Rattle.gabc_places.specs.declared.place.Place.{Place}
+use Rattle.gabc_headers.specs.declared.head_event.HeadEvent.{HeadEvent}
+use Rattle.gabc_headers.specs.declared.head_event.HeadEvent.TheVariants as head_event
+use Rattle.gabc_headers.specs.declared.heads.Heads.{Heads}
+use Rattle.gabc_headers.specs.declared.heads.HeadFault.{HeadFault}
+use Rattle.gabc_headers.specs.Heads.{heads_of}
+use Rattle.gabc_headers.specs.witness.HeadEvents.{HeaderStageState, HeadProgress, reading, behind, over, IsBehind, events_by, events_of_input, new_findings, progress_after, progress_by, stage_after}
+use Rattle.gabc_headers.specs.HeadEvents.{event_of_book}
+use Rattle.gabc_headers.specs.Book.{nabc_lines_of, macros_of}
+use Rattle.gabc_headers.specs.Canonical.{canonical_heads}
+use Rattle.gabc_headers.specs.Lines.{bytes_len}
+use Rattle.gabc_score.specs.declared.before.Preceding.{Preceding}
+use Rattle.gabc_score.specs.declared.score_machine.ScorePart.{ScorePart}
+use Rattle.gabc_score.specs.declared.score_machine.ScorePart.TheVariants as score_part
+use Rattle.gabc_score.specs.Before.{no_syllable, with_placed}
+use Rattle.gabc_score.specs.ScoreEvents.{ScoreOutput, Found, Stop, is_last, syllables_in}
+use Rattle.gabc_score.specs.ScoreStage.{Counts, most_whole, part_past}
+use Rattle.gabc_score.specs.ToldWithin.{whole_syllables}
+use Rattle.gregorio_jobs.specs.declared.job.Status.{Status}
+use Rattle.gregorio.specs.witness.Engine.{Written}
+use Rattle.gregorio.specs.machine.InStep.{AreInOnePart, PassesAll, PassesOn, RunsInStep, StayInStep, written_at}
+use Rattle.gregorio.specs.machine.ScoreWriter.{ScoreWriterState}
+use Rattle.gregorio.proofs.StreamsOfOutputs.{headed_stays}
+use Rattle.gregorio.proofs.pieces.PartsStayInStep.{IsNear, near_behind, one_part}
+use Rattle.gregorio.proofs.pieces.WrittenGoesOn.{counted, few_more, force_past_all, none_counted, running_before, went_on_past}
+
+-- ---- in the headers
+
+pub record InHeads (s : ScoreWriterState) : Type 0 where
+  pub part : s.score.part ≡ score_part.Heads
+  pub unheaded : s.writer.written.headed ≡ false
+  pub none : s.writer.written.count ≡ 0
+
+abbrev pub HeadsYet : ScoreWriterState → Type 0
+HeadsYet s = is_none s.writer.written.ended ≡ true → InHeads s
+
+pub heads_stay : (f : Finding) (outputs : List ScoreOutput) (part : ScorePart) → part ≡ score_part.Heads → list_any is_last outputs ≡ false → part_past part (head_event.Found f) outputs ≡ score_part.Heads
+heads_stay f outputs part heads none = rw (heads, none) refl
+
+pub found_passed : (f : Finding) (old mid : ScoreWriterState) → PassesOn old.score (written_at old.writer.written (head_event.Found f)) (head_event.Found f) mid → HeadsYet old → HeadsYet mid
+found_passed f old mid p yet = λ running.
+    let w = written_at old.writer.written (head_event.Found f) in
+    let on = went_on_past old.score w (head_event.Found f) mid p running in
+    let i = yet on.before in
+    let unheaded : w.headed ≡ false = ap (λ (b : Bool). b || false) i.unheaded in
+    record {
+      part = p.part ∙ heads_stay f p.outputs old.score.part i.part on.none_last;
+      unheaded = ap (λ (v : Written). v.headed) p.written ∙ (headed_stays w p.outputs ∙ unheaded);
+      none = ap (λ (v : Written). v.count) p.written ∙ (none_counted p.outputs w unheaded ∙ i.none);
+    }
+
+abbrev pub found_events : List Finding → List HeadEvent
+found_events fs = map (λ f. head_event.Found f) fs
+
+found_all : (fs : List Finding) (rest : List HeadEvent) (old new : ScoreWriterState) → HeadsYet old → PassesAll old (found_events fs ++ rest) new → (mid : ScoreWriterState) × (HeadsYet mid × PassesAll mid rest new)
+found_all [] rest old new yet all = (old, (yet, all))
+found_all (f ∷ fs) rest old new yet all = found_all fs rest all.0 new (found_passed f old all.0 all.1.0 yet) all.1.1
+
+found_only : (fs : List Finding) (old new : ScoreWriterState) → HeadsYet old → PassesAll old (found_events fs) new → HeadsYet new
+found_only [] old new yet all = subst (λ (s : ScoreWriterState). HeadsYet s) all yet
+found_only (f ∷ fs) old new yet all = found_only fs all.0 new (found_passed f old all.0 all.1.0 yet) all.1.1
+
+-- where the stage of headers stands so, the writer is in the same part, and at its beginning
+pub record StepsTo (progress : HeadProgress) (s : ScoreWriterState) : Type 0 where
+  pub parts : AreInOnePart progress s.score.part s.writer.written.headed
+  pub none : s.writer.written.count ≡ 0
+  pub whole : s.writer.written.headed ≡ true → whole_syllables s.score ≡ 0
+  pub counts : (place : Place) → Counts place s.score
+
+headed_now : (headed : Bool) (ended : Option Status) → headed ≡ false → is_none ended ≡ true → (headed || not (headed || is_some ended)) ≡ true
+headed_now headed None un runs = rw un refl
+headed_now headed (Some status) un runs = absurd (false≢true runs)
+
+pub to_body : (lines macros canonical : ℕ) (outputs : List ScoreOutput) (part : ScorePart) → part ≡ score_part.Heads → part_past part (head_event.Heads lines macros canonical) outputs ≡ score_part.Body
+to_body lines macros canonical outputs part heads = rw heads refl
+
+none_whole : (lines macros canonical : ℕ) (part : ScorePart) (n : ℕ) → part ≡ score_part.Heads → most_whole part (head_event.Heads lines macros canonical) n ≡ 0
+none_whole lines macros canonical part n heads = rw heads refl
+
+heads_passed : (lines macros canonical : ℕ) (book : List (List ℕ × List ℕ)) (old mid : ScoreWriterState)
+    → PassesOn old.score (written_at old.writer.written (head_event.Heads lines macros canonical)) (head_event.Heads lines macros canonical) mid → HeadsYet old
+    → is_none mid.writer.written.ended ≡ true → StepsTo (behind book) mid
+heads_passed lines macros canonical book old mid p yet running =
+    let x = head_event.Heads lines macros canonical in
+    let w = written_at old.writer.written x in
+    let on = went_on_past old.score w x mid p running in
+    let i = yet on.before in
+    let headed : w.headed ≡ true = headed_now old.writer.written.headed old.writer.written.ended i.unheaded on.before in
+    let body : mid.score.part ≡ score_part.Body = p.part ∙ to_body lines macros canonical p.outputs old.score.part i.part in
+    let start = no_syllable canonical in
+    let few = p.few in
+    let more = few_more (syllables_in p.outputs) start in
+    let count : mid.writer.written.count ≡ (with_placed start (syllables_in p.outputs)).syllables = ap (λ (v : Written). v.count) p.written ∙ counted p.outputs w start headed i.none in
+    record {
+      parts = one_part (behind book) mid.score.part mid.writer.written.headed (ap (λ (v : Written). v.headed) p.written ∙ (headed_stays w p.outputs ∙ headed)) tt body;
+      none = omega (arith, few, more, count);
+      whole = λ is. let most = p.whole body in let none = none_whole lines macros canonical old.score.part (whole_syllables old.score) i.part in omega (arith, most, none);
+      counts = λ place. p.counts place tt (λ was. absurd (cc (was, i.part)));
+    }
+
+pub stop_passed : (fault : Fault) (old mid : ScoreWriterState) → PassesOn old.score (written_at old.writer.written (head_event.Stop fault)) (head_event.Stop fault) mid → HeadsYet old
+    → is_none mid.writer.written.ended ≡ true → ⊥
+stop_passed fault old mid p yet running =
+    let x = head_event.Stop fault in
+    let on = went_on_past old.score (written_at old.writer.written x) x mid p running in
+    let i = yet on.before in
+    false≢true (sym on.none_last ∙ p.last (λ is. cc (is, i.part)) refl)
+
+in_headers : (t : List ℕ) (s : ScoreWriterState) → InHeads s → StepsTo (reading t) s
+in_headers t s i = record {
+  parts = parts s.score.part i.part;
+  none = i.none;
+  whole = λ is. absurd (false≢true (sym i.unheaded ∙ is));
+  counts = λ place body. absurd (cc (body, i.part));
+}
+  where
+    parts : (part : ScorePart) → part ≡ score_part.Heads → AreInOnePart (reading t) part s.writer.written.headed
+    parts part heads = rw heads i.unheaded
+
+module _ (found : List Finding) (t : List ℕ) (old new : ScoreWriterState) (yet : HeadsYet old) (running : is_none new.writer.written.ended ≡ true) where
+  by_end : (at_end : Bool) (fault : Fault) → PassesAll old (if at_end then found_events found else head_event.Stop fault ∷ []) new → StepsTo (if at_end then reading t else over) new
+  by_end true fault all = in_headers t new (found_only found old new yet all running)
+  by_end false fault all = absurd (stop_passed fault old all.0 all.1.0 yet (subst (λ (s : ScoreWriterState). is_none s.writer.written.ended ≡ true) (sym all.1.1) running))
+
+  by_heads : (r : Result Heads HeadFault) → PassesAll old (events_by found r) new → StepsTo (progress_by t r) new
+  by_heads (Ok heads) all =
+      let last = found_all found (event_of_book heads.book ∷ []) old new yet all in
+      subst (λ (s : ScoreWriterState). StepsTo (behind heads.book) s) last.1.1.1.1
+      (heads_passed (nabc_lines_of heads.book) (macros_of heads.book) (bytes_len (canonical_heads heads.book)) heads.book last.0 last.1.1.0 last.1.1.1.0 last.1.0
+      (subst (λ (s : ScoreWriterState). is_none s.writer.written.ended ≡ true) (sym last.1.1.1.1) running))
+  by_heads (Err stopped) all = by_end stopped.at_end stopped.fault all
+
+pub in_heads : (progress : HeadProgress) (s : ScoreWriterState) → s.writer.written.headed ≡ false → AreInOnePart progress s.score.part s.writer.written.headed → s.writer.written.count ≡ 0
+    → (t : List ℕ) × ((progress ≡ reading t) × InHeads s)
+in_heads progress s un parts none = by progress s.score.part s.writer.written.headed un parts refl refl
+  where
+    by : (p : HeadProgress) (part : ScorePart) (headed : Bool) → headed ≡ false → AreInOnePart p part headed → p ≡ progress → part ≡ s.score.part → (t : List ℕ) × ((progress ≡ reading t) × InHeads s)
+    by (reading t) score_part.Heads headed e is same here = (t, (sym same, record { part = sym here; unheaded = un; none = none }))
+    by (reading t) score_part.Body headed e is same here = absurd is
+    by (reading t) score_part.Over headed e is same here = absurd is
+    by (behind book) score_part.Heads headed e is same here = absurd is
+    by (behind book) score_part.Body headed e is same here = absurd (false≢true (sym e ∙ is))
+    by (behind book) score_part.Over headed e is same here = absurd is
+    by over part headed e is same here = absurd is
+
+module _ (limits : Limits) (old new : ScoreWriterState) (running : is_none new.writer.written.ended ≡ true) (yet : HeadsYet old) where
+  by_item : (t : List ℕ) (item : Result Char Fault) → PassesAll old (events_of_input limits (reading t) item) new → StepsTo (progress_after limits (reading t) item) new
+  by_item t (Ok x) all =
+      let next = t ++ x.c ∷ [] in
+      by_heads (new_findings limits t next) next old new yet running (heads_of limits next) all
+  by_item t (Err fault) all = absurd (stop_passed fault old all.0 all.1.0 yet (subst (λ (s : ScoreWriterState). is_none s.writer.written.ended ≡ true) (sym all.1.1) running))
+
+-- a fault leads out of the headers
+runs_on : (limits : Limits) (t : List ℕ) (item : Result Char Fault) (old new : ScoreWriterState) (d e : DecoderState) → HeadsYet old → PassesAll old (events_of_input limits (reading t) item) new
+    → is_none new.writer.written.ended ≡ true → MovesOn d (item ∷ []) e → IsNear d.place d.taken → (e.running ≡ d.running) × ((e.taken ≡ d.taken + 1) × IsNear e.place e.taken)
+runs_on limits t (Ok x) old new d e yet all running moves near = (moves.runs, (moves.taken, near_behind d e x moves near))
+runs_on limits t (Err fault) old new d e yet all running moves near =
+    absurd (stop_passed fault old all.0 all.1.0 yet (subst (λ (s : ScoreWriterState). is_none s.writer.written.ended ≡ true) (sym all.1.1) running))
+
+module _ (d e : DecoderState) (h : HeaderStageState) (old new : ScoreWriterState) (unheaded : old.writer.written.headed ≡ false) (limits : new.score.limits ≡ old.score.limits) (item : Result Char Fault) (moves : MovesOn d (item ∷ []) e) where
+  heads_run : PassesAll old (events_of_input h.limits h.progress item) new → (is_none old.writer.written.ended ≡ true → RunsInStep d h old.score old.writer.written) → is_none new.writer.written.ended ≡ true
+      → RunsInStep e (stage_after h item) new.score new.writer.written
+  heads_run all ran running =
+      let was = ran (running_before (events_of_input h.limits h.progress item) old new all running) in
+      let i = in_heads h.progress old unheaded was.parts (was.none unheaded) in
+      let here = subst (λ (p : HeadProgress). PassesAll old (events_of_input h.limits p item) new) i.1.0 all in
+      let on = runs_on h.limits i.0 item old new d e (λ r. i.1.1) here running moves (record { column = was.column; near = was.near }) in
+      let steps = subst (λ (p : HeadProgress). StepsTo (progress_after h.limits p item) new) (sym i.1.0) (by_item h.limits old new running (λ r. i.1.1) i.0 item here) in
+      let taken = on.1.0 in
+      record {
+        runs = on.0 ∙ was.runs;
+        limit = moves.limit ∙ (was.limit ∙ ap (λ (l : Limits). l.input) (sym limits));
+        parts = steps.parts;
+        none = λ un. steps.none;
+        count = λ is. let none = steps.none in let whole = steps.whole is in omega (arith, none, whole);
+        taken = λ is. let whole = steps.whole is in omega (arith, whole, taken);
+        column = on.1.1.column;
+        near = on.1.1.near;
+        counts = λ within. steps.counts e.place;
+      }
+
+pub heads_in_step : (h : HeaderStageState) (old new : ScoreWriterState) (item : Result Char Fault) → old.writer.written.headed ≡ false → new.score.limits ≡ old.score.limits
+    → PassesAll old (events_of_input h.limits h.progress item) new → StayInStep h old (item ∷ []) (stage_after h item) new
+heads_in_step h old new item unheaded limits all = record {
+  force = force_past_all (events_of_input h.limits h.progress item) old new all;
+  runs = λ d e moves ran running. heads_run d e h old new unheaded limits item moves all ran running;
+}
