@@ -256,7 +256,7 @@ fn engine_with(
 }
 
 /// Returns an engine of `job` under `limits` that goes on in the headers, of which `state` has read `text`. Its errors are those of `restore`.
-fn in_headers(
+fn engine_in_headers(
     alloc: Global,
     job: &Job,
     limits: Limits,
@@ -287,7 +287,7 @@ fn in_headers(
 }
 
 /// Returns an engine of `job` under `limits` that goes on in the score, where `fields` of `state` tell. Its errors are those of `restore`.
-fn in_score(
+fn engine_in_score(
     alloc: Global,
     job: &Job,
     limits: Limits,
@@ -366,8 +366,8 @@ impl Engine {
             return Err(StateFault::K1);
         };
         match &state.phase {
-            Phase::Headers(text) => in_headers(alloc, job, limits, &state, text, hasher),
-            Phase::Score(fields) => in_score(alloc, job, limits, &state, fields, hasher),
+            Phase::Headers(text) => engine_in_headers(alloc, job, limits, &state, text, hasher),
+            Phase::Score(fields) => engine_in_score(alloc, job, limits, &state, fields, hasher),
         }
     }
 }
