@@ -4,7 +4,7 @@ pub mod EventsStayWithinBounds
 pub mod BodyOutputs
 pub mod CountsGoOn
 pub mod FewAndShortAreLent
-pub mod FirstBeginsWord
+pub mod FrontIsFirst
 pub mod FirstNotes
 pub mod EmittedByHeaders
 pub mod GivenSyllables

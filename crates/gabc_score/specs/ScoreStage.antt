@@ -18,7 +18,7 @@ use Rattle.gabc_score.specs.declared.score_machine.ScorePart.{ScorePart}
 use Rattle.gabc_score.specs.declared.score_machine.ScorePart.TheVariants as score_part
 use Rattle.gabc_score.specs.ScoreTells.{StandsAt, StandsInFront, is_in_comment}
 use Rattle.gabc_places.specs.TextOfAnInput.{IsTextCharacter}
-use Rattle.gabc_score.specs.ToldWithin.{AreCountsWithin, FirstBegins, HoldsIfAny, TellsOfText, whole_syllables}
+use Rattle.gabc_score.specs.ToldWithin.{AreCountsWithin, HoldsIfAny, TellsOfText, whole_syllables}
 use Rattle.gabc_score.specs.declared.syllable.Position.{Position}
 use Rattle.gabc_score.specs.ScoreEvents.{first_place, ScoreOutput, Found, Stop, Syllable, End, is_last, syllables_in}
 use Rattle.gabc_score.specs.Canonical.{canonical_in_place}
@@ -155,7 +155,6 @@ pub record GivesAt (before : ScoreStageState) (x : HeadEvent) (after : ScoreStag
   pub whole : after.part ≡ score_part.Body → whole_syllables after ≤ most_whole before.part x (whole_syllables before)
   pub told : MayCome before.limits before.held.next x → StandsInLine before → TellsOfText before → TellsOfText after
   pub holds : HoldsIfAny before → HoldsIfAny after
-  pub first : FirstBegins before → FirstBegins after
   pub law : (xs : List HeadEvent) → left_of before (x ∷ xs) ≡ outputs ∷ left_of after xs
   pub emitted : GivesOutputs outputs old new after.first after.second
   pub front : before.part ≡ score_part.Heads → (lines macros canonical : ℕ) → x ≡ head_event.Heads lines macros canonical → StandsInFront after
@@ -193,7 +192,6 @@ pub record GivesNothing (before : ScoreStageState) (at : Place) (bytes : List �
   pub whole : whole_syllables after ≡ whole_syllables before
   pub told : at ≡ before.held.next → StandsInLine before → TellsOfText before → TellsOfText after
   pub holds : HoldsIfAny before → HoldsIfAny after
-  pub first : FirstBegins before → FirstBegins after
   pub counts : Counts at before → Counts (behind_front at (length bytes) at) after
   pub law : (xs : List HeadEvent) → left_of before (body_inputs at bytes ++ xs) ≡ nothing_each bytes ++ left_of after xs
   pub none : bytes ≡ [] → after.body.part ≡ before.body.part

@@ -1,5 +1,5 @@
 -- What a stage over a score tells in the body is within bounds.
-use Rattle.std.specs.Prelude.{◌≡◌, ◌⊎◌, ℕ, ◌+◌, ◌^◌, ◌<◌, ◌≤◌, ◌==◌, ◌||◌, List, [], length, true, Option, None, IfSome}
+use Rattle.std.specs.Prelude.{◌≡◌, ℕ, ◌+◌, ◌^◌, ◌<◌, ◌≤◌, ◌==◌, ◌||◌, List, length, true, None, IfSome}
 use Rattle.std.specs.List.{All}
 use Rattle.gabc_places.specs.declared.limits.Limits.{Limits}
 use Rattle.gabc_places.specs.PlacesInOrder.{LiesBefore, AreInOrder}
@@ -11,7 +11,7 @@ use Rattle.gabc_score.specs.declared.body_tells.Openers.{Openers}
 use Rattle.gabc_score.specs.declared.score_machine.ScorePart.TheVariants as score_part
 use Rattle.gabc_score.specs.Before.{no_syllable}
 use Rattle.gabc_score.specs.Canonical.{canonical}
-use Rattle.gabc_score.specs.ScoreTells.{held_of, reading_of, openers_of, is_in_comment, is_in_front}
+use Rattle.gabc_score.specs.ScoreTells.{held_of, reading_of, openers_of, is_in_comment}
 use Rattle.gabc_score.specs.Syllable.{UnplacedSyllable}
 use Rattle.gabc_score.specs.witness.ScoreStage.{ScoreStageState}
 
@@ -82,12 +82,3 @@ TellsOfText s = s.part ≡ score_part.Body → IsToldOfText s
 -- in the body none is held only where no syllable was given
 abbrev pub HoldsIfAny : ScoreStageState → Type 0
 HoldsIfAny s = s.part ≡ score_part.Body → held_of s ≡ None → s.before.syllables ≡ 0
-
--- a syllable begins a word
-abbrev pub BeginsWord : UnplacedSyllable → Type 0
-BeginsWord m = m.text.word_start ≡ true
-
--- In the body the first syllable begins a word: the one that is held, or the one that is read behind the comment in front.
-pub record FirstBegins (s : ScoreStageState) : Type 0 where
-  pub held : s.part ≡ score_part.Body → s.before.syllables ≡ 0 → All BeginsWord s.held.gathered.made
-  pub read : s.part ≡ score_part.Body → s.held.gathered.made ≡ [] → (is_in_front s.body.part ≡ true) ⊎ (s.held.gathered.builder.view.word_start ≡ true)

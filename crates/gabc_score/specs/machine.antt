@@ -5,12 +5,12 @@ pub mod Gatherer
 pub mod HeldAside
 pub mod HeldWithin
 pub mod PartCounts
+pub mod PartFronts
 pub mod PartKeeps
 pub mod PartMakes
 pub mod PartOnly
 pub mod PartOpens
 pub mod PartPushes
-pub mod PartStarts
 pub mod Preceded
 pub mod Quiet
 pub mod ReadAlone

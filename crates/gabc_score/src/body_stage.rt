@@ -10,11 +10,11 @@ ghost use Rattle.gabc_score.specs.machine.PartPushes.{Emits, EmitsLast};
 ghost use Rattle.gabc_score.specs.Events.{InComment, events_from, body_events, behind_mark, next_line as line_after, snippet_from, text_from, part_at};
 ghost use Rattle.gabc_text.specs.Events.{CountsFit};
 ghost use Rattle.gabc_score.specs.machine.Gatherer.{Gathered};
+ghost use Rattle.gabc_score.specs.machine.PartFronts.{PartLeavesFront};
 ghost use Rattle.gabc_score.specs.machine.PartCounts.{CountsInNotes, CountsHold, PartGoesOn};
 ghost use Rattle.gabc_score.specs.machine.PartKeeps.{in_text, BeginsSnippet, PartKeeps, PartKeepsOn, PartStandsOn};
 ghost use Rattle.gabc_score.specs.machine.PartMakes.{PartMakes};
 ghost use Rattle.gabc_score.specs.machine.PartOnly.{PartKeepsOnly};
-ghost use Rattle.gabc_score.specs.machine.PartStarts.{PartStarts};
 ghost use Rattle.gabc_score.specs.machine.PartOpens.{PartEndsLine, PartOpensOn};
 ghost use Rattle.gabc_score.specs.ScoreTells.{StandsAt, is_in_comment, openers_of};
 ghost use Rattle.gabc_score.specs.machine.Quiet.{TakesQuietly};
@@ -220,6 +220,7 @@ impl BodyStage {
             x self.old.part self.new.part }
         ensures only { PartKeepsOnly self.old.nabc_lines self.old.macros
             x self.old.part self.new.events }
+        ensures front { PartLeavesFront self.old.part self.new.part self.new.events }
         ensures over { self.new.over ≡ self.old.over }
     {
         match &mut self.part {
@@ -285,7 +286,7 @@ impl BodyStage {
             x self.old.part self.new.part }
         ensures only { PartKeepsOnly self.old.nabc_lines self.old.macros
             x self.old.part self.new.events }
-        ensures starts { PartStarts self.old.part self.new.part self.new.events }
+        ensures front { PartLeavesFront self.old.part self.new.part self.new.events }
         ensures over { self.new.over ≡ self.old.over }
     {
         if let BodyPart::Comment = self.part {

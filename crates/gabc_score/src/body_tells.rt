@@ -2,7 +2,7 @@
 
 ghost use Rattle.std.specs.Prelude.{◌≡◌, ℕ, List};
 ghost use Rattle.gabc_places.specs.declared.place.Char.{Char};
-ghost use Rattle.gabc_score.specs.ScoreTells.{is_in_comment, moved_part, openers_of, TellTheSame};
+ghost use Rattle.gabc_score.specs.ScoreTells.{is_in_comment, is_in_front, moved_part, openers_of, TellTheSame};
 ghost use Rattle.gabc_score.specs.machine.PartKeeps.{KeepTheSame, KeptParts, PartKeeps};
 ghost use Rattle.gabc_score.specs.witness.BodyStage.{running_events_left};
 
@@ -45,6 +45,13 @@ impl BodyStage {
             BodyPart::Notes { stage, .. } => stage.in_comment(),
             BodyPart::Nabc { stage, .. } => stage.in_comment(),
         }
+    }
+
+    /// Returns whether the comment behind the `%%` is open, in front of the first text.
+    pub(crate) fn in_front(&self) -> bool
+        ensures { result ≡ is_in_front self.now.part }
+    {
+        matches!(self.part, BodyPart::Comment)
     }
 
     /// Says that the next character stands at `at`. What is open keeps the place where it began.

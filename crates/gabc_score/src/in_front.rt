@@ -6,7 +6,7 @@ ghost use Rattle.gabc_places.specs.declared.place.Place.{Place};
 ghost use Rattle.gabc_score.specs.HeldAside.{HoldTheSame, GiveTheSame};
 ghost use Rattle.gabc_score.specs.ScoreEvents.{characters_in};
 ghost use Rattle.gabc_score.specs.ScoreStage.{StandInLine};
-ghost use Rattle.gabc_score.specs.ScoreTells.{before_of, before_with, held_of, is_in_comment, is_in_front, moved_to, reading_of, StandsAt, StandsInFront};
+ghost use Rattle.gabc_score.specs.ScoreTells.{before_of, before_with, held_of, is_in_comment, is_in_front, moved_to, openers_of, reading_of, StandsAt, StandsInFront};
 ghost use Rattle.gabc_score.specs.witness.BodyStage.{running_events_left};
 ghost use Rattle.gabc_score.specs.witness.ScoreStage.{left_of};
 ghost use Rattle.gabc_score.specs.machine.PartKeeps.{in_text, PartKeeps};
@@ -35,6 +35,13 @@ impl BodyStage {
 }
 
 impl ScoreMachine {
+    /// Does nothing. Its contract is a law: in the body a machine whose comment in front is open stands in front of the first text.
+    fn stands_in_front(&self)
+        requires rests { IsScore self.now }
+        ensures { is_some (before_of (shown self.now)) ≡ true →
+            is_in_front self.now.body.part ≡ true → StandsInFront (shown self.now) }
+    {}
+
     /// Does nothing. Its contract is a law: in front of the first text a machine gives the same, wherever the next character is said to stand.
     fn begins_anywhere(&self)
         requires rests { IsScore self.now }
@@ -73,6 +80,14 @@ impl ScoreMachine {
 }
 
 impl ScoreStage {
+    /// Does nothing but call a law. Its contract is one: in the body a stage whose comment in front is open stands in front of the first text.
+    pub(crate) fn stands_in_front(&self)
+        ensures { is_some (before_of self.now) ≡ true → is_in_front self.now.body.part ≡ true →
+            StandsInFront self.now }
+    {
+        self.machine.stands_in_front();
+    }
+
     /// Does nothing. Its contract is a law: in front of the first text a stage gives the same, wherever the next character is said to stand.
     pub(crate) fn begins_anywhere(&self)
         requires { StandsInFront self.now }
@@ -100,5 +115,32 @@ impl ScoreStage {
             (left_of self.now xs) (left_of other.now xs) }
     {
         self.machine.fronts_agree(&other.machine);
+    }
+
+    /// Does nothing but call laws. Its contract is one: two stages in the body that tell the same give the same of characters that stand in line, but for the
+    /// syllable that is held. The one may stand in front of the first text, and the other in a comment of a text of which nothing is read.
+    pub(crate) fn agrees_in_line(&self, other: &ScoreStage)
+        requires runs { is_some (before_of self.now) ≡ true }
+        requires limits { self.now.limits ≡ other.now.limits }
+        requires before { before_of self.now ≡ before_of other.now }
+        requires held { HoldTheSame (self.now.before.syllables == 0)
+            (held_of self.now) (held_of other.now) }
+        requires reading { reading_of self.now ≡ reading_of other.now }
+        requires openers { openers_of self.now.body.part ≡ openers_of other.now.body.part }
+        requires comment { is_in_comment self.now.body.part ≡ is_in_comment other.now.body.part }
+        requires next { self.now.held.next ≡ other.now.held.next }
+        requires stands { StandsAt self.now.held.next self.now.body.part }
+        requires other_stands { StandsAt other.now.held.next other.now.body.part }
+        ensures { (xs : List HeadEvent) → StandInLine self.now.held.next xs →
+            GiveTheSame (held_of self.now) (held_of other.now)
+            (left_of self.now xs) (left_of other.now xs) }
+    {
+        self.stands_in_front();
+        other.stands_in_front();
+        match (self.machine.body.in_front(), other.machine.body.in_front()) {
+            (true, false) => self.fronts_agree(other),
+            (false, true) => other.fronts_agree(self),
+            (true, true) | (false, false) => self.agrees(other),
+        }
     }
 }

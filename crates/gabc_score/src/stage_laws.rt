@@ -32,7 +32,7 @@ ghost use Rattle.gabc_score.specs.Syllable.{UnplacedSyllable};
 ghost use Rattle.gabc_score.specs.UnitRead.{HoldsSomeUnit};
 ghost use Rattle.gabc_score.specs.witness.ReadAgain.{CanBeReadAgain};
 ghost use Rattle.gabc_places.specs.TextOfAnInput.{IsText};
-ghost use Rattle.gabc_score.specs.ToldWithin.{AreCountsWithin, BeginsWord, FirstBegins, IsPlace, IsToldWithin, TellsOfText, whole_syllables, written_behind};
+ghost use Rattle.gabc_score.specs.ToldWithin.{AreCountsWithin, IsPlace, IsToldWithin, TellsOfText, whole_syllables, written_behind};
 ghost use Rattle.gabc_score.specs.witness.ScoreStage.{ScoreStageState, left_of};
 
 use crate::score_event::ScoreEvent;
@@ -111,13 +111,11 @@ pub fn headers_may_come()
     gabc_headers::laws::the_numbers_of_headers_are_in_range();
 }
 
-/// What a stage tells is still that of a text where its next character is said to stand there, if that is no earlier; and its first syllable
-/// still begins a word.
+/// What a stage tells is still that of a text where its next character is said to stand there, if that is no earlier.
 pub fn what_is_told_may_move(stage: &mut ScoreStage, at: Place)
     requires later { IsUpTo stage.old.held.next at }
     requires place { IsPlace at }
-    ensures told { TellsOfText stage.old → TellsOfText stage.new }
-    ensures first { FirstBegins stage.old → FirstBegins stage.new }
+    ensures { TellsOfText stage.old → TellsOfText stage.new }
 {
     stage.go_to(at);
 }
@@ -129,6 +127,14 @@ pub fn a_resumed_stage_tells_of_a_text()
         StandsBehind limits before s →
         AreCountsWithin limits before.nabc_lines before.macros before.canonical → TellsOfText s }
 {}
+
+/// In the body, while the comment behind the `%%` is open, a stage stands in front of the first text: no syllable is whole, and nothing is read of one.
+pub fn in_front_nothing_is_read(stage: &ScoreStage)
+    ensures { is_some (before_of stage.now) ≡ true → is_in_front stage.now.body.part ≡ true →
+        StandsInFront stage.now }
+{
+    stage.stands_in_front();
+}
 
 /// In front of the first text a stage gives the same of whatever follows, wherever the next character is said to stand: its place counts only once
 /// the character has come.
@@ -209,24 +215,24 @@ pub fn stages_that_tell_the_same_agree(one: &ScoreStage, other: &ScoreStage)
     one.agrees(other);
 }
 
-/// In front of the first text a stage gives the same as one that tells the same before, under the same limits, in a comment of a text of which nothing is
-/// read, if the characters that follow stand one behind the other from the place on that this text has counted. Only the syllable that the one holds stands
-/// where the other gives its own, which says the same.
-pub fn a_comment_in_front_is_one_in_a_text(one: &ScoreStage, other: &ScoreStage)
+/// So it is where only one of them stands in front of the first text, and the other in a comment of a text of which nothing is read, if the characters that
+/// follow stand one behind the other, from the place of the next one on.
+pub fn stages_that_tell_the_same_agree_in_line(one: &ScoreStage, other: &ScoreStage)
     requires runs { is_some (before_of one.now) ≡ true }
     requires limits { one.now.limits ≡ other.now.limits }
     requires before { before_of one.now ≡ before_of other.now }
     requires held { HoldTheSame (one.now.before.syllables == 0) (held_of one.now) (held_of other.now) }
-    requires front { is_in_front one.now.body.part ≡ true }
-    requires comment { is_in_comment other.now.body.part ≡ true }
-    requires reading { reading_of other.now ≡ [] }
+    requires reading { reading_of one.now ≡ reading_of other.now }
+    requires openers { openers_of one.now.body.part ≡ openers_of other.now.body.part }
+    requires comment { is_in_comment one.now.body.part ≡ is_in_comment other.now.body.part }
     requires next { one.now.held.next ≡ other.now.held.next }
-    requires stands { StandsAt other.now.held.next other.now.body.part }
+    requires stands { StandsAt one.now.held.next one.now.body.part }
+    requires other_stands { StandsAt other.now.held.next other.now.body.part }
     ensures { (xs : List HeadEvent) → StandInLine one.now.held.next xs →
         GiveTheSame (held_of one.now) (held_of other.now)
         (left_of one.now xs) (left_of other.now xs) }
 {
-    one.fronts_agree(other);
+    one.agrees_in_line(other);
 }
 
 /// The whole syllable that a stage holds, whatever it has read, holds some unit: a text and its notes, with one snippet where there are no NABC
@@ -244,13 +250,6 @@ pub fn spans_of_what_is_held_follow(stage: &ScoreStage)
 {
     stage.follows_spans();
 }
-
-/// Where the first syllable of a stage begins a word, and no syllable stands before the one that it holds, this one does. It does as long as the
-/// stage has read all of its body: the first text begins with the LF behind the comment.
-pub fn the_first_begins_a_word(stage: &ScoreStage)
-    ensures { FirstBegins stage.now → stage.now.before.syllables ≡ 0 →
-        IfSome (held_of stage.now) BeginsWord }
-{}
 
 /// The canonical text of the syllable that a stage holds is a text of an input, as long as what the stage tells is that of a text.
 pub fn what_is_held_is_a_text(stage: &ScoreStage)

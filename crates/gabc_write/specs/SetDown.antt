@@ -8,6 +8,7 @@ use Rattle.gabc_score.specs.Before.{preceding_of}
 use Rattle.gabc_score.specs.Canonical.{canonical_in_place}
 use Rattle.gabc_score.specs.HeldAgain.{MayBeHeld}
 use Rattle.gabc_score.specs.HeldAside.{HoldTheSame, GiveTheSame}
+use Rattle.gabc_score.specs.ScoreStage.{StandInLine}
 use Rattle.gabc_score.specs.ScoreTells.{held_of}
 use Rattle.gabc_score.specs.Syllable.{UnplacedSyllable}
 use Rattle.gabc_score.specs.ToldWithin.{written_behind}
@@ -38,6 +39,12 @@ pub record GoesOnAlike (told made : ScoreStageState) : Type 0 where
   pub held : HoldTheSame (told.before.syllables == 0) (held_of told) (held_of made)
   pub says : SayTheSame (told.before.syllables == 0) (held_of told) (held_of made)
   pub gives : (xs : List HeadEvent) → GiveTheSame (held_of told) (held_of made) (left_of told xs) (left_of made xs)
+
+-- So it is of characters that stand one behind the other, from the place of the next one on.
+pub record GoesOnAlikeInLine (told made : ScoreStageState) : Type 0 where
+  pub held : HoldTheSame (told.before.syllables == 0) (held_of told) (held_of made)
+  pub says : SayTheSame (told.before.syllables == 0) (held_of told) (held_of made)
+  pub gives : (xs : List HeadEvent) → StandInLine told.held.next xs → GiveTheSame (held_of told) (held_of made) (left_of told xs) (left_of made xs)
 
 -- Two syllables are written alike where both stand there in their word: they have one canonical text and one dump.
 pub record IsWrittenAlike (m n : UnplacedSyllable) (position : Position) : Type 0 where

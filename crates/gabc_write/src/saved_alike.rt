@@ -4,17 +4,17 @@
 ghost use Rattle.std.specs.Prelude.{◌≡◌, ◌==◌, true, is_some};
 ghost use Rattle.std.specs.Option.{option_map};
 ghost use Rattle.gabc_score.specs.HeldAside.{HoldTheSame};
-ghost use Rattle.gabc_score.specs.ScoreTells.{StandsAt, before_of, held_of, is_in_comment, is_in_front, openers_of, reading_of};
+ghost use Rattle.gabc_score.specs.ScoreTells.{StandsAt, before_of, held_of, is_in_comment, openers_of, reading_of};
 ghost use Rattle.gabc_score.specs.ToldWithin.{TellsOfText, written_behind};
-ghost use Rattle.gabc_write.specs.SetDown.{AreWrittenAlike, GoesOnAlike, SayTheSame};
+ghost use Rattle.gabc_write.specs.SetDown.{AreWrittenAlike, GoesOnAlikeInLine, SayTheSame};
 
 use crate::laws::{
     held_syllables_that_say_the_same_have_one_dump, what_is_held_is_read_from_its_own_text,
 };
 use gabc_score::ScoreStage;
 use gabc_score::stage_laws::{
-    spans_of_what_is_held_follow, stages_that_tell_the_same_agree, what_is_held_holds_a_unit,
-    what_is_held_is_a_text, what_is_told_is_within_the_limits,
+    spans_of_what_is_held_follow, stages_that_tell_the_same_agree_in_line,
+    what_is_held_holds_a_unit, what_is_held_is_a_text, what_is_told_is_within_the_limits,
 };
 use gabc_score::unit_laws::{
     snippets_of_a_unit_stand_between_characters, some_events_leave_spans_open,
@@ -45,7 +45,7 @@ fn what_has_one_text_says_the_same(one: &ScoreStage, other: &ScoreStage)
     snippets_of_a_unit_stand_between_characters();
 }
 
-/// In the body two stages of which the same is saved go on alike. They run under the same limits behind the same, hold none or syllables with one
+/// In the body two stages of which the same is saved go on alike, of characters that stand one behind the other. They run under the same limits behind the same, hold none or syllables with one
 /// canonical text there, and tell the same of the syllable that is not whole. What the one tells is that of a text, and the next character
 /// stands where a text that is read has counted it.
 pub fn what_is_saved_alike_goes_on_alike(one: &ScoreStage, other: &ScoreStage)
@@ -58,20 +58,20 @@ pub fn what_is_saved_alike_goes_on_alike(one: &ScoreStage, other: &ScoreStage)
     requires reading { reading_of one.now ≡ reading_of other.now }
     requires openers { openers_of one.now.body.part ≡ openers_of other.now.body.part }
     requires comment { is_in_comment one.now.body.part ≡ is_in_comment other.now.body.part }
-    requires front { is_in_front one.now.body.part ≡ is_in_front other.now.body.part }
     requires next { one.now.held.next ≡ other.now.held.next }
     requires stands { StandsAt one.now.held.next one.now.body.part }
     requires other_stands { StandsAt other.now.held.next other.now.body.part }
-    ensures { GoesOnAlike one.now other.now }
+    ensures { GoesOnAlikeInLine one.now other.now }
 {
     what_has_one_text_says_the_same(one, other);
-    stages_that_tell_the_same_agree(one, other);
+    stages_that_tell_the_same_agree_in_line(one, other);
 }
 
 /// Of two stages that go on alike the syllables that they hold are written alike, wherever in their word: each has the canonical text of the other, and
 /// the dump of the other.
 pub fn what_goes_on_alike_is_written_alike(one: &ScoreStage, other: &ScoreStage)
-    ensures { GoesOnAlike one.now other.now → AreWrittenAlike (held_of one.now) (held_of other.now) }
+    ensures { GoesOnAlikeInLine one.now other.now →
+        AreWrittenAlike (held_of one.now) (held_of other.now) }
 {
     what_is_held_holds_a_unit(one);
     what_is_held_holds_a_unit(other);

@@ -13,6 +13,7 @@ pub mod WrittenGoesOn
 pub mod PartsStayInStep
 pub mod HeadersStayInStep
 pub mod StatesAreWhole
+pub mod StatesAreRead
 pub mod StatesBeforeHeld
 pub mod StatesOfHeaders
 pub mod StatesOfInputs

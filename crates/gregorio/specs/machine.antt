@@ -1,5 +1,6 @@
 pub mod Buffers
 pub mod ClefInForce
+pub mod Comparison
 pub mod Compile
 pub mod Engine
 pub mod HeldHeaders
@@ -12,6 +13,7 @@ pub mod Restoring
 pub mod RunWriter
 pub mod Saving
 pub mod ScoreWriter
+pub mod SettingDown
 pub mod SavedAlike
 pub mod Telling
 pub mod TellsInStep

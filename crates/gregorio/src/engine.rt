@@ -1,20 +1,13 @@
 //! A run that takes its input in pieces.
 
-ghost use Rattle.std.specs.Prelude.{◌≡◌, ◌<◌, ◌≤◌, ◌-◌, List, [], ◌∷◌, ◌++◌, length, take, true, false, ℕ, IfOk, None, option_to_list};
+ghost use Rattle.std.specs.Prelude.{◌≡◌, ◌<◌, ◌≤◌, ◌-◌, List, [], ◌∷◌, ◌++◌, length, take, true, false, ℕ, IfOk, option_to_list};
 ghost use Rattle.gabc_headers.specs.declared.head_event.HeadEvent.{HeadEvent as HeadItem};
 ghost use Rattle.gabc_headers.specs.declared.head_event.HeadEvent.TheVariants.{End};
-ghost use Rattle.gabc_headers.specs.witness.HeadEvents.{IsInHeaders};
-ghost use Rattle.gabc_score.specs.declared.score_machine.ScorePart.TheVariants.{Body as InBody};
 ghost use Rattle.gregorio.specs.declared.source_ending.SourceEnding.{SourceEnding as EndOfSource};
 ghost use Rattle.gregorio.specs.declared.source_ending.SourceEnding.TheVariants.{Whole, Broken};
-ghost use Rattle.gregorio_state.specs.Conditions.{AreStateFields};
 ghost use Rattle.gregorio_jobs.specs.declared.job.Status.TheVariants.{ReadFault};
 ghost use Rattle.gregorio.specs.Outcome.{outcome_of};
 ghost use Rattle.gregorio.specs.Engine.{IsPrompt, NothingWaits, is_running, with_waiting};
-ghost use Rattle.gabc_headers.specs.witness.HeadEvents.{reading};
-ghost use Rattle.gabc_score.specs.ScoreTells.{held_of};
-ghost use Rattle.gregorio.specs.Saved.{GivesHeaders, state_of};
-ghost use Rattle.gregorio.specs.machine.PartsOfStates.{AreBeforeHeldIn, AreHeaderFieldsIn, IsPhaseTold, IsStateOfInput};
 ghost use Rattle.gregorio.specs.witness.Engine.{streams_left};
 ghost use Rattle.gregorio.specs.Streams.{streams_of_outcome, ended_with};
 ghost use Rattle.gregorio.specs.machine.Engine.{GoTogether, IsEmpty, WritesAll, WritesItems, event_of_item, headed_past};
@@ -249,70 +242,6 @@ impl Engine {
     {
         gabc_score::stage_laws::inputs_that_cease_give_no_stop();
         self.writer.at_most_one_is_held();
-    }
-
-    /// Does nothing but call a law. Its contract is one: what an engine that runs saves of its input may stand in a state.
-    pub(crate) fn tells_its_input(&self)
-        requires runs { is_running self.now ≡ true }
-        ensures { IsStateOfInput (state_of self.now) }
-    {
-        gabc_places::laws::what_a_decoder_tells_may_be_told(&self.decoder);
-    }
-
-    /// Does nothing but call a law. Its contract is one: what an engine that runs saves in the headers is their text so far, a text of an input within
-    /// the limit, and its place and its errors are those that this text gives.
-    pub(crate) fn tells_of_its_headers(&self)
-        requires runs { is_running self.now ≡ true }
-        ensures fields { AreHeaderFieldsIn (state_of self.now) (state_of self.now).phase }
-        ensures gives { (t : List ℕ) → self.now.heads.progress ≡ reading t →
-            GivesHeaders self.now.score.limits t self.now.decoder.place self.now.written.errors }
-    {
-        // what holds of an engine is known where a field is used
-        let _ = &self.heads;
-        gabc_headers::stage_laws::a_held_text_is_within_its_limit();
-    }
-
-    /// Does nothing but call laws. Its contract is one: what an engine that runs saves in the score of what stands before the syllable that is held
-    /// may stand in a state, if none is held only where none is whole.
-    pub(crate) fn tells_what_stands_before(&self)
-        requires runs { is_running self.now ≡ true }
-        ensures { (held_of self.now.score ≡ None → self.now.score.before.syllables ≡ 0) →
-            AreBeforeHeldIn self.now.written.format (state_of self.now).phase }
-    {
-        self.writer.tells_what_is_in_force();
-        self.writer.begins_with_nothing();
-    }
-
-    /// Does nothing but call laws. Its contract is one: what an engine that runs saves of its score may stand in a state.
-    pub(crate) fn tells_of_its_score(&self)
-        requires runs { is_running self.now ≡ true }
-        ensures { IsPhaseTold (state_of self.now) (state_of self.now).phase }
-    {
-        gabc_places::laws::what_a_decoder_tells_may_be_told(&self.decoder);
-        if self.writer.headed() {
-            self.writer.tells_of_a_text();
-        }
-    }
-
-    /// Does nothing but call laws. Its contract is one: what an engine that runs saves is a state.
-    pub(crate) fn tells_a_state(&self)
-        requires runs { is_running self.now ≡ true }
-        ensures { AreStateFields (state_of self.now) }
-    {
-        self.tells_its_input();
-        self.tells_of_its_headers();
-        self.tells_of_its_score();
-        self.tells_what_stands_before();
-    }
-
-    /// Does nothing. Its contract is a law: behind its headers an engine that runs stands in the body.
-    pub(crate) fn stands_in_the_body(&self)
-        requires runs { is_running self.now ≡ true }
-        requires behind { IsInHeaders self.now.heads.progress → ⊥ }
-        ensures { self.now.score.part ≡ InBody }
-    {
-        // that the parts are in step is known where a field is used
-        let _ = &self.decoder;
     }
 
     /// Returns the decoder.

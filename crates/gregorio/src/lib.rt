@@ -15,6 +15,7 @@
 
 mod buffers;
 mod canonical;
+mod comparison;
 mod dump;
 mod engine;
 mod findings;
@@ -32,6 +33,7 @@ mod score_writer;
 mod set_down;
 mod source_ending;
 mod state_fault;
+mod tells;
 
 pub use engine::Engine;
 pub use findings::is_shown;

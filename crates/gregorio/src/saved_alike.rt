@@ -1,10 +1,9 @@
 //! Laws by which a saved state stands for what is still written: of what two stages over a score give, of which the same is saved, the same is written,
 //! and two engines that save the same write the same of whatever follows. Each function's contract is a law, and its body calls the laws that it stands on.
 
-ghost use Rattle.std.specs.Prelude.{◌≡◌, List, [], ℕ, true, false};
+ghost use Rattle.std.specs.Prelude.{◌≡◌, List, ℕ, true, false};
 ghost use Rattle.gabc_headers.specs.declared.head_event.HeadEvent.{HeadEvent};
 ghost use Rattle.gabc_score.specs.ScoreStage.{StandInLine};
-ghost use Rattle.gabc_score.specs.ScoreTells.{StandsInFront, is_in_front};
 ghost use Rattle.gregorio.specs.declared.source_ending.SourceEnding.{SourceEnding};
 ghost use Rattle.gregorio.specs.Engine.{is_running};
 ghost use Rattle.gregorio.specs.Saved.{state_of};
@@ -16,50 +15,27 @@ use crate::score_writer::ScoreWriter;
 use gabc_headers::stage_laws::{stages_behind_headers_agree, stages_of_one_text_agree};
 use gabc_places::laws::{decoders_that_tell_the_same_agree, what_a_decoder_tells_may_be_told};
 use gabc_score::ScoreStage;
-use gabc_score::stage_laws::a_comment_in_front_is_one_in_a_text;
 use gabc_write::saved_alike::{
     what_goes_on_alike_is_written_alike, what_is_saved_alike_goes_on_alike,
 };
 
-/// Of what two stages give in the body, of which the same is saved, the same is written, whatever comes.
+/// Of what two stages give in the body, of which the same is saved, the same is written, if the characters that come stand one behind the other.
 fn what_is_saved_alike_writes_the_same(one: &ScoreStage, other: &ScoreStage)
-    requires saved { AreSavedAlike one.now other.now }
-    requires front { is_in_front one.now.body.part ≡ is_in_front other.now.body.part }
-    ensures { (from_heads : List HeadEvent) → WriteTheSame one.now other.now from_heads }
+    requires { AreSavedAlike one.now other.now }
+    ensures { (from_heads : List HeadEvent) → StandInLine one.now.held.next from_heads →
+        WriteTheSame one.now other.now from_heads }
 {
     what_is_saved_alike_goes_on_alike(one, other);
     what_goes_on_alike_is_written_alike(one, other);
 }
 
-/// So it is where one of them stands in front of the first text, and the other in a comment of a text of which nothing is read, if the characters that
-/// come stand one behind the other.
-fn a_comment_in_front_writes_what_one_in_a_text_does(one: &ScoreStage, other: &ScoreStage)
-    requires saved { AreSavedAlike one.now other.now }
-    requires front { StandsInFront one.now }
-    ensures { (from_heads : List HeadEvent) → StandInLine one.now.held.next from_heads →
-        WriteTheSame one.now other.now from_heads }
-{
-    a_comment_in_front_is_one_in_a_text(one, other);
-}
-
 /// So do two writers of scores.
 fn writers_saved_alike_agree(one: &ScoreWriter, other: &ScoreWriter)
-    requires saved { AreSavedAlike one.now.score other.now.score }
-    requires front { is_in_front one.now.score.body.part ≡ is_in_front other.now.score.body.part }
-    ensures { (from_heads : List HeadEvent) →
-        WriteTheSame one.now.score other.now.score from_heads }
-{
-    what_is_saved_alike_writes_the_same(&one.score, &other.score);
-}
-
-/// So do two writers of scores, where the one stands in front of the first text, if the characters that come stand one behind the other.
-fn writers_in_front_agree(one: &ScoreWriter, other: &ScoreWriter)
-    requires saved { AreSavedAlike one.now.score other.now.score }
-    requires front { StandsInFront one.now.score }
+    requires { AreSavedAlike one.now.score other.now.score }
     ensures { (from_heads : List HeadEvent) → StandInLine one.now.score.held.next from_heads →
         WriteTheSame one.now.score other.now.score from_heads }
 {
-    a_comment_in_front_writes_what_one_in_a_text_does(&one.score, &other.score);
+    what_is_saved_alike_writes_the_same(&one.score, &other.score);
 }
 
 /// Two engines that run in the headers, call their inputs the same and save the same write the same of whatever follows.
@@ -76,14 +52,13 @@ fn engines_saved_alike_in_headers_agree(one: &Engine, other: &Engine)
     stages_of_one_text_agree(&one.heads, &other.heads);
 }
 
-/// So do two that run in the body, where both stand in front of the first text or both do not.
+/// So do two that run in the body.
 fn engines_saved_alike_in_the_body_agree(one: &Engine, other: &Engine)
     requires runs { is_running one.now ≡ true }
     requires other_runs { is_running other.now ≡ true }
     requires body { one.now.written.headed ≡ true }
     requires name { one.now.written.name ≡ other.now.written.name }
     requires state { state_of one.now ≡ state_of other.now }
-    requires front { is_in_front one.now.score.body.part ≡ is_in_front other.now.score.body.part }
     ensures { (ending : SourceEnding) (bytes : List ℕ) →
         streams_left one.now ending bytes ≡ streams_left other.now ending bytes }
 {
@@ -96,36 +71,13 @@ fn engines_saved_alike_in_the_body_agree(one: &Engine, other: &Engine)
     writers_saved_alike_agree(&one.writer, &other.writer);
 }
 
-/// Two engines that run behind their headers, call their inputs the same and save the same write the same of whatever follows, and end alike, where the one
-/// stands in front of the first text: the other may stand there too, or in a comment of a text of which nothing is read.
-pub fn engines_in_front_that_save_the_same_agree(one: &Engine, other: &Engine)
-    requires runs { is_running one.now ≡ true }
-    requires other_runs { is_running other.now ≡ true }
-    requires body { one.now.written.headed ≡ true }
-    requires name { one.now.written.name ≡ other.now.written.name }
-    requires state { state_of one.now ≡ state_of other.now }
-    requires front { StandsInFront one.now.score }
-    ensures { (ending : SourceEnding) (bytes : List ℕ) →
-        streams_left one.now ending bytes ≡ streams_left other.now ending bytes }
-{
-    what_a_decoder_tells_may_be_told(&one.decoder);
-    what_a_decoder_tells_may_be_told(&other.decoder);
-    decoders_that_tell_the_same_agree(&one.decoder, &other.decoder);
-    stages_behind_headers_agree(&one.heads, &other.heads);
-    one.writer.tells_of_a_text();
-    other.writer.tells_of_a_text();
-    writers_in_front_agree(&one.writer, &other.writer);
-}
-
 /// Two engines that run, call their inputs the same and save the same write the same of whatever follows, and end alike: all by which a run goes on stands in
-/// its state. Behind the headers both stand in front of the first text, or neither does.
+/// its state.
 pub fn engines_that_save_the_same_agree(one: &Engine, other: &Engine)
     requires runs { is_running one.now ≡ true }
     requires other_runs { is_running other.now ≡ true }
     requires name { one.now.written.name ≡ other.now.written.name }
     requires state { state_of one.now ≡ state_of other.now }
-    requires front { one.now.written.headed ≡ true →
-        is_in_front one.now.score.body.part ≡ is_in_front other.now.score.body.part }
     ensures { (ending : SourceEnding) (bytes : List ℕ) →
         streams_left one.now ending bytes ≡ streams_left other.now ending bytes }
 {

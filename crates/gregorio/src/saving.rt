@@ -13,16 +13,17 @@ ghost use Rattle.gregorio_state.specs.Fields.{InHeaders, fields_of, holding, pha
 ghost use Rattle.gregorio_state.specs.StateBytes.{state_bytes};
 ghost use Rattle.gregorio.specs.Engine.{NothingWaits, is_running};
 ghost use Rattle.gregorio.specs.Saved.{held_count, held_text, score_fields, state_of};
+ghost use Rattle.gregorio.specs.SavedState.{AreOfState};
 ghost use Rattle.gregorio.specs.machine.Saving.{text_when_held};
 
 use crate::engine::Engine;
 use gabc_places::{ByteCounter, Put};
-use gabc_score::{Syllable, canon_starting};
+use gabc_score::{ScoreStage, Syllable, canon_starting};
 use gregorio_state::{Phase, PutText, ScoreFields, StateFields, TooShort};
 
 /// The syllable that a stage holds, if it holds one.
 #[derive(Clone, Copy)]
-struct HeldSyllable<'a> {
+pub(crate) struct HeldSyllable<'a> {
     syllable: Option<&'a Syllable>,
     /// Whether it is the first one of the score.
     first: bool,
@@ -35,6 +36,19 @@ impl PutText for HeldSyllable<'_> {
     fn put_into<S: Put>(&self, out: &mut S) {
         if let Some(syllable) = self.syllable {
             canon_starting(syllable, self.first || syllable.text.word_start, out);
+        }
+    }
+}
+
+impl<'a> HeldSyllable<'a> {
+    /// Returns the syllable that `stage` holds.
+    pub(crate) fn of(stage: &'a ScoreStage) -> HeldSyllable<'a>
+        ensures { text_when_held result.first (option_map (λ s. unplaced_of s.now) result.syllable)
+            ≡ held_text stage.now.before (held_of stage.now) }
+    {
+        HeldSyllable {
+            syllable: stage.held(),
+            first: stage.before().is_some_and(|before| before.syllables == 0),
         }
     }
 }
@@ -60,18 +74,6 @@ fn in_headers(headers: &str) -> Phase<'_>
 }
 
 impl Engine {
-    /// Returns the syllable that is held.
-    fn held_syllable(&self) -> HeldSyllable<'_>
-        ensures { text_when_held result.first (option_map (λ s. unplaced_of s.now) result.syllable)
-            ≡ held_text self.now.score.before (held_of self.now.score) }
-    {
-        let score = self.score();
-        HeldSyllable {
-            syllable: score.held(),
-            first: score.before().is_some_and(|before| before.syllables == 0),
-        }
-    }
-
     /// Returns how many syllables are held.
     fn held_count(&self) -> u32
         ensures { result ≡ held_count (held_of self.now.score) }
@@ -164,11 +166,12 @@ impl Engine {
 
     /// Writes the saved state of the run to the front of `buf`, and returns how many bytes it has. The error is that of a `buf` that has fewer bytes
     /// than the state, and then it is unchanged. With 128 bytes and the limit of the headers, or 128 and twice that of a syllable, whichever is
-    /// more, it is not too short. What is written is a state, in the sense of `gregorio_state`. The run may not be over, and nothing may wait.
+    /// more, it is not too short. What is written is a state: the headers or the held and the kept text in it are read as it says, too. The run may
+    /// not be over, and nothing may wait.
     pub fn save_into(&self, buf: &mut [u8]) -> Result<usize, TooShort>
         requires runs { is_running self.now ≡ true }
         requires waits { NothingWaits self.now }
-        ensures state { AreStateFields (state_of self.now) }
+        ensures state { AreOfState (state_of self.now) }
         ensures written { OnOk result (buf.new ≡ state_bytes (state_of self.now)
             ++ drop (length (state_bytes (state_of self.now))) buf.old) }
         ensures len { IfOk result (λ len. len ≡ length (state_bytes (state_of self.now))) }
@@ -179,7 +182,7 @@ impl Engine {
             ≤ length buf.old → IsOk result }
     {
         self.tells_a_state();
-        let held = self.held_syllable();
+        let held = HeldSyllable::of(self.score());
         let fields = self.state_fields(held.len());
         fields.save_holding(&held, buf)
     }

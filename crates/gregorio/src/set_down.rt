@@ -1,33 +1,197 @@
-//! STUB: a stage over a score, set down again from the fields of a state.
+//! A stage over a score that is set down again from the fields of a state.
 
-ghost use Rattle.std.specs.Prelude.{◌≡◌, false, Err, IfOk};
-ghost use Rattle.gabc_score.specs.ScoreTells.{is_in_front};
-ghost use Rattle.gregorio_state.specs.Conditions.{AreStateFields};
+ghost use Rattle.std.specs.Prelude.{◌≡◌, ◌≢◌, ◌↔◌, ◌≤◌, [], length, true, false, Err, IfErr, IfOk, IsTrue};
+ghost use Rattle.gabc_score.specs.Resumed.{StandsBehind};
+ghost use Rattle.gabc_score.specs.ScoreTells.{held_of, is_in_front};
+ghost use Rattle.gabc_score.specs.ToldWithin.{IsPlace, TellsOfText};
+ghost use Rattle.gabc_score.specs.declared.score_machine.ScorePart.TheVariants.{Body};
+ghost use Rattle.gregorio_state.specs.Conditions.{AreScoreFields, AreStateFields, IsHeldWithin};
 ghost use Rattle.gregorio_state.specs.Fields.{InScore, fields_of, phase_of, score_of};
-ghost use Rattle.gregorio.specs.SavedState.{IsScoreRead};
+ghost use Rattle.gregorio.specs.Saved.{held_text};
+ghost use Rattle.gregorio.specs.SavedState.{IsHeldRead, IsKeptRead, IsScoreRead, before_held};
 ghost use Rattle.gregorio.specs.machine.Restoring.{IsSetDown};
+ghost use Rattle.gregorio.specs.machine.SettingDown.{HasRead, HoldsHeld, ReadsOn, openers_told};
 
+use crate::comparison::Comparison;
+use crate::saving::HeldSyllable;
 use crate::state_fault::StateFault;
-use gabc_score::ScoreStage;
-use gregorio_state::{ScoreFields, StateFields};
+use gabc_places::Room;
+use gabc_score::stage_laws::{
+    a_comment_in_front_can_be_read_in_a_text, a_resumed_stage_tells_of_a_text,
+    a_text_is_one_syllable, what_is_read_can_be_read_again, whole_syllables_are_given_or_held,
+};
+use gabc_score::{Before, Openers, ScoreEvent, ScoreStage, Spans};
+use gregorio_state::{PutText, ScoreFields, StateFields};
 use std::alloc::Global;
+
+/// Returns what stands before the syllable of which `fields` have the text.
+fn before_held(fields: &ScoreFields<'_>) -> Before
+    requires { length fields.now.held.now ≤ fields.now.canonical }
+    ensures { result ≡ before_held (score_of fields.now) }
+{
+    Before {
+        nabc_lines: fields.nabc_lines,
+        macros: fields.macros,
+        syllables: u64::from(fields.syllables.saturating_sub(1)),
+        canonical: fields.canonical as usize - fields.held.len(),
+        spans: Spans {
+            eu: fields.in_eu,
+            nlba: fields.in_nlba,
+        },
+        sounded: fields.sounded,
+    }
+}
+
+/// Returns the places of what is open.
+fn openers(fields: &ScoreFields<'_>) -> Openers
+    ensures { result ≡ openers_told (score_of fields.now) }
+{
+    Openers {
+        notes: fields.notes_opener,
+        inner: fields.inner_opener,
+    }
+}
+
+/// Returns an empty room for what a stage finds in a text that it reads again.
+fn event_room(alloc: Global) -> Result<Room<ScoreEvent>, StateFault>
+    ensures room { IfOk result (λ room. room ≡ record { items = []; limit = 16 }) }
+    ensures fault { IfErr result (λ fault. fault ≡ StateFault.K0) }
+{
+    match Room::with_limit(alloc, 16) {
+        Ok(room) => Ok(room),
+        Err(_) => Err(StateFault::K0),
+    }
+}
+
+/// Returns a stage under the limits of `state` that stands behind what stands before the syllable of which `fields` have the text.
+fn stage_behind(
+    alloc: Global,
+    state: &StateFields<'_>,
+    fields: &ScoreFields<'_>,
+) -> Result<ScoreStage, StateFault>
+    requires { AreScoreFields (fields_of state.now) (score_of fields.now) }
+    ensures stands { IfOk result (λ stage.
+        StandsBehind state.now.limits (before_held (score_of fields.now)) stage) }
+    ensures told { IfOk result (λ stage. TellsOfText stage) }
+    ensures fault { IfErr result (λ fault. fault ≡ StateFault.K0) }
+{
+    a_resumed_stage_tells_of_a_text();
+    match ScoreStage::resume(alloc, state.limits, before_held(fields)) {
+        Ok(stage) => Ok(stage),
+        Err(_) => Err(StateFault::K0),
+    }
+}
+
+/// Returns whether `text` is the canonical text of the syllable that `stage` holds.
+fn is_held_text(stage: &ScoreStage, text: &str) -> bool
+    ensures { IsTrue result ↔ held_text stage.now.before (held_of stage.now) ≡ text.now }
+{
+    let mut comparison = Comparison::with(text.as_bytes());
+    HeldSyllable::of(stage).put_into(&mut comparison);
+    comparison.is_same()
+}
+
+/// Holds the syllable of which `fields` have the text, if they have one. Returns whether the text is read so.
+fn hold(stage: &mut ScoreStage, fields: &ScoreFields<'_>, room: &mut Room<ScoreEvent>) -> bool
+    requires held { IsHeldWithin stage.old.limits.syllable (score_of fields.now) }
+    requires stands { StandsBehind stage.old.limits (before_held (score_of fields.now)) stage.old }
+    requires told { TellsOfText stage.old }
+    requires empty { room.old.items ≡ [] }
+    requires room { 16 ≤ room.old.limit }
+    ensures read { IsTrue result ↔
+        (fields.now.held.now ≢ [] → IsHeldRead stage.old.limits (score_of fields.now)) }
+    ensures limits { result ≡ true → stage.new.limits ≡ stage.old.limits }
+    ensures holds { result ≡ true → HoldsHeld (score_of fields.now) stage.new }
+{
+    if fields.held.is_empty() {
+        return true;
+    }
+    a_text_is_one_syllable();
+    if !stage.hold_again(fields.held, room) {
+        return false;
+    }
+    is_held_text(stage, fields.held)
+}
+
+/// Returns whether `stage`, which is in the body, has read of a syllable what `fields` say.
+fn has_read(stage: &ScoreStage, fields: &ScoreFields<'_>) -> bool
+    requires { stage.now.part ≡ Body }
+    ensures { IsTrue result ↔ HasRead (score_of fields.now) stage.now }
+{
+    stage.reading() == fields.kept
+        && stage.openers() == Some(openers(fields))
+        && stage.in_comment() == Some(fields.in_comment)
+}
+
+/// Reads the text that is kept of a syllable, at the place of `state`. Returns whether it is read as `fields` say.
+fn read_kept(stage: &mut ScoreStage, state: &StateFields<'_>, fields: &ScoreFields<'_>) -> bool
+    requires fields { AreScoreFields (fields_of state.now) (score_of fields.now) }
+    requires place { IsPlace state.now.place }
+    requires holds { HoldsHeld (score_of fields.now) stage.old }
+    ensures read { IsTrue result ↔ IsKeptRead stage.old.limits (score_of fields.now) }
+    ensures limits { stage.new.limits ≡ stage.old.limits }
+    ensures reads { result ≡ true →
+        ReadsOn state.now.place (score_of fields.now) stage.new }
+{
+    a_comment_in_front_can_be_read_in_a_text();
+    if !stage.read_again(fields.kept, openers(fields), fields.in_comment, state.place) {
+        return false;
+    }
+    what_is_read_can_be_read_again(stage);
+    has_read(stage, fields)
+}
+
+/// Reads the texts of `fields`. Returns whether they are read as the fields say.
+fn read_texts(
+    stage: &mut ScoreStage,
+    state: &StateFields<'_>,
+    fields: &ScoreFields<'_>,
+    room: &mut Room<ScoreEvent>,
+) -> bool
+    requires fields { AreScoreFields (fields_of state.now) (score_of fields.now) }
+    requires place { IsPlace state.now.place }
+    requires stands { StandsBehind state.now.limits (before_held (score_of fields.now)) stage.old }
+    requires told { TellsOfText stage.old }
+    requires empty { room.old.items ≡ [] }
+    requires room { 16 ≤ room.old.limit }
+    ensures read { IsTrue result ↔ IsScoreRead state.now.limits (score_of fields.now) }
+    ensures told { result ≡ true →
+        IsSetDown (fields_of state.now) (score_of fields.now) stage.new }
+    ensures front { result ≡ true → is_in_front stage.new.body.part ≡ false }
+{
+    if !hold(stage, fields, room) {
+        return false;
+    }
+    if !read_kept(stage, state, fields) {
+        return false;
+    }
+    whole_syllables_are_given_or_held(stage);
+    true
+}
 
 /// Returns a stage over a score that tells what `fields` say, the fields of the score of `state`. The error is `K1` where a text of them is not read
 /// as they say, under the limits of the state, and `K0` where there is no memory.
 pub(crate) fn set_down(
-    _alloc: Global,
-    _state: &StateFields<'_>,
-    _fields: &ScoreFields<'_>,
+    alloc: Global,
+    state: &StateFields<'_>,
+    fields: &ScoreFields<'_>,
 ) -> Result<ScoreStage, StateFault>
-    requires state { AreStateFields (fields_of _state.now) }
-    requires phase { phase_of _state.now.phase ≡ InScore (score_of _fields.now) }
+    requires state { AreStateFields (fields_of state.now) }
+    requires phase { phase_of state.now.phase ≡ InScore (score_of fields.now) }
     ensures told { IfOk result (λ stage.
-        IsSetDown (fields_of _state.now) (score_of _fields.now) stage) }
+        IsSetDown (fields_of state.now) (score_of fields.now) stage) }
     ensures front { IfOk result (λ stage. is_in_front stage.body.part ≡ false) }
-    ensures read { IfOk result (λ stage. IsScoreRead _state.now.limits (score_of _fields.now)) }
+    ensures read { IfOk result (λ stage. IsScoreRead state.now.limits (score_of fields.now)) }
     ensures refused { result ≡ Err StateFault.K1 →
-        IsScoreRead _state.now.limits (score_of _fields.now) → ⊥ }
+        IsScoreRead state.now.limits (score_of fields.now) → ⊥ }
     ensures never { result ≡ Err StateFault.K2 → ⊥ }
 {
-    Err(StateFault::K0)
+    let mut room = event_room(alloc)?;
+    let mut stage = stage_behind(alloc, state, fields)?;
+    if read_texts(&mut stage, state, fields, &mut room) {
+        Ok(stage)
+    } else {
+        drop(stage);
+        Err(StateFault::K1)
+    }
 }

@@ -8,6 +8,7 @@ mod digest;
 mod laws;
 mod lists;
 mod makers;
+mod restored;
 mod runs;
 mod texts;
 mod trial;
@@ -23,7 +24,8 @@ fn is_tried(rt: &HostRuntime, name: &str, input: &str) -> io::Result<bool> {
             || makers::is_tried(rt, name)?
             || laws::is_tried(rt, name)?
             || wholes::is_tried(rt, name, input)?
-            || runs::is_tried(rt, name, input)?,
+            || runs::is_tried(rt, name, input)?
+            || restored::is_tried(rt, name, input)?,
     )
 }
 

@@ -42,7 +42,7 @@ fn try_plan(rt: &HostRuntime, texts: &str) -> io::Result<()> {
 }
 
 /// Returns a job on standard input that wants all warnings.
-fn job_in(format: Format) -> Job {
+pub(crate) fn job_in(format: Format) -> Job {
     Job {
         format,
         input: Input::Stdin,
@@ -53,7 +53,7 @@ fn job_in(format: Format) -> Job {
 }
 
 /// Feeds an engine the end of its headers, and returns a digest of what it writes then. The engine is let go.
-fn digest_of_engine(mut engine: Engine) -> u64
+pub(crate) fn digest_of_engine(mut engine: Engine) -> u64
     requires waits { NothingWaits engine }
 {
     let taken = engine.feed(b"%%\n");

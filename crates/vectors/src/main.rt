@@ -1,35 +1,40 @@
 //! Runs the chant reader on rows of inputs and on scores, each with the output and the messages that it must give; the rows
-//! also have the status. Makes each run from a source, and again in pieces of several lengths. What is wanted was computed or written apart
+//! also have the status. Makes each run from a source, again in pieces of several lengths, and again saved and restored behind each piece. What is wanted was computed or written apart
 //! from this project, but for the dumps of the scores: the program wrote these, and they were read by hand. Makes the calls of the crates
 //! below by rows of a call, its input and its answer, which were worked by hand. Prints the rows and scores that differ, and how many agree.
 #![tactic(auto)]
 
 mod call;
-mod damaged;
 mod ends;
+mod flipped;
+mod interrupted;
 mod nabc;
 mod neumes;
 mod notes;
 mod pieces;
+mod prefixes;
 mod printed;
 mod row;
 mod run;
 mod scores;
 mod show;
+mod state_row;
 mod states;
 mod texts;
 mod writes;
 
 use call::is_answered;
-use damaged::is_answered_so;
 use ends::{Known, fills_sinks};
+use flipped::is_safe_turned;
 use gabc_places::Limits;
 use gregorio::Format;
+use interrupted::agrees_interrupted;
 use pieces::{Wanted, agrees_in_pieces};
+use prefixes::has_prefixes_alike;
 use row::{Row, row_of};
-use run::{Request, run};
-use states::is_saved;
-use std::alloc::Global;
+use run::{Request, request_of, run};
+use states::{buffer_of, is_answered_so, is_saved};
+use std::alloc::{AllocError, Global};
 use std::{fs, io};
 
 /// The example scores: each is a file `NAME.gabc`, with its canonical form, its dump and the messages under `-W` beside it.
@@ -45,27 +50,6 @@ const SCORES: [&str; 10] = [
     "psalm-tone",
     "two-lines",
 ];
-
-/// The files of rows of calls of the crates below.
-const CALLS: [&str; 6] = [
-    "texts.tsv",
-    "notes.tsv",
-    "neumes.tsv",
-    "nabc.tsv",
-    "scores.tsv",
-    "writes.tsv",
-];
-
-/// The run that a row asks for, if there are such limits.
-fn request_of(row: &Row) -> Option<Request<'_>> {
-    Some(Request {
-        format: row.format,
-        bytes: row.bytes.as_slice(),
-        broken: row.broken,
-        limits: Limits::new(row.header, row.syllable, row.input)?,
-        all_warnings: row.all_warnings,
-    })
-}
 
 /// Whether a run on the row's input gives what the row says.
 fn agrees(alloc: Global, row: &Row) -> bool {
@@ -83,11 +67,28 @@ fn row_agrees_in_pieces(alloc: Global, row: &Row) -> bool {
     let Some(asked) = request_of(row) else {
         return false;
     };
-    let wanted = Wanted {
-        output: row.output.as_slice(),
-        messages: row.messages.as_slice(),
+    agrees_in_pieces(alloc, asked, Wanted::of(row), row.status)
+}
+
+/// How many bytes the pieces have behind which a run is saved and restored.
+const INTERRUPTED: [usize; 4] = [1, 2, 3, 7];
+
+/// Whether runs on the row's input that are saved and restored behind each piece give what the row says. Where no limit is reached, the limits are
+/// lowered to some that none of these runs reaches either: an engine is made in less time under them.
+fn row_agrees_interrupted(alloc: Global, row: &Row) -> Result<bool, AllocError> {
+    let Some(asked) = request_of(row) else {
+        return Ok(false);
     };
-    agrees_in_pieces(alloc, asked, wanted, row.status)
+    let asked = asked.with_low_limits();
+    let bound = asked.limits.header.max(asked.limits.syllable.saturating_mul(2));
+    let mut buffer = buffer_of(alloc, (bound as usize).saturating_add(128))?;
+    for length in INTERRUPTED {
+        let (wanted, buffer) = (Wanted::of(row), buffer.as_mut_slice());
+        if !agrees_interrupted(alloc, asked, length, wanted, row.status, buffer) {
+            return Ok(false);
+        }
+    }
+    Ok(true)
 }
 
 /// Whether a run on this canonical form writes it again, with no error, under these limits, and so does a run on what that wrote.
@@ -148,6 +149,9 @@ fn row_agrees(rt: &HostRuntime, path: &str, number: usize, line: &str) -> io::Re
         Some(row) if !row_agrees_in_pieces(rt.alloc(), &row) => {
             println!(rt; "{path}: the run on line {number} differs in pieces")?;
         }
+        Some(row) if !row_agrees_interrupted(rt.alloc(), &row)? => {
+            println!(rt; "{path}: the run on line {number} differs where it is restored")?;
+        }
         Some(row) if !is_kept(rt.alloc(), &row) => {
             println!(rt; "{path}: the output of line {number} is not read again as itself")?;
         }
@@ -157,63 +161,22 @@ fn row_agrees(rt: &HostRuntime, path: &str, number: usize, line: &str) -> io::Re
     Ok(false)
 }
 
-/// Runs the rows of a file. The first line of the file is its head.
-fn check_rows(rt: &HostRuntime, path: &str) -> io::Result<()> {
-    let text = fs::read_to_string(rt, path)?;
-    let mut rows = 0u32;
-    let mut agreed = 0u32;
-    for (number, line) in text.as_str().lines().enumerate() {
-        if number == 0 {
-            continue;
-        }
-        rows = rows.saturating_add(1);
-        if row_agrees(rt, path, number, line)? {
-            agreed = agreed.saturating_add(1);
-        }
-    }
-    println!(rt; "{path}: {agreed} of {rows} rows agree")
-}
-
-/// Returns whether runs on the row on this line of a file stop where a sink fails, with the bytes that it holds. Tells where they do not.
-fn row_fills_sinks(rt: &HostRuntime, path: &str, number: usize, line: &str) -> io::Result<bool> {
-    let Some(row) = row_of(rt.alloc(), line)? else {
+/// Returns whether runs on the row on this line of a file stop where a sink fails, with the bytes that it holds.
+fn row_fills_sinks(alloc: Global, line: &str) -> Result<bool, AllocError> {
+    let Some(row) = row_of(alloc, line)? else {
         return Ok(false);
     };
     let Some(asked) = request_of(&row) else {
         return Ok(false);
     };
-    let wanted = Wanted {
-        output: row.output.as_slice(),
-        messages: row.messages.as_slice(),
-    };
+    let wanted = Wanted::of(&row);
     let status = row.status;
     let known = Known {
         asked,
         wanted,
         status,
     };
-    let fills = fills_sinks(rt.alloc(), known)?;
-    if !fills {
-        println!(rt; "{path}: the run on line {number} differs where a sink fails")?;
-    }
-    Ok(fills)
-}
-
-/// Runs the rows of a file into sinks that fail.
-fn check_sinks(rt: &HostRuntime, path: &str) -> io::Result<()> {
-    let text = fs::read_to_string(rt, path)?;
-    let mut rows = 0u32;
-    let mut agreed = 0u32;
-    for (number, line) in text.as_str().lines().enumerate() {
-        if number == 0 {
-            continue;
-        }
-        rows = rows.saturating_add(1);
-        if row_fills_sinks(rt, path, number, line)? {
-            agreed = agreed.saturating_add(1);
-        }
-    }
-    println!(rt; "{path}: {agreed} of {rows} rows stop where a sink fails")
+    fills_sinks(alloc, known)
 }
 
 /// The file of a score with this ending.
@@ -267,77 +230,101 @@ fn check_scores(rt: &HostRuntime) -> io::Result<()> {
     println!(rt; "scores: {agreed} of {} agree", SCORES.len())
 }
 
-/// Makes the calls of a file. The first line of the file is its head.
-fn check_calls(rt: &HostRuntime, path: &str) -> io::Result<()> {
-    let text = fs::read_to_string(rt, path)?;
-    let mut rows = 0u32;
-    let mut agreed = 0u32;
-    for (number, line) in text.as_str().lines().enumerate() {
-        if number == 0 {
-            continue;
-        }
-        rows = rows.saturating_add(1);
-        if is_answered(rt.alloc(), line)? {
-            agreed = agreed.saturating_add(1);
-        } else {
-            println!(rt; "{path}: row {number} differs: {line}")?;
-        }
-    }
-    println!(rt; "{path}: {agreed} of {rows} rows agree")
+/// What stands on the lines of a file.
+#[derive(Clone, Copy)]
+enum Lines {
+    /// Runs, with what each has to write.
+    Runs,
+    /// Runs into sinks that fail.
+    Sinks,
+    /// Runs over each prefix of an input, in pieces and by the whole forms.
+    Prefixes,
+    /// Runs that are saved, and go on where they are restored.
+    Saved,
+    /// Saved runs, of whose states a bit is turned.
+    Turned,
+    /// States of which each is refused, or goes on.
+    States,
+    /// Calls of the crates below.
+    Calls,
 }
 
-/// Saves the runs of a file. The first line of the file is its head.
-fn check_states(rt: &HostRuntime, path: &str) -> io::Result<()> {
-    let text = fs::read_to_string(rt, path)?;
-    let mut rows = 0u32;
-    let mut agreed = 0u32;
-    for (number, line) in text.as_str().lines().enumerate() {
-        if number == 0 {
-            continue;
-        }
-        rows = rows.saturating_add(1);
-        if is_saved(rt.alloc(), line)? {
-            agreed = agreed.saturating_add(1);
-        } else {
-            println!(rt; "{path}: the state on line {number} differs")?;
+impl Lines {
+    /// Returns what is counted.
+    fn name(self) -> &'static str {
+        match self {
+            Lines::Runs => "runs",
+            Lines::Sinks => "runs into sinks that fail",
+            Lines::Prefixes => "inputs with their prefixes",
+            Lines::Saved => "saved runs",
+            Lines::Turned => "states with a bit turned",
+            Lines::States => "states",
+            Lines::Calls => "calls",
         }
     }
-    println!(rt; "{path}: {agreed} of {rows} states agree")
+
+    /// Returns whether what stands on this line of a file is as the line says. Tells where it is not.
+    fn agree(self, rt: &HostRuntime, path: &str, number: usize, line: &str) -> io::Result<bool> {
+        let alloc = rt.alloc();
+        let agrees = match self {
+            Lines::Runs => return row_agrees(rt, path, number, line),
+            Lines::Sinks => row_fills_sinks(alloc, line)?,
+            Lines::Prefixes => has_prefixes_alike(alloc, line)?,
+            Lines::Saved => is_saved(alloc, line)?,
+            Lines::Turned => is_safe_turned(alloc, line)?,
+            Lines::States => is_answered_so(alloc, line)?,
+            Lines::Calls => is_answered(alloc, line)?,
+        };
+        if !agrees {
+            println!(rt; "{path}: line {number} differs")?;
+        }
+        Ok(agrees)
+    }
 }
 
-/// Hands the states of a file to runs that are to go on from them. The first line of the file is its head.
-fn check_damaged(rt: &HostRuntime, path: &str) -> io::Result<()> {
+/// The files of lines.
+const FILES: [(&str, Lines); 19] = [
+    ("rows.tsv", Lines::Runs),
+    ("canonical.tsv", Lines::Runs),
+    ("canonical_w12.tsv", Lines::Runs),
+    ("dump.tsv", Lines::Runs),
+    ("dump2.tsv", Lines::Runs),
+    ("nabc_lines.tsv", Lines::Runs),
+    ("sources.tsv", Lines::Runs),
+    ("sinks.tsv", Lines::Sinks),
+    ("sinks.tsv", Lines::Prefixes),
+    ("states.tsv", Lines::Saved),
+    ("states.tsv", Lines::Turned),
+    ("damaged.tsv", Lines::States),
+    ("bent.tsv", Lines::States),
+    ("texts.tsv", Lines::Calls),
+    ("notes.tsv", Lines::Calls),
+    ("neumes.tsv", Lines::Calls),
+    ("nabc.tsv", Lines::Calls),
+    ("scores.tsv", Lines::Calls),
+    ("writes.tsv", Lines::Calls),
+];
+
+/// Looks at the lines of a file behind the first one, which is its head, and tells how many agree.
+fn check_file(rt: &HostRuntime, path: &str, lines: Lines) -> io::Result<()> {
     let text = fs::read_to_string(rt, path)?;
-    let mut rows = 0u32;
+    let mut count = 0u32;
     let mut agreed = 0u32;
     for (number, line) in text.as_str().lines().enumerate() {
         if number == 0 {
             continue;
         }
-        rows = rows.saturating_add(1);
-        if is_answered_so(rt.alloc(), line)? {
+        count = count.saturating_add(1);
+        if lines.agree(rt, path, number, line)? {
             agreed = agreed.saturating_add(1);
-        } else {
-            println!(rt; "{path}: the answer on line {number} differs")?;
         }
     }
-    println!(rt; "{path}: {agreed} of {rows} answers agree")
+    println!(rt; "{path}: {agreed} of {count} {} agree", lines.name())
 }
 
 fn main(rt: HostRuntime) -> io::Result<()> {
-    check_rows(&rt, "rows.tsv")?;
-    check_rows(&rt, "canonical.tsv")?;
-    check_rows(&rt, "canonical_w12.tsv")?;
-    check_rows(&rt, "dump.tsv")?;
-    check_rows(&rt, "dump2.tsv")?;
-    check_rows(&rt, "nabc_lines.tsv")?;
-    check_rows(&rt, "sources.tsv")?;
-    check_sinks(&rt, "sinks.tsv")?;
-    check_states(&rt, "states.tsv")?;
-    check_damaged(&rt, "damaged.tsv")?;
-    check_scores(&rt)?;
-    for path in CALLS {
-        check_calls(&rt, path)?;
+    for (path, lines) in FILES {
+        check_file(&rt, path, lines)?;
     }
-    Ok(())
+    check_scores(&rt)
 }

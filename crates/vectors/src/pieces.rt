@@ -3,6 +3,7 @@
 ghost use Rattle.std.specs.Prelude.{◌<◌};
 ghost use Rattle.gregorio.specs.Engine.{NothingWaits};
 
+use crate::row::Row;
 use crate::run::{Request, job};
 use gregorio::{Engine, Status};
 use std::alloc::Global;
@@ -17,9 +18,17 @@ pub(crate) struct Wanted<'a> {
     pub messages: &'a [u8],
 }
 
-impl Wanted<'_> {
+impl<'a> Wanted<'a> {
+    /// What a row says that is written.
+    pub(crate) fn of(row: &'a Row) -> Wanted<'a> {
+        Wanted {
+            output: row.output.as_slice(),
+            messages: row.messages.as_slice(),
+        }
+    }
+
     /// Takes what waits, and leaves what has to follow it. Returns whether this was wanted.
-    fn take(&mut self, engine: &mut Engine) -> bool
+    pub(crate) fn take(&mut self, engine: &mut Engine) -> bool
         ensures waits { NothingWaits engine.new }
     {
         let output = self.output.strip_prefix(engine.out());
@@ -33,13 +42,13 @@ impl Wanted<'_> {
     }
 
     /// Whether nothing has to follow.
-    fn is_empty(self) -> bool {
+    pub(crate) fn is_empty(self) -> bool {
         self.output.is_empty() && self.messages.is_empty()
     }
 }
 
 /// Feeds a piece, and takes what is written of it. Returns whether this was wanted.
-fn feed_piece(engine: &mut Engine, piece: &[u8], wanted: &mut Wanted) -> bool
+pub(crate) fn feed_piece(engine: &mut Engine, piece: &[u8], wanted: &mut Wanted) -> bool
     requires waits { NothingWaits engine.old }
     ensures waits { NothingWaits engine.new }
 {
@@ -54,7 +63,7 @@ fn feed_piece(engine: &mut Engine, piece: &[u8], wanted: &mut Wanted) -> bool
 }
 
 /// Feeds bytes in pieces of this length. Returns whether what was written of them was wanted.
-fn feed_all(engine: &mut Engine, bytes: &[u8], length: usize, wanted: &mut Wanted) -> bool
+pub(crate) fn feed_all(engine: &mut Engine, bytes: &[u8], length: usize, wanted: &mut Wanted) -> bool
     requires length { 0 < length }
     requires waits { NothingWaits engine.old }
     ensures waits { NothingWaits engine.new }
@@ -79,7 +88,7 @@ pub(crate) fn end(engine: &mut Engine, broken: bool) -> Status
 }
 
 /// Whether an engine that takes the bytes of a run in pieces of this length gives what is wanted.
-fn has_output(
+pub(crate) fn has_output(
     engine: &mut Engine,
     asked: Request,
     length: usize,

@@ -79,16 +79,16 @@ pub(crate) fn limits_of(column: &str) -> Option<(u32, u32, u32)> {
 
 /// The format of a run, whether it has the option `-W`, its three limits in bytes, and whether its source fails.
 #[derive(Clone, Copy)]
-struct Settings {
-    format: Format,
-    all_warnings: bool,
-    limits: (u32, u32, u32),
-    broken: bool,
-    status: u8,
+pub(crate) struct Settings {
+    pub format: Format,
+    pub all_warnings: bool,
+    pub limits: (u32, u32, u32),
+    pub broken: bool,
+    pub status: u8,
 }
 
 /// The row with these settings and these three columns of bytes.
-fn row_with(
+pub(crate) fn row_with(
     alloc: Global,
     settings: Settings,
     bytes: &str,

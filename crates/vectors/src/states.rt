@@ -1,71 +1,32 @@
-//! Runs that are saved behind some of their bytes, against the states that they must have there.
+//! Runs that are saved behind some of their bytes, and engines that are restored from states, against what they have to save, to answer and to write.
 
 ghost use Rattle.std.specs.Prelude.{◌≡◌, true};
 ghost use Rattle.gregorio.specs.Engine.{NothingWaits, is_running};
 
-use crate::row::{digit, format_of, limits_of, unescaped};
-use crate::run::job;
-use gabc_places::Limits;
-use gregorio::{Engine, Format};
+use crate::pieces::{Wanted, feed_all, has_output};
+use crate::row::Row;
+use crate::run::{Request, job, request_of};
+use crate::state_row::{Answer, SavedRow, StateRow, saved_row_of, state_row_of};
+use gregorio::{Engine, StateFault};
 use std::alloc::{AllocError, Global};
 
 /// How many bytes more than a state the buffer has into which it is saved.
 const MORE: usize = 7;
 
-/// A run that is saved behind its `bytes`, the state that it has there, and how many bytes it has written before.
-#[derive(Drop)]
-struct SavedRun {
-    format: Format,
-    all_warnings: bool,
-    limits: Limits,
-    bytes: Vec<u8>,
-    state: Vec<u8>,
-    output: usize,
-    messages: usize,
-}
+/// How many bytes the pieces have that an engine takes.
+const PIECE: usize = 5;
 
-/// The bytes of a column of hexadecimal digits, two each.
-pub(crate) fn bytes_of(alloc: Global, column: &str) -> Result<Vec<u8>, AllocError> {
-    let mut bytes = Vec::new(alloc);
-    for pair in column.as_bytes().chunks(2) {
-        if let [high, low] = pair {
-            bytes.push(digit(*high).wrapping_mul(16).wrapping_add(digit(*low)))?;
-        }
+/// Returns a buffer of `len` bytes, which are 0.
+pub(crate) fn buffer_of(alloc: Global, len: usize) -> Result<Vec<u8>, AllocError> {
+    let mut buffer = Vec::new(alloc);
+    for _ in 0..len {
+        buffer.push(0)?;
     }
-    Ok(bytes)
+    Ok(buffer)
 }
 
-/// How many bytes were written.
-#[derive(Clone, Copy)]
-struct Count {
-    output: usize,
-    messages: usize,
-}
-
-impl Count {
-    /// Counts what waits, and takes it.
-    fn take(&mut self, engine: &mut Engine)
-        ensures waits { NothingWaits engine.new }
-    {
-        self.output = self.output.saturating_add(engine.out().len());
-        self.messages = self.messages.saturating_add(engine.messages().len());
-        engine.taken();
-    }
-}
-
-/// Feeds `bytes`, and counts what is written of them.
-fn feed_all(engine: &mut Engine, bytes: &[u8], written: &mut Count)
-    requires waits { NothingWaits engine.old }
-    ensures waits { NothingWaits engine.new }
-{
-    let mut count = 0;
-    while count < bytes.len() {
-        count += engine.feed(&bytes[count..]);
-        written.take(engine);
-    }
-}
-
-/// Whether `engine` saves `state` into a `buffer` that has more bytes, and leaves the others of it; and nothing into one that has a byte less.
+/// Returns whether `engine` saves `state` into a `buffer` of bytes that are 0, of which there are more, and leaves the others; and nothing into one that
+/// has a byte less.
 pub(crate) fn saves(engine: &Engine, state: &[u8], buffer: &mut [u8]) -> bool
     requires runs { is_running engine.now ≡ true }
     requires waits { NothingWaits engine.now }
@@ -86,93 +47,127 @@ pub(crate) fn saves(engine: &Engine, state: &[u8], buffer: &mut [u8]) -> bool
     }
 }
 
-/// The run of a line: options, limits, ending, input, lengths of pieces, how many bytes are fed, the state, and how many bytes of output and of
-/// messages were written before it, split by tabs. What stands behind these says how the run goes on.
-fn saved_run_of(alloc: Global, line: &str) -> Result<Option<SavedRun>, AllocError> {
-    let mut columns = line.split('\t');
-    let (Some(options), Some(limits), Some(_), Some(input), Some(_)) = (
-        columns.next(),
-        columns.next(),
-        columns.next(),
-        columns.next(),
-        columns.next(),
-    ) else {
-        return Ok(None);
-    };
-    let (Some(fed), Some(state), Some(output), Some(messages)) = (
-        columns.next(),
-        columns.next(),
-        columns.next(),
-        columns.next(),
-    ) else {
-        return Ok(None);
-    };
-    let (Some(limits), Ok(fed), Ok(output), Ok(messages)) = (
-        limits_in(limits),
-        fed.parse::<usize>(),
-        output.parse::<usize>(),
-        messages.parse::<usize>(),
-    ) else {
-        return Ok(None);
-    };
-    let mut bytes = unescaped(alloc, input)?;
-    bytes.truncate(fed);
-    Ok(Some(SavedRun {
-        format: format_of(options),
-        all_warnings: options.ends_with("-W"),
-        limits,
-        bytes,
-        state: bytes_of(alloc, state)?,
-        output,
-        messages,
-    }))
+/// What an engine goes on with that is restored.
+#[derive(Clone, Copy)]
+struct Rest<'a> {
+    asked: Request<'a>,
+    wanted: Wanted<'a>,
+    status: u8,
 }
 
-/// The limits of a column, if a run may have them.
-pub(crate) fn limits_in(column: &str) -> Option<Limits> {
-    let (header, syllable, input) = limits_of(column)?;
-    Limits::new(header, syllable, input)
-}
-
-/// A buffer of so many bytes.
-pub(crate) fn buffer_of(alloc: Global, len: usize) -> Result<Vec<u8>, AllocError> {
-    let mut buffer = Vec::new(alloc);
-    for _ in 0..len {
-        buffer.push(0)?;
-    }
-    Ok(buffer)
-}
-
-impl SavedRun {
-    /// Whether `engine`, which is fresh, has written as much behind the bytes and saves the state.
-    fn is_saved_by(&self, engine: &mut Engine, buffer: &mut [u8]) -> bool
-        requires waits { NothingWaits engine.old }
-    {
-        let mut written = Count {
-            output: 0,
-            messages: 0,
-        };
-        feed_all(engine, self.bytes.as_slice(), &mut written);
-        engine.running()
-            && written.output == self.output
-            && written.messages == self.messages
-            && saves(engine, self.state.as_slice(), buffer)
-    }
-}
-
-/// Whether the run on this line of a file is saved as its row says.
-pub(crate) fn is_saved(alloc: Global, line: &str) -> Result<bool, AllocError> {
-    let Some(run) = saved_run_of(alloc, line)? else {
-        return Ok(false);
-    };
-    let mut buffer = buffer_of(alloc, run.state.len().saturating_add(MORE))?;
-    match Engine::new(alloc, &job(run.format, run.all_warnings), run.limits) {
+/// Returns whether an engine that is restored from `state` saves it at once, and goes on with `rest`. The error is for want of memory.
+fn goes_on(alloc: Global, state: &[u8], rest: Rest) -> Result<bool, AllocError> {
+    let mut buffer = buffer_of(alloc, state.len().saturating_add(MORE))?;
+    let Rest { asked, wanted, status } = rest;
+    let job = job(asked.format, asked.all_warnings);
+    match Engine::restore(alloc, &job, asked.limits, state) {
         Ok(mut engine) => {
-            let saved = run.is_saved_by(&mut engine, buffer.as_mut_slice());
+            let well = saves(&engine, state, buffer.as_mut_slice())
+                && has_output(&mut engine, asked, PIECE, wanted, status);
             // A proof follows a call faster than all that lies inside an engine.
             drop(engine);
-            Ok(saved)
+            Ok(well)
         }
-        Err(error) => Err(error),
+        Err(StateFault::K0) => Err(AllocError),
+        Err(StateFault::K1 | StateFault::K2) => Ok(false),
+    }
+}
+
+/// Returns how an attempt to restore a run from `state` is answered. The error is for want of memory.
+fn answer_to(alloc: Global, state: &[u8], asked: Request) -> Result<Answer, AllocError> {
+    let job = job(asked.format, asked.all_warnings);
+    match Engine::restore(alloc, &job, asked.limits, state) {
+        Ok(engine) => {
+            drop(engine);
+            Ok(Answer::Accepted)
+        }
+        Err(StateFault::K0) => Err(AllocError),
+        Err(StateFault::K1) => Ok(Answer::K1),
+        Err(StateFault::K2) => Ok(Answer::K2),
+    }
+}
+
+impl StateRow {
+    /// Returns whether its state is answered as it says, and an accepted one goes on as it says.
+    fn agrees(&self, alloc: Global) -> Result<bool, AllocError> {
+        let Some(asked) = request_of(&self.rest) else {
+            return Ok(false);
+        };
+        let state = self.state.as_slice();
+        if self.answer != Answer::Accepted {
+            return Ok(answer_to(alloc, state, asked)? == self.answer);
+        }
+        let rest = Rest {
+            asked,
+            wanted: Wanted::of(&self.rest),
+            status: self.rest.status,
+        };
+        goes_on(alloc, state, rest)
+    }
+}
+
+impl SavedRow {
+    /// Returns whether `engine`, which is fresh, has written the first of what is wanted behind the first bytes, and saves the state there.
+    fn is_saved_by(&self, engine: &mut Engine, asked: Request, buffer: &mut [u8]) -> bool
+        requires waits { NothingWaits engine.old }
+    {
+        let mut wanted = Wanted {
+            output: &self.run.output.as_slice()[..self.output],
+            messages: &self.run.messages.as_slice()[..self.messages],
+        };
+        feed_all(engine, asked.bytes, PIECE, &mut wanted)
+            && wanted.is_empty()
+            && engine.running()
+            && saves(engine, self.state.as_slice(), buffer)
+    }
+
+    /// Returns whether a run is saved so behind the first bytes, which are `asked` for.
+    fn is_saved(&self, alloc: Global, asked: Request) -> Result<bool, AllocError> {
+        let mut buffer = buffer_of(alloc, self.state.len().saturating_add(MORE))?;
+        match Engine::new(alloc, &job(asked.format, asked.all_warnings), asked.limits) {
+            Ok(mut engine) => {
+                let saved = self.is_saved_by(&mut engine, asked, buffer.as_mut_slice());
+                drop(engine);
+                Ok(saved)
+            }
+            Err(error) => Err(error),
+        }
+    }
+
+    /// Returns whether a run is saved as it says, and goes on as it says where it is restored.
+    fn agrees(&self, alloc: Global) -> Result<bool, AllocError> {
+        let Some(asked) = request_of(&self.run) else {
+            return Ok(false);
+        };
+        let (Some((first, bytes)), Some((_, output)), Some((_, messages))) = (
+            asked.bytes.split_at_checked(self.fed),
+            self.run.output.as_slice().split_at_checked(self.output),
+            self.run.messages.as_slice().split_at_checked(self.messages),
+        ) else {
+            return Ok(false);
+        };
+        let rest = Rest {
+            asked: Request { bytes, ..asked },
+            wanted: Wanted { output, messages },
+            status: self.run.status,
+        };
+        Ok(self.is_saved(alloc, Request { bytes: first, ..asked })?
+            && goes_on(alloc, self.state.as_slice(), rest)?)
+    }
+}
+
+/// Returns whether the run on this line of a file is saved and restored as its row says.
+pub(crate) fn is_saved(alloc: Global, line: &str) -> Result<bool, AllocError> {
+    match saved_row_of(alloc, line)? {
+        Some(row) => row.agrees(alloc),
+        None => Ok(false),
+    }
+}
+
+/// Returns whether the state on this line of a file is answered as its row says.
+pub(crate) fn is_answered_so(alloc: Global, line: &str) -> Result<bool, AllocError> {
+    match state_row_of(alloc, line)? {
+        Some(row) => row.agrees(alloc),
+        None => Ok(false),
     }
 }

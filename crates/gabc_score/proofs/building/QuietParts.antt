@@ -89,10 +89,11 @@ module _ (before after : BodyStageState) (x : Char) (pair next : SlotPairState) 
   pub events_quiet : (es : List BodyEvent) → ((xs : List Char) → running_events_left before (x ∷ xs) ≡ es ∷ running_events_left after xs)
       → OnlyKeeps pair.gathered (with_all pair.gathered es) es → next.gathered ≡ with_all pair.gathered es → CountsHold after.part (with_all pair.gathered es).builder
       → after.nabc_lines ≡ before.nabc_lines → after.macros ≡ before.macros → PartKeepsOn before.nabc_lines before.macros before.part after.part es → PartStandsOn before.nabc_lines before.macros x before.part after.part
-      → PartOpensOn before.nabc_lines before.macros x before.part after.part → All (IsKeptOf x.c) (kept_codes es) → is_in_front before.part ≡ false → ClosesLast es → TakesQuietly before x pair after next
-  events_quiet es law keeps gathered counts lines macros parts stands opens only behind last = record {
+      → PartOpensOn before.nabc_lines before.macros x before.part after.part → All (IsKeptOf x.c) (kept_codes es) → is_in_front before.part ≡ false → is_in_front after.part ≡ false → ClosesLast es → TakesQuietly before x pair after next
+  events_quiet es law keeps gathered counts lines macros parts stands opens only behind stays_behind last = record {
     events = es;
     behind = behind;
+    stays_behind = stays_behind;
     last = last;
     law = law;
     silent = keeps.silent;
@@ -133,7 +134,7 @@ module _ (before after : BodyStageState) (x : Char) (pair next : SlotPairState) 
       (subst (λ b. PartKeepsOn before.nabc_lines before.macros b after.part (event.Text (text.Ended text_end.Notes) ∷ [])) (sym is)
       (text_ends_on before.nabc_lines before.macros s t 40 (text.Ended text_end.Notes ∷ []) after.part takes.keeps refl (λ u b. begins u [] b)))
       (λ p kept at. snippet_stands before.nabc_lines before.macros 0 x.place _ after.part snippet)
-      (notes_open before.nabc_lines before.macros x before.part after.part opens) (All-nil (IsKeptOf x.c)) (ap is_in_front is) (λ e. refl, tt)
+      (notes_open before.nabc_lines before.macros x before.part after.part opens) (All-nil (IsKeptOf x.c)) (ap is_in_front is) (not_front 0 x.place _ after.part (snippet [])) (λ e. refl, tt)
 
   -- a character of a snippet
   pub note_quiet : (line : ℕ) (opened : Place) (from to : List Char → List (List NoteEvent))
@@ -148,7 +149,7 @@ module _ (before after : BodyStageState) (x : Char) (pair next : SlotPairState) 
       (ap (λ lists. events_from texts_by_stage before.nabc_lines before.macros (InNotes line opened lists) (x ∷ xs)) (law xs)))
       (record { silent = refl; made = refl; over = refl; total = refl; limit = refl; cut = refl; first_kind = refl; kept = one_byte pair.gathered.builder.kept x.c ascii }) gathered
       ((notes_go line opened before.part (note.Kept x ∷ []) (omega arith) out after.part into).counts pair.gathered counts) lines macros parts stands opens (All-cons (IsKeptOf x.c) x.c [] (inl refl) (All-nil (IsKeptOf x.c)))
-      (not_front line opened (from []) before.part (is [])) (λ e. refl, tt)
+      (not_front line opened (from []) before.part (is [])) (not_front line opened (to []) after.part (now [])) (λ e. refl, tt)
 
   -- the `|` that ends a snippet, which brings no first note or clef
   pub next_quiet : (line : ℕ) (opened : Place) (count : ℕ) (from to : List Char → List (List NoteEvent))
@@ -167,4 +168,4 @@ module _ (before after : BodyStageState) (x : Char) (pair next : SlotPairState) 
       ∙ ap (λ p. (event.Notes line (note.Ended note_end.Next count) ∷ []) ∷ events_from texts_by_stage before.nabc_lines before.macros p xs) (sym (snippet xs))))
       (record { silent = refl; made = refl; over = refl; total = refl; limit = refl; cut = refl; first_kind = quiet_first pair.gathered.first_kind line open_now (span_of open_now line count) (past_snippet open_now line count 124).kept refl cut none; kept = omega (arith, cut, marked) }) gathered
       ((notes_go line opened before.part (note.Ended note_end.Next count ∷ []) (omega arith) out after.part into).counts pair.gathered counts) lines macros parts
-      (λ p kept at. snippet_stands before.nabc_lines before.macros (next_line before.nabc_lines line) opened _ after.part snippet) opens (All-nil (IsKeptOf x.c)) (not_front line opened (from []) before.part (is [])) (λ e. refl, tt)
+      (λ p kept at. snippet_stands before.nabc_lines before.macros (next_line before.nabc_lines line) opened _ after.part snippet) opens (All-nil (IsKeptOf x.c)) (not_front line opened (from []) before.part (is [])) (not_front (next_line before.nabc_lines line) opened _ after.part (snippet [])) (λ e. refl, tt)

@@ -38,7 +38,7 @@ module _ (before after : BodyStageState) (x : Char) (pair next : SlotPairState) 
       keeps gathered (rw now ((text_goes s t es few takes.pieces).counts pair.gathered (subst (λ b. CountsHold b pair.gathered.builder) is counts))) lines macros
       (rw (is, now) (text_keeps_on before.nabc_lines before.macros s t x.c es takes.keeps goes_on))
       (rw (is, now) (text_stands_on before.nabc_lines before.macros x s t es takes.keeps goes_on))
-      (rw (is, now) (text_opens_on before.nabc_lines before.macros x s t es takes.keeps goes_on)) only (ap is_in_front is) (texts_close_last es)
+      (rw (is, now) (text_opens_on before.nabc_lines before.macros x s t es takes.keeps goes_on)) only (ap is_in_front is) (ap is_in_front now) (texts_close_last es)
     where
       goes : (xs : List Char) → events_from texts_by_stage before.nabc_lines before.macros (InText (es ∷ events_left t (codes_of xs))) (x ∷ xs)
           ≡ map (λ o. event.Text o) es ∷ events_from texts_by_stage before.nabc_lines before.macros (InText (events_left t (codes_of xs))) xs

@@ -5,14 +5,13 @@ use Rattle.gabc_text.specs.declared.stage.TextStage.{TextStage}
 use Rattle.gabc_text.specs.declared.token_state.TokenState.TheVariants.{Comment}
 use Rattle.gabc_text.specs.witness.Keeps.{Keeps}
 use Rattle.gabc_score.specs.declared.body_stage.BodyPart.TheVariants as part
-use Rattle.gabc_score.specs.declared.score_machine.ScorePart.{ScorePart}
-use Rattle.gabc_score.specs.declared.score_machine.ScorePart.TheVariants as score_part
 use Rattle.gabc_score.specs.ReadAgain.{CanBeReadInText}
 use Rattle.gabc_score.specs.ScoreEvents.{first_place}
-use Rattle.gabc_score.specs.ScoreTells.{StandsInFront, before_of, in_body}
+use Rattle.gabc_score.specs.ScoreTells.{StandsInFront, before_of}
 use Rattle.gabc_score.specs.machine.PartKeeps.{in_text}
 use Rattle.gabc_score.specs.witness.ScoreStage.{ScoreStageState}
 use Rattle.gabc_score.proofs.resuming.HeldIsHeld.{nothing_in_body}
+use Rattle.gabc_score.proofs.resuming.MachinesReadAgain.{in_body_by}
 
 -- a text whose first character was a `%`
 abbrev commented : TextStage
@@ -26,14 +25,9 @@ comment_keeps = record {
   whole = refl;
 }
 
-pub told_in_body : {A : Type 0} (p : ScorePart) (told : A) → is_some (in_body p told) ≡ true → p ≡ score_part.Body
-told_in_body score_part.Body told e = refl
-told_in_body score_part.Heads told e = absurd (cc e)
-told_in_body score_part.Over told e = absurd (cc e)
-
 pub front_in_text : (s : ScoreStageState) → is_some (before_of s) ≡ true → StandsInFront s → CanBeReadInText s
 front_in_text s runs front =
-    let body = told_in_body s.part _ runs in
+    let body = in_body_by s.part _ runs in
     let nothing = nothing_in_body s.part s.held.gathered.builder.kept body front.nothing_read in
     let few = ap length nothing in
     record {

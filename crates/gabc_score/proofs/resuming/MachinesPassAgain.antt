@@ -38,6 +38,7 @@ use Rattle.gabc_score.proofs.score_events.HeldWithinLimits.{file_now}
 use Rattle.gabc_score.specs.machine.BodyBuilder.{code_in, with_all}
 use Rattle.gabc_score.specs.machine.Gatherer.{Gathered, with_event}
 use Rattle.gabc_score.specs.machine.PartCounts.{CountsHold, PartGoesOn}
+use Rattle.gabc_score.specs.machine.PartFronts.{PartLeavesFront}
 use Rattle.gabc_score.specs.machine.PartKeeps.{KeptParts, in_text, in_notes, joined, IsReading, PartKeeps, PartKeepsOn}
 use Rattle.gabc_score.specs.machine.Preceded.{IsPreceded}
 use Rattle.gabc_score.specs.machine.ReadAgain.{Adds, BeginsComment, BeginsIn, GoesBy, IsNext, IsToldBy, OpenAt, Reads, ReadsAgain, place_in}
@@ -120,8 +121,8 @@ no_code limits g h none made total over few =
 
 pub in_body_past : (m : ScoreMachine) (b : BodyStageState) (p : SlotPairState) (f : BoundedList Finding) (now : List BodyEvent) → IsInBody m → p.gathered ≡ with_all m.pair.gathered now → is_made p.used ≡ false
     → nat_lt (length m.pair.gathered.made) (length p.gathered.made) ≡ false → code_in m.limits p.gathered ≡ None → f.items ≡ [] → 9 ≤ f.limit → b.nabc_lines ≡ m.body.nabc_lines → b.macros ≡ m.body.macros
-    → PartGoesOn m.body.part b.part now → PartKeepsOn m.body.nabc_lines m.body.macros m.body.part b.part now → IsInBody (record m { body = b; pair = p; found = f })
-in_body_past m b p f now h is used fewer none items room lines macros goes keeps = record {
+    → PartGoesOn m.body.part b.part now → PartKeepsOn m.body.nabc_lines m.body.macros m.body.part b.part now → PartLeavesFront m.body.part b.part now → IsInBody (record m { body = b; pair = p; found = f })
+in_body_past m b p f now h is used fewer none items room lines macros goes keeps leaves = record {
   rests = record {
     none = items;
     room = room;
@@ -144,6 +145,7 @@ in_body_past m b p f now h is used fewer none items room lines macros goes keeps
       (keeps spans g (let few = h.kept in let most = m.limits.in_range.syllable_most in omega (arith, few, most)) h.reading))));
   units = subst (λ (l : ℕ). HoldUnits l m.bounds.before p.gathered.made) (sym lines) (subst (HoldUnits m.body.nabc_lines m.bounds.before) (sym made) h.units);
   within = record { written = subst (AreWritten m.limits.syllable (m.bounds.before.syllables == 0)) (sym made) h.within.written; file = file_now m.limits p.gathered none; outset = h.within.outset };
+  front = λ e. let was = h.front (leaves e).0 in record { none_before = was.none_before; none_made = made ∙ was.none_made };
 }
   where
     g : Gathered

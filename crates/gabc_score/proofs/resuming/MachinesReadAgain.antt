@@ -135,7 +135,7 @@ told_in {A = A} p x e = ap (λ (k : ScorePart). in_body k x) e
 
 -- ---- what is told
 
-in_body_by : {A : Type 0} (p : ScorePart) (x : A) → is_some (in_body p x) ≡ true → p ≡ score_part.Body
+pub in_body_by : {A : Type 0} (p : ScorePart) (x : A) → is_some (in_body p x) ≡ true → p ≡ score_part.Body
 in_body_by {A = A} score_part.Heads x e = absurd (true≢false (sym e))
 in_body_by {A = A} score_part.Body x e = refl
 in_body_by {A = A} score_part.Over x e = absurd (true≢false (sym e))

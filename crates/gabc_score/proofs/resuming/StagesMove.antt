@@ -1,12 +1,12 @@
 -- A machine stays what it is where its next character is said to stand elsewhere.
-use Rattle.std.proofs.Common.{◌≡◌, ℕ, sym, subst}
+use Rattle.std.proofs.Common.{◌≡◌, ℕ, sym, ap, subst, ◌∙◌}
 use Rattle.gabc_places.specs.declared.place.Place.{Place}
 use Rattle.gabc_score.specs.declared.body_stage.BodyPart.{BodyPart}
 use Rattle.gabc_score.specs.declared.body_stage.BodyPart.TheVariants as part
 use Rattle.gabc_score.specs.declared.score_machine.ScoreMachine.{ScoreMachine}
 use Rattle.gabc_score.specs.declared.score_machine.ScorePart.{ScorePart}
 use Rattle.gabc_score.specs.declared.score_machine.ScorePart.TheVariants as score_part
-use Rattle.gabc_score.specs.ScoreTells.{moved_part}
+use Rattle.gabc_score.specs.ScoreTells.{is_in_front, moved_part}
 use Rattle.gabc_score.specs.machine.BodyBuilder.{with_all}
 use Rattle.gabc_score.specs.machine.PartCounts.{CountsHold}
 use Rattle.gabc_score.specs.machine.PartKeeps.{KeptParts, PartKeeps, ReadAlike, begun, said_by}
@@ -14,6 +14,7 @@ use Rattle.gabc_score.specs.machine.PartMakes.{HoldUnits}
 use Rattle.gabc_score.specs.machine.ScoreMachine.{IsAtRest, IsFreed, IsScoreAt}
 use Rattle.gabc_score.specs.machine.SyllableBuilder.{OpenSyllable}
 use Rattle.gabc_score.specs.witness.BodyStage.{BodyStageState}
+use Rattle.gabc_score.proofs.score_events.FrontIsFirst.{front_moved}
 
 counts_moved : (at : Place) (b : BodyPart) (o : OpenSyllable) → CountsHold b o → CountsHold (moved_part at b) o
 counts_moved at part.Comment o h = h
@@ -49,6 +50,7 @@ module _ (m : ScoreMachine) (at : Place) (b : BodyStageState) (is : b ≡ record
     };
     units = subst (λ (k : BodyStageState). HoldUnits k.nabc_lines m.bounds.before m.pair.gathered.made) (sym is) h.units;
     within = h.within;
+    front = λ e. h.front (sym (ap (λ (k : BodyStageState). is_in_front k.part) is ∙ front_moved at m.body.part) ∙ e);
   }
 
 -- so is one that takes characters quietly, of which only this place is not kept yet
@@ -66,6 +68,7 @@ freed_moved m at f = record {
     reading = f.body.reading;
     units = f.body.units;
     within = f.body.within;
+    front = f.body.front;
   };
   used = f.used;
   code = f.code;

@@ -1,12 +1,12 @@
 -- What a stage tells is still that of a text where its next character stands there or later.
-use Rattle.std.proofs.Common.{◌≡◌, ◌⊎◌, inl, inr, Bool, true, false, Option, Some, None, refl, sym, ap, subst, if◌then◌else◌}
+use Rattle.std.proofs.Common.{◌≡◌, Bool, true, false, Option, Some, None, refl, sym, ap, subst, if◌then◌else◌}
 use Rattle.gabc_places.specs.declared.place.Place.{Place}
 use Rattle.gabc_places.specs.Findings.{IsUpTo}
 use Rattle.gabc_text.specs.StageTells as text_tells
 use Rattle.gabc_score.specs.declared.body_stage.BodyPart.{BodyPart}
 use Rattle.gabc_score.specs.declared.body_stage.BodyPart.TheVariants as part
-use Rattle.gabc_score.specs.ScoreTells.{is_in_front, moved_part, moved_to, openers_of}
-use Rattle.gabc_score.specs.ToldWithin.{IsPlace, AreOpenersBefore, FirstBegins, TellsOfText}
+use Rattle.gabc_score.specs.ScoreTells.{moved_part, moved_to, openers_of}
+use Rattle.gabc_score.specs.ToldWithin.{IsPlace, AreOpenersBefore, TellsOfText}
 use Rattle.gabc_score.specs.witness.ScoreStage.{ScoreStageState}
 use Rattle.gabc_score.proofs.score_events.OpenersInOrder.{openers_moved}
 
@@ -20,13 +20,6 @@ openers_stay at (part.Text s) = ap (λ (o : Option Place). record { notes = None
     by true = refl
     by false = refl
 
-starts : {A : Type 0} (at : Place) (b : BodyPart) → (is_in_front b ≡ true) ⊎ A → (is_in_front (moved_part at b) ≡ true) ⊎ A
-starts at b (inr s) = inr s
-starts at part.Comment (inl e) = inl e
-starts at (part.Text s) (inl e) = inl e
-starts at (part.Notes opened s) (inl e) = inl e
-starts at (part.Nabc line opened s) (inl e) = inl e
-
 pub moved_is_told : (at : Place) (s : ScoreStageState) → IsUpTo s.held.next at → IsPlace at → TellsOfText s → TellsOfText (moved_to at s)
 moved_is_told at s up is told body =
     let t = told body in
@@ -37,7 +30,3 @@ moved_is_told at s up is told body =
       held = t.held;
       openers = subst (AreOpenersBefore at) (sym (openers_stay at s.body.part)) (openers_moved s.held.next at (openers_of s.body.part) up t.openers);
     }
-
--- and the first syllable begins a word there
-pub moved_begins : (at : Place) (s : ScoreStageState) → FirstBegins s → FirstBegins (moved_to at s)
-moved_begins at s begins = record { held = begins.held; read = λ body none. starts at s.body.part (begins.read body none) }

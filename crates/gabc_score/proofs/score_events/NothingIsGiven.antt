@@ -17,7 +17,7 @@ use Rattle.gabc_score.specs.declared.before.Preceding.{Preceding}
 use Rattle.gabc_score.specs.ScoreTells.{StandsAt, held_in_body, openers_of}
 use Rattle.gabc_places.specs.TextOfAnInput.{IsTextCharacter}
 use Rattle.gabc_places.specs.PlacesInOrder.{IsEarlier}
-use Rattle.gabc_score.specs.ToldWithin.{BeginsWord, IsPlace, AreOpenersBefore, IsToldOfText}
+use Rattle.gabc_score.specs.ToldWithin.{IsPlace, AreOpenersBefore, IsToldOfText}
 use Rattle.gabc_score.specs.witness.ScoreStage.{ScoreStageState, left_of}
 use Rattle.gabc_score.specs.machine.PartOnly.{HoldsTexts}
 use Rattle.gabc_score.specs.machine.PartOpens.{OpensOn}
@@ -81,10 +81,6 @@ gives_more a b c at bytes byte next stands opens column is step passes = record 
   };
   holds = λ was body none. ap (λ (p : Preceding). p.syllables) passes.before_held
       ∙ step.holds was (sym passes.part ∙ body) (sym (ap (λ (k : ScorePart). held_in_body k c.held.gathered.made) passes.part ∙ ap (held_in_body b.part) passes.made) ∙ none);
-  first = λ was. record {
-    held = λ body first. subst (All BeginsWord) (sym passes.made) ((step.first was).held (sym passes.part ∙ body) (sym (ap (λ (p : Preceding). p.syllables) passes.before_held) ∙ first));
-    read = λ body none. passes.starts ((step.first was).read (sym passes.part ∙ body) (sym passes.made ∙ none));
-  };
   counts = λ was body.
       subst (λ (p : Place). StandsAt p c.body.part) (next ∙ same_front at a.held.next at (length bytes) ∙ ap (λ (n : ℕ). behind_front at n at) (sym (length-append bytes (byte ∷ []))))
       (stands (subst (λ (p : Place). StandsAt p b.body.part) (sym (stands_behind at at (length bytes) refl)) (step.counts was (sym passes.part ∙ body))));

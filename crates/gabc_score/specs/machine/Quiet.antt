@@ -19,6 +19,7 @@ use Rattle.gabc_score.specs.machine.SlotPair.{SlotPairState}
 pub record TakesQuietly (before : BodyStageState) (x : Char) (pair : SlotPairState) (after : BodyStageState) (next : SlotPairState) : Type 0 where
   pub events : List BodyEvent
   pub behind : is_in_front before.part ≡ false
+  pub stays_behind : is_in_front after.part ≡ false
   pub last : ClosesLast events
   pub law : (xs : List Char) → running_events_left before (x ∷ xs) ≡ events ∷ running_events_left after xs
   pub silent : findings_now events ≡ []

@@ -1,11 +1,13 @@
 -- What a machine over a score shows, and what holds of it between two calls.
-use Rattle.std.specs.Prelude.{◌≡◌, ℕ, ◌≤◌, nat_lt, false, List, [], ◌∷◌, length, None}
+use Rattle.std.specs.Prelude.{◌≡◌, ℕ, ◌≤◌, nat_lt, true, false, List, [], ◌∷◌, length, None}
 use Rattle.std.specs.List.{All}
 use Rattle.gabc_places.specs.declared.place.Char.{Char}
 use Rattle.gabc_headers.specs.declared.head_event.HeadEvent.{HeadEvent}
 use Rattle.gabc_headers.specs.declared.head_event.HeadEvent.TheVariants as head_event
+use Rattle.gabc_score.specs.declared.before.Preceding.{Preceding}
 use Rattle.gabc_score.specs.Before.{with_each}
 use Rattle.gabc_score.specs.Canonical.{canonical}
+use Rattle.gabc_score.specs.ScoreTells.{is_in_front}
 use Rattle.gabc_score.specs.Syllable.{UnplacedSyllable}
 use Rattle.gabc_places.specs.TextOfAnInput.{IsTextCharacter}
 use Rattle.gabc_score.specs.declared.score_machine.ScoreMachine.{ScoreMachine}
@@ -14,12 +16,11 @@ use Rattle.gabc_score.specs.declared.score_machine.ScorePart.TheVariants as scor
 use Rattle.gabc_score.specs.declared.slot_pair.SlotUse.TheVariants.{Filling}
 use Rattle.gabc_score.specs.witness.ScoreStage.{ScoreStageState, left_of}
 use Rattle.gabc_score.specs.machine.BodyBuilder.{code_in}
-use Rattle.gabc_score.specs.machine.Gatherer.{nothing_gathered}
+use Rattle.gabc_score.specs.machine.Gatherer.{Gathered, nothing_gathered}
 use Rattle.gabc_score.specs.machine.HeldWithin.{HoldsWithin}
 use Rattle.gabc_score.specs.machine.PartCounts.{CountsHold}
 use Rattle.gabc_score.specs.machine.PartKeeps.{IsReading}
 use Rattle.gabc_score.specs.machine.PartMakes.{HoldUnits}
-use Rattle.gabc_score.specs.machine.PartStarts.{MayStart}
 use Rattle.gabc_score.specs.machine.PartOnly.{HoldsTexts}
 use Rattle.gabc_score.specs.machine.Preceded.{IsPreceded}
 use Rattle.gabc_score.specs.machine.ScoreStage.{HeldScore}
@@ -52,8 +53,13 @@ pub record IsBeforeBody (m : ScoreMachine) : Type 0 where
   pub nothing : m.pair.gathered ≡ nothing_gathered m.limits.syllable 0
   pub none_lent : m.has_lent ≡ false
 
+-- no syllable is whole, whether it was given or not
+pub record NoneIsWhole (before : Preceding) (g : Gathered) : Type 0 where
+  pub none_before : before.syllables ≡ 0
+  pub none_made : g.made ≡ []
+
 -- In the body what is counted holds, no limit is passed, the kept text is within its limit, what is gathered is what its parts say, and what is
--- held holds a unit, and its spans follow from those before it.
+-- held holds a unit, and its spans follow from those before it. In front of the first text no syllable is whole.
 pub record IsInBody (m : ScoreMachine) : Type 0 where
   pub rests : IsAtRest m
   pub counts : CountsHold m.body.part m.pair.gathered.builder
@@ -65,6 +71,7 @@ pub record IsInBody (m : ScoreMachine) : Type 0 where
   pub reading : IsReading m.body.nabc_lines m.body.macros m.body.part m.bounds.behind.spans m.pair.gathered
   pub units : HoldUnits m.body.nabc_lines m.bounds.before m.pair.gathered.made
   pub within : HoldsWithin m.limits m.bounds.before m.pair.gathered
+  pub front : is_in_front m.body.part ≡ true → NoneIsWhole m.bounds.before m.pair.gathered
 
 -- in the body, where nothing is lent, no limit is passed and one whole syllable is held at most
 pub record IsFreed (m : ScoreMachine) : Type 0 where
@@ -83,7 +90,6 @@ pub record PassesQuietly (before : ScoreStageState) (x : Char) (after : ScoreSta
   pub macros : after.body.macros ≡ before.body.macros
   pub made : after.held.gathered.made ≡ before.held.gathered.made
   pub texts : IsTextCharacter x.c → HoldsTexts before.held.gathered → HoldsTexts after.held.gathered
-  pub starts : MayStart before.body.part before.held.gathered → MayStart after.body.part after.held.gathered
   pub law : (xs : List HeadEvent) → left_of before (head_event.Body x ∷ xs) ≡ [] ∷ left_of after xs
 
 abbrev pub IsScoreAt : ScorePart → ScoreMachine → Type 0

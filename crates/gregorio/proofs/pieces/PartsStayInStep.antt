@@ -1,5 +1,5 @@
 -- The parts of an engine stay in step in its body, and where it begins and ends.
-use Rattle.std.proofs.Common.{◌≡◌, ℕ, ◌+◌, ◌-◌, ◌^◌, ◌≤◌, ◌<◌, not, min, zero, suc, List, [], ◌∷◌, Bool, true, false, Option, Some, is_none, Result, Ok, Err, if◌then◌else◌, refl, ap, sym, subst, ◌∙◌, arith}
+use Rattle.std.proofs.Common.{◌≡◌, ℕ, ◌+◌, ◌-◌, ◌^◌, ◌≤◌, ◌<◌, min, zero, suc, List, [], ◌∷◌, Bool, true, false, Option, Some, is_none, Result, Ok, Err, if◌then◌else◌, refl, ap, sym, subst, ◌∙◌, arith}
 use Rattle.std.proofs.lemmas.Bool.{false≢true}
 use Rattle.std.specs.List.{list_any}
 use Rattle.gabc_places.specs.DecoderMachine.{DecoderState, fresh_decoder}
@@ -11,13 +11,12 @@ use Rattle.gabc_places.specs.declared.place.Char.{Char}
 use Rattle.gabc_places.specs.declared.place.Place.{Place}
 use Rattle.gabc_headers.specs.declared.head_event.HeadEvent.{HeadEvent}
 use Rattle.gabc_headers.specs.declared.head_event.HeadEvent.TheVariants as head_event
-use Rattle.gabc_headers.specs.declared.heads.Heads.{Heads}
 use Rattle.gabc_headers.specs.witness.HeadEvents.{HeaderStageState, HeadProgress, reading, behind, over, IsBehind, fresh_stage}
 use Rattle.gabc_score.specs.declared.before.Preceding.{Preceding}
 use Rattle.gabc_score.specs.declared.score_machine.ScorePart.{ScorePart}
 use Rattle.gabc_score.specs.declared.score_machine.ScorePart.TheVariants as score_part
 use Rattle.gabc_score.specs.Before.{with_placed}
-use Rattle.gabc_score.specs.ScoreEvents.{ScoreOutput, Stop, is_last, syllables_in}
+use Rattle.gabc_score.specs.ScoreEvents.{ScoreOutput, is_last, syllables_in}
 use Rattle.gabc_score.specs.ScoreStage.{Counts, behind_front, most_whole, part_past, preceding_past}
 use Rattle.gabc_score.specs.ToldWithin.{whole_syllables}
 use Rattle.gabc_score.specs.witness.ScoreStage.{ScoreStageState}

@@ -1,12 +1,10 @@
 -- What is written goes on with what the score gives.
-use Rattle.std.proofs.Common.{◌≡◌, ℕ, ◌+◌, ◌≤◌, ◌&&◌, not, List, [], ◌∷◌, length, Bool, true, false, is_none, if◌then◌else◌, refl, ap, sym, subst, ◌∙◌, arith}
+use Rattle.std.proofs.Common.{◌≡◌, ℕ, ◌+◌, ◌≤◌, ◌&&◌, List, [], ◌∷◌, length, Bool, true, false, is_none, if◌then◌else◌, refl, ap, sym, subst, ◌∙◌, arith}
 use Rattle.std.proofs.Math.Bool.{or-false}
 use Rattle.std.proofs.lemmas.Bool.{false≢true}
 use Rattle.std.specs.List.{list_any}
 use Rattle.gabc_headers.specs.declared.head_event.HeadEvent.{HeadEvent}
 use Rattle.gabc_headers.specs.declared.head_event.HeadEvent.TheVariants as head_event
-use Rattle.gabc_headers.specs.declared.heads.Heads.{Heads}
-use Rattle.gabc_headers.specs.witness.HeadEvents.{behind}
 use Rattle.gabc_score.specs.declared.before.Preceding.{Preceding}
 use Rattle.gabc_score.specs.Before.{with_placed}
 use Rattle.gabc_score.specs.ScoreEvents.{ScoreOutput, Found, Stop, Syllable, End, is_last, syllables_in}
@@ -41,7 +39,7 @@ went_on w (Syllable s ∷ outputs) e = let g = went_on (behind_output w (Syllabl
 went_on w (End ∷ outputs) e = absurd (false≢true (sym (stays_over (behind_output w End) outputs refl) ∙ e))
 
 -- as many are written as are given
-counted : (outputs : List ScoreOutput) (w : Written) (p : Preceding) → w.headed ≡ true → w.count ≡ p.syllables → (behind_outputs w outputs).count ≡ (with_placed p (syllables_in outputs)).syllables
+pub counted : (outputs : List ScoreOutput) (w : Written) (p : Preceding) → w.headed ≡ true → w.count ≡ p.syllables → (behind_outputs w outputs).count ≡ (with_placed p (syllables_in outputs)).syllables
 counted [] w p headed e = e
 counted (Found f ∷ outputs) w p headed e = counted outputs (behind_output w (Found f)) p headed e
 counted (Stop fault ∷ outputs) w p headed e = counted outputs (behind_output w (Stop fault)) p headed e
@@ -50,14 +48,14 @@ counted (Syllable s ∷ outputs) w p headed e =
 counted (End ∷ outputs) w p headed e = counted outputs (behind_output w End) p headed e
 
 -- before the headers none is
-none_counted : (outputs : List ScoreOutput) (w : Written) → w.headed ≡ false → (behind_outputs w outputs).count ≡ w.count
+pub none_counted : (outputs : List ScoreOutput) (w : Written) → w.headed ≡ false → (behind_outputs w outputs).count ≡ w.count
 none_counted [] w headed = refl
 none_counted (Found f ∷ outputs) w headed = none_counted outputs (behind_output w (Found f)) headed
 none_counted (Stop fault ∷ outputs) w headed = none_counted outputs (behind_output w (Stop fault)) headed
 none_counted (Syllable s ∷ outputs) w headed = none_counted outputs (behind_output w (Syllable s)) headed ∙ rw headed refl
 none_counted (End ∷ outputs) w headed = none_counted outputs (behind_output w End) headed
 
-few_more : (ss : List PlacedSyllable) (p : Preceding) → (with_placed p ss).syllables ≤ p.syllables + length ss
+pub few_more : (ss : List PlacedSyllable) (p : Preceding) → (with_placed p ss).syllables ≤ p.syllables + length ss
 few_more [] p = omega arith
 few_more (s ∷ ss) p = let h = few_more ss (with_placed p (s ∷ [])) in omega (arith, h)
 

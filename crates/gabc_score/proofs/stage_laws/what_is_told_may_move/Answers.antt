@@ -1,10 +1,7 @@
 use Rattle.std.proofs.Common.{sym, subst}
-use Rattle.gabc_score.specs.ToldWithin.{FirstBegins, TellsOfText}
-use Rattle.gabc_score.proofs.score_events.MovedIsTold.{moved_begins, moved_is_told}
+use Rattle.gabc_score.specs.ToldWithin.{TellsOfText}
+use Rattle.gabc_score.proofs.score_events.MovedIsTold.{moved_is_told}
 use Rattle.gabc_score.proofs.stage_laws.what_is_told_may_move.Goals as goal
 
-pub returns-clause-told : goal.returns-clause-told
-returns-clause-told c = λ told. subst TellsOfText (sym c.go_to.ensures) (moved_is_told c.args.at c.args.stage.now c.requires.later c.requires.place told)
-
-pub returns-clause-first : goal.returns-clause-first
-returns-clause-first c = λ begins. subst FirstBegins (sym c.go_to.ensures) (moved_begins c.args.at c.args.stage.now begins)
+pub returns : goal.returns
+returns c = λ told. subst TellsOfText (sym c.go_to.ensures) (moved_is_told c.args.at c.args.stage.now c.requires.later c.requires.place told)

@@ -19,6 +19,7 @@ use Rattle.gabc_score.proofs.building.PartsOpenOn.{opened_at, same_open, notes_o
 use Rattle.gabc_score.proofs.building.PartsStandOn.{snippet_stands, text_stands_on, gabc_closes_at, nabc_closes_at}
 use Rattle.gabc_score.proofs.building.SyllableEndsLast.{notes_close_last, texts_close_last}
 use Rattle.gabc_score.proofs.resuming.PartsReadAgain.{text_reads, text_end_reads, gabc_reads, gabc_end_reads, gabc_close_reads, nabc_reads, nabc_end_reads, nabc_close_reads}
+use Rattle.gabc_score.proofs.score_events.FrontIsFirst.{no_comment_no_front}
 use Rattle.gabc_score.proofs.body_stage.BodyStage.push_part.Goals as goal
 
 pub returns-then-ended-clause-once : goal.returns-then-ended-clause-once
@@ -425,3 +426,20 @@ pub returns-else-close-2-clause-only : goal.returns-else-close-2-clause-only
 returns-else-close-2-clause-only c =
     rw (← c.self.view_is, c.in-Nabc.is)
     (nabc_keeps_only c.self.inside.nabc_lines c.self.inside.macros c.args.x c.in-Nabc.line c.in-Nabc.opened c.in-Nabc.stage c.push_nabc.new.stage c.push_nabc.new.events.items c.push_nabc.ensures.keeps)
+
+-- ---- the comment in front
+
+pub returns-then-ended-clause-front : goal.returns-then-ended-clause-front
+returns-then-ended-clause-front c = no_comment_no_front c.snippet-self-inside.result c.snippet-self-inside.ensures.tells.1
+
+pub returns-then-next-clause-front : goal.returns-then-next-clause-front
+returns-then-next-clause-front c = no_comment_no_front c.next_snippet-self-inside.result c.next_snippet-self-inside.ensures.tells.1
+
+pub returns-then-close-clause-front : goal.returns-then-close-clause-front
+returns-then-close-clause-front c = no_comment_no_front c.text_behind-self-inside.result c.text_behind-self-inside.ensures.outside
+
+pub returns-then-next-2-clause-front : goal.returns-then-next-2-clause-front
+returns-then-next-2-clause-front c = no_comment_no_front c.next_snippet-self-inside-then-next-2.result c.next_snippet-self-inside-then-next-2.ensures.tells.1
+
+pub returns-then-close-2-clause-front : goal.returns-then-close-2-clause-front
+returns-then-close-2-clause-front c = no_comment_no_front c.text_behind-self-inside-then-close-2.result c.text_behind-self-inside-then-close-2.ensures.outside

@@ -1,11 +1,12 @@
-use Rattle.std.proofs.Common.{◌≡◌, inr, [], ◌∷◌, sym, ap, subst, ◌∙◌}
+use Rattle.std.proofs.Common.{[], refl, sym, ap, subst, ◌∙◌}
+use Rattle.std.proofs.lemmas.Bool.{true≢false}
 use Rattle.gabc_score.specs.declared.body_stage.BodyPart.{BodyPart}
+use Rattle.gabc_score.specs.ScoreTells.{is_in_front}
+use Rattle.gabc_score.specs.machine.PartFronts.{PartLeavesFront}
 use Rattle.gabc_score.specs.machine.PartKeeps.{in_text, PartKeeps, PartStandsOn}
 use Rattle.gabc_score.specs.machine.PartMakes.{PartMakes}
 use Rattle.gabc_score.specs.machine.PartOnly.{PartKeepsOnly}
-use Rattle.gabc_score.specs.Events.{events_from}
-use Rattle.gabc_score.specs.witness.BodyStage.{BodyStageState, part_with, running_events_left, texts_by_stage}
-use Rattle.gabc_score.proofs.score_events.FirstBeginsWord.{front_is, lf_starts}
+use Rattle.gabc_score.specs.witness.BodyStage.{BodyStageState}
 use Rattle.gabc_score.proofs.building.PartsMakeSyllables.{first_text_makes, text_makes}
 use Rattle.gabc_score.specs.machine.PartOpens.{PartEndsLine, PartOpensOn}
 use Rattle.gabc_score.proofs.building.PartsOpenOn.{first_text_opens}
@@ -44,12 +45,13 @@ returns-clause-only c = elim c.match-self.branch [
   | in_default w ↦ subst (λ (s : BodyStageState). PartKeepsOnly s.nabc_lines s.macros c.args.x s.part c.push_part.new.self.events) w.self-is c.push_part.ensures.only
 ]
 
-pub returns-clause-starts : goal.returns-clause-starts
-returns-clause-starts c = elim c.match-self.branch [
-  | in-Comment+else-x-ne10 w ↦ λ front. inr (lf_starts c.match-self.self.nabc_lines c.match-self.self.macros c.args.x w.new.result c.push_part.new.self.events _ w.new.ensures.fresh w.if-x-ne10.false
-      (subst (λ (b : BodyPart). events_from texts_by_stage c.match-self.self.nabc_lines c.match-self.self.macros (part_with b (c.args.x ∷ [])) (c.args.x ∷ []) ≡ c.push_part.new.self.events ∷ running_events_left c.push_part.new.self [])
-      (ap (λ (s : BodyStageState). s.part) w.self-is) (c.push_part.ensures.events.law [])))
-  | in_default w ↦ λ front. absurd (w.in_default.not-Comment (ap (λ (s : BodyStageState). s.part) c.self.view_is ∙ front_is c.args.self.now.part front))
+pub returns-then-x-ne10-clause-front : goal.returns-then-x-ne10-clause-front
+returns-then-x-ne10-clause-front c = λ front. (sym (ap (λ (s : BodyStageState). is_in_front s.part) c.self.view_is) ∙ front, refl)
+
+pub returns-clause-front : goal.returns-clause-front
+returns-clause-front c = elim c.match-self.branch [
+  | in-Comment+else-x-ne10 w ↦ λ front. absurd (true≢false (sym (c.push_part.ensures.front front).0 ∙ ap (λ (s : BodyStageState). is_in_front s.part) w.self-is))
+  | in_default w ↦ subst (λ (s : BodyStageState). PartLeavesFront s.part c.push_part.new.self.part c.push_part.new.self.events) w.self-is c.push_part.ensures.front
 ]
 
 pub returns-then-x-ne10-clause-line : goal.returns-then-x-ne10-clause-line

@@ -34,7 +34,6 @@ returns-in-Some-clause-step c =
       whole = λ body. absurd (cc (body, c.stop.ensures.part));
       told = λ may here was body. absurd (cc (body, c.stop.ensures.part));
       holds = λ was body. absurd (cc (body, c.stop.ensures.part));
-      first = λ was. record { held = λ body. absurd (cc (body, c.stop.ensures.part)); read = λ body. absurd (cc (body, c.stop.ensures.part)) };
       law = search rules;
       emitted = c.stop.ensures.emitted;
       front = λ heads. absurd (cc (heads, c.requires.part));
@@ -69,7 +68,6 @@ returns-in-None-clause-step c =
       whole = λ body. absurd (cc body);
       told = λ may here was body. absurd (cc body);
       holds = λ was body. absurd (cc body);
-      first = λ was. record { held = λ body. absurd (cc body); read = λ body. absurd (cc body) };
       law = search rules;
       emitted = rw (sym c.slice-found.ensures) c.give_end.ensures.emitted;
       front = λ heads. absurd (cc (heads, c.requires.part));

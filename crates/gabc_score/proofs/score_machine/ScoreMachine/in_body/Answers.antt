@@ -23,4 +23,8 @@ returns-clause-rests c = record {
       (ap (λ (s : SlotPairState). s.gathered.made) c.start.ensures ∙ ap (λ (g : Gathered). g.made) c.in_ok-pair.ensures.gathered);
   within = within_begun c.args.limits c.args.head c.behind_headers-bounds.result.before c.start.new.self.gathered (ap (λ (b : Bounds). b.before) c.behind_headers-bounds.ensures)
       (ap (λ (g : Gathered). g.made) (ap (λ (s : SlotPairState). s.gathered) c.start.ensures ∙ ap (λ (g : Gathered). record g { total = c.args.head }) c.in_ok-pair.ensures.gathered));
+  front = λ e. record {
+    none_before = ap (λ (b : Bounds). b.before.syllables) c.behind_headers-bounds.ensures;
+    none_made = ap (λ (s : SlotPairState). s.gathered.made) c.start.ensures ∙ ap (λ (g : Gathered). g.made) c.in_ok-pair.ensures.gathered;
+  };
 }

@@ -49,7 +49,7 @@ returns-else-is_some-clause-rests c =
     (sym c.is_whole.ensures.used ∙ c.if-is_whole.false)
     (ap (λ (ms : List UnplacedSyllable). nat_lt (length ms) (length c.hold.new.pair.gathered.made)) (sym (c.hold.ensures.held ∙ c.free.ensures.held)) ∙ sym c.is_whole.ensures.made ∙ c.if-is_whole.false)
     (sym c.code.ensures.code ∙ no_code_by c.code.result (sym c.is_some.ensures ∙ c.if-is_some.false))
-    (ap (λ (r : BoundedList Finding). r.items) c.clear.ensures) (omega (arith, cleared, held, room)) c.take.ensures.lines c.take.ensures.macros c.take.ensures.bounds c.take.ensures.keeps)
+    (ap (λ (r : BoundedList Finding). r.items) c.clear.ensures) (omega (arith, cleared, held, room)) c.take.ensures.lines c.take.ensures.macros c.take.ensures.bounds c.take.ensures.keeps c.take.ensures.front)
 
 pub returns-else-is_some-clause-same : goal.returns-else-is_some-clause-same
 returns-else-is_some-clause-same c = λ body.

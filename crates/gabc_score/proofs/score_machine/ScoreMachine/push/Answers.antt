@@ -18,7 +18,6 @@ returns-in-Over-clause-step c = rw c.in-Over.is (record {
   whole = λ body. absurd (cc body);
   told = λ may here was. was;
   holds = λ was. was;
-  first = λ was. was;
   law = λ xs. refl;
   emitted = search rules;
   front = λ heads. absurd (cc heads);

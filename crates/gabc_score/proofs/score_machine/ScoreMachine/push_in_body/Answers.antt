@@ -22,7 +22,6 @@ returns-in-Found-clause-step c =
       whole = λ body. omega arith;
       told = λ may here was. was;
       holds = λ was. was;
-      first = λ was. was;
       law = λ xs. refl;
       emitted = record { events = c.push.ensures; few = omega arith; lent = refl };
       front = λ heads. absurd (cc heads);
@@ -47,7 +46,6 @@ returns-in-Stop-clause-step c =
       whole = λ body. absurd (cc (body, c.stop.ensures.part));
       told = λ may here was body. absurd (cc (body, c.stop.ensures.part));
       holds = λ was body. absurd (cc (body, c.stop.ensures.part));
-      first = λ was. record { held = λ body. absurd (cc (body, c.stop.ensures.part)); read = λ body. absurd (cc (body, c.stop.ensures.part)) };
       law = search rules;
       emitted = c.stop.ensures.emitted;
       front = λ heads. absurd (cc (heads, c.requires.part));
@@ -70,7 +68,6 @@ returns-in-Heads-clause-step c =
       whole = λ body. omega arith;
       told = λ may here was. was;
       holds = λ was. was;
-      first = λ was. was;
       law = λ xs. refl;
       emitted = search rules;
       front = λ heads. absurd (cc heads);

@@ -1,12 +1,8 @@
-use Rattle.std.proofs.Common.{rules, inl, [], ◌∷◌, refl, ap, sym, subst, ◌∙◌, arith}
+use Rattle.std.proofs.Common.{rules, [], ◌∷◌, refl, ap, sym, subst, ◌∙◌, arith}
 use Rattle.std.proofs.lemmas.Bool.{false≢true}
-use Rattle.std.specs.List.{All}
-use Rattle.std.proofs.lemmas.List.Elements.{All-nil}
 use Rattle.gabc_score.specs.ScoreEvents.{Found, Stop, End}
 use Rattle.gabc_score.specs.declared.bounds.Bounds.{Bounds}
 use Rattle.gabc_score.specs.ScoreStage.{EndsLine, is_final}
-use Rattle.gabc_score.specs.ScoreTells.{is_in_front}
-use Rattle.gabc_score.specs.ToldWithin.{BeginsWord}
 use Rattle.gabc_score.specs.machine.Gatherer.{Gathered}
 use Rattle.gabc_score.specs.machine.SlotPair.{SlotPairState}
 use Rattle.gabc_score.specs.witness.BodyStage.{BodyStageState}
@@ -35,7 +31,6 @@ returns-in-Found-clause-step c =
       whole = λ body. absurd (cc body);
       told = λ may here was body. absurd (cc body);
       holds = λ was body. absurd (cc body);
-      first = λ was. record { held = λ body. absurd (cc body); read = λ body. absurd (cc body) };
       law = λ xs. refl;
       emitted = record { events = c.push.ensures; few = omega arith; lent = refl };
       front = λ heads lines macros canonical is. absurd (cc is);
@@ -58,7 +53,6 @@ returns-in-Stop-clause-step c =
       whole = λ body. absurd (cc body);
       told = λ may here was body. absurd (cc body);
       holds = λ was body. absurd (cc body);
-      first = λ was. record { held = λ body. absurd (cc body); read = λ body. absurd (cc body) };
       law = λ xs. refl;
       emitted = record { events = c.push-in-Stop.ensures; few = omega arith; lent = refl };
       front = λ heads lines macros canonical is. absurd (cc is);
@@ -81,7 +75,6 @@ returns-in-End-clause-step c =
       whole = λ body. absurd (cc body);
       told = λ may here was body. absurd (cc body);
       holds = λ was body. absurd (cc body);
-      first = λ was. record { held = λ body. absurd (cc body); read = λ body. absurd (cc body) };
       law = λ xs. refl;
       emitted = record { events = c.push-in-End.ensures; few = omega arith; lent = refl };
       front = λ heads lines macros canonical is. absurd (cc is);
@@ -104,7 +97,6 @@ returns-in-Body-clause-step c =
       whole = λ body. absurd (cc body);
       told = λ may here was body. absurd (cc body);
       holds = λ was body. absurd (cc body);
-      first = λ was. record { held = λ body. absurd (cc body); read = λ body. absurd (cc body) };
       law = λ xs. refl;
       emitted = search rules;
       front = λ heads lines macros canonical is. absurd (cc is);
@@ -131,11 +123,6 @@ returns-in-Heads-clause-step c = record {
       (ap (λ (g : Gathered). g.builder.kept) (ap (λ (s : SlotPairState). s.gathered) c.start.ensures ∙ ap (λ (g : Gathered). record g { total = c.in-Heads.canonical }) c.requires.rests.nothing))
       (ap (λ (g : Gathered). g.made) (ap (λ (s : SlotPairState). s.gathered) c.start.ensures ∙ ap (λ (g : Gathered). record g { total = c.in-Heads.canonical }) c.requires.rests.nothing));
   holds = λ was body none. ap (λ (b : Bounds). b.before.syllables) c.behind_headers-self.ensures;
-  first = λ was. record {
-    held = λ body first. subst (All BeginsWord)
-        (sym (ap (λ (g : Gathered). g.made) (ap (λ (s : SlotPairState). s.gathered) c.start.ensures ∙ ap (λ (g : Gathered). record g { total = c.in-Heads.canonical }) c.requires.rests.nothing))) (All-nil BeginsWord);
-    read = λ body none. inl (ap (λ (s : BodyStageState). is_in_front s.part) c.restart.ensures);
-  };
   law = search rules;
   emitted = search rules;
   front = λ heads lines macros canonical is. search rules;
@@ -157,4 +144,8 @@ returns-in-Heads-clause-rests c = record {
       (ap (λ (s : SlotPairState). s.gathered.made) c.start.ensures ∙ ap (λ (g : Gathered). g.made) c.requires.rests.nothing);
   within = within_begun c.args.self.now.limits c.in-Heads.canonical c.behind_headers-self.result.before c.start.new.self.gathered (ap (λ (b : Bounds). b.before) c.behind_headers-self.ensures)
       (ap (λ (g : Gathered). g.made) (ap (λ (s : SlotPairState). s.gathered) c.start.ensures ∙ ap (λ (g : Gathered). record g { total = c.in-Heads.canonical }) c.requires.rests.nothing));
+  front = λ e. record {
+    none_before = ap (λ (b : Bounds). b.before.syllables) c.behind_headers-self.ensures;
+    none_made = ap (λ (s : SlotPairState). s.gathered.made) c.start.ensures ∙ ap (λ (g : Gathered). g.made) c.requires.rests.nothing;
+  };
 }

@@ -24,7 +24,7 @@ use Rattle.gabc_score.specs.machine.BodyBuilder.{code_in, with_all}
 use Rattle.gabc_score.specs.machine.Gatherer.{Gathered}
 use Rattle.gabc_score.specs.machine.PartCounts.{CountsHold}
 use Rattle.gabc_score.specs.Syllable.{UnplacedSyllable}
-use Rattle.gabc_score.proofs.score_events.FirstBeginsWord.{held_past, read_past}
+use Rattle.gabc_score.proofs.score_events.FrontIsFirst.{front_past}
 use Rattle.gabc_score.proofs.score_events.UnitsAreHeld.{units_past}
 use Rattle.gabc_score.proofs.score_events.CountsGoOn.{counts_past, none_past}
 use Rattle.gabc_score.proofs.score_events.OpenersInOrder.{opens_in_order, place_behind}
@@ -73,7 +73,6 @@ returns-in-Some-clause-step c =
       whole = λ body. absurd (cc (body, c.stop.ensures.part));
       told = λ may here was body. absurd (cc (body, c.stop.ensures.part));
       holds = λ was body. absurd (cc (body, c.stop.ensures.part));
-      first = λ was. record { held = λ body. absurd (cc (body, c.stop.ensures.part)); read = λ body. absurd (cc (body, c.stop.ensures.part)) };
       law = search rules;
       emitted = c.stop.ensures.emitted;
       front = λ heads. absurd (cc (heads, c.requires.part));
@@ -138,12 +137,6 @@ returns-after-self-clause-step c =
       };
       holds = λ was body none. none_past b.before c.pass.new.self.before c.args.self.now.has_lent old c.hold.new.pair.gathered c.give_point-gave.new.pair.gathered now c.take.ensures.once (ap (λ (k : Bounds). k.before) passed ∙ turns.given) c.give_point-gave.ensures.gathered is
           (λ e. was c.requires.part (ap (λ (k : ScorePart). held_in_body k old.made) c.requires.part ∙ e)) (ap (λ (k : ScorePart). held_in_body k c.give_point-gave.new.pair.gathered.made) (sym c.requires.part) ∙ none);
-      first = λ was. record {
-        held = λ body first. held_past c.args.self.now.body.part c.take.new.self.part b.before c.pass.new.self.before c.args.self.now.has_lent old c.give_point-gave.new.pair.gathered now c.take.ensures.once few there turned_is c.take.ensures.starts
-            (was.held c.requires.part) (was.read c.requires.part) first;
-        read = λ body. read_past c.args.self.now.body.part c.take.new.self.part b.before c.pass.new.self.before c.args.self.now.has_lent old c.give_point-gave.new.pair.gathered now c.take.ensures.once few there turned_is c.take.ensures.starts
-            (was.read c.requires.part);
-      };
       stands = λ here was body. subst (λ p. StandsAt p c.take.new.self.part) (sym c.saturating_after-self.ensures) (c.take.ensures.stands c.requires.rests.reading.parts c.requires.rests.reading.keeps
           (subst (λ p. StandsAt p c.args.self.now.body.part) (sym here) (was c.requires.part)));
       law = search rules;
@@ -202,6 +195,8 @@ returns-after-self-clause-rests c =
           c.give_point-gave.new.pair.gathered now (let few = old.kept in let most = c.args.self.now.limits.in_range.syllable_most in omega (arith, few, most)) is t.gathered c.take.ensures.lines
           (ap (λ (p : Preceding). p.spans) old.behind) (ap (λ (k : Bounds). k.before) passed ∙ turns.given) c.take.ensures.makes old.reading old.units;
       within = within_past c.args.self.now.limits b.before c.pass.new.self.before c.args.self.now.has_lent was g c.give_point-gave.new.pair.gathered now old.rests.limit old.rests.over old.preceded.follows old.within is none
+          (ap (λ (k : Bounds). k.before) passed ∙ turns.given) t.gathered;
+      front = front_past c.args.self.now.body.part c.take.new.self.part b.before c.pass.new.self.before c.args.self.now.has_lent was g c.give_point-gave.new.pair.gathered now c.take.ensures.front old.front is
           (ap (λ (k : Bounds). k.before) passed ∙ turns.given) t.gathered;
     })
 

@@ -1,12 +1,13 @@
 use Rattle.std.proofs.Common.{rules, ◌≡◌, nat_lt, length, refl, sym, ap, subst, ◌∙◌, arith}
 use Rattle.std.specs.List.{All}
+use Rattle.std.proofs.lemmas.Bool.{true≢false}
 use Rattle.std.proofs.lemmas.List.Elements.{All-nil}
 use Rattle.gabc_places.specs.BoundedList.{BoundedList}
 use Rattle.gabc_places.specs.declared.code.Finding.{Finding}
 use Rattle.gabc_score.specs.declared.before.Preceding.{Preceding}
 use Rattle.gabc_score.specs.declared.score_machine.ScorePart.TheVariants as score_part
 use Rattle.gabc_score.specs.Before.{preceding_of, with_each}
-use Rattle.gabc_score.specs.ScoreTells.{held_in_body, reading_in_body}
+use Rattle.gabc_score.specs.ScoreTells.{held_in_body, is_in_front, reading_in_body}
 use Rattle.gabc_score.specs.machine.Gatherer.{Gathered, nothing_gathered}
 use Rattle.gabc_score.specs.machine.PartCounts.{CountsHold}
 use Rattle.gabc_score.specs.machine.PartKeeps.{IsReading}
@@ -59,4 +60,5 @@ returns-clause-rests c =
           (subst (IsReading c.begin_text.new.self.nabc_lines c.begin_text.new.self.macros c.begin_text.new.self.part b.spans) (sym gathered) (reads_behind _ _ limit c.begin_text.new.self.part b (c.begin_text.ensures.keeps _ _)));
       units = none_held c.begin_text.new.self.nabc_lines c.preceding-preceding.result c.follow.new.self.gathered.made (ap (λ (g : Gathered). g.made) gathered);
       within = within_none c.args.limits c.preceding-preceding.result c.follow.new.self.gathered (subst IsAtOutset (sym before) c.requires) (ap (λ (g : Gathered). g.made) gathered);
+      front = λ e. absurd (true≢false (sym e ∙ ap (λ (b : BodyStageState). is_in_front b.part) c.begin_text.ensures.text));
     }

@@ -1,8 +1,8 @@
 use Rattle.std.proofs.Common.{◌≡◌, Bool, true, false, refl, rules, ◌∙◌, ap, subst, sym, arith}
+use Rattle.std.proofs.lemmas.Bool.{true≢false}
 use Rattle.gabc_score.specs.Before.{with_each}
 use Rattle.gabc_score.specs.machine.PartOnly.{HoldsTexts, kept_codes}
 use Rattle.gabc_score.specs.machine.ScoreMachine.{IsFreed}
-use Rattle.gabc_score.proofs.score_events.FirstBeginsWord.{quietly_starts}
 use Rattle.gabc_score.proofs.score_events.UnitsAreHeld.{units_quietly}
 use Rattle.gabc_score.proofs.score_events.HeldWithinLimits.{within_quietly}
 use Rattle.gabc_score.proofs.score_events.QuietPoints.{quiet_law}
@@ -33,6 +33,7 @@ returns-clause-freed c = by c.take_quietly.result refl
                 (let few = freed.body.kept in let most = c.args.self.now.limits.in_range.syllable_most in omega (arith, few, most)) quiet freed.body.reading;
             units = units_quietly before c.args.self.now.body c.take_quietly.new.self c.args.x c.args.self.now.pair c.take_quietly.new.pair quiet freed.body.units;
             within = within_quietly c.args.self.now.limits before c.args.self.now.pair.gathered c.take_quietly.new.pair.gathered quiet.made quiet.total freed.body.within;
+            front = λ front. absurd (true≢false (sym front ∙ quiet.stays_behind));
           };
           used = quiet.used;
           code = search rules;
@@ -57,7 +58,6 @@ returns-clause-taken c = λ e at.
       lines = quiet.lines;
       macros = quiet.macros;
       made = quiet.made;
-      starts = quietly_starts m.body c.take_quietly.new.self c.args.x m.pair c.take_quietly.new.pair quiet;
       texts = λ is h. subst HoldsTexts (sym quiet.gathered) (plain_all m.pair.gathered quiet.events (of_character c.args.x.c (kept_codes quiet.events) is quiet.only) h);
       law = quiet_law m.limits m.part at m.has_lent m.body c.take_quietly.new.self c.args.x m.pair c.take_quietly.new.pair quiet c.requires.freed.part c.requires.freed.code (let freed = c.requires.freed in search rules) c.requires.freed.one;
     }

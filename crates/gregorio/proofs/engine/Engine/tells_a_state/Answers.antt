@@ -1,6 +1,5 @@
-use Rattle.gregorio.proofs.pieces.StatesAreWhole.{state_is_whole}
+use Rattle.gregorio.proofs.pieces.StatesAreRead.{is_a_state}
 use Rattle.gregorio.proofs.engine.Engine.tells_a_state.Goals as goal
 
 pub returns : goal.returns
-returns c =
-    state_is_whole c.args.self.now c.tells_its_input.ensures c.tells_of_its_headers.ensures.fields c.tells_of_its_score.ensures c.tells_what_stands_before.ensures
+returns c = is_a_state c.args.self.now c.tells_fields.ensures c.tells_what_is_read.ensures

@@ -1,0 +1,4 @@
+-- A stage over a score is set down again from the fields of a state.
+pub mod HeldIsRead
+pub mod KeptIsRead
+pub mod StateIsRead

@@ -1,0 +1,42 @@
+-- A stage over a score on its way to be set down from the fields of a state.
+use Rattle.std.specs.Prelude.{◌≡◌, ◌+◌, ◌-◌, false, Some}
+use Rattle.gabc_places.specs.declared.place.Place.{Place}
+use Rattle.gabc_score.specs.Resumed.{BeginsText}
+use Rattle.gabc_score.specs.ScoreTells.{StandsAt, before_of, held_of, is_in_comment, is_in_front, openers_of, reading_of}
+use Rattle.gabc_score.specs.ToldWithin.{TellsOfText}
+use Rattle.gabc_score.specs.declared.body_tells.Openers.{Openers}
+use Rattle.gabc_score.specs.witness.ScoreStage.{ScoreStageState}
+use Rattle.gregorio_state.specs.Fields.{ScoreFields}
+use Rattle.gregorio.specs.Saved.{held_count, held_text}
+use Rattle.gregorio.specs.SavedState.{before_held}
+
+-- the places of what is open
+abbrev pub openers_told : ScoreFields → Openers
+openers_told f = record { notes = f.notes_opener; inner = f.inner_opener }
+
+-- It stands behind what stands before the syllable of the held text, and holds this syllable, if there is one.
+pub record StandsBehindHeld (f : ScoreFields) (stage : ScoreStageState) : Type 0 where
+  pub before_is : before_of stage ≡ Some (before_held f)
+  pub text : held_text stage.before (held_of stage) ≡ f.held
+  pub count : (f.syllables - 1) + held_count (held_of stage) ≡ f.syllables
+
+-- It begins to read the next text.
+pub record HoldsHeld (f : ScoreFields) (stage : ScoreStageState) : Type 0 where
+  pub behind : StandsBehindHeld f stage
+  pub begins : BeginsText stage
+  pub told : TellsOfText stage
+
+-- In the body it has read this of a syllable.
+pub record HasRead (f : ScoreFields) (stage : ScoreStageState) : Type 0 where
+  pub kept : reading_of stage ≡ f.kept
+  pub openers_are : openers_of stage.body.part ≡ openers_told f
+  pub comment : is_in_comment stage.body.part ≡ f.in_comment
+
+-- It has read the kept text, behind the comment in front, and the next character stands there.
+pub record ReadsOn (place : Place) (f : ScoreFields) (stage : ScoreStageState) : Type 0 where
+  pub behind : StandsBehindHeld f stage
+  pub read : HasRead f stage
+  pub front : is_in_front stage.body.part ≡ false
+  pub next : stage.held.next ≡ place
+  pub stands : StandsAt place stage.body.part
+  pub told : TellsOfText stage

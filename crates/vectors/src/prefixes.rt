@@ -1,0 +1,36 @@
+//! Runs over each prefix of an input in pieces, against what the whole forms make of it.
+
+use crate::pieces::{Wanted, agrees_in_pieces};
+use crate::row::row_of;
+use crate::run::{Request, request_of};
+use gregorio::{Outcome, SourceEnding};
+use std::alloc::{AllocError, Global};
+
+/// Returns whether runs in pieces give what the whole forms make of the input.
+fn agrees_with_whole(alloc: Global, asked: Request) -> Result<bool, AllocError> {
+    let outcome = Outcome::of(alloc, asked.bytes, SourceEnding::Whole, asked.limits)?;
+    let output = outcome.output(alloc, asked.format)?;
+    let messages = outcome.messages(alloc, "<stdin>", asked.all_warnings)?;
+    let wanted = Wanted {
+        output: output.slice(),
+        messages: messages.slice(),
+    };
+    Ok(agrees_in_pieces(alloc, asked, wanted, outcome.status().code()))
+}
+
+/// Returns whether that holds of each prefix of the input on this line of a file.
+pub(crate) fn has_prefixes_alike(alloc: Global, line: &str) -> Result<bool, AllocError> {
+    let Some(row) = row_of(alloc, line)? else {
+        return Ok(false);
+    };
+    let Some(asked) = request_of(&row) else {
+        return Ok(false);
+    };
+    for len in 0..=asked.bytes.len() {
+        let bytes = &asked.bytes[..len];
+        if !agrees_with_whole(alloc, Request { bytes, ..asked })? {
+            return Ok(false);
+        }
+    }
+    Ok(true)
+}
