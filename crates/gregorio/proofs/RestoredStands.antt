@@ -1,5 +1,5 @@
 -- The parts that are made from the fields of a state stand together as those of an engine that runs.
-use Rattle.std.proofs.Common.{◌≡◌, ◌≢◌, ℕ, ◌+◌, ◌-◌, ◌*◌, ◌≤◌, List, [], ◌∷◌, length, Bool, true, false, Option, Some, None, is_none, inl, IsUtf8, encode_utf8_all, refl, ap, sym, subst, ◌∙◌, arith}
+use Rattle.std.proofs.Common.{◌≡◌, ℕ, ◌+◌, ◌-◌, ◌*◌, ◌≤◌, List, [], ◌∷◌, Bool, true, false, Option, Some, None, is_none, inl, IsUtf8, encode_utf8_all, refl, ap, sym, subst, ◌∙◌, arith}
 use Rattle.std.proofs.lemmas.Bool.{and_parts, false≢true}
 use Rattle.std.proofs.lemmas.List.Elements.{All-cons, All-head, All-nil, All-tail}
 use Rattle.std.proofs.lemmas.Str.{chars_from_encodes, scalars-chars}
@@ -15,16 +15,15 @@ use Rattle.gabc_places.specs.declared.place.Place.{Place}
 use Rattle.gabc_headers.specs.HeldText.{holding}
 use Rattle.gabc_headers.specs.declared.head_event.HeadEvent.{HeadEvent}
 use Rattle.gabc_headers.specs.witness.HeadEvents.{HeaderStageState, reading, behind}
-use Rattle.gabc_neumes.specs.InForce.{InForce, nothing_in_force}
+use Rattle.gabc_neumes.specs.InForce.{nothing_in_force}
 use Rattle.gabc_score.specs.Syllable.{UnplacedSyllable}
-use Rattle.gabc_score.specs.ScoreTells.{StandsAt, held_of, is_in_comment}
-use Rattle.gabc_score.specs.ToldWithin.{whole_syllables}
+use Rattle.gabc_score.specs.ScoreTells.{StandsAt, held_of}
 use Rattle.gabc_score.specs.declared.score_machine.ScorePart.{ScorePart}
 use Rattle.gabc_score.specs.declared.score_machine.ScorePart.TheVariants as score_part
 use Rattle.gabc_score.specs.witness.ScoreStage.{ScoreStageState}
 use Rattle.gregorio_jobs.specs.declared.job.Format.{Format}
 use Rattle.gregorio_jobs.specs.declared.job.Job.{Job}
-use Rattle.gregorio_state.specs.Conditions.{AreBeforeHeld, AreHeaderFields, ArePhaseFields, AreScoreFields, AreStateFields}
+use Rattle.gregorio_state.specs.Conditions.{AreHeaderFields, ArePhaseFields, AreScoreFields, AreStateFields}
 use Rattle.gregorio_state.specs.Fields.{PhaseFields, ScoreFields, StateFields, InHeaders, InScore}
 use Rattle.gregorio.specs.Saved.{GivesHeaders, held_count, phase_fields, score_fields}
 use Rattle.gregorio.specs.SavedState.{IsOfJob}
@@ -34,12 +33,11 @@ use Rattle.gregorio.specs.witness.Engine.{EngineState, Written}
 use Rattle.gregorio.specs.machine.ClefInForce.{HasClefOfSounds, IsClefIn}
 use Rattle.gregorio.specs.machine.Engine.{IsEngine}
 use Rattle.gregorio.specs.machine.HeldHeaders.{behind_mark}
-use Rattle.gregorio.specs.machine.InStep.{AreInOnePart, HasForce, RunsInStep}
-use Rattle.gregorio.specs.machine.Restored.{GoesOn, HasEmptyRooms, StandIn, StandInHeaders, StandInScore, StandSo, written_by}
+use Rattle.gregorio.specs.machine.InStep.{AreInOnePart, HasForce}
+use Rattle.gregorio.specs.machine.Restored.{GoesOn, HasEmptyRooms, StandIn, StandSo, written_by}
 use Rattle.gregorio.specs.machine.Restoring.{IsSetDown}
-use Rattle.gregorio.specs.machine.RunWriter.{line_room, syllable_room, heads_room}
+use Rattle.gregorio.specs.machine.RunWriter.{syllable_room, heads_room}
 use Rattle.gregorio.specs.machine.ScoreWriter.{IsReserved, ScoreWriterState}
-use Rattle.gregorio.specs.machine.TellsInStep.{TellsInStep}
 use Rattle.gregorio.proofs.pieces.HeadersAreRead.{no_heads_are_short}
 
 -- ---- a text

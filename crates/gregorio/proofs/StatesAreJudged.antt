@@ -1,21 +1,15 @@
 -- The fields of a state are judged by its texts, under the limits that it tells.
 use Rattle.std.proofs.Common.{◌≡◌, Result, Ok, Err, IfOk, IsTrue, false, subst, sym}
 use Rattle.std.proofs.lemmas.Bool.{false≢true}
-use Rattle.std.specs.Str.{chars}
 use Rattle.gabc_places.specs.declared.limits.Limits.{Limits}
-use Rattle.gabc_headers.specs.HeldText.{holding}
 use Rattle.gabc_headers.specs.witness.HeadEvents.{HeaderStageState}
-use Rattle.gabc_score.specs.declared.score_machine.ScorePart.TheVariants.{Heads}
 use Rattle.gabc_score.specs.witness.ScoreStage.{ScoreStageState}
 use Rattle.gregorio_jobs.specs.declared.job.Job.{Job}
 use Rattle.gregorio_state.specs.Conditions.{AreStateFields}
-use Rattle.gregorio_state.specs.Fields.{PhaseFields, ScoreFields, StateFields, InHeaders, InScore}
-use Rattle.gregorio.specs.Saved.{GivesHeaders}
-use Rattle.gregorio.specs.SavedState.{AreOfState, IsOfJob, IsPhaseRead, IsScoreRead, TellsLimits}
-use Rattle.gregorio.specs.machine.HeldHeaders.{behind_mark}
+use Rattle.gregorio_state.specs.Fields.{PhaseFields, StateFields}
+use Rattle.gregorio.specs.SavedState.{AreOfState, IsOfJob, IsPhaseRead, TellsLimits}
 use Rattle.gregorio.specs.machine.Restored.{IsAnother, StandIn, StandSo}
-use Rattle.gregorio.specs.machine.Restoring.{IsSetDown}
-use Rattle.gregorio.proofs.LimitsAreTold.{same_limits, told_once}
+use Rattle.gregorio.proofs.LimitsAreTold.{told_once}
 
 module _ (s : StateFields) (own : Limits) (tells : TellsLimits s own) (fields : AreStateFields s) (phase : PhaseFields) (is : s.phase ≡ phase) where
   pub read_so : IsPhaseRead own s phase → AreOfState s

@@ -1,12 +1,10 @@
-use Rattle.std.proofs.Common.{rules, ◌≡◌, Err, refl, ap, sym, subst, ◌∙◌}
-use Rattle.gabc_places.specs.declared.limits.Limits.{Limits}
+use Rattle.std.proofs.Common.{rules, ◌≡◌, Err, refl, ap}
 use Rattle.gregorio_state.specs.Fields.{fields_of, score_of, InScore}
 use Rattle.gregorio.specs.declared.state_fault.StateFault.{StateFault}
 use Rattle.gregorio.specs.declared.state_fault.StateFault.TheVariants.{K1}
 use Rattle.gregorio.specs.SavedState.{IsOfJob, TellsLimits}
-use Rattle.gregorio.specs.machine.HeldHeaders.{behind_mark}
 use Rattle.gregorio.proofs.LimitsAreTold.{told_once}
-use Rattle.gregorio.proofs.StatesAreJudged.{if_any, not_read, of_another, read_so, same, stand_so}
+use Rattle.gregorio.proofs.StatesAreJudged.{if_any, not_read, of_another, read_so, stand_so}
 use Rattle.gregorio.proofs.restoring.engine_in_score.Goals as goal
 
 pub returns-in_err-score-clause-none : goal.returns-in_err-score-clause-none
