@@ -3,10 +3,12 @@ pub mod ClefInForce
 pub mod Comparison
 pub mod Compile
 pub mod Engine
+pub mod HeldHeaders
 pub mod InMemory
 pub mod InStep
 pub mod PartsOfStates
 pub mod ReadsHeaders
+pub mod Restored
 pub mod Restoring
 pub mod RunWriter
 pub mod Saving

@@ -41,7 +41,7 @@ use std::marker::Model;
 pub struct Engine {
     pub(crate) decoder: Decoder,
     pub(crate) heads: HeaderStage,
-    from_heads: Room<HeadEvent>,
+    pub(crate) from_heads: Room<HeadEvent>,
     pub(crate) writer: ScoreWriter,
 }
 

@@ -142,6 +142,31 @@ impl RunWriter {
         })
     }
 
+    /// Goes on in the headers, in which an error was found or not.
+    pub(crate) fn go_on_in_headers(&mut self, errors: bool)
+        ensures { self.new
+            ≡ record self.old { written = record self.old.written { errors = errors } } }
+    {
+        self.errors = errors;
+    }
+
+    /// Goes on behind the headers and `count` syllables that were written, behind which `alterations` are in force. An error was found or not.
+    pub(crate) fn go_on_behind(&mut self, count: u64, alterations: Alterations, errors: bool)
+        ensures { self.new ≡ record self.old {
+          written = record self.old.written {
+            headed = true;
+            count = count;
+            force = alterations;
+            errors = errors;
+          };
+        } }
+    {
+        self.headed = true;
+        self.count = count;
+        self.alterations = alterations;
+        self.errors = errors;
+    }
+
     /// Does nothing. Its contract is a law: the clef in force has a line, and each height an alteration.
     pub(crate) fn tells_what_is_in_force(&self)
         ensures line { IfSome self.now.written.force.clef

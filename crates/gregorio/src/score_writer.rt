@@ -1,6 +1,6 @@
 //! What a run does with what a stage of headers emits.
 
-ghost use Rattle.std.specs.Prelude.{◌≡◌, ◌≤◌, ◌||◌, ℕ, List, [], ◌∷◌, length, take, true, false, is_some, IfOk, IfSome, IsSome};
+ghost use Rattle.std.specs.Prelude.{◌≡◌, ◌≤◌, ◌||◌, ℕ, List, [], ◌∷◌, length, take, true, false, is_some, None, IfOk, IfSome, IsSome};
 ghost use Rattle.std.specs.List.{All};
 ghost use Rattle.gabc_places.specs.Skip.{IsPrintable};
 ghost use Rattle.gabc_headers.specs.declared.head_event.HeadEvent.{HeadEvent as HeadItem};
@@ -105,6 +105,31 @@ impl ScoreWriter {
             }),
             Err(error) => {
                 // A proof follows a call faster than all that lies inside a writer.
+                drop(writer);
+                Err(error)
+            }
+        }
+    }
+
+    /// Returns a writer that goes on with `score` and `writer`, whose run goes on, and reserves the room of its events.
+    pub(crate) fn resume(
+        alloc: Global,
+        score: ScoreStage,
+        writer: RunWriter,
+    ) -> Result<ScoreWriter, AllocError>
+        requires runs { writer.written.ended ≡ None }
+        requires clef { HasClefOfSounds score writer.written }
+        ensures { IfOk result (λ w. w ≡ record { score = score; writer = writer }) }
+    {
+        match Room::with_limit(alloc, 16) {
+            Ok(events) => Ok(ScoreWriter {
+                score,
+                events,
+                writer,
+            }),
+            Err(error) => {
+                // A proof follows a call faster than all that lies inside them.
+                drop(score);
                 drop(writer);
                 Err(error)
             }

@@ -1,0 +1,42 @@
+-- The line `%%` alone is whole headers: a fresh stage into which it is pushed stands behind them.
+use Rattle.std.proofs.Common.{◌≡◌, ℕ, List, [], ◌∷◌, ◌++◌, Bool, true, false, cond, nat_lt, Some, None, Ok, refl, ap, sym, ◌∙◌, arith}
+use Rattle.std.proofs.lemmas.Bool.{false≢true, le-ltb}
+use Rattle.gabc_places.specs.Findings.{earliest}
+use Rattle.gabc_places.specs.declared.code.Code.TheVariants.{F2, F4, F7}
+use Rattle.gabc_places.specs.declared.limits.Limits.{Limits}
+use Rattle.gabc_places.specs.declared.place.Char.{Char}
+use Rattle.gabc_headers.specs.HeldText.{inputs_of, text_in}
+use Rattle.gabc_headers.specs.Heads.{heads_by, line_place, stop_at, too_long}
+use Rattle.gabc_headers.specs.witness.HeadEvents.{HeadProgress, reading, behind, fresh_stage, progress_after, progress_by, progress_with, stage_at, stage_past}
+use Rattle.gregorio.specs.machine.HeldHeaders.{behind_mark}
+
+-- where no limit is passed
+one_by : (b : Bool) → b ≡ false
+    → progress_by (37 ∷ []) (heads_by (37 ∷ []) (earliest (too_long (37 ∷ []) (cond b (Some 0) None) ++ stop_at 1 (record { line = 1; column = 2 }) F2 ∷ []))) ≡ reading (37 ∷ [])
+one_by true e = absurd (false≢true (sym e))
+one_by false e = refl
+
+two_by : (b d : Bool) → b ≡ false → d ≡ false
+    → progress_by (37 ∷ 37 ∷ []) (heads_by (37 ∷ 37 ∷ []) (earliest (cond b (stop_at 1 (line_place 1) F4 ∷ []) [] ++ cond d (stop_at 1 (line_place 1) F7 ∷ []) []))) ≡ behind []
+two_by true d e f = absurd (false≢true (sym e))
+two_by false true e f = absurd (false≢true (sym f))
+two_by false false e f = refl
+
+one_percent : (limits : Limits) → progress_with limits [] 37 ≡ reading (37 ∷ [])
+one_percent limits = one_by (nat_lt limits.header 1) (le-ltb limits.header 1 (let h = limits.in_range.header_least in omega (arith, h)))
+
+two_percents : (limits : Limits) → progress_with limits (37 ∷ []) 37 ≡ behind []
+two_percents limits =
+    two_by (nat_lt limits.header 0) (nat_lt limits.input 3) (le-ltb limits.header 0 (omega arith)) (le-ltb limits.input 3 (let h = limits.in_range.input_least in omega (arith, h)))
+
+behind_two : (limits : Limits) (x y : Char) → x.c ≡ 37 → y.c ≡ 37 → stage_past (fresh_stage limits) (Ok x ∷ Ok y ∷ []) ≡ behind_mark limits
+behind_two limits x y one two =
+    ap (λ (p : HeadProgress). stage_at (stage_at (fresh_stage limits) p) (progress_after limits p (Ok y))) (ap (λ (c : ℕ). progress_with limits [] c) one ∙ one_percent limits)
+    ∙ ap (λ (p : HeadProgress). stage_at (stage_at (fresh_stage limits) (reading (37 ∷ []))) p) (ap (λ (c : ℕ). progress_with limits (37 ∷ []) c) two ∙ two_percents limits)
+
+-- wherever its characters are said to stand
+pub mark_ends : (limits : Limits) (xs : List Char) → text_in xs ≡ 37 ∷ 37 ∷ [] → stage_past (fresh_stage limits) (inputs_of xs) ≡ behind_mark limits
+mark_ends limits [] is = absurd (cc is)
+mark_ends limits (x ∷ []) is = absurd (cc is)
+mark_ends limits (x ∷ y ∷ z ∷ xs) is = absurd (cc is)
+mark_ends limits (x ∷ y ∷ []) is = behind_two limits x y (cc is) (cc is)

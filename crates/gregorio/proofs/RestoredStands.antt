@@ -1,0 +1,267 @@
+-- The parts that are made from the fields of a state stand together as those of an engine that runs.
+use Rattle.std.proofs.Common.{◌≡◌, ℕ, ◌+◌, ◌-◌, ◌*◌, ◌≤◌, List, [], ◌∷◌, Bool, true, false, Option, Some, None, is_none, inl, IsUtf8, encode_utf8_all, refl, ap, sym, subst, ◌∙◌, arith}
+use Rattle.std.proofs.lemmas.Bool.{and_parts, false≢true}
+use Rattle.std.proofs.lemmas.List.Elements.{All-cons, All-head, All-nil, All-tail}
+use Rattle.std.proofs.lemmas.Str.{chars_from_encodes, scalars-chars}
+use lib.Utf8.{scalars}
+use Rattle.std.specs.List.{All}
+use Rattle.std.specs.Str.{chars}
+use Rattle.gabc_places.specs.BoundedList.{BoundedList}
+use Rattle.gabc_places.specs.DecoderMachine.{DecoderState}
+use Rattle.gabc_places.specs.DecoderTells.{is_after_cr, resumed}
+use Rattle.gabc_places.specs.TextOfAnInput.{IsPlain, IsText, IsTextCharacter}
+use Rattle.gabc_places.specs.declared.limits.Limits.{Limits}
+use Rattle.gabc_places.specs.declared.place.Place.{Place}
+use Rattle.gabc_headers.specs.HeldText.{holding}
+use Rattle.gabc_headers.specs.declared.head_event.HeadEvent.{HeadEvent}
+use Rattle.gabc_headers.specs.witness.HeadEvents.{HeaderStageState, reading, behind}
+use Rattle.gabc_neumes.specs.InForce.{nothing_in_force}
+use Rattle.gabc_score.specs.Syllable.{UnplacedSyllable}
+use Rattle.gabc_score.specs.ScoreTells.{StandsAt, held_of}
+use Rattle.gabc_score.specs.declared.score_machine.ScorePart.{ScorePart}
+use Rattle.gabc_score.specs.declared.score_machine.ScorePart.TheVariants as score_part
+use Rattle.gabc_score.specs.witness.ScoreStage.{ScoreStageState}
+use Rattle.gregorio_jobs.specs.declared.job.Format.{Format}
+use Rattle.gregorio_jobs.specs.declared.job.Job.{Job}
+use Rattle.gregorio_state.specs.Conditions.{AreHeaderFields, ArePhaseFields, AreScoreFields, AreStateFields}
+use Rattle.gregorio_state.specs.Fields.{PhaseFields, ScoreFields, StateFields, InHeaders, InScore}
+use Rattle.gregorio.specs.Saved.{GivesHeaders, held_count, phase_fields, score_fields}
+use Rattle.gregorio.specs.SavedState.{IsOfJob}
+use Rattle.gregorio_jobs.specs.declared.job.Status.{Status}
+use Rattle.gregorio.specs.Outcome.{input_name}
+use Rattle.gregorio.specs.witness.Engine.{EngineState, Written}
+use Rattle.gregorio.specs.machine.ClefInForce.{HasClefOfSounds, IsClefIn}
+use Rattle.gregorio.specs.machine.Engine.{IsEngine}
+use Rattle.gregorio.specs.machine.HeldHeaders.{behind_mark}
+use Rattle.gregorio.specs.machine.InStep.{AreInOnePart, HasForce}
+use Rattle.gregorio.specs.machine.Restored.{GoesOn, HasEmptyRooms, StandIn, StandSo, written_by}
+use Rattle.gregorio.specs.machine.Restoring.{IsSetDown}
+use Rattle.gregorio.specs.machine.RunWriter.{syllable_room, heads_room}
+use Rattle.gregorio.specs.machine.ScoreWriter.{IsReserved, ScoreWriterState}
+use Rattle.gregorio.proofs.pieces.HeadersAreRead.{no_heads_are_short}
+
+-- ---- a text
+
+-- its characters may be those of a text of an input
+characters : (cs : List ℕ) → scalars cs ≡ true → All IsPlain cs → All IsTextCharacter cs
+characters [] are plain = All-nil IsTextCharacter
+characters (c ∷ cs) are plain =
+    let both = and_parts _ (scalars cs) are in
+    All-cons IsTextCharacter c cs (record { scalar = both.0; plain = All-head IsPlain c cs plain }) (characters cs both.1 (All-tail IsPlain c cs plain))
+
+text_characters : (bytes : List ℕ) → IsText bytes → All IsTextCharacter (chars bytes)
+text_characters bytes is = characters (chars bytes) (scalars-chars bytes is.utf8) is.plain
+
+-- and its bytes are those of its characters
+text_bytes : (bytes : List ℕ) → IsUtf8 bytes → encode_utf8_all (chars bytes) ≡ bytes
+text_bytes bytes is = ap encode_utf8_all (sym (chars_from_encodes is.0 bytes is is.1.1)) ∙ is.1.1
+
+-- ---- the syllables before the one that is held
+
+before_by : (o : Option UnplacedSyllable) (before all : ℕ) → (o ≡ None → before ≡ 0) → before + held_count o ≡ all → all - 1 ≡ before
+before_by None before all none is = let z = none refl in omega (arith, z, is)
+before_by (Some m) before all none is = omega (arith, is)
+
+pub before_is : (s : StateFields) (f : ScoreFields) (score : ScoreStageState) → IsSetDown s f score → f.syllables - 1 ≡ score.before.syllables
+before_is s f score d = before_by (held_of score) score.before.syllables f.syllables (d.holds d.body) (ap (λ (g : ScoreFields). g.syllables) d.tells)
+
+-- ---- what is in force
+
+module _ (job : Job) (s : StateFields) (limits : Limits) (is_job : IsOfJob job limits s) where
+  force_by : (phase : PhaseFields) → ArePhaseFields s phase → HasForce (written_by job s phase)
+  force_by (InHeaders text) fields = record { untracked = λ gabc. refl; outset = λ none. refl }
+  force_by (InScore f) fields = record {
+    untracked = λ gabc. fields.before.untracked (is_job.format ∙ gabc);
+    outset = λ none. (fields.before.outset (omega (arith, none))).in_force;
+  }
+
+clef_in_headers : (part : ScorePart) (sounded : Bool) → part ≡ score_part.Heads → IsClefIn part sounded nothing_in_force.clef
+clef_in_headers part sounded is = subst (λ (p : ScorePart). IsClefIn p sounded nothing_in_force.clef) (sym is) refl
+
+clef_by : (job : Job) (s : StateFields) (limits : Limits) (h : HeaderStageState) (score : ScoreStageState) (phase : PhaseFields) → ArePhaseFields s phase → StandIn s phase limits h score
+    → HasClefOfSounds score (written_by job s phase)
+clef_by job s limits h score (InHeaders text) fields stand running = clef_in_headers score.part score.before.sounded stand.part
+clef_by job s limits h score (InScore f) fields stand running =
+    subst (λ (p : ScorePart). IsClefIn p score.before.sounded f.in_force.clef) (sym stand.set_down.body)
+    (λ quiet. fields.before.sounded (sym (ap (λ (g : ScoreFields). g.sounded) stand.set_down.tells) ∙ quiet))
+
+pub clef_of_sounds : (job : Job) (s : StateFields) (limits : Limits) (h : HeaderStageState) (score : ScoreStageState) → AreStateFields s → StandSo s limits h score
+    → HasClefOfSounds score (written_by job s s.phase)
+clef_of_sounds job s limits h score fields so = clef_by job s limits h score s.phase fields.phase so.stand
+
+-- ---- the engine
+
+module _ (job : Job) (s : StateFields) (limits : Limits) (is_job : IsOfJob job limits s) (fields : AreStateFields s) (from_heads : BoundedList HeadEvent) (few : 2 ≤ from_heads.limit)
+    (w : ScoreWriterState) (limits_are : w.score.limits ≡ limits) (rooms : HasEmptyRooms limits w.writer) where
+  abbrev decoder : DecoderState
+  decoder = resumed s.input_limit s.taken s.place s.pending s.after_cr
+
+  module _ (cr : is_after_cr decoder ≡ s.after_cr) where
+    reserved : IsReserved w
+    reserved =
+        let size = ap (λ (l : Limits). l.syllable) limits_are in
+        let scratch = rooms.scratch in
+        record {
+          out = subst (λ (l : Limits). heads_room w.writer.written.format l.header + 4 * syllable_room w.writer.written.format l.syllable + 128 ≤ w.writer.out.limit) (sym limits_are) rooms.out;
+          messages = rooms.messages;
+          scratch = omega (arith, size, scratch);
+        }
+
+    input_is : s.input_limit ≡ w.score.limits.input
+    input_is = is_job.limits_are.input ∙ ap (λ (l : Limits). l.input) (sym limits_are)
+
+    near : s.place.line + s.place.column ≤ s.taken + 2
+    near = let reached = fields.decoder.reached.bytes in omega (arith, reached)
+
+    module _ (text : List ℕ) (are : AreHeaderFields s text) (gives : GivesHeaders limits (chars text) s.place s.has_error) (part : w.score.part ≡ score_part.Heads)
+        (is_w : w.writer.written ≡ written_by job s (InHeaders text)) where
+      unheaded : w.writer.written.headed ≡ false
+      unheaded = ap (λ (v : Written). v.headed) is_w
+
+      parts : AreInOnePart (reading (chars text)) w.score.part w.writer.written.headed
+      parts = subst (λ (p : ScorePart). AreInOnePart (reading (chars text)) p w.writer.written.headed) (sym part) unheaded
+
+      pub engine_in_headers : IsEngine decoder (holding limits (chars text)) from_heads w
+      engine_in_headers = record {
+        few = few;
+        together = record {
+          limits = sym limits_are;
+          headed = λ is. absurd (false≢true (sym unheaded ∙ is));
+          book = tt;
+          short = no_heads_are_short limits;
+        };
+        reserved = reserved;
+        step = record {
+          force = subst HasForce (sym is_w) (force_by job s limits is_job (InHeaders text) are);
+          runs = λ running. record {
+            runs = refl;
+            limit = input_is;
+            parts = parts;
+            none = λ un. ap (λ (v : Written). v.count) is_w;
+            count = λ is. absurd (false≢true (sym unheaded ∙ is));
+            taken = λ is. absurd (false≢true (sym unheaded ∙ is));
+            column = fields.decoder.reached.column;
+            near = near;
+            counts = λ within body. absurd (cc (body, part));
+          };
+        };
+        headers = λ running. record {
+          text = text_characters text are.is_text;
+          gives = subst (λ (e : Bool). GivesHeaders limits (chars text) s.place e) (sym (ap (λ (v : Written). v.errors) is_w)) gives;
+        };
+        tells = λ running. record {
+          line = fields.decoder.reached.line;
+          body = λ is. absurd (false≢true (sym unheaded ∙ is));
+        };
+      }
+
+    module _ (f : ScoreFields) (are : AreScoreFields s f) (d : IsSetDown s f w.score) (is_w : w.writer.written ≡ written_by job s (InScore f)) where
+      headed : w.writer.written.headed ≡ true
+      headed = ap (λ (v : Written). v.headed) is_w
+
+      body_parts : AreInOnePart (behind []) w.score.part w.writer.written.headed
+      body_parts = subst (λ (p : ScorePart). AreInOnePart (behind []) p w.writer.written.headed) (sym d.body) headed
+
+      pub engine_in_score : IsEngine decoder (behind_mark limits) from_heads w
+      engine_in_score = record {
+        few = few;
+        together = record {
+          limits = sym limits_are;
+          headed = λ is. inl tt;
+          book = refl;
+          short = no_heads_are_short limits;
+        };
+        reserved = reserved;
+        step = record {
+          force = subst HasForce (sym is_w) (force_by job s limits is_job (InScore f) are);
+          runs = λ running. record {
+            runs = refl;
+            limit = input_is;
+            parts = body_parts;
+            none = λ un. absurd (false≢true (sym un ∙ headed));
+            count = λ is. ap (λ (v : Written). v.count) is_w ∙ before_is s f w.score d;
+            taken = λ is. d.whole;
+            column = fields.decoder.reached.column;
+            near = near;
+            counts = λ within body. subst (λ (p : Place). StandsAt p w.score.body.part) d.next d.stands;
+          };
+        };
+        headers = λ running. tt;
+        tells = λ running. record {
+          line = fields.decoder.reached.line;
+          body = λ is within. record {
+            next = d.next;
+            told = d.told;
+            holds = d.holds;
+            comment = λ behind_cr. ap (λ (g : ScoreFields). g.in_comment) d.tells ∙ are.comment.cr (sym cr ∙ behind_cr);
+          };
+        };
+      }
+
+    by_phase : (phase : PhaseFields) (h : HeaderStageState) → ArePhaseFields s phase → StandIn s phase limits h w.score → w.writer.written ≡ written_by job s phase → IsEngine decoder h from_heads w
+    by_phase (InHeaders text) h are stand is_w = subst (λ (x : HeaderStageState). IsEngine decoder x from_heads w) (sym stand.heads) (engine_in_headers text are stand.gives stand.part is_w)
+    by_phase (InScore f) h are stand is_w = subst (λ (x : HeaderStageState). IsEngine decoder x from_heads w) (sym stand.heads) (engine_in_score f are stand.set_down is_w)
+
+    pub restored_engine : (d : DecoderState) (h : HeaderStageState) → d ≡ decoder → StandSo s limits h w.score → w.writer.written ≡ written_by job s s.phase → IsEngine d h from_heads w
+    restored_engine d h is_d so is_w = subst (λ (x : DecoderState). IsEngine x h from_heads w) (sym is_d) (by_phase s.phase h fields.phase so.stand is_w)
+
+-- ---- what it tells
+
+abbrev fields_made : Format → Bool → ℕ → ℕ → ℕ → ℕ → Place → List ℕ → Bool → Bool → PhaseFields → StateFields
+fields_made format warnings header syllable input taken place pending cr error phase = record {
+  format = format;
+  all_warnings = warnings;
+  header_limit = header;
+  syllable_limit = syllable;
+  input_limit = input;
+  taken = taken;
+  place = place;
+  pending = pending;
+  after_cr = cr;
+  has_error = error;
+  phase = phase;
+}
+
+-- fields that are the same, one by one
+same : (s : StateFields) (format : Format) (warnings : Bool) (header syllable input taken : ℕ) (place : Place) (pending : List ℕ) (cr error : Bool) (phase : PhaseFields) → format ≡ s.format
+    → warnings ≡ s.all_warnings → header ≡ s.header_limit → syllable ≡ s.syllable_limit → input ≡ s.input_limit → taken ≡ s.taken → place ≡ s.place → pending ≡ s.pending → cr ≡ s.after_cr
+    → error ≡ s.has_error → phase ≡ s.phase → fields_made format warnings header syllable input taken place pending cr error phase ≡ s
+same s format warnings header syllable input taken place pending cr error phase e1 e2 e3 e4 e5 e6 e7 e8 e9 e10 e11 =
+    let all : fields_made format warnings header syllable input taken place pending cr error phase
+    ≡ fields_made s.format s.all_warnings s.header_limit s.syllable_limit s.input_limit s.taken s.place s.pending s.after_cr s.has_error s.phase = cc in
+    all
+
+module _ (job : Job) (s : StateFields) (limits : Limits) (is_job : IsOfJob job limits s) (fields : AreStateFields s) (e : EngineState) (is_d : e.decoder ≡ resumed s.input_limit s.taken s.place s.pending s.after_cr)
+    (cr : is_after_cr e.decoder ≡ s.after_cr) (limits_are : e.score.limits ≡ limits) (output : e.output ≡ []) (messages : e.messages ≡ []) where
+  goes : (format : e.written.format ≡ job.format) → e.written.all_warnings ≡ job.all_warnings → e.written.errors ≡ s.has_error → e.written.name ≡ input_name job.input → e.written.ended ≡ None
+      → phase_fields e.heads.progress e.written.force e.score ≡ s.phase → GoesOn job s e
+  goes format warnings errors name ended phase = record {
+    state = same s e.written.format e.written.all_warnings e.score.limits.header e.score.limits.syllable e.score.limits.input e.decoder.taken e.decoder.place e.decoder.pending
+        (is_after_cr e.decoder) e.written.errors (phase_fields e.heads.progress e.written.force e.score)
+        (format ∙ sym is_job.format)
+        (warnings ∙ sym is_job.all_warnings)
+        (ap (λ (l : Limits). l.header) limits_are ∙ sym is_job.limits_are.header)
+        (ap (λ (l : Limits). l.syllable) limits_are ∙ sym is_job.limits_are.syllable)
+        (ap (λ (l : Limits). l.input) limits_are ∙ sym is_job.limits_are.input)
+        (ap (λ (d : DecoderState). d.taken) is_d)
+        (ap (λ (d : DecoderState). d.place) is_d)
+        (ap (λ (d : DecoderState). d.pending) is_d)
+        cr
+        errors
+        phase;
+    name = name;
+    running = ap (λ (o : Option Status). is_none o) ended;
+    waits = record { output = output; messages = messages };
+  }
+
+  goes_by : (phase : PhaseFields) → phase ≡ s.phase → ArePhaseFields s phase → StandIn s phase limits e.heads e.score → e.written ≡ written_by job s phase → GoesOn job s e
+  goes_by (InHeaders text) is are stand is_w =
+      goes (ap (λ (v : Written). v.format) is_w) (ap (λ (v : Written). v.all_warnings) is_w) (ap (λ (v : Written). v.errors) is_w) (ap (λ (v : Written). v.name) is_w) (ap (λ (v : Written). v.ended) is_w)
+      (ap (λ (h : HeaderStageState). phase_fields h.progress e.written.force e.score) stand.heads ∙ (ap (λ (bytes : List ℕ). InHeaders bytes) (text_bytes text are.is_text.utf8) ∙ is))
+  goes_by (InScore f) is are stand is_w =
+      goes (ap (λ (v : Written). v.format) is_w) (ap (λ (v : Written). v.all_warnings) is_w) (ap (λ (v : Written). v.errors) is_w) (ap (λ (v : Written). v.name) is_w) (ap (λ (v : Written). v.ended) is_w)
+      (ap (λ (h : HeaderStageState). phase_fields h.progress e.written.force e.score) stand.heads
+      ∙ (ap (λ (v : Written). InScore (score_fields v.force e.score)) is_w ∙ (ap (λ (g : ScoreFields). InScore g) stand.set_down.tells ∙ is)))
+
+  pub goes_on : StandSo s limits e.heads e.score → e.written ≡ written_by job s s.phase → GoesOn job s e
+  goes_on so is_w = goes_by s.phase refl fields.phase so.stand is_w

@@ -1,0 +1,35 @@
+-- The fields of a state are judged by its texts, under the limits that it tells.
+use Rattle.std.proofs.Common.{◌≡◌, Result, Ok, Err, IfOk, IsTrue, false, subst, sym}
+use Rattle.std.proofs.lemmas.Bool.{false≢true}
+use Rattle.gabc_places.specs.declared.limits.Limits.{Limits}
+use Rattle.gabc_headers.specs.witness.HeadEvents.{HeaderStageState}
+use Rattle.gabc_score.specs.witness.ScoreStage.{ScoreStageState}
+use Rattle.gregorio_jobs.specs.declared.job.Job.{Job}
+use Rattle.gregorio_state.specs.Conditions.{AreStateFields}
+use Rattle.gregorio_state.specs.Fields.{PhaseFields, StateFields}
+use Rattle.gregorio.specs.SavedState.{AreOfState, IsOfJob, IsPhaseRead, TellsLimits}
+use Rattle.gregorio.specs.machine.Restored.{IsAnother, StandIn, StandSo}
+use Rattle.gregorio.proofs.LimitsAreTold.{told_once}
+
+module _ (s : StateFields) (own : Limits) (tells : TellsLimits s own) (fields : AreStateFields s) (phase : PhaseFields) (is : s.phase ≡ phase) where
+  pub read_so : IsPhaseRead own s phase → AreOfState s
+  read_so read = record { fields = fields; limits = own; limits_are = tells; read = subst (IsPhaseRead own s) (sym is) read }
+
+  pub not_read : (IsPhaseRead own s phase → ⊥) → AreOfState s → ⊥
+  not_read refused h = refused (subst (IsPhaseRead own s) is (subst (λ (l : Limits). IsPhaseRead l s s.phase) (told_once s h.limits own h.limits_are tells) h.read))
+
+  pub of_another : (job : Job) (limits : Limits) → (IsOfJob job limits s → IsTrue false) → IsPhaseRead own s phase → IsAnother job limits s
+  of_another job limits other read = record { fields = read_so read; other = λ is. false≢true (other is) }
+
+  -- under the limits of a job whose state it is
+  module _ (limits : Limits) (told : TellsLimits s limits) where
+    pub same : own ≡ limits
+    same = told_once s own limits tells told
+
+    pub stand_so : (h : HeaderStageState) (score : ScoreStageState) → score.limits ≡ limits → StandIn s phase limits h score → StandSo s limits h score
+    stand_so h score at stand = record { limits_are = at; stand = subst (λ (p : PhaseFields). StandIn s p limits h score) (sym is) stand }
+
+-- what holds whatever is answered
+pub if_any : {A B C : Type 0} (r : Result A B) → C → IfOk r (λ x. C)
+if_any (Ok x) h = h
+if_any (Err e) h = tt

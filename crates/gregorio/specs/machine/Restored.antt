@@ -1,0 +1,64 @@
+-- What a run that goes on from a saved state has, part by part.
+use Rattle.std.specs.Prelude.{◌≡◌, ◌+◌, ◌-◌, ◌*◌, ◌≤◌, ℕ, List, [], true}
+use Rattle.std.specs.Str.{chars}
+use Rattle.gabc_places.specs.declared.limits.Limits.{Limits}
+use Rattle.gabc_headers.specs.HeldText.{holding}
+use Rattle.gabc_headers.specs.witness.HeadEvents.{HeaderStageState}
+use Rattle.gabc_score.specs.declared.score_machine.ScorePart.TheVariants.{Heads}
+use Rattle.gabc_score.specs.witness.ScoreStage.{ScoreStageState}
+use Rattle.gregorio_jobs.specs.declared.job.Job.{Job}
+use Rattle.gregorio_state.specs.Fields.{PhaseFields, ScoreFields, StateFields, InHeaders, InScore}
+use Rattle.gregorio.specs.Engine.{NothingWaits, is_running}
+use Rattle.gregorio.specs.Outcome.{input_name}
+use Rattle.gregorio.specs.Saved.{GivesHeaders, state_of}
+use Rattle.gregorio.specs.SavedState.{AreOfState, IsOfJob}
+use Rattle.gregorio.specs.witness.Engine.{EngineState, Written}
+use Rattle.gregorio.specs.machine.HeldHeaders.{behind_mark}
+use Rattle.gregorio.specs.machine.Restoring.{IsSetDown}
+use Rattle.gregorio.specs.machine.RunWriter.{RunWriterState, heads_room, line_room, syllable_room}
+use Rattle.gregorio.specs.machine.ScoreWriter.{fresh_writer}
+
+-- what was written: in the headers nothing, and in the score the headers and all syllables but the one that is held
+abbrev pub written_by : Job → StateFields → PhaseFields → Written
+written_by job s (InHeaders text) = record (fresh_writer job) { errors = s.has_error }
+written_by job s (InScore f) = record (fresh_writer job) { headed = true; count = f.syllables - 1; force = f.in_force; errors = s.has_error }
+
+-- In the headers one stage holds their text, and the other one is before the body.
+pub record StandInHeaders (s : StateFields) (text : List ℕ) (limits : Limits) (h : HeaderStageState) (score : ScoreStageState) : Type 0 where
+  pub heads : h ≡ holding limits (chars text)
+  pub gives : GivesHeaders limits (chars text) s.place s.has_error
+  pub part : score.part ≡ Heads
+
+-- In the score one stage is behind some headers, and the other one is set down.
+pub record StandInScore (s : StateFields) (f : ScoreFields) (limits : Limits) (h : HeaderStageState) (score : ScoreStageState) : Type 0 where
+  pub heads : h ≡ behind_mark limits
+  pub set_down : IsSetDown s f score
+
+abbrev pub StandIn : StateFields → PhaseFields → Limits → HeaderStageState → ScoreStageState → Type 0
+StandIn s (InHeaders text) limits h score = StandInHeaders s text limits h score
+StandIn s (InScore f) limits h score = StandInScore s f limits h score
+
+-- the stages stand, under these limits, where the fields of a state say
+pub record StandSo (s : StateFields) (limits : Limits) (h : HeaderStageState) (score : ScoreStageState) : Type 0 where
+  pub limits_are : score.limits ≡ limits
+  pub stand : StandIn s s.phase limits h score
+
+-- An engine of this job has these fields of a state, and goes on.
+pub record GoesOn (job : Job) (s : StateFields) (e : EngineState) : Type 0 where
+  pub state : state_of e ≡ s
+  pub name : e.written.name ≡ input_name job.input
+  pub running : is_running e ≡ true
+  pub waits : NothingWaits e
+
+-- the fields of a state are those of another job, or under other limits
+pub record IsAnother (job : Job) (limits : Limits) (s : StateFields) : Type 0 where
+  pub fields : AreOfState s
+  pub other : IsOfJob job limits s → ⊥
+
+-- nothing waits, and there is room for all that is written under these limits
+pub record HasEmptyRooms (limits : Limits) (w : RunWriterState) : Type 0 where
+  pub output : w.out.items ≡ []
+  pub lines : w.messages.items ≡ []
+  pub out : heads_room w.written.format limits.header + 4 * syllable_room w.written.format limits.syllable + 128 ≤ w.out.limit
+  pub messages : 128 * line_room w.written.name ≤ w.messages.limit
+  pub scratch : w.scratch ≡ limits.syllable

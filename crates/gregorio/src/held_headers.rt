@@ -1,0 +1,110 @@
+//! The text of the headers so far, read again by a stage.
+
+ghost use Rattle.std.specs.Prelude.{◌≡◌, ◌↔◌, ◌≤◌, ◌<◌, ◌^◌, length, true, IsTrue, Ok};
+ghost use Rattle.std.specs.List.{list_any};
+ghost use Rattle.std.specs.Str.{chars};
+ghost use Rattle.gabc_places.specs.Place.{place_after};
+ghost use Rattle.gabc_headers.specs.HeldText.{holding};
+ghost use Rattle.gabc_headers.specs.witness.HeadEvents.{events_of_input, fresh_stage, stage_after};
+ghost use Rattle.gregorio.specs.Saved.{GivesHeaders};
+ghost use Rattle.gregorio.specs.machine.HeldHeaders.{IsPushed, behind_mark, is_error_event as error_event};
+
+use crate::findings::is_error;
+use gabc_headers::{HeadEvent, HeaderStage};
+use gabc_places::{Char, Place, Room, Stage};
+
+/// What a text of headers gives beside the stage that holds it.
+#[derive(Clone, Copy, PartialEq, Eq)]
+pub(crate) struct HeldHeaders {
+    /// Where the character behind it stands.
+    pub(crate) place: Place,
+    /// Whether an error is found in it.
+    pub(crate) has_error: bool,
+}
+
+/// Returns whether an error is found.
+fn is_error_event(event: HeadEvent) -> bool
+    ensures { result ≡ error_event event }
+{
+    match event {
+        HeadEvent::Found(finding) => is_error(finding),
+        _ => false,
+    }
+}
+
+/// Returns whether an error is found among these.
+fn has_error(events: &[HeadEvent]) -> bool
+    ensures { result ≡ list_any error_event events.now }
+{
+    events.iter().any(|event| is_error_event(*event))
+}
+
+/// Pushes `x` into `heads`, and returns whether an error is found with it. `events` has room for what the stage emits.
+fn push_character(heads: &mut HeaderStage, x: Char, events: &mut Room<HeadEvent>) -> bool
+    requires { 2 ≤ events.old.limit }
+    ensures room { events.new.limit ≡ events.old.limit }
+    ensures state { heads.new ≡ stage_after heads.old (Ok x) }
+    ensures error { result ≡ list_any error_event
+        (events_of_input heads.old.limits heads.old.progress (Ok x)) }
+{
+    events.clear();
+    heads.push(Ok(x), events);
+    has_error(events.slice())
+}
+
+/// Pushes the characters of `text` into `heads`, which stands before the first one, and returns what they give. `events` has room for what is emitted of
+/// one.
+fn push_text(heads: &mut HeaderStage, text: &str, events: &mut Room<HeadEvent>) -> HeldHeaders
+    requires fresh { heads.old ≡ fresh_stage heads.old.limits }
+    requires short { length text.now < 2 ^ 63 }
+    requires room { 2 ≤ events.old.limit }
+    ensures place { result.place ≡ place_after (chars text.now) }
+    ensures pushed { IsPushed heads.old.limits (chars text.now) heads.new result.has_error }
+{
+    gabc_headers::stage_laws::a_held_text_grows();
+    let mut given = HeldHeaders {
+        place: Place::START,
+        has_error: false,
+    };
+    for c in text.chars() {
+        let place = given.place;
+        let found = push_character(heads, Char { c, place }, events);
+        given = HeldHeaders {
+            place: place.after(c),
+            has_error: given.has_error | found,
+        };
+    }
+    given
+}
+
+/// Reads `text` with `heads`, which stands before its first character. Returns whether its end alone stops it, and it gives what `told` says. `events` has
+/// room for what is emitted of a character.
+pub(crate) fn holds_text(
+    heads: &mut HeaderStage,
+    text: &str,
+    told: HeldHeaders,
+    events: &mut Room<HeadEvent>,
+) -> bool
+    requires fresh { heads.old ≡ fresh_stage heads.old.limits }
+    requires short { length text.now < 2 ^ 63 }
+    requires room { 2 ≤ events.old.limit }
+    ensures gives { IsTrue result
+        ↔ GivesHeaders heads.old.limits (chars text.now) told.place told.has_error }
+    ensures holds { result ≡ true → heads.new ≡ holding heads.old.limits (chars text.now) }
+{
+    gabc_headers::stage_laws::a_held_text_is_held_again();
+    let given = push_text(heads, text, events);
+    if heads.text().is_none() {
+        return false;
+    }
+    given == told
+}
+
+/// Reads the line `%%` with `heads`, which stands before the first character of a text. `events` has room for what is emitted of a character.
+pub(crate) fn read_mark(heads: &mut HeaderStage, events: &mut Room<HeadEvent>)
+    requires fresh { heads.old ≡ fresh_stage heads.old.limits }
+    requires room { 2 ≤ events.old.limit }
+    ensures { heads.new ≡ behind_mark heads.old.limits }
+{
+    let _ = push_text(heads, "%%", events);
+}

@@ -1,0 +1,373 @@
+//! A run that goes on from its saved state.
+
+ghost use Rattle.std.specs.Prelude.{◌≡◌, ◌↔◌, ◌<◌, ◌≤◌, ◌^◌, length, true, Err, IfErr, IfOk, IfSome, IsTrue};
+ghost use Rattle.std.specs.Str.{chars};
+ghost use Rattle.gabc_headers.specs.HeldText.{holding};
+ghost use Rattle.gabc_headers.specs.witness.HeadEvents.{fresh_stage};
+ghost use Rattle.gabc_places.specs.DecoderTells.{is_after_cr, resumed};
+ghost use Rattle.gabc_score.specs.declared.score_machine.ScorePart.TheVariants.{Heads};
+ghost use Rattle.gregorio_state.specs.Conditions.{AreStateFields};
+ghost use Rattle.gregorio_state.specs.Fields.{InHeaders, InScore, fields_of, phase_of, score_of};
+ghost use Rattle.gregorio_state.specs.StateBytes.{state_bytes};
+ghost use Rattle.gregorio.specs.Engine.{NothingWaits, is_running};
+ghost use Rattle.gregorio.specs.Outcome.{input_name as name_of_input};
+ghost use Rattle.gregorio.specs.Saved.{GivesHeaders, state_of};
+ghost use Rattle.gregorio.specs.SavedState.{AreOfState, IsOfAnother, IsOfJob, IsState};
+ghost use Rattle.gregorio.specs.machine.ClefInForce.{HasClefOfSounds};
+ghost use Rattle.gregorio.specs.machine.HeldHeaders.{behind_mark};
+ghost use Rattle.gregorio.specs.machine.Restored.{GoesOn, HasEmptyRooms, IsAnother, StandSo, written_by};
+ghost use Rattle.gregorio.specs.machine.ScoreWriter.{fresh_writer};
+
+use crate::engine::Engine;
+use crate::held_headers::{HeldHeaders, holds_text, read_mark};
+use crate::run_writer::RunWriter;
+use crate::score_writer::ScoreWriter;
+use crate::set_down::set_down;
+use crate::state_fault::StateFault;
+use gabc_headers::{HeadEvent, HeaderStage};
+use gabc_neumes::Alterations;
+use gabc_places::{Decoder, Limits, Room};
+use gabc_score::ScoreStage;
+use gregorio_jobs::Job;
+use gregorio_state::{Phase, ScoreFields, StateFields};
+use std::alloc::Global;
+use std::hash::DefaultHasher;
+
+/// Returns whether `state` is one of `job` under `limits`.
+fn is_of_job(state: &StateFields<'_>, job: &Job, limits: Limits) -> bool
+    ensures { IsTrue result ↔ IsOfJob job.now limits (fields_of state.now) }
+{
+    state.limits == limits && state.format == job.format && state.all_warnings == job.all_warnings
+}
+
+/// Returns an empty room for what a stage of headers emits of a character.
+fn head_room(alloc: Global) -> Result<Room<HeadEvent>, StateFault>
+    ensures room { IfOk result (λ room. 2 ≤ room.limit) }
+    ensures fault { IfErr result (λ fault. fault ≡ StateFault.K0) }
+{
+    match Room::with_limit(alloc, 2) {
+        Ok(room) => Ok(room),
+        Err(_) => Err(StateFault::K0),
+    }
+}
+
+/// Returns a stage of headers before the first character of a text.
+fn fresh_heads(
+    alloc: Global,
+    limits: Limits,
+    hasher: DefaultHasher,
+) -> Result<HeaderStage, StateFault>
+    ensures stage { IfOk result (λ stage. stage ≡ fresh_stage limits) }
+    ensures fault { IfErr result (λ fault. fault ≡ StateFault.K0) }
+{
+    match HeaderStage::with_hasher(alloc, limits, hasher) {
+        Ok(heads) => Ok(heads),
+        Err(_) => Err(StateFault::K0),
+    }
+}
+
+/// Returns a stage of headers that holds `text`, the text of the headers of `state`. The error is `K1` where the text does not end there, or gives another
+/// place or other errors, and `K0` where there is no memory.
+fn heads_holding(
+    alloc: Global,
+    state: &StateFields<'_>,
+    text: &str,
+    hasher: DefaultHasher,
+) -> Result<HeaderStage, StateFault>
+    requires { length text.now < 2 ^ 63 }
+    ensures stage { IfOk result (λ stage. stage ≡ holding state.now.limits (chars text.now)) }
+    ensures gives { IfOk result (λ _. GivesHeaders state.now.limits (chars text.now)
+        state.now.place state.now.has_error) }
+    ensures refused { result ≡ Err StateFault.K1 → GivesHeaders state.now.limits (chars text.now)
+        state.now.place state.now.has_error → ⊥ }
+    ensures never { result ≡ Err StateFault.K2 → ⊥ }
+{
+    let told = HeldHeaders {
+        place: state.place,
+        has_error: state.has_error,
+    };
+    let mut events = head_room(alloc)?;
+    let mut heads = fresh_heads(alloc, state.limits, hasher)?;
+    if holds_text(&mut heads, text, told, &mut events) {
+        Ok(heads)
+    } else {
+        drop(heads);
+        Err(StateFault::K1)
+    }
+}
+
+/// Returns a stage of headers behind their line `%%`.
+fn heads_behind(
+    alloc: Global,
+    limits: Limits,
+    hasher: DefaultHasher,
+) -> Result<HeaderStage, StateFault>
+    ensures stage { IfOk result (λ stage. stage ≡ behind_mark limits) }
+    ensures fault { IfErr result (λ fault. fault ≡ StateFault.K0) }
+{
+    let mut events = head_room(alloc)?;
+    let mut heads = fresh_heads(alloc, limits, hasher)?;
+    read_mark(&mut heads, &mut events);
+    Ok(heads)
+}
+
+/// Returns a stage over a score, before the headers.
+fn fresh_score(alloc: Global, limits: Limits) -> Result<ScoreStage, StateFault>
+    ensures limits { IfOk result (λ stage. stage.limits ≡ limits) }
+    ensures part { IfOk result (λ stage. stage.part ≡ Heads) }
+    ensures fault { IfErr result (λ fault. fault ≡ StateFault.K0) }
+{
+    match ScoreStage::with_limits(alloc, limits) {
+        Ok(score) => Ok(score),
+        Err(_) => Err(StateFault::K0),
+    }
+}
+
+/// Returns the writer of a run of `job` that has written nothing.
+fn fresh_writer_of(alloc: Global, job: &Job, limits: Limits) -> Result<RunWriter, StateFault>
+    ensures written { IfOk result (λ writer. writer.written ≡ fresh_writer job.now) }
+    ensures rooms { IfOk result (HasEmptyRooms limits) }
+    ensures fault { IfErr result (λ fault. fault ≡ StateFault.K0) }
+{
+    match RunWriter::with_limits(alloc, job, limits) {
+        Ok(writer) => Ok(writer),
+        Err(_) => Err(StateFault::K0),
+    }
+}
+
+/// Returns what is in force of which `fields` tell.
+fn force_of(fields: &ScoreFields<'_>) -> Alterations
+    requires { IfSome fields.now.clef (λ c. (1 ≤ c.line) × (c.line ≤ 5)) }
+    ensures { result ≡ (score_of fields.now).in_force }
+{
+    let Some(alterations) = Alterations::resume(fields.clef, fields.alters) else {
+        unreachable!()
+    };
+    alterations
+}
+
+/// Returns the writer of a run of `job` that has written what stands before what `state` tells.
+fn writer_of(
+    alloc: Global,
+    job: &Job,
+    limits: Limits,
+    state: &StateFields<'_>,
+) -> Result<RunWriter, StateFault>
+    requires { AreStateFields (fields_of state.now) }
+    ensures written { IfOk result (λ writer. writer.written
+        ≡ written_by job.now (fields_of state.now) (phase_of state.now.phase)) }
+    ensures rooms { IfOk result (HasEmptyRooms limits) }
+    ensures fault { IfErr result (λ fault. fault ≡ StateFault.K0) }
+{
+    let mut writer = fresh_writer_of(alloc, job, limits)?;
+    match &state.phase {
+        Phase::Headers(_) => writer.go_on_in_headers(state.has_error),
+        Phase::Score(fields) => {
+            let count = u64::from(fields.syllables.saturating_sub(1));
+            writer.go_on_behind(count, force_of(fields), state.has_error);
+        }
+    }
+    Ok(writer)
+}
+
+/// Returns the decoder of which `state` tells.
+fn decoder_of(state: &StateFields<'_>) -> Decoder
+    requires { AreStateFields (fields_of state.now) }
+    ensures made { result ≡ resumed state.now.limits.input state.now.taken state.now.place
+        state.now.pending.now state.now.after_cr }
+    ensures cr { is_after_cr result ≡ state.now.after_cr }
+{
+    let Some(decoder) = Decoder::resume(
+        state.limits,
+        state.taken,
+        state.place,
+        state.pending,
+        state.after_cr,
+    ) else {
+        unreachable!()
+    };
+    decoder
+}
+
+/// Returns the writer of scores that goes on with `score` where `state` tells, a state of `job`.
+fn score_writer_of(
+    alloc: Global,
+    job: &Job,
+    limits: Limits,
+    state: &StateFields<'_>,
+    score: ScoreStage,
+) -> Result<ScoreWriter, StateFault>
+    requires fields { AreStateFields (fields_of state.now) }
+    requires clef { HasClefOfSounds score
+        (written_by job.now (fields_of state.now) (phase_of state.now.phase)) }
+    ensures score { IfOk result (λ w. w.score ≡ score) }
+    ensures written { IfOk result (λ w. w.writer.written
+        ≡ written_by job.now (fields_of state.now) (phase_of state.now.phase)) }
+    ensures rooms { IfOk result (λ w. HasEmptyRooms limits w.writer) }
+    ensures fault { IfErr result (λ fault. fault ≡ StateFault.K0) }
+{
+    match writer_of(alloc, job, limits, state) {
+        Ok(writer) => match ScoreWriter::resume(alloc, score, writer) {
+            Ok(writer) => Ok(writer),
+            Err(_) => Err(StateFault::K0),
+        },
+        Err(fault) => {
+            // A proof follows a call faster than all that lies inside a stage.
+            drop(score);
+            Err(fault)
+        }
+    }
+}
+
+/// Returns the engine of `job` under `limits` that goes on with `heads` and `score` where `state` tells, a state of `job`.
+fn engine_with(
+    alloc: Global,
+    job: &Job,
+    limits: Limits,
+    state: &StateFields<'_>,
+    heads: HeaderStage,
+    score: ScoreStage,
+) -> Result<Engine, StateFault>
+    requires fields { AreStateFields (fields_of state.now) }
+    requires job { IsOfJob job.now limits (fields_of state.now) }
+    requires stand { StandSo (fields_of state.now) limits heads score }
+    ensures goes { IfOk result (GoesOn job.now (fields_of state.now)) }
+    ensures fault { IfErr result (λ fault. fault ≡ StateFault.K0) }
+{
+    match head_room(alloc) {
+        Ok(from_heads) => match score_writer_of(alloc, job, limits, state, score) {
+            Ok(writer) => Ok(Engine {
+                decoder: decoder_of(state),
+                heads,
+                from_heads,
+                writer,
+            }),
+            Err(fault) => {
+                drop(heads);
+                Err(fault)
+            }
+        },
+        Err(fault) => {
+            drop(heads);
+            drop(score);
+            Err(fault)
+        }
+    }
+}
+
+/// Returns an engine of `job` under `limits` that goes on in the headers, of which `state` has read `text`. Its errors are those of `restore`.
+fn engine_in_headers(
+    alloc: Global,
+    job: &Job,
+    limits: Limits,
+    state: &StateFields<'_>,
+    text: &str,
+    hasher: DefaultHasher,
+) -> Result<Engine, StateFault>
+    requires fields { AreStateFields (fields_of state.now) }
+    requires phase { phase_of state.now.phase ≡ InHeaders text.now }
+    ensures goes { IfOk result (GoesOn job.now (fields_of state.now)) }
+    ensures read { IfOk result (λ _. AreOfState (fields_of state.now)) }
+    ensures job { IfOk result (λ _. IsOfJob job.now limits (fields_of state.now)) }
+    ensures none { result ≡ Err StateFault.K1 → AreOfState (fields_of state.now) → ⊥ }
+    ensures other { result ≡ Err StateFault.K2 → IsAnother job.now limits (fields_of state.now) }
+{
+    let heads = heads_holding(alloc, state, text, hasher)?;
+    if !is_of_job(state, job, limits) {
+        drop(heads);
+        return Err(StateFault::K2);
+    }
+    match fresh_score(alloc, limits) {
+        Ok(score) => engine_with(alloc, job, limits, state, heads, score),
+        Err(fault) => {
+            drop(heads);
+            Err(fault)
+        }
+    }
+}
+
+/// Returns an engine of `job` under `limits` that goes on in the score, where `fields` of `state` tell. Its errors are those of `restore`.
+fn engine_in_score(
+    alloc: Global,
+    job: &Job,
+    limits: Limits,
+    state: &StateFields<'_>,
+    fields: &ScoreFields<'_>,
+    hasher: DefaultHasher,
+) -> Result<Engine, StateFault>
+    requires fields { AreStateFields (fields_of state.now) }
+    requires phase { phase_of state.now.phase ≡ InScore (score_of fields.now) }
+    ensures goes { IfOk result (GoesOn job.now (fields_of state.now)) }
+    ensures read { IfOk result (λ _. AreOfState (fields_of state.now)) }
+    ensures job { IfOk result (λ _. IsOfJob job.now limits (fields_of state.now)) }
+    ensures none { result ≡ Err StateFault.K1 → AreOfState (fields_of state.now) → ⊥ }
+    ensures other { result ≡ Err StateFault.K2 → IsAnother job.now limits (fields_of state.now) }
+{
+    let score = set_down(alloc, state, fields)?;
+    if !is_of_job(state, job, limits) {
+        drop(score);
+        return Err(StateFault::K2);
+    }
+    match heads_behind(alloc, limits, hasher) {
+        Ok(heads) => engine_with(alloc, job, limits, state, heads, score),
+        Err(fault) => {
+            drop(score);
+            Err(fault)
+        }
+    }
+}
+
+impl Engine {
+    /// Returns an engine that goes on where the run stood whose saved state is `bytes`, as `save_into` wrote it. The format of `job`, whether it wants
+    /// warnings, and `limits` have to be those of that run. The name of the input is that of `job`: it stands in no state.
+    ///
+    /// The error is K0 for want of memory, wherever it is met; else K1 exactly where `bytes` are no saved state; else K2: the state is one of
+    /// another format, of other limits, or of a run that wants warnings where `job` does not, or the other way round. The texts of a state are read under
+    /// the limits that stand in it, so these say how much memory is asked for before K1 can be told: take bytes of strangers only where
+    /// their limits are fine. Names of headers are hashed as in `new`.
+    pub fn restore(
+        alloc: Global,
+        job: &Job,
+        limits: Limits,
+        bytes: &[u8],
+    ) -> Result<Engine, StateFault>
+        ensures state { IfOk result (λ engine. bytes.now ≡ state_bytes (state_of engine)) }
+        ensures is_state { IfOk result (λ engine. AreOfState (state_of engine)) }
+        ensures job { IfOk result (λ engine. IsOfJob job.now limits (state_of engine)) }
+        ensures name { IfOk result (λ engine.
+            engine.written.name ≡ name_of_input job.now.input) }
+        ensures running { IfOk result (λ engine. is_running engine ≡ true) }
+        ensures waits { IfOk result (λ engine. NothingWaits engine) }
+        ensures none { result ≡ Err StateFault.K1 → IsState bytes.now → ⊥ }
+        ensures other { result ≡ Err StateFault.K2 → IsOfAnother job.now limits bytes.now }
+    {
+        Engine::restore_with_hasher(alloc, job, limits, bytes, DefaultHasher::new())
+    }
+
+    /// Returns an engine as `restore` does, which hashes the names of headers from `hasher` on, as that of `with_hasher`.
+    pub fn restore_with_hasher(
+        alloc: Global,
+        job: &Job,
+        limits: Limits,
+        bytes: &[u8],
+        hasher: DefaultHasher,
+    ) -> Result<Engine, StateFault>
+        ensures state { IfOk result (λ engine. bytes.now ≡ state_bytes (state_of engine)) }
+        ensures is_state { IfOk result (λ engine. AreOfState (state_of engine)) }
+        ensures job { IfOk result (λ engine. IsOfJob job.now limits (state_of engine)) }
+        ensures name { IfOk result (λ engine.
+            engine.written.name ≡ name_of_input job.now.input) }
+        ensures running { IfOk result (λ engine. is_running engine ≡ true) }
+        ensures waits { IfOk result (λ engine. NothingWaits engine) }
+        ensures none { result ≡ Err StateFault.K1 → IsState bytes.now → ⊥ }
+        ensures other { result ≡ Err StateFault.K2 → IsOfAnother job.now limits bytes.now }
+    {
+        let Some(state) = gregorio_state::read(bytes) else {
+            return Err(StateFault::K1);
+        };
+        match &state.phase {
+            Phase::Headers(text) => engine_in_headers(alloc, job, limits, &state, text, hasher),
+            Phase::Score(fields) => engine_in_score(alloc, job, limits, &state, fields, hasher),
+        }
+    }
+}
