@@ -117,8 +117,8 @@ impl ScoreStage {
         self.machine.fronts_agree(&other.machine);
     }
 
-    /// Does nothing but call laws. Its contract is one: two stages in the body that tell the same give the same of characters that stand in line, but for the
-    /// syllable that is held. The one may stand in front of the first text, and the other in a comment of a text of which nothing is read.
+    /// Does nothing but call laws. Its contract is one: two stages in the body that tell the same give the same of characters that stand in line, but for
+    /// the syllable that is held. The one may stand in front of the first text, and the other in a comment of a text of which nothing is read.
     pub(crate) fn agrees_in_line(&self, other: &ScoreStage)
         requires runs { is_some (before_of self.now) ≡ true }
         requires limits { self.now.limits ≡ other.now.limits }

@@ -128,7 +128,8 @@ pub fn a_resumed_stage_tells_of_a_text()
         AreCountsWithin limits before.nabc_lines before.macros before.canonical → TellsOfText s }
 {}
 
-/// In the body, while the comment behind the `%%` is open, a stage stands in front of the first text: no syllable is whole, and nothing is read of one.
+/// In the body, while the comment behind the `%%` is open, a stage stands in front of the first text: no syllable is whole, and nothing is read of
+/// one.
 pub fn in_front_nothing_is_read(stage: &ScoreStage)
     ensures { is_some (before_of stage.now) ≡ true → is_in_front stage.now.body.part ≡ true →
         StandsInFront stage.now }
@@ -215,8 +216,8 @@ pub fn stages_that_tell_the_same_agree(one: &ScoreStage, other: &ScoreStage)
     one.agrees(other);
 }
 
-/// So it is where only one of them stands in front of the first text, and the other in a comment of a text of which nothing is read, if the characters that
-/// follow stand one behind the other, from the place of the next one on.
+/// So it is where only one of them stands in front of the first text, and the other in a comment of a text of which nothing is read, if the characters
+/// that follow stand one behind the other, from the place of the next one on.
 pub fn stages_that_tell_the_same_agree_in_line(one: &ScoreStage, other: &ScoreStage)
     requires runs { is_some (before_of one.now) ≡ true }
     requires limits { one.now.limits ≡ other.now.limits }

@@ -45,9 +45,9 @@ fn what_has_one_text_says_the_same(one: &ScoreStage, other: &ScoreStage)
     snippets_of_a_unit_stand_between_characters();
 }
 
-/// In the body two stages of which the same is saved go on alike, of characters that stand one behind the other. They run under the same limits behind the same, hold none or syllables with one
-/// canonical text there, and tell the same of the syllable that is not whole. What the one tells is that of a text, and the next character
-/// stands where a text that is read has counted it.
+/// In the body two stages of which the same is saved go on alike, of characters that stand one behind the other. They run under the same limits
+/// behind the same, hold none or syllables with one canonical text there, and tell the same of the syllable that is not whole. What the one tells is
+/// that of a text, and the next character stands where a text that is read has counted it.
 pub fn what_is_saved_alike_goes_on_alike(one: &ScoreStage, other: &ScoreStage)
     requires runs { is_some (before_of one.now) ≡ true }
     requires limits { one.now.limits ≡ other.now.limits }
