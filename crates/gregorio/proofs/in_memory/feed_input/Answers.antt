@@ -1,6 +1,5 @@
 use Rattle.std.proofs.Common.{ℕ, List, ◌++◌, take, length, length-drop, ap, subst, arith}
 use Rattle.std.proofs.lemmas.List.{drop_all}
-use Rattle.gregorio.specs.declared.source_ending.SourceEnding.{SourceEnding}
 use Rattle.gregorio.specs.witness.Engine.{streams_left}
 use Rattle.gregorio.specs.machine.InMemory.{TakeTheSame}
 use Rattle.gregorio.proofs.InputsArePut.{left_behind, more_taken, nothing_taken}
