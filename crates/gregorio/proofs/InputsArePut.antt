@@ -1,8 +1,8 @@
 -- What an engine writes of an input in memory is put as it comes.
-use Rattle.std.proofs.Common.{◌≡◌, ℕ, ◌+◌, List, [], ◌++◌, take, drop, take-append-drop, append-nil, refl, sym, ap, ◌∙◌}
+use Rattle.std.proofs.Common.{◌≡◌, ℕ, ◌+◌, List, [], ◌++◌, take, drop, take-append-drop, append_assoc, append-nil, refl, sym, ap, ◌∙◌}
 use Rattle.std.proofs.lemmas.List.{drop-drop}
 use Rattle.gregorio_jobs.specs.declared.job.Status.{Status}
-use Rattle.gregorio.specs.declared.source_ending.SourceEnding.TheVariants.{Whole}
+use Rattle.gregorio.specs.declared.source_ending.SourceEnding.{SourceEnding}
 use Rattle.gregorio.specs.Engine.{with_waiting}
 use Rattle.gregorio.specs.witness.Engine.{EngineState, streams_left}
 use Rattle.gregorio.specs.Streams.{Streams, behind_bytes, ended_with}
@@ -11,13 +11,14 @@ use Rattle.gregorio.proofs.PiecesAreSent.{IsTaken}
 
 -- what is left of an input, once an engine took so many bytes more
 pub left_behind : (e f g : EngineState) (input : List ℕ) (count k : ℕ) → IsTaken e f (take k (drop count input)) → g ≡ record f { output = []; messages = [] }
-    → streams_left e Whole (drop count input) ≡ behind_bytes f.output f.messages (streams_left g Whole (drop (count + k) input))
-left_behind e f g input count k law forgets =
+    → (ending : SourceEnding) (more : List ℕ) → streams_left e ending (drop count input ++ more) ≡ behind_bytes f.output f.messages (streams_left g ending (drop (count + k) input ++ more))
+left_behind e f g input count k law forgets ending more =
     let rest : List ℕ = drop count input in
-    ap (streams_left e Whole) (sym (take-append-drop k rest))
-    ∙ (law (drop k rest) Whole
-    ∙ (ap (λ (l : List ℕ). with_waiting f (streams_left f Whole l)) (drop-drop k count input)
-    ∙ ap (λ (s : EngineState). behind_bytes f.output f.messages (streams_left s Whole (drop (count + k) input))) (sym forgets)))
+    ap (λ (l : List ℕ). streams_left e ending (l ++ more)) (sym (take-append-drop k rest))
+    ∙ (ap (streams_left e ending) (append_assoc (take k rest) (drop k rest) more)
+    ∙ (law (drop k rest ++ more) ending
+    ∙ (ap (λ (l : List ℕ). with_waiting f (streams_left f ending (l ++ more))) (drop-drop k count input)
+    ∙ ap (λ (s : EngineState). behind_bytes f.output f.messages (streams_left s ending (drop (count + k) input ++ more))) (sym forgets))))
 
 module _ {A B : Type 0} (takes : A → List ℕ → A) (takes_too : B → List ℕ → B) where
   pub nothing_taken : (o : A) (m : B) (s : Streams) → TakeTheSame takes takes_too o m s o m s

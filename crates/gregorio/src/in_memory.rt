@@ -1,6 +1,7 @@
 //! A run over an input in memory.
 
-ghost use Rattle.std.specs.Prelude.{◌≡◌, []};
+ghost use Rattle.std.specs.Prelude.{◌≡◌, List, [], ◌++◌, ℕ};
+ghost use Rattle.gregorio.specs.declared.source_ending.SourceEnding.{SourceEnding as EndOfSource};
 ghost use Rattle.gregorio.specs.declared.source_ending.SourceEnding.TheVariants.{Whole};
 ghost use Rattle.gregorio.specs.Engine.{NothingWaits};
 ghost use Rattle.gregorio.specs.witness.Engine.{streams_left};
@@ -11,7 +12,7 @@ use gabc_places::Put;
 use gregorio_jobs::Status;
 
 /// Puts what waits, and forgets it.
-fn put_waiting<O: Put, M: Put>(engine: &mut Engine, out: &mut O, messages: &mut M)
+pub(crate) fn put_waiting<O: Put, M: Put>(engine: &mut Engine, out: &mut O, messages: &mut M)
     ensures out { out.new ≡ O.taken out.old engine.old.output }
     ensures messages { messages.new ≡ M.taken messages.old engine.old.messages }
     ensures forgets { engine.new ≡ record engine.old { output = []; messages = [] } }
@@ -21,13 +22,18 @@ fn put_waiting<O: Put, M: Put>(engine: &mut Engine, out: &mut O, messages: &mut 
     engine.taken();
 }
 
-/// Feeds all of `input`, and puts what is written at it.
-fn feed_input<O: Put, M: Put>(engine: &mut Engine, input: &[u8], out: &mut O, messages: &mut M)
+/// Feeds all of `input`, and puts what is written at it. What follows it, and how all of it ends, makes no difference.
+pub(crate) fn feed_input<O: Put, M: Put>(
+    engine: &mut Engine,
+    input: &[u8],
+    out: &mut O,
+    messages: &mut M,
+)
     requires waits { NothingWaits engine.old }
     ensures waits { NothingWaits engine.new }
-    ensures put { TakeTheSame O.taken M.taken
-        out.old messages.old (streams_left engine.old Whole input.now)
-        out.new messages.new (streams_left engine.new Whole []) }
+    ensures put { (ending : EndOfSource) (more : List ℕ) → TakeTheSame O.taken M.taken
+        out.old messages.old (streams_left engine.old ending (input.now ++ more))
+        out.new messages.new (streams_left engine.new ending more) }
 {
     let mut count = 0;
     while count < input.len() {

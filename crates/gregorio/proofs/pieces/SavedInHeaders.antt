@@ -1,12 +1,10 @@
 -- Two engines that save the same in the headers.
-use Rattle.std.proofs.Common.{◌≡◌, ℕ, ◌≤◌, List, [], ◌∷◌, ◌++◌, Bool, true, false, Option, None, Some, is_none, Result, encode_utf8, encode_utf8_all, refl, ap, sym, subst, ◌∙◌}
+use Rattle.std.proofs.Common.{◌≡◌, ℕ, List, [], ◌∷◌, ◌++◌, Bool, true, false, Option, None, Some, is_none, Result, encode_utf8, encode_utf8_all, refl, ap, sym, subst, ◌∙◌}
 use Rattle.std.proofs.lemmas.Bool.{false≢true}
 use Rattle.std.proofs.lemmas.List.Elements.{All-head, All-tail}
 use Rattle.std.proofs.lemmas.Str.{IsUtf8-encode, chars-append, chars-nil}
 use Rattle.std.specs.List.{All}
 use Rattle.std.specs.Str.{chars}
-use mathlib.Core.HLevel.{is_prop→PathP}
-use native.Mathlib.Bridge.{le_prop}
 use Rattle.gabc_places.proofs.texts.CharactersOfStrings.{chars-encode}
 use Rattle.gabc_places.specs.BoundedList.{BoundedList}
 use Rattle.gabc_places.specs.DecoderMachine.{DecoderState}
@@ -34,24 +32,10 @@ use Rattle.gregorio.specs.machine.InStep.{AreInOnePart, HasForce, RunsInStep}
 use Rattle.gregorio.specs.machine.ReadsHeaders.{IsReadSoFar}
 use Rattle.gregorio.specs.machine.SavedAlike.{WriteTheSame}
 use Rattle.gregorio.specs.machine.ScoreWriter.{ScoreWriterState}
+use Rattle.gregorio.proofs.LimitsAreTold.{same_limits}
 use Rattle.gregorio.proofs.pieces.StreamsAgree.{no_matter_which_book, streams_agree}
 
--- ---- limits of the same numbers, and what is written
-
-same_limits : (a b : Limits) → a.header ≡ b.header → a.syllable ≡ b.syllable → a.input ≡ b.input → a ≡ b
-same_limits a b header syllable input = λ i. record {
-  header = header i;
-  syllable = syllable i;
-  input = input i;
-  in_range = record {
-    header_least = is_prop→PathP (λ j. 64 ≤ header j) (λ j. le_prop) a.in_range.header_least b.in_range.header_least i;
-    header_most = is_prop→PathP (λ j. header j ≤ 16777216) (λ j. le_prop) a.in_range.header_most b.in_range.header_most i;
-    syllable_least = is_prop→PathP (λ j. 64 ≤ syllable j) (λ j. le_prop) a.in_range.syllable_least b.in_range.syllable_least i;
-    syllable_most = is_prop→PathP (λ j. syllable j ≤ 16777216) (λ j. le_prop) a.in_range.syllable_most b.in_range.syllable_most i;
-    input_least = is_prop→PathP (λ j. 64 ≤ input j) (λ j. le_prop) a.in_range.input_least b.in_range.input_least i;
-    input_most = is_prop→PathP (λ j. input j ≤ 4294967295) (λ j. le_prop) a.in_range.input_most b.in_range.input_most i;
-  };
-}
+-- ---- the limits, and what is written
 
 pub limits_saved : (one other : EngineState) → state_of one ≡ state_of other → one.score.limits ≡ other.score.limits
 limits_saved one other same = same_limits one.score.limits other.score.limits (ap (λ (s : StateFields). s.header_limit) same) (ap (λ (s : StateFields). s.syllable_limit) same) (ap (λ (s : StateFields). s.input_limit) same)

@@ -1,6 +1,6 @@
-use Rattle.std.proofs.Common.{ℕ, List, take, length, length-drop, ap, subst, arith}
+use Rattle.std.proofs.Common.{ℕ, List, ◌++◌, take, length, length-drop, ap, subst, arith}
 use Rattle.std.proofs.lemmas.List.{drop_all}
-use Rattle.gregorio.specs.declared.source_ending.SourceEnding.TheVariants.{Whole}
+use Rattle.gregorio.specs.declared.source_ending.SourceEnding.{SourceEnding}
 use Rattle.gregorio.specs.witness.Engine.{streams_left}
 use Rattle.gregorio.specs.machine.InMemory.{TakeTheSame}
 use Rattle.gregorio.proofs.InputsArePut.{left_behind, more_taken, nothing_taken}
@@ -11,7 +11,7 @@ pub loop-count-init : goal.loop-count-init
 loop-count-init g c = record {
   within = omega arith;
   waits = c.requires.waits;
-  put = nothing_taken g.O.Put.taken g.M.Put.taken _ _ _;
+  put = λ ending more. nothing_taken g.O.Put.taken g.M.Put.taken _ _ _;
 }
 
 pub loop-count-preserved : goal.loop-count-preserved
@@ -23,10 +23,10 @@ loop-count-preserved g c =
     record {
       within = omega (arith, i.within, c.feed-count.ensures.taken, ap length all, length-drop c.loop-count.count c.args.input.now);
       waits = nothing_waits_behind c.feed-count.new.self c.put_waiting.new.engine c.put_waiting.ensures.forgets;
-      put = more_taken g.O.Put.taken g.M.Put.taken g.met.O.Put.taken_both g.met.M.Put.taken_both _ _ _ _ _ _ _ _ _ _ _ i.put left c.put_waiting.ensures.out c.put_waiting.ensures.messages;
+      put = λ ending more. more_taken g.O.Put.taken g.M.Put.taken g.met.O.Put.taken_both g.met.M.Put.taken_both _ _ _ _ _ _ _ _ _ _ _ (i.put ending more) (left ending more) c.put_waiting.ensures.out c.put_waiting.ensures.messages;
     }
 
 pub returns-clause-put : goal.returns-clause-put
-returns-clause-put g c =
+returns-clause-put g c ending more =
     let over = drop_all c.loop-count.count c.args.input.now (omega (arith, c.loop-count-test.false)) in
-    subst (λ (l : List ℕ). TakeTheSame g.O.Put.taken g.M.Put.taken c.args.out.now c.args.messages.now (streams_left c.args.engine.now Whole c.args.input.now) c.loop-count.out c.loop-count.messages (streams_left c.loop-count.engine Whole l)) over c.loop-count.invariant.put
+    subst (λ (l : List ℕ). TakeTheSame g.O.Put.taken g.M.Put.taken c.args.out.now c.args.messages.now (streams_left c.args.engine.now ending (c.args.input.now ++ more)) c.loop-count.out c.loop-count.messages (streams_left c.loop-count.engine ending (l ++ more))) over (c.loop-count.invariant.put ending more)
