@@ -24,6 +24,7 @@ mod in_memory;
 pub mod laws;
 mod outcome;
 mod output;
+pub mod restored_laws;
 mod restoring;
 mod run;
 mod run_writer;
