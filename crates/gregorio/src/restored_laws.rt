@@ -6,8 +6,7 @@ ghost use Rattle.gregorio_state.specs.Conditions.{AreStateFields};
 ghost use Rattle.gregorio_state.specs.Fields.{StateFields};
 ghost use Rattle.gregorio_state.specs.StateBytes.{state_bytes};
 ghost use Rattle.gregorio.specs.declared.source_ending.SourceEnding.{SourceEnding};
-ghost use Rattle.gregorio.specs.Engine.{NothingWaits, is_running};
-ghost use Rattle.gregorio.specs.Outcome.{input_name};
+ghost use Rattle.gregorio.specs.Engine.{NothingWaits, RunsJob, is_running};
 ghost use Rattle.gregorio.specs.Saved.{state_of};
 ghost use Rattle.gregorio.specs.SavedState.{AreOfState};
 ghost use Rattle.gregorio.specs.witness.Engine.{streams_left};
@@ -43,9 +42,8 @@ fn what_is_restored_goes_on(engine: &Engine, restored: &Engine, bytes: &[u8])
     engines_that_save_the_same_agree(restored, engine);
 }
 
-/// A run that is saved and restored goes on as the saved one: under a job of the same format, warnings and name of the input, and the same limits, the
-/// engine that is restored from what `engine` saves into `buf` writes the same of whatever follows, and ends alike. Only for want of memory none is
-/// restored.
+/// A run that is saved and restored goes on as the saved one: the engine that is restored for the same job, under the same limits, from what `engine` saves
+/// into `buf` writes the same of whatever follows, and ends alike. Only for want of memory none is restored.
 pub fn a_restored_run_goes_on(
     alloc: Global,
     engine: &Engine,
@@ -55,13 +53,11 @@ pub fn a_restored_run_goes_on(
 ) -> Result<Engine, StateFault>
     requires runs { is_running engine.now ≡ true }
     requires waits { NothingWaits engine.now }
-    requires limits { limits ≡ engine.now.score.limits }
-    requires format { job.now.format ≡ engine.now.written.format }
-    requires warnings { job.now.all_warnings ≡ engine.now.written.all_warnings }
-    requires name { input_name job.now.input ≡ engine.now.written.name }
+    requires job { RunsJob job.now limits engine.now }
     requires room { max limits.header (2 * limits.syllable) + 128 ≤ length buf.old }
     ensures left { IfOk result (λ restored. (ending : SourceEnding) (bytes : List ℕ) →
         streams_left restored ending bytes ≡ streams_left engine.now ending bytes) }
+    ensures job { IfOk result (λ restored. RunsJob job.now limits restored) }
     ensures running { IfOk result (λ restored. is_running restored ≡ true) }
     ensures waits { IfOk result (λ restored. NothingWaits restored) }
     ensures memory { IfErr result (λ fault. fault ≡ StateFault.K0) }
