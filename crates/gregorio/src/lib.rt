@@ -21,6 +21,7 @@ mod engine;
 mod findings;
 mod held_headers;
 mod in_memory;
+pub mod interrupted;
 pub mod laws;
 mod outcome;
 mod output;

@@ -1,4 +1,4 @@
-use Rattle.std.proofs.Common.{ap, sym}
+use Rattle.std.proofs.Common.{ap}
 use Rattle.gabc_places.specs.declared.limits.Limits.{Limits}
 use Rattle.gregorio.specs.Saved.{state_of}
 use Rattle.gregorio.proofs.RestoredRunsGoOn.{memory, written_front}
