@@ -120,7 +120,7 @@ module _ (score mid : ScoreStageState) (writer : RunWriterState) (now : ScoreWri
         let before = of_events (λ limits outputs. IsInRoom limits lines texts writer outputs) (event_in_room (IsSilent mid) old x step.outputs fits.scratch step.lends few ends) in
         let after = subst (λ (limits : Limits). IsInRoom limits lines texts new []) step.limits (kept lines texts before) in
         room_behind old (record { score = mid; writer = new }) x more
-        (record { limits = step.limits; format = steady.format; name = steady.name; out = steady.out; messages = steady.messages; scratch = steady.scratch })
+        (record { limits = step.limits; format = steady.format; name = steady.name; all_warnings = steady.all_warnings; out = steady.out; messages = steady.messages; scratch = steady.scratch })
         (ap (λ (v : RunWriterState). v.written.headed) new_is ∙ headed_stays writer.written step.outputs) after fits
 
 -- ---- the headers

@@ -1,9 +1,11 @@
 -- What an engine writes of an input in memory is put as it comes.
-use Rattle.std.proofs.Common.{◌≡◌, ℕ, ◌+◌, List, [], ◌++◌, take, drop, take-append-drop, append_assoc, append-nil, refl, sym, ap, ◌∙◌}
+use Rattle.std.proofs.Common.{◌≡◌, ℕ, ◌+◌, List, [], ◌++◌, take, drop, take-append-drop, append_assoc, append-nil, refl, sym, ap, subst, ◌∙◌}
 use Rattle.std.proofs.lemmas.List.{drop-drop}
+use Rattle.gabc_places.specs.declared.limits.Limits.{Limits}
+use Rattle.gregorio_jobs.specs.declared.job.Job.{Job}
 use Rattle.gregorio_jobs.specs.declared.job.Status.{Status}
 use Rattle.gregorio.specs.declared.source_ending.SourceEnding.{SourceEnding}
-use Rattle.gregorio.specs.Engine.{with_waiting}
+use Rattle.gregorio.specs.Engine.{RunsJob, with_waiting}
 use Rattle.gregorio.specs.witness.Engine.{EngineState, streams_left}
 use Rattle.gregorio.specs.Streams.{Streams, behind_bytes, ended_with}
 use Rattle.gregorio.specs.machine.InMemory.{TakeTheSame}
@@ -19,6 +21,11 @@ left_behind e f g input count k law forgets ending more =
     ∙ (law (drop k rest ++ more) ending
     ∙ (ap (λ (l : List ℕ). with_waiting f (streams_left f ending (l ++ more))) (drop-drop k count input)
     ∙ ap (λ (s : EngineState). behind_bytes f.output f.messages (streams_left s ending (drop (count + k) input ++ more))) (sym forgets))))
+
+-- what waits is none of its job
+pub runs_where_taken : (f g : EngineState) (job : Job) (limits : Limits) → g ≡ record f { output = []; messages = [] } → RunsJob job limits f → RunsJob job limits g
+runs_where_taken f g job limits forgets runs =
+    subst (RunsJob job limits) (sym forgets) (record { limits_are = runs.limits_are; format = runs.format; name = runs.name; all_warnings = runs.all_warnings })
 
 module _ {A B : Type 0} (takes : A → List ℕ → A) (takes_too : B → List ℕ → B) where
   pub nothing_taken : (o : A) (m : B) (s : Streams) → TakeTheSame takes takes_too o m s o m s

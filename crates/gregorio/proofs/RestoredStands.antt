@@ -234,7 +234,7 @@ same s format warnings header syllable input taken place pending cr error phase 
 module _ (job : Job) (s : StateFields) (limits : Limits) (is_job : IsOfJob job limits s) (fields : AreStateFields s) (e : EngineState) (is_d : e.decoder ≡ resumed s.input_limit s.taken s.place s.pending s.after_cr)
     (cr : is_after_cr e.decoder ≡ s.after_cr) (limits_are : e.score.limits ≡ limits) (output : e.output ≡ []) (messages : e.messages ≡ []) where
   goes : (format : e.written.format ≡ job.format) → e.written.all_warnings ≡ job.all_warnings → e.written.errors ≡ s.has_error → e.written.name ≡ input_name job.input → e.written.ended ≡ None
-      → phase_fields e.heads.progress e.written.force e.score ≡ s.phase → GoesOn job s e
+      → phase_fields e.heads.progress e.written.force e.score ≡ s.phase → GoesOn job limits s e
   goes format warnings errors name ended phase = record {
     state = same s e.written.format e.written.all_warnings e.score.limits.header e.score.limits.syllable e.score.limits.input e.decoder.taken e.decoder.place e.decoder.pending
         (is_after_cr e.decoder) e.written.errors (phase_fields e.heads.progress e.written.force e.score)
@@ -249,12 +249,12 @@ module _ (job : Job) (s : StateFields) (limits : Limits) (is_job : IsOfJob job l
         cr
         errors
         phase;
-    name = name;
+    job_is = record { limits_are = limits_are; format = format; name = name; all_warnings = warnings };
     running = ap (λ (o : Option Status). is_none o) ended;
     waits = record { output = output; messages = messages };
   }
 
-  goes_by : (phase : PhaseFields) → phase ≡ s.phase → ArePhaseFields s phase → StandIn s phase limits e.heads e.score → e.written ≡ written_by job s phase → GoesOn job s e
+  goes_by : (phase : PhaseFields) → phase ≡ s.phase → ArePhaseFields s phase → StandIn s phase limits e.heads e.score → e.written ≡ written_by job s phase → GoesOn job limits s e
   goes_by (InHeaders text) is are stand is_w =
       goes (ap (λ (v : Written). v.format) is_w) (ap (λ (v : Written). v.all_warnings) is_w) (ap (λ (v : Written). v.errors) is_w) (ap (λ (v : Written). v.name) is_w) (ap (λ (v : Written). v.ended) is_w)
       (ap (λ (h : HeaderStageState). phase_fields h.progress e.written.force e.score) stand.heads ∙ (ap (λ (bytes : List ℕ). InHeaders bytes) (text_bytes text are.is_text.utf8) ∙ is))
@@ -263,5 +263,5 @@ module _ (job : Job) (s : StateFields) (limits : Limits) (is_job : IsOfJob job l
       (ap (λ (h : HeaderStageState). phase_fields h.progress e.written.force e.score) stand.heads
       ∙ (ap (λ (v : Written). InScore (score_fields v.force e.score)) is_w ∙ (ap (λ (g : ScoreFields). InScore g) stand.set_down.tells ∙ is)))
 
-  pub goes_on : StandSo s limits e.heads e.score → e.written ≡ written_by job s s.phase → GoesOn job s e
+  pub goes_on : StandSo s limits e.heads e.score → e.written ≡ written_by job s s.phase → GoesOn job limits s e
   goes_on so is_w = goes_by s.phase refl fields.phase so.stand is_w

@@ -66,6 +66,7 @@ pub steady_both : (one two three : RunWriterState) → IsSteadyWriter one two �
 steady_both one two three a b = record {
   format = b.format ∙ a.format;
   name = b.name ∙ a.name;
+  all_warnings = b.all_warnings ∙ a.all_warnings;
   out = b.out ∙ a.out;
   messages = b.messages ∙ a.messages;
   scratch = b.scratch ∙ a.scratch;

@@ -2,7 +2,10 @@
 use Rattle.std.specs.Prelude.{◌≡◌, ◌≤◌, ◌⊎◌, ℕ, List, [], ◌++◌, length, Bool, false, is_none}
 use Rattle.gabc_neumes.specs.InForce.{InForce}
 use Rattle.gabc_score.specs.Syllable.{PlacedSyllable}
+use Rattle.gabc_places.specs.declared.limits.Limits.{Limits}
 use Rattle.gregorio_jobs.specs.declared.job.Format.{Format}
+use Rattle.gregorio_jobs.specs.declared.job.Job.{Job}
+use Rattle.gregorio.specs.Outcome.{input_name}
 use Rattle.gregorio.specs.Streams.{Streams, behind_bytes, last_text, texts_behind, count_behind}
 use Rattle.gregorio.specs.witness.Engine.{EngineState}
 
@@ -30,6 +33,17 @@ pub record IsHeldText (format : Format) (output : List ℕ) : Type 0 where
 pub record IsPrompt (format : Format) (broken : Streams) : Type 0 where
   pub messages : broken.messages ≡ []
   pub output : (broken.output ≡ []) ⊎ IsHeldText format broken.output
+
+-- It runs this job under these limits.
+pub record RunsJob (job : Job) (limits : Limits) (s : EngineState) : Type 0 where
+  pub limits_are : s.score.limits ≡ limits
+  pub format : s.written.format ≡ job.format
+  pub name : s.written.name ≡ input_name job.input
+  pub all_warnings : s.written.all_warnings ≡ job.all_warnings
+
+-- it runs the same job as before, under the same limits
+abbrev pub StillRuns : EngineState → EngineState → Type 0
+StillRuns old new = (job : Job) (limits : Limits) → RunsJob job limits old → RunsJob job limits new
 
 -- no fatal fault, `end` or `broken` has come
 abbrev pub is_running : EngineState → Bool

@@ -1,5 +1,7 @@
 -- What a run writes: its output, its messages and its status; the texts of which an output is joined.
-use Rattle.std.specs.Prelude.{ℕ, ◌+◌, ◌-◌, ◌^◌, min, List, [], ◌∷◌, ◌++◌, Bool, encode_utf8_all, codes, if◌then◌else◌}
+use Rattle.std.specs.Prelude.{ℕ, ◌+◌, ◌-◌, ◌^◌, min, List, [], ◌∷◌, ◌++◌, Bool, encode_utf8_all, codes, map, if◌then◌else◌}
+use Rattle.std.specs.Borrow.{Bor}
+use Rattle.gabc_places.specs.StageLaw.{concat_of}
 use Rattle.gabc_headers.specs.Canonical.{canonical_heads}
 use Rattle.gabc_neumes.specs.InForce.{InForce, passed}
 use Rattle.gabc_score.specs.Canonical.{canonical_in_place}
@@ -64,3 +66,7 @@ texts_behind format count force (s ∷ syllables) =
 abbrev pub count_behind : ℕ → List PlacedSyllable → ℕ
 count_behind count [] = count
 count_behind count (s ∷ syllables) = count_behind (next_number count) syllables
+
+-- the bytes of pieces, one behind the other
+abbrev pub joined : List (Bor (List ℕ)) → List ℕ
+joined pieces = concat_of (map (λ (p : Bor (List ℕ)). p.now) pieces)

@@ -7,7 +7,7 @@ ghost use Rattle.gregorio.specs.declared.source_ending.SourceEnding.{SourceEndin
 ghost use Rattle.gregorio.specs.declared.source_ending.SourceEnding.TheVariants.{Whole, Broken};
 ghost use Rattle.gregorio_jobs.specs.declared.job.Status.TheVariants.{ReadFault};
 ghost use Rattle.gregorio.specs.Outcome.{outcome_of};
-ghost use Rattle.gregorio.specs.Engine.{IsPrompt, NothingWaits, is_running, with_waiting};
+ghost use Rattle.gregorio.specs.Engine.{IsPrompt, NothingWaits, RunsJob, StillRuns, is_running, with_waiting};
 ghost use Rattle.gregorio.specs.witness.Engine.{streams_left};
 ghost use Rattle.gregorio.specs.Streams.{streams_of_outcome, ended_with};
 ghost use Rattle.gregorio.specs.machine.Engine.{GoTogether, IsEmpty, WritesAll, WritesItems, event_of_item, headed_past};
@@ -192,6 +192,7 @@ impl Engine {
             ≡ streams_of_outcome job.now (outcome_of limits ending bytes)) }
         ensures waits { IfOk result (λ engine. NothingWaits engine) }
         ensures running { IfOk result (λ engine. is_running engine ≡ true) }
+        ensures job { IfOk result (λ engine. RunsJob job.now limits engine) }
     {
         Engine::with_hasher(alloc, job, limits, DefaultHasher::new())
     }
@@ -209,6 +210,7 @@ impl Engine {
             ≡ streams_of_outcome job.now (outcome_of limits ending bytes)) }
         ensures waits { IfOk result (λ engine. NothingWaits engine) }
         ensures running { IfOk result (λ engine. is_running engine ≡ true) }
+        ensures job { IfOk result (λ engine. RunsJob job.now limits engine) }
     {
         gabc_places::laws::texts_are_scalars_within_the_limit();
         gabc_headers::laws::the_book_is_read();
@@ -277,6 +279,7 @@ impl Engine {
         requires waits { NothingWaits self.old }
         ensures prompt { IsPrompt self.old.written.format (streams_left self.old Broken []) }
         ensures format { self.new.written.format ≡ self.old.written.format }
+        ensures job { StillRuns self.old self.new }
         ensures law { (bytes : List ℕ) (ending : EndOfSource)
             → streams_left self.old ending (byte ∷ bytes)
             ≡ with_waiting self.new (streams_left self.new ending bytes) }
@@ -300,6 +303,7 @@ impl Engine {
             → streams_left self.old ending (take result piece.now ++ bytes)
             ≡ streams_left self.new ending bytes }
         ensures written { self.new.written ≡ self.old.written }
+        ensures job { StillRuns self.old self.new }
         ensures output { self.new.output ≡ self.old.output }
         ensures messages { self.new.messages ≡ self.old.messages }
     {
@@ -321,6 +325,7 @@ impl Engine {
             → streams_left self.old ending (take result piece.now ++ bytes)
             ≡ with_waiting self.new (streams_left self.new ending bytes) }
         ensures format { self.new.written.format ≡ self.old.written.format }
+        ensures job { StillRuns self.old self.new }
         ensures stops { ¬ (NothingWaits self.new) → IsPrompt self.old.written.format
             (streams_left self.old Broken (take (result - 1) piece.now)) }
     {
@@ -343,6 +348,7 @@ impl Engine {
             streams_left self.old ending (take result piece.now ++ bytes)
             ≡ with_waiting self.new (streams_left self.new ending bytes) }
         ensures all { NothingWaits self.new → result ≡ length piece.now }
+        ensures job { StillRuns self.old self.new }
         ensures over { is_running self.old ≡ false
             → (result ≡ length piece.now) × (self.new ≡ self.old) }
         ensures running { is_running self.new ≡ true →

@@ -3,7 +3,7 @@
 ghost use Rattle.std.specs.Prelude.{◌≡◌, List, [], ◌++◌, ℕ};
 ghost use Rattle.gregorio.specs.declared.source_ending.SourceEnding.{SourceEnding as EndOfSource};
 ghost use Rattle.gregorio.specs.declared.source_ending.SourceEnding.TheVariants.{Whole};
-ghost use Rattle.gregorio.specs.Engine.{NothingWaits};
+ghost use Rattle.gregorio.specs.Engine.{NothingWaits, StillRuns};
 ghost use Rattle.gregorio.specs.witness.Engine.{streams_left};
 ghost use Rattle.gregorio.specs.machine.InMemory.{TakeTheSame};
 
@@ -31,6 +31,7 @@ pub(crate) fn feed_input<O: Put, M: Put>(
 )
     requires waits { NothingWaits engine.old }
     ensures waits { NothingWaits engine.new }
+    ensures job { StillRuns engine.old engine.new }
     ensures put { (ending : EndOfSource) (more : List ℕ) → TakeTheSame O.taken M.taken
         out.old messages.old (streams_left engine.old ending (input.now ++ more))
         out.new messages.new (streams_left engine.new ending more) }

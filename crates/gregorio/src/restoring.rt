@@ -9,8 +9,7 @@ ghost use Rattle.gabc_score.specs.declared.score_machine.ScorePart.TheVariants.{
 ghost use Rattle.gregorio_state.specs.Conditions.{AreStateFields};
 ghost use Rattle.gregorio_state.specs.Fields.{InHeaders, InScore, fields_of, phase_of, score_of};
 ghost use Rattle.gregorio_state.specs.StateBytes.{state_bytes};
-ghost use Rattle.gregorio.specs.Engine.{NothingWaits, is_running};
-ghost use Rattle.gregorio.specs.Outcome.{input_name as name_of_input};
+ghost use Rattle.gregorio.specs.Engine.{NothingWaits, RunsJob, is_running};
 ghost use Rattle.gregorio.specs.Saved.{GivesHeaders, state_of};
 ghost use Rattle.gregorio.specs.SavedState.{AreOfState, IsOfAnother, IsOfJob, IsState};
 ghost use Rattle.gregorio.specs.machine.ClefInForce.{HasClefOfSounds};
@@ -231,7 +230,7 @@ fn engine_with(
     requires fields { AreStateFields (fields_of state.now) }
     requires job { IsOfJob job.now limits (fields_of state.now) }
     requires stand { StandSo (fields_of state.now) limits heads score }
-    ensures goes { IfOk result (GoesOn job.now (fields_of state.now)) }
+    ensures goes { IfOk result (GoesOn job.now limits (fields_of state.now)) }
     ensures fault { IfErr result (λ fault. fault ≡ StateFault.K0) }
 {
     match head_room(alloc) {
@@ -266,9 +265,8 @@ fn engine_in_headers(
 ) -> Result<Engine, StateFault>
     requires fields { AreStateFields (fields_of state.now) }
     requires phase { phase_of state.now.phase ≡ InHeaders text.now }
-    ensures goes { IfOk result (GoesOn job.now (fields_of state.now)) }
+    ensures goes { IfOk result (GoesOn job.now limits (fields_of state.now)) }
     ensures read { IfOk result (λ _. AreOfState (fields_of state.now)) }
-    ensures job { IfOk result (λ _. IsOfJob job.now limits (fields_of state.now)) }
     ensures none { result ≡ Err StateFault.K1 → AreOfState (fields_of state.now) → ⊥ }
     ensures other { result ≡ Err StateFault.K2 → IsAnother job.now limits (fields_of state.now) }
 {
@@ -297,9 +295,8 @@ fn engine_in_score(
 ) -> Result<Engine, StateFault>
     requires fields { AreStateFields (fields_of state.now) }
     requires phase { phase_of state.now.phase ≡ InScore (score_of fields.now) }
-    ensures goes { IfOk result (GoesOn job.now (fields_of state.now)) }
+    ensures goes { IfOk result (GoesOn job.now limits (fields_of state.now)) }
     ensures read { IfOk result (λ _. AreOfState (fields_of state.now)) }
-    ensures job { IfOk result (λ _. IsOfJob job.now limits (fields_of state.now)) }
     ensures none { result ≡ Err StateFault.K1 → AreOfState (fields_of state.now) → ⊥ }
     ensures other { result ≡ Err StateFault.K2 → IsAnother job.now limits (fields_of state.now) }
 {
@@ -333,9 +330,7 @@ impl Engine {
     ) -> Result<Engine, StateFault>
         ensures state { IfOk result (λ engine. bytes.now ≡ state_bytes (state_of engine)) }
         ensures is_state { IfOk result (λ engine. AreOfState (state_of engine)) }
-        ensures job { IfOk result (λ engine. IsOfJob job.now limits (state_of engine)) }
-        ensures name { IfOk result (λ engine.
-            engine.written.name ≡ name_of_input job.now.input) }
+        ensures job { IfOk result (λ engine. RunsJob job.now limits engine) }
         ensures running { IfOk result (λ engine. is_running engine ≡ true) }
         ensures waits { IfOk result (λ engine. NothingWaits engine) }
         ensures none { result ≡ Err StateFault.K1 → IsState bytes.now → ⊥ }
@@ -354,9 +349,7 @@ impl Engine {
     ) -> Result<Engine, StateFault>
         ensures state { IfOk result (λ engine. bytes.now ≡ state_bytes (state_of engine)) }
         ensures is_state { IfOk result (λ engine. AreOfState (state_of engine)) }
-        ensures job { IfOk result (λ engine. IsOfJob job.now limits (state_of engine)) }
-        ensures name { IfOk result (λ engine.
-            engine.written.name ≡ name_of_input job.now.input) }
+        ensures job { IfOk result (λ engine. RunsJob job.now limits engine) }
         ensures running { IfOk result (λ engine. is_running engine ≡ true) }
         ensures waits { IfOk result (λ engine. NothingWaits engine) }
         ensures none { result ≡ Err StateFault.K1 → IsState bytes.now → ⊥ }

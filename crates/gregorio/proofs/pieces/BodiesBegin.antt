@@ -37,6 +37,7 @@ steady_begun item headed old s a = record {
   limits = limits_begun item headed s.score ∙ a.limits;
   format = a.format;
   name = a.name;
+  all_warnings = a.all_warnings;
   out = a.out;
   messages = a.messages;
   scratch = a.scratch;

@@ -46,6 +46,7 @@ steady_both old mid new a b = record {
   limits = b.limits ∙ a.limits;
   format = b.format ∙ a.format;
   name = b.name ∙ a.name;
+  all_warnings = b.all_warnings ∙ a.all_warnings;
   out = b.out ∙ a.out;
   messages = b.messages ∙ a.messages;
   scratch = b.scratch ∙ a.scratch;

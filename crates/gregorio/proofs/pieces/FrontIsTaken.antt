@@ -111,6 +111,7 @@ module _ (w new : ScoreWriterState) (at : Place) (bytes : List ℕ) (a : WritesN
     limits = a.limits;
     format = ap (λ (x : RunWriterState). x.written.format) a.writer;
     name = ap (λ (x : RunWriterState). x.written.name) a.writer;
+    all_warnings = ap (λ (x : RunWriterState). x.written.all_warnings) a.writer;
     out = ap (λ (x : RunWriterState). x.out.limit) a.writer;
     messages = ap (λ (x : RunWriterState). x.messages.limit) a.writer;
     scratch = ap (λ (x : RunWriterState). x.scratch) a.writer;

@@ -8,8 +8,7 @@ use Rattle.gabc_score.specs.declared.score_machine.ScorePart.TheVariants.{Heads}
 use Rattle.gabc_score.specs.witness.ScoreStage.{ScoreStageState}
 use Rattle.gregorio_jobs.specs.declared.job.Job.{Job}
 use Rattle.gregorio_state.specs.Fields.{PhaseFields, ScoreFields, StateFields, InHeaders, InScore}
-use Rattle.gregorio.specs.Engine.{NothingWaits, is_running}
-use Rattle.gregorio.specs.Outcome.{input_name}
+use Rattle.gregorio.specs.Engine.{NothingWaits, RunsJob, is_running}
 use Rattle.gregorio.specs.Saved.{GivesHeaders, state_of}
 use Rattle.gregorio.specs.SavedState.{AreOfState, IsOfJob}
 use Rattle.gregorio.specs.witness.Engine.{EngineState, Written}
@@ -43,10 +42,10 @@ pub record StandSo (s : StateFields) (limits : Limits) (h : HeaderStageState) (s
   pub limits_are : score.limits ≡ limits
   pub stand : StandIn s s.phase limits h score
 
--- An engine of this job has these fields of a state, and goes on.
-pub record GoesOn (job : Job) (s : StateFields) (e : EngineState) : Type 0 where
+-- An engine of this job under these limits has these fields of a state, and goes on.
+pub record GoesOn (job : Job) (limits : Limits) (s : StateFields) (e : EngineState) : Type 0 where
   pub state : state_of e ≡ s
-  pub name : e.written.name ≡ input_name job.input
+  pub job_is : RunsJob job limits e
   pub running : is_running e ≡ true
   pub waits : NothingWaits e
 

@@ -94,6 +94,7 @@ HasRoomFor limits w outputs = IsInRoom limits w.messages.limit w.out.limit w out
 pub record IsSteadyWriter (old new : RunWriterState) : Type 0 where
   pub format : new.written.format ≡ old.written.format
   pub name : new.written.name ≡ old.written.name
+  pub all_warnings : new.written.all_warnings ≡ old.written.all_warnings
   pub out : new.out.limit ≡ old.out.limit
   pub messages : new.messages.limit ≡ old.messages.limit
   pub scratch : new.scratch ≡ old.scratch

@@ -92,11 +92,12 @@ pub record IsScoreWriter (score : ScoreStageState) (events : BoundedList ScoreEv
   pub silent : IsSome writer.written.ended → IsSilent score
   pub clef : HasClefOfSounds score writer.written
 
--- what no call changes: the limits, the format and the name, and how much the rooms take
+-- what no call changes: the limits, the format, the name and whether warnings are told, and how much the rooms take
 pub record IsSteady (old new : ScoreWriterState) : Type 0 where
   pub limits : new.score.limits ≡ old.score.limits
   pub format : new.writer.written.format ≡ old.writer.written.format
   pub name : new.writer.written.name ≡ old.writer.written.name
+  pub all_warnings : new.writer.written.all_warnings ≡ old.writer.written.all_warnings
   pub out : new.writer.out.limit ≡ old.writer.out.limit
   pub messages : new.writer.messages.limit ≡ old.writer.messages.limit
   pub scratch : new.writer.scratch ≡ old.writer.scratch

@@ -1,9 +1,8 @@
 use Rattle.std.proofs.Common.{ℕ, List, ◌++◌, take, length, length-drop, ap, subst, arith}
 use Rattle.std.proofs.lemmas.List.{drop_all}
-use Rattle.gregorio.specs.declared.source_ending.SourceEnding.{SourceEnding}
 use Rattle.gregorio.specs.witness.Engine.{streams_left}
 use Rattle.gregorio.specs.machine.InMemory.{TakeTheSame}
-use Rattle.gregorio.proofs.InputsArePut.{left_behind, more_taken, nothing_taken}
+use Rattle.gregorio.proofs.InputsArePut.{left_behind, more_taken, nothing_taken, runs_where_taken}
 use Rattle.gregorio.proofs.PiecesAreSent.{IsTaken, all_behind, nothing_waits_behind}
 use Rattle.gregorio.proofs.in_memory.feed_input.Goals as goal
 
@@ -11,6 +10,7 @@ pub loop-count-init : goal.loop-count-init
 loop-count-init g c = record {
   within = omega arith;
   waits = c.requires.waits;
+  job = λ job limits runs. runs;
   put = λ ending more. nothing_taken g.O.Put.taken g.M.Put.taken _ _ _;
 }
 
@@ -23,6 +23,7 @@ loop-count-preserved g c =
     record {
       within = omega (arith, i.within, c.feed-count.ensures.taken, ap length all, length-drop c.loop-count.count c.args.input.now);
       waits = nothing_waits_behind c.feed-count.new.self c.put_waiting.new.engine c.put_waiting.ensures.forgets;
+      job = λ job limits runs. runs_where_taken c.feed-count.new.self c.put_waiting.new.engine job limits c.put_waiting.ensures.forgets (c.feed-count.ensures.job job limits (i.job job limits runs));
       put = λ ending more. more_taken g.O.Put.taken g.M.Put.taken g.met.O.Put.taken_both g.met.M.Put.taken_both _ _ _ _ _ _ _ _ _ _ _ (i.put ending more) (left ending more) c.put_waiting.ensures.out c.put_waiting.ensures.messages;
     }
 

@@ -18,6 +18,7 @@ loop-count-init c = record {
   within = omega arith;
   begun = inr c.requires.waits;
   format = refl;
+  job = λ job limits runs. runs;
   stops = λ something. absurd (something c.requires.waits);
 }
 
@@ -36,6 +37,7 @@ loop-count-preserved c =
       within = omega (arith, within, l, left, more);
       begun = inl (omega (arith, some (omega (arith, l, left, more))));
       format = c.take_some-count.ensures.format ∙ i.format;
+      job = λ job limits runs. c.take_some-count.ensures.job job limits (i.job job limits runs);
       stops = λ something.
           prompt_further c.args.self.now c.loop-count.self c.args.piece.now _ c.loop-count.count c.take_some-count.result all i.taken
           (c.nothing_waits.ensures.waits c.if-nothing_waits.true) (some (omega (arith, l, left, more))) i.format (c.take_some-count.ensures.stops something);
@@ -43,6 +45,9 @@ loop-count-preserved c =
 
 pub returns-clause-law : goal.returns-clause-law
 returns-clause-law c = c.loop-count.invariant.taken
+
+pub returns-clause-job : goal.returns-clause-job
+returns-clause-job c = c.loop-count.invariant.job
 
 pub returns-clause-running : goal.returns-clause-running
 returns-clause-running c = λ runs.

@@ -1,6 +1,6 @@
 use Rattle.std.proofs.Common.{length, take, ◌≡◌, ◌-◌, ◌<◌, ◌≤◌, ◌⊎◌}
 use Rattle.gregorio.specs.declared.source_ending.SourceEnding.TheVariants.{Broken}
-use Rattle.gregorio.specs.Engine.{IsPrompt, NothingWaits}
+use Rattle.gregorio.specs.Engine.{IsPrompt, NothingWaits, StillRuns}
 use Rattle.gregorio.specs.witness.Engine.{streams_left}
 use Rattle.gregorio.proofs.pieces.BytesAreTaken.{Takes}
 use Rattle.gregorio.proofs.engine.Engine.feed.Given as goal
@@ -12,6 +12,7 @@ invariant-loop-count l = record {
   within : l.count ≤ length l.piece;
   begun : (0 < l.count) ⊎ NothingWaits l.self;
   format : l.self.written.format ≡ l.initial.self.written.format;
+  job : StillRuns l.initial.self l.self;
   stops : ¬ (NothingWaits l.self) → IsPrompt l.initial.self.written.format (streams_left l.initial.self Broken (take (l.count - 1) l.piece));
 }
 

@@ -1,0 +1,77 @@
+//! Laws of a run that goes on from its saved state. Each function's contract is a law, and its body makes the calls and calls the laws that it stands
+//! on.
+
+ghost use Rattle.std.specs.Prelude.{◌≡◌, ◌+◌, ◌*◌, ◌≤◌, List, ℕ, length, max, true, IfErr, IfOk};
+ghost use Rattle.gregorio_state.specs.Conditions.{AreStateFields};
+ghost use Rattle.gregorio_state.specs.Fields.{StateFields};
+ghost use Rattle.gregorio_state.specs.StateBytes.{state_bytes};
+ghost use Rattle.gregorio.specs.declared.source_ending.SourceEnding.{SourceEnding};
+ghost use Rattle.gregorio.specs.Engine.{NothingWaits, RunsJob, is_running};
+ghost use Rattle.gregorio.specs.Saved.{state_of};
+ghost use Rattle.gregorio.specs.SavedState.{AreOfState};
+ghost use Rattle.gregorio.specs.witness.Engine.{streams_left};
+
+use crate::engine::Engine;
+use crate::saved_alike::engines_that_save_the_same_agree;
+use crate::state_fault::StateFault;
+use gabc_places::Limits;
+use gregorio_jobs::Job;
+use std::alloc::Global;
+
+/// Bytes are those of the fields of one saved state.
+pub fn bytes_are_of_one_state(bytes: &[u8])
+    ensures { (one other : StateFields) → AreStateFields one → AreStateFields other →
+        bytes.now ≡ state_bytes one → bytes.now ≡ state_bytes other → one ≡ other }
+{
+    let _ = gregorio_state::read(bytes);
+}
+
+/// An engine that is restored from what `engine` saves writes the same of whatever follows, and ends alike, if both call their inputs the same.
+fn what_is_restored_goes_on(engine: &Engine, restored: &Engine, bytes: &[u8])
+    requires runs { is_running engine.now ≡ true }
+    requires restored_runs { is_running restored.now ≡ true }
+    requires name { restored.now.written.name ≡ engine.now.written.name }
+    requires saved { bytes.now ≡ state_bytes (state_of engine.now) }
+    requires is_state { AreOfState (state_of engine.now) }
+    requires read { bytes.now ≡ state_bytes (state_of restored.now) }
+    requires restored_is_state { AreOfState (state_of restored.now) }
+    ensures { (ending : SourceEnding) (bytes : List ℕ) →
+        streams_left restored.now ending bytes ≡ streams_left engine.now ending bytes }
+{
+    bytes_are_of_one_state(bytes);
+    engines_that_save_the_same_agree(restored, engine);
+}
+
+/// A run that is saved and restored goes on as the saved one: the engine that is restored for the same job, under the same limits, from what `engine` saves
+/// into `buf` writes the same of whatever follows, and ends alike. Only for want of memory none is restored.
+pub fn a_restored_run_goes_on(
+    alloc: Global,
+    engine: &Engine,
+    job: &Job,
+    limits: Limits,
+    buf: &mut [u8],
+) -> Result<Engine, StateFault>
+    requires runs { is_running engine.now ≡ true }
+    requires waits { NothingWaits engine.now }
+    requires job { RunsJob job.now limits engine.now }
+    requires room { max limits.header (2 * limits.syllable) + 128 ≤ length buf.old }
+    ensures left { IfOk result (λ restored. (ending : SourceEnding) (bytes : List ℕ) →
+        streams_left restored ending bytes ≡ streams_left engine.now ending bytes) }
+    ensures job { IfOk result (λ restored. RunsJob job.now limits restored) }
+    ensures running { IfOk result (λ restored. is_running restored ≡ true) }
+    ensures waits { IfOk result (λ restored. NothingWaits restored) }
+    ensures memory { IfErr result (λ fault. fault ≡ StateFault.K0) }
+{
+    let Ok(len) = engine.save_into(buf) else {
+        unreachable!()
+    };
+    let bytes = &buf[..len];
+    bytes_are_of_one_state(bytes);
+    match Engine::restore(alloc, job, limits, bytes) {
+        Ok(restored) => {
+            what_is_restored_goes_on(engine, &restored, bytes);
+            Ok(restored)
+        }
+        Err(fault) => Err(fault),
+    }
+}
