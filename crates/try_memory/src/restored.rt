@@ -1,12 +1,15 @@
-//! Runs that are restored from a saved state.
+//! Runs that are saved, and restored from a state.
 
+ghost use Rattle.std.specs.Prelude.{◌≤◌, length, IfOk};
 ghost use Rattle.gregorio.specs.Engine.{NothingWaits};
 
 use crate::digest::digest_of;
 use crate::runs::{digest_of_engine, job_in};
 use crate::trial::{Trial, try_call};
-use gabc_places::Limits;
-use gregorio::{Engine, Format, Job, StateFault};
+use gabc_places::{ByteCounter, Limits};
+use gregorio::interrupted::a_run_may_be_interrupted;
+use gregorio::restored_laws::a_restored_run_goes_on;
+use gregorio::{Engine, Format, Job, SourceEnding, StateFault};
 use std::alloc::{AllocError, Global};
 use std::hash::DefaultHasher;
 use std::io;
@@ -47,6 +50,84 @@ impl Trial for Restored {
     }
 }
 
+/// How many bytes a buffer has that is never too short for a state under the usual limits.
+const BOUND: usize = 65664;
+
+/// A job of whose run a law restores one, and a buffer for its states.
+#[derive(Drop)]
+struct Lawful {
+    is_interrupted: bool,
+    job: Job,
+    buffer: Vec<u8>,
+}
+
+/// Returns a digest of what a run writes that is saved before its first byte, and restored.
+fn goes_on(alloc: Global, job: &Job, buffer: &mut [u8]) -> Result<u64, AllocError>
+    requires { 65664 ≤ length buffer.old }
+{
+    let engine = Engine::new(alloc, job, Limits::DEFAULT)?;
+    let restored = a_restored_run_goes_on(alloc, &engine, job, Limits::DEFAULT, buffer);
+    // A proof follows a call faster than all that lies inside an engine.
+    drop(engine);
+    match restored {
+        Ok(restored) => Ok(digest_of_engine(restored)),
+        Err(_) => Err(AllocError),
+    }
+}
+
+/// Returns a digest of how a run ends, and of how many bytes it writes, that is interrupted behind the one piece of its input.
+fn is_interrupted(alloc: Global, job: &Job, buffer: &mut [u8]) -> Result<u64, AllocError>
+    requires { 65664 ≤ length buffer.old }
+{
+    let (mut out, mut messages) = (ByteCounter::new(), ByteCounter::new());
+    let pieces: [&[u8]; 1] = [b"%%\nKy(f)ri(g)"];
+    match a_run_may_be_interrupted(
+        alloc,
+        job,
+        Limits::DEFAULT,
+        &pieces,
+        SourceEnding::Whole,
+        buffer,
+        &mut out,
+        &mut messages,
+    ) {
+        Ok(status) => Ok(digest_of(&(status, out.count(), messages.count()))),
+        Err(_) => Err(AllocError),
+    }
+}
+
+impl Trial for Lawful {
+    fn call(&mut self, alloc: Global) -> Result<u64, AllocError> {
+        let buffer = self.buffer.as_mut_slice();
+        if buffer.len() < BOUND {
+            return Ok(0);
+        }
+        if self.is_interrupted {
+            is_interrupted(alloc, &self.job, buffer)
+        } else {
+            goes_on(alloc, &self.job, buffer)
+        }
+    }
+
+    fn arguments(&self) -> u64 {
+        digest_of(&self.job)
+    }
+}
+
+/// Tries a law that restores a run.
+fn try_law(rt: &HostRuntime, is_interrupted: bool) -> io::Result<()> {
+    let mut buffer = Vec::new(rt.alloc());
+    for _ in 0..BOUND {
+        buffer.push(0)?;
+    }
+    let mut lawful = Lawful {
+        is_interrupted,
+        job: job_in(Format::Dump),
+        buffer,
+    };
+    try_call(rt, &mut lawful)
+}
+
 /// Returns the value of a hexadecimal digit, or 0.
 fn digit(byte: u8) -> u8 {
     match byte {
@@ -83,6 +164,8 @@ pub(crate) fn is_tried(rt: &HostRuntime, name: &str, input: &str) -> io::Result<
         "gregorio::Engine::restore headers" => try_restore(rt, false, Format::Gabc, input)?,
         "gregorio::Engine::restore score" => try_restore(rt, false, Format::Dump, input)?,
         "gregorio::Engine::restore_with_hasher" => try_restore(rt, true, Format::Dump, input)?,
+        "gregorio::interrupted::a_run_may_be_interrupted" => try_law(rt, true)?,
+        "gregorio::restored_laws::a_restored_run_goes_on" => try_law(rt, false)?,
         _ => return Ok(false),
     }
     Ok(true)

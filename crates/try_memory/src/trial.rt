@@ -4,7 +4,7 @@ use std::alloc::{AllocError, Global};
 use std::io;
 
 /// How many attempts a call has: more than it asks for memory.
-const ATTEMPTS: u32 = 200;
+const ATTEMPTS: u32 = 400;
 
 /// A call that asks for memory, with its arguments.
 pub(crate) trait Trial {

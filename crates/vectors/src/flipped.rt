@@ -93,14 +93,15 @@ fn is_safe_with_a_bit_turned(
 
 /// Returns whether the state on this line of a file is safe with a bit turned in each of its bytes.
 pub(crate) fn is_safe_turned(alloc: Global, line: &str) -> Result<bool, AllocError> {
-    let Some(mut row) = saved_row_of(alloc, line)? else {
+    let Some(row) = saved_row_of(alloc, line)? else {
         return Ok(false);
     };
     let Some(asked) = request_of(&row.run) else {
         return Ok(false);
     };
-    for index in 0..row.state.len() {
-        if !is_safe_with_a_bit_turned(alloc, row.state.as_mut_slice(), index, asked)? {
+    let mut state = row.state.clone()?;
+    for index in 0..state.len() {
+        if !is_safe_with_a_bit_turned(alloc, state.as_mut_slice(), index, asked)? {
             return Ok(false);
         }
     }
