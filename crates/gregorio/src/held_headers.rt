@@ -52,8 +52,8 @@ fn push_character(heads: &mut HeaderStage, x: Char, events: &mut Room<HeadEvent>
     has_error(events.slice())
 }
 
-/// Pushes the characters of `text` into `heads`, which stands before the first one, and returns what they give. `events` has room for what is emitted of
-/// one.
+/// Pushes the characters of `text` into `heads`, which stands before the first one, and returns what they give. `events` has room for what is
+/// emitted of one.
 fn push_text(heads: &mut HeaderStage, text: &str, events: &mut Room<HeadEvent>) -> HeldHeaders
     requires fresh { heads.old ≡ fresh_stage heads.old.limits }
     requires short { length text.now < 2 ^ 63 }
@@ -77,8 +77,8 @@ fn push_text(heads: &mut HeaderStage, text: &str, events: &mut Room<HeadEvent>) 
     given
 }
 
-/// Reads `text` with `heads`, which stands before its first character. Returns whether its end alone stops it, and it gives what `told` says. `events` has
-/// room for what is emitted of a character.
+/// Reads `text` with `heads`, which stands before its first character. Returns whether its end alone stops it and it gives what `told` says. `events`
+/// has room for what is emitted of a character.
 pub(crate) fn holds_text(
     heads: &mut HeaderStage,
     text: &str,

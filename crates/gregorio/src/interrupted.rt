@@ -1,5 +1,5 @@
-//! A run that is interrupted behind each piece of its input: saved, and restored. The contract of the one public function is a law, and its body makes the
-//! calls.
+//! A run that is interrupted behind each piece of its input: saved, and restored. The contract of the one public function is a law, and its body
+//! makes the calls.
 
 ghost use Rattle.std.specs.Prelude.{◌≡◌, ◌+◌, ◌*◌, ◌≤◌, ℕ, List, [], ◌++◌, length, max, IfErr, IfOk, OnOk};
 ghost use Rattle.gregorio.specs.declared.source_ending.SourceEnding.{SourceEnding as EndOfSource};
@@ -96,8 +96,8 @@ fn end_by<O: Put, M: Put>(
     status
 }
 
-/// A run that is saved and restored behind each of `pieces`, however its input is cut into them, writes the output and the messages and ends with the status of a run
-/// without a break: they are put into `out` and `messages`. `buf` is for its states. The error is that of too little memory.
+/// A run that is saved and restored behind each of `pieces`, however its input is cut into them, writes the output and the messages and ends with the
+/// status of a run without a break: they are put into `out` and `messages`. `buf` is for its states. The error is that of too little memory.
 pub fn a_run_may_be_interrupted<O: Put, M: Put>(
     alloc: Global,
     job: &Job,

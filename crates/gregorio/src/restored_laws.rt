@@ -42,8 +42,8 @@ fn what_is_restored_goes_on(engine: &Engine, restored: &Engine, bytes: &[u8])
     engines_that_save_the_same_agree(restored, engine);
 }
 
-/// A run that is saved and restored goes on as the saved one: the engine that is restored for the same job, under the same limits, from what `engine` saves
-/// into `buf` writes the same of whatever follows, and ends alike. Only for want of memory none is restored.
+/// A run that is saved and restored goes on as the saved one: the engine that is restored for the same job, under the same limits, from what `engine`
+/// saves into `buf` writes the same of whatever follows, and ends alike. Only for want of memory none is restored.
 pub fn a_restored_run_goes_on(
     alloc: Global,
     engine: &Engine,

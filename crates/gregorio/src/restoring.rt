@@ -65,8 +65,8 @@ fn fresh_heads(
     }
 }
 
-/// Returns a stage of headers that holds `text`, the text of the headers of `state`. The error is `K1` where the text does not end there, or gives another
-/// place or other errors, and `K0` where there is no memory.
+/// Returns a stage of headers that holds `text`, the text of the headers of `state`. The error is `K1` where the text does not end there, or gives
+/// another place or other errors, and `K0` where there is no memory.
 fn heads_holding(
     alloc: Global,
     state: &StateFields<'_>,
@@ -315,12 +315,12 @@ fn engine_in_score(
 }
 
 impl Engine {
-    /// Returns an engine that goes on where the run stood whose saved state is `bytes`, as `save_into` wrote it. The format of `job`, whether it wants
-    /// warnings, and `limits` have to be those of that run. The name of the input is that of `job`: it stands in no state.
+    /// Returns an engine that goes on where the run stood whose saved state is `bytes`, as `save_into` wrote it. The format of `job`, whether it
+    /// wants warnings, and `limits` have to be those of that run. The name of the input is that of `job`: it stands in no state.
     ///
     /// The error is K0 for want of memory, wherever it is met; else K1 exactly where `bytes` are no saved state; else K2: the state is one of
-    /// another format, of other limits, or of a run that wants warnings where `job` does not, or the other way round. The texts of a state are read under
-    /// the limits that stand in it, so these say how much memory is asked for before K1 can be told: take bytes of strangers only where
+    /// another format, of other limits, or of a run that wants warnings where `job` does not, or the other way round. The texts of a state are read
+    /// under the limits that stand in it, so these say how much memory is asked for before K1 can be told: take bytes of strangers only where
     /// their limits are fine. Names of headers are hashed as in `new`.
     pub fn restore(
         alloc: Global,
