@@ -31,13 +31,13 @@ fn asked_by<'a>(state: &[u8], asked: Request<'a>) -> Request<'a> {
     }
 }
 
-/// Feeds what a restored run takes, and ends it.
-fn run_to_an_end(engine: &mut Engine)
+/// Feeds `bytes`, and ends the run.
+fn run_to_an_end(engine: &mut Engine, bytes: &[u8])
     requires waits { NothingWaits engine.old }
 {
     let mut count = 0;
-    while count < REST.len() {
-        count += engine.feed(&REST[count..]);
+    while count < bytes.len() {
+        count += engine.feed(&bytes[count..]);
         engine.taken();
     }
     engine.end();
@@ -51,7 +51,7 @@ fn is_well(engine: &mut Engine, state: &[u8], buffer: &mut [u8]) -> bool
     if !saves(engine, state, buffer) {
         return false;
     }
-    run_to_an_end(engine);
+    run_to_an_end(engine, REST);
     !engine.running()
 }
 

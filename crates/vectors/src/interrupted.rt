@@ -67,10 +67,12 @@ fn has_output(
     requires length { 0 < length }
     requires waits { NothingWaits engine.old }
 {
-    Ok(feed_interrupted(alloc, engine, asked, length, &mut wanted, buffer)?
-        && end(engine, asked.broken).code() == status
-        && wanted.take(engine)
-        && wanted.is_empty())
+    Ok(
+        feed_interrupted(alloc, engine, asked, length, &mut wanted, buffer)?
+            && end(engine, asked.broken).code() == status
+            && wanted.take(engine)
+            && wanted.is_empty(),
+    )
 }
 
 /// Returns whether a run that is interrupted behind each piece of `length` bytes gives what is wanted. `buffer` has room for its states.

@@ -80,7 +80,10 @@ fn row_agrees_interrupted(alloc: Global, row: &Row) -> Result<bool, AllocError> 
         return Ok(false);
     };
     let asked = asked.with_low_limits();
-    let bound = asked.limits.header.max(asked.limits.syllable.saturating_mul(2));
+    let bound = asked
+        .limits
+        .header
+        .max(asked.limits.syllable.saturating_mul(2));
     let mut buffer = buffer_of(alloc, (bound as usize).saturating_add(128))?;
     for length in INTERRUPTED {
         let (wanted, buffer) = (Wanted::of(row), buffer.as_mut_slice());

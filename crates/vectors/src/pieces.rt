@@ -63,7 +63,12 @@ pub(crate) fn feed_piece(engine: &mut Engine, piece: &[u8], wanted: &mut Wanted)
 }
 
 /// Feeds bytes in pieces of this length. Returns whether what was written of them was wanted.
-pub(crate) fn feed_all(engine: &mut Engine, bytes: &[u8], length: usize, wanted: &mut Wanted) -> bool
+pub(crate) fn feed_all(
+    engine: &mut Engine,
+    bytes: &[u8],
+    length: usize,
+    wanted: &mut Wanted,
+) -> bool
     requires length { 0 < length }
     requires waits { NothingWaits engine.old }
     ensures waits { NothingWaits engine.new }

@@ -38,7 +38,12 @@ impl Request<'_> {
     /// The same run, under limits of the headers and of a syllable that are as low as they can be without being reached where they were not.
     pub(crate) fn with_low_limits(self) -> Self {
         let low = out_of_reach(self.bytes.len());
-        let Limits { header, syllable, input, .. } = self.limits;
+        let Limits {
+            header,
+            syllable,
+            input,
+            ..
+        } = self.limits;
         match Limits::new(header.min(low), syllable.min(low), input) {
             Some(limits) => Request { limits, ..self },
             None => self,

@@ -58,7 +58,11 @@ struct Rest<'a> {
 /// Returns whether an engine that is restored from `state` saves it at once, and goes on with `rest`. The error is for want of memory.
 fn goes_on(alloc: Global, state: &[u8], rest: Rest) -> Result<bool, AllocError> {
     let mut buffer = buffer_of(alloc, state.len().saturating_add(MORE))?;
-    let Rest { asked, wanted, status } = rest;
+    let Rest {
+        asked,
+        wanted,
+        status,
+    } = rest;
     let job = job(asked.format, asked.all_warnings);
     match Engine::restore(alloc, &job, asked.limits, state) {
         Ok(mut engine) => {
@@ -108,25 +112,27 @@ impl StateRow {
 
 impl SavedRow {
     /// Returns whether `engine`, which is fresh, has written the first of what is wanted behind the first bytes, and saves the state there.
-    fn is_saved_by(&self, engine: &mut Engine, asked: Request, buffer: &mut [u8]) -> bool
+    fn is_saved_by(
+        &self,
+        engine: &mut Engine,
+        asked: Request,
+        mut wanted: Wanted,
+        buffer: &mut [u8],
+    ) -> bool
         requires waits { NothingWaits engine.old }
     {
-        let mut wanted = Wanted {
-            output: &self.run.output.as_slice()[..self.output],
-            messages: &self.run.messages.as_slice()[..self.messages],
-        };
         feed_all(engine, asked.bytes, PIECE, &mut wanted)
             && wanted.is_empty()
             && engine.running()
             && saves(engine, self.state.as_slice(), buffer)
     }
 
-    /// Returns whether a run is saved so behind the first bytes, which are `asked` for.
-    fn is_saved(&self, alloc: Global, asked: Request) -> Result<bool, AllocError> {
+    /// Returns whether a run is saved so behind the first bytes, which are `asked` for, and of which this is wanted.
+    fn is_saved(&self, alloc: Global, asked: Request, wanted: Wanted) -> Result<bool, AllocError> {
         let mut buffer = buffer_of(alloc, self.state.len().saturating_add(MORE))?;
         match Engine::new(alloc, &job(asked.format, asked.all_warnings), asked.limits) {
             Ok(mut engine) => {
-                let saved = self.is_saved_by(&mut engine, asked, buffer.as_mut_slice());
+                let saved = self.is_saved_by(&mut engine, asked, wanted, buffer.as_mut_slice());
                 drop(engine);
                 Ok(saved)
             }
@@ -139,7 +145,7 @@ impl SavedRow {
         let Some(asked) = request_of(&self.run) else {
             return Ok(false);
         };
-        let (Some((first, bytes)), Some((_, output)), Some((_, messages))) = (
+        let (Some((first, bytes)), Some((written, output)), Some((told, messages))) = (
             asked.bytes.split_at_checked(self.fed),
             self.run.output.as_slice().split_at_checked(self.output),
             self.run.messages.as_slice().split_at_checked(self.messages),
@@ -151,8 +157,19 @@ impl SavedRow {
             wanted: Wanted { output, messages },
             status: self.run.status,
         };
-        Ok(self.is_saved(alloc, Request { bytes: first, ..asked })?
-            && goes_on(alloc, self.state.as_slice(), rest)?)
+        Ok(
+            self.is_saved(
+                alloc,
+                Request {
+                    bytes: first,
+                    ..asked
+                },
+                Wanted {
+                    output: written,
+                    messages: told,
+                },
+            )? && goes_on(alloc, self.state.as_slice(), rest)?,
+        )
     }
 }
 

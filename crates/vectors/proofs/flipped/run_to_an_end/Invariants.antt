@@ -1,6 +1,6 @@
 use Rattle.std.proofs.Common.{◌-◌, ◌≤◌, length}
 use Rattle.gregorio.specs.Engine.{NothingWaits}
-use Rattle.vectors.proofs.states.feed_all.Given as goal
+use Rattle.vectors.proofs.flipped.run_to_an_end.Given as goal
 
 abbrev pub invariant-loop-count : goal.invariant-loop-count
 invariant-loop-count l = record {
