@@ -73,25 +73,32 @@ fn row_agrees_in_pieces(alloc: Global, row: &Row) -> bool {
 /// How many bytes the pieces have behind which a run is saved and restored.
 const INTERRUPTED: [usize; 4] = [1, 2, 3, 7];
 
-/// Whether runs on the row's input that are saved and restored behind each piece give what the row says. Where no limit is reached, the limits are
-/// lowered to some that none of these runs reaches either: an engine is made in less time under them.
-fn row_agrees_interrupted(alloc: Global, row: &Row) -> Result<bool, AllocError> {
-    let Some(asked) = request_of(row) else {
-        return Ok(false);
-    };
-    let asked = asked.with_low_limits();
+/// Whether runs that are saved and restored behind each piece give what is wanted.
+fn agrees_wherever_interrupted(
+    alloc: Global,
+    asked: Request,
+    wanted: Wanted,
+    status: u8,
+) -> Result<bool, AllocError> {
     let bound = asked
         .limits
         .header
         .max(asked.limits.syllable.saturating_mul(2));
     let mut buffer = buffer_of(alloc, (bound as usize).saturating_add(128))?;
     for length in INTERRUPTED {
-        let (wanted, buffer) = (Wanted::of(row), buffer.as_mut_slice());
-        if !agrees_interrupted(alloc, asked, length, wanted, row.status, buffer) {
+        if !agrees_interrupted(alloc, asked, length, wanted, status, buffer.as_mut_slice()) {
             return Ok(false);
         }
     }
     Ok(true)
+}
+
+/// Whether such runs on the row's input give what the row says.
+fn row_agrees_interrupted(alloc: Global, row: &Row) -> Result<bool, AllocError> {
+    match request_of(row) {
+        Some(asked) => agrees_wherever_interrupted(alloc, asked, Wanted::of(row), row.status),
+        None => Ok(false),
+    }
 }
 
 /// Whether a run on this canonical form writes it again, with no error, under these limits, and so does a run on what that wrote.
@@ -188,16 +195,25 @@ fn read_file(rt: &HostRuntime, name: &str, ending: &str) -> io::Result<String> {
     fs::read_to_string(rt, path.as_str())
 }
 
-/// Whether a score gives this output in this format, and these messages, whole and in pieces.
-fn has_output(alloc: Global, format: Format, score: &[u8], output: &[u8], messages: &[u8]) -> bool {
+/// Whether a score gives this output in this format, and these messages, whole, in pieces and interrupted.
+fn has_output(
+    alloc: Global,
+    format: Format,
+    score: &[u8],
+    output: &[u8],
+    messages: &[u8],
+) -> Result<bool, AllocError> {
     let asked = Request {
         all_warnings: true,
         ..Request::on(format, score, Limits::DEFAULT)
     };
-    let ran = run(alloc, asked);
-    ran.output.inner().as_slice() == output
-        && ran.messages.inner().as_slice() == messages
-        && agrees_in_pieces(alloc, asked, Wanted { output, messages }, ran.status)
+    let (ran, wanted) = (run(alloc, asked), Wanted { output, messages });
+    Ok(
+        ran.output.inner().as_slice() == output
+            && ran.messages.inner().as_slice() == messages
+            && agrees_in_pieces(alloc, asked, wanted, ran.status)
+            && agrees_wherever_interrupted(alloc, asked, wanted, ran.status)?,
+    )
 }
 
 /// Whether a score gives its canonical form, its dump and its messages, and the canonical form itself.
@@ -208,14 +224,14 @@ fn is_written(rt: &HostRuntime, name: &str) -> io::Result<bool> {
     let messages = read_file(rt, name, "messages")?;
     let (score, form, alloc) = (score.as_bytes(), canonical.as_bytes(), rt.alloc());
     Ok(
-        has_output(alloc, Format::Gabc, score, form, messages.as_bytes())
+        has_output(alloc, Format::Gabc, score, form, messages.as_bytes())?
             && has_output(
                 alloc,
                 Format::Dump,
                 score,
                 dump.as_bytes(),
                 messages.as_bytes(),
-            )
+            )?
             && gives_itself(alloc, form, Limits::DEFAULT),
     )
 }

@@ -28,29 +28,6 @@ impl<'a> Request<'a> {
     }
 }
 
-/// How many bytes a limit has at least that a run over `len` bytes does not reach, be it of the headers or of a syllable.
-fn out_of_reach(len: usize) -> u32 {
-    let bytes = len.saturating_mul(8).saturating_add(256);
-    u32::try_from(bytes).unwrap_or(u32::MAX)
-}
-
-impl Request<'_> {
-    /// The same run, under limits of the headers and of a syllable that are as low as they can be without being reached where they were not.
-    pub(crate) fn with_low_limits(self) -> Self {
-        let low = out_of_reach(self.bytes.len());
-        let Limits {
-            header,
-            syllable,
-            input,
-            ..
-        } = self.limits;
-        match Limits::new(header.min(low), syllable.min(low), input) {
-            Some(limits) => Request { limits, ..self },
-            None => self,
-        }
-    }
-}
-
 /// The run that a row asks for, if there are such limits.
 pub(crate) fn request_of(row: &Row) -> Option<Request<'_>> {
     Some(Request {
