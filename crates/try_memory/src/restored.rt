@@ -65,8 +65,9 @@ struct Lawful {
 fn goes_on(alloc: Global, job: &Job, buffer: &mut [u8]) -> Result<u64, AllocError>
     requires { 65664 ≤ length buffer.old }
 {
-    let engine = Engine::new(alloc, job, Limits::DEFAULT)?;
-    let restored = a_restored_run_goes_on(alloc, &engine, job, Limits::DEFAULT, buffer);
+    let limits = Limits::DEFAULT;
+    let engine = Engine::new(alloc, job, limits)?;
+    let restored = a_restored_run_goes_on(alloc, &engine, job, limits, buffer);
     // A proof follows a call faster than all that lies inside an engine.
     drop(engine);
     match restored {
