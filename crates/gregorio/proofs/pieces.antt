@@ -26,4 +26,5 @@ pub mod StatesOfScores
 pub mod StreamsAgree
 pub mod SavedInHeaders
 pub mod SavedInBodies
+pub mod EnginesAgree
 pub mod ItemsStandInLine

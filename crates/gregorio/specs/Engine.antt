@@ -5,6 +5,8 @@ use Rattle.gabc_score.specs.Syllable.{PlacedSyllable}
 use Rattle.gabc_places.specs.declared.limits.Limits.{Limits}
 use Rattle.gregorio_jobs.specs.declared.job.Format.{Format}
 use Rattle.gregorio_jobs.specs.declared.job.Job.{Job}
+use Rattle.gregorio_jobs.specs.declared.job.Status.{Status}
+use Rattle.gregorio_jobs.specs.declared.job.Status.TheVariants.{Whole, Errors, Fatal, ReadFault, WriteFault, NoMemory}
 use Rattle.gregorio.specs.Outcome.{input_name}
 use Rattle.gregorio.specs.Streams.{Streams, behind_bytes, last_text, texts_behind, count_behind}
 use Rattle.gregorio.specs.witness.Engine.{EngineState}
@@ -48,3 +50,12 @@ StillRuns old new = (job : Job) (limits : Limits) → RunsJob job limits old →
 -- no fatal fault, `end` or `broken` has come
 abbrev pub is_running : EngineState → Bool
 is_running s = is_none s.written.ended
+
+-- How a run can end by its input: it was read to its end, a fault stopped it, or its source failed.
+abbrev pub EndsByInput : Status → Type 0
+EndsByInput Whole = Unit {0}
+EndsByInput Errors = Unit {0}
+EndsByInput Fatal = Unit {0}
+EndsByInput ReadFault = Unit {0}
+EndsByInput WriteFault = ⊥
+EndsByInput NoMemory = ⊥

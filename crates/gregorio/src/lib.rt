@@ -28,6 +28,7 @@ mod output;
 pub mod restored_laws;
 mod restoring;
 mod run;
+pub mod run_ends;
 mod run_writer;
 pub mod saved_alike;
 mod saving;

@@ -8,11 +8,12 @@ ghost use Rattle.gregorio_state.specs.StateBytes.{state_bytes};
 ghost use Rattle.gregorio.specs.declared.source_ending.SourceEnding.{SourceEnding};
 ghost use Rattle.gregorio.specs.Engine.{NothingWaits, RunsJob, is_running};
 ghost use Rattle.gregorio.specs.Saved.{state_of};
-ghost use Rattle.gregorio.specs.SavedState.{AreOfState};
+ghost use Rattle.gregorio.specs.Streams.{Streams};
 ghost use Rattle.gregorio.specs.witness.Engine.{streams_left};
+ghost use Rattle.gregorio.specs.witness.StandsFor.{StandsFor};
 
 use crate::engine::Engine;
-use crate::saved_alike::engines_that_save_the_same_agree;
+use crate::saved_alike::{an_engine_may_run, engines_that_save_the_same_agree};
 use crate::state_fault::StateFault;
 use gabc_places::Limits;
 use gregorio_jobs::Job;
@@ -26,20 +27,22 @@ pub fn bytes_are_of_one_state(bytes: &[u8])
     let _ = gregorio_state::read(bytes);
 }
 
-/// An engine that is restored from what `engine` saves writes the same of whatever follows, and ends alike, if both call their inputs the same.
-fn what_is_restored_goes_on(engine: &Engine, restored: &Engine, bytes: &[u8])
+/// The bytes that an engine saves stand for what it will still write, and for nothing else: a run that stands behind them, in another process too, writes that
+/// of whatever follows.
+pub fn what_is_saved_stands(engine: &Engine, job: &Job, limits: Limits, bytes: &[u8])
     requires runs { is_running engine.now ≡ true }
-    requires restored_runs { is_running restored.now ≡ true }
-    requires name { restored.now.written.name ≡ engine.now.written.name }
+    requires job { RunsJob job.now limits engine.now }
     requires saved { bytes.now ≡ state_bytes (state_of engine.now) }
-    requires is_state { AreOfState (state_of engine.now) }
-    requires read { bytes.now ≡ state_bytes (state_of restored.now) }
-    requires restored_is_state { AreOfState (state_of restored.now) }
-    ensures { (ending : SourceEnding) (bytes : List ℕ) →
-        streams_left restored.now ending bytes ≡ streams_left engine.now ending bytes }
+    ensures stands { StandsFor job.now limits bytes.now (streams_left engine.now) }
+    ensures alone { (left : SourceEnding → List ℕ → Streams) →
+        StandsFor job.now limits bytes.now left →
+        (ending : SourceEnding) (more : List ℕ) →
+        streams_left engine.now ending more ≡ left ending more }
 {
+    engine.tells_a_state();
+    an_engine_may_run(engine);
     bytes_are_of_one_state(bytes);
-    engines_that_save_the_same_agree(restored, engine);
+    engines_that_save_the_same_agree();
 }
 
 /// A run that is saved and restored goes on as the saved one: the engine that is restored for the same job, under the same limits, from what `engine`
@@ -69,7 +72,8 @@ pub fn a_restored_run_goes_on(
     bytes_are_of_one_state(bytes);
     match Engine::restore(alloc, job, limits, bytes) {
         Ok(restored) => {
-            what_is_restored_goes_on(engine, &restored, bytes);
+            what_is_saved_stands(engine, job, limits, bytes);
+            what_is_saved_stands(&restored, job, limits, bytes);
             Ok(restored)
         }
         Err(fault) => Err(fault),

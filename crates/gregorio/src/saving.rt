@@ -164,6 +164,20 @@ impl Engine {
         }
     }
 
+    /// Returns how many bytes the saved state of the run has. The run may not be over, and nothing may wait.
+    pub fn state_len(&self) -> usize
+        requires runs { is_running self.now ≡ true }
+        requires waits { NothingWaits self.now }
+        ensures len { result ≡ length (state_bytes (state_of self.now)) }
+        ensures short { result
+            ≤ max self.now.score.limits.header (2 * self.now.score.limits.syllable) + 128 }
+    {
+        self.tells_a_state();
+        let held = HeldSyllable::of(self.score());
+        let fields = self.state_fields(held.len());
+        fields.len_holding(&held)
+    }
+
     /// Writes the saved state of the run to the front of `buf`, and returns how many bytes it has. The error is that of a `buf` that has fewer bytes
     /// than the state, and then it is unchanged. With 128 bytes and the limit of the headers, or 128 and twice that of a syllable, whichever is
     /// more, it is not too short. What is written is a state: the headers or the held and the kept text in it are read as it says, too. The run may

@@ -1,1 +1,3 @@
-pub mod OutcomeOfAWhole
+mod OutcomeOfAWhole
+mod PiecesAreGathered
+mod StepsOfRuns

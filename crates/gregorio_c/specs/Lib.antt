@@ -1,4 +1,7 @@
 pub mod machine
 pub mod Answers
+pub mod Asked
 pub mod Messages
 pub mod Request
+pub mod StepAnswers
+pub mod Steps

@@ -13,7 +13,7 @@ use crate::compiled::hasher_of;
 use crate::lengths::Lengths;
 use crate::request::Request;
 use gabc_places::{BufferFiller, ByteCounter, Limits};
-use gregorio::{Engine, Input, Job, Output};
+use gregorio::Engine;
 use std::alloc::{AllocError, Global};
 
 /// The exit status of a run, and how many bytes it writes.
@@ -34,14 +34,7 @@ fn engine_of(
     ensures all { IfOk result (λ engine. (score : List ℕ) →
         streams_left engine Whole score ≡ streams_of_score request limits score) }
 {
-    let job = Job {
-        format: request.format,
-        input: Input::Stdin,
-        output: Output::Stdout,
-        messages: None,
-        all_warnings: request.all_warnings,
-    };
-    Engine::with_hasher(alloc, &job, limits, hasher_of(key))
+    Engine::with_hasher(alloc, &request.job(), limits, hasher_of(key))
 }
 
 /// Runs `engine` over `score`, and returns how many bytes it writes and how it ended. An engine that writes more than can be counted fails

@@ -7,9 +7,14 @@
 mod buffers;
 mod by_engine;
 mod compiled;
+mod handing_out;
 mod lengths;
 mod messages;
+mod options;
+mod pieces;
 mod request;
+mod step;
+mod steps;
 
 ghost use Rattle.std.specs.Prelude.{◌≡◌, ◌≤◌, ◌⊎◌, None, IfSome};
 ghost use Rattle.gregorio_c.specs.Answers.{Answer, MessagesAnswer};
@@ -20,7 +25,12 @@ use by_engine::compile_by_engine;
 use compiled::{compile_whole, messages_of, outcome_of_whole};
 pub use lengths::Lengths;
 pub use messages::Message;
+pub use options::Options;
+pub use pieces::{
+    gregorio_begin, gregorio_broken, gregorio_end, gregorio_feed, gregorio_state_bound,
+};
 use request::{request_of, warnings_of};
+pub use step::Step;
 use std::alloc::Global;
 
 /// What is answered where a number of the format or of the flags is not known.

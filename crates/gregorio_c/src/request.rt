@@ -2,14 +2,30 @@
 
 ghost use Rattle.std.specs.Prelude.{◌≡◌};
 ghost use Rattle.gregorio_c.specs.Request.{request_by, warnings_by, format_by};
+ghost use Rattle.gregorio_c.specs.Steps.{job_of};
 
-use gregorio::Format;
+use gregorio::{Format, Input, Job, Output};
 
 /// A format of the output, and whether all warnings are wanted.
 #[derive(Clone, Copy)]
 pub(crate) struct Request {
     pub format: Format,
     pub all_warnings: bool,
+}
+
+impl Request {
+    /// Returns the job that it asks for. Messages call the input `<stdin>`.
+    pub(crate) fn job(self) -> Job
+        ensures { result ≡ job_of self }
+    {
+        Job {
+            format: self.format,
+            input: Input::Stdin,
+            output: Output::Stdout,
+            messages: None,
+            all_warnings: self.all_warnings,
+        }
+    }
 }
 
 /// Returns the format of this number.

@@ -281,8 +281,9 @@ impl StateFields<'_> {
         self.len_holding(&held)
     }
 
-    /// Returns the number of bytes of the state with `held` for the held text.
-    fn len_holding<H: PutText>(&self, held: &H) -> usize
+    /// Returns the number of bytes of the state as `len` does, with the text `held` for the held text of the fields, which is not read. The fields
+    /// with that text have to meet the conditions of a saved state.
+    pub fn len_holding<H: PutText>(&self, held: &H) -> usize
         requires { AreStateFields (holding (H.text held.now) (fields_of self.now)) }
         ensures len { result
             ≡ length (state_bytes (holding (H.text held.now) (fields_of self.now))) }

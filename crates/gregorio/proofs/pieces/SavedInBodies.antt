@@ -29,7 +29,8 @@ use Rattle.gregorio.specs.Saved.{held_count, held_text, phase_fields, score_fiel
 use Rattle.gregorio.specs.witness.Engine.{EngineState, book_behind, head_events_left, items_left, streams_left}
 use Rattle.gregorio.specs.machine.Engine.{IsEngine}
 use Rattle.gregorio.specs.machine.InStep.{AreInOnePart, RunsInStep}
-use Rattle.gregorio.specs.machine.SavedAlike.{AreSavedAlike, WriteTheSame}
+use Rattle.gabc_write.specs.SavedAlike.{AreSavedAlike}
+use Rattle.gregorio.specs.machine.SavedAlike.{WriteTheSame}
 use Rattle.gregorio.specs.machine.ScoreWriter.{ScoreWriterState}
 use Rattle.gregorio.specs.machine.TellsInStep.{TellsInBody, TellsInStep}
 use Rattle.gregorio.proofs.pieces.ItemsStandInLine.{left_in_line}

@@ -32,7 +32,7 @@ use Rattle.gregorio.specs.machine.InStep.{AreInOnePart, HasForce, RunsInStep}
 use Rattle.gregorio.specs.machine.ReadsHeaders.{IsReadSoFar}
 use Rattle.gregorio.specs.machine.SavedAlike.{WriteTheSame}
 use Rattle.gregorio.specs.machine.ScoreWriter.{ScoreWriterState}
-use Rattle.gregorio.proofs.LimitsAreTold.{same_limits}
+use Rattle.gabc_places.proofs.LimitsAreNumbers.{same_limits}
 use Rattle.gregorio.proofs.pieces.StreamsAgree.{no_matter_which_book, streams_agree}
 
 -- ---- the limits, and what is written

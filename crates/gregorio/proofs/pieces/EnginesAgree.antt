@@ -1,0 +1,77 @@
+-- Two engines that save the same write the same of whatever follows.
+use Rattle.std.proofs.Common.{◌≡◌, ℕ, List, Bool, true, false, is_some, Result, refl}
+use Rattle.gabc_places.specs.DecoderMachine.{DecoderState, IsPartial}
+use Rattle.gabc_places.specs.DecoderTells.{TellTheSame}
+use Rattle.gabc_places.specs.declared.code.Fault.{Fault}
+use Rattle.gabc_places.specs.declared.place.Char.{Char}
+use Rattle.gabc_places.specs.witness.DecoderEvents as decoder
+use Rattle.gabc_headers.specs.witness.HeadEvents.{HeaderStageState, IsBehind, events_left, reading, text_held}
+use Rattle.gabc_score.specs.ScoreTells.{before_of, held_of}
+use Rattle.gabc_score.specs.ToldWithin.{IsToldWithin}
+use Rattle.gabc_score.specs.witness.MayStand.{MayStand}
+use Rattle.gabc_score.specs.witness.ScoreStage.{ScoreStageState, left_of}
+use Rattle.gabc_write.specs.SetDown.{AreWrittenAlike, GoesOnAlikeInLine}
+use Rattle.gregorio.specs.declared.source_ending.SourceEnding.{SourceEnding}
+use Rattle.gregorio.specs.Saved.{state_of}
+use Rattle.gregorio.specs.witness.Engine.{EngineState, head_events_left, items_left, streams_left}
+use Rattle.gregorio.specs.witness.MayRun.{MayRun}
+use Rattle.gabc_write.specs.SavedAlike.{AreSavedAlike}
+use Rattle.gregorio.proofs.pieces.SavedInBodies.{Runs, bodies_agree, come_in_line, one_behind, other_behind, other_headed, saved_in_body, written_in_body}
+use Rattle.gregorio.proofs.pieces.SavedInHeaders.{RunsInHeads, decoders_alike, heads_agree, saved_in_heads}
+use Rattle.gregorio.proofs.pieces.StatesOfScores.{score_in_body}
+use Rattle.gregorio.proofs.pieces.WritesAlike.{given_is_written_alike}
+
+runs_in_heads : (e : EngineState) → MayRun e → RunsInHeads e
+runs_in_heads e may = record { runs = may.runs; step = may.step; force = may.force; read = may.read; limits = may.limits }
+
+runs : (e : EngineState) → MayRun e → Runs e
+runs e may = record { runs = may.runs; step = may.step; tells = may.tells; decoder = may.decoder }
+
+-- the laws of the parts
+pub record PartsAgree : Type 0 where
+  pub decoders : (one other : DecoderState) → one.running ≡ true → other.running ≡ true → one.limit ≡ other.limit → IsPartial one.pending → TellTheSame one other
+      → (bytes : List ℕ) → decoder.events_left one bytes ≡ decoder.events_left other bytes
+  pub heads : (one other : HeaderStageState) → one.limits ≡ other.limits → one.progress ≡ reading (text_held one.progress) → other.progress ≡ reading (text_held other.progress)
+      → text_held one.progress ≡ text_held other.progress → (items : List (Result Char Fault)) → events_left one.limits one.progress items ≡ events_left other.limits other.progress items
+  pub behind : (one other : HeaderStageState) → IsBehind one.progress → IsBehind other.progress
+      → (items : List (Result Char Fault)) → events_left one.limits one.progress items ≡ events_left other.limits other.progress items
+  pub within : (s : ScoreStageState) → MayStand s → is_some (before_of s) ≡ true → IsToldWithin s
+  pub scores : (one other : ScoreStageState) → MayStand one → MayStand other → AreSavedAlike one other → GoesOnAlikeInLine one other
+  pub written : (one other : ScoreStageState) → MayStand one → MayStand other → GoesOnAlikeInLine one other → AreWrittenAlike (held_of one) (held_of other)
+
+module _ (parts : PartsAgree) (one other : EngineState) (may : MayRun one) (may_too : MayRun other) (name : one.written.name ≡ other.written.name) (same : state_of one ≡ state_of other) where
+  abbrev Agree : Type 0
+  Agree = (ending : SourceEnding) (bytes : List ℕ) → streams_left one ending bytes ≡ streams_left other ending bytes
+
+  in_heads : one.written.headed ≡ false → Agree
+  in_heads headed =
+      let alike = saved_in_heads one other (runs_in_heads one may) (runs_in_heads other may_too) headed name same in
+      let d = alike.decoders in
+      heads_agree one other alike (parts.decoders one.decoder other.decoder d.runs d.other_runs d.limit may.decoder.partial d.told)
+      (parts.heads one.heads other.heads alike.limits alike.reads alike.other_reads alike.text)
+
+  in_body : one.written.headed ≡ true → Agree
+  in_body headed =
+      let run = runs one may in
+      let other_run = runs other may_too in
+      let within = parts.within one.score may.score (score_in_body one.decoder one.heads one.score one.written run.step headed) in
+      let headed_too = other_headed one other run other_run headed same in
+      let other_within = parts.within other.score may_too.score (score_in_body other.decoder other.heads other.score other.written other_run.step headed_too) in
+      let saved = saved_in_body one other run other_run headed same within other_within in
+      let on = parts.scores one.score other.score may.score may_too.score saved in
+      let alike = parts.written one.score other.score may.score may_too.score on in
+      let d = decoders_alike one other run.step other_run.step same in
+      bodies_agree one other (written_in_body one other run other_run headed same within other_within name) headed
+      (parts.decoders one.decoder other.decoder d.runs d.other_runs d.limit may.decoder.partial d.told)
+      (parts.behind one.heads other.heads (one_behind one other run other_run headed same) (other_behind one other run other_run headed same))
+      (λ ending bytes w book.
+      let from_heads = head_events_left one.heads ending (items_left one ending bytes) in
+      given_is_written_alike (held_of one.score) (held_of other.score) alike w book from_heads (left_of one.score from_heads) (left_of other.score from_heads)
+      (on.gives from_heads (come_in_line one other run other_run headed same ending bytes)))
+
+  by_headed : (headed : Bool) → one.written.headed ≡ headed → Agree
+  by_headed true is = in_body is
+  by_headed false is = in_heads is
+
+  pub engines_agree : Agree
+  engines_agree = by_headed one.written.headed refl

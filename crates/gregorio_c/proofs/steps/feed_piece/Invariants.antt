@@ -1,0 +1,21 @@
+use Rattle.std.proofs.Common.{◌≡◌, ℕ, List, [], ◌++◌, ◌-◌, ◌≤◌, length, drop}
+use Rattle.gregorio.specs.declared.source_ending.SourceEnding.{SourceEnding}
+use Rattle.gregorio.specs.declared.source_ending.SourceEnding.TheVariants.{Broken}
+use Rattle.gregorio.specs.Engine.{IsPrompt, NothingWaits, StillRuns}
+use Rattle.gregorio.specs.Streams.{behind_bytes}
+use Rattle.gregorio.specs.witness.Engine.{streams_left}
+use Rattle.gregorio_c.proofs.steps.feed_piece.Given as goal
+
+-- what was written at the bytes so far is gathered
+abbrev pub invariant-loop-count : goal.invariant-loop-count
+invariant-loop-count l = record {
+  within : l.count ≤ length l.piece;
+  waits : NothingWaits l.engine;
+  job : StillRuns l.initial.engine l.engine;
+  gathers : (ending : SourceEnding) (more : List ℕ) → streams_left l.initial.engine ending (l.piece ++ more)
+      ≡ behind_bytes l.texts.output.items l.texts.messages.items (streams_left l.engine ending (drop l.count l.piece ++ more));
+  prompt : IsPrompt l.engine.written.format (streams_left l.engine Broken []);
+}
+
+abbrev pub decreases-loop-count : goal.decreases-loop-count
+decreases-loop-count l = length l.piece - l.count

@@ -1,0 +1,13 @@
+//! The lengths of what a step has made.
+
+/// How many bytes the state behind a step, its output and its messages have.
+#[repr(C)]
+#[derive(Clone, Copy, Debug, PartialEq, Eq)]
+pub struct Step {
+    /// The bytes of the state; 0 where the run is over.
+    pub state: usize,
+    /// The bytes of the output.
+    pub output: usize,
+    /// The bytes of the messages.
+    pub messages: usize,
+}
