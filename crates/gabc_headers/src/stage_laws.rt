@@ -14,7 +14,7 @@ ghost use Rattle.gabc_headers.specs.Heads.{heads_of};
 ghost use Rattle.gabc_headers.specs.declared.heads.Heads.{Heads};
 ghost use Rattle.gabc_headers.specs.HeldText.{IsHeld, IsWithinHeaders, findings_held, holding, inputs_of, text_in};
 ghost use Rattle.gabc_headers.specs.HeadEvents.{emitted_by, events_of_heads};
-ghost use Rattle.gabc_headers.specs.witness.HeadEvents.{reading, over, IsBehind, fresh_stage, stage_past, events_left, events_of_input, events_of_end, new_findings, stage_after, stage_at, text_held};
+ghost use Rattle.gabc_headers.specs.witness.HeadEvents.{HeaderStageState, reading, over, IsBehind, fresh_stage, stage_past, events_left, events_of_input, events_of_end, new_findings, stage_after, stage_at, text_held};
 
 use crate::head_event::HeadEvent;
 use crate::header_stage::HeaderStage;
@@ -98,13 +98,13 @@ pub fn the_end_is_taken(stage: &mut HeaderStage, out: &mut Room<HeadEvent>)
 }
 
 /// Two stages with the same limits that hold the same text of the headers emit the same of whatever follows.
-pub fn stages_of_one_text_agree(one: &HeaderStage, other: &HeaderStage)
-    requires limits { one.now.limits ≡ other.now.limits }
-    requires one { one.now.progress ≡ reading (text_held one.now.progress) }
-    requires other { other.now.progress ≡ reading (text_held other.now.progress) }
-    requires text { text_held one.now.progress ≡ text_held other.now.progress }
-    ensures { (xs : List (Result Char Fault)) → events_left one.now.limits one.now.progress xs
-        ≡ events_left other.now.limits other.now.progress xs }
+pub fn stages_of_one_text_agree()
+    ensures { (one other : HeaderStageState) → one.limits ≡ other.limits →
+        one.progress ≡ reading (text_held one.progress) →
+        other.progress ≡ reading (text_held other.progress) →
+        text_held one.progress ≡ text_held other.progress →
+        (xs : List (Result Char Fault)) → events_left one.limits one.progress xs
+        ≡ events_left other.limits other.progress xs }
 {}
 
 /// The text that a stage holds sets it down again: pushed into a fresh stage, wherever its characters are said to stand, it leaves a stage that
@@ -138,11 +138,10 @@ pub fn a_held_text_is_within_its_limit()
 }
 
 /// Two stages behind their headers emit the same of whatever follows, whatever the headers were.
-pub fn stages_behind_headers_agree(one: &HeaderStage, other: &HeaderStage)
-    requires one { IsBehind one.now.progress }
-    requires other { IsBehind other.now.progress }
-    ensures { (xs : List (Result Char Fault)) → events_left one.now.limits one.now.progress xs
-        ≡ events_left other.now.limits other.now.progress xs }
+pub fn stages_behind_headers_agree()
+    ensures { (one other : HeaderStageState) → IsBehind one.progress → IsBehind other.progress →
+        (xs : List (Result Char Fault)) → events_left one.limits one.progress xs
+        ≡ events_left other.limits other.progress xs }
 {}
 
 /// The character with which the headers of a stage are whole is a `%`, the second one of their line.

@@ -143,10 +143,10 @@ pub fn kept_again()
 {}
 
 /// Two stages behind one kept text emit the same of whatever follows, if both tell the same of whether a comment is open.
-pub fn stages_behind_one_text_agree(one: &NabcStage, other: &NabcStage)
-    requires { comment_of one.now ≡ comment_of other.now }
-    ensures { (k : List ℕ) → Keeps one.now k → Keeps other.now k →
-        (xs : List Char) → events_left one.now xs ≡ events_left other.now xs }
+pub fn stages_behind_one_text_agree()
+    ensures { (one other : NabcStage) (k : List ℕ) → Keeps one k → Keeps other k →
+        comment_of one ≡ comment_of other →
+        (xs : List Char) → events_left one xs ≡ events_left other xs }
 {}
 
 /// A kept text gives the stage back. A fresh stage keeps it again whole, and behind it, and a `%` where a comment is open, placed anywhere,

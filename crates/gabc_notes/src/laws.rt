@@ -158,20 +158,19 @@ pub fn stages_that_tell_the_same_agree(one: &NoteStage, other: &NoteStage)
 
 /// Two stages behind one kept text that tell the same emit the same of whatever follows: the place of the bracket that is open, and whether a
 /// comment is open.
-pub fn stages_behind_one_text_agree(one: &NoteStage, other: &NoteStage)
-    requires opener { opener_of one.now ≡ opener_of other.now }
-    requires comment { comment_of one.now ≡ comment_of other.now }
-    ensures { (split : Bool) (macros : ℕ) (k : List ℕ) → Keeps split macros one.now k →
-        Keeps split macros other.now k →
-        (xs : List Char) → events_left one.now xs ≡ events_left other.now xs }
+pub fn stages_behind_one_text_agree()
+    ensures { (split : Bool) (macros : ℕ) (one other : NoteStage) (k : List ℕ) →
+        Keeps split macros one k → Keeps split macros other k →
+        opener_of one ≡ opener_of other → comment_of one ≡ comment_of other →
+        (xs : List Char) → events_left one xs ≡ events_left other xs }
 {}
 
 /// A stage that keeps a text tells an opener exactly if that text lies inside raw, and there no comment is open.
-pub fn an_opener_is_told_inside_raw(stage: &NoteStage)
-    ensures opener { (split : Bool) (macros : ℕ) (k : List ℕ) → Keeps split macros stage.now k →
-        is_some (opener_of stage.now) ≡ in_raw k }
-    ensures comment { (split : Bool) (macros : ℕ) (k : List ℕ) → Keeps split macros stage.now k →
-        comment_of stage.now ≡ true → in_raw k ≡ false }
+pub fn an_opener_is_told_inside_raw()
+    ensures opener { (split : Bool) (macros : ℕ) (s : NoteStage) (k : List ℕ) →
+        Keeps split macros s k → is_some (opener_of s) ≡ in_raw k }
+    ensures comment { (split : Bool) (macros : ℕ) (s : NoteStage) (k : List ℕ) →
+        Keeps split macros s k → comment_of s ≡ true → in_raw k ≡ false }
 {}
 
 /// Of a text that a stage keeps, each character is kept again behind those before it, and none of them ends the snippet.

@@ -13,6 +13,7 @@ ghost use Rattle.gabc_places.specs.Decoder.{known_of, known_at_end};
 ghost use Rattle.gabc_places.specs.StageLaw.{concat_of};
 ghost use Rattle.gabc_places.specs.Chain.{chain_events};
 ghost use Rattle.gabc_places.specs.witness.DecoderEvents.{events_left};
+ghost use Rattle.gabc_places.specs.DecoderMachine.{DecoderState, IsPartial};
 ghost use Rattle.gabc_places.specs.DecoderTells.{TellTheSame, MayBeTold, is_after_cr};
 ghost use Rattle.gabc_places.specs.Code.{severity_of, severity_by_kind};
 ghost use Rattle.gabc_places.specs.declared.code.Code.{Code};
@@ -116,16 +117,13 @@ pub fn a_decoder_emits_what_is_known(
     push_all(&mut decoder, bytes, out);
 }
 
-/// Two decoders that run, under one limit, and tell the same emit the same of whatever follows.
-pub fn decoders_that_tell_the_same_agree(one: &Decoder, other: &Decoder)
-    requires runs { one.now.running ≡ true }
-    requires other_runs { other.now.running ≡ true }
-    requires limit { one.now.limit ≡ other.now.limit }
-    requires told { TellTheSame one.now other.now }
-    ensures { (bytes : List ℕ) → events_left one.now bytes ≡ events_left other.now bytes }
-{
-    one.pending();
-}
+/// Two decoders that run, under one limit, and tell the same emit the same of whatever follows. The bytes that they tell of a
+/// character that is not whole are a part of one.
+pub fn decoders_that_tell_the_same_agree()
+    ensures { (one other : DecoderState) → one.running ≡ true → other.running ≡ true →
+        one.limit ≡ other.limit → IsPartial one.pending → TellTheSame one other →
+        (bytes : List ℕ) → events_left one bytes ≡ events_left other bytes }
+{}
 
 /// What a decoder tells may be told: a decoder can be made from it.
 pub fn what_a_decoder_tells_may_be_told(decoder: &Decoder)

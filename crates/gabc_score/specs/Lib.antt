@@ -17,6 +17,7 @@ pub mod ScoreEvents
 pub mod ScoreStage
 pub mod ScoreTells
 pub mod SpansPast
+pub mod StandAlike
 pub mod Stops
 pub mod Syllable
 pub mod SyllablesOfUnits

@@ -1,3 +1,4 @@
 pub mod BodyStage
+pub mod MayStand
 pub mod ReadAgain
 pub mod ScoreStage

@@ -21,6 +21,7 @@ ghost use Rattle.gabc_score.specs.declared.ending.InputEnding.{InputEnding};
 ghost use Rattle.gabc_score.specs.Events.{texts_by_definition, text_from, events_from};
 ghost use Rattle.gabc_score.specs.ScoreEvents.{HasNoEnd, ScoreOutput, fault_in, findings_in, has_end, head_events, outputs_of_text, score_outputs, syllables_in};
 ghost use Rattle.gabc_score.specs.HeldAside.{HoldTheSame, GiveTheSame};
+ghost use Rattle.gabc_score.specs.StandAlike.{StandAlike};
 ghost use Rattle.gabc_score.specs.HeldAgain.{MayBeHeld};
 ghost use Rattle.gabc_score.specs.ReadAgain.{CanBeReadInText, StandsBefore};
 ghost use Rattle.gabc_score.specs.Resumed.{StandsBehind};
@@ -30,6 +31,7 @@ ghost use Rattle.gabc_score.specs.ScoreStage.{AreCountsBelow, GivesAt, IsWithinA
 ghost use Rattle.gabc_score.specs.SpansPast.{FollowsSpans};
 ghost use Rattle.gabc_score.specs.Syllable.{UnplacedSyllable};
 ghost use Rattle.gabc_score.specs.UnitRead.{HoldsSomeUnit};
+ghost use Rattle.gabc_score.specs.witness.MayStand.{MayStand};
 ghost use Rattle.gabc_score.specs.witness.ReadAgain.{CanBeReadAgain};
 ghost use Rattle.gabc_places.specs.TextOfAnInput.{IsText};
 ghost use Rattle.gabc_score.specs.ToldWithin.{AreCountsWithin, IsPlace, IsToldWithin, TellsOfText, whole_syllables, written_behind};
@@ -83,14 +85,20 @@ pub fn at_most_one_syllable_is_held(stage: &ScoreStage)
     stage.at_most_one_is_held();
 }
 
+/// Where a stage stands, whatever it has read, a stage may stand. The laws of stages that may stand so hold of it, and of what it told once it is gone.
+pub fn a_stage_may_stand(stage: &ScoreStage)
+    ensures { MayStand stage.now }
+{
+    stage.may_stand();
+}
+
 /// In the body what a stage tells is within its limits, whatever it has read: the kept text of the syllable that is read, and of the one that is
 /// held the canonical text, also with what stands before it. Before the first syllable no span is open, and no comment is open inside an inner
 /// opener.
-pub fn what_is_told_is_within_the_limits(stage: &ScoreStage)
-    requires runs { is_some (before_of stage.now) ≡ true }
-    ensures { IsToldWithin stage.now }
+pub fn what_is_told_is_within_the_limits()
+    ensures { (s : ScoreStageState) → MayStand s → is_some (before_of s) ≡ true → IsToldWithin s }
 {
-    stage.tells_within();
+    gabc_notes::laws::an_opener_is_told_inside_raw();
 }
 
 /// In the body the whole syllables are those that were given, and the one that is held, if one is, whatever a stage has read.
@@ -130,12 +138,10 @@ pub fn a_resumed_stage_tells_of_a_text()
 
 /// In the body, while the comment behind the `%%` is open, a stage stands in front of the first text: no syllable is whole, and nothing is read of
 /// one.
-pub fn in_front_nothing_is_read(stage: &ScoreStage)
-    ensures { is_some (before_of stage.now) ≡ true → is_in_front stage.now.body.part ≡ true →
-        StandsInFront stage.now }
-{
-    stage.stands_in_front();
-}
+pub fn in_front_nothing_is_read()
+    ensures { (s : ScoreStageState) → MayStand s → is_some (before_of s) ≡ true →
+        is_in_front s.body.part ≡ true → StandsInFront s }
+{}
 
 /// In front of the first text a stage gives the same of whatever follows, wherever the next character is said to stand: its place counts only once
 /// the character has come.
@@ -196,77 +202,73 @@ pub fn a_fresh_stage_reads_texts(alloc: Global, limits: Limits) -> Result<ScoreS
     ScoreStage::with_limits(alloc, limits)
 }
 
-/// Two stages in the body that run under the same limits and tell the same give the same of whatever follows. Only the syllable that the one holds
-/// stands where the other gives its own, which says the same. The next character stands where a text that is read has counted it.
-pub fn stages_that_tell_the_same_agree(one: &ScoreStage, other: &ScoreStage)
-    requires runs { is_some (before_of one.now) ≡ true }
-    requires limits { one.now.limits ≡ other.now.limits }
-    requires before { before_of one.now ≡ before_of other.now }
-    requires held { HoldTheSame (one.now.before.syllables == 0) (held_of one.now) (held_of other.now) }
-    requires reading { reading_of one.now ≡ reading_of other.now }
-    requires openers { openers_of one.now.body.part ≡ openers_of other.now.body.part }
-    requires comment { is_in_comment one.now.body.part ≡ is_in_comment other.now.body.part }
-    requires front { is_in_front one.now.body.part ≡ is_in_front other.now.body.part }
-    requires next { one.now.held.next ≡ other.now.held.next }
-    requires stands { StandsAt one.now.held.next one.now.body.part }
-    requires other_stands { StandsAt other.now.held.next other.now.body.part }
-    ensures { (xs : List HeadEvent) → GiveTheSame (held_of one.now) (held_of other.now)
-        (left_of one.now xs) (left_of other.now xs) }
+/// Two stages in the body that run under the same limits and tell the same give the same of whatever follows, if both or none of them stand in front of
+/// the first text. Only the syllable that the one holds stands where the other gives its own, which says the same. The next character stands where a
+/// text that is read has counted it.
+pub fn stages_that_tell_the_same_agree()
+    ensures { (one other : ScoreStageState) → MayStand one → MayStand other → StandAlike one other →
+        is_in_front one.body.part ≡ is_in_front other.body.part →
+        (xs : List HeadEvent) →
+        GiveTheSame (held_of one) (held_of other) (left_of one xs) (left_of other xs) }
 {
-    one.agrees(other);
+    gabc_text::laws::a_kept_character_is_kept_again();
+    gabc_text::laws::stages_behind_one_text_agree();
+    gabc_notes::laws::a_kept_character_is_kept_again();
+    gabc_notes::laws::stages_behind_one_text_agree();
+    gabc_nabc::laws::stages_behind_one_text_agree();
 }
 
 /// So it is where only one of them stands in front of the first text, and the other in a comment of a text of which nothing is read, if the characters
 /// that follow stand one behind the other, from the place of the next one on.
-pub fn stages_that_tell_the_same_agree_in_line(one: &ScoreStage, other: &ScoreStage)
-    requires runs { is_some (before_of one.now) ≡ true }
-    requires limits { one.now.limits ≡ other.now.limits }
-    requires before { before_of one.now ≡ before_of other.now }
-    requires held { HoldTheSame (one.now.before.syllables == 0) (held_of one.now) (held_of other.now) }
-    requires reading { reading_of one.now ≡ reading_of other.now }
-    requires openers { openers_of one.now.body.part ≡ openers_of other.now.body.part }
-    requires comment { is_in_comment one.now.body.part ≡ is_in_comment other.now.body.part }
-    requires next { one.now.held.next ≡ other.now.held.next }
-    requires stands { StandsAt one.now.held.next one.now.body.part }
-    requires other_stands { StandsAt other.now.held.next other.now.body.part }
-    ensures { (xs : List HeadEvent) → StandInLine one.now.held.next xs →
-        GiveTheSame (held_of one.now) (held_of other.now)
-        (left_of one.now xs) (left_of other.now xs) }
+pub fn stages_that_tell_the_same_agree_in_line()
+    ensures { (one other : ScoreStageState) → MayStand one → MayStand other → StandAlike one other →
+        (xs : List HeadEvent) → StandInLine one.held.next xs →
+        GiveTheSame (held_of one) (held_of other) (left_of one xs) (left_of other xs) }
 {
-    one.agrees_in_line(other);
+    gabc_text::laws::a_kept_character_is_kept_again();
+    gabc_text::laws::a_comment_before_a_text_counts_for_nothing();
+    gabc_notes::laws::a_kept_character_is_kept_again();
+    stages_that_tell_the_same_agree();
 }
 
 /// The whole syllable that a stage holds, whatever it has read, holds some unit: a text and its notes, with one snippet where there are no NABC
 /// lines.
-pub fn what_is_held_holds_a_unit(stage: &ScoreStage)
-    ensures { IfSome (held_of stage.now) (HoldsSomeUnit stage.now.body.nabc_lines) }
+pub fn what_is_held_holds_a_unit()
+    ensures { (s : ScoreStageState) → MayStand s →
+        IfSome (held_of s) (HoldsSomeUnit s.body.nabc_lines) }
 {
-    stage.holds_a_unit();
+    gabc_text::laws::a_kept_text_is_said_in_full();
+    gabc_text::laws::spans_stand_for_the_view();
+    gabc_notes::laws::kept_again();
+    gabc_nabc::laws::kept_again();
 }
 
 /// Which spans are open behind the whole syllable that a stage holds, whatever it has read, follows from its text and from those that are open
 /// before it.
-pub fn spans_of_what_is_held_follow(stage: &ScoreStage)
-    ensures { IfSome (held_of stage.now) (FollowsSpans stage.now.before.spans) }
+pub fn spans_of_what_is_held_follow()
+    ensures { (s : ScoreStageState) → MayStand s →
+        IfSome (held_of s) (FollowsSpans s.before.spans) }
 {
-    stage.follows_spans();
+    gabc_text::laws::a_kept_text_is_said_in_full();
+    gabc_text::laws::spans_stand_for_the_view();
+    gabc_notes::laws::kept_again();
+    gabc_nabc::laws::kept_again();
 }
 
 /// The canonical text of the syllable that a stage holds is a text of an input, as long as what the stage tells is that of a text.
-pub fn what_is_held_is_a_text(stage: &ScoreStage)
-    requires told { TellsOfText stage.now }
-    ensures { IfSome (held_of stage.now) (λ m. IsText (written_behind stage.now.before m)) }
+pub fn what_is_held_is_a_text()
+    ensures { (s : ScoreStageState) → MayStand s → TellsOfText s →
+        IfSome (held_of s) (λ m. IsText (written_behind s.before m)) }
 {
     crate::unit_laws::the_canonical_text_of_a_unit_is_a_text();
-    what_is_held_holds_a_unit(stage);
+    what_is_held_holds_a_unit();
 }
 
 /// The whole syllable that a stage holds, whatever it has read, is within the stage's limits, wherever it stands in its word.
-pub fn what_is_held_is_within_the_limits(stage: &ScoreStage)
-    ensures { IfSome (held_of stage.now) (IsWithinAnywhere stage.now.limits) }
-{
-    stage.holds_within_limits();
-}
+pub fn what_is_held_is_within_the_limits()
+    ensures { (s : ScoreStageState) → MayStand s →
+        IfSome (held_of s) (IsWithinAnywhere s.limits) }
+{}
 
 /// Of a stage in the body the kept text of the syllable that it reads can be read again.
 pub fn what_is_read_can_be_read_again(stage: &ScoreStage)
@@ -312,5 +314,7 @@ pub fn a_kept_text_gives_the_stage_back(told: &ScoreStage, again: &mut ScoreStag
         return;
     };
     again.read_again(told.reading(), openers, in_comment, next);
-    told.agrees(again);
+    a_stage_may_stand(told);
+    a_stage_may_stand(again);
+    stages_that_tell_the_same_agree();
 }

@@ -170,12 +170,11 @@ pub fn stages_that_tell_the_same_agree(one: &TextStage, other: &TextStage)
 
 /// Two stages that keep one text emit the same of whatever follows, if they tell the same: the place of the opener, whether a comment is
 /// open, and the place of the next character.
-pub fn stages_behind_one_text_agree(one: &TextStage, other: &TextStage)
-    requires opener { opener_of one.now ≡ opener_of other.now }
-    requires comment { is_in_comment one.now ≡ is_in_comment other.now }
-    requires next { next_of one.now ≡ next_of other.now }
-    ensures { (k : List ℕ) → Keeps one.now k → Keeps other.now k →
-        (t : List ℕ) → events_left one.now t ≡ events_left other.now t }
+pub fn stages_behind_one_text_agree()
+    ensures { (one other : TextStage) (k : List ℕ) → Keeps one k → Keeps other k →
+        opener_of one ≡ opener_of other → is_in_comment one ≡ is_in_comment other →
+        next_of one ≡ next_of other →
+        (t : List ℕ) → events_left one t ≡ events_left other t }
 {}
 
 /// Whether a stage has an opener follows from the text that it keeps. A comment is open only where a `%` begins one behind this text,

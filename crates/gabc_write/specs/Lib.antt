@@ -8,6 +8,7 @@ pub mod DumpOfSyllables
 pub mod FileAgain
 pub mod Message
 pub mod PlainText
+pub mod SavedAlike
 pub mod SetDown
 pub mod SyllableMeaning
 pub mod ScoreAgain

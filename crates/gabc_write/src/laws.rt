@@ -21,6 +21,8 @@ ghost use Rattle.gabc_score.specs.declared.snippets.Snippet.{Snippet};
 ghost use Rattle.gabc_score.specs.declared.syllable.Position.{Position};
 ghost use Rattle.gabc_score.specs.ScoreTells.{before_of, before_with, held_of};
 ghost use Rattle.gabc_score.specs.Units.{BodyCutting, IsCut};
+ghost use Rattle.gabc_score.specs.witness.MayStand.{MayStand};
+ghost use Rattle.gabc_score.specs.witness.ScoreStage.{ScoreStageState};
 ghost use Rattle.gabc_score.specs.UnitRead.{HoldsSomeUnit};
 ghost use Rattle.gabc_score.specs.SyllablesOfUnits.{ScoreUnit, HoldsUnit, AreSyllablesOf, score_units};
 ghost use Rattle.gabc_write.specs.SyllableAgain.{AreSnippets, IsPrinted, IsOneUnit};
@@ -73,12 +75,12 @@ pub fn a_syllable_is_read_from_its_own_text()
 
 /// The whole syllable that a stage over a score holds, whatever the stage has read, is read again from its own canonical text, by itself, as one
 /// syllable that says the same, without an error. So it is if it is said to be the first one of the score.
-pub fn what_is_held_is_read_from_its_own_text(stage: &ScoreStage)
-    ensures { IfSome (held_of stage.now) (IsReadWhereItStands stage.now.body.nabc_lines
-        stage.now.body.macros) }
+pub fn what_is_held_is_read_from_its_own_text()
+    ensures { (s : ScoreStageState) → MayStand s →
+        IfSome (held_of s) (IsReadWhereItStands s.body.nabc_lines s.body.macros) }
 {
-    gabc_score::stage_laws::what_is_held_holds_a_unit(stage);
-    gabc_score::stage_laws::what_is_held_is_within_the_limits(stage);
+    gabc_score::stage_laws::what_is_held_holds_a_unit();
+    gabc_score::stage_laws::what_is_held_is_within_the_limits();
     a_syllable_is_read_from_its_own_text();
 }
 
@@ -89,9 +91,10 @@ pub fn what_is_held_may_be_held_by_its_text(stage: &ScoreStage)
     ensures { IfSome (held_of stage.now) (MayBeHeldByItsText stage.now.limits
         (before_with stage.now.body stage.now.before)) }
 {
-    gabc_score::stage_laws::what_is_told_is_within_the_limits(stage);
+    gabc_score::stage_laws::a_stage_may_stand(stage);
+    gabc_score::stage_laws::what_is_told_is_within_the_limits();
     gabc_score::unit_laws::some_events_leave_spans_open();
-    what_is_held_is_read_from_its_own_text(stage);
+    what_is_held_is_read_from_its_own_text();
 }
 
 /// The canonical texts of the syllables of a score's units, with the LF that ends a file, are a body of printed syllables, the

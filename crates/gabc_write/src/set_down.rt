@@ -11,8 +11,9 @@ ghost use Rattle.gabc_write.specs.machine.SetDown.{BeginsAlike, TellsAlike};
 use crate::laws::{what_is_held_is_read_from_its_own_text, what_is_held_may_be_held_by_its_text};
 use gabc_places::Room;
 use gabc_score::stage_laws::{
-    spans_of_what_is_held_follow, stages_that_tell_the_same_agree, what_is_held_holds_a_unit,
-    what_is_read_can_be_read_again, what_is_told_is_within_the_limits,
+    a_stage_may_stand, spans_of_what_is_held_follow, stages_that_tell_the_same_agree,
+    what_is_held_holds_a_unit, what_is_read_can_be_read_again,
+    what_is_told_is_within_the_limits,
 };
 use gabc_score::unit_laws::snippets_of_a_unit_stand_between_characters;
 use gabc_score::{ScoreEvent, ScoreStage};
@@ -39,9 +40,10 @@ fn hold_told(
         return true;
     };
     what_is_held_may_be_held_by_its_text(told);
-    what_is_held_is_read_from_its_own_text(told);
-    what_is_held_holds_a_unit(told);
-    spans_of_what_is_held_follow(told);
+    a_stage_may_stand(told);
+    what_is_held_is_read_from_its_own_text();
+    what_is_held_holds_a_unit();
+    spans_of_what_is_held_follow();
     snippets_of_a_unit_stand_between_characters();
     stage.hold_again(held, room)
 }
@@ -89,13 +91,15 @@ pub fn a_stage_is_set_down_again(
     ensures is { result ≡ true }
     ensures alike { GoesOnAlike told.now stage.new }
 {
-    what_is_told_is_within_the_limits(told);
+    a_stage_may_stand(told);
+    what_is_told_is_within_the_limits();
     if !hold_told(stage, told, held, room) {
         return false;
     }
     if !read_told(stage, told) {
         return false;
     }
-    stages_that_tell_the_same_agree(told, stage);
+    a_stage_may_stand(stage);
+    stages_that_tell_the_same_agree();
     true
 }

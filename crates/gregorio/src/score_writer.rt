@@ -241,7 +241,8 @@ impl ScoreWriter {
         ensures { self.now.score.part ≡ ScorePart.Body → IsAtOutset self.now.score.before }
     {
         if self.score.before().is_some() {
-            gabc_score::stage_laws::what_is_told_is_within_the_limits(&self.score);
+            gabc_score::stage_laws::a_stage_may_stand(&self.score);
+            gabc_score::stage_laws::what_is_told_is_within_the_limits();
         }
     }
 
@@ -254,8 +255,9 @@ impl ScoreWriter {
         ensures held { IfSome (held_of self.now.score)
             (λ m. IsText (written_behind self.now.score.before m)) }
     {
-        gabc_score::stage_laws::what_is_told_is_within_the_limits(&self.score);
-        gabc_score::stage_laws::what_is_held_is_a_text(&self.score);
+        gabc_score::stage_laws::a_stage_may_stand(&self.score);
+        gabc_score::stage_laws::what_is_told_is_within_the_limits();
+        gabc_score::stage_laws::what_is_held_is_a_text();
     }
 
     /// Returns the stage over the score.

@@ -15,7 +15,7 @@ use crate::engine::Engine;
 use gabc_places::laws::what_a_decoder_tells_may_be_told;
 use gabc_score::ScoreStage;
 use gabc_score::stage_laws::{
-    a_comment_in_front_can_be_read_in_a_text, in_front_nothing_is_read,
+    a_comment_in_front_can_be_read_in_a_text, a_stage_may_stand, in_front_nothing_is_read,
     what_is_read_can_be_read_again,
 };
 use gabc_write::laws::what_is_held_may_be_held_by_its_text;
@@ -28,7 +28,8 @@ fn texts_of_a_score_are_read(score: &ScoreStage)
 {
     what_is_held_may_be_held_by_its_text(score);
     what_is_read_can_be_read_again(score);
-    in_front_nothing_is_read(score);
+    a_stage_may_stand(score);
+    in_front_nothing_is_read();
     a_comment_in_front_can_be_read_in_a_text();
 }
 
