@@ -1,10 +1,8 @@
 //! What a stage over a body tells of the part in which it stands.
 
-ghost use Rattle.std.specs.Prelude.{◌≡◌, ℕ, List};
-ghost use Rattle.gabc_places.specs.declared.place.Char.{Char};
-ghost use Rattle.gabc_score.specs.ScoreTells.{is_in_comment, is_in_front, moved_part, openers_of, TellTheSame};
-ghost use Rattle.gabc_score.specs.machine.PartKeeps.{KeepTheSame, KeptParts, PartKeeps};
-ghost use Rattle.gabc_score.specs.witness.BodyStage.{running_events_left};
+ghost use Rattle.std.specs.Prelude.{◌≡◌, ℕ};
+ghost use Rattle.gabc_score.specs.ScoreTells.{is_in_comment, moved_part, openers_of};
+ghost use Rattle.gabc_score.specs.machine.PartKeeps.{KeptParts, PartKeeps};
 
 use crate::body_stage::{BodyPart, BodyStage};
 use gabc_places::Place;
@@ -47,13 +45,6 @@ impl BodyStage {
         }
     }
 
-    /// Returns whether the comment behind the `%%` is open, in front of the first text.
-    pub(crate) fn in_front(&self) -> bool
-        ensures { result ≡ is_in_front self.now.part }
-    {
-        matches!(self.part, BodyPart::Comment)
-    }
-
     /// Says that the next character stands at `at`. What is open keeps the place where it began.
     pub(crate) fn go_to(&mut self, at: Place)
         ensures moved { self.new ≡ record self.old { part = moved_part at self.old.part } }
@@ -62,35 +53,6 @@ impl BodyStage {
     {
         if let BodyPart::Text(stage) = &mut self.part {
             stage.go_to(at);
-        }
-    }
-
-    /// Does nothing but call laws. Its contract is one: two stages that keep the same parts and tell the same emit the same of whatever follows.
-    pub(crate) fn agrees(&self, other: &BodyStage)
-        requires lines { self.now.nabc_lines ≡ other.now.nabc_lines }
-        requires macros { self.now.macros ≡ other.now.macros }
-        requires keep { KeepTheSame self.now.nabc_lines self.now.macros self.now.part other.now.part }
-        requires tell { TellTheSame self.now.part other.now.part }
-        ensures { (xs : List Char) → running_events_left self.now xs
-            ≡ running_events_left other.now xs }
-    {
-        match &self.part {
-            BodyPart::Comment => {}
-            BodyPart::Text(one) => {
-                if let BodyPart::Text(other) = &other.part {
-                    gabc_text::laws::stages_behind_one_text_agree(one, other);
-                }
-            }
-            BodyPart::Notes { stage: one, .. } => {
-                if let BodyPart::Notes { stage: other, .. } = &other.part {
-                    gabc_notes::laws::stages_behind_one_text_agree(one, other);
-                }
-            }
-            BodyPart::Nabc { stage: one, .. } => {
-                if let BodyPart::Nabc { stage: other, .. } = &other.part {
-                    gabc_nabc::laws::stages_behind_one_text_agree(one, other);
-                }
-            }
         }
     }
 

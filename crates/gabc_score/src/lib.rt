@@ -14,7 +14,6 @@
 //! ```
 #![tactic(auto)]
 
-mod agreeing;
 mod before;
 mod body_result;
 mod body_stage;
@@ -26,7 +25,6 @@ mod context;
 mod ending;
 mod events;
 mod giving;
-mod held_units;
 mod in_front;
 mod kept_text;
 pub mod laws;

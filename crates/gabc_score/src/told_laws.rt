@@ -1,37 +1,24 @@
-//! That what a stage over a score tells is within bounds. Each function's contract is a law, and its body calls other laws or does nothing.
+//! What is known of any stage over a score. Each function's contract is a law, and its body calls other laws or does nothing.
 
-ghost use Rattle.std.specs.Prelude.{◌≡◌, ◌+◌, ℕ, length, true, is_some, option_to_list};
+ghost use Rattle.std.specs.Prelude.{◌≡◌, ◌+◌, length, true, is_some, option_to_list};
 ghost use Rattle.gabc_score.specs.ScoreTells.{before_of, held_of};
-ghost use Rattle.gabc_score.specs.ToldWithin.{HasNoCommentInside, IsToldWithin, whole_syllables};
-ghost use Rattle.gabc_score.specs.machine.PartKeeps.{KeptParts, PartKeeps};
-ghost use Rattle.gabc_score.specs.machine.ScoreMachine.{shown, IsInBody};
+ghost use Rattle.gabc_score.specs.ToldWithin.{whole_syllables};
+ghost use Rattle.gabc_score.specs.witness.MayStand.{MayStand};
+ghost use Rattle.gabc_score.specs.machine.ScoreMachine.{shown, IsInBody, IsScore};
 
-use crate::body_stage::{BodyPart, BodyStage};
 use crate::score_machine::{ScoreMachine, ScorePart};
 use crate::score_stage::ScoreStage;
 
-impl BodyStage {
-    /// Does nothing but call laws. Its contract is one: a part that keeps parts of a kept text has no comment open inside what an inner opener
-    /// opens.
-    pub(crate) fn has_no_comment_inside(&self)
-        ensures { (lines macros : ℕ) (p : KeptParts) → PartKeeps lines macros self.now.part p →
-            HasNoCommentInside self.now.part }
-    {
-        if let BodyPart::Notes { stage, .. } = &self.part {
-            gabc_notes::laws::an_opener_is_told_inside_raw(stage);
-        }
-    }
-}
-
 impl ScoreMachine {
-    /// Does nothing but call laws. Its contract is one: in the body what a machine tells is within its limits.
-    pub(crate) fn tells_within(&self)
-        requires body { self.now.part ≡ ScorePart.Body }
-        requires rests { IsInBody self.now }
-        ensures { IsToldWithin (shown self.now) }
+    /// Does nothing but call a law. Its contract is one: where a machine stands between two calls, a stage may stand.
+    fn may_stand(&self)
+        requires rests { IsScore self.now }
+        ensures { MayStand (shown self.now) }
     {
-        self.pair.at_most_one_is_held();
-        self.body.has_no_comment_inside();
+        match self.part {
+            ScorePart::Body => self.pair.at_most_one_is_held(),
+            ScorePart::Heads | ScorePart::Over => {}
+        }
     }
 
     /// Does nothing but call laws. Its contract is one: in the body the whole syllables are those that were given, and the one that is held.
@@ -46,12 +33,11 @@ impl ScoreMachine {
 }
 
 impl ScoreStage {
-    /// Does nothing but call laws. Its contract is one: in the body what a stage tells is within its limits.
-    pub(crate) fn tells_within(&self)
-        requires { is_some (before_of self.now) ≡ true }
-        ensures { IsToldWithin self.now }
+    /// Does nothing but call a law. Its contract is one: where a stage stands, a stage may stand.
+    pub(crate) fn may_stand(&self)
+        ensures { MayStand self.now }
     {
-        self.machine.tells_within();
+        self.machine.may_stand();
     }
 
     /// Does nothing but call laws. Its contract is one: in the body the whole syllables are those that were given, and the one that is held.
