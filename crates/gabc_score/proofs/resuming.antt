@@ -8,6 +8,8 @@ pub mod SameButHeld
 pub mod ScoresAgree
 pub mod StagesAgree
 pub mod StagesMove
+pub mod StatesAgree
+pub mod StatesStand
 pub mod CharactersGathered
 pub mod ReadOneByOne
 pub mod MadeOfEvents

@@ -1,30 +1,100 @@
--- Two stages over a body whose texts keep the same and tell the same emit the same.
-use Rattle.std.proofs.Common.{◌≡◌, ℕ, List, sym, ap, subst, ◌∙◌}
+-- Two stages over a body whose parts keep the same and tell the same emit the same.
+use Rattle.std.proofs.Common.{◌≡◌, ℕ, nat_lt, List, Bool, true, false, Some, None, refl, sym, ap, ◌∙◌}
+use Rattle.std.proofs.lemmas.Bool.{true≢false}
 use Rattle.gabc_places.specs.declared.place.Char.{Char}
+use Rattle.gabc_places.specs.declared.place.Place.{Place}
 use Rattle.gabc_text.specs.Events.{codes_of}
+use Rattle.gabc_text.specs.StageTells as text_tells
 use Rattle.gabc_text.specs.declared.stage.TextStage.{TextStage}
-use Rattle.gabc_text.specs.witness.EventsLeft.{events_left}
+use Rattle.gabc_text.specs.declared.text_event.TextEvent.{TextEvent}
+use Rattle.gabc_text.specs.witness.EventsLeft as text_events
 use Rattle.gabc_text.specs.witness.Keeps as text
+use Rattle.gabc_notes.specs.StageTells as note_tells
+use Rattle.gabc_notes.specs.declared.stage.NoteEvent.{NoteEvent}
+use Rattle.gabc_notes.specs.declared.stage.NoteStage.{NoteStage}
+use Rattle.gabc_notes.specs.witness.ItemMachine as note_events
+use Rattle.gabc_notes.specs.witness.Keeps as notes
+use Rattle.gabc_nabc.specs.declared.stage.NabcStage.{NabcStage}
+use Rattle.gabc_nabc.specs.witness.DescriptorMachine as nabc_events
+use Rattle.gabc_nabc.specs.witness.Keeps as nabc
 use Rattle.gabc_score.specs.declared.body_stage.BodyPart.{BodyPart}
 use Rattle.gabc_score.specs.declared.body_stage.BodyPart.TheVariants as part
-use Rattle.gabc_score.specs.Events.{InText, events_from}
-use Rattle.gabc_score.specs.machine.PartKeeps.{KeptParts, in_text, in_notes, KeepTheSame, PartKeeps}
+use Rattle.gabc_score.specs.declared.body_tells.Openers.{Openers}
+use Rattle.gabc_score.specs.Events.{PartAhead, InText, InNotes, events_from}
+use Rattle.gabc_score.specs.ScoreTells.{StandsAt, TellTheSame, is_in_front, next_in, openers_of}
+use Rattle.gabc_score.specs.machine.PartKeeps.{KeptParts, in_text, in_notes, AreBehind, KeepTheSame, PartKeeps}
 use Rattle.gabc_score.specs.witness.BodyStage.{BodyStageState, part_with, running_events_left, texts_by_stage}
 
--- both keep a text
-kept_text : (lines macros : ℕ) (s t : TextStage) (p : KeptParts) → PartKeeps lines macros (part.Text s) p → PartKeeps lines macros (part.Text t) p → (k : List ℕ) × (text.Keeps s k × text.Keeps t k)
-kept_text lines macros s t (in_text k) h g = (k, (h, g))
-kept_text lines macros s t (in_notes u earlier k) h g = absurd h
+not_both : {A : Type 0} → true ≡ false → A
+not_both e = absurd (true≢false e)
 
-pub texts_agree : (lines macros : ℕ) (a b : BodyStageState) (s t : TextStage) → a.part ≡ part.Text s → b.part ≡ part.Text t → a.nabc_lines ≡ b.nabc_lines → a.macros ≡ b.macros
-    → KeepTheSame lines macros a.part b.part → ((k : List ℕ) → text.Keeps s k → text.Keeps t k → (u : List ℕ) → events_left s u ≡ events_left t u)
-    → (xs : List Char) → running_events_left a xs ≡ running_events_left b xs
-texts_agree lines macros a b s t is_a is_b same_lines same_macros keep agree xs =
-    ap (λ (p : BodyPart). events_from texts_by_stage a.nabc_lines a.macros (part_with p xs) xs) is_a
-    ∙ ap (λ lists. events_from texts_by_stage a.nabc_lines a.macros (InText lists) xs) (agree k.0 k.1.0 k.1.1 (codes_of xs))
-    ∙ ap (λ (p : BodyPart). events_from texts_by_stage a.nabc_lines a.macros (part_with p xs) xs) (sym is_b)
-    ∙ ap (λ (l : ℕ). events_from texts_by_stage l a.macros (part_with b.part xs) xs) same_lines
-    ∙ ap (λ (l : ℕ). events_from texts_by_stage b.nabc_lines l (part_with b.part xs) xs) same_macros
-  where
-    k : (k : List ℕ) × (text.Keeps s k × text.Keeps t k)
-    k = kept_text lines macros s t keep.parts (subst (λ (p : BodyPart). PartKeeps lines macros p keep.parts) is_a keep.one) (subst (λ (p : BodyPart). PartKeeps lines macros p keep.parts) is_b keep.other)
+some_is : (p q : Place) → Some p ≡ Some q → p ≡ q
+some_is p q e = cc e
+
+none_is_some : {A : Type 0} (p : Place) → None ≡ Some p → A
+none_is_some p e = absurd (cc e)
+
+-- GABC and NABC are not read in one line
+two_lines : {A : Type 0} (lines macros line : ℕ) (t : List ℕ) (earlier : List (List ℕ)) → AreBehind lines macros 0 t earlier → AreBehind lines macros line t earlier → (line ≡ 0 → ⊥) → A
+two_lines lines macros line t earlier h g other = absurd (other (sym g.line_is ∙ h.line_is))
+
+module _ (text_agree : (s t : TextStage) (k : List ℕ) → text.Keeps s k → text.Keeps t k → text_tells.opener_of s ≡ text_tells.opener_of t → text_tells.is_in_comment s ≡ text_tells.is_in_comment t → text_tells.next_of s ≡ text_tells.next_of t
+    → (u : List ℕ) → text_events.events_left s u ≡ text_events.events_left t u)
+    (notes_agree : (split : Bool) (macros : ℕ) (s t : NoteStage) (k : List ℕ) → notes.Keeps split macros s k → notes.Keeps split macros t k → note_tells.opener_of s ≡ note_tells.opener_of t → note_tells.comment_of s ≡ note_tells.comment_of t
+    → (xs : List Char) → note_events.events_left s xs ≡ note_events.events_left t xs)
+    (nabc_agree : (s t : NabcStage) (k : List ℕ) → nabc.Keeps s k → nabc.Keeps t k → nabc.comment_of s ≡ nabc.comment_of t → (xs : List Char) → nabc_events.events_left s xs ≡ nabc_events.events_left t xs) where
+  -- what is left of the parts is the same
+  ahead_agree : (lines macros : ℕ) (p q : BodyPart) (parts : KeptParts) → PartKeeps lines macros p parts → PartKeeps lines macros q parts → TellTheSame p q → (xs : List Char) → part_with p xs ≡ part_with q xs
+  ahead_agree lines macros part.Comment part.Comment parts h g told xs = refl
+  ahead_agree lines macros part.Comment (part.Text t) parts h g told xs = not_both told.front
+  ahead_agree lines macros part.Comment (part.Notes opened t) parts h g told xs = not_both told.front
+  ahead_agree lines macros part.Comment (part.Nabc line opened t) parts h g told xs = not_both told.front
+  ahead_agree lines macros (part.Text s) part.Comment parts h g told xs = not_both (sym told.front)
+  ahead_agree lines macros (part.Text s) (part.Text t) (in_text k) h g told xs =
+      ap (λ (lists : List (List TextEvent)). InText lists) (text_agree s t k h g (ap (λ (o : Openers). o.inner) told.openers) told.comment (some_is _ _ told.next) (codes_of xs))
+  ahead_agree lines macros (part.Text s) (part.Text t) (in_notes u earlier k) h g told xs = absurd h
+  ahead_agree lines macros (part.Text s) (part.Notes opened t) parts h g told xs = none_is_some opened (ap (λ (o : Openers). o.notes) told.openers)
+  ahead_agree lines macros (part.Text s) (part.Nabc line opened t) parts h g told xs = none_is_some opened (ap (λ (o : Openers). o.notes) told.openers)
+  ahead_agree lines macros (part.Notes opened s) part.Comment parts h g told xs = not_both (sym told.front)
+  ahead_agree lines macros (part.Notes opened s) (part.Text t) parts h g told xs = none_is_some opened (sym (ap (λ (o : Openers). o.notes) told.openers))
+  ahead_agree lines macros (part.Notes opened s) (part.Notes other t) (in_text k) h g told xs = absurd h
+  ahead_agree lines macros (part.Notes opened s) (part.Notes other t) (in_notes u earlier k) h g told xs =
+      ap (λ (o : Place). InNotes 0 o (note_events.events_left s xs)) (some_is _ _ (ap (λ (o : Openers). o.notes) told.openers))
+      ∙ ap (λ (lists : List (List NoteEvent)). InNotes 0 other lists) (notes_agree (nat_lt 0 lines) macros s t k h.1 g.1 (ap (λ (o : Openers). o.inner) told.openers) told.comment xs)
+  ahead_agree lines macros (part.Notes opened s) (part.Nabc line other t) (in_text k) h g told xs = absurd h
+  ahead_agree lines macros (part.Notes opened s) (part.Nabc line other t) (in_notes u earlier k) h g told xs = two_lines lines macros line u earlier h.0 g.0 g.1.0
+  ahead_agree lines macros (part.Nabc line opened s) part.Comment parts h g told xs = not_both (sym told.front)
+  ahead_agree lines macros (part.Nabc line opened s) (part.Text t) parts h g told xs = none_is_some opened (sym (ap (λ (o : Openers). o.notes) told.openers))
+  ahead_agree lines macros (part.Nabc line opened s) (part.Notes other t) (in_text k) h g told xs = absurd h
+  ahead_agree lines macros (part.Nabc line opened s) (part.Notes other t) (in_notes u earlier k) h g told xs = two_lines lines macros line u earlier g.0 h.0 h.1.0
+  ahead_agree lines macros (part.Nabc line opened s) (part.Nabc beside other t) (in_text k) h g told xs = absurd h
+  ahead_agree lines macros (part.Nabc line opened s) (part.Nabc beside other t) (in_notes u earlier k) h g told xs =
+      ap (λ (l : ℕ). InNotes l opened (nabc_events.events_left s xs)) (sym h.0.line_is ∙ g.0.line_is)
+      ∙ ap (λ (o : Place). InNotes beside o (nabc_events.events_left s xs)) (some_is _ _ (ap (λ (o : Openers). o.notes) told.openers))
+      ∙ ap (λ (lists : List (List NoteEvent)). InNotes beside other lists) (nabc_agree s t k h.1.1 g.1.1 told.comment xs)
+
+  pub bodies_agree : (a b : BodyStageState) → a.nabc_lines ≡ b.nabc_lines → a.macros ≡ b.macros → KeepTheSame a.nabc_lines a.macros a.part b.part → TellTheSame a.part b.part
+      → (xs : List Char) → running_events_left a xs ≡ running_events_left b xs
+  bodies_agree a b same_lines same_macros keep told xs =
+      ap (λ (p : PartAhead). events_from texts_by_stage a.nabc_lines a.macros p xs) (ahead_agree a.nabc_lines a.macros a.part b.part keep.parts keep.one keep.other told xs)
+      ∙ ap (λ (l : ℕ). events_from texts_by_stage l a.macros (part_with b.part xs) xs) same_lines
+      ∙ ap (λ (l : ℕ). events_from texts_by_stage b.nabc_lines l (part_with b.part xs) xs) same_macros
+
+-- The place of the next character is the same, where both texts have counted it.
+pub next_is_told : (p q : BodyPart) (at place : Place) → at ≡ place → StandsAt at p → StandsAt place q → openers_of p ≡ openers_of q → is_in_front p ≡ is_in_front q → next_in p ≡ next_in q
+next_is_told part.Comment part.Comment at place e h g openers front = refl
+next_is_told part.Comment (part.Text t) at place e h g openers front = not_both front
+next_is_told part.Comment (part.Notes opened t) at place e h g openers front = refl
+next_is_told part.Comment (part.Nabc line opened t) at place e h g openers front = refl
+next_is_told (part.Text s) part.Comment at place e h g openers front = not_both (sym front)
+next_is_told (part.Text s) (part.Text t) at place e h g openers front = ap (λ (p : Place). Some p) (h ∙ (e ∙ sym g))
+next_is_told (part.Text s) (part.Notes opened t) at place e h g openers front = none_is_some opened (ap (λ (o : Openers). o.notes) openers)
+next_is_told (part.Text s) (part.Nabc line opened t) at place e h g openers front = none_is_some opened (ap (λ (o : Openers). o.notes) openers)
+next_is_told (part.Notes opened s) part.Comment at place e h g openers front = refl
+next_is_told (part.Notes opened s) (part.Text t) at place e h g openers front = none_is_some opened (sym (ap (λ (o : Openers). o.notes) openers))
+next_is_told (part.Notes opened s) (part.Notes other t) at place e h g openers front = refl
+next_is_told (part.Notes opened s) (part.Nabc line other t) at place e h g openers front = refl
+next_is_told (part.Nabc line opened s) part.Comment at place e h g openers front = refl
+next_is_told (part.Nabc line opened s) (part.Text t) at place e h g openers front = none_is_some opened (sym (ap (λ (o : Openers). o.notes) openers))
+next_is_told (part.Nabc line opened s) (part.Notes other t) at place e h g openers front = refl
+next_is_told (part.Nabc line opened s) (part.Nabc beside other t) at place e h g openers front = refl

@@ -1,9 +1,20 @@
 -- What a machine tells in the body is within its limits.
-use Rattle.std.proofs.Common.{◌≡◌, ℕ, ◌+◌, ◌-◌, ◌≤◌, ◌<◌, ◌^◌, ◌||◌, ◌==◌, min, Bool, List, [], ◌∷◌, ◌++◌, cond, length, codes, option_to_list, refl, sym, subst, arith, length-append}
+use Rattle.std.proofs.Common.{◌≡◌, ℕ, ◌+◌, ◌-◌, ◌≤◌, ◌<◌, ◌^◌, ◌||◌, ◌==◌, nat_lt, min, Bool, true, false, Option, Some, None, is_some, List, [], ◌∷◌, ◌++◌, cond, if◌then◌else◌, length, codes, option_to_list, refl, sym, ◌∙◌, subst, arith, length-append}
 use Rattle.std.specs.Prelude.{IfSome}
+use Rattle.std.proofs.lemmas.Bool.{true≢false}
 use Rattle.std.proofs.lemmas.Bool.Decides.{nat_tests}
 use Rattle.gabc_places.specs.declared.limits.Limits.{Limits}
+use Rattle.gabc_places.specs.declared.place.Place.{Place}
 use Rattle.gabc_text.specs.Canonical.{canonical_text}
+use Rattle.gabc_text.specs.StageTells.{is_comment, is_open}
+use Rattle.gabc_text.specs.declared.token_state.TokenState.{TokenState}
+use Rattle.gabc_text.specs.declared.token_state.TokenState.TheVariants as token_state
+use Rattle.gabc_notes.specs.Events.{in_raw}
+use Rattle.gabc_notes.specs.StageTells.{comment_of, opener_of}
+use Rattle.gabc_notes.specs.declared.stage.NoteStage.{NoteStage}
+use Rattle.gabc_notes.specs.witness.Keeps as notes
+use Rattle.gabc_score.specs.declared.body_stage.BodyPart.{BodyPart}
+use Rattle.gabc_score.specs.declared.body_stage.BodyPart.TheVariants as part
 use Rattle.gabc_score.specs.declared.before.Preceding.{Preceding}
 use Rattle.gabc_score.specs.declared.score_machine.ScoreMachine.{ScoreMachine}
 use Rattle.gabc_score.specs.declared.score_machine.ScorePart.{ScorePart}
@@ -15,6 +26,7 @@ use Rattle.gabc_score.specs.Syllable.{UnplacedSyllable}
 use Rattle.gabc_score.specs.ToldWithin.{HasNoCommentInside, IsHeldWithin, IsToldWithin}
 use Rattle.gabc_score.specs.machine.Gatherer.{Gathered}
 use Rattle.gabc_score.specs.machine.HeldWithin.{HoldsWithin}
+use Rattle.gabc_score.specs.machine.PartKeeps.{KeptParts, in_text, in_notes, PartKeeps}
 use Rattle.gabc_score.specs.machine.Preceded.{IsPreceded}
 use Rattle.gabc_score.specs.machine.ScoreMachine.{shown, IsInBody}
 
@@ -46,6 +58,30 @@ module _ (limits : Limits) (p : Preceding) (g : Gathered) (preceded : IsPreceded
             (subst (λ (ms : List UnplacedSyllable). g.total ≡ (with_each p ms).canonical) is preceded.total) (w.file refl) limits.in_range.input_most;
       }
   held_by (m ∷ n ∷ ms) is = absurd (subst (λ (ms : List UnplacedSyllable). length ms ≤ 1 → ⊥) (sym is) (λ l. omega (arith, l)) few)
+
+-- where a comment is open in a text, nothing else is
+no_opener : (state : TokenState) (place : Place) → is_comment state ≡ true → (if is_open state then Some place else None) ≡ None
+no_opener token_state.Plain place e = refl
+no_opener token_state.Dollar place e = refl
+no_opener token_state.Comment place e = refl
+no_opener (token_state.Tag name) place e = absurd (true≢false (sym e))
+no_opener (token_state.Raw kind matched) place e = absurd (true≢false (sym e))
+no_opener token_state.Translation place e = absurd (true≢false (sym e))
+
+is_none : (o : Option Place) → is_some o ≡ false → o ≡ None
+is_none None e = refl
+is_none (Some p) e = absurd (cc e)
+
+-- No comment is open inside an inner opener: a snippet of GABC has one only inside raw.
+pub no_comment_inside : ((split : Bool) (macros : ℕ) (s : NoteStage) (k : List ℕ) → notes.Keeps split macros s k → is_some (opener_of s) ≡ in_raw k)
+    → ((split : Bool) (macros : ℕ) (s : NoteStage) (k : List ℕ) → notes.Keeps split macros s k → comment_of s ≡ true → in_raw k ≡ false)
+    → (lines macros : ℕ) (p : BodyPart) (parts : KeptParts) → PartKeeps lines macros p parts → HasNoCommentInside p
+no_comment_inside opener comment lines macros part.Comment parts h open_is = refl
+no_comment_inside opener comment lines macros (part.Text s) parts h open_is = no_opener s.state s.progress.place open_is
+no_comment_inside opener comment lines macros (part.Notes opened s) (in_text k) h open_is = absurd h
+no_comment_inside opener comment lines macros (part.Notes opened s) (in_notes t earlier k) h open_is =
+    is_none (opener_of s) (opener (nat_lt 0 lines) macros s k h.1 ∙ comment (nat_lt 0 lines) macros s k h.1 open_is)
+no_comment_inside opener comment lines macros (part.Nabc line opened s) parts h open_is = refl
 
 pub tells_in_body : (m : ScoreMachine) → m.part ≡ score_part.Body → IsInBody m → length m.pair.gathered.made ≤ 1 → HasNoCommentInside m.body.part → IsToldWithin (shown m)
 tells_in_body m body h few comment = record {

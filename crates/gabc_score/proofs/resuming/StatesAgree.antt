@@ -1,0 +1,178 @@
+-- Two stages over a score that stand alike give the same, but for the syllable that is held.
+use Rattle.std.proofs.Common.{◌≡◌, ◌==◌, ℕ, List, [], ◌∷◌, ◌++◌, Bool, true, false, Option, Some, None, is_some, refl, sym, ap, subst, ◌∙◌}
+use Rattle.gabc_places.specs.Place.{saturating_next_place}
+use Rattle.gabc_places.specs.declared.limits.Limits.{Limits}
+use Rattle.gabc_places.specs.declared.place.Char.{Char}
+use Rattle.gabc_places.specs.declared.place.Place.{Place}
+use Rattle.gabc_headers.specs.declared.head_event.HeadEvent.{HeadEvent}
+use Rattle.gabc_text.specs.StageTells as text_tells
+use Rattle.gabc_text.specs.TextStage.{fresh_stage}
+use Rattle.gabc_text.specs.declared.stage.TextStage.{TextStage}
+use Rattle.gabc_text.specs.declared.text_event.TextEnd.TheVariants as text_end
+use Rattle.gabc_text.specs.declared.text_event.TextEvent.TheVariants as text_event
+use Rattle.gabc_text.specs.witness.EventsLeft as text_events
+use Rattle.gabc_text.specs.witness.Keeps as text
+use Rattle.gabc_notes.specs.StageTells as note_tells
+use Rattle.gabc_notes.specs.declared.stage.NoteStage.{NoteStage}
+use Rattle.gabc_notes.specs.witness.ItemMachine as note_events
+use Rattle.gabc_notes.specs.witness.Keeps as notes
+use Rattle.gabc_nabc.specs.declared.stage.NabcStage.{NabcStage}
+use Rattle.gabc_nabc.specs.witness.DescriptorMachine as nabc_events
+use Rattle.gabc_nabc.specs.witness.Keeps as nabc
+use Rattle.gabc_score.specs.declared.before.Before.{Before}
+use Rattle.gabc_score.specs.declared.body_stage.BodyPart.{BodyPart}
+use Rattle.gabc_score.specs.declared.body_stage.BodyPart.TheVariants as part
+use Rattle.gabc_score.specs.declared.score_machine.ScoreMachine.{ScoreMachine}
+use Rattle.gabc_score.specs.declared.score_machine.ScorePart.{ScorePart}
+use Rattle.gabc_score.specs.declared.score_machine.ScorePart.TheVariants as score_part
+use Rattle.gabc_score.specs.HeldAside.{GiveTheSame, HoldTheSame}
+use Rattle.gabc_score.specs.ScoreEvents.{ScoreOutput, characters_in}
+use Rattle.gabc_score.specs.ScoreStage.{StandInLine}
+use Rattle.gabc_score.specs.ScoreTells.{StandsAt, TellTheSame, before_of, before_with, held_of, in_body, is_in_comment, is_in_front, openers_of, reading_of}
+use Rattle.gabc_score.specs.StandAlike.{StandAlike}
+use Rattle.gabc_score.specs.Syllable.{UnplacedSyllable}
+use Rattle.gabc_score.specs.machine.ScoreMachine.{shown, IsInBody}
+use Rattle.gabc_score.specs.machine.SyllableBuilder.{OpenSyllable}
+use Rattle.gabc_score.specs.witness.BodyStage.{running_events_left}
+use Rattle.gabc_score.specs.witness.MayStand.{MayStand}
+use Rattle.gabc_score.specs.witness.ScoreStage.{ScoreStageState, left_of}
+use Rattle.gabc_score.proofs.resuming.BeginsAnywhere.{front_is, front_reads}
+use Rattle.gabc_score.proofs.resuming.FrontsAgree.{fronts_emit}
+use Rattle.gabc_score.proofs.resuming.NothingIsRead.{nothing_kept}
+use Rattle.gabc_score.proofs.resuming.ScoresAgree.{HeldAlike, bodies_give, bodies_keep, held_in_bodies, reads_in_body}
+use Rattle.gabc_score.proofs.resuming.StagesAgree.{bodies_agree, next_is_told}
+use Rattle.gabc_score.proofs.resuming.StatesStand.{IsRunning, both_in_body}
+use Rattle.gabc_score.proofs.score_events.FrontIsFirst.{stands_there}
+
+-- ---- where only the other one stands in front
+
+hold_back : (first before : Bool) (o p : Option UnplacedSyllable) → p ≡ None → HoldTheSame first o p → HoldTheSame before p o
+hold_back first before None None e h = tt
+hold_back first before None (Some n) e h = absurd h
+hold_back first before (Some m) None e h = absurd h
+hold_back first before (Some m) (Some n) e h = absurd (cc e)
+
+give_back : (first : Bool) (o p : Option UnplacedSyllable) (lists others : List (List ScoreOutput)) → p ≡ None → HoldTheSame first o p → GiveTheSame p o others lists → GiveTheSame o p lists others
+give_back first None None lists others e h given = sym given
+give_back first None (Some n) lists others e h given = absurd h
+give_back first (Some m) None lists others e h given = absurd h
+give_back first (Some m) (Some n) lists others e h given = absurd (cc e)
+
+-- the other way round, but for what is held
+turned : (one other : ScoreStageState) → held_of other ≡ None → StandAlike one other → StandAlike other one
+turned one other none alike = record {
+  runs = ap is_some (sym alike.before) ∙ alike.runs;
+  limits = sym alike.limits;
+  before = sym alike.before;
+  held = hold_back (one.before.syllables == 0) (other.before.syllables == 0) (held_of one) (held_of other) none alike.held;
+  reading = sym alike.reading;
+  openers = sym alike.openers;
+  comment = sym alike.comment;
+  next = sym alike.next;
+  stands = alike.other_stands;
+  other_stands = alike.stands;
+}
+
+-- ---- two machines
+
+before_told : (p q : ScorePart) (b c : Before) → p ≡ score_part.Body → q ≡ score_part.Body → in_body p b ≡ in_body q c → b ≡ c
+before_told p q b c e f same = some_is (sym (ap (λ (k : ScorePart). in_body k b) e) ∙ (same ∙ ap (λ (k : ScorePart). in_body k c) f))
+  where
+    some_is : Some b ≡ Some c → b ≡ c
+    some_is h = cc h
+
+module _ (text_kept : (s : TextStage) (a b : List ℕ) (c : ℕ) → text.Keeps s (a ++ c ∷ b) → text.kept_with a c ≡ c ∷ [])
+    (text_ends : (k : List ℕ) → text.ends_behind k ≡ true → text.kept_with k 40 ≡ [])
+    (gabc_kept : (split : Bool) (macros : ℕ) (s : NoteStage) (k more : List ℕ) (c : ℕ) → notes.Keeps split macros s (k ++ c ∷ more) → notes.IsKeptAgain split k c) where
+  module _ (a b : ScoreMachine) (ra : IsRunning a) (rb : IsRunning b) (alike : StandAlike (shown a) (shown b)) where
+    before : before_with a.body a.bounds.before ≡ before_with b.body b.bounds.before
+    before = before_told a.part b.part (before_with a.body a.bounds.before) (before_with b.body b.bounds.before) ra.part rb.part alike.before
+
+    reading : a.pair.gathered.builder.kept ≡ b.pair.gathered.builder.kept
+    reading = sym (reads_in_body a.part a.pair.gathered.builder.kept ra.part) ∙ (alike.reading ∙ reads_in_body b.part b.pair.gathered.builder.kept rb.part)
+
+    held : HeldAlike (a.bounds.before.syllables == 0) a.pair.gathered.made b.pair.gathered.made
+    held = held_in_bodies (a.bounds.before.syllables == 0) a.part b.part a.pair.gathered.made b.pair.gathered.made ra.part rb.part ra.few rb.few alike.held
+
+    -- they give the same where their bodies emit the same
+    given_alike : (xs : List HeadEvent) → running_events_left a.body (characters_in xs) ≡ running_events_left b.body (characters_in xs)
+        → GiveTheSame (held_of (shown a)) (held_of (shown b)) (left_of (shown a) xs) (left_of (shown b) xs)
+    given_alike xs same =
+        let given = bodies_give text_kept text_ends gabc_kept a b ra.body rb.body alike.limits before reading alike.next held xs same in
+        rw (ra.part, rb.part) given
+
+    module _ (front : is_in_front a.body.part ≡ true) (comment : is_in_comment b.body.part ≡ true)
+        (stays : (s : TextStage) (place : Place) → text.Keeps s [] → text.Keeps (text_tells.moved_to place s) [])
+        (on : (s : TextStage) (c : ℕ) (t : List ℕ) → text.Keeps s [] → text_tells.is_in_comment s ≡ true → (c == 10) ≡ false → text_events.events_left s (c ∷ t) ≡ [] ∷ text_events.events_left (text_tells.moved_to (saturating_next_place (text_tells.next_of s) c) s) t)
+        (begins : (s : TextStage) (t : List ℕ) → text.Keeps s [] → text_tells.is_in_comment s ≡ true → text_events.events_left s (10 ∷ t) ≡ text_events.events_left (fresh_stage (text_tells.next_of s)) (10 ∷ t))
+        (ends : (s : TextStage) → text.Keeps s [] → text_tells.is_in_comment s ≡ true → text_events.events_left s [] ≡ (text_event.Ended text_end.Finished ∷ []) ∷ []) where
+      -- the one stands in front of the first text
+      pub fronts_give : (xs : List HeadEvent) → StandInLine a.next xs → GiveTheSame (held_of (shown a)) (held_of (shown b)) (left_of (shown a) xs) (left_of (shown b) xs)
+      fronts_give xs line =
+          given_alike xs
+          (fronts_emit stays on begins ends a.body b.body (ap (λ (k : Before). k.nabc_lines) before) (ap (λ (k : Before). k.macros) before) front
+          (nothing_kept b.body.nabc_lines b.body.macros b.body.part b.bounds.behind.spans b.pair.gathered rb.body.reading (sym reading ∙ nothing))
+          comment b.next xs alike.other_stands (subst (λ (p : Place). StandInLine p xs) alike.next line))
+        where
+          nothing : a.pair.gathered.builder.kept ≡ []
+          nothing = ap (λ (o : OpenSyllable). o.kept) (front_reads a.body.part a.pair.gathered.builder front ra.body.counts)
+
+    module _ (text_agree : (s t : TextStage) (k : List ℕ) → text.Keeps s k → text.Keeps t k → text_tells.opener_of s ≡ text_tells.opener_of t → text_tells.is_in_comment s ≡ text_tells.is_in_comment t → text_tells.next_of s ≡ text_tells.next_of t
+        → (u : List ℕ) → text_events.events_left s u ≡ text_events.events_left t u)
+        (notes_agree : (split : Bool) (macros : ℕ) (s t : NoteStage) (k : List ℕ) → notes.Keeps split macros s k → notes.Keeps split macros t k → note_tells.opener_of s ≡ note_tells.opener_of t → note_tells.comment_of s ≡ note_tells.comment_of t
+        → (xs : List Char) → note_events.events_left s xs ≡ note_events.events_left t xs)
+        (nabc_agree : (s t : NabcStage) (k : List ℕ) → nabc.Keeps s k → nabc.Keeps t k → nabc.comment_of s ≡ nabc.comment_of t → (xs : List Char) → nabc_events.events_left s xs ≡ nabc_events.events_left t xs) where
+      -- both or none of them
+      pub machines_give : is_in_front a.body.part ≡ is_in_front b.body.part → (xs : List HeadEvent) → GiveTheSame (held_of (shown a)) (held_of (shown b)) (left_of (shown a) xs) (left_of (shown b) xs)
+      machines_give front xs =
+          given_alike xs
+          (bodies_agree text_agree notes_agree nabc_agree a.body b.body (ap (λ (k : Before). k.nabc_lines) before) (ap (λ (k : Before). k.macros) before)
+          (bodies_keep text_kept text_ends gabc_kept a b ra.body rb.body alike.limits before reading)
+          (record { openers = alike.openers; comment = alike.comment; front = front; next = next_is_told a.body.part b.body.part a.next b.next alike.next alike.stands alike.other_stands alike.openers front })
+          (characters_in xs))
+
+  -- ---- two states
+
+  -- of both or none in front
+  abbrev pub Agree : ScoreStageState → ScoreStageState → Type 0
+  Agree one other = (xs : List HeadEvent) → GiveTheSame (held_of one) (held_of other) (left_of one xs) (left_of other xs)
+
+  abbrev pub AgreeInLine : ScoreStageState → ScoreStageState → Type 0
+  AgreeInLine one other = (xs : List HeadEvent) → StandInLine one.held.next xs → GiveTheSame (held_of one) (held_of other) (left_of one xs) (left_of other xs)
+
+  module _ (text_agree : (s t : TextStage) (k : List ℕ) → text.Keeps s k → text.Keeps t k → text_tells.opener_of s ≡ text_tells.opener_of t → text_tells.is_in_comment s ≡ text_tells.is_in_comment t → text_tells.next_of s ≡ text_tells.next_of t
+      → (u : List ℕ) → text_events.events_left s u ≡ text_events.events_left t u)
+      (notes_agree : (split : Bool) (macros : ℕ) (s t : NoteStage) (k : List ℕ) → notes.Keeps split macros s k → notes.Keeps split macros t k → note_tells.opener_of s ≡ note_tells.opener_of t → note_tells.comment_of s ≡ note_tells.comment_of t
+      → (xs : List Char) → note_events.events_left s xs ≡ note_events.events_left t xs)
+      (nabc_agree : (s t : NabcStage) (k : List ℕ) → nabc.Keeps s k → nabc.Keeps t k → nabc.comment_of s ≡ nabc.comment_of t → (xs : List Char) → nabc_events.events_left s xs ≡ nabc_events.events_left t xs) where
+    pub states_agree : (one other : ScoreStageState) → MayStand one → MayStand other → StandAlike one other → is_in_front one.body.part ≡ is_in_front other.body.part → Agree one other
+    states_agree one other h g alike =
+        both_in_body (λ (s t : ScoreStageState). StandAlike s t → is_in_front s.body.part ≡ is_in_front t.body.part → Agree s t)
+        (λ a b ra rb like front. machines_give a b ra rb like text_agree notes_agree nabc_agree front)
+        one other h g alike.runs (ap is_some (sym alike.before) ∙ alike.runs) alike
+
+  module _ (stays : (s : TextStage) (place : Place) → text.Keeps s [] → text.Keeps (text_tells.moved_to place s) [])
+      (on : (s : TextStage) (c : ℕ) (t : List ℕ) → text.Keeps s [] → text_tells.is_in_comment s ≡ true → (c == 10) ≡ false → text_events.events_left s (c ∷ t) ≡ [] ∷ text_events.events_left (text_tells.moved_to (saturating_next_place (text_tells.next_of s) c) s) t)
+      (begins : (s : TextStage) (t : List ℕ) → text.Keeps s [] → text_tells.is_in_comment s ≡ true → text_events.events_left s (10 ∷ t) ≡ text_events.events_left (fresh_stage (text_tells.next_of s)) (10 ∷ t))
+      (ends : (s : TextStage) → text.Keeps s [] → text_tells.is_in_comment s ≡ true → text_events.events_left s [] ≡ (text_event.Ended text_end.Finished ∷ []) ∷ [])
+      (agree : (one other : ScoreStageState) → MayStand one → MayStand other → StandAlike one other → is_in_front one.body.part ≡ is_in_front other.body.part → Agree one other) where
+    in_comment : (p : BodyPart) → is_in_front p ≡ true → is_in_comment p ≡ true
+    in_comment p front = ap is_in_comment (front_is p front)
+
+    front_gives : (one other : ScoreStageState) → MayStand one → MayStand other → StandAlike one other → is_in_front one.body.part ≡ true → AgreeInLine one other
+    front_gives one other h g alike =
+        both_in_body (λ (s t : ScoreStageState). StandAlike s t → is_in_front s.body.part ≡ true → AgreeInLine s t)
+        (λ a b ra rb like front. fronts_give a b ra rb like front (sym like.comment ∙ in_comment a.body.part front) stays on begins ends)
+        one other h g alike.runs (ap is_some (sym alike.before) ∙ alike.runs) alike
+
+    pub states_agree_in_line : (none_held : (s : ScoreStageState) → MayStand s → is_some (before_of s) ≡ true → is_in_front s.body.part ≡ true → held_of s ≡ None) → (one other : ScoreStageState) → MayStand one → MayStand other → StandAlike one other → AgreeInLine one other
+    states_agree_in_line none_held one other h g alike = by (is_in_front one.body.part) (is_in_front other.body.part) refl refl
+      where
+        by : (x y : Bool) → is_in_front one.body.part ≡ x → is_in_front other.body.part ≡ y → AgreeInLine one other
+        by true true e f = λ xs line. agree one other h g alike (e ∙ sym f) xs
+        by false false e f = λ xs line. agree one other h g alike (e ∙ sym f) xs
+        by true false e f = front_gives one other h g alike e
+        by false true e f = λ xs line.
+            let none = none_held other g (ap is_some (sym alike.before) ∙ alike.runs) f in
+            give_back (one.before.syllables == 0) (held_of one) (held_of other) (left_of one xs) (left_of other xs) none alike.held
+            (front_gives other one g h (turned one other none alike) f xs (subst (λ (p : Place). StandInLine p xs) alike.next line))

@@ -1,0 +1,10 @@
+use Rattle.gabc_score.specs.ToldWithin.{IsToldWithin}
+use Rattle.gabc_score.proofs.resuming.StatesStand.{in_the_body}
+use Rattle.gabc_score.proofs.score_events.ToldIsWithin.{no_comment_inside, tells_in_body}
+use Rattle.gabc_score.proofs.stage_laws.what_is_told_is_within_the_limits.Goals as goal
+
+pub returns : goal.returns
+returns c =
+    let opener = c.an_opener_is_told_inside_raw.ensures in
+    in_the_body IsToldWithin
+    (λ m runs. tells_in_body m runs.part runs.body runs.few (no_comment_inside opener.opener opener.comment m.body.nabc_lines m.body.macros m.body.part runs.body.reading.parts runs.body.reading.keeps))
