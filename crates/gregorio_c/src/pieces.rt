@@ -19,7 +19,7 @@ use gregorio::SourceEnding;
 use std::alloc::Global;
 
 /// Returns the first `len` bytes of `bytes`, or all where it has fewer.
-fn front(bytes: &[u8], len: usize) -> &[u8]
+pub(crate) fn front(bytes: &[u8], len: usize) -> &[u8]
     ensures { result.now ≡ take len bytes.now }
 {
     &bytes[..len.min(bytes.len())]
