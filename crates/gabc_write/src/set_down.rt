@@ -12,8 +12,7 @@ use crate::laws::{what_is_held_is_read_from_its_own_text, what_is_held_may_be_he
 use gabc_places::Room;
 use gabc_score::stage_laws::{
     a_stage_may_stand, spans_of_what_is_held_follow, stages_that_tell_the_same_agree,
-    what_is_held_holds_a_unit, what_is_read_can_be_read_again,
-    what_is_told_is_within_the_limits,
+    what_is_held_holds_a_unit, what_is_read_can_be_read_again, what_is_told_is_within_the_limits,
 };
 use gabc_score::unit_laws::snippets_of_a_unit_stand_between_characters;
 use gabc_score::{ScoreEvent, ScoreStage};

@@ -1,7 +1,6 @@
 -- Two stages over a score that stand alike give the same, but for the syllable that is held.
 use Rattle.std.proofs.Common.{◌≡◌, ◌==◌, ℕ, List, [], ◌∷◌, ◌++◌, Bool, true, false, Option, Some, None, is_some, refl, sym, ap, subst, ◌∙◌}
 use Rattle.gabc_places.specs.Place.{saturating_next_place}
-use Rattle.gabc_places.specs.declared.limits.Limits.{Limits}
 use Rattle.gabc_places.specs.declared.place.Char.{Char}
 use Rattle.gabc_places.specs.declared.place.Place.{Place}
 use Rattle.gabc_headers.specs.declared.head_event.HeadEvent.{HeadEvent}
@@ -21,17 +20,16 @@ use Rattle.gabc_nabc.specs.witness.DescriptorMachine as nabc_events
 use Rattle.gabc_nabc.specs.witness.Keeps as nabc
 use Rattle.gabc_score.specs.declared.before.Before.{Before}
 use Rattle.gabc_score.specs.declared.body_stage.BodyPart.{BodyPart}
-use Rattle.gabc_score.specs.declared.body_stage.BodyPart.TheVariants as part
 use Rattle.gabc_score.specs.declared.score_machine.ScoreMachine.{ScoreMachine}
 use Rattle.gabc_score.specs.declared.score_machine.ScorePart.{ScorePart}
 use Rattle.gabc_score.specs.declared.score_machine.ScorePart.TheVariants as score_part
 use Rattle.gabc_score.specs.HeldAside.{GiveTheSame, HoldTheSame}
 use Rattle.gabc_score.specs.ScoreEvents.{ScoreOutput, characters_in}
 use Rattle.gabc_score.specs.ScoreStage.{StandInLine}
-use Rattle.gabc_score.specs.ScoreTells.{StandsAt, TellTheSame, before_of, before_with, held_of, in_body, is_in_comment, is_in_front, openers_of, reading_of}
+use Rattle.gabc_score.specs.ScoreTells.{before_of, before_with, held_of, in_body, is_in_comment, is_in_front}
 use Rattle.gabc_score.specs.StandAlike.{StandAlike}
 use Rattle.gabc_score.specs.Syllable.{UnplacedSyllable}
-use Rattle.gabc_score.specs.machine.ScoreMachine.{shown, IsInBody}
+use Rattle.gabc_score.specs.machine.ScoreMachine.{shown}
 use Rattle.gabc_score.specs.machine.SyllableBuilder.{OpenSyllable}
 use Rattle.gabc_score.specs.witness.BodyStage.{running_events_left}
 use Rattle.gabc_score.specs.witness.MayStand.{MayStand}
@@ -42,7 +40,6 @@ use Rattle.gabc_score.proofs.resuming.NothingIsRead.{nothing_kept}
 use Rattle.gabc_score.proofs.resuming.ScoresAgree.{HeldAlike, bodies_give, bodies_keep, held_in_bodies, reads_in_body}
 use Rattle.gabc_score.proofs.resuming.StagesAgree.{bodies_agree, next_is_told}
 use Rattle.gabc_score.proofs.resuming.StatesStand.{IsRunning, both_in_body}
-use Rattle.gabc_score.proofs.score_events.FrontIsFirst.{stands_there}
 
 -- ---- where only the other one stands in front
 

@@ -9,16 +9,20 @@ use Rattle.gabc_score.specs.declared.before.Preceding.{Preceding}
 use Rattle.gabc_score.specs.declared.before.Spans.{Spans}
 use Rattle.gabc_score.specs.Before.{preceding_of}
 use Rattle.gabc_score.specs.HeldAgain.{CanBeOpen, MayBeHeld}
-use Rattle.gabc_score.specs.HeldAside.{HoldTheSame, MayStandFor}
+use Rattle.gabc_headers.specs.declared.head_event.HeadEvent.{HeadEvent}
+use Rattle.gabc_score.specs.HeldAside.{GiveTheSame, HoldTheSame, MayStandFor}
 use Rattle.gabc_score.specs.Holding.{HasWholeSnippets}
+use Rattle.gabc_score.specs.ScoreStage.{StandInLine}
 use Rattle.gabc_score.specs.ScoreTells.{before_of, held_of}
 use Rattle.gabc_score.specs.SpansPast.{FollowsSpans}
+use Rattle.gabc_score.specs.StandAlike.{StandAlike}
 use Rattle.gabc_score.specs.Syllable.{UnplacedSyllable}
 use Rattle.gabc_places.specs.TextOfAnInput.{IsText}
 use Rattle.gabc_score.specs.ToldWithin.{IsHeldWithin, written_behind}
 use Rattle.gabc_score.specs.UnitRead.{HoldsSomeUnit}
-use Rattle.gabc_score.specs.witness.ScoreStage.{ScoreStageState}
-use Rattle.gabc_write.specs.SetDown.{SayTheSame}
+use Rattle.gabc_score.specs.witness.ScoreStage.{ScoreStageState, left_of}
+use Rattle.gabc_write.specs.SavedAlike.{AreSavedAlike}
+use Rattle.gabc_write.specs.SetDown.{GoesOnAlikeInLine, SayTheSame}
 use Rattle.gabc_write.specs.SyllableRead.{as_it_stands, IsReadFromItsText, IsReadWhereItStands}
 use Rattle.gabc_write.proofs.reading_again.HeldAgain.{bytes_behind, may_be_held, says_again, stands_for}
 use Rattle.gabc_write.proofs.reading_again.StageHoldsAgain.{told_before, told_in_body}
@@ -119,3 +123,24 @@ module _ (opened : (spans : Spans) → CanBeOpen spans) (whole : (lines : ℕ) (
       (subst (λ (b : Before). IfSome (held_of other) (IsHeldThere b)) before_one (held_there (told_before other) (held_of other) g.own g.spans g.holds))
       within (are_utf8 one.before (held_of one) texts)
       (same ∙ ap (λ (b : Before). option_map (written_behind (preceding_of b)) (held_of other)) before_one)
+
+-- so two of which the same is saved go on alike
+pub goes_on_in_line : (one other : ScoreStageState) → AreSavedAlike one other → HoldTheSame (one.before.syllables == 0) (held_of one) (held_of other) → SayTheSame (one.before.syllables == 0) (held_of one) (held_of other)
+    → (StandAlike one other → (xs : List HeadEvent) → StandInLine one.held.next xs → GiveTheSame (held_of one) (held_of other) (left_of one xs) (left_of other xs))
+    → GoesOnAlikeInLine one other
+goes_on_in_line one other saved held says agree = record {
+  held = held;
+  says = says;
+  gives = agree (record {
+    runs = saved.runs;
+    limits = saved.limits;
+    before = saved.before;
+    held = held;
+    reading = saved.reading;
+    openers = saved.openers;
+    comment = saved.comment;
+    next = saved.next;
+    stands = saved.stands;
+    other_stands = saved.other_stands;
+  });
+}

@@ -26,7 +26,7 @@ returns-clause-begins c =
     begins_with_one told c.args.stage.now c.requires.runs c.requires.stands m is
     (some_held (IsHeldWithin told.limits told.before) _ m is c.requires.within.held) c.args.held.now
     (some_held (λ (n : UnplacedSyllable). c.args.held.now ≡ written_behind told.before n) _ m is c.requires.text) c.utf8.held
-    (some_held (IsReadWhereItStands told.body.nabc_lines told.body.macros) _ m is c.what_is_held_is_read_from_its_own_text.ensures (told.before.syllables == 0))
+    (some_held (IsReadWhereItStands told.body.nabc_lines told.body.macros) _ m is (c.what_is_held_is_read_from_its_own_text.ensures told c.a_stage_may_stand.ensures) (told.before.syllables == 0))
     c.snippets_of_a_unit_stand_between_characters.ensures c.hold_again.new.self
-    (some_held (FollowsSpans told.before.spans) _ m is c.spans_of_what_is_held_follow.ensures)
-    (some_held (HoldsSomeUnit told.body.nabc_lines) _ m is c.what_is_held_holds_a_unit.ensures) (c.hold_again.ensures.held (returns-clause-holds c))
+    (some_held (FollowsSpans told.before.spans) _ m is (c.spans_of_what_is_held_follow.ensures told c.a_stage_may_stand.ensures))
+    (some_held (HoldsSomeUnit told.body.nabc_lines) _ m is (c.what_is_held_holds_a_unit.ensures told c.a_stage_may_stand.ensures)) (c.hold_again.ensures.held (returns-clause-holds c))
