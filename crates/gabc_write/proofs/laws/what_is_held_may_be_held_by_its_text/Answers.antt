@@ -8,4 +8,4 @@ returns c =
     let s = c.args.stage.now in
     let stands = c.a_stage_may_stand.ensures in
     held_by_its_text s.limits (told_before s) (held_of s) (c.some_events_leave_spans_open.ensures s.before.spans) (c.what_is_held_is_read_from_its_own_text.ensures s stands)
-    (c.what_is_told_is_within_the_limits.ensures s stands c.requires).held
+    (c.what_is_told_is_within_the_limits.ensures s stands c.requires.runs).held
