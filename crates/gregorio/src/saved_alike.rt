@@ -22,8 +22,8 @@ pub fn an_engine_may_run(engine: &Engine)
     requires { is_running engine.now ≡ true }
     ensures { MayRun engine.now }
 {
-    what_a_decoder_tells_may_be_told(engine.decoder());
-    a_stage_may_stand(engine.score());
+    what_a_decoder_tells_may_be_told(&engine.decoder);
+    a_stage_may_stand(engine.writer.score());
 }
 
 /// Two engines that run, call their inputs the same and save the same write the same of whatever follows, and end alike: all by which a run goes on stands in

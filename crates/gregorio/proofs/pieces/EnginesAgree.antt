@@ -1,10 +1,12 @@
 -- Two engines that save the same write the same of whatever follows.
-use Rattle.std.proofs.Common.{◌≡◌, ℕ, List, Bool, true, false, is_some, Result, refl}
+use Rattle.std.proofs.Common.{◌≡◌, ℕ, List, Bool, true, false, is_some, Result, refl, ap, subst, ◌∙◌}
 use Rattle.gabc_places.specs.DecoderMachine.{DecoderState, IsPartial}
-use Rattle.gabc_places.specs.DecoderTells.{TellTheSame}
+use Rattle.gabc_places.specs.BoundedList.{BoundedList}
+use Rattle.gabc_places.specs.DecoderTells.{MayBeTold, TellTheSame, is_after_cr}
 use Rattle.gabc_places.specs.declared.code.Fault.{Fault}
 use Rattle.gabc_places.specs.declared.place.Char.{Char}
 use Rattle.gabc_places.specs.witness.DecoderEvents as decoder
+use Rattle.gabc_headers.specs.declared.head_event.HeadEvent.{HeadEvent}
 use Rattle.gabc_headers.specs.witness.HeadEvents.{HeaderStageState, IsBehind, events_left, reading, text_held}
 use Rattle.gabc_score.specs.ScoreTells.{before_of, held_of}
 use Rattle.gabc_score.specs.ToldWithin.{IsToldWithin}
@@ -12,12 +14,15 @@ use Rattle.gabc_score.specs.witness.MayStand.{MayStand}
 use Rattle.gabc_score.specs.witness.ScoreStage.{ScoreStageState, left_of}
 use Rattle.gabc_write.specs.SetDown.{AreWrittenAlike, GoesOnAlikeInLine}
 use Rattle.gregorio.specs.declared.source_ending.SourceEnding.{SourceEnding}
+use Rattle.gregorio.specs.Engine.{is_running}
 use Rattle.gregorio.specs.Saved.{state_of}
+use Rattle.gregorio.specs.machine.Engine.{IsEngine}
+use Rattle.gregorio.specs.machine.ScoreWriter.{ScoreWriterState}
 use Rattle.gregorio.specs.witness.Engine.{EngineState, head_events_left, items_left, streams_left}
 use Rattle.gregorio.specs.witness.MayRun.{MayRun}
 use Rattle.gabc_write.specs.SavedAlike.{AreSavedAlike}
 use Rattle.gregorio.proofs.pieces.SavedInBodies.{Runs, bodies_agree, come_in_line, one_behind, other_behind, other_headed, saved_in_body, written_in_body}
-use Rattle.gregorio.proofs.pieces.SavedInHeaders.{RunsInHeads, decoders_alike, heads_agree, saved_in_heads}
+use Rattle.gregorio.proofs.pieces.SavedInHeaders.{RunsInHeads, decoders_alike, heads_agree, saved_in_heads, shown}
 use Rattle.gregorio.proofs.pieces.StatesOfScores.{score_in_body}
 use Rattle.gregorio.proofs.pieces.WritesAlike.{given_is_written_alike}
 
@@ -75,3 +80,20 @@ module _ (parts : PartsAgree) (one other : EngineState) (may : MayRun one) (may_
 
   pub engines_agree : Agree
   engines_agree = by_headed one.written.headed refl
+
+-- ---- an engine shows its parts
+
+pub may_run : (d : DecoderState) (h : HeaderStageState) (from_heads : BoundedList HeadEvent) (w : ScoreWriterState) (e : EngineState) → IsEngine d h from_heads w → shown d h w ≡ e → is_running e ≡ true
+    → MayBeTold d.limit d.taken d.place d.pending (is_after_cr d) → MayStand w.score → MayRun e
+may_run d h from_heads w e is view running decoder score =
+    let runs = ap (λ (s : EngineState). is_running s) view ∙ running in
+    subst MayRun view (record {
+      runs = runs;
+      step = is.step.runs runs;
+      force = is.step.force;
+      read = is.headers runs;
+      limits = is.together.limits;
+      tells = is.tells runs;
+      decoder = decoder;
+      score = score;
+    })
