@@ -7,6 +7,8 @@
 #include <stdint.h>
 #include <stdio.h>
 
+#include "../gregorio.h"
+
 struct text {
   uint8_t *bytes;
   size_t length;
@@ -16,17 +18,25 @@ struct test_case {
   uint32_t format;
   uint32_t flags;
   uint32_t status;
+  bool is_broken;
+  struct gregorio_options options;
   struct text input;
   struct text output;
   struct text messages;
 };
 
-/* Reads the next case of a whole input under the default limits. Ends the program where a line has other columns. */
+/* Reads the next case, of any limits, of a whole input or of one whose source fails. Ends the program where a line has other columns. */
+bool next_run(FILE *table, struct test_case *found);
+
+/* Reads the next case of a whole input under the default limits. */
 bool next_case(FILE *table, struct test_case *found);
+bool has_default_limits(const struct test_case *it);
 void free_case(struct test_case *it);
 
 /* Tells of a trial that failed, and counts it. */
 void check(bool passed, const char *what, size_t number);
+
+bool have_all_passed(void);
 
 /* Prints how many trials passed and failed, and returns the exit status. */
 int summary(const char *program);

@@ -42,8 +42,14 @@ void __wrap_free(void *block) {
   __real_free(block);
 }
 
+enum { STATE = 1 << 17 };
+
 static uint8_t output[1 << 16], messages[1 << 16];
 static struct gregorio_message records[1 << 12];
+
+/* The state of a run in the middle of a case, and one that a step may write. */
+static uint8_t middle[STATE], state[STATE];
+static size_t middle_length;
 
 /* A call of the library on a case. Its lengths, or its number of records in the first of them, go into `lengths`. */
 typedef uint32_t (*made_call)(const struct test_case *it, struct gregorio_lengths *lengths);
@@ -55,6 +61,44 @@ static uint32_t compile(const struct test_case *it, struct gregorio_lengths *len
 
 static uint32_t list_messages(const struct test_case *it, struct gregorio_lengths *lengths) {
   return gregorio_messages(it->input.bytes, it->input.length, it->flags, NULL, 0, records, sizeof records / sizeof *records, &lengths->output);
+}
+
+static uint32_t begin(const struct test_case *it, struct gregorio_lengths *lengths) {
+  struct gregorio_step step = {lengths->output, 0, lengths->messages};
+  uint32_t status = gregorio_begin(it->format, it->flags, NULL, 0, state, sizeof state, &step);
+  *lengths = (struct gregorio_lengths){step.state, step.messages};
+  return status;
+}
+
+/* Feeds the second half of a case. */
+static uint32_t feed(const struct test_case *it, struct gregorio_lengths *lengths) {
+  struct gregorio_step step = {77, lengths->output, lengths->messages};
+  size_t half = it->input.length / 2;
+  memcpy(state, middle, middle_length);
+  uint32_t status = gregorio_feed(it->format, it->flags, NULL, 0, state, sizeof state, middle_length, it->input.bytes + half, it->input.length - half,
+                                  output, sizeof output, messages, sizeof messages, &step);
+  if (status == GREGORIO_NO_MEMORY) check(step.state == 77 && memcmp(state, middle, middle_length) == 0, "the state without memory", 0);
+  *lengths = (struct gregorio_lengths){step.output, step.messages};
+  return status;
+}
+
+static uint32_t end(const struct test_case *it, struct gregorio_lengths *lengths) {
+  return gregorio_end(it->format, it->flags, NULL, 0, middle, middle_length, output, sizeof output, messages, sizeof messages, lengths);
+}
+
+static uint32_t end_broken(const struct test_case *it, struct gregorio_lengths *lengths) {
+  return gregorio_broken(it->format, it->flags, NULL, 0, middle, middle_length, output, sizeof output, messages, sizeof messages, lengths);
+}
+
+/* Runs up to the middle of a case, and returns whether the run goes on there. */
+static bool run_to_the_middle(const struct test_case *it) {
+  struct gregorio_step step;
+  uint32_t status = gregorio_begin(it->format, it->flags, NULL, 0, middle, sizeof middle, &step);
+  if (status != GREGORIO_RUNS) return false;
+  status = gregorio_feed(it->format, it->flags, NULL, 0, middle, sizeof middle, step.state, it->input.bytes, it->input.length / 2, output,
+                         sizeof output, messages, sizeof messages, &step);
+  middle_length = step.state;
+  return status == GREGORIO_RUNS;
 }
 
 /* Makes the call with the given allocation failing; 0 lets none fail. */
@@ -94,11 +138,21 @@ static void try_call(made_call made, const struct test_case *it, size_t number) 
   check(again.output == lengths.output && again.messages == lengths.messages, "the same again", number);
 }
 
+/* How many cases had a run that went on in their middle. */
+static size_t middles;
+
 static void try_case(const struct test_case *it, size_t number) {
   struct gregorio_lengths lengths;
   check(call(compile, it, 0, &lengths) == it->status, "status", number);
   try_call(compile, it, number);
   try_call(list_messages, it, number);
+  try_call(begin, it, number);
+  if (run_to_the_middle(it)) {
+    middles++;
+    try_call(feed, it, number);
+    try_call(end, it, number);
+    try_call(end_broken, it, number);
+  }
 }
 
 int main(int count, char **tables) {
@@ -112,6 +166,6 @@ int main(int count, char **tables) {
     free_case(&it);
   }
   fclose(table);
-  check(number > 0, "there are cases", 0);
+  check(number > 0 && middles > number / 2, "there are cases", 0);
   return summary("memory");
 }

@@ -8,26 +8,65 @@
 #include "../gregorio.h"
 #include "cases.h"
 
-enum { THREADS = 4, CASES = 1000, ROUNDS = 20, ROOM = 1 << 16, STACK = 64 << 10 };
+enum { THREADS = 4, CASES = 1000, ROUNDS = 20, ROUNDS_IN_PIECES = 2, ROOM = 1 << 16, STATE = 1 << 17, STACK = 64 << 10 };
 
 static struct test_case cases[CASES];
 static size_t case_count;
 
-static bool is_answered(const struct test_case *it, uint8_t *output, uint8_t *messages) {
+/* What a thread writes into. */
+struct buffers {
+  uint8_t *output, *messages, *state;
+};
+
+static bool is_answer(const struct test_case *it, uint32_t status, const struct buffers *buffers, const struct gregorio_lengths *lengths) {
+  return status == it->status && lengths->output == it->output.length && lengths->messages == it->messages.length &&
+         memcmp(buffers->output, it->output.bytes, lengths->output) == 0 && memcmp(buffers->messages, it->messages.bytes, lengths->messages) == 0;
+}
+
+static bool is_answered(const struct test_case *it, const struct buffers *buffers) {
   struct gregorio_lengths lengths;
-  uint32_t status =
-      gregorio_compile(it->input.bytes, it->input.length, it->format, it->flags, NULL, 0, output, ROOM, messages, ROOM, &lengths);
-  return status == it->status && lengths.output == it->output.length && lengths.messages == it->messages.length &&
-         memcmp(output, it->output.bytes, lengths.output) == 0 && memcmp(messages, it->messages.bytes, lengths.messages) == 0;
+  uint32_t status = gregorio_compile(it->input.bytes, it->input.length, it->format, it->flags, NULL, 0, buffers->output, ROOM, buffers->messages,
+                                     ROOM, &lengths);
+  return is_answer(it, status, buffers, &lengths);
+}
+
+/* Feeds a piece, and counts what it has written in all. */
+static uint32_t feed(const struct test_case *it, const struct buffers *buffers, const uint8_t *piece, size_t length, size_t *state,
+                     struct gregorio_lengths *all) {
+  struct gregorio_step step = {0, 0, 0};
+  uint32_t status = gregorio_feed(it->format, it->flags, NULL, 0, buffers->state, STATE, *state, piece, length, buffers->output + all->output,
+                                  ROOM - all->output, buffers->messages + all->messages, ROOM - all->messages, &step);
+  *state = step.state;
+  all->output += step.output;
+  all->messages += step.messages;
+  return status;
+}
+
+static bool is_answered_in_pieces(const struct test_case *it, const struct buffers *buffers) {
+  struct gregorio_step step = {0, 0, 0};
+  struct gregorio_lengths all = {0, 0}, last = {0, 0};
+  size_t half = it->input.length / 2;
+  uint32_t status = gregorio_begin(it->format, it->flags, NULL, 0, buffers->state, STATE, &step);
+  if (status == GREGORIO_RUNS) status = feed(it, buffers, it->input.bytes, half, &step.state, &all);
+  if (status == GREGORIO_RUNS) status = feed(it, buffers, it->input.bytes + half, it->input.length - half, &step.state, &all);
+  if (status == GREGORIO_RUNS) {
+    status = gregorio_end(it->format, it->flags, NULL, 0, buffers->state, step.state, buffers->output + all.output, ROOM - all.output,
+                          buffers->messages + all.messages, ROOM - all.messages, &last);
+  }
+  return is_answer(it, status, buffers, &(struct gregorio_lengths){all.output + last.output, all.messages + last.messages});
 }
 
 static void *work(void *wrong) {
-  uint8_t *output = malloc(ROOM), *messages = malloc(ROOM);
+  struct buffers buffers = {malloc(ROOM), malloc(ROOM), malloc(STATE)};
   for (int round = 0; round < ROUNDS; round++) {
-    for (size_t i = 0; i < case_count; i++) *(size_t *)wrong += !is_answered(&cases[i], output, messages);
+    for (size_t i = 0; i < case_count; i++) {
+      *(size_t *)wrong += !is_answered(&cases[i], &buffers);
+      if (round < ROUNDS_IN_PIECES) *(size_t *)wrong += !is_answered_in_pieces(&cases[i], &buffers);
+    }
   }
-  free(output);
-  free(messages);
+  free(buffers.output);
+  free(buffers.messages);
+  free(buffers.state);
   return NULL;
 }
 

@@ -13,15 +13,18 @@ Ky(f)ri(//)
 ...     print(message.line, message.column, message.code, message.text)
 3 15 E1 character left out of the notes
 
-`gregorio_chant.dump` reads a score into objects, each with its place; the command `gregorio-chant` checks and formats files. The answers of
-`compile` and `check` are proved. What else stands here is only tested.
+`Run` takes a score in pieces. `gregorio_chant.dump` reads a score into objects, each with its place; the command `gregorio-chant` checks and formats
+files. The answers of `compile`, `check` and `Run` are proved. What else stands here is only tested.
 """
 from __future__ import annotations
 
 from importlib.metadata import version
 
 from gregorio_chant.library import check, compile
-from gregorio_chant.results import Format, Kind, Message, Report, Result, Status
+from gregorio_chant.results import Format, Kind, Message, Report, Result, RunOverError, StateError, Status, Step
+from gregorio_chant.runs import Run, pieces
 
 __version__ = version("gregorio-chant")
-__all__ = ["Format", "Kind", "Message", "Report", "Result", "Status", "check", "compile"]
+__all__ = [
+    "Format", "Kind", "Message", "Report", "Result", "Run", "RunOverError", "StateError", "Status", "Step", "check", "compile", "pieces",
+]

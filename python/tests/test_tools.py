@@ -1,9 +1,13 @@
-"""Tries the worked tools of examples/tools: what they print, and how long they are."""
+"""Tries the worked tools of examples/tools: what they print, how long they are, and a server that is ended in the middle of an upload."""
 from __future__ import annotations
 
+import http.client
+import socket
 import subprocess
 import sys
 import unittest
+from pathlib import Path
+from urllib.parse import urlsplit
 
 from gregorio_chant import Status, compile
 from support import EXAMPLES, InFolder
@@ -18,8 +22,8 @@ def run(tool: str, *words: str, data: bytes = b"") -> subprocess.CompletedProces
 class Tools(InFolder):
     def test_length(self) -> None:
         tools = sorted(TOOLS.glob("*.py"))
-        self.assertEqual([it.name for it in tools], ["incipits.py", "neumes.py", "transpose.py"])
-        for it in tools:
+        self.assertEqual([it.name for it in tools], ["incipits.py", "neumes.py", "transpose.py", "upload_server.py"])
+        for it in tools[:3]:
             self.assertLess(len(it.read_text(encoding="utf-8").split("\n")), 25)
 
     def test_incipits(self) -> None:
@@ -55,3 +59,108 @@ class Tools(InFolder):
             [["3", "pes", "a(fg)", "in", "a.gabc,", "syllable", "2"], ["1", "torculus", "b(fgf)", "in", "a.gabc,", "syllable", "3"],
              ["1", "scandicus-subpunctis", "b(fghGF)", "in", "a.gabc,", "syllable", "3"]], ran.stderr,
         )
+
+
+class UploadServer(InFolder):
+    """Each test starts the server on a free port of this machine, and ends it."""
+
+    def setUp(self) -> None:
+        super().setUp()
+        self.server: subprocess.Popen[str] | None = None
+        self.start()
+        self.addCleanup(self.stop)
+
+    def start(self) -> None:
+        self.server = subprocess.Popen([sys.executable, str(TOOLS / "upload_server.py"), "scores"], stdout=subprocess.PIPE, text=True)
+        assert self.server.stdout is not None
+        self.port = urlsplit(self.server.stdout.readline().strip()).port
+
+    def stop(self) -> None:
+        """Ends the server at once, whatever it does."""
+        assert self.server is not None and self.server.stdout is not None
+        self.server.kill()
+        self.server.wait(20)
+        self.server.stdout.close()
+
+    def ask(self, method: str, path: str, body: bytes | None = None, **headers: str) -> tuple[int, bytes, http.client.HTTPMessage]:
+        """Makes a request, and returns the status, the body and the headers of the answer."""
+        assert self.port is not None
+        asked = http.client.HTTPConnection("127.0.0.1", self.port, timeout=20)
+        asked.request(method, path, body, {name.replace("_", "-"): it for name, it in headers.items()})
+        answer = asked.getresponse()
+        got = (answer.status, answer.read(), answer.headers)
+        asked.close()
+        return got
+
+    def begin(self, format: str = "gabc") -> str:
+        status, _, headers = self.ask("POST", f"/scores?format={format}")
+        self.assertEqual(status, 201)
+        self.assertRegex(headers["Location"], r"^/scores/[0-9a-f]{32}$")
+        return str(headers["Location"])
+
+    def offset(self, path: str) -> int:
+        return int(self.ask("HEAD", path)[2]["Upload-Offset"])
+
+    def send(self, path: str, score: bytes, count: int) -> None:
+        """Sends at most `count` more bytes of the score, from where the server stands."""
+        at = self.offset(path)
+        piece = score[at:at + count]
+        status, _, headers = self.ask("PATCH", path, piece, Upload_Offset=str(at))
+        self.assertEqual((status, headers["Upload-Offset"]), (204, str(at + len(piece))))
+
+    def check_answers(self, path: str, score: bytes, format: str) -> None:
+        result = compile(score, format)
+        self.assertEqual(self.ask("POST", f"{path}/end")[:2], (200, b"%d\n" % result.status))
+        self.assertEqual(self.ask("GET", path)[1], result.output.encode())
+        self.assertEqual(self.ask("GET", f"{path}/messages")[1], result.messages_text.encode())
+
+    def test_restarts(self) -> None:
+        """The server is ended and started again behind each piece."""
+        score = (EXAMPLES / "introit.gabc").read_bytes()
+        for format in ("gabc", "dump"):
+            path = self.begin(format)
+            while self.offset(path) < len(score):
+                self.send(path, score, 400)
+                self.stop()
+                self.start()
+            self.check_answers(path, score, format)
+
+    def test_broken_connection(self) -> None:
+        """What came before a connection broke is kept, and what the server wrote behind its last state is cut off."""
+        score = (EXAMPLES / "every-finding.gabc").read_bytes()
+        path = self.begin()
+        assert self.port is not None
+        with socket.create_connection(("127.0.0.1", self.port), timeout=20) as half:
+            head = f"PATCH {path} HTTP/1.1\r\nHost: localhost\r\nUpload-Offset: 0\r\nContent-Length: {len(score)}\r\n\r\n"
+            half.sendall(head.encode() + score[:100])
+            half.shutdown(socket.SHUT_WR)
+            self.assertEqual(half.recv(100), b"")
+        self.assertEqual(self.offset(path), 100)
+        self.stop()
+        for name in ("output", "messages"):
+            with (Path("scores") / path[8:] / name).open("ab") as file:
+                file.write(b"what no state tells")
+        self.start()
+        self.send(path, score, len(score))
+        self.check_answers(path, score, "gabc")
+
+    def test_fatal_fault(self) -> None:
+        score = b"name: a;\n%%\n(c4) a(f) b(g)\xff c(h)"
+        path = self.begin()
+        self.send(path, score, len(score))
+        self.assertEqual(self.ask("PATCH", path, b"a", Upload_Offset=str(len(score)))[0], 409)
+        self.check_answers(path, score, "gabc")
+
+    def test_refusals(self) -> None:
+        path = self.begin()
+        requests: list[tuple[str, str, dict[str, str], int]] = [
+            ("POST", "/scores?format=gtex", {}, 400), ("POST", "/other", {}, 404), ("GET", "/scores/../state", {}, 404),
+            ("GET", f"{path}/state", {}, 404), ("GET", "/scores/" + "0" * 32, {}, 404), ("PATCH", path, {}, 400),
+            ("PATCH", path, {"Upload-Offset": "1"}, 409), ("PATCH", path, {"Upload-Offset": "-1"}, 400),
+            ("PATCH", path, {"Upload-Offset": "0", "Content-Length": str(1 << 30)}, 413),
+        ]
+        for method, where, headers, status in requests:
+            self.assertEqual(self.ask(method, where, b"" if method == "PATCH" else None, **headers)[0], status, (method, where))
+        self.assertEqual(self.ask("DELETE", path)[0], 204)
+        self.assertEqual(self.ask("HEAD", path)[0], 404)
+        self.assertEqual(list(Path("scores").iterdir()), [])

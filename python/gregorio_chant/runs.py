@@ -1,0 +1,224 @@
+"""Runs: scores that come in pieces, whose state between two pieces is bytes."""
+from __future__ import annotations
+
+import ctypes
+from collections.abc import Callable, Iterable, Iterator
+from typing import Protocol
+
+from gregorio_chant.library import LEAST, LIBRARY, NO_MEMORY, NUMBERS, TIMES, Key, Lengths, new_key
+from gregorio_chant.memory import Borrowed, Room
+from gregorio_chant.results import Format, RunOverError, StateError, Status, Step
+
+_RUNS = 6
+_SHORT = 7
+_NO_STATE = 8
+_OTHER_STATE = 9
+
+
+class _Options(ctypes.Structure):
+    _fields_ = [
+        ("header", ctypes.c_uint32), ("syllable", ctypes.c_uint32), ("input", ctypes.c_uint32), ("reserved", ctypes.c_uint32), ("key", Key),
+    ]
+
+
+class _Step(ctypes.Structure):
+    _fields_ = [("state", ctypes.c_size_t), ("output", ctypes.c_size_t), ("messages", ctypes.c_size_t)]
+
+
+_begin, _feed, _end, _broken = LIBRARY.gregorio_begin, LIBRARY.gregorio_feed, LIBRARY.gregorio_end, LIBRARY.gregorio_broken
+_begin.argtypes = [
+    ctypes.c_uint32, ctypes.c_uint32, ctypes.POINTER(_Options), ctypes.c_size_t, ctypes.c_void_p, ctypes.c_size_t, ctypes.POINTER(_Step),
+]
+_feed.argtypes = [
+    ctypes.c_uint32, ctypes.c_uint32, ctypes.POINTER(_Options), ctypes.c_size_t, ctypes.c_void_p, ctypes.c_size_t, ctypes.c_size_t,
+    ctypes.c_void_p, ctypes.c_size_t, ctypes.c_void_p, ctypes.c_size_t, ctypes.c_void_p, ctypes.c_size_t, ctypes.POINTER(_Step),
+]
+_end.argtypes = _broken.argtypes = [
+    ctypes.c_uint32, ctypes.c_uint32, ctypes.POINTER(_Options), ctypes.c_size_t, ctypes.c_void_p, ctypes.c_size_t,
+    ctypes.c_void_p, ctypes.c_size_t, ctypes.c_void_p, ctypes.c_size_t, ctypes.POINTER(Lengths),
+]
+_begin.restype = _feed.restype = _end.restype = _broken.restype = ctypes.c_uint32
+LIBRARY.gregorio_state_bound.restype = ctypes.c_size_t
+LIBRARY.gregorio_state_bound.argtypes = [ctypes.POINTER(_Options), ctypes.c_size_t]
+# How many bytes a state has at most.
+_BOUND: int = LIBRARY.gregorio_state_bound(None, 0)
+
+
+class _Source(Protocol):
+    """A file that reads bytes into a buffer."""
+
+    def readinto(self, buffer: bytearray, /) -> int | None: ...
+
+
+def pieces(file: _Source, size: int = 1 << 16) -> Iterator[memoryview]:
+    """Yields what stands in the binary `file`, in pieces of at most `size` bytes. Each is lent until the next one is read, and copied nowhere.
+
+    Of a pipe or a connection that was opened with a buffer a piece is what has come; no piece is waited for until it is full. Raises
+    `ValueError` for a size below 1, and `BlockingIOError` where a file that does not wait has nothing yet.
+    """
+    if size < 1:
+        raise ValueError(f"a piece of {size} bytes")
+    buffer = bytearray(size)
+    read = getattr(file, "readinto1", file.readinto)
+    while True:
+        count = read(buffer)
+        if count is None:
+            raise BlockingIOError("the file has nothing to read yet")
+        if not count:
+            return
+        yield memoryview(buffer)[:count]
+
+
+def _raise_where_wrong(answer: int) -> None:
+    """Raises what stands for a step that was not made."""
+    if answer == NO_MEMORY:
+        raise MemoryError("not enough memory for the next step of the run")
+    if answer == _NO_STATE:
+        raise StateError("the bytes are no state of a run")
+    if answer == _OTHER_STATE:
+        raise StateError("the state is one of another format, of other warnings or of other limits")
+
+
+class Run:
+    """A run over a score that comes in pieces, under the default limits.
+
+    The outputs of all steps joined, and their messages joined, are those of one `compile` over the whole score, and so is the last status.
+    `format` and `all_warnings` are as for `compile`. A run holds nothing but its state, and need not be closed. One thread at a time may feed a
+    run; runs share nothing. While a step is made, other threads run.
+
+    >>> run = Run()
+    >>> steps = [run.feed(b"name: Kyrie;\\n%%\\n(c4) Ky(f)r")]
+    >>> later = Run.restore(run.state)
+    >>> steps += later.steps([b"i(/.", b"/)"])
+    >>> print("".join(it.output for it in steps), end="")
+    name: Kyrie;
+    %%
+    (c4)
+    Ky(f)ri(//)
+    >>> [message.code for step in steps for message in step], later.status
+    (['E1'], <Status.ERRORS: 1>)
+    """
+
+    def __init__(self, format: str | Format = Format.GABC, *, all_warnings: bool = True) -> None:
+        self._format = Format(format)
+        self._all_warnings = all_warnings
+        self._status: Status | None = None
+        state, step = Room.lend(_BOUND), _Step()
+        try:
+            _raise_where_wrong(_begin(*self._what(), state.address(), len(state.content), ctypes.byref(step)))
+            self._state = state.head(step.state)
+        finally:
+            state.give_back()
+
+    @classmethod
+    def restore(cls, state: bytes | bytearray | memoryview, format: str | Format = Format.GABC, *, all_warnings: bool = True) -> Run:
+        """Returns a run that goes on from `state`, in this process or another than that which saved it.
+
+        Raises `StateError`, a `ValueError`, for bytes that are no state, and for the state of a run with another format or other warnings.
+        """
+        run = cls(format, all_warnings=all_warnings)
+        run._state = bytes(state)
+        run.feed(b"")
+        return run
+
+    @property
+    def state(self) -> bytes:
+        """The state: all that a later process needs to go on, besides the format and the warnings. Raises `RunOverError` behind the end."""
+        self._look_whether_over()
+        return self._state
+
+    @property
+    def status(self) -> Status | None:
+        """The status, once the run is over."""
+        return self._status
+
+    def feed(self, piece: bytes | bytearray | memoryview) -> Step:
+        """Reads `piece`, of any length, and returns what became known. Its status is `None`, or `Status.FATAL` where a fatal fault ended the run.
+
+        Raises `RunOverError` where the run is over, `TypeError` for a piece that is not bytes, and `MemoryError` where there is not enough
+        memory. The run is as it was before then, and can be fed again.
+        """
+        self._look_whether_over()
+        if not isinstance(piece, (bytes, bytearray, memoryview)):
+            raise TypeError(f"a piece is bytes, not {type(piece).__name__}")
+        with Borrowed(piece) as data:
+            rooms = self._lend(data.length)
+            try:
+                return self._feed(data, *rooms)
+            finally:
+                for it in rooms:
+                    it.give_back()
+
+    def end(self) -> Step:
+        """Ends the run, at the end of its input, and returns the last output and messages, with the status of the whole run."""
+        return self._finish(_end)
+
+    def broken(self) -> Step:
+        """Ends the run where the source of its input failed: the status is `Status.BROKEN`, unless a fatal fault was found."""
+        return self._finish(_broken)
+
+    def steps(self, pieces: Iterable[bytes | bytearray | memoryview]) -> Iterator[Step]:
+        """Yields what becomes known with each of `pieces`, and at their end, or up to a fatal fault. Where reading a piece fails, that is
+        raised: the run goes on then, and can be ended by `broken`."""
+        for piece in pieces:
+            step = self.feed(piece)
+            yield step
+            if step.status is not None:
+                return
+        yield self.end()
+
+    def _what(self) -> tuple[int, int, ctypes.Array[_Options], int]:
+        """Returns what each step is told: format, flags, limits and a new key."""
+        options = (_Options * 1)(_Options(65_536, 16_384, 4_294_967_295, 0, new_key()))
+        return NUMBERS[self._format], int(self._all_warnings), options, 1
+
+    def _look_whether_over(self) -> None:
+        if self._status is not None:
+            raise RunOverError("the run is over")
+
+    def _lend(self, length: int) -> tuple[Room, Room, Room]:
+        """Returns rooms for the messages, the output and the state of a step over `length` bytes. The room that is given back last is lent first."""
+        state, output = Room.lend(_BOUND), Room.lend(TIMES[self._format] * length + LEAST)
+        return Room.lend(length + LEAST), output, state
+
+    def _feed(self, data: Borrowed, messages: Room, output: Room, state: Room) -> Step:
+        """Makes a step until all that it writes fits. The run changes when nothing can fail any more."""
+        before, step = self._state, _Step()
+        state.take(len(before))
+        while True:
+            state.content[: len(before)] = before
+            answer = _feed(
+                *self._what(), state.address(), len(state.content), len(before), data.address, data.length,
+                output.address(), len(output.content), messages.address(), len(messages.content), ctypes.byref(step),
+            )
+            if answer != _SHORT:
+                break
+            for room, length in ((state, step.state), (output, step.output), (messages, step.messages)):
+                room.take(length)
+        _raise_where_wrong(answer)
+        made = Step(output.text(step.output), None if answer == _RUNS else Status(answer), messages.text(step.messages))
+        self._state, self._status = state.head(step.state), made.status
+        return made
+
+    def _finish(self, end: Callable[..., int]) -> Step:
+        """Ends the run by this call, until all that it writes fits."""
+        self._look_whether_over()
+        lengths = Lengths()
+        output, messages = Room.lend(LEAST), Room.lend(LEAST)
+        try:
+            while True:
+                answer = end(
+                    *self._what(), self._state, len(self._state), output.address(), len(output.content),
+                    messages.address(), len(messages.content), ctypes.byref(lengths),
+                )
+                if answer != _SHORT:
+                    break
+                output.take(lengths.output)
+                messages.take(lengths.messages)
+            _raise_where_wrong(answer)
+            made = Step(output.text(lengths.output), Status(answer), messages.text(lengths.messages))
+            self._status = made.status
+            return made
+        finally:
+            messages.give_back()
+            output.give_back()

@@ -1,0 +1,38 @@
+//! Reads Gregorian chant scores in GABC, with unheighted neumes in NABC, by a proved compiler.
+//!
+//! [`compile`] takes a score in memory, [`messages`] tells what is found in it, and a [`Run`] takes a score in pieces. The crate stands over the C library
+//! `libgregorio.a`, which `tools/build_c` of the project makes; its folder is named by the environment variable `GREGORIO_LIBRARY` when the crate is
+//! built. What the library answers is proved. This crate is only tested.
+//!
+//! ```
+//! use gregorio_chant::{compile, Job, Status};
+//!
+//! let made = compile("name: Kyrie;\n%%\n(c4) Ky(f)ri(/./)", &Job::default())?;
+//! assert_eq!(made.output, "name: Kyrie;\n%%\n(c4)\nKy(f)ri(//)\n");
+//! assert_eq!(made.messages, "<stdin>:3:15: error: E1: character left out of the notes\n");
+//! assert_eq!(made.status, Status::Errors);
+//! # Ok::<(), gregorio_chant::Error>(())
+//! ```
+#![deny(missing_docs)]
+#![deny(unsafe_code)]
+
+mod compiled;
+mod error;
+mod job;
+#[allow(unsafe_code)]
+mod library;
+mod message;
+mod run;
+mod texts;
+
+pub use compiled::{compile, Compiled};
+pub use error::{Error, Status};
+pub use job::{Format, Job, Limits, Warnings};
+pub use message::{messages, Code, Message, Messages, Severity};
+pub use run::{Run, Step};
+
+/// Returns the version of the library that is linked. That of this crate is the same where both come from one build.
+#[must_use]
+pub fn version() -> &'static str {
+    library::version().to_str().unwrap_or_default()
+}
