@@ -1,6 +1,7 @@
 use Rattle.std.proofs.Common.{ap}
 use Rattle.gabc_places.specs.declared.limits.Limits.{Limits}
 use Rattle.gregorio.specs.Saved.{state_of}
+use Rattle.gregorio.specs.witness.Engine.{streams_left}
 use Rattle.gregorio.proofs.RestoredRunsGoOn.{memory, written_front}
 use Rattle.gregorio.proofs.restored_laws.a_restored_run_goes_on.Goals as goal
 
@@ -17,3 +18,6 @@ returns-in-Err-clause-memory c =
       all_warnings = job.all_warnings;
     })
     c.bytes_are_of_one_state.ensures c.in-Err.fault c.in-Err.ensures.none c.in-Err.ensures.other
+
+pub returns-in-Ok-restore-clause-left : goal.returns-in-Ok-restore-clause-left
+returns-in-Ok-restore-clause-left c = c.what_is_saved_stands-in-Ok-restore.ensures.alone (λ ending bytes. streams_left c.args.engine.now ending bytes) c.what_is_saved_stands.ensures.stands
