@@ -1,1 +1,2 @@
+pub mod EngineBegins
 pub mod OutcomeOfAWhole
