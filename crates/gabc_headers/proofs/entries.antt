@@ -2,7 +2,6 @@ pub mod BookIsReadByEntry
 pub mod EntriesLieInTheText
 pub mod InsertPutsEntry
 pub mod MapIsReadByEntry
-pub mod NextEntryIsFirstAhead
 pub mod PushedEntryIsShown
 pub mod RoomIsFilled
 pub mod PutEntriesStand

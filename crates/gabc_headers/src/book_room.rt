@@ -2,9 +2,11 @@
 
 ghost use Rattle.std.specs.Prelude.{◌≡◌, ◌+◌, ◌≤◌, ◌<◌, [], ◌∷◌, ◌++◌, length, IfOk, vec_len, vec_capacity, string_bytes};
 ghost use Rattle.std.specs.String.{string_capacity};
+ghost use Rattle.gabc_headers.specs.BookText.{AreEntries, shown_entries};
 ghost use Rattle.gabc_headers.specs.machine.HeaderStage.{HasRoomFor};
 ghost use Rattle.gabc_headers.specs.machine.BookRoom.{entry_behind};
 
+use crate::headers::Headers;
 use gabc_places::Span;
 use std::alloc::{AllocError, Global};
 
@@ -35,6 +37,25 @@ impl BookRoom {
             text: String::with_capacity(alloc, bytes)?,
             entries: Vec::with_capacity(alloc, headers)?,
         })
+    }
+
+    /// Forgets the headers. Their memory stays reserved.
+    pub(crate) fn clear(&mut self)
+        ensures text { string_bytes self.new.text ≡ [] }
+        ensures entries { self.new.entries.items ≡ [] }
+        ensures bytes { string_capacity self.new.text ≡ string_capacity self.old.text }
+        ensures headers { vec_capacity self.new.entries ≡ vec_capacity self.old.entries }
+    {
+        self.text.clear();
+        self.entries.clear();
+    }
+
+    /// Goes over the headers, in order.
+    pub(crate) fn headers(&self) -> Headers<'_>
+        requires { AreEntries (string_bytes self.now.text) self.now.entries.items }
+        ensures { result ≡ shown_entries (string_bytes self.now.text) self.now.entries.items }
+    {
+        Headers::new(self.text.as_str(), self.entries.as_slice())
     }
 
     /// Adds a header at the end.

@@ -6,7 +6,7 @@ ghost use Rattle.gabc_headers.specs.Canonical.{canonical_heads, header_line, wan
 ghost use Rattle.gabc_headers.specs.Lines.{lines};
 ghost use Rattle.gabc_headers.specs.machine.HeaderText.{before_value, after_value};
 
-use crate::book::HeaderBook;
+use crate::headers::Headers;
 use gabc_places::Put;
 
 /// Returns whether `value` is written on lines of its own: it has several lines, or would end too early on its header's line
@@ -79,13 +79,13 @@ pub(crate) fn put_header<S: Put>(name: &str, value: &str, out: &mut S)
     put_framed(name, value, frame_of(value), out);
 }
 
-/// Puts the canonical header lines of `book` and `%%`, as many bytes as `HeaderBook::canonical_len` tells. A room without that
+/// Puts the canonical header lines of `headers` and `%%`, as many bytes as `HeaderBook::canonical_len` tells. A room without that
 /// many bytes left gets as many of them as fit.
-pub fn canon_header<S: Put>(book: &HeaderBook, out: &mut S)
-    ensures { out.new ≡ S.taken out.old (encode_utf8_all (canonical_heads book.now)) }
+pub fn canon_header<S: Put>(headers: Headers<'_>, out: &mut S)
+    ensures { out.new ≡ S.taken out.old (encode_utf8_all (canonical_heads headers.entry)) }
 {
-    for index in 0..book.len() {
-        put_header(book.name(index), book.value(index), out);
+    for (name, value) in headers {
+        put_header(name, value, out);
     }
     out.put(b"%%");
 }

@@ -1,6 +1,7 @@
 //! The headers in the order of their first lines.
 
-ghost use Rattle.std.specs.Prelude.{◌≡◌, ◌≤◌, ◌<◌, ◌-◌, ◌^◌, [], length, min, slice_get, string_bytes, IfOk, IsSomeAnd};
+ghost use Rattle.std.specs.Prelude.{◌≡◌, ◌≤◌, ◌<◌, ◌-◌, ◌^◌, [], length, min, slice_get, string_bytes, vec_capacity, IfOk, IsSomeAnd};
+ghost use Rattle.std.specs.String.{string_capacity};
 ghost use Rattle.gabc_places.specs.BoundedList.{Fits};
 ghost use Rattle.std.specs.Str.{chars};
 ghost use Rattle.gabc_headers.specs.Canonical.{header_lines, canonical_heads};
@@ -92,6 +93,13 @@ impl EntryMap {
         })
     }
 
+    /// Forgets the headers. Their memory stays reserved.
+    pub(crate) fn clear(&mut self)
+        ensures { self.new ≡ record self.old { items = [] } }
+    {
+        self.map.clear();
+    }
+
     /// Puts a header, and answers whether its name comes again. An annotation never does. It asks for no memory.
     pub(crate) fn put(&mut self, name: &str, value: Span) -> bool
         requires short { length name.now ≤ 64 }
@@ -157,6 +165,8 @@ impl EntryMap {
         requires within { AreWithin text.now self.now.items }
         requires room { HasRoomFor (bytes_len (header_lines
             (spelled_entries text.now self.now.items))) (length self.now.items) room.old }
+        ensures bytes { string_capacity room.old.text ≤ string_capacity room.new.text }
+        ensures headers { vec_capacity room.new.entries ≡ vec_capacity room.old.entries }
         ensures within { AreEntries (string_bytes room.new.text) room.new.entries.items }
         ensures shown { shown_entries (string_bytes room.new.text) room.new.entries.items
             ≡ spelled_entries text.now self.now.items }
@@ -183,8 +193,6 @@ impl EntryMap {
     {
         let mut room = BookRoom::with_limits(alloc, bytes, self.len())?;
         self.fill(text, &mut room);
-        let mut book = HeaderBook::new(alloc);
-        book.take(&mut room);
-        Ok(book)
+        Ok(HeaderBook::of(room))
     }
 }

@@ -11,13 +11,13 @@ ghost use Rattle.gabc_headers.specs.HeldText.{IsHeld};
 ghost use Rattle.gabc_headers.specs.Lines.{bytes_len};
 ghost use Rattle.gabc_headers.specs.machine.Collected.{found_list, name_found};
 
-use crate::book::HeaderBook;
 use crate::book_room::BookRoom;
 use crate::collected::take_event;
 use crate::entry_map::EntryMap;
 use crate::events::HeaderEnding;
 use crate::head_event::HeadEvent;
 use crate::header_machine::{HeaderMachine, HeaderStep};
+use crate::headers::Headers;
 use crate::score_line::{end_fault, score_len};
 use gabc_places::{Char, Code, Fault, Finding, Limits, Place, Room, Stage};
 use std::alloc::{AllocError, Global};
@@ -41,9 +41,8 @@ pub struct HeaderStage {
     machine: HeaderMachine,
     text: String,
     headers: EntryMap,
-    /// Room for the book.
+    /// The headers, once they are whole.
     room: BookRoom,
-    book: HeaderBook,
 }
 
 impl Model for HeaderStage {
@@ -51,15 +50,18 @@ impl Model for HeaderStage {
     ghost use Rattle.std.specs.String.{string_capacity};
     ghost use Rattle.std.specs.Str.{chars};
     ghost use Rattle.gabc_headers.specs.witness.HeadEvents.{HeaderStageState};
+    ghost use Rattle.gabc_headers.specs.BookText.{shown_entries};
     ghost use Rattle.gabc_headers.specs.machine.HeaderStage.{progress_in, IsStageIn};
 
     ghost Value = { HeaderStageState };
 
-    ghost view = { λ s. record {
-      limits = s.limits;
-      progress = progress_in s.part (string_bytes s.text) s.book;
-      book = s.book;
-    } };
+    ghost view = { λ s.
+        let book = shown_entries (string_bytes s.room.text) s.room.entries.items in
+        record {
+          limits = s.limits;
+          progress = progress_in s.part (string_bytes s.text) book;
+          book = book;
+        } };
 
     ghost invariant = { λ s. IsStageIn s.part s.limits (string_bytes s.text)
         (string_capacity s.text) s.machine s.headers s.room };
@@ -76,7 +78,7 @@ fn emit_finding(found: Option<Finding>, out: &mut Room<HeadEvent>)
 }
 
 /// Emits the headers at the line `%%`, whose canonical lines have so many bytes.
-fn emit_heads(book: &HeaderBook, place: Place, size: usize, out: &mut Room<HeadEvent>)
+fn emit_heads(book: &Headers<'_>, place: Place, size: usize, out: &mut Room<HeadEvent>)
     requires size { size ≡ bytes_len (header_lines book.now) }
     requires small { size < 2 ^ 31 }
     requires room { Fits out.old 2 }
@@ -124,8 +126,18 @@ impl HeaderStage {
             text: String::with_capacity(alloc, bytes + 1)?,
             headers: EntryMap::with_limit(alloc, headers, hasher)?,
             room: BookRoom::with_limits(alloc, bytes, headers)?,
-            book: HeaderBook::new(alloc),
         })
+    }
+
+    /// Begins a text, as a new stage does, wherever the stage stands. It keeps its limits, its hasher and its memory, and asks for none.
+    pub fn restart(&mut self)
+        ensures { self.new ≡ fresh_stage self.old.limits }
+    {
+        self.part = HeadPart::InHeaders;
+        self.machine = HeaderMachine::new(self.limits.header);
+        self.text.clear();
+        self.headers.clear();
+        self.room.clear();
     }
 
     /// Emits that the text is stopped. Nothing follows.
@@ -171,9 +183,8 @@ impl HeaderStage {
                 match score_len(self.limits, text, &self.headers, place, open_line) {
                     Ok(size) => {
                         self.headers.fill(text, &mut self.room);
-                        self.book.take(&mut self.room);
                         self.part = HeadPart::Behind;
-                        emit_heads(&self.book, place, size, out);
+                        emit_heads(&self.room.headers(), place, size, out);
                     }
                     Err(fault) => self.stop(fault, out),
                 }
@@ -247,11 +258,11 @@ impl HeaderStage {
         }
     }
 
-    /// Returns the headers, once their `%%` is read. Before, it returns a book without headers.
-    pub fn book(&self) -> &HeaderBook
-        ensures { result.now ≡ self.now.book }
+    /// Goes over the headers, in order, once their `%%` is read. Before, there are none.
+    pub fn headers(&self) -> Headers<'_>
+        ensures { result ≡ self.now.book }
     {
-        &self.book
+        self.room.headers()
     }
 }
 

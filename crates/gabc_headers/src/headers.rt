@@ -1,32 +1,142 @@
 //! The headers of a book, one after the other.
 
-use crate::book::HeaderBook;
+ghost use Rattle.std.specs.Prelude.{◌≡◌, ◌<◌, None, Some, length, slice_get, MatchOption, IsSomeAnd};
+ghost use Rattle.std.specs.Str.{chars};
+ghost use Rattle.gabc_headers.specs.Book.{lines_by, value_named, has_header, macro_name, nabc_lines_of, macros_of};
+ghost use Rattle.gabc_headers.specs.BookText.{AreEntries, shown_entries};
+
+use crate::book_room::Entry;
+use crate::nabc_lines::NABC_LINES;
 use std::marker::Model;
 
 /// Goes over the names and values of a book, in order. Contracts see the list of those to come.
 #[derive(Drop)]
 pub struct Headers<'a> {
-    book: &'a HeaderBook,
-    /// The index of the next header, from 0.
-    next: usize,
+    text: &'a str,
+    /// Where those to come stand in the text.
+    entries: &'a [Entry],
 }
 
 impl<'a> Model for Headers<'a> {
-    ghost use Rattle.std.specs.Prelude.{ℕ, List, drop};
+    ghost use Rattle.std.specs.Prelude.{ℕ, List};
+    ghost use Rattle.gabc_headers.specs.BookText.{AreEntries, shown_entries};
 
     ghost Value = { List (List ℕ × List ℕ) };
 
-    ghost view = { λ h. drop h.next h.book.now };
+    ghost view = { λ h. shown_entries h.text.now h.entries.now };
+
+    ghost invariant = { λ h. AreEntries h.text.now h.entries.now };
+}
+
+/// The name of a macro's header.
+fn macro_header(digit: u8) -> &'static str
+    requires { digit < 10 }
+    ensures { result.now ≡ macro_name digit }
+{
+    match digit {
+        0 => "def-m0",
+        1 => "def-m1",
+        2 => "def-m2",
+        3 => "def-m3",
+        4 => "def-m4",
+        5 => "def-m5",
+        6 => "def-m6",
+        7 => "def-m7",
+        8 => "def-m8",
+        _ => "def-m9",
+    }
+}
+
+/// The number of lines of NABC that a value of `nabc-lines` says.
+fn lines_in(value: &str) -> u8
+    ensures { result ≡ lines_by (Some (chars value.now)) }
+{
+    let lines = NABC_LINES.iter().position(|known| *known == value);
+    lines.unwrap_or(0) as u8
 }
 
 impl<'a> Headers<'a> {
-    ghost use Rattle.std.specs.Prelude.{◌≡◌};
-
-    /// Returns an iterator over all headers of `book`.
-    pub(crate) fn new(book: &'a HeaderBook) -> Headers<'a>
-        ensures { result ≡ book.now }
+    /// Returns an iterator over all these headers, names and values of `text`.
+    pub(crate) fn new(text: &'a str, entries: &'a [Entry]) -> Headers<'a>
+        requires { AreEntries text.now entries.now }
+        ensures { result ≡ shown_entries text.now entries.now }
     {
-        Headers { book, next: 0 }
+        Headers { text, entries }
+    }
+
+    /// The number of headers to come.
+    fn len(&self) -> usize
+        ensures { result ≡ length self.now }
+    {
+        self.entries.len()
+    }
+
+    /// The name of the header at `index`, from 0 and below `len()`.
+    pub(crate) fn name(&self, index: usize) -> &'a str
+        requires { index < length self.now }
+        ensures { IsSomeAnd (slice_get self.now index) (λ entry. chars result.now ≡ entry.0) }
+    {
+        match self.entries.get(index) {
+            Some(entry) => &self.text[entry.name.from..entry.name.to],
+            None => "",
+        }
+    }
+
+    /// The value of the header at `index`, from 0 and below `len()`.
+    pub(crate) fn value(&self, index: usize) -> &'a str
+        requires { index < length self.now }
+        ensures { IsSomeAnd (slice_get self.now index) (λ entry. chars result.now ≡ entry.1) }
+    {
+        match self.entries.get(index) {
+            Some(entry) => &self.text[entry.value.from..entry.value.to],
+            None => "",
+        }
+    }
+
+    /// The value of the first header with this `name`.
+    pub(crate) fn get(&self, name: &str) -> Option<&'a str>
+        ensures { MatchOption result (value_named (chars name.now) self.now ≡ None)
+            (λ v. value_named (chars name.now) self.now ≡ Some (chars v.now)) }
+    {
+        for index in 0..self.len() {
+            if name == self.name(index) {
+                return Some(self.value(index));
+            }
+        }
+        None
+    }
+
+    /// The number of lines of NABC under each snippet of notes, by the header `nabc-lines`.
+    pub(crate) fn nabc_lines(&self) -> u8
+        ensures { result ≡ nabc_lines_of self.now }
+    {
+        match self.get("nabc-lines") {
+            Some(value) => lines_in(value),
+            None => 0,
+        }
+    }
+
+    /// Whether the macro of `digit`, 0 to 9, is defined.
+    pub(crate) fn is_macro(&self, digit: u8) -> bool
+        requires { digit < 10 }
+        ensures { result ≡ has_header (macro_name digit) self.now }
+    {
+        self.get(macro_header(digit)).is_some()
+    }
+
+    /// The macros that are defined, as bits.
+    pub(crate) fn macros(&self) -> u16
+        ensures { result ≡ macros_of self.now }
+    {
+        let mut macros = 0;
+        let mut bit = 1;
+        for digit in 0..10 {
+            if self.is_macro(digit) {
+                macros += bit;
+            }
+            bit *= 2;
+        }
+        macros
     }
 }
 
@@ -42,11 +152,10 @@ impl<'a> Iterator for Headers<'a> {
     ghost remaining = { λ ahead. at_most (length ahead) };
 
     fn next(&mut self) -> Option<(&'a str, &'a str)> {
-        if self.next >= self.book.len() {
-            return None;
-        }
-        let index = self.next;
-        self.next += 1;
-        Some((self.book.name(index), self.book.value(index)))
+        let (first, rest) = self.entries.split_first()?;
+        self.entries = rest;
+        let name = &self.text[first.name.from..first.name.to];
+        let value = &self.text[first.value.from..first.value.to];
+        Some((name, value))
     }
 }

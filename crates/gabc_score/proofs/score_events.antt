@@ -1,6 +1,7 @@
 pub mod AStageStops
 pub mod BodyIsCollected
 pub mod EventsStayWithinBounds
+pub mod MemoryIsKept
 pub mod BodyOutputs
 pub mod CountsGoOn
 pub mod FewAndShortAreLent

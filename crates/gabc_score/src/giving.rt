@@ -119,6 +119,7 @@ pub(crate) fn give_stop(
 )
     requires used { pair.old.used ≢ SlotUse.Lent }
     requires fits { Fits out.old 16 }
+    ensures limit { pair.new.gathered.limit ≡ pair.old.gathered.limit }
     ensures emitted { GivesOutputs
         (outputs_of [] (placed_behind has_lent pair.old.held) ++ Stop fault ∷ [])
         out.old out.new pair.new.first pair.new.second }
@@ -133,6 +134,7 @@ pub(crate) fn give_stop(
 pub(crate) fn give_broken(pair: &mut SlotPair, has_lent: bool, out: &mut Room<ScoreEvent>)
     requires used { pair.old.used ≢ SlotUse.Lent }
     requires fits { Fits out.old 16 }
+    ensures limit { pair.new.gathered.limit ≡ pair.old.gathered.limit }
     ensures emitted { GivesOutputs (outputs_of [] (placed_behind has_lent pair.old.held))
         out.old out.new pair.new.first pair.new.second }
     ensures few { length (placed_behind has_lent pair.old.held) ≤ 1 }
@@ -154,6 +156,7 @@ pub(crate) fn give_end(
     requires used { pair.old.used ≢ SlotUse.Lent }
     requires few { length found.now ≤ 8 }
     requires fits { Fits out.old 16 }
+    ensures limit { pair.new.gathered.limit ≡ pair.old.gathered.limit }
     ensures emitted { let g = pair.old.gathered in
         GivesOutputs (outputs_of (found.now ++ end_findings at has_last (g.eu || g.nlba)) (placed_behind has_lent g.made) ++ End ∷ [])
         out.old out.new pair.new.first pair.new.second }

@@ -17,7 +17,7 @@ ghost use Rattle.gabc_score.specs.Syllable.{unplaced_of};
 ghost use Rattle.gabc_score.specs.witness.ScoreStage.{left_of};
 ghost use Rattle.gabc_score.specs.machine.ScoreStage.{placed_behind, begun_score, body_left};
 ghost use Rattle.gabc_score.specs.machine.Fronts.{shown_before};
-ghost use Rattle.gabc_score.specs.machine.ScoreMachine.{shown, IsInBody, IsBeforeBody, IsScore, IsFreed, PassesQuietly};
+ghost use Rattle.gabc_score.specs.machine.ScoreMachine.{shown, IsInBody, IsBeforeBody, IsScore, IsFreed, KeepsMemory, PassesQuietly};
 ghost use Rattle.gabc_score.specs.machine.ReadAlone.{Reads};
 ghost use Rattle.gabc_score.specs.machine.SlotPair.{is_made};
 
@@ -99,12 +99,29 @@ impl ScoreMachine {
         })
     }
 
+    /// Begins before the headers, as a new machine does. The memory stays reserved.
+    pub(crate) fn restart(&mut self)
+        requires rests { IsScore self.old }
+        ensures rests { IsScore self.new }
+        ensures part { self.new.part ≡ ScorePart.Heads }
+        ensures limits { self.new.limits ≡ self.old.limits }
+    {
+        self.part = ScorePart::Heads;
+        self.body.restart(0, 0);
+        self.pair.restart();
+        self.found.clear();
+        self.next = Place::START;
+        self.has_lent = false;
+        self.bounds = Bounds::behind_headers(0);
+    }
+
     /// Gives the last whole syllable and the fault. Nothing follows.
     fn stop(&mut self, fault: Fault, out: &mut Room<ScoreEvent>)
         requires used { self.old.pair.used ≢ SlotUse.Lent }
         requires fits { Fits out.old 16 }
         ensures part { self.new.part ≡ ScorePart.Over }
         ensures limits { self.new.limits ≡ self.old.limits }
+        ensures keeps { KeepsMemory self.old → KeepsMemory self.new }
         ensures emitted { GivesOutputs
             (outputs_of [] (placed_behind self.old.has_lent self.old.pair.held) ++ Stop fault ∷ [])
             out.old out.new self.new.pair.first self.new.pair.second }
@@ -154,6 +171,7 @@ impl ScoreMachine {
         requires fits { Fits out.old 16 }
         ensures step { GivesAt (shown self.old) HeadEvent.End (shown self.new) out.old out.new }
         ensures part { self.new.part ≡ ScorePart.Over }
+        ensures keeps { KeepsMemory self.new }
     {
         self.pair.free();
         self.body.close();
@@ -370,6 +388,7 @@ impl ScoreMachine {
         requires fits { Fits out.old 16 }
         ensures step { GivesLast (shown self.old) (shown self.new) out.old out.new }
         ensures part { self.new.part ≡ ScorePart.Over }
+        ensures keeps { KeepsMemory self.new }
     {
         self.pair.free();
         give_broken(&mut self.pair, self.has_lent, out);
@@ -382,6 +401,7 @@ impl ScoreMachine {
         requires fits { Fits out.old 16 }
         ensures step { GivesLast (shown self.old) (shown self.new) out.old out.new }
         ensures part { self.new.part ≡ ScorePart.Over }
+        ensures keeps { KeepsMemory self.new }
     {
         match self.part {
             ScorePart::Body => self.break_off(out),

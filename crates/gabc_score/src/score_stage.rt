@@ -71,6 +71,17 @@ impl ScoreStage {
         })
     }
 
+    /// Begins a score, as a new stage does, wherever the stage stands. What was lent is taken back. It keeps its limits and its memory, and asks
+    /// for none.
+    pub fn restart(&mut self)
+        ensures outputs { (xs : List HeadEvent) → AreCountsBelow xs →
+            left_of self.new xs ≡ score_outputs texts_by_stage self.old.limits xs }
+        ensures limits { self.new.limits ≡ self.old.limits }
+        ensures part { self.new.part ≡ ScorePart.Heads }
+    {
+        self.machine.restart();
+    }
+
     /// Takes characters from the front of `bytes` at which nothing is given, and returns how many. They are printable characters of ASCII, of
     /// which the first stands at `at` and each next one in the next column. From then on it gives what it would give had each of them been
     /// pushed. Of those that it could take it may leave some to `push`.

@@ -122,6 +122,23 @@ impl SlotPair {
         })
     }
 
+    /// Forgets what was gathered: nothing was read, as in new slots. Their memory stays reserved.
+    pub(crate) fn restart(&mut self)
+        ensures gathered { self.new.gathered ≡ nothing_gathered self.old.gathered.limit 0 }
+        ensures used { self.new.used ≡ SlotUse.Filling }
+    {
+        self.reader.clear();
+        self.used = SlotUse::Filling;
+        self.held = false;
+        self.follows = false;
+        self.eu = false;
+        self.nlba = false;
+        self.total = 0;
+        self.over = false;
+        self.cut = None;
+        self.first_kind = None;
+    }
+
     /// Begins the count of canonical bytes with `head`, those of the headers.
     pub(crate) fn start(&mut self, head: usize)
         ensures { self.new ≡ record self.old {
@@ -411,6 +428,7 @@ impl SlotPair {
     /// Gives the held syllable as the last one. Returns how many it gave, one or none.
     pub(crate) fn give_held(&mut self, has_lent: bool) -> usize
         requires { self.old.used ≢ SlotUse.Lent }
+        ensures limit { self.new.gathered.limit ≡ self.old.gathered.limit }
         ensures lends { lent_syllables result self.new ≡ placed_behind has_lent self.old.held }
         ensures most { result ≤ 1 }
     {
@@ -422,6 +440,7 @@ impl SlotPair {
     /// Gives the held syllable, and behind it the one that was made last. Returns how many it gave.
     pub(crate) fn give_all(&mut self, has_lent: bool) -> usize
         requires { self.old.used ≢ SlotUse.Lent }
+        ensures limit { self.new.gathered.limit ≡ self.old.gathered.limit }
         ensures lends { lent_syllables result self.new ≡ placed_behind has_lent self.old.gathered.made }
         ensures most { result ≤ 2 }
     {

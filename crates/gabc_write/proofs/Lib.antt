@@ -3,7 +3,6 @@ pub mod DumpOfHeadersIsShort
 pub mod DumpOfWhatIsSaid
 pub mod DumpRows
 pub mod dump_is_short
-pub mod HeadersLineByLine
 pub mod ItemsLineByLine
 pub mod NamesBehindFirst
 pub mod plain

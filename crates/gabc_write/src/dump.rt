@@ -6,7 +6,7 @@ ghost use Rattle.gabc_headers.specs.Canonical.{canonical_heads};
 ghost use Rattle.gabc_write.specs.DumpLines.{line_of_header, dump_heads, end_line};
 
 use crate::escape::put_escaped;
-use gabc_headers::HeaderBook;
+use gabc_headers::Headers;
 use gabc_places::Put;
 use itoa::Buffer;
 
@@ -21,17 +21,17 @@ fn put_header<S: Put>(name: &str, value: &str, out: &mut S)
     out.put(b"\n");
 }
 
-/// Puts what stands before the syllables of a dump: `dump 2`, and a line for each header of `book`. In names and values a
+/// Puts what stands before the syllables of a dump: `dump 2`, and a line for each of `headers`. In names and values a
 /// backslash is written `\\` and an LF `\n`. It is at most three times as many bytes as `HeaderBook::canonical_len` tells, and 7.
 /// A room without that many bytes left gets as many of them as fit.
-pub fn dump_header<S: Put>(book: &HeaderBook, out: &mut S)
-    ensures put { out.new ≡ S.taken out.old (dump_heads book.now) }
-    ensures short { length (dump_heads book.now)
-        ≤ 3 * length (encode_utf8_all (canonical_heads book.now)) + 7 }
+pub fn dump_header<S: Put>(headers: Headers<'_>, out: &mut S)
+    ensures put { out.new ≡ S.taken out.old (dump_heads headers.entry) }
+    ensures short { length (dump_heads headers.entry)
+        ≤ 3 * length (encode_utf8_all (canonical_heads headers.entry)) + 7 }
 {
     out.put(b"dump 2\n");
-    for index in 0..book.len() {
-        put_header(book.name(index), book.value(index), out);
+    for (name, value) in headers {
+        put_header(name, value, out);
     }
 }
 

@@ -22,7 +22,7 @@ fn put_syllables<S: Put>(syllables: &[Syllable], out: &mut S)
 pub(crate) fn put_file<S: Put>(book: &HeaderBook, syllables: &[Syllable], out: &mut S)
     ensures { out.new ≡ S.taken out.old (score_text book.now (map placed_of syllables.now)) }
 {
-    canon_header(book, out);
+    canon_header(book.iter(), out);
     put_syllables(syllables, out);
     out.put(b"\n");
 }

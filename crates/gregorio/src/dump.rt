@@ -49,7 +49,7 @@ pub(crate) fn put_dump<S: Put>(
         ≡ S.taken out.old (dump_text whole book.now (map placed_of syllables.now)) }
     ensures scratch { scratch.new ≡ scratch.old }
 {
-    dump_header(book, out);
+    dump_header(book.iter(), out);
     put_lines(syllables, scratch, out);
     if whole {
         dump_end(syllables.len() as u64, out);

@@ -5,6 +5,8 @@ ghost use Rattle.gabc_headers.specs.declared.head_event.HeadEvent.{HeadEvent as 
 ghost use Rattle.gabc_headers.specs.declared.head_event.HeadEvent.TheVariants.{End};
 ghost use Rattle.gregorio.specs.declared.source_ending.SourceEnding.{SourceEnding as EndOfSource};
 ghost use Rattle.gregorio.specs.declared.source_ending.SourceEnding.TheVariants.{Whole, Broken};
+ghost use Rattle.gabc_places.specs.declared.limits.Limits.{Limits};
+ghost use Rattle.gregorio_jobs.specs.declared.job.Job.{Job};
 ghost use Rattle.gregorio_jobs.specs.declared.job.Status.TheVariants.{ReadFault};
 ghost use Rattle.gregorio.specs.Outcome.{outcome_of};
 ghost use Rattle.gregorio.specs.Engine.{IsPrompt, NothingWaits, RunsJob, StillRuns, is_running, with_waiting};
@@ -16,9 +18,10 @@ ghost use Rattle.gregorio.specs.machine.ReadsHeaders.{ReadsOn};
 ghost use Rattle.gregorio.specs.machine.TellsInStep.{IsInHeads, StayTelling};
 ghost use Rattle.gregorio.specs.machine.ScoreWriter.{FitsEvents, IsReserved, IsShortBook, IsSteady};
 
+use crate::beginning::what_begins_is_written_whole;
 use crate::run_writer::RunWriter;
 use crate::score_writer::ScoreWriter;
-use gabc_headers::{HeadEvent, HeaderBook, HeaderStage};
+use gabc_headers::{HeadEvent, HeaderStage};
 use gabc_places::{Char, Decoder, Fault, Limits, Room, Stage};
 use gabc_score::ScoreStage;
 use gregorio_jobs::{Job, Status};
@@ -63,11 +66,11 @@ impl Model for Engine {
     ghost invariant = { λ e. IsEngine e.decoder e.heads e.from_heads e.writer };
 }
 
-/// Passes `from_heads` on to `writer`. `book` has the headers that are read, if they are whole.
-fn pass_on(from_heads: &[HeadEvent], book: &HeaderBook, writer: &mut ScoreWriter)
+/// Passes `from_heads` on to `writer`. `heads` has the headers that are read, if they are whole.
+fn pass_on(from_heads: &[HeadEvent], heads: &HeaderStage, writer: &mut ScoreWriter)
     requires room { FitsEvents writer.old from_heads.now }
-    requires book { IsShortBook writer.old.score.limits book.now }
-    ensures writes { WritesAll writer.old from_heads.now book.now writer.new }
+    requires book { IsShortBook writer.old.score.limits heads.now.book }
+    ensures writes { WritesAll writer.old from_heads.now heads.now.book writer.new }
     ensures room { (events : List HeadItem) → FitsEvents writer.old (from_heads.now ++ events) →
         FitsEvents writer.new events }
     ensures passes { PassesAll writer.old from_heads.now writer.new }
@@ -76,7 +79,7 @@ fn pass_on(from_heads: &[HeadEvent], book: &HeaderBook, writer: &mut ScoreWriter
         writer.new.writer.written.headed ≡ false }
 {
     for event in from_heads {
-        writer.push(*event, book);
+        writer.push(*event, heads);
     }
 }
 
@@ -148,7 +151,7 @@ fn read_in_heads(
     gabc_score::stage_laws::headers_may_come();
     from_heads.clear();
     heads.push(item, from_heads);
-    pass_on(from_heads.slice(), heads.book(), writer);
+    pass_on(from_heads.slice(), heads, writer);
     writer.begin_body(item);
 }
 
@@ -212,14 +215,8 @@ impl Engine {
         ensures running { IfOk result (λ engine. is_running engine ≡ true) }
         ensures job { IfOk result (λ engine. RunsJob job.now limits engine) }
     {
-        gabc_places::laws::texts_are_scalars_within_the_limit();
-        gabc_headers::laws::the_book_is_read();
+        what_begins_is_written_whole();
         gabc_headers::stage_laws::a_held_text_grows();
-        gabc_score::laws::a_stage_of_headers_emits_the_events();
-        gabc_score::laws::a_score_says_what_it_emits();
-        gabc_score::laws::nothing_follows_the_end();
-        gabc_score::laws::syllables_are_fewer_than_bytes();
-        gabc_score::stage_laws::texts_are_read_in_full();
         let from_heads = Room::with_limit(alloc, 2)?;
         let heads = HeaderStage::with_hasher(alloc, limits, hasher)?;
         match ScoreWriter::with_limits(alloc, job, limits) {
@@ -411,6 +408,7 @@ impl Engine {
         ensures last { (bytes : List ℕ) (ending : EndOfSource) →
             streams_left self.new ending bytes ≡ ended_with result }
         ensures over { is_running self.new ≡ false }
+        ensures job { StillRuns self.old self.new }
         ensures again { is_running self.old ≡ false → self.new ≡ self.old }
     {
         if let Some(status) = self.writer.ended() {
@@ -425,7 +423,7 @@ impl Engine {
         );
         self.from_heads.clear();
         self.heads.finish(&mut self.from_heads);
-        pass_on(self.from_heads.slice(), self.heads.book(), &mut self.writer);
+        pass_on(self.from_heads.slice(), &self.heads, &mut self.writer);
         self.writer.finish()
     }
 
@@ -437,6 +435,7 @@ impl Engine {
         ensures last { (bytes : List ℕ) (ending : EndOfSource) →
             streams_left self.new ending bytes ≡ ended_with result }
         ensures over { is_running self.new ≡ false }
+        ensures job { StillRuns self.old self.new }
         ensures again { is_running self.old ≡ false → self.new ≡ self.old }
     {
         if let Some(status) = self.writer.ended() {
@@ -444,6 +443,23 @@ impl Engine {
         }
         // The stages read no end.
         self.writer.finish()
+    }
+
+    /// Begins again, as a new engine for the same job under the same limits does, wherever it stands. What waits is forgotten. It asks for no
+    /// memory, and hashes the names of headers as before.
+    pub fn restart(&mut self)
+        ensures all { (job : Job) (limits : Limits) → RunsJob job limits self.old →
+            (bytes : List ℕ) (ending : EndOfSource) → streams_left self.new ending bytes
+            ≡ streams_of_outcome job (outcome_of limits ending bytes) }
+        ensures waits { NothingWaits self.new }
+        ensures running { is_running self.new ≡ true }
+        ensures job { StillRuns self.old self.new }
+    {
+        what_begins_is_written_whole();
+        gabc_headers::stage_laws::a_held_text_grows();
+        self.decoder = Decoder::new(self.writer.score().limits());
+        self.heads.restart();
+        self.writer.restart();
     }
 
     /// Returns whether no fatal fault, `end` or `broken` has come.

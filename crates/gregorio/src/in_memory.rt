@@ -58,6 +58,7 @@ impl Engine {
         ensures messages { messages.new
             ≡ M.taken messages.old (streams_left self.old Whole input.now).messages }
         ensures status { result ≡ (streams_left self.old Whole input.now).status }
+        ensures job { StillRuns self.old self.new }
     {
         feed_input(self, input, out, messages);
         let status = self.end();

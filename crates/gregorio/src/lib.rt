@@ -13,6 +13,7 @@
 //! ```
 #![tactic(auto)]
 
+mod beginning;
 mod buffers;
 mod canonical;
 mod comparison;

@@ -10,11 +10,11 @@ ghost use Rattle.gabc_score.specs.Syllable.{placed_of};
 ghost use Rattle.gregorio.specs.Streams.{last_text};
 ghost use Rattle.gregorio.specs.Outcome.{shown_line};
 ghost use Rattle.gregorio.specs.witness.Engine.{if_headed, is_before_heads, text_of_heads, text_of_output};
-ghost use Rattle.gregorio.specs.machine.ScoreWriter.{fresh_writer};
+ghost use Rattle.gregorio.specs.machine.ScoreWriter.{begun_again, fresh_writer};
 ghost use Rattle.gregorio.specs.machine.RunWriter.{syllable_len, syllable_room as room_of_syllable, heads_len, heads_room as room_of_heads, line_room, last_room, with_heads, with_last, past_output, past_end};
 
 use crate::findings::{input_name, is_error, put_finding};
-use gabc_headers::HeaderBook;
+use gabc_headers::Headers;
 use gabc_neumes::Alterations;
 use gabc_places::{Fault, Finding, Limits, Room};
 use gabc_score::Syllable;
@@ -142,6 +142,22 @@ impl RunWriter {
         })
     }
 
+    /// Forgets what was written and what waits, as a new writer has written nothing. The memory stays reserved.
+    pub(crate) fn restart(&mut self)
+        ensures { self.new ≡ record self.old {
+          written = begun_again self.old.written;
+          out = record self.old.out { items = [] };
+          messages = record self.old.messages { items = [] };
+        } }
+    {
+        self.headed = false;
+        self.count = 0;
+        self.alterations = Alterations::new();
+        self.errors = false;
+        self.ended = None;
+        self.clear();
+    }
+
     /// Goes on in the headers, in which an error was found or not.
     pub(crate) fn go_on_in_headers(&mut self, errors: bool)
         ensures { self.new
@@ -219,23 +235,24 @@ impl RunWriter {
         self.ended
     }
 
-    /// Writes the headers, which are `book`, unless they were written or the run is over.
-    pub(crate) fn heads(&mut self, book: &HeaderBook)
+    /// Writes `headers`, unless they were written or the run is over.
+    pub(crate) fn heads(&mut self, headers: Headers<'_>)
         requires { is_before_heads self.old.written ≡ true →
             Fits self.old.out (heads_len self.old.written.format
-            (length (encode_utf8_all (canonical_heads book.now)))) }
-        ensures writes { self.new ≡ with_heads self.old book.now }
+            (length (encode_utf8_all (canonical_heads headers)))) }
+        ensures writes { self.new ≡ with_heads self.old headers.entry }
         ensures short { length
-            (text_of_heads self.old.written book.now (is_before_heads self.old.written))
-            ≤ heads_len self.old.written.format (length (encode_utf8_all (canonical_heads book.now))) }
+            (text_of_heads self.old.written headers.entry (is_before_heads self.old.written))
+            ≤ heads_len self.old.written.format
+            (length (encode_utf8_all (canonical_heads headers.entry))) }
     {
         if self.headed || self.ended.is_some() {
             return;
         }
         self.headed = true;
         match self.format {
-            Format::Gabc => canon_header(book, &mut self.out),
-            Format::Dump => dump_header(book, &mut self.out),
+            Format::Gabc => canon_header(headers, &mut self.out),
+            Format::Dump => dump_header(headers, &mut self.out),
         }
     }
 

@@ -19,10 +19,10 @@ ghost use Rattle.gabc_score.specs.ScoreTells.{StandsInFront, before_of, held_of}
 ghost use Rattle.gabc_places.specs.TextOfAnInput.{IsText};
 ghost use Rattle.gabc_score.specs.ToldWithin.{IsToldWithin, TellsOfText, written_behind};
 ghost use Rattle.gregorio.specs.machine.RunWriter.{HasRoomFor, IsInRoom, IsSteadyWriter, past_output, past_outputs};
-ghost use Rattle.gregorio.specs.machine.ScoreWriter.{output_of_event, outputs_of_events, IsOver, IsShortBook, IsSilent, emptied, fresh_writer, IsReserved, IsSteady, FitsEvents, WritesAt, WritesLast, WritesNothing};
+ghost use Rattle.gregorio.specs.machine.ScoreWriter.{output_of_event, outputs_of_events, IsOver, IsShortBook, IsSilent, begun_again, emptied, fresh_writer, IsReserved, IsSteady, FitsEvents, WritesAt, WritesLast, WritesNothing};
 
 use crate::run_writer::RunWriter;
-use gabc_headers::{HeadEvent, HeaderBook};
+use gabc_headers::{HeadEvent, HeaderStage};
 use gabc_places::{Char, Fault, Limits, Place, Room, Stage};
 use gabc_score::{ScoreEvent, ScoreStage};
 use gregorio_jobs::{Job, Status};
@@ -111,6 +111,19 @@ impl ScoreWriter {
         }
     }
 
+    /// Begins a score, as a new writer does. It keeps its job, its limits and its memory.
+    pub(crate) fn restart(&mut self)
+        ensures fresh { self.new.writer.written ≡ begun_again self.old.writer.written }
+        ensures part { self.new.score.part ≡ ScorePart.Heads }
+        ensures steady { IsSteady self.old self.new }
+        ensures empty { self.new ≡ emptied self.new }
+        ensures score { (xs : List HeadItem) → AreCountsBelow xs →
+            left_of self.new.score xs ≡ score_outputs texts_by_stage self.old.score.limits xs }
+    {
+        self.score.restart();
+        self.writer.restart();
+    }
+
     /// Returns a writer that goes on with `score` and `writer`, whose run goes on, and reserves the room of its events.
     pub(crate) fn resume(
         alloc: Global,
@@ -136,11 +149,11 @@ impl ScoreWriter {
         }
     }
 
-    /// Takes `event`, and writes what follows from it: first the headers, where it says that they are whole. Then they are `book`.
-    pub(crate) fn push(&mut self, event: HeadEvent, book: &HeaderBook)
+    /// Takes `event` of `heads`, and writes what follows from it: first the headers, where it says that they are whole.
+    pub(crate) fn push(&mut self, event: HeadEvent, heads: &HeaderStage)
         requires room { FitsEvents self.old (event ∷ []) }
-        requires book { IsShortBook self.old.score.limits book.now }
-        ensures writes { WritesAt self.old event book.now self.new }
+        requires book { IsShortBook self.old.score.limits heads.now.book }
+        ensures writes { WritesAt self.old event heads.now.book self.new }
         ensures passes { PassesOn self.old.score (written_at self.old.writer.written event)
             event self.new }
         ensures room { (events : List HeadItem) → FitsEvents self.old (event ∷ events) →
@@ -150,7 +163,7 @@ impl ScoreWriter {
             self.new.writer.written.headed ≡ false }
     {
         if let HeadEvent::Heads { .. } = event {
-            self.writer.heads(book);
+            self.writer.heads(heads.headers());
         }
         self.pass(event);
     }

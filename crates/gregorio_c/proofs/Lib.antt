@@ -1,3 +1,4 @@
-mod OutcomeOfAWhole
-mod PiecesAreGathered
-mod StepsOfRuns
+pub mod EngineBegins
+pub mod OutcomeOfAWhole
+pub mod PiecesAreGathered
+pub mod StepsOfRuns

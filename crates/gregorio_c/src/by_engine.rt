@@ -1,12 +1,12 @@
-//! A score that is run over by an engine: once to count what it writes, and once to write what fits.
+//! A score that is run over by an engine: once to count what it writes, and once again to write what fits.
 
 ghost use Rattle.std.specs.Prelude.{◌≡◌, ℕ, List, IfOk, OnOk, OnErr};
 ghost use Rattle.gregorio.specs.declared.source_ending.SourceEnding.TheVariants.{Whole};
-ghost use Rattle.gregorio.specs.Engine.{NothingWaits};
+ghost use Rattle.gregorio.specs.Engine.{NothingWaits, StillRuns};
 ghost use Rattle.gregorio.specs.witness.Engine.{streams_left};
 ghost use Rattle.gregorio_jobs.specs.Status.{code_of};
 ghost use Rattle.gregorio_c.specs.Answers.{Answer, IsPut};
-ghost use Rattle.gregorio_c.specs.machine.Streams.{AreLengthsOf, streams_of_score};
+ghost use Rattle.gregorio_c.specs.machine.Streams.{AreLengthsOf, HasTakenNothing, streams_of_score};
 
 use crate::buffers::{is_written, start_of};
 use crate::compiled::hasher_of;
@@ -31,6 +31,7 @@ fn engine_of(
     key: &[u64],
 ) -> Result<Engine, AllocError>
     ensures waits { IfOk result (λ engine. NothingWaits engine) }
+    ensures begun { IfOk result (λ engine. HasTakenNothing engine) }
     ensures all { IfOk result (λ engine. (score : List ℕ) →
         streams_left engine Whole score ≡ streams_of_score request limits score) }
 {
@@ -45,6 +46,7 @@ fn count_by(engine: &mut Engine, score: &[u8]) -> Result<Counted, AllocError>
         AreLengthsOf counted.lengths (streams_left engine.old Whole score.now)) }
     ensures status { IfOk result (λ counted.
         counted.status ≡ code_of (streams_left engine.old Whole score.now).status) }
+    ensures job { StillRuns engine.old engine.new }
 {
     let mut output = ByteCounter::new();
     let mut messages = ByteCounter::new();
@@ -92,53 +94,34 @@ fn write_by(
     );
 }
 
-/// Returns how many bytes a run over `score` writes, and the exit status. It fails only for want of memory.
-fn count_score(
-    alloc: Global,
-    request: Request,
-    limits: Limits,
-    key: &[u64],
+/// Runs `engine`, which has taken nothing, over `score`, and returns how many bytes it writes and how it ended. Where a text fits into its buffer,
+/// it begins again, and writes each that fits. It fails only where it writes more than can be counted, and nothing is written then.
+fn count_and_write(
+    engine: &mut Engine,
     score: &[u8],
-) -> Result<Counted, AllocError>
-    ensures lengths { IfOk result (λ counted.
-        AreLengthsOf counted.lengths (streams_of_score request limits score.now)) }
-    ensures status { IfOk result (λ counted.
-        counted.status ≡ code_of (streams_of_score request limits score.now).status) }
-{
-    let mut engine = engine_of(alloc, request, limits, key)?;
-    let counted = count_by(&mut engine, score);
-    // A proof follows a call faster than all that lies inside an engine.
-    drop(engine);
-    counted
-}
-
-/// Writes the output and the lines of the messages of `score` into the buffers, each if it fits. `lengths` are theirs. It fails only for want of
-/// memory, and the buffers stay as they were then.
-fn write_score(
-    alloc: Global,
-    request: Request,
-    limits: Limits,
-    key: &[u64],
-    score: &[u8],
-    lengths: &Lengths,
     output: &mut [u8],
     messages: &mut [u8],
-) -> Result<(), AllocError>
-    requires { AreLengthsOf lengths.now (streams_of_score request limits score.now) }
-    ensures output { OnOk result (IsPut (streams_of_score request limits score.now).output
+) -> Result<Counted, AllocError>
+    requires waits { NothingWaits engine.old }
+    requires begun { HasTakenNothing engine.old }
+    ensures lengths { IfOk result (λ counted.
+        AreLengthsOf counted.lengths (streams_left engine.old Whole score.now)) }
+    ensures status { IfOk result (λ counted.
+        counted.status ≡ code_of (streams_left engine.old Whole score.now).status) }
+    ensures output { OnOk result (IsPut (streams_left engine.old Whole score.now).output
         output.old output.new) }
-    ensures messages { OnOk result (IsPut (streams_of_score request limits score.now).messages
+    ensures messages { OnOk result (IsPut (streams_left engine.old Whole score.now).messages
         messages.old messages.new) }
     ensures unchanged { OnErr result (output.new ≡ output.old) }
     ensures messages_unchanged { OnErr result (messages.new ≡ messages.old) }
 {
-    if !is_written(output, lengths.output) && !is_written(messages, lengths.messages) {
-        return Ok(());
+    let counted = count_by(engine, score)?;
+    let lengths = &counted.lengths;
+    if is_written(output, lengths.output) || is_written(messages, lengths.messages) {
+        engine.restart();
+        write_by(engine, score, lengths, output, messages);
     }
-    let mut engine = engine_of(alloc, request, limits, key)?;
-    write_by(&mut engine, score, lengths, output, messages);
-    drop(engine);
-    Ok(())
+    Ok(counted)
 }
 
 /// Compiles `score`: puts each of its two texts that fits into its buffer, and their lengths into `lengths`. Returns the exit status. It fails
@@ -159,17 +142,11 @@ pub(crate) fn compile_by_engine(
     ensures lengths_unchanged { OnErr result (lengths.new ≡ lengths.old) }
 {
     let limits = Limits::default();
-    let counted = count_score(alloc, request, limits, key, score)?;
-    write_score(
-        alloc,
-        request,
-        limits,
-        key,
-        score,
-        &counted.lengths,
-        output,
-        messages,
-    )?;
+    let mut engine = engine_of(alloc, request, limits, key)?;
+    let counted = count_and_write(&mut engine, score, output, messages);
+    // A proof follows a call faster than all that lies inside an engine.
+    drop(engine);
+    let counted = counted?;
     *lengths = counted.lengths;
     Ok(counted.status)
 }

@@ -47,7 +47,7 @@ fn count_by_stage(
     let mut stage = HeaderStage::with_hasher(alloc, limits, hasher)?;
     let mut out = Room::with_limit(alloc, 2)?;
     push_all(&mut stage, text, &mut out);
-    Ok(stage.book().len())
+    Ok(stage.headers().count())
 }
 
 /// The headers of a file, by this way to read them. `None` tells that there is no such way, or that they are stopped.

@@ -1,5 +1,5 @@
 //! Runs the chant reader on rows of inputs and on scores, each with the output and the messages that it must give; the rows
-//! also have the status. Makes each run from a source, again in pieces of several lengths, and again saved and restored behind each piece. What is wanted was computed or written apart
+//! also have the status. Makes each run from a source, again in pieces of several lengths, again by one engine that begins again in mid-input and behind its end, and again saved and restored behind each piece. What is wanted was computed or written apart
 //! from this project, but for the dumps of the scores: the program wrote these, and they were read by hand. Makes the calls of the crates
 //! below by rows of a call, its input and its answer, which were worked by hand. Prints the rows and scores that differ, and how many agree.
 #![tactic(auto)]
@@ -14,6 +14,7 @@ mod notes;
 mod pieces;
 mod prefixes;
 mod printed;
+mod restarted;
 mod row;
 mod run;
 mod scores;
@@ -31,6 +32,7 @@ use gregorio::Format;
 use interrupted::agrees_interrupted;
 use pieces::{Wanted, agrees_in_pieces};
 use prefixes::has_prefixes_alike;
+use restarted::agrees_restarted;
 use row::{Row, row_of};
 use run::{Request, request_of, run};
 use states::{buffer_of, is_answered_so, is_saved};
@@ -68,6 +70,14 @@ fn row_agrees_in_pieces(alloc: Global, row: &Row) -> bool {
         return false;
     };
     agrees_in_pieces(alloc, asked, Wanted::of(row), row.status)
+}
+
+/// Whether an engine that begins again on the row's input gives what the row says.
+fn row_agrees_restarted(alloc: Global, row: &Row) -> bool {
+    match request_of(row) {
+        Some(asked) => agrees_restarted(alloc, asked, Wanted::of(row), row.status),
+        None => false,
+    }
 }
 
 /// How many bytes the pieces have behind which a run is saved and restored.
@@ -159,6 +169,9 @@ fn row_agrees(rt: &HostRuntime, path: &str, number: usize, line: &str) -> io::Re
         Some(row) if !row_agrees_in_pieces(rt.alloc(), &row) => {
             println!(rt; "{path}: the run on line {number} differs in pieces")?;
         }
+        Some(row) if !row_agrees_restarted(rt.alloc(), &row) => {
+            println!(rt; "{path}: the run on line {number} differs where it begins again")?;
+        }
         Some(row) if !row_agrees_interrupted(rt.alloc(), &row)? => {
             println!(rt; "{path}: the run on line {number} differs where it is restored")?;
         }
@@ -195,7 +208,7 @@ fn read_file(rt: &HostRuntime, name: &str, ending: &str) -> io::Result<String> {
     fs::read_to_string(rt, path.as_str())
 }
 
-/// Whether a score gives this output in this format, and these messages, whole, in pieces and interrupted.
+/// Whether a score gives this output in this format, and these messages, whole, in pieces, begun again and interrupted.
 fn has_output(
     alloc: Global,
     format: Format,
@@ -212,6 +225,7 @@ fn has_output(
         ran.output.inner().as_slice() == output
             && ran.messages.inner().as_slice() == messages
             && agrees_in_pieces(alloc, asked, wanted, ran.status)
+            && agrees_restarted(alloc, asked, wanted, ran.status)
             && agrees_wherever_interrupted(alloc, asked, wanted, ran.status)?,
     )
 }

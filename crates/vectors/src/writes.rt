@@ -38,7 +38,7 @@ fn show_header(alloc: Global, book: &HeaderBook, out: &mut Printed) -> Result<()
         return Err(AllocError);
     }
     let mut room = Room::with_limit(alloc, len)?;
-    canon_header(book, &mut room);
+    canon_header(book.iter(), &mut room);
     out.show(&len);
     out.put("\t");
     show_bytes(room.slice(), out);

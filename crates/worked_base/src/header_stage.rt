@@ -111,15 +111,17 @@ fn push_all(stage: &mut HeaderStage, text: &str, out: &mut Room<HeadEvent>)
     }
 }
 
-/// Adds to a text what the stage lends: the text of the headers, how many headers are in its book, the mode and the macros.
+/// Adds to a text what the stage lends: the text of the headers, and the headers.
 fn show_lent(stage: &HeaderStage, shown: &mut String) -> Result<(), AllocError> {
-    let (text, book) = (stage.text().unwrap_or("none"), stage.book());
-    let (count, macros) = (book.len(), book.macros());
-    let mode = book.get("mode").unwrap_or("none");
-    write!(shown, "{text}|{count} {mode} {macros}|")
+    let text = stage.text().unwrap_or("none");
+    write!(shown, "{text}|")?;
+    for (name, value) in stage.headers() {
+        write!(shown, "{name}={value},")?;
+    }
+    write!(shown, "|")
 }
 
-/// What a stage lends before the second `%` of its line, and behind it.
+/// What a stage lends before the second `%` of its line, behind it, begun again, and behind another text.
 fn lent_around_the_line(
     rt: &HostRuntime,
     stage: &mut HeaderStage,
@@ -132,6 +134,10 @@ fn lent_around_the_line(
     show_lent(stage, &mut shown)?;
     push_all(stage, "%\n(f)", out);
     show_lent(stage, &mut shown)?;
+    stage.restart();
+    show_lent(stage, &mut shown)?;
+    push_all(stage, "name:a;\n%%", out);
+    show_lent(stage, &mut shown)?;
     Ok(shown)
 }
 
@@ -143,7 +149,10 @@ fn the_text_and_then_the_book_are_lent(rt: HostRuntime) -> Result<(), Fail> {
     let shown = lent_around_the_line(&rt, &mut stage, &mut out);
     drop(stage);
     assert_eq!(rt; most, 2);
-    assert_eq!(rt; shown?.as_str(), "mode:1;\nmode:2;\n%|0 none 0|none|1 2 0|");
+    assert_eq!(rt;
+        shown?.as_str(),
+        "mode:1;\nmode:2;\n%||none|mode=2,|||none|name=a,|"
+    );
     Ok(())
 }
 

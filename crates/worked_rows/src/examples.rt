@@ -78,7 +78,7 @@ fn are_in_mode_8(alloc: Global, heads: &Heads, wanted: &str) -> Result<bool, All
 /// Whether the dump of headers, and its last line, are these.
 fn are_dumped(alloc: Global, heads: &Heads, wanted: &str) -> Result<bool, AllocError> {
     let mut out = Room::with_limit(alloc, 128)?;
-    dump_header(&heads.book, &mut out);
+    dump_header(heads.book.iter(), &mut out);
     dump_end(4294967296, &mut out);
     Ok(out.slice() == wanted.as_bytes())
 }

@@ -1,9 +1,7 @@
 -- The bytes of canonical header lines.
-use Rattle.std.proofs.Common.{◌≡◌, ℕ, zero, suc, ◌+◌, ap₂, add-one, Option, Some, None, List, [], ◌∷◌, ◌++◌, length, Bool, true, false, cond, codes, refl, sym, ap, ◌∙◌, append_assoc, drop, IsUtf8, arith}
+use Rattle.std.proofs.Common.{◌≡◌, ℕ, List, [], ◌∷◌, ◌++◌, length, Bool, true, false, cond, codes, refl, sym, ap, ◌∙◌, append_assoc, IsUtf8, arith}
 use Rattle.std.proofs.lemmas.Str.{encodes-append, encodes-chars, chars-nil}
 use Rattle.std.specs.Str.{chars}
-use Rattle.std.specs.List.{slice_get}
-use Rattle.std.specs.Option.{IsSomeAnd}
 use lib.Utf8.{encode, encodes}
 use Rattle.gabc_headers.specs.Lines.{lines}
 use Rattle.gabc_headers.specs.Canonical.{header_line, header_lines, canonical_heads, printed_value, wants_lines}
@@ -52,24 +50,8 @@ pub header_text_is : (name value : List ℕ) → IsUtf8 name → IsUtf8 value
     ≡ encodes (header_line (chars name, chars value))
 header_text_is name value un uv = by_chars (wants_lines (lines (chars value))) name value (chars name) (chars value) (encodes-chars name un) (encodes-chars value uv) refl
 
-entry_is : (o : Option (List ℕ × List ℕ)) (n v : List ℕ) → IsSomeAnd o (λ (e : List ℕ × List ℕ). n ≡ e.0) → IsSomeAnd o (λ (e : List ℕ × List ℕ). v ≡ e.1) → o ≡ Some (n, v)
-entry_is None n v a b = absurd a
-entry_is (Some e) n v a b = ap₂ (λ (x y : List ℕ). Some (x, y)) (sym a) (sym b)
-
-drop_push : (book : List (List ℕ × List ℕ)) (i : ℕ) (e : List ℕ × List ℕ) → slice_get book i ≡ Some e → drop i book ≡ e ∷ drop (i + 1) book
-drop_push [] i e h = absurd (cc)
-drop_push (x ∷ xs) zero e h = let same : x ≡ e = cc in ap (λ (y : List ℕ × List ℕ). y ∷ xs) same
-drop_push (x ∷ xs) (suc i) e h = rw add-one (rw add-one at (drop_push xs i e h))
-
--- the header at this place
-pub header_is : (book : List (List ℕ × List ℕ)) (i : ℕ) (n v : List ℕ)
-    → IsSomeAnd (slice_get book i) (λ (e : List ℕ × List ℕ). n ≡ e.0) → IsSomeAnd (slice_get book i) (λ (e : List ℕ × List ℕ). v ≡ e.1) → slice_get book i ≡ Some (n, v)
-header_is book i n v a b = entry_is (slice_get book i) n v a b
-
--- the bytes of what is left from a header on begin with those of its lines
-pub heads_left : (book : List (List ℕ × List ℕ)) (i : ℕ) (e : List ℕ × List ℕ) → slice_get book i ≡ Some e
-    → encodes (canonical_heads (drop i book)) ≡ encodes (header_line e) ++ encodes (canonical_heads (drop (i + 1) book))
-heads_left book i e h =
-    ap (λ (b : List (List ℕ × List ℕ)). encodes (canonical_heads b)) (drop_push book i e h)
-    ∙ ap encodes (append_assoc (header_line e) (header_lines (drop (i + 1) book)) (codes "%%"))
-    ∙ encodes-append (header_line e) (canonical_heads (drop (i + 1) book))
+-- the bytes of headers begin with those of the lines of the first
+pub heads_left : (e : List ℕ × List ℕ) (es : List (List ℕ × List ℕ)) → encodes (header_line e) ++ encodes (canonical_heads es) ≡ encodes (canonical_heads (e ∷ es))
+heads_left e es =
+    sym (ap encodes (append_assoc (header_line e) (header_lines es) (codes "%%"))
+    ∙ encodes-append (header_line e) (canonical_heads es))

@@ -1,5 +1,5 @@
 -- What a stage in the headers is behind a character, over its fields.
-use Rattle.std.proofs.Common.{◌≡◌, ℕ, ◌≤◌, List, [], ◌∷◌, ◌++◌, length, map, Bool, true, false, cond, codes, refl, sym, ap, ◌∙◌, subst, arith, Option, Some, None, append-nil}
+use Rattle.std.proofs.Common.{◌≡◌, ℕ, ◌≤◌, List, [], ◌∷◌, ◌++◌, length, string_bytes, map, Bool, true, false, cond, codes, refl, sym, ap, ◌∙◌, subst, arith, Option, Some, None, append-nil}
 use Rattle.std.specs.Str.{chars}
 use Rattle.gabc_places.specs.BoundedList.{BoundedList, extended_by}
 use Rattle.gabc_places.specs.declared.place.Place.{Place}
@@ -21,7 +21,7 @@ use Rattle.gabc_headers.specs.Heads.{heads_of}
 use Rattle.gabc_headers.specs.witness.HeadEvents.{IsInHeaders, reading, behind, over, HeaderStageState, stage_at, events_at, events_at_end, events_of_end, text_held, progress_with}
 use Rattle.gabc_headers.specs.Lines.{bytes_len}
 use Rattle.gabc_headers.specs.machine.Collected.{found_list, name_found}
-use Rattle.gabc_headers.specs.machine.HeaderStage.{IsReading, HasRoomFor, IsStageIn, progress_in, headers_within}
+use Rattle.gabc_headers.specs.machine.HeaderStage.{IsReading, HasRoomFor, KeepsMemory, IsStageIn, progress_in, headers_within}
 use Rattle.gabc_headers.proofs.canonical_form.HeadersEndInTwoPercents.{heads_len}
 use Rattle.gabc_headers.proofs.stages.HeadersTakeThreeBytes.{room_for_one}
 use Rattle.gabc_headers.proofs.stages.MachineTakesText.{counted}
@@ -118,6 +118,24 @@ room_for bytes more headers most room l m h = record {
 pub is_book : (text : List ℕ) (entries : List Entry) (book : List (List ℕ × List ℕ)) (size limit : ℕ) → AreEntries text entries → shown_entries text entries ≡ book
     → size ≡ bytes_len (header_lines book) → size ≤ limit → limit ≤ 16777216 → IsBook text entries
 is_book text entries book size limit w e s l m = record { within = w; small = rw e (let a = heads_len book in omega (arith, a, s, l, m)) }
+
+-- an empty room keeps its memory beside what is read
+pub keeps_reading : (limits : Limits) (text : List ℕ) (space : ℕ) (machine : HeaderMachine) (headers : BoundedList (List ℕ × Span)) (room : BookRoom) → IsReading limits text space machine headers → HasRoomFor limits.header (headers_within limits) room
+    → KeepsMemory limits space headers room
+keeps_reading limits text space machine headers room r h = record {
+  text_fits = r.fits;
+  headers_fit = r.limit;
+  bytes_fit = h.text_fits;
+  entries_fit = h.entries_fit;
+  within = subst (λ (es : List Entry). AreEntries (string_bytes room.text) es) (sym h.entries) tt;
+}
+
+-- wherever a stage stands, it keeps its memory
+pub keeps : (limits : Limits) (part : HeadPart) (text : List ℕ) (space : ℕ) (machine : HeaderMachine) (headers : BoundedList (List ℕ × Span)) (room : BookRoom) → IsStageIn part limits text space machine headers room
+    → KeepsMemory limits space headers room
+keeps limits InHeaders text space machine headers room i = keeps_reading limits text space machine headers room i.0 i.1
+keeps limits Behind text space machine headers room i = i
+keeps limits Over text space machine headers room i = i
 
 -- the headers that are put have room in the book
 pub headers_few : (limits : Limits) (text : List ℕ) (space : ℕ) (machine : HeaderMachine) (headers : BoundedList (List ℕ × Span)) → IsReading limits text space machine headers

@@ -11,6 +11,7 @@ use Rattle.gabc_headers.specs.declared.header_machine.HeaderMachine.{HeaderMachi
 use Rattle.gabc_headers.specs.declared.header_machine.HeaderStep.TheVariants.{Read}
 use Rattle.gabc_headers.specs.declared.header_stage.HeadPart.{HeadPart}
 use Rattle.gabc_headers.specs.declared.header_stage.HeadPart.TheVariants.{InHeaders, Behind, Over}
+use Rattle.gabc_headers.specs.BookText.{AreEntries}
 use Rattle.gabc_headers.specs.witness.HeadEvents.{HeadProgress, reading, behind, over}
 use Rattle.gabc_headers.specs.machine.Collected.{collected_with_all, none}
 use Rattle.gabc_headers.specs.machine.Events.{with_event}
@@ -42,10 +43,18 @@ pub record HasRoomFor (bytes headers : ℕ) (room : BookRoom) : Type 0 where
   pub text_fits : bytes ≤ string_capacity room.text
   pub entries_fit : headers ≤ vec_capacity room.entries
 
+-- The memory stays reserved: for the text, for the headers that count and for a book. And what stands in the room of the book is one.
+pub record KeepsMemory (limits : Limits) (space : ℕ) (headers : BoundedList (List ℕ × Span)) (room : BookRoom) : Type 0 where
+  pub text_fits : limits.header + 1 ≤ space
+  pub headers_fit : headers.limit ≡ headers_within limits
+  pub bytes_fit : limits.header ≤ string_capacity room.text
+  pub entries_fit : headers_within limits ≤ vec_capacity room.entries
+  pub within : AreEntries (string_bytes room.text) room.entries.items
+
 abbrev pub IsStageIn : HeadPart → Limits → List ℕ → ℕ → HeaderMachine → BoundedList (List ℕ × Span) → BookRoom → Type 0
 IsStageIn InHeaders limits text space machine headers room = IsReading limits text space machine headers × HasRoomFor limits.header (headers_within limits) room
-IsStageIn Behind limits text space machine headers room = Unit {0}
-IsStageIn Over limits text space machine headers room = Unit {0}
+IsStageIn Behind limits text space machine headers room = KeepsMemory limits space headers room
+IsStageIn Over limits text space machine headers room = KeepsMemory limits space headers room
 
 abbrev pub progress_in : HeadPart → List ℕ → List (List ℕ × List ℕ) → HeadProgress
 progress_in InHeaders text book = reading (chars text)

@@ -31,7 +31,7 @@ module _ (m : ScoreMachine) (at : Place) (b : BodyStageState) (is : b ≡ record
 
   pub score_moved : (p : ScorePart) → IsScoreAt p m → IsScoreAt p there
   score_moved score_part.Heads h = record { rests = rests_moved h.rests; nothing = h.nothing; none_lent = h.none_lent }
-  score_moved score_part.Over h = tt
+  score_moved score_part.Over h = record { room = h.room; limit = h.limit }
   score_moved score_part.Body h = record {
     rests = rests_moved h.rests;
     counts = subst (λ (k : BodyStageState). CountsHold k.part m.pair.gathered.builder) (sym is) (counts_moved at m.body.part m.pair.gathered.builder h.counts);

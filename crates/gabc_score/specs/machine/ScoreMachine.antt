@@ -92,10 +92,15 @@ pub record PassesQuietly (before : ScoreStageState) (x : Char) (after : ScoreSta
   pub texts : IsTextCharacter x.c → HoldsTexts before.held.gathered → HoldsTexts after.held.gathered
   pub law : (xs : List HeadEvent) → left_of before (head_event.Body x ∷ xs) ≡ [] ∷ left_of after xs
 
+-- the memory stays reserved: for what is found with one input, and for syllables within the limit
+pub record KeepsMemory (m : ScoreMachine) : Type 0 where
+  pub room : 9 ≤ m.found.limit
+  pub limit : m.pair.gathered.limit ≡ m.limits.syllable
+
 abbrev pub IsScoreAt : ScorePart → ScoreMachine → Type 0
 IsScoreAt score_part.Heads m = IsBeforeBody m
 IsScoreAt score_part.Body m = IsInBody m
-IsScoreAt score_part.Over m = Unit {0}
+IsScoreAt score_part.Over m = KeepsMemory m
 
 abbrev pub IsScore : ScoreMachine → Type 0
 IsScore m = IsScoreAt m.part m

@@ -25,7 +25,7 @@ use Rattle.gregorio_jobs.specs.declared.job.Status.{Status}
 use Rattle.gregorio.specs.witness.Engine.{Written}
 use Rattle.gregorio.specs.machine.Engine.{event_of_item}
 use Rattle.gregorio.specs.machine.InStep.{AreInOnePart, HasForce, IsInStep, PassesOn, RunsInStep, StayInStep}
-use Rattle.gregorio.specs.machine.ScoreWriter.{ScoreWriterState, fresh_writer}
+use Rattle.gregorio.specs.machine.ScoreWriter.{ScoreWriterState, begun_again}
 use Rattle.gregorio.proofs.StreamsOfOutputs.{headed_stays}
 use Rattle.gregorio.proofs.pieces.WrittenGoesOn.{counted, force_past, went_on_past}
 
@@ -217,13 +217,13 @@ front_in_step d e h old new w n skips limits part before whole counts was = reco
 
 -- ---- before the first byte
 
-fresh_force : (job : Job) → HasForce (fresh_writer job)
-fresh_force job = record { untracked = λ gabc. refl; outset = λ none. refl }
+fresh_force : (v : Written) → HasForce (begun_again v)
+fresh_force v = record { untracked = λ gabc. refl; outset = λ none. refl }
 
-pub fresh_in_step : (job : Job) (limits : Limits) (d : DecoderState) (h : HeaderStageState) (s : ScoreWriterState) → d ≡ fresh_decoder limits.input → h ≡ fresh_stage limits → s.writer.written ≡ fresh_writer job
+pub fresh_in_step : (v : Written) (limits : Limits) (d : DecoderState) (h : HeaderStageState) (s : ScoreWriterState) → d ≡ fresh_decoder limits.input → h ≡ fresh_stage limits → s.writer.written ≡ begun_again v
     → s.score.limits ≡ limits → s.score.part ≡ score_part.Heads → IsInStep d h s.score s.writer.written
-fresh_in_step job limits d h s is_d is_h is_w is_limits heads = record {
-  force = subst HasForce (sym is_w) (fresh_force job);
+fresh_in_step v limits d h s is_d is_h is_w is_limits heads = record {
+  force = subst HasForce (sym is_w) (fresh_force v);
   runs = λ running. record {
     runs = ap (λ (x : DecoderState). x.running) is_d;
     limit = limit ∙ ap (λ (l : Limits). l.input) (sym is_limits);

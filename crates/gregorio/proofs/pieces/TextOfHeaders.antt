@@ -29,7 +29,7 @@ use Rattle.gregorio.specs.Outcome.{is_error_finding}
 use Rattle.gregorio.specs.machine.InStep.{AreInOnePart, PassesAll, RunsInStep, written_at}
 use Rattle.gregorio.specs.machine.ReadsHeaders.{IsReadAs, IsReadSoFar, ReadsHeaders, ReadsOn}
 use Rattle.gregorio.specs.machine.RunWriter.{RunWriterState}
-use Rattle.gregorio.specs.machine.ScoreWriter.{ScoreWriterState, fresh_writer}
+use Rattle.gregorio.specs.machine.ScoreWriter.{ScoreWriterState, begun_again}
 use Rattle.gregorio.specs.witness.Engine.{Written, behind_outputs}
 use Rattle.gregorio.proofs.pieces.HeadersStayInStep.{HeadsYet, found_events, found_passed, in_heads}
 use Rattle.gregorio.proofs.pieces.WrittenGoesOn.{running_before, went_on_past}
@@ -151,9 +151,9 @@ front_reads_on d e h s (suc n) line column headed ran reads running =
 
 -- ---- before the first byte, and behind the last
 
-pub fresh_reads : (job : Job) (limits : Limits) (d : DecoderState) (h : HeaderStageState) (w : Written) → ((limits : Limits) → IsHeld limits []) → d ≡ fresh_decoder limits.input → h ≡ fresh_stage limits → w ≡ fresh_writer job
+pub fresh_reads : (v : Written) (limits : Limits) (d : DecoderState) (h : HeaderStageState) (w : Written) → ((limits : Limits) → IsHeld limits []) → d ≡ fresh_decoder limits.input → h ≡ fresh_stage limits → w ≡ begun_again v
     → ReadsHeaders d h w
-fresh_reads job limits d h w law is_d is_h is_w running =
+fresh_reads v limits d h w law is_d is_h is_w running =
     subst (λ (s : HeaderStageState). IsReadSoFar s.limits s.progress d.place w.errors) (sym is_h) (record {
       text = All-nil IsTextCharacter;
       gives = record {

@@ -1,5 +1,5 @@
 -- What a writer of scores does with what a stage of headers gives.
-use Rattle.std.specs.Prelude.{false, true, Some, None, IsSome, ◌≡◌, ℕ, ◌+◌, ◌*◌, ◌<◌, ◌≤◌, List, [], ◌∷◌, ◌++◌, length, map, encode_utf8_all, if◌then◌else◌}
+use Rattle.std.specs.Prelude.{Bool, false, true, Some, None, IsSome, ◌≡◌, ℕ, ◌+◌, ◌*◌, ◌<◌, ◌≤◌, List, [], ◌∷◌, ◌++◌, length, map, encode_utf8_all, if◌then◌else◌}
 use Rattle.gabc_places.specs.BoundedList.{BoundedList, extended_by}
 use Rattle.gabc_places.specs.declared.limits.Limits.{Limits}
 use Rattle.gabc_places.specs.declared.place.Place.{Place}
@@ -141,5 +141,12 @@ abbrev pub emptied : ScoreWriterState → ScoreWriterState
 emptied s = record s { writer = record s.writer { out = record s.writer.out { items = [] }; messages = record s.writer.messages { items = [] } } }
 
 -- nothing was written
+abbrev pub begun : Format → List ℕ → Bool → Written
+begun format name all_warnings = record { format = format; name = name; all_warnings = all_warnings; headed = false; count = 0; force = nothing_in_force; errors = false; ended = None }
+
 abbrev pub fresh_writer : Job → Written
-fresh_writer job = record { format = job.format; name = input_name job.input; all_warnings = job.all_warnings; headed = false; count = 0; force = nothing_in_force; errors = false; ended = None }
+fresh_writer job = begun job.format (input_name job.input) job.all_warnings
+
+-- nothing was written of the same job
+abbrev pub begun_again : Written → Written
+begun_again w = begun w.format w.name w.all_warnings

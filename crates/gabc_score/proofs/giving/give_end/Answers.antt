@@ -24,6 +24,7 @@ returns c =
     let found = found_then out c.give_found.new.out c.give_code.new.out c.give_code-2.new.out fs w9 w11 c.give_found.ensures c.give_code.ensures
     (c.give_code-2.ensures ∙ ap (λ b. extended_by c.give_code.new.out (found_events (cond b (record { place = c.args.at; code = W11 } ∷ []) []))) c.has_open.ensures) in
     record {
+      limit = c.give_all-count.ensures.limit;
       emitted = emitted (fs ++ (w9 ++ w11)) (End ∷ []) (event.End ∷ []) refl (λ l. refl) p.first p.second n _ c.give_all-count.ensures.lends c.give_all-count.ensures.most
           (few_at_end fs _ _ c.args.has_last is_open c.requires.few) only_one out c.push.new.self
           (then_more out c.give_code-2.new.out c.push.new.self (found_events (fs ++ (w9 ++ w11))) (lent_of n ++ event.End ∷ []) found

@@ -16,8 +16,8 @@ push-requires-clause-room c =
 pub returns-clause-writes : goal.returns-clause-writes
 returns-clause-writes c =
     c.loop-event.invariant.writes c.loop-event.writer
-    (subst (λ (left : List HeadItem). WritesAll c.loop-event.writer left c.args.book.now c.loop-event.writer)
-    (sym (drop_of_length-le c.args.from_heads.now c.loop-event-test.false)) (writes_none c.loop-event.writer c.args.book.now))
+    (subst (λ (left : List HeadItem). WritesAll c.loop-event.writer left c.args.heads.now.book c.loop-event.writer)
+    (sym (drop_of_length-le c.args.from_heads.now c.loop-event-test.false)) (writes_none c.loop-event.writer c.args.heads.now.book))
 
 pub returns-clause-passes : goal.returns-clause-passes
 returns-clause-passes c =
@@ -33,7 +33,7 @@ loop-event-preserved c =
     let old = c.loop-event.writer in
     let new = c.push.new.self in
     record {
-      writes = λ last w. i.writes last (writes_left events n _ within c.args.book.now old new last c.push.ensures.writes w);
+      writes = λ last w. i.writes last (writes_left events n _ within c.args.heads.now.book old new last c.push.ensures.writes w);
       room = λ more r. c.push.ensures.room (drop (n + 1) events ++ more) (room_left events n _ within old more (i.room more r));
       passes = λ last p. i.passes last (passes_left events n _ within old new last c.push.ensures.passes p);
       steady = steady_both c.args.writer.now old new i.steady c.push.ensures.steady;

@@ -10,7 +10,7 @@ abbrev pub invariant-loop-event : goal.invariant-loop-event
 invariant-loop-event l =
     let left = drop l.event-index l.from_heads in
     record {
-      writes : (new : ScoreWriterState) → WritesAll l.writer left l.book new → WritesAll l.initial.writer l.from_heads l.book new;
+      writes : (new : ScoreWriterState) → WritesAll l.writer left l.heads.book new → WritesAll l.initial.writer l.from_heads l.heads.book new;
       room : (events : List HeadItem) → FitsEvents l.initial.writer (l.from_heads ++ events) → FitsEvents l.writer (left ++ events);
       passes : (new : ScoreWriterState) → PassesAll l.writer left new → PassesAll l.initial.writer l.from_heads new;
       steady : IsSteady l.initial.writer l.writer;

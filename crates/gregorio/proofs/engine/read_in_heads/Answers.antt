@@ -1,5 +1,5 @@
 use Rattle.gabc_headers.specs.declared.head_event.HeadEvent.TheVariants.{End}
-use Rattle.std.proofs.Common.{List, [], ◌∷◌, sym, subst}
+use Rattle.std.proofs.Common.{List, [], ◌∷◌, refl, sym, subst}
 use Rattle.gregorio.proofs.pieces.HeadersAreRead.{given_of_input, room_for_given, room_for_just_given, short_book_given, short_heads, together_given, writes_given}
 use Rattle.gabc_headers.specs.declared.head_event.HeadEvent.{HeadEvent as HeadItem}
 use Rattle.gabc_headers.specs.witness.HeadEvents.{HeaderStageState}
@@ -20,7 +20,7 @@ pass_on-requires-clause-room c =
 pub pass_on-requires-clause-book : goal.pass_on-requires-clause-book
 pass_on-requires-clause-book c =
     let step = given_of_input c.args.heads.now _ c.args.item c.args.from_heads.now c.clear.new.self c.push.new.out c.slice.result.now c.clear.ensures c.push.ensures.events c.slice.ensures in
-    short_book_given c.args.heads.now c.args.writer.now c.args.item c.slice.result.now step c.push.new.self c.push.ensures.state c.book.result.now c.book.ensures
+    short_book_given c.args.heads.now c.args.writer.now c.args.item c.slice.result.now step c.push.new.self c.push.ensures.state c.push.new.self.book refl
     (short_heads c.canonical_lines_are_within_the_limits.ensures) c.requires.together
 
 pub begin_body-requires : goal.begin_body-requires
@@ -36,14 +36,14 @@ pub returns-clause-together : goal.returns-clause-together
 returns-clause-together c =
     let step = given_of_input c.args.heads.now _ c.args.item c.args.from_heads.now c.clear.new.self c.push.new.out c.slice.result.now c.clear.ensures c.push.ensures.events c.slice.ensures in
     together_begun c.args.item c.pass_on.new.writer c.begin_body.new.self c.begin_body.ensures c.push.new.self
-    (together_given c.args.heads.now c.args.writer.now c.args.item c.slice.result.now step c.push.new.self c.push.ensures.state c.book.result.now c.book.ensures
+    (together_given c.args.heads.now c.args.writer.now c.args.item c.slice.result.now step c.push.new.self c.push.ensures.state c.push.new.self.book refl
     c.pass_on.new.writer (short_heads c.canonical_lines_are_within_the_limits.ensures) c.requires.together c.requires.heads c.pass_on.ensures.headed c.pass_on.ensures.steady)
 
 pub returns-clause-writes : goal.returns-clause-writes
 returns-clause-writes c =
     let step = given_of_input c.args.heads.now _ c.args.item c.args.from_heads.now c.clear.new.self c.push.new.out c.slice.result.now c.clear.ensures c.push.ensures.events c.slice.ensures in
     writes_begun c.args.item c.pass_on.new.writer c.begin_body.new.self c.begin_body.ensures c.args.heads.now c.push.new.self c.args.writer.now (c.args.item ∷ [])
-    (writes_given c.args.heads.now c.args.writer.now c.args.item c.slice.result.now step c.push.new.self c.push.ensures.state c.book.result.now c.book.ensures
+    (writes_given c.args.heads.now c.args.writer.now c.args.item c.slice.result.now step c.push.new.self c.push.ensures.state c.push.new.self.book refl
     c.pass_on.new.writer c.pass_on.ensures.writes)
 
 pub returns-clause-room : goal.returns-clause-room

@@ -7,7 +7,7 @@ use Rattle.gabc_headers.proofs.book.HeaderBook.canonical_len.Goals as goal
 pub returns-clause-len : goal.returns-clause-len
 returns-clause-len c =
     let small : bytes_len (canonical_heads c.args.self.now) < 2 ^ 32 = rw (← c.self.view_is) c.self.invariant.small in
-    let counted = rw (c.canon_header.ensures, c.new-counter.ensures) at c.count.ensures in
+    let counted = rw (c.canon_header.ensures, c.new-counter.ensures, c.iter.ensures) at c.count.ensures in
     omega (arith, small, counted, length-encodes (canonical_heads c.args.self.now))
 
 pub returns-clause-bytes : goal.returns-clause-bytes

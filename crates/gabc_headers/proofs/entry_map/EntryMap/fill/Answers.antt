@@ -1,4 +1,4 @@
-use Rattle.std.proofs.Common.{◌≡◌, ◌∷◌, List, ℕ, drop, suc, ap, arith, add-one, string_bytes}
+use Rattle.std.proofs.Common.{◌≡◌, ◌∷◌, ◌∙◌, List, ℕ, drop, suc, ap, arith, add-one, string_bytes}
 use Rattle.std.specs.Str.{chars}
 use Rattle.std.specs.String.{string_capacity}
 use Rattle.std.proofs.lemmas.Str.{IsUtf8-string_bytes}
@@ -24,13 +24,17 @@ push-requires-clause-bytes c =
     let here : spelled_entries c.args.text.now (drop c.loop-index.index c.args.self.now.items) ≡ (chars c.name.result.now, chars c.range.result.now) ∷ rest
     = rw (c.range.ensures.value) (spelled_here c.args.text.now c.args.self.now.items c.loop-index.index c.name.result.now c.value-value.result c.name.ensures c.value-value.ensures) in
     let lines = ap (λ (x : List (List ℕ × List ℕ)). bytes_len (header_lines x)) here in
-    let b = c.loop-index.invariant.bytes in
+    let b = c.loop-index.invariant.filled.bytes in
     (pushed_fits (string_bytes c.loop-index.room.text) c.name.result.now c.range.result.now rest (string_capacity c.loop-index.room.text) c.name.utf8 c.range.utf8 (omega (arith, b, lines))).0
 
 pub loop-index-preserved : goal.loop-index-preserved
 loop-index-preserved c =
     let here : spelled_entries c.args.text.now (drop c.loop-index.index c.args.self.now.items) ≡ (chars c.name.result.now, chars c.range.result.now) ∷ spelled_entries c.args.text.now (drop (suc c.loop-index.index) c.args.self.now.items)
     = rw (c.range.ensures.value) (spelled_here c.args.text.now c.args.self.now.items c.loop-index.index c.name.result.now c.value-value.result c.name.ensures c.value-value.ensures) in
-    rw (add-one, c.push.ensures.headers) (filled_on c.args.text.now c.args.self.now.items c.loop-index.index (string_bytes c.loop-index.room.text) (string_bytes c.push.new.self.text) c.name.result.now c.range.result.now
-    c.loop-index.room.entries.items c.push.new.self.entries.items (string_capacity c.loop-index.room.text) (string_capacity c.push.new.self.text) _
-    (IsUtf8-string_bytes c.loop-index.room.text) c.name.utf8 c.range.utf8 here c.push.ensures.text c.push.ensures.entries c.push.ensures.bytes c.loop-index.invariant)
+    record {
+      filled = rw (add-one, c.push.ensures.headers) (filled_on c.args.text.now c.args.self.now.items c.loop-index.index (string_bytes c.loop-index.room.text) (string_bytes c.push.new.self.text) c.name.result.now c.range.result.now
+          c.loop-index.room.entries.items c.push.new.self.entries.items (string_capacity c.loop-index.room.text) (string_capacity c.push.new.self.text) _
+          (IsUtf8-string_bytes c.loop-index.room.text) c.name.utf8 c.range.utf8 here c.push.ensures.text c.push.ensures.entries c.push.ensures.bytes c.loop-index.invariant.filled);
+      bytes = (let a = c.push.ensures.bytes in let b = c.loop-index.invariant.bytes in omega (arith, a, b));
+      headers = c.push.ensures.headers ∙ c.loop-index.invariant.headers;
+    }

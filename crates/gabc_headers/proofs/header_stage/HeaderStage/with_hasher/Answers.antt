@@ -18,4 +18,4 @@ invariant_of-result c = (
 )
 
 pub returns : goal.returns
-returns c = rw (c.in_ok-with_capacity.ensures.bytes, chars-nil, c.new-2.ensures) refl
+returns c = rw (c.in_ok-with_capacity.ensures.bytes, chars-nil, c.in_ok-with_limits.ensures.text, c.in_ok-with_limits.ensures.entries) refl

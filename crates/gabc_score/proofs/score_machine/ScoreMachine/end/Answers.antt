@@ -9,6 +9,7 @@ use Rattle.gabc_score.specs.machine.ScoreStage.{placed_behind}
 use Rattle.gabc_score.proofs.score_events.EventsStayWithinBounds.{few_found}
 use Rattle.gabc_score.proofs.score_events.FewAndShortAreLent.{short_at_end, held_lends, lends_these, no_code, placed_within}
 use Rattle.gabc_score.proofs.score_events.PartsFollow.{last_behind, leads_out}
+use Rattle.gabc_score.proofs.score_events.MemoryIsKept.{limit_last, limit_past, room_past}
 use Rattle.gabc_score.proofs.score_machine.ScoreMachine.end.Goals as goal
 
 pub give_end-requires-clause-few : goal.give_end-requires-clause-few
@@ -71,4 +72,26 @@ returns-in-None-clause-step c =
       law = search rules;
       emitted = rw (sym c.slice-found.ensures) c.give_end.ensures.emitted;
       front = λ heads. absurd (cc (heads, c.requires.part));
+    }
+
+pub returns-in-Some-clause-keeps : goal.returns-in-Some-clause-keeps
+returns-in-Some-clause-keeps c =
+    let rests = c.requires.rests.rests in
+    let now = c.close.new.self.events in
+    let last = ap (λ (g : Gathered). g.limit) c.close_last-has_last.ensures.gathered ∙ limit_last c.hold.new.pair.gathered in
+    let limit = limit_past c.args.self.now.pair.gathered c.free.new.self.gathered c.hold.new.pair.gathered now c.free.ensures.gathered c.hold.ensures.gathered in
+    c.stop.ensures.keeps (record {
+      room = room_past c.args.self.now.found c.hold.new.found now c.hold.ensures.found rests.room;
+      limit = last ∙ (limit ∙ rests.limit);
+    })
+
+pub returns-in-None-clause-keeps : goal.returns-in-None-clause-keeps
+returns-in-None-clause-keeps c =
+    let rests = c.requires.rests.rests in
+    let now = c.close.new.self.events in
+    let last = ap (λ (g : Gathered). g.limit) c.close_last-has_last.ensures.gathered ∙ limit_last c.hold.new.pair.gathered in
+    let limit = limit_past c.args.self.now.pair.gathered c.free.new.self.gathered c.hold.new.pair.gathered now c.free.ensures.gathered c.hold.ensures.gathered in
+    record {
+      room = room_past c.args.self.now.found c.hold.new.found now c.hold.ensures.found rests.room;
+      limit = c.give_end.ensures.limit ∙ (last ∙ (limit ∙ rests.limit));
     }

@@ -8,6 +8,9 @@ use Rattle.gabc_score.specs.machine.BodyBuilder.{code_in, with_all}
 use Rattle.gabc_score.specs.machine.Gatherer.{Gathered}
 use Rattle.gabc_score.specs.machine.ScoreMachine.{IsScoreAt}
 use Rattle.gabc_score.proofs.resuming.MachinesPassAgain.{PassesBy, comment_passes, goes_by, in_body_past, next_passes, no_code_by, none_coded, none_made, none_whole}
+use Rattle.gabc_places.specs.BoundedList.{BoundedList}
+use Rattle.gabc_places.specs.declared.code.Finding.{Finding}
+use Rattle.gabc_score.proofs.score_events.MemoryIsKept.{limit_past, room_past}
 use Rattle.gabc_score.proofs.score_machine.ScoreMachine.pass_again.Goals.{then-is_whole-via-then-is_whole, then-is_whole-via-else-is_whole+then-is_some}
 use Rattle.gabc_score.proofs.score_machine.ScoreMachine.pass_again.Goals as goal
 
@@ -76,3 +79,12 @@ returns-else-is_some-clause-again c =
       comment = λ told kept t front comment_open outside e percent. goes_by m n c.args.x [] true (with_all old now) c.requires.part is
           (comment_passes text.characters text.comments text.ends c.a_kept_character_is_kept_again-2.ensures c.what_is_open_follows_from_the_kept_text.ensures.comment m c.requires.rests c.args.x c.take.new.self.part now c.take.ensures.again told kept t front comment_open outside e percent);
     }
+
+pub returns-then-is_whole-clause-rests : goal.returns-then-is_whole-clause-rests
+returns-then-is_whole-clause-rests c =
+    let rests = c.requires.rests.rests in
+    let now = c.take.new.self.events in
+    let room = room_past c.args.self.now.found c.hold.new.found now c.hold.ensures.found rests.room in
+    let same = ap (λ (r : BoundedList Finding). r.limit) c.clear.ensures in
+    let limit = limit_past c.args.self.now.pair.gathered c.free.new.self.gathered c.hold.new.pair.gathered now c.free.ensures.gathered c.hold.ensures.gathered in
+    record { room = omega (arith, room, same); limit = limit ∙ rests.limit }

@@ -38,6 +38,8 @@ use Rattle.gabc_score.specs.NoteBeforeClef.{found_first}
 use Rattle.gabc_places.specs.BoundedList.{extended_by}
 use Rattle.gabc_score.proofs.resuming.CharactersGathered.{given_only, none_given}
 use Rattle.gabc_score.proofs.score_events.EventsStayWithinBounds.{code_turned, few_found, few_with_first, limit_stays, within}
+use Rattle.gabc_score.specs.machine.ScoreMachine.{IsScoreAt}
+use Rattle.gabc_score.proofs.score_events.MemoryIsKept.{limit_past, room_past}
 use Rattle.gabc_score.proofs.score_machine.ScoreMachine.read.Goals as goal
 
 pub find_first-requires : goal.find_first-requires
@@ -244,3 +246,12 @@ returns-after-self-clause-reads c =
       };
       stops = λ some. absurd (some none);
     }
+
+pub returns-in-Some-clause-rests : goal.returns-in-Some-clause-rests
+returns-in-Some-clause-rests c =
+    let rests = c.requires.rests.rests in
+    let now = c.take.new.self.events in
+    let room = room_past c.args.self.now.found c.hold.new.found now c.hold.ensures.found rests.room in
+    let same = ap (λ (r : BoundedList Finding). r.limit) c.find_first.ensures in
+    let limit = limit_past c.args.self.now.pair.gathered c.free.new.self.gathered c.hold.new.pair.gathered now c.free.ensures.gathered c.hold.ensures.gathered in
+    subst (λ (p : ScorePart). IsScoreAt p c.stop.new.self) (sym c.stop.ensures.part) (c.stop.ensures.keeps (record { room = omega (arith, room, same); limit = limit ∙ rests.limit }))

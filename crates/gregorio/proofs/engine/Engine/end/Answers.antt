@@ -39,7 +39,7 @@ returns-clause-law c =
     let from_heads = given_of_end c.read_decoded.new.heads c.read_decoded.new.from_heads c.clear.new.self c.finish.new.out c.slice.result.now c.clear.ensures c.finish.ensures.ends c.slice.ensures in
     let ends = ends_items c.self.inside.decoder c.self.inside.heads c.read_decoded.new.heads c.self.inside.writer c.read_decoded.new.writer c.finish-2.new.self c.finish-2.result
     (option_to_list c.end-item.result) c.end-item.ensures.item c.read_decoded.ensures.writes
-    (ends_given c.read_decoded.new.heads c.read_decoded.new.writer c.pass_on.new.writer c.finish-2.new.self c.finish-2.result c.slice.result.now c.book.result.now from_heads c.pass_on.ensures.writes c.finish-2.ensures.writes) in
+    (ends_given c.read_decoded.new.heads c.read_decoded.new.writer c.pass_on.new.writer c.finish-2.new.self c.finish-2.result c.slice.result.now c.finish.new.self.book from_heads c.pass_on.ensures.writes c.finish-2.ensures.writes) in
     ap (λ (s : EngineState). streams_left s Whole []) (sym c.self.view_is)
     ∙ ends_now _ c.self.inside.writer c.finish-2.new.self c.finish-2.result ends empty
 

@@ -2,11 +2,16 @@ use Rattle.std.proofs.Common.{List, [], ℕ, append-nil, subst}
 use Rattle.gregorio.specs.declared.source_ending.SourceEnding.TheVariants.{Whole}
 use Rattle.gregorio.specs.machine.InMemory.{TakeTheSame}
 use Rattle.gregorio.specs.witness.Engine.{streams_left}
-use Rattle.gregorio.proofs.InputsArePut.{last_taken}
+use Rattle.gregorio.proofs.InputsArePut.{last_taken, runs_where_taken}
 use Rattle.gregorio.proofs.engine.Engine.run_over.Goals as goal
 
 pub returns : goal.returns
 returns g c =
     let put = subst (λ (l : List ℕ). TakeTheSame g.O.Put.taken g.M.Put.taken c.args.out.now c.args.messages.now (streams_left c.args.self.now Whole l) c.feed_input.new.out c.feed_input.new.messages (streams_left c.feed_input.new.engine Whole [])) (append-nil c.args.input.now) (c.feed_input.ensures.put Whole []) in
     let last = last_taken g.O.Put.taken g.M.Put.taken _ _ _ _ _ _ _ _ _ _ _ put c.end-status.ensures.law c.put_waiting.ensures.out c.put_waiting.ensures.messages in
-    record { out = last.0; messages = last.1; status = last.2 }
+    record {
+      out = last.0;
+      messages = last.1;
+      status = last.2;
+      job = λ job limits runs. runs_where_taken c.end-status.new.self c.put_waiting.new.engine job limits c.put_waiting.ensures.forgets (c.end-status.ensures.job job limits (c.feed_input.ensures.job job limits runs));
+    }

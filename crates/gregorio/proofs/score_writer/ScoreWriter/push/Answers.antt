@@ -1,4 +1,4 @@
-use Rattle.std.proofs.Common.{◌≡◌, false, sym, subst}
+use Rattle.std.proofs.Common.{◌≡◌, ◌∙◌, ap, false, sym, subst}
 use Rattle.gabc_headers.specs.declared.head_event.HeadEvent.{HeadEvent}
 use Rattle.gregorio.specs.machine.RunWriter.{RunWriterState, with_heads}
 use Rattle.gregorio.specs.machine.ScoreWriter.{ScoreWriterState, WritesAt}
@@ -13,12 +13,12 @@ pub returns-clause-writes : goal.returns-clause-writes
 returns-clause-writes c =
     let i = c.self.inside in
     let old : ScoreWriterState = record { score = i.score; writer = i.writer } in
-    let read = c.args.book.now in
+    let read = c.args.heads.now.book in
     let new = c.pass.new.self in
     elim c.match-event.branch [
       | in-Heads w ↦
           let passed = subst (λ (s : ScoreWriterState). WritesAt s c.args.event read new) w.self-is (c.pass.ensures.writes read) in
-          let behind = subst (λ (v : RunWriterState). WritesAt (record { score = i.score; writer = v }) c.args.event read new) w.heads.ensures.writes passed in
+          let behind = subst (λ (v : RunWriterState). WritesAt (record { score = i.score; writer = v }) c.args.event read new) (w.heads.ensures.writes ∙ ap (with_heads i.writer) w.headers.ensures) passed in
           subst (λ (s : ScoreWriterState). WritesAt s c.args.event read new) c.self.view_is
           (subst (λ (x : HeadEvent). WritesAt old x read new) (sym w.in-Heads.is)
           (heads_are_written old w.in-Heads.nabc_lines w.in-Heads.macros w.in-Heads.canonical read new
@@ -34,10 +34,10 @@ returns-clause-passes c =
     elim c.match-event.branch [
       | in-Heads w ↦
           let passed = subst (λ (s : ScoreWriterState). PassesOn s.score s.writer.written c.args.event new) w.self-is c.pass.ensures.passes in
-          let behind = subst (λ (v : RunWriterState). PassesOn i.score v.written c.args.event new) w.heads.ensures.writes passed in
+          let behind = subst (λ (v : RunWriterState). PassesOn i.score v.written c.args.event new) (w.heads.ensures.writes ∙ ap (with_heads i.writer) w.headers.ensures) passed in
           subst (λ (s : ScoreWriterState). PassesOn s.score (written_at s.writer.written c.args.event) c.args.event new) c.self.view_is
           (subst (λ (x : HeadEvent). PassesOn i.score (written_at i.writer.written x) x new) (sym w.in-Heads.is)
-          (subst (λ (x : HeadEvent). PassesOn i.score (with_heads i.writer c.args.book.now).written x new) w.in-Heads.is behind))
+          (subst (λ (x : HeadEvent). PassesOn i.score (with_heads i.writer c.args.heads.now.book).written x new) w.in-Heads.is behind))
       | in_default w ↦
           let none : is_heads c.args.event ≡ false = no_heads c.args.event w.in_default.not-Heads in
           subst (λ (v : Written). PassesOn c.args.self.now.score v c.args.event new) (sym (not_written c.args.self.now.writer.written c.args.event none))

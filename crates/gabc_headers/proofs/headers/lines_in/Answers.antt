@@ -5,7 +5,7 @@ use Rattle.std.proofs.lemmas.Iterator.{YieldsList-from_slice}
 use Rattle.std.proofs.lemmas.Iterator.Search.{position_from_yields_List}
 use Rattle.gabc_headers.specs.Book.{nabc_values}
 use Rattle.gabc_headers.proofs.entries.ValuesOfNabcLines.{lines-chars}
-use Rattle.gabc_headers.proofs.book.lines_in.Goals as goal
+use Rattle.gabc_headers.proofs.headers.lines_in.Goals as goal
 
 pub returns : goal.returns
 returns c =

@@ -1,6 +1,6 @@
 use Rattle.std.proofs.Common.{◌∙◌, sym, add-one}
 use Rattle.gabc_headers.proofs.entries.BookIsReadByEntry.{named_here, named_later}
-use Rattle.gabc_headers.proofs.book.HeaderBook.get.Goals as goal
+use Rattle.gabc_headers.proofs.headers.Headers.get.Goals as goal
 
 pub returns-then-eq : goal.returns-then-eq
 returns-then-eq c = c.loop-index.invariant

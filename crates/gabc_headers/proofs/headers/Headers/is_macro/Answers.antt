@@ -1,7 +1,7 @@
 use Rattle.std.proofs.Common.{◌≡◌, ℕ, List, Option, None, Some, is_some, ap, sym, ◌∙◌, Bor, MatchOption}
 use Rattle.std.specs.Str.{chars}
 use Rattle.gabc_headers.proofs.entries.TextsAsBytes.{chars-macro}
-use Rattle.gabc_headers.proofs.book.HeaderBook.is_macro.Goals as goal
+use Rattle.gabc_headers.proofs.headers.Headers.is_macro.Goals as goal
 
 some_same : (o : Option (Bor (List ℕ))) (p : Option (List ℕ)) → MatchOption o (p ≡ None) (λ v. p ≡ Some (chars v.now)) → is_some o ≡ is_some p
 some_same None p h = sym (ap (λ (x : Option (List ℕ)). is_some x) h)

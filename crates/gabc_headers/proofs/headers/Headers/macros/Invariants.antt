@@ -1,6 +1,6 @@
 use Rattle.std.proofs.Common.{◌≡◌, ◌<◌, ◌^◌}
 use Rattle.gabc_headers.specs.Book.{macros_below}
-use Rattle.gabc_headers.proofs.book.HeaderBook.macros.Given as goal
+use Rattle.gabc_headers.proofs.headers.Headers.macros.Given as goal
 
 abbrev pub invariant-loop-digit : goal.invariant-loop-digit
 invariant-loop-digit l = record {

@@ -1,0 +1,33 @@
+use Rattle.std.proofs.Common.{List, ℕ, [], refl, sym, ap, arith, ◌∙◌}
+use Rattle.std.specs.String.{string_capacity}
+use Rattle.std.proofs.lemmas.Str.{chars-nil}
+use Rattle.gabc_places.specs.BoundedList.{BoundedList}
+use Rattle.gabc_places.specs.declared.place.Span.{Span}
+use Rattle.gabc_headers.specs.witness.HeadEvents.{HeaderStageState}
+use Rattle.gabc_headers.proofs.stages.CharactersOfAStage.{keeps}
+use Rattle.gabc_headers.proofs.header_stage.HeaderStage.restart.Goals as goal
+
+pub invariant_of-self : goal.invariant_of-self
+invariant_of-self c =
+    let s = c.self.inside in
+    let k = keeps s.limits s.part _ (string_capacity s.text) s.machine s.headers s.room c.self.invariant in (
+      record {
+        events = [];
+        taken = rw (c.clear.ensures.bytes, chars-nil) (sym c.new-self-inside.ensures.starts, refl);
+        bounded = c.new-self-inside.ensures.bounds;
+        fits = (let a = k.text_fits in let b = c.clear.ensures.capacity in omega (arith, a, b));
+        put = ap (λ (x : BoundedList (List ℕ × Span)). x.items) c.clear-2.ensures;
+        limit = ap (λ (x : BoundedList (List ℕ × Span)). x.limit) c.clear-2.ensures ∙ k.headers_fit;
+      },
+      record {
+        text = c.clear-3.ensures.text;
+        entries = c.clear-3.ensures.entries;
+        text_fits = (let a = k.bytes_fit in let b = c.clear-3.ensures.bytes in omega (arith, a, b));
+        entries_fit = (let a = k.entries_fit in let b = c.clear-3.ensures.headers in omega (arith, a, b));
+      },
+    )
+
+pub returns : goal.returns
+returns c =
+    let limits = ap (λ (v : HeaderStageState). v.limits) c.self.view_is in
+    rw (c.clear.ensures.bytes, chars-nil, c.clear-3.ensures.text, c.clear-3.ensures.entries, ← limits) refl
