@@ -38,13 +38,13 @@ enum Fed {
 }
 
 /// Begins a run, and returns how many bytes its first state has. The error is the number that is answered else.
-fn begin_one(alloc: Global, numbers: Numbers<'_>, state: &mut [u8]) -> Result<usize, u32>
+fn begin_one(alloc: Global, numbers: &Numbers<'_>, state: &mut [u8]) -> Result<usize, u32>
     ensures begun { (request : Wanted) (limits : RunLimits) →
-        AsksFor numbers.format numbers.flags numbers.options.now request limits →
+        AsksFor numbers.now.format numbers.now.flags numbers.now.options.now request limits →
         IfOk result (λ len. StandsFor (job_of request) limits (take len state.new)
         (run_of (job_of request) limits)) }
     ensures error { (request : Wanted) (limits : RunLimits) →
-        AsksFor numbers.format numbers.flags numbers.options.now request limits →
+        AsksFor numbers.now.format numbers.now.flags numbers.now.options.now request limits →
         IfErr result MayFail }
 {
     let mut step = Step {
@@ -62,7 +62,7 @@ fn begin_one(alloc: Global, numbers: Numbers<'_>, state: &mut [u8]) -> Result<us
 /// nothing is written.
 fn feed_one<O: Put, M: Put>(
     alloc: Global,
-    numbers: Numbers<'_>,
+    numbers: &Numbers<'_>,
     state: &mut [u8],
     len: usize,
     piece: &[u8],
@@ -72,12 +72,12 @@ fn feed_one<O: Put, M: Put>(
     lines: &mut M,
 ) -> Result<Fed, u32>
     ensures fed { (request : Wanted) (limits : RunLimits) →
-        AsksFor numbers.format numbers.flags numbers.options.now request limits →
+        AsksFor numbers.now.format numbers.now.flags numbers.now.options.now request limits →
         (left : Writes) → StandsFor (job_of request) limits (take len state.old) left →
         IfOk result (PutsFed O.taken M.taken (job_of request) limits left piece.now
         out.old lines.old state.new out.new lines.new) }
     ensures error { (request : Wanted) (limits : RunLimits) →
-        AsksFor numbers.format numbers.flags numbers.options.now request limits →
+        AsksFor numbers.now.format numbers.now.flags numbers.now.options.now request limits →
         (left : Writes) → StandsFor (job_of request) limits (take len state.old) left →
         IfErr result MayFail }
 {
@@ -115,7 +115,7 @@ fn feed_one<O: Put, M: Put>(
 /// nothing is written.
 fn end_one<O: Put, M: Put>(
     alloc: Global,
-    numbers: Numbers<'_>,
+    numbers: &Numbers<'_>,
     state: &[u8],
     ending: SourceEnding,
     output: &mut [u8],
@@ -124,12 +124,12 @@ fn end_one<O: Put, M: Put>(
     lines: &mut M,
 ) -> Result<u32, u32>
     ensures ended { (request : Wanted) (limits : RunLimits) →
-        AsksFor numbers.format numbers.flags numbers.options.now request limits →
+        AsksFor numbers.now.format numbers.now.flags numbers.now.options.now request limits →
         (left : Writes) → StandsFor (job_of request) limits state.now left →
         IfOk result (PutsLast O.taken M.taken (left ending []) out.old lines.old
         out.new lines.new) }
     ensures error { (request : Wanted) (limits : RunLimits) →
-        AsksFor numbers.format numbers.flags numbers.options.now request limits →
+        AsksFor numbers.now.format numbers.now.flags numbers.now.options.now request limits →
         (left : Writes) → StandsFor (job_of request) limits state.now left →
         IfErr result MayFail }
 {
@@ -160,7 +160,7 @@ fn end_one<O: Put, M: Put>(
 /// buffers of the calls. The error is 3 where the numbers ask for nothing, else 5, where there is too little memory, or 7, where a buffer is too small.
 pub fn a_run_may_be_fed_in_pieces<O: Put, M: Put>(
     alloc: Global,
-    numbers: Numbers<'_>,
+    numbers: &Numbers<'_>,
     pieces: &[&[u8]],
     ending: SourceEnding,
     state: &mut [u8],
@@ -170,12 +170,12 @@ pub fn a_run_may_be_fed_in_pieces<O: Put, M: Put>(
     lines: &mut M,
 ) -> Result<u32, u32>
     ensures written { (request : Wanted) (limits : RunLimits) →
-        AsksFor numbers.format numbers.flags numbers.options.now request limits →
+        AsksFor numbers.now.format numbers.now.flags numbers.now.options.now request limits →
         IfOk result (PutsLast O.taken M.taken
         (run_of (job_of request) limits ending (joined pieces.now)) out.old lines.old
         out.new lines.new) }
     ensures error { (request : Wanted) (limits : RunLimits) →
-        AsksFor numbers.format numbers.flags numbers.options.now request limits →
+        AsksFor numbers.now.format numbers.now.flags numbers.now.options.now request limits →
         IfErr result MayFail }
 {
     let mut len = begin_one(alloc, numbers, state)?;
