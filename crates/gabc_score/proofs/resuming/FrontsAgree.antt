@@ -25,10 +25,14 @@ use Rattle.gabc_score.specs.machine.PartKeeps.{in_text, PartKeeps}
 use Rattle.gabc_score.proofs.resuming.BeginsAnywhere.{front_is}
 use Rattle.gabc_score.specs.witness.BodyStage.{BodyStageState, part_with, running_events_left, texts_by_stage}
 
-module _ (stays : (s : TextStage) (place : Place) → Keeps s [] → Keeps (text.moved_to place s) [])
-    (on : (s : TextStage) (c : ℕ) (t : List ℕ) → Keeps s [] → text.is_in_comment s ≡ true → (c == 10) ≡ false → events_left s (c ∷ t) ≡ [] ∷ events_left (text.moved_to (saturating_next_place (text.next_of s) c) s) t)
-    (begins : (s : TextStage) (t : List ℕ) → Keeps s [] → text.is_in_comment s ≡ true → events_left s (10 ∷ t) ≡ events_left (fresh_stage (text.next_of s)) (10 ∷ t))
-    (ends : (s : TextStage) → Keeps s [] → text.is_in_comment s ≡ true → events_left s [] ≡ (text_event.Ended text_end.Finished ∷ []) ∷ []) where
+-- A comment in front of a text counts for nothing, where the text keeps nothing yet.
+pub record CommentsCountForNothing : Type 0 where
+  pub stays : (s : TextStage) (place : Place) → Keeps s [] → Keeps (text.moved_to place s) []
+  pub on : (s : TextStage) (c : ℕ) (t : List ℕ) → Keeps s [] → text.is_in_comment s ≡ true → (c == 10) ≡ false → events_left s (c ∷ t) ≡ [] ∷ events_left (text.moved_to (saturating_next_place (text.next_of s) c) s) t
+  pub begins : (s : TextStage) (t : List ℕ) → Keeps s [] → text.is_in_comment s ≡ true → events_left s (10 ∷ t) ≡ events_left (fresh_stage (text.next_of s)) (10 ∷ t)
+  pub ends : (s : TextStage) → Keeps s [] → text.is_in_comment s ≡ true → events_left s [] ≡ (text_event.Ended text_end.Finished ∷ []) ∷ []
+
+module _ (law : CommentsCountForNothing) where
   module _ (lines macros : ℕ) where
     abbrev ahead : PartAhead → List HeadEvent → List (List BodyEvent)
     ahead p xs = events_from texts_by_stage lines macros p (characters_in xs)
@@ -37,13 +41,13 @@ module _ (stays : (s : TextStage) (place : Place) → Keeps s [] → Keeps (text
     text_ahead s xs = ahead (InText (events_left s (codes_of (characters_in xs)))) xs
 
     comment_is_text : (s : TextStage) → Keeps s [] → text.is_in_comment s ≡ true → (xs : List HeadEvent) → StandInLine (text.next_of s) xs → ahead InComment xs ≡ text_ahead s xs
-    comment_is_text s keeps open_is [] line = ap (λ (lists : List (List TextEvent)). ahead (InText lists) []) (sym (ends s keeps open_is))
-    comment_is_text s keeps open_is (head_event.End ∷ xs) line = ap (λ (lists : List (List TextEvent)). ahead (InText lists) []) (sym (ends s keeps open_is))
-    comment_is_text s keeps open_is (head_event.Stop fault ∷ xs) line = ap (λ (lists : List (List TextEvent)). ahead (InText lists) []) (sym (ends s keeps open_is))
+    comment_is_text s keeps open_is [] line = ap (λ (lists : List (List TextEvent)). ahead (InText lists) []) (sym (law.ends s keeps open_is))
+    comment_is_text s keeps open_is (head_event.End ∷ xs) line = ap (λ (lists : List (List TextEvent)). ahead (InText lists) []) (sym (law.ends s keeps open_is))
+    comment_is_text s keeps open_is (head_event.Stop fault ∷ xs) line = ap (λ (lists : List (List TextEvent)). ahead (InText lists) []) (sym (law.ends s keeps open_is))
     comment_is_text s keeps open_is (head_event.Found f ∷ xs) line = comment_is_text s keeps open_is xs line.1
     comment_is_text s keeps open_is (head_event.Heads l m c ∷ xs) line = comment_is_text s keeps open_is xs line.1
     comment_is_text s keeps open_is (head_event.Body x ∷ xs) line =
-        by (comment_is_text there (stays s (saturating_next_place (text.next_of s) x.c) keeps) open_is xs (subst (λ (p : Place). StandInLine (saturating_next_place p x.c) xs) line.0 line.1)) (x.c == 10) refl
+        by (comment_is_text there (law.stays s (saturating_next_place (text.next_of s) x.c) keeps) open_is xs (subst (λ (p : Place). StandInLine (saturating_next_place p x.c) xs) line.0 line.1)) (x.c == 10) refl
       where
         there : TextStage
         there = text.moved_to (saturating_next_place (text.next_of s) x.c) s
@@ -55,7 +59,7 @@ module _ (stays : (s : TextStage) (place : Place) → Keeps s [] → Keeps (text
         at_feed c e =
             ap (λ (p : Place). events_left (fresh_stage p) (c ∷ codes)) line.0
             ∙ ap (λ (d : ℕ). events_left (fresh_stage (text.next_of s)) (d ∷ codes)) e
-            ∙ sym (begins s codes keeps open_is)
+            ∙ sym (law.begins s codes keeps open_is)
             ∙ ap (λ (d : ℕ). events_left s (d ∷ codes)) (sym e)
 
         read : PartAhead → List (List BodyEvent)
@@ -66,7 +70,7 @@ module _ (stays : (s : TextStage) (place : Place) → Keeps s [] → Keeps (text
         by again true e = ap (λ (lists : List (List TextEvent)). read (InText lists)) (at_feed x.c (eqb-true x.c 10 e))
         by again false e =
             ap (λ (lists : List (List BodyEvent)). [] ∷ lists) again
-            ∙ ap (λ (lists : List (List TextEvent)). read (InText lists)) (sym (on s x.c codes keeps open_is e))
+            ∙ ap (λ (lists : List (List TextEvent)). read (InText lists)) (sym (law.on s x.c codes keeps open_is e))
 
     in_comment : (p : BodyPart) → PartKeeps lines macros p (in_text []) → is_in_comment p ≡ true → (place : Place) (xs : List HeadEvent) → StandsAt place p → StandInLine place xs
         → ahead InComment xs ≡ ahead (part_with p (characters_in xs)) xs

@@ -38,47 +38,50 @@ none_is_some p e = absurd (cc e)
 two_lines : {A : Type 0} (lines macros line : ℕ) (t : List ℕ) (earlier : List (List ℕ)) → AreBehind lines macros 0 t earlier → AreBehind lines macros line t earlier → (line ≡ 0 → ⊥) → A
 two_lines lines macros line t earlier h g other = absurd (other (sym g.line_is ∙ h.line_is))
 
-module _ (text_agree : (s t : TextStage) (k : List ℕ) → text.Keeps s k → text.Keeps t k → text_tells.opener_of s ≡ text_tells.opener_of t → text_tells.is_in_comment s ≡ text_tells.is_in_comment t → text_tells.next_of s ≡ text_tells.next_of t
-    → (u : List ℕ) → text_events.events_left s u ≡ text_events.events_left t u)
-    (notes_agree : (split : Bool) (macros : ℕ) (s t : NoteStage) (k : List ℕ) → notes.Keeps split macros s k → notes.Keeps split macros t k → note_tells.opener_of s ≡ note_tells.opener_of t → note_tells.comment_of s ≡ note_tells.comment_of t
-    → (xs : List Char) → note_events.events_left s xs ≡ note_events.events_left t xs)
-    (nabc_agree : (s t : NabcStage) (k : List ℕ) → nabc.Keeps s k → nabc.Keeps t k → nabc.comment_of s ≡ nabc.comment_of t → (xs : List Char) → nabc_events.events_left s xs ≡ nabc_events.events_left t xs) where
-  -- what is left of the parts is the same
-  ahead_agree : (lines macros : ℕ) (p q : BodyPart) (parts : KeptParts) → PartKeeps lines macros p parts → PartKeeps lines macros q parts → TellTheSame p q → (xs : List Char) → part_with p xs ≡ part_with q xs
-  ahead_agree lines macros part.Comment part.Comment parts h g told xs = refl
-  ahead_agree lines macros part.Comment (part.Text t) parts h g told xs = not_both told.front
-  ahead_agree lines macros part.Comment (part.Notes opened t) parts h g told xs = not_both told.front
-  ahead_agree lines macros part.Comment (part.Nabc line opened t) parts h g told xs = not_both told.front
-  ahead_agree lines macros (part.Text s) part.Comment parts h g told xs = not_both (sym told.front)
-  ahead_agree lines macros (part.Text s) (part.Text t) (in_text k) h g told xs =
-      ap (λ (lists : List (List TextEvent)). InText lists) (text_agree s t k h g (ap (λ (o : Openers). o.inner) told.openers) told.comment (some_is _ _ told.next) (codes_of xs))
-  ahead_agree lines macros (part.Text s) (part.Text t) (in_notes u earlier k) h g told xs = absurd h
-  ahead_agree lines macros (part.Text s) (part.Notes opened t) parts h g told xs = none_is_some opened (ap (λ (o : Openers). o.notes) told.openers)
-  ahead_agree lines macros (part.Text s) (part.Nabc line opened t) parts h g told xs = none_is_some opened (ap (λ (o : Openers). o.notes) told.openers)
-  ahead_agree lines macros (part.Notes opened s) part.Comment parts h g told xs = not_both (sym told.front)
-  ahead_agree lines macros (part.Notes opened s) (part.Text t) parts h g told xs = none_is_some opened (sym (ap (λ (o : Openers). o.notes) told.openers))
-  ahead_agree lines macros (part.Notes opened s) (part.Notes other t) (in_text k) h g told xs = absurd h
-  ahead_agree lines macros (part.Notes opened s) (part.Notes other t) (in_notes u earlier k) h g told xs =
-      ap (λ (o : Place). InNotes 0 o (note_events.events_left s xs)) (some_is _ _ (ap (λ (o : Openers). o.notes) told.openers))
-      ∙ ap (λ (lists : List (List NoteEvent)). InNotes 0 other lists) (notes_agree (nat_lt 0 lines) macros s t k h.1 g.1 (ap (λ (o : Openers). o.inner) told.openers) told.comment xs)
-  ahead_agree lines macros (part.Notes opened s) (part.Nabc line other t) (in_text k) h g told xs = absurd h
-  ahead_agree lines macros (part.Notes opened s) (part.Nabc line other t) (in_notes u earlier k) h g told xs = two_lines lines macros line u earlier h.0 g.0 g.1.0
-  ahead_agree lines macros (part.Nabc line opened s) part.Comment parts h g told xs = not_both (sym told.front)
-  ahead_agree lines macros (part.Nabc line opened s) (part.Text t) parts h g told xs = none_is_some opened (sym (ap (λ (o : Openers). o.notes) told.openers))
-  ahead_agree lines macros (part.Nabc line opened s) (part.Notes other t) (in_text k) h g told xs = absurd h
-  ahead_agree lines macros (part.Nabc line opened s) (part.Notes other t) (in_notes u earlier k) h g told xs = two_lines lines macros line u earlier g.0 h.0 h.1.0
-  ahead_agree lines macros (part.Nabc line opened s) (part.Nabc beside other t) (in_text k) h g told xs = absurd h
-  ahead_agree lines macros (part.Nabc line opened s) (part.Nabc beside other t) (in_notes u earlier k) h g told xs =
-      ap (λ (l : ℕ). InNotes l opened (nabc_events.events_left s xs)) (sym h.0.line_is ∙ g.0.line_is)
-      ∙ ap (λ (o : Place). InNotes beside o (nabc_events.events_left s xs)) (some_is _ _ (ap (λ (o : Openers). o.notes) told.openers))
-      ∙ ap (λ (lists : List (List NoteEvent)). InNotes beside other lists) (nabc_agree s t k h.1.1 g.1.1 told.comment xs)
+-- Stages over a part that keep one text and tell the same emit the same.
+pub record StagesAgree : Type 0 where
+  pub texts : (s t : TextStage) (k : List ℕ) → text.Keeps s k → text.Keeps t k → text_tells.opener_of s ≡ text_tells.opener_of t → text_tells.is_in_comment s ≡ text_tells.is_in_comment t → text_tells.next_of s ≡ text_tells.next_of t
+      → (u : List ℕ) → text_events.events_left s u ≡ text_events.events_left t u
+  pub gabc : (split : Bool) (macros : ℕ) (s t : NoteStage) (k : List ℕ) → notes.Keeps split macros s k → notes.Keeps split macros t k → note_tells.opener_of s ≡ note_tells.opener_of t → note_tells.comment_of s ≡ note_tells.comment_of t
+      → (xs : List Char) → note_events.events_left s xs ≡ note_events.events_left t xs
+  pub nabc_lines : (s t : NabcStage) (k : List ℕ) → nabc.Keeps s k → nabc.Keeps t k → nabc.comment_of s ≡ nabc.comment_of t → (xs : List Char) → nabc_events.events_left s xs ≡ nabc_events.events_left t xs
 
-  pub bodies_agree : (a b : BodyStageState) → a.nabc_lines ≡ b.nabc_lines → a.macros ≡ b.macros → KeepTheSame a.nabc_lines a.macros a.part b.part → TellTheSame a.part b.part
-      → (xs : List Char) → running_events_left a xs ≡ running_events_left b xs
-  bodies_agree a b same_lines same_macros keep told xs =
-      ap (λ (p : PartAhead). events_from texts_by_stage a.nabc_lines a.macros p xs) (ahead_agree a.nabc_lines a.macros a.part b.part keep.parts keep.one keep.other told xs)
-      ∙ ap (λ (l : ℕ). events_from texts_by_stage l a.macros (part_with b.part xs) xs) same_lines
-      ∙ ap (λ (l : ℕ). events_from texts_by_stage b.nabc_lines l (part_with b.part xs) xs) same_macros
+-- what is left of the parts is the same
+ahead_agree : StagesAgree → (lines macros : ℕ) (p q : BodyPart) (parts : KeptParts) → PartKeeps lines macros p parts → PartKeeps lines macros q parts → TellTheSame p q → (xs : List Char) → part_with p xs ≡ part_with q xs
+ahead_agree law lines macros part.Comment part.Comment parts h g told xs = refl
+ahead_agree law lines macros part.Comment (part.Text t) parts h g told xs = not_both told.front
+ahead_agree law lines macros part.Comment (part.Notes opened t) parts h g told xs = not_both told.front
+ahead_agree law lines macros part.Comment (part.Nabc line opened t) parts h g told xs = not_both told.front
+ahead_agree law lines macros (part.Text s) part.Comment parts h g told xs = not_both (sym told.front)
+ahead_agree law lines macros (part.Text s) (part.Text t) (in_text k) h g told xs =
+    ap (λ (lists : List (List TextEvent)). InText lists) (law.texts s t k h g (ap (λ (o : Openers). o.inner) told.openers) told.comment (some_is _ _ told.next) (codes_of xs))
+ahead_agree law lines macros (part.Text s) (part.Text t) (in_notes u earlier k) h g told xs = absurd h
+ahead_agree law lines macros (part.Text s) (part.Notes opened t) parts h g told xs = none_is_some opened (ap (λ (o : Openers). o.notes) told.openers)
+ahead_agree law lines macros (part.Text s) (part.Nabc line opened t) parts h g told xs = none_is_some opened (ap (λ (o : Openers). o.notes) told.openers)
+ahead_agree law lines macros (part.Notes opened s) part.Comment parts h g told xs = not_both (sym told.front)
+ahead_agree law lines macros (part.Notes opened s) (part.Text t) parts h g told xs = none_is_some opened (sym (ap (λ (o : Openers). o.notes) told.openers))
+ahead_agree law lines macros (part.Notes opened s) (part.Notes other t) (in_text k) h g told xs = absurd h
+ahead_agree law lines macros (part.Notes opened s) (part.Notes other t) (in_notes u earlier k) h g told xs =
+    ap (λ (o : Place). InNotes 0 o (note_events.events_left s xs)) (some_is _ _ (ap (λ (o : Openers). o.notes) told.openers))
+    ∙ ap (λ (lists : List (List NoteEvent)). InNotes 0 other lists) (law.gabc (nat_lt 0 lines) macros s t k h.1 g.1 (ap (λ (o : Openers). o.inner) told.openers) told.comment xs)
+ahead_agree law lines macros (part.Notes opened s) (part.Nabc line other t) (in_text k) h g told xs = absurd h
+ahead_agree law lines macros (part.Notes opened s) (part.Nabc line other t) (in_notes u earlier k) h g told xs = two_lines lines macros line u earlier h.0 g.0 g.1.0
+ahead_agree law lines macros (part.Nabc line opened s) part.Comment parts h g told xs = not_both (sym told.front)
+ahead_agree law lines macros (part.Nabc line opened s) (part.Text t) parts h g told xs = none_is_some opened (sym (ap (λ (o : Openers). o.notes) told.openers))
+ahead_agree law lines macros (part.Nabc line opened s) (part.Notes other t) (in_text k) h g told xs = absurd h
+ahead_agree law lines macros (part.Nabc line opened s) (part.Notes other t) (in_notes u earlier k) h g told xs = two_lines lines macros line u earlier g.0 h.0 h.1.0
+ahead_agree law lines macros (part.Nabc line opened s) (part.Nabc beside other t) (in_text k) h g told xs = absurd h
+ahead_agree law lines macros (part.Nabc line opened s) (part.Nabc beside other t) (in_notes u earlier k) h g told xs =
+    ap (λ (l : ℕ). InNotes l opened (nabc_events.events_left s xs)) (sym h.0.line_is ∙ g.0.line_is)
+    ∙ ap (λ (o : Place). InNotes beside o (nabc_events.events_left s xs)) (some_is _ _ (ap (λ (o : Openers). o.notes) told.openers))
+    ∙ ap (λ (lists : List (List NoteEvent)). InNotes beside other lists) (law.nabc_lines s t k h.1.1 g.1.1 told.comment xs)
+
+pub bodies_agree : StagesAgree → (a b : BodyStageState) → a.nabc_lines ≡ b.nabc_lines → a.macros ≡ b.macros → KeepTheSame a.nabc_lines a.macros a.part b.part → TellTheSame a.part b.part
+    → (xs : List Char) → running_events_left a xs ≡ running_events_left b xs
+bodies_agree law a b same_lines same_macros keep told xs =
+    ap (λ (p : PartAhead). events_from texts_by_stage a.nabc_lines a.macros p xs) (ahead_agree law a.nabc_lines a.macros a.part b.part keep.parts keep.one keep.other told xs)
+    ∙ ap (λ (l : ℕ). events_from texts_by_stage l a.macros (part_with b.part xs) xs) same_lines
+    ∙ ap (λ (l : ℕ). events_from texts_by_stage b.nabc_lines l (part_with b.part xs) xs) same_macros
 
 -- The place of the next character is the same, where both texts have counted it.
 pub next_is_told : (p q : BodyPart) (at place : Place) → at ≡ place → StandsAt at p → StandsAt place q → openers_of p ≡ openers_of q → is_in_front p ≡ is_in_front q → next_in p ≡ next_in q

@@ -1,23 +1,11 @@
 -- Two stages over a score that stand alike give the same, but for the syllable that is held.
 use Rattle.std.proofs.Common.{◌≡◌, ◌==◌, ℕ, List, [], ◌∷◌, ◌++◌, Bool, true, false, Option, Some, None, is_some, refl, sym, ap, subst, ◌∙◌}
-use Rattle.gabc_places.specs.Place.{saturating_next_place}
-use Rattle.gabc_places.specs.declared.place.Char.{Char}
 use Rattle.gabc_places.specs.declared.place.Place.{Place}
 use Rattle.gabc_headers.specs.declared.head_event.HeadEvent.{HeadEvent}
-use Rattle.gabc_text.specs.StageTells as text_tells
-use Rattle.gabc_text.specs.TextStage.{fresh_stage}
 use Rattle.gabc_text.specs.declared.stage.TextStage.{TextStage}
-use Rattle.gabc_text.specs.declared.text_event.TextEnd.TheVariants as text_end
-use Rattle.gabc_text.specs.declared.text_event.TextEvent.TheVariants as text_event
-use Rattle.gabc_text.specs.witness.EventsLeft as text_events
 use Rattle.gabc_text.specs.witness.Keeps as text
-use Rattle.gabc_notes.specs.StageTells as note_tells
 use Rattle.gabc_notes.specs.declared.stage.NoteStage.{NoteStage}
-use Rattle.gabc_notes.specs.witness.ItemMachine as note_events
 use Rattle.gabc_notes.specs.witness.Keeps as notes
-use Rattle.gabc_nabc.specs.declared.stage.NabcStage.{NabcStage}
-use Rattle.gabc_nabc.specs.witness.DescriptorMachine as nabc_events
-use Rattle.gabc_nabc.specs.witness.Keeps as nabc
 use Rattle.gabc_score.specs.declared.before.Before.{Before}
 use Rattle.gabc_score.specs.declared.body_stage.BodyPart.{BodyPart}
 use Rattle.gabc_score.specs.declared.score_machine.ScoreMachine.{ScoreMachine}
@@ -35,10 +23,10 @@ use Rattle.gabc_score.specs.witness.BodyStage.{running_events_left}
 use Rattle.gabc_score.specs.witness.MayStand.{MayStand}
 use Rattle.gabc_score.specs.witness.ScoreStage.{ScoreStageState, left_of}
 use Rattle.gabc_score.proofs.resuming.BeginsAnywhere.{front_is, front_reads}
-use Rattle.gabc_score.proofs.resuming.FrontsAgree.{fronts_emit}
+use Rattle.gabc_score.proofs.resuming.FrontsAgree.{CommentsCountForNothing, fronts_emit}
 use Rattle.gabc_score.proofs.resuming.NothingIsRead.{nothing_kept}
 use Rattle.gabc_score.proofs.resuming.ScoresAgree.{HeldAlike, bodies_give, bodies_keep, held_in_bodies, reads_in_body}
-use Rattle.gabc_score.proofs.resuming.StagesAgree.{bodies_agree, next_is_told}
+use Rattle.gabc_score.proofs.resuming.StagesAgree.{StagesAgree, bodies_agree, next_is_told}
 use Rattle.gabc_score.proofs.resuming.StatesStand.{IsRunning, both_in_body}
 
 -- ---- where only the other one stands in front
@@ -98,35 +86,26 @@ module _ (text_kept : (s : TextStage) (a b : List ℕ) (c : ℕ) → text.Keeps 
         let given = bodies_give text_kept text_ends gabc_kept a b ra.body rb.body alike.limits before reading alike.next held xs same in
         rw (ra.part, rb.part) given
 
-    module _ (front : is_in_front a.body.part ≡ true) (comment : is_in_comment b.body.part ≡ true)
-        (stays : (s : TextStage) (place : Place) → text.Keeps s [] → text.Keeps (text_tells.moved_to place s) [])
-        (on : (s : TextStage) (c : ℕ) (t : List ℕ) → text.Keeps s [] → text_tells.is_in_comment s ≡ true → (c == 10) ≡ false → text_events.events_left s (c ∷ t) ≡ [] ∷ text_events.events_left (text_tells.moved_to (saturating_next_place (text_tells.next_of s) c) s) t)
-        (begins : (s : TextStage) (t : List ℕ) → text.Keeps s [] → text_tells.is_in_comment s ≡ true → text_events.events_left s (10 ∷ t) ≡ text_events.events_left (fresh_stage (text_tells.next_of s)) (10 ∷ t))
-        (ends : (s : TextStage) → text.Keeps s [] → text_tells.is_in_comment s ≡ true → text_events.events_left s [] ≡ (text_event.Ended text_end.Finished ∷ []) ∷ []) where
+    module _ (front : is_in_front a.body.part ≡ true) (comment : is_in_comment b.body.part ≡ true) (law : CommentsCountForNothing) where
       -- the one stands in front of the first text
       pub fronts_give : (xs : List HeadEvent) → StandInLine a.next xs → GiveTheSame (held_of (shown a)) (held_of (shown b)) (left_of (shown a) xs) (left_of (shown b) xs)
       fronts_give xs line =
           given_alike xs
-          (fronts_emit stays on begins ends a.body b.body (ap (λ (k : Before). k.nabc_lines) before) (ap (λ (k : Before). k.macros) before) front
+          (fronts_emit law a.body b.body (ap (λ (k : Before). k.nabc_lines) before) (ap (λ (k : Before). k.macros) before) front
           (nothing_kept b.body.nabc_lines b.body.macros b.body.part b.bounds.behind.spans b.pair.gathered rb.body.reading (sym reading ∙ nothing))
           comment b.next xs alike.other_stands (subst (λ (p : Place). StandInLine p xs) alike.next line))
         where
           nothing : a.pair.gathered.builder.kept ≡ []
           nothing = ap (λ (o : OpenSyllable). o.kept) (front_reads a.body.part a.pair.gathered.builder front ra.body.counts)
 
-    module _ (text_agree : (s t : TextStage) (k : List ℕ) → text.Keeps s k → text.Keeps t k → text_tells.opener_of s ≡ text_tells.opener_of t → text_tells.is_in_comment s ≡ text_tells.is_in_comment t → text_tells.next_of s ≡ text_tells.next_of t
-        → (u : List ℕ) → text_events.events_left s u ≡ text_events.events_left t u)
-        (notes_agree : (split : Bool) (macros : ℕ) (s t : NoteStage) (k : List ℕ) → notes.Keeps split macros s k → notes.Keeps split macros t k → note_tells.opener_of s ≡ note_tells.opener_of t → note_tells.comment_of s ≡ note_tells.comment_of t
-        → (xs : List Char) → note_events.events_left s xs ≡ note_events.events_left t xs)
-        (nabc_agree : (s t : NabcStage) (k : List ℕ) → nabc.Keeps s k → nabc.Keeps t k → nabc.comment_of s ≡ nabc.comment_of t → (xs : List Char) → nabc_events.events_left s xs ≡ nabc_events.events_left t xs) where
-      -- both or none of them
-      pub machines_give : is_in_front a.body.part ≡ is_in_front b.body.part → (xs : List HeadEvent) → GiveTheSame (held_of (shown a)) (held_of (shown b)) (left_of (shown a) xs) (left_of (shown b) xs)
-      machines_give front xs =
-          given_alike xs
-          (bodies_agree text_agree notes_agree nabc_agree a.body b.body (ap (λ (k : Before). k.nabc_lines) before) (ap (λ (k : Before). k.macros) before)
-          (bodies_keep text_kept text_ends gabc_kept a b ra.body rb.body alike.limits before reading)
-          (record { openers = alike.openers; comment = alike.comment; front = front; next = next_is_told a.body.part b.body.part a.next b.next alike.next alike.stands alike.other_stands alike.openers front })
-          (characters_in xs))
+    -- both or none of them
+    pub machines_give : StagesAgree → is_in_front a.body.part ≡ is_in_front b.body.part → (xs : List HeadEvent) → GiveTheSame (held_of (shown a)) (held_of (shown b)) (left_of (shown a) xs) (left_of (shown b) xs)
+    machines_give law front xs =
+        given_alike xs
+        (bodies_agree law a.body b.body (ap (λ (k : Before). k.nabc_lines) before) (ap (λ (k : Before). k.macros) before)
+        (bodies_keep text_kept text_ends gabc_kept a b ra.body rb.body alike.limits before reading)
+        (record { openers = alike.openers; comment = alike.comment; front = front; next = next_is_told a.body.part b.body.part a.next b.next alike.next alike.stands alike.other_stands alike.openers front })
+        (characters_in xs))
 
   -- ---- two states
 
@@ -137,21 +116,13 @@ module _ (text_kept : (s : TextStage) (a b : List ℕ) (c : ℕ) → text.Keeps 
   abbrev pub AgreeInLine : ScoreStageState → ScoreStageState → Type 0
   AgreeInLine one other = (xs : List HeadEvent) → StandInLine one.held.next xs → GiveTheSame (held_of one) (held_of other) (left_of one xs) (left_of other xs)
 
-  module _ (text_agree : (s t : TextStage) (k : List ℕ) → text.Keeps s k → text.Keeps t k → text_tells.opener_of s ≡ text_tells.opener_of t → text_tells.is_in_comment s ≡ text_tells.is_in_comment t → text_tells.next_of s ≡ text_tells.next_of t
-      → (u : List ℕ) → text_events.events_left s u ≡ text_events.events_left t u)
-      (notes_agree : (split : Bool) (macros : ℕ) (s t : NoteStage) (k : List ℕ) → notes.Keeps split macros s k → notes.Keeps split macros t k → note_tells.opener_of s ≡ note_tells.opener_of t → note_tells.comment_of s ≡ note_tells.comment_of t
-      → (xs : List Char) → note_events.events_left s xs ≡ note_events.events_left t xs)
-      (nabc_agree : (s t : NabcStage) (k : List ℕ) → nabc.Keeps s k → nabc.Keeps t k → nabc.comment_of s ≡ nabc.comment_of t → (xs : List Char) → nabc_events.events_left s xs ≡ nabc_events.events_left t xs) where
-    pub states_agree : (one other : ScoreStageState) → MayStand one → MayStand other → StandAlike one other → is_in_front one.body.part ≡ is_in_front other.body.part → Agree one other
-    states_agree one other h g alike =
-        both_in_body (λ (s t : ScoreStageState). StandAlike s t → is_in_front s.body.part ≡ is_in_front t.body.part → Agree s t)
-        (λ a b ra rb like front. machines_give a b ra rb like text_agree notes_agree nabc_agree front)
-        one other h g alike.runs (ap is_some (sym alike.before) ∙ alike.runs) alike
+  pub states_agree : StagesAgree → (one other : ScoreStageState) → MayStand one → MayStand other → StandAlike one other → is_in_front one.body.part ≡ is_in_front other.body.part → Agree one other
+  states_agree law one other h g alike =
+      both_in_body (λ (s t : ScoreStageState). StandAlike s t → is_in_front s.body.part ≡ is_in_front t.body.part → Agree s t)
+      (λ a b ra rb like front. machines_give a b ra rb like law front)
+      one other h g alike.runs (ap is_some (sym alike.before) ∙ alike.runs) alike
 
-  module _ (stays : (s : TextStage) (place : Place) → text.Keeps s [] → text.Keeps (text_tells.moved_to place s) [])
-      (on : (s : TextStage) (c : ℕ) (t : List ℕ) → text.Keeps s [] → text_tells.is_in_comment s ≡ true → (c == 10) ≡ false → text_events.events_left s (c ∷ t) ≡ [] ∷ text_events.events_left (text_tells.moved_to (saturating_next_place (text_tells.next_of s) c) s) t)
-      (begins : (s : TextStage) (t : List ℕ) → text.Keeps s [] → text_tells.is_in_comment s ≡ true → text_events.events_left s (10 ∷ t) ≡ text_events.events_left (fresh_stage (text_tells.next_of s)) (10 ∷ t))
-      (ends : (s : TextStage) → text.Keeps s [] → text_tells.is_in_comment s ≡ true → text_events.events_left s [] ≡ (text_event.Ended text_end.Finished ∷ []) ∷ [])
+  module _ (law : CommentsCountForNothing)
       (agree : (one other : ScoreStageState) → MayStand one → MayStand other → StandAlike one other → is_in_front one.body.part ≡ is_in_front other.body.part → Agree one other) where
     in_comment : (p : BodyPart) → is_in_front p ≡ true → is_in_comment p ≡ true
     in_comment p front = ap is_in_comment (front_is p front)
@@ -159,7 +130,7 @@ module _ (text_kept : (s : TextStage) (a b : List ℕ) (c : ℕ) → text.Keeps 
     front_gives : (one other : ScoreStageState) → MayStand one → MayStand other → StandAlike one other → is_in_front one.body.part ≡ true → AgreeInLine one other
     front_gives one other h g alike =
         both_in_body (λ (s t : ScoreStageState). StandAlike s t → is_in_front s.body.part ≡ true → AgreeInLine s t)
-        (λ a b ra rb like front. fronts_give a b ra rb like front (sym like.comment ∙ in_comment a.body.part front) stays on begins ends)
+        (λ a b ra rb like front. fronts_give a b ra rb like front (sym like.comment ∙ in_comment a.body.part front) law)
         one other h g alike.runs (ap is_some (sym alike.before) ∙ alike.runs) alike
 
     pub states_agree_in_line : (none_held : (s : ScoreStageState) → MayStand s → is_some (before_of s) ≡ true → is_in_front s.body.part ≡ true → held_of s ≡ None) → (one other : ScoreStageState) → MayStand one → MayStand other → StandAlike one other → AgreeInLine one other
