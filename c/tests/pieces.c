@@ -215,13 +215,14 @@ static void step_elsewhere(struct run *run, maker make, const struct text *piece
   struct made made;
   struct rooms rooms = {run->state.length + piece->length + AMPLE, MOST, MOST};
   if (child == 0) {
+    size_t before = failures();
     made = make(run, piece, rooms);
     send_all(ends[1], &made.status, sizeof made.status);
     send_all(ends[1], &made.step, sizeof made.step);
     send_all(ends[1], made.state, rooms.state);
     send_all(ends[1], made.output, made.status <= GREGORIO_RUNS ? made.step.output : 0);
     send_all(ends[1], made.messages, made.status <= GREGORIO_RUNS ? made.step.messages : 0);
-    _exit(!have_all_passed());
+    _exit(failures() != before);
   }
   close(ends[1]);
   made = made_with(run, rooms);
