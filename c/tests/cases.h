@@ -36,7 +36,7 @@ void free_case(struct test_case *it);
 /* Tells of a trial that failed, and counts it. */
 void check(bool passed, const char *what, size_t number);
 
-bool have_all_passed(void);
+size_t failures(void);
 
 /* Prints how many trials passed and failed, and returns the exit status. */
 int summary(const char *program);

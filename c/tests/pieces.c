@@ -215,13 +215,14 @@ static void step_elsewhere(struct run *run, maker make, const struct text *piece
   struct made made;
   struct rooms rooms = {run->state.length + piece->length + AMPLE, MOST, MOST};
   if (child == 0) {
+    size_t before = failures();
     made = make(run, piece, rooms);
     send_all(ends[1], &made.status, sizeof made.status);
     send_all(ends[1], &made.step, sizeof made.step);
     send_all(ends[1], made.state, rooms.state);
     send_all(ends[1], made.output, made.status <= GREGORIO_RUNS ? made.step.output : 0);
     send_all(ends[1], made.messages, made.status <= GREGORIO_RUNS ? made.step.messages : 0);
-    _exit(!have_all_passed());
+    _exit(failures() != before);
   }
   close(ends[1]);
   made = made_with(run, rooms);
@@ -348,6 +349,9 @@ static void try_bounds(void) {
     check(gregorio_state_bound(&out, 1) == 0, "the bound of limits out of range", i);
     check(gregorio_begin(0, 0, &out, 1, NULL, 0, &step) == GREGORIO_REFUSED && step.state == 77, "limits out of range", i);
   }
+  struct gregorio_options two[2] = {{64, 64, 64, 0, {0, 0}}, {64, 64, 64, 0, {0, 0}}}, later = {64, 64, 64, 1, {0, 0}};
+  check(gregorio_state_bound(two, 1) == 64 * 2 + 128, "the bound of the least limits", 0);
+  check(gregorio_state_bound(two, 2) == 0 && gregorio_state_bound(&later, 1) == 0, "two options, and a word that is reserved", 0);
 }
 
 /* Makes steps with this format, these flags and these limits, from the state of a run with others. */

@@ -33,6 +33,7 @@ from gregorio_chant import Format, Run, Step
 MOST_SCORES = 1000
 MOST_BYTES = 64 << 20
 PIECE = 1 << 16
+WAITS = 10
 PATH = re.compile(r"/scores/([0-9a-f]{32})(/messages|/end)?")
 
 
@@ -106,28 +107,29 @@ class Server(ThreadingHTTPServer):
         super().__init__(("127.0.0.1", port), Handler)
         self.folder = folder
         self._in_use: set[str] = set()
-        self._lock = threading.Lock()
+        self._free = threading.Condition()
 
     @contextmanager
     def score(self, name: str) -> Iterator[Path]:
-        """Lends the folder of a score to one request at a time."""
+        """Lends the folder of a score to one request at a time. Another waits for a while, and is refused then."""
         folder = self.folder / name
-        with self._lock:
+        with self._free:
+            if not self._free.wait_for(lambda: name not in self._in_use, WAITS):
+                raise Refused(HTTPStatus.CONFLICT)
             if not (folder / "state").exists():
                 raise Refused(HTTPStatus.NOT_FOUND)
-            if name in self._in_use:
-                raise Refused(HTTPStatus.CONFLICT)
             self._in_use.add(name)
         try:
             yield folder
         finally:
-            with self._lock:
+            with self._free:
                 self._in_use.remove(name)
+                self._free.notify_all()
 
     def begin(self, format: Format) -> str:
         """Begins a score, and returns its name."""
         name = secrets.token_hex(16)
-        with self._lock:
+        with self._free:
             if len(os.listdir(self.folder)) >= MOST_SCORES:
                 raise Refused(HTTPStatus.INSUFFICIENT_STORAGE)
             Upload.begin(self.folder / name, format)

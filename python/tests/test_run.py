@@ -142,13 +142,15 @@ class States(unittest.TestCase):
         score = (EXAMPLES / "introit.gabc").read_bytes()
         wanted = compile(score).output
         run = Run()
-        first = run.feed(score[:300]).output
+        first = run.feed(score[:100]).output
         state = run.state
         for _ in range(2):
-            self.assertEqual(first + "".join(it.output for it in Run.restore(state).steps([score[300:]])), wanted)
+            self.assertEqual(first + "".join(it.output for it in Run.restore(state).steps([score[100:]])), wanted)
         program = "import sys\nfrom gregorio_chant import Run\nrun = Run.restore(bytes.fromhex(sys.argv[1]))\n" \
             "for it in run.steps([sys.stdin.buffer.read()]): sys.stdout.buffer.write(it.output.encode())"
-        other = subprocess.run([sys.executable, "-c", program, state.hex()], input=score[300:], capture_output=True, check=True, timeout=60)
+        other = subprocess.run(
+            [sys.executable, "-c", program, state.hex()], input=score[100:], capture_output=True, check=True, timeout=60, cwd="/"
+        )
         self.assertEqual(first.encode() + other.stdout, wanted.encode())
 
     def test_other_bytes(self) -> None:
