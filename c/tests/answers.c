@@ -64,6 +64,11 @@ static void try_records(const struct test_case *it, size_t number) {
     at = next + 1;
   }
   check(at == end, "a record for each line", number);
+  if (room) {
+    memset(list, UNTOUCHED, room * sizeof *list);
+    check(gregorio_messages(it->input.bytes, it->input.length, it->flags, KEY, 1, list, room - 1, &count) == it->status, "status of too many records", number);
+    check(count == room && *(const uint8_t *)list == UNTOUCHED, "records that do not fit", number);
+  }
   free(list);
 }
 

@@ -1,4 +1,9 @@
 pub mod EngineBegins
+pub mod LinesAreRead
+pub mod MessagesAreCounted
+pub mod MessagesAreFilled
+pub mod MessagesOfLines
+pub mod NumbersAreRead
 pub mod OutcomeOfAWhole
 pub mod PiecesAreGathered
 pub mod StepsOfRuns

@@ -1,6 +1,6 @@
 //! The buffers of a caller.
 
-ghost use Rattle.std.specs.Prelude.{◌≡◌, ◌≤◌, ℕ, List, length, true, false};
+ghost use Rattle.std.specs.Prelude.{◌≡◌, ◌≤◌, List, length, true, false};
 ghost use Rattle.gabc_places.specs.Filling.{filled};
 ghost use Rattle.gregorio_c.specs.Answers.{IsPut};
 
@@ -13,19 +13,19 @@ pub(crate) fn put<T: Copy>(from: &[T], to: &mut [T])
     }
 }
 
-/// Returns whether something of a text of `len` bytes is written into `buf`: it is not empty, and there is room for all of it.
-pub(crate) fn is_written(buf: &[u8], len: usize) -> bool
+/// Returns whether something of `len` items is written into `buf`: there are some, and there is room for all of them.
+pub(crate) fn is_written<T: Copy>(buf: &[T], len: usize) -> bool
     ensures fits { result ≡ true → len ≤ length buf.now }
-    ensures none { result ≡ false → (text : List ℕ) → length text ≡ len →
-        IsPut text buf.now buf.now }
+    ensures none { result ≡ false → (items : List T) → length items ≡ len →
+        IsPut items buf.now buf.now }
 {
     0 < len && len <= buf.len()
 }
 
-/// Returns from where on a text of `len` bytes is to fill `buf`: from its head, or where nothing of it is written, from its end.
-pub(crate) fn start_of(buf: &[u8], len: usize) -> usize
-    ensures { (text : List ℕ) → length text ≡ len →
-        IsPut text buf.now (filled buf.now result text) }
+/// Returns from where on `len` items are to fill `buf`: from its head, or where nothing of them is written, from its end.
+pub(crate) fn start_of<T: Copy>(buf: &[T], len: usize) -> usize
+    ensures { (items : List T) → length items ≡ len →
+        IsPut items buf.now (filled buf.now result items) }
 {
     if is_written(buf, len) { 0 } else { buf.len() }
 }

@@ -24,7 +24,7 @@ struct Counted {
 }
 
 /// Returns an engine for what is asked for, under `limits`. It hashes the names of headers with `key`, and fails only for want of memory.
-fn engine_of(
+pub(crate) fn engine_of(
     alloc: Global,
     request: Request,
     limits: Limits,

@@ -2,7 +2,7 @@
 
 ghost use Rattle.std.specs.Prelude.{◌≡◌, IfOk, OnErr};
 ghost use Rattle.gregorio.specs.Outcome.{output_of, lines_of};
-ghost use Rattle.gregorio_c.specs.Answers.{Answer, stdin_name, status_number, IsOutcomeOf};
+ghost use Rattle.gregorio_c.specs.Answers.{Answer, MessagesAnswer, stdin_name, status_number, IsOutcomeOf};
 ghost use Rattle.gregorio_c.specs.Messages.{messages_by};
 
 use crate::buffers::put;
@@ -27,9 +27,9 @@ struct Compiled {
 
 /// The messages of a score, and the exit status.
 #[derive(Drop)]
-pub(crate) struct Messages {
-    pub list: Vec<Message>,
-    pub status: u32,
+struct Messages {
+    list: Vec<Message>,
+    status: u32,
 }
 
 /// Returns a hasher that has taken the words of `key`. Without one it begins as each such hasher does.
@@ -42,11 +42,7 @@ pub(crate) fn hasher_of(key: &[u64]) -> DefaultHasher {
 }
 
 /// Reads `score`, a whole input, under the default limits, and hashes the names of its headers with `key`. It fails only for want of memory.
-pub(crate) fn outcome_of_whole(
-    alloc: Global,
-    score: &[u8],
-    key: &[u64],
-) -> Result<Outcome, AllocError>
+fn outcome_of_whole(alloc: Global, score: &[u8], key: &[u64]) -> Result<Outcome, AllocError>
     ensures { IfOk result (λ outcome. IsOutcomeOf score.now outcome) }
 {
     let hasher = hasher_of(key);
@@ -107,11 +103,7 @@ pub(crate) fn compile_whole(
 }
 
 /// Returns the messages of `outcome`. It fails only for want of memory.
-pub(crate) fn messages_of(
-    alloc: Global,
-    all_warnings: bool,
-    outcome: &Outcome,
-) -> Result<Messages, AllocError>
+fn messages_of(alloc: Global, all_warnings: bool, outcome: &Outcome) -> Result<Messages, AllocError>
     ensures list { IfOk result (λ made. made.list.items
         ≡ messages_by all_warnings outcome.now.score) }
     ensures status { IfOk result (λ made. made.status ≡ status_number outcome.now) }
@@ -119,4 +111,26 @@ pub(crate) fn messages_of(
     let list = messages_of_score(alloc, all_warnings, &outcome.score)?;
     let status = status_of(outcome);
     Ok(Messages { list, status })
+}
+
+/// Reads `score` in its whole form: puts its messages into `messages`, if there is room for all, and their number into `count`. Returns the
+/// exit status. It fails only for want of memory, and nothing is written then.
+pub(crate) fn messages_whole(
+    alloc: Global,
+    all_warnings: bool,
+    key: &[u64],
+    score: &[u8],
+    messages: &mut [Message],
+    count: &mut usize,
+) -> Result<u32, AllocError>
+    ensures answered { IfOk result (λ status.
+        MessagesAnswer all_warnings score.now messages.old messages.new count.new status) }
+    ensures unchanged { OnErr result (messages.new ≡ messages.old) }
+    ensures count_unchanged { OnErr result (count.new ≡ count.old) }
+{
+    let outcome = outcome_of_whole(alloc, score, key)?;
+    let made = messages_of(alloc, all_warnings, &outcome)?;
+    put(made.list.as_slice(), messages);
+    *count = made.list.len();
+    Ok(made.status)
 }

@@ -10,9 +10,12 @@ mod compiled;
 mod handing_out;
 pub mod in_pieces;
 mod lengths;
+mod line_reader;
+mod message_ends;
 mod messages;
 mod options;
 mod pieces;
+mod messages_by_engine;
 mod request;
 mod step;
 mod steps;
@@ -21,15 +24,15 @@ ghost use Rattle.std.specs.Prelude.{◌≡◌, ◌≤◌, ◌⊎◌, None, IfSom
 ghost use Rattle.gregorio_c.specs.Answers.{Answer, MessagesAnswer};
 ghost use Rattle.gregorio_c.specs.Request.{request_by, warnings_by};
 
-use buffers::put;
 use by_engine::compile_by_engine;
-use compiled::{compile_whole, messages_of, outcome_of_whole};
+use compiled::{compile_whole, messages_whole};
 pub use lengths::Lengths;
 pub use messages::Message;
 pub use options::Options;
 pub use pieces::{
     gregorio_begin, gregorio_broken, gregorio_end, gregorio_feed, gregorio_state_bound,
 };
+use messages_by_engine::messages_by_engine;
 use request::{request_of, warnings_of};
 pub use step::Step;
 use std::alloc::Global;
@@ -100,13 +103,10 @@ pub extern "C" fn gregorio_messages(
     let Some(all_warnings) = warnings_of(flags) else {
         return REFUSED;
     };
-    let Ok(outcome) = outcome_of_whole(alloc, score, key) else {
-        return NO_MEMORY;
+    let told = if score.len() < LONG {
+        messages_whole(alloc, all_warnings, key, score, messages, count)
+    } else {
+        messages_by_engine(alloc, all_warnings, key, score, messages, count)
     };
-    let Ok(made) = messages_of(alloc, all_warnings, &outcome) else {
-        return NO_MEMORY;
-    };
-    put(made.list.as_slice(), messages);
-    *count = made.list.len();
-    made.status
+    told.unwrap_or(NO_MEMORY)
 }

@@ -1,0 +1,141 @@
+//! The messages of a score as records: a run of an engine that counts them, and one that writes them.
+
+ghost use Rattle.std.specs.Prelude.{◌≡◌, ℕ, List, IfOk, OnErr, length};
+ghost use Rattle.gregorio.specs.declared.source_ending.SourceEnding.TheVariants.{Whole};
+ghost use Rattle.gregorio.specs.Engine.{NothingWaits};
+ghost use Rattle.gregorio.specs.witness.Engine.{streams_left};
+ghost use Rattle.gregorio_jobs.specs.Status.{code_of};
+ghost use Rattle.gregorio_jobs.specs.declared.job.Format.TheVariants.{Gabc};
+ghost use Rattle.gregorio_c.specs.Answers.{IsPut, MessagesAnswer};
+ghost use Rattle.gregorio_c.specs.machine.LineReader.{AreCounted, before_line, messages_in};
+ghost use Rattle.gregorio_c.specs.machine.Streams.{streams_of_score};
+
+use crate::buffers::{is_written, start_of};
+use crate::by_engine::engine_of;
+use crate::line_reader::LineReader;
+use crate::message_ends::{MessageCounter, MessageFiller};
+use crate::messages::Message;
+use crate::request::Request;
+use gabc_places::{ByteCounter, Limits};
+use gregorio::{Engine, Format};
+use std::alloc::{AllocError, Global};
+
+/// How many messages a run has, and its exit status.
+#[derive(Drop)]
+struct Counted {
+    count: usize,
+    status: u32,
+}
+
+/// Runs `engine` over `score`, and returns how many messages it writes and how it ended. Where they are more than can be counted, or a place
+/// is larger than a record can tell, it fails as for want of memory.
+fn count_by(engine: &mut Engine, score: &[u8]) -> Result<Counted, AllocError>
+    requires { NothingWaits engine.old }
+    ensures count { IfOk result (λ counted.
+        AreCounted counted.count (streams_left engine.old Whole score.now).messages) }
+    ensures status { IfOk result (λ counted.
+        counted.status ≡ code_of (streams_left engine.old Whole score.now).status) }
+{
+    let mut messages = MessageCounter::new();
+    let status = engine.run_over(score, &mut ByteCounter::new(), &mut messages);
+    let count = messages.count();
+    if count == usize::MAX {
+        return Err(AllocError);
+    }
+    Ok(Counted {
+        count,
+        status: u32::from(status.code()),
+    })
+}
+
+/// Runs `engine` over `score`, and writes its messages into `messages`, if there is room for all `count` of them.
+fn write_by(engine: &mut Engine, score: &[u8], count: usize, messages: &mut [Message])
+    requires waits { NothingWaits engine.old }
+    requires count { count ≡ length (messages_in before_line
+        (streams_left engine.old Whole score.now).messages) }
+    ensures { IsPut (messages_in before_line (streams_left engine.old Whole score.now).messages)
+        messages.old messages.new }
+{
+    let start = start_of(messages, count);
+    let _ = engine.run_over(
+        score,
+        &mut ByteCounter::new(),
+        &mut MessageFiller {
+            buf: messages,
+            len: start,
+            reader: LineReader::new(),
+        },
+    );
+}
+
+/// Returns how many messages a run over `score` writes, and the exit status. It fails only for want of memory.
+fn count_messages(
+    alloc: Global,
+    request: Request,
+    limits: Limits,
+    key: &[u64],
+    score: &[u8],
+) -> Result<Counted, AllocError>
+    ensures count { IfOk result (λ counted.
+        AreCounted counted.count (streams_of_score request limits score.now).messages) }
+    ensures status { IfOk result (λ counted.
+        counted.status ≡ code_of (streams_of_score request limits score.now).status) }
+{
+    let mut engine = engine_of(alloc, request, limits, key)?;
+    let counted = count_by(&mut engine, score);
+    // A proof follows a call faster than all that lies inside an engine.
+    drop(engine);
+    counted
+}
+
+/// Writes the messages of `score` into `messages`, if there is room for all `count` of them. It fails only for want of memory, and
+/// `messages` stays as it was then.
+fn write_messages(
+    alloc: Global,
+    request: Request,
+    limits: Limits,
+    key: &[u64],
+    score: &[u8],
+    count: usize,
+    messages: &mut [Message],
+) -> Result<(), AllocError>
+    requires { count ≡ length (messages_in before_line
+        (streams_of_score request limits score.now).messages) }
+    ensures messages { IfOk result (λ _. IsPut (messages_in before_line
+        (streams_of_score request limits score.now).messages) messages.old messages.new) }
+    ensures unchanged { OnErr result (messages.new ≡ messages.old) }
+{
+    if !is_written(messages, count) {
+        return Ok(());
+    }
+    let mut engine = engine_of(alloc, request, limits, key)?;
+    write_by(&mut engine, score, count, messages);
+    drop(engine);
+    Ok(())
+}
+
+/// Puts the messages of `score` into `messages`, if there is room for all, and their number into `count`: warnings only if `all_warnings` are
+/// wanted. Returns the exit status. It fails only for want of memory, and nothing is written then.
+pub(crate) fn messages_by_engine(
+    alloc: Global,
+    all_warnings: bool,
+    key: &[u64],
+    score: &[u8],
+    messages: &mut [Message],
+    count: &mut usize,
+) -> Result<u32, AllocError>
+    ensures answered { IfOk result (λ status.
+        MessagesAnswer all_warnings score.now messages.old messages.new count.new status) }
+    ensures unchanged { OnErr result (messages.new ≡ messages.old) }
+    ensures count_unchanged { OnErr result (count.new ≡ count.old) }
+{
+    let request = Request {
+        format: Format::Gabc,
+        all_warnings,
+    };
+    let limits = Limits::default();
+    let counted = count_messages(alloc, request, limits, key, score)?;
+    write_messages(alloc, request, limits, key, score, counted.count, messages)?;
+    *count = counted.count;
+    Ok(counted.status)
+}
