@@ -76,11 +76,6 @@ pub record StandsInFront (s : ScoreStageState) : Type 0 where
   pub none_held : held_of s ≡ None
   pub nothing_read : reading_of s ≡ []
 
--- the place that a text has counted for the next character
-abbrev pub next_in : BodyPart → Option Place
-next_in (part.Text stage) = Some (text.next_of stage)
-next_in part = None
-
 -- the place of the next character in the body
 abbrev pub next_of : ScoreStageState → Option Place
 next_of s = in_body s.part s.held.next
@@ -89,13 +84,6 @@ next_of s = in_body s.part s.held.next
 abbrev pub StandsAt : Place → BodyPart → Type 0
 StandsAt place (part.Text stage) = text.next_of stage ≡ place
 StandsAt place part = Unit {0}
-
--- two parts of bodies tell the same, beside their kept texts
-pub record TellTheSame (a b : BodyPart) : Type 0 where
-  pub openers : openers_of a ≡ openers_of b
-  pub comment : is_in_comment a ≡ is_in_comment b
-  pub front : is_in_front a ≡ is_in_front b
-  pub next : next_in a ≡ next_in b
 
 -- ---- the next character stands elsewhere
 

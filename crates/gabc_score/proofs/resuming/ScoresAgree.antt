@@ -26,13 +26,14 @@ use Rattle.gabc_score.specs.Syllable.{UnplacedSyllable}
 use Rattle.gabc_score.specs.machine.BodyBuilder.{with_all}
 use Rattle.gabc_score.specs.machine.Gatherer.{Gathered}
 use Rattle.gabc_score.specs.machine.HeldAside.{ComeAlike, IsAside}
-use Rattle.gabc_score.specs.machine.PartKeeps.{KeptParts, joined, said_by, begun, KeepTheSame, PartKeeps, ReadAlike}
+use Rattle.gabc_score.specs.machine.PartKeeps.{KeptParts, joined, said_by, begun, PartKeeps, ReadAlike}
 use Rattle.gabc_score.specs.machine.ScoreMachine.{held_score, IsInBody}
 use Rattle.gabc_score.specs.machine.ScoreStage.{HeldScore, body_left}
 use Rattle.gabc_score.specs.machine.SyllableBuilder.{OpenSyllable}
 use Rattle.gabc_score.specs.witness.BodyStage.{BodyStageState, running_events_left}
 use Rattle.gabc_score.proofs.resuming.PartsAreOne.{parts_are_one}
 use Rattle.gabc_score.proofs.resuming.SameButHeld.{left_same}
+use Rattle.gabc_score.proofs.resuming.StagesAgree.{KeepTheSame}
 use Rattle.gabc_score.proofs.score_events.WhatPrecedes.{not_some}
 
 -- ---- the same outputs, where the one syllable is the other

@@ -1,5 +1,5 @@
 -- Two stages over a body whose parts keep the same and tell the same emit the same.
-use Rattle.std.proofs.Common.{◌≡◌, ℕ, nat_lt, List, Bool, true, false, Some, None, refl, sym, ap, ◌∙◌}
+use Rattle.std.proofs.Common.{◌≡◌, ℕ, nat_lt, List, Bool, true, false, Option, Some, None, refl, sym, ap, ◌∙◌}
 use Rattle.std.proofs.lemmas.Bool.{true≢false}
 use Rattle.gabc_places.specs.declared.place.Char.{Char}
 use Rattle.gabc_places.specs.declared.place.Place.{Place}
@@ -21,9 +21,27 @@ use Rattle.gabc_score.specs.declared.body_stage.BodyPart.{BodyPart}
 use Rattle.gabc_score.specs.declared.body_stage.BodyPart.TheVariants as part
 use Rattle.gabc_score.specs.declared.body_tells.Openers.{Openers}
 use Rattle.gabc_score.specs.Events.{PartAhead, InText, InNotes, events_from}
-use Rattle.gabc_score.specs.ScoreTells.{StandsAt, TellTheSame, is_in_front, next_in, openers_of}
-use Rattle.gabc_score.specs.machine.PartKeeps.{KeptParts, in_text, in_notes, AreBehind, KeepTheSame, PartKeeps}
+use Rattle.gabc_score.specs.ScoreTells.{StandsAt, is_in_comment, is_in_front, openers_of}
+use Rattle.gabc_score.specs.machine.PartKeeps.{KeptParts, in_text, in_notes, AreBehind, PartKeeps}
 use Rattle.gabc_score.specs.witness.BodyStage.{BodyStageState, part_with, running_events_left, texts_by_stage}
+
+-- two parts keep the last of the same parts
+pub record KeepTheSame (lines macros : ℕ) (a b : BodyPart) : Type 0 where
+  pub parts : KeptParts
+  pub one : PartKeeps lines macros a parts
+  pub other : PartKeeps lines macros b parts
+
+-- the place that a text has counted for the next character
+abbrev pub next_in : BodyPart → Option Place
+next_in (part.Text stage) = Some (text_tells.next_of stage)
+next_in part = None
+
+-- two parts of bodies tell the same, beside their kept texts
+pub record TellTheSame (a b : BodyPart) : Type 0 where
+  pub openers : openers_of a ≡ openers_of b
+  pub comment : is_in_comment a ≡ is_in_comment b
+  pub front : is_in_front a ≡ is_in_front b
+  pub next : next_in a ≡ next_in b
 
 not_both : {A : Type 0} → true ≡ false → A
 not_both e = absurd (true≢false e)

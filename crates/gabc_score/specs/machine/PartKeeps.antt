@@ -119,12 +119,6 @@ PartKeeps lines macros (part.Notes opened stage) (in_notes t earlier k) = AreBeh
 PartKeeps lines macros (part.Nabc line opened stage) (in_notes t earlier k) = AreBehind lines macros line t earlier × ((line ≢ 0) × nabc.Keeps stage k)
 PartKeeps lines macros part p = ⊥
 
--- two parts keep the last of the same parts
-pub record KeepTheSame (lines macros : ℕ) (a b : BodyPart) : Type 0 where
-  pub parts : KeptParts
-  pub one : PartKeeps lines macros a parts
-  pub other : PartKeeps lines macros b parts
-
 -- a part reads a snippet of that line, of which nothing was read
 abbrev pub BeginsSnippet : ℕ → ℕ → ℕ → BodyPart → Type 0
 BeginsSnippet lines macros line part = (t : List ℕ) (earlier : List (List ℕ)) → AreBehind lines macros line t earlier → PartKeeps lines macros part (in_notes t earlier [])
