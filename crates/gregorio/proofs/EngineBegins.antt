@@ -1,5 +1,5 @@
 -- The parts of an engine that has taken nothing go together.
-use Rattle.std.proofs.Common.{◌≡◌, ◌≤◌, ℕ, List, [], ap, sym, subst, ◌∙◌, refl}
+use Rattle.std.proofs.Common.{◌≡◌, ◌≤◌, [], ap, sym, subst, ◌∙◌, refl}
 use Rattle.gabc_places.specs.BoundedList.{BoundedList}
 use Rattle.gabc_places.specs.DecoderMachine.{DecoderState, fresh_decoder}
 use Rattle.gabc_places.specs.declared.limits.Limits.{Limits}
@@ -10,7 +10,7 @@ use Rattle.gabc_score.specs.declared.score_machine.ScorePart.TheVariants as scor
 use Rattle.gregorio_jobs.specs.declared.job.Job.{Job}
 use Rattle.gregorio.specs.Engine.{RunsJob}
 use Rattle.gregorio.specs.witness.Engine.{EngineState, Written}
-use Rattle.gregorio.specs.machine.Engine.{GoTogether, IsBookRead, IsEngine}
+use Rattle.gregorio.specs.machine.Engine.{IsBookRead, IsEngine}
 use Rattle.gregorio.specs.machine.ScoreWriter.{IsReserved, IsShortBook, ScoreWriterState, begun_again, fresh_writer}
 use Rattle.gregorio.proofs.pieces.HeadersAreRead.{no_heads_are_short}
 use Rattle.gregorio.proofs.pieces.PartsStayInStep.{fresh_in_step}

@@ -20,7 +20,6 @@ use Rattle.gabc_score.specs.ScoreEvents.{ScoreOutput, is_last, syllables_in}
 use Rattle.gabc_score.specs.ScoreStage.{Counts, behind_front, most_whole, part_past, preceding_past}
 use Rattle.gabc_score.specs.ToldWithin.{whole_syllables}
 use Rattle.gabc_score.specs.witness.ScoreStage.{ScoreStageState}
-use Rattle.gregorio_jobs.specs.declared.job.Job.{Job}
 use Rattle.gregorio_jobs.specs.declared.job.Status.{Status}
 use Rattle.gregorio.specs.witness.Engine.{Written}
 use Rattle.gregorio.specs.machine.Engine.{event_of_item}

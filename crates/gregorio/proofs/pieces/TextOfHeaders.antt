@@ -33,7 +33,6 @@ use Rattle.gregorio.specs.machine.ScoreWriter.{ScoreWriterState, begun_again}
 use Rattle.gregorio.specs.witness.Engine.{Written, behind_outputs}
 use Rattle.gregorio.proofs.pieces.HeadersStayInStep.{HeadsYet, found_events, found_passed, in_heads}
 use Rattle.gregorio.proofs.pieces.WrittenGoesOn.{running_before, went_on_past}
-use Rattle.gregorio_jobs.specs.declared.job.Job.{Job}
 use Rattle.gregorio_jobs.specs.declared.job.Status.{Status}
 
 -- ---- what is found

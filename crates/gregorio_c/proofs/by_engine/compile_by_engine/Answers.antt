@@ -1,4 +1,4 @@
-use Rattle.std.proofs.Common.{◌≡◌, ◌∙◌, ap, length, refl, subst}
+use Rattle.std.proofs.Common.{◌∙◌, ap, length, refl, subst}
 use Rattle.gregorio.specs.declared.source_ending.SourceEnding.TheVariants.{Whole}
 use Rattle.gregorio.specs.Outcome.{outcome_of}
 use Rattle.gregorio.specs.Streams.{Streams}
