@@ -7,10 +7,11 @@ import os
 import re
 import unittest
 from dataclasses import fields
+from pathlib import Path
 
 from gregorio_chant import dump
 from gregorio_chant.rules import RULES
-from support import ROOT, command, has
+from support import ROOT, InFolder, command, has
 
 PAGE = (ROOT / "docs" / "PYTHON.md").read_text(encoding="utf-8")
 README = (ROOT / "README.md").read_text(encoding="utf-8")
@@ -62,3 +63,12 @@ class Documents(unittest.TestCase):
     def test_each_help_says_what_is_not_proved(self) -> None:
         for words in (["--help"], ["check", "--help"], ["format", "--help"], ["server", "--help"]):
             self.assertRegex(command(*words).stdout.decode().replace("\n", " "), "outside (that|the) +proof", words)
+
+
+class Examples(InFolder):
+    def test_a_run(self) -> None:
+        self.put("score.gabc", "name: a;\n%%\n(c4) Ky(f)ri(/./)")
+        with contextlib.redirect_stdout(io.StringIO()) as written:
+            exec(block(PAGE, "the messages that became known:"), {})
+        self.assertEqual(written.getvalue().split("\n"), ["3 15 E1 character left out of the notes", "<Status.ERRORS: 1>", ""])
+        self.assertEqual(Path("new.gabc").read_text(), "name: a;\n%%\n(c4)\nKy(f)ri(//)\n")
