@@ -3,7 +3,10 @@ pub mod LinesAreRead
 pub mod MessagesAreCounted
 pub mod MessagesAreFilled
 pub mod MessagesOfLines
+pub mod NoBufferIsHandedOut
+pub mod NoStepIsRefused
 pub mod NumbersAreRead
+pub mod NumbersAskOnce
 pub mod OutcomeOfAWhole
 pub mod PiecesAreGathered
 pub mod StepsOfRuns

@@ -9,26 +9,56 @@ use Rattle.gregorio.specs.declared.source_ending.SourceEnding.{SourceEnding}
 use Rattle.gregorio.specs.declared.source_ending.SourceEnding.TheVariants.{Broken}
 use Rattle.gregorio.specs.Engine.{EndsByInput}
 use Rattle.gregorio.specs.Streams.{Streams, behind_bytes, ended_with}
-use Rattle.gregorio.specs.witness.Engine.{EngineState, streams_left}
 use Rattle.gregorio.specs.witness.StandsFor.{StandsFor}
 use Rattle.gregorio_c.specs.Steps.{Begins, Ends, Feeds, GoesOn, IsOver, IsStopped, Made, Writes, goes_on, last_of, run_of}
 use Rattle.gregorio_c.specs.machine.Steps.{EndedAs, FedAs, StandsAlone}
 
 -- no run ends with the number of one that goes on
-pub no_end : (status : Status) → code_of status ≡ goes_on → ⊥
-no_end Whole e = cc e
-no_end Errors e = cc e
-no_end Fatal e = cc e
-no_end ReadFault e = cc e
-no_end WriteFault e = cc e
-no_end NoMemory e = cc e
+no_end : (status : Status) → code_of status ≡ goes_on → ⊥
+no_end Whole e = absurd (cc e)
+no_end Errors e = absurd (cc e)
+no_end Fatal e = absurd (cc e)
+no_end ReadFault e = absurd (cc e)
+no_end WriteFault e = absurd (cc e)
+no_end NoMemory e = absurd (cc e)
 
 -- the last bytes of a run that is over
-pub last_is : (output lines : List ℕ) (status : Status) → behind_bytes output lines (ended_with status) ≡ record { output = output; messages = lines; status = status }
+last_is : (output lines : List ℕ) (status : Status) → behind_bytes output lines (ended_with status) ≡ record { output = output; messages = lines; status = status }
 last_is output lines status =
     let texts = append-nil output in
     let told = append-nil lines in
     λ i. record { output = texts i; messages = told i; status = status }
+
+-- ---- what is made of an engine
+
+pub ended : (ending : SourceEnding) (left : Writes) (made : Made) (status : Status) (output lines : List ℕ) → made ≡ record { output = output; lines = lines; state = []; number = code_of status }
+    → left ending [] ≡ behind_bytes output lines (ended_with status) → EndsByInput (left ending []).status → EndedAs ending left made
+ended ending left made status output lines is law by_input =
+    subst (EndedAs ending left) (sym is) (record {
+      status = status;
+      over = record { number = refl; by_input = subst EndsByInput (ap (λ (s : Streams). s.status) law) by_input; no_state = refl };
+      law = law ∙ last_is output lines status;
+    })
+
+pub stopped : (job : Job) (limits : Limits) (left rest : Writes) (piece : List ℕ) (made : Made) (status : Status) (output lines : List ℕ) → made ≡ record { output = output; lines = lines; state = []; number = code_of status }
+    → ((ending : SourceEnding) (more : List ℕ) → left ending (piece ++ more) ≡ behind_bytes output lines (rest ending more)) → ((more : List ℕ) (ending : SourceEnding) → rest ending more ≡ ended_with status)
+    → EndsByInput (left Broken (piece ++ [])).status → FedAs job limits left piece made
+stopped job limits left rest piece made status output lines is law over by_input =
+    subst (FedAs job limits left piece) (sym is) (record {
+      on = λ number. absurd (no_end status number);
+      over = λ number. record {
+        status = status;
+        over = record {
+          number = refl;
+          by_input = subst EndsByInput (ap (λ (s : Streams). s.status) (law Broken [] ∙ ap (behind_bytes output lines) (over [] Broken))) by_input;
+          no_state = refl;
+        };
+        law = λ ending more. law ending more ∙ (ap (behind_bytes output lines) (over more ending) ∙ last_is output lines status);
+      };
+    })
+
+pub goes_on_so : (job : Job) (limits : Limits) (left : Writes) (piece : List ℕ) (made : Made) → made.number ≡ goes_on → GoesOn job limits left piece made → FedAs job limits left piece made
+goes_on_so job limits left piece made is g = record { on = λ number. g; over = λ number. absurd (number is) }
 
 -- ---- of one that stands for the same
 
@@ -59,9 +89,15 @@ module _ (job : Job) (limits : Limits) (left : Writes) (other : Writes) (same : 
   }
 
 -- the first state stands for the whole run, if the engine writes that
-pub stands_for_all : (job : Job) (limits : Limits) (left : Writes) (bytes : List ℕ) → ((more : List ℕ) (ending : SourceEnding) → left ending more ≡ run_of job limits ending more)
-    → StandsFor job limits bytes left → StandsFor job limits bytes (run_of job limits)
-stands_for_all job limits left bytes all s = stands_too job limits left (run_of job limits) (λ ending more. all more ending) bytes s
+pub begins : (job : Job) (limits : Limits) (left : Writes) (state : List ℕ) (made : Made) → made ≡ record { output = []; lines = []; state = state; number = goes_on }
+    → ((more : List ℕ) (ending : SourceEnding) → left ending more ≡ run_of job limits ending more) → StandsFor job limits state left → Begins job limits made
+begins job limits left state made is all s =
+    subst (Begins job limits) (sym is) (record {
+      number = refl;
+      output = refl;
+      lines = refl;
+      stands = stands_too job limits left (run_of job limits) (λ ending more. all more ending) state s;
+    })
 
 pub feeds : (job : Job) (limits : Limits) (before piece : List ℕ) (left : Writes) (made : Made) → StandsAlone job limits before left → FedAs job limits left piece made → Feeds job limits before piece made
 feeds job limits before piece left made a fed = record {

@@ -1,4 +1,4 @@
-//! What takes the lines of messages: a count of them, and a buffer of records.
+//! What takes the lines of messages: it counts them, and fills a buffer of records.
 
 ghost use Rattle.std.specs.Prelude.{◌≡◌, [], ◌∷◌};
 ghost use Rattle.gabc_places.specs.Filling.{filled, filled_len};
@@ -8,7 +8,7 @@ use crate::line_reader::LineReader;
 use crate::messages::Message;
 use gabc_places::Put;
 
-/// Whether both numbers of the place of `message` are less than the last value of a `u64`.
+/// Returns whether both numbers of the place of `message` are less than the last value of a `u64`.
 fn has_place(message: Message) -> bool
     ensures { result ≡ is_placed message }
 {
@@ -26,64 +26,6 @@ fn count_with(count: usize, message: Message) -> usize
     }
 }
 
-/// Reads `bytes`, and returns `count` and with it the messages whose lines end in them.
-fn count_in(reader: &mut LineReader, bytes: &[u8], count: usize) -> usize
-    ensures reader { reader.new ≡ behind_bytes reader.old bytes.now }
-    ensures count { result ≡ counted_behind count (messages_in reader.old bytes.now) }
-{
-    let mut counted = count;
-    for byte in bytes {
-        if let Some(message) = reader.read(*byte) {
-            counted = count_with(counted, message);
-        }
-    }
-    counted
-}
-
-/// Counts messages of which it takes the lines.
-#[derive(Drop)]
-pub(crate) struct MessageCounter {
-    count: usize,
-    reader: LineReader,
-}
-
-impl MessageCounter {
-    /// Returns a count of 0 before a line.
-    pub(crate) fn new() -> MessageCounter
-        ensures { result ≡ record { count = 0; reader = before_line } }
-    {
-        MessageCounter {
-            count: 0,
-            reader: LineReader::new(),
-        }
-    }
-
-    /// Returns how many messages it has counted, or the last value of a `usize` where one of them has no place.
-    pub(crate) fn count(&self) -> usize
-        ensures { result ≡ self.now.count }
-    {
-        self.count
-    }
-}
-
-impl Put for MessageCounter {
-    ghost use Rattle.std.proofs.Common.{rules};
-    ghost use Rattle.gregorio_c.specs.machine.LineReader.{behind_both, messages_in_both, counted_both};
-
-    ghost taken = { λ c bytes. record {
-      count = counted_behind c.count (messages_in c.reader bytes);
-      reader = behind_bytes c.reader bytes;
-    } };
-
-    ghost taken_nothing = { Prim.search (rules) };
-
-    ghost taken_both = { Prim.search (rules, behind_both, messages_in_both, counted_both) };
-
-    fn put(&mut self, bytes: &[u8]) {
-        self.count = count_in(&mut self.reader, bytes, self.count);
-    }
-}
-
 /// Writes `message` into `buf` at `at`, if there is room for it, and returns how many are written then.
 fn put_at(buf: &mut [Message], at: usize, message: Message) -> usize
     ensures buf { buf.new ≡ filled buf.old at (message ∷ []) }
@@ -97,49 +39,76 @@ fn put_at(buf: &mut [Message], at: usize, message: Message) -> usize
     }
 }
 
-/// Reads `bytes`, and writes the messages whose lines end in them into `buf` from `at` on, as many as there is room for. Returns how many
-/// are written then.
-fn fill_in(reader: &mut LineReader, bytes: &[u8], buf: &mut [Message], at: usize) -> usize
+/// Reads `bytes`, counts the messages whose lines end in them, and writes them into `buf` from `at` on, as many as there is room for. Returns
+/// how many are written then.
+fn take_lines(
+    reader: &mut LineReader,
+    bytes: &[u8],
+    count: &mut usize,
+    buf: &mut [Message],
+    at: usize,
+) -> usize
     ensures reader { reader.new ≡ behind_bytes reader.old bytes.now }
+    ensures count { count.new ≡ counted_behind count.old (messages_in reader.old bytes.now) }
     ensures buf { buf.new ≡ filled buf.old at (messages_in reader.old bytes.now) }
     ensures len { result ≡ filled_len buf.old at (messages_in reader.old bytes.now) }
 {
     let mut len = at;
     for byte in bytes {
         if let Some(message) = reader.read(*byte) {
+            *count = count_with(*count, message);
             len = put_at(buf, len, message);
         }
     }
     len
 }
 
-/// Fills a buffer with messages of which it takes the lines, from its first place on, as many as there is room for.
+/// Counts messages of which it takes the lines, and fills a buffer with them, as many as there is room for.
 #[derive(Drop)]
 pub(crate) struct MessageFiller<'a> {
     /// The buffer.
     pub buf: &'a mut [Message],
     /// How many places of it are filled.
     pub len: usize,
+    /// How many messages it has counted, or the last value of a `usize` where one of them has no place.
+    pub count: usize,
     /// What reads the lines.
     pub reader: LineReader,
+}
+
+impl MessageFiller<'_> {
+    /// Returns how many messages it has counted, or the last value of a `usize` where one of them has no place.
+    pub(crate) fn count(&self) -> usize
+        ensures { result ≡ self.now.count }
+    {
+        self.count
+    }
 }
 
 impl Put for MessageFiller<'_> {
     ghost use Rattle.std.proofs.Common.{rules};
     ghost use Rattle.gabc_places.specs.Filling.{filled_nothing, filled_both, filled_len_both};
-    ghost use Rattle.gregorio_c.specs.machine.LineReader.{behind_both, messages_in_both};
+    ghost use Rattle.gregorio_c.specs.machine.LineReader.{behind_both, messages_in_both, counted_both};
 
     ghost taken = { λ f bytes. record {
       buf = record f.buf { now = filled f.buf.now f.len (messages_in f.reader bytes) };
       len = filled_len f.buf.now f.len (messages_in f.reader bytes);
+      count = counted_behind f.count (messages_in f.reader bytes);
       reader = behind_bytes f.reader bytes;
     } };
 
     ghost taken_nothing = { Prim.search (rules, filled_nothing) };
 
-    ghost taken_both = { Prim.search (rules, filled_both, filled_len_both, behind_both, messages_in_both) };
+    ghost taken_both = { Prim.search (
+      rules,
+      filled_both,
+      filled_len_both,
+      behind_both,
+      messages_in_both,
+      counted_both,
+    ) };
 
     fn put(&mut self, bytes: &[u8]) {
-        self.len = fill_in(&mut self.reader, bytes, self.buf, self.len);
+        self.len = take_lines(&mut self.reader, bytes, &mut self.count, self.buf, self.len);
     }
 }

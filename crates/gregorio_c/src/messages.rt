@@ -24,6 +24,16 @@ pub struct Message {
     pub code: u32,
 }
 
+impl Message {
+    /// A message that stands nowhere: it holds a place that no message has filled.
+    pub(crate) const NONE: Message = Message {
+        line: 0,
+        column: 0,
+        severity: 0,
+        code: 0,
+    };
+}
+
 /// Returns the number of `severity`.
 fn number_of_severity(severity: Severity) -> u32
     ensures { result ≡ severity_number severity }

@@ -1,24 +1,26 @@
-//! The messages of a score as records: a run of an engine that counts them, and one that writes them.
+//! The messages of a score as records: a run of an engine that counts them, and one that writes them where they are many.
 
-ghost use Rattle.std.specs.Prelude.{◌≡◌, ℕ, List, IfOk, OnErr, length};
+ghost use Rattle.std.specs.Prelude.{◌≡◌, ◌≤◌, ℕ, List, take, IfOk, OnErr, length};
 ghost use Rattle.gregorio.specs.declared.source_ending.SourceEnding.TheVariants.{Whole};
 ghost use Rattle.gregorio.specs.Engine.{NothingWaits};
 ghost use Rattle.gregorio.specs.witness.Engine.{streams_left};
 ghost use Rattle.gregorio_jobs.specs.Status.{code_of};
-ghost use Rattle.gregorio_jobs.specs.declared.job.Format.TheVariants.{Gabc};
 ghost use Rattle.gregorio_c.specs.Answers.{IsPut, MessagesAnswer};
-ghost use Rattle.gregorio_c.specs.machine.LineReader.{AreCounted, before_line, messages_in};
+ghost use Rattle.gregorio_c.specs.machine.LineReader.{AreCounted, AreFirst, before_line, messages_in};
 ghost use Rattle.gregorio_c.specs.machine.Streams.{streams_of_score};
 
-use crate::buffers::{is_written, start_of};
+use crate::buffers::{is_written, put, start_of};
 use crate::by_engine::engine_of;
 use crate::line_reader::LineReader;
-use crate::message_ends::{MessageCounter, MessageFiller};
+use crate::message_ends::MessageFiller;
 use crate::messages::Message;
 use crate::request::Request;
 use gabc_places::{ByteCounter, Limits};
 use gregorio::{Engine, Format};
 use std::alloc::{AllocError, Global};
+
+/// How many messages the first run keeps. Where a score has more, a second one writes them.
+const KEPT: usize = 64;
 
 /// How many messages a run has, and its exit status.
 #[derive(Drop)]
@@ -27,16 +29,23 @@ struct Counted {
     status: u32,
 }
 
-/// Runs `engine` over `score`, and returns how many messages it writes and how it ended. Where they are more than can be counted, or a place
-/// is larger than a record can tell, it fails as for want of memory.
-fn count_by(engine: &mut Engine, score: &[u8]) -> Result<Counted, AllocError>
+/// Runs `engine` over `score`, writes the first of its messages into `first`, and returns how many it has and how it ended. Where they are more
+/// than can be counted, or a place is larger than a record can tell, it fails as for want of memory.
+fn count_by(engine: &mut Engine, score: &[u8], first: &mut [Message]) -> Result<Counted, AllocError>
     requires { NothingWaits engine.old }
+    ensures first { AreFirst
+        (messages_in before_line (streams_left engine.old Whole score.now).messages) first.new }
     ensures count { IfOk result (λ counted.
         AreCounted counted.count (streams_left engine.old Whole score.now).messages) }
     ensures status { IfOk result (λ counted.
         counted.status ≡ code_of (streams_left engine.old Whole score.now).status) }
 {
-    let mut messages = MessageCounter::new();
+    let mut messages = MessageFiller {
+        buf: first,
+        len: 0,
+        count: 0,
+        reader: LineReader::new(),
+    };
     let status = engine.run_over(score, &mut ByteCounter::new(), &mut messages);
     let count = messages.count();
     if count == usize::MAX {
@@ -63,33 +72,37 @@ fn write_by(engine: &mut Engine, score: &[u8], count: usize, messages: &mut [Mes
         &mut MessageFiller {
             buf: messages,
             len: start,
+            count: 0,
             reader: LineReader::new(),
         },
     );
 }
 
-/// Returns how many messages a run over `score` writes, and the exit status. It fails only for want of memory.
+/// Writes the first messages of `score` into `first`, and returns how many it has, and the exit status. It fails only for want of memory.
 fn count_messages(
     alloc: Global,
     request: Request,
     limits: Limits,
     key: &[u64],
     score: &[u8],
+    first: &mut [Message],
 ) -> Result<Counted, AllocError>
+    ensures first { IfOk result (λ _. AreFirst
+        (messages_in before_line (streams_of_score request limits score.now).messages) first.new) }
     ensures count { IfOk result (λ counted.
         AreCounted counted.count (streams_of_score request limits score.now).messages) }
     ensures status { IfOk result (λ counted.
         counted.status ≡ code_of (streams_of_score request limits score.now).status) }
 {
     let mut engine = engine_of(alloc, request, limits, key)?;
-    let counted = count_by(&mut engine, score);
+    let counted = count_by(&mut engine, score, first);
     // A proof follows a call faster than all that lies inside an engine.
     drop(engine);
     counted
 }
 
-/// Writes the messages of `score` into `messages`, if there is room for all `count` of them. It fails only for want of memory, and
-/// `messages` stays as it was then.
+/// Writes the messages of `score` into `messages`, if there is room for all `count` of them; where `first` has as many, these are they. It fails
+/// only for want of memory, and `messages` stays as it was then.
 fn write_messages(
     alloc: Global,
     request: Request,
@@ -97,14 +110,21 @@ fn write_messages(
     key: &[u64],
     score: &[u8],
     count: usize,
+    first: &[Message],
     messages: &mut [Message],
 ) -> Result<(), AllocError>
-    requires { count ≡ length (messages_in before_line
+    requires count { count ≡ length (messages_in before_line
         (streams_of_score request limits score.now).messages) }
+    requires first { count ≤ length first.now → take count first.now ≡ messages_in before_line
+        (streams_of_score request limits score.now).messages }
     ensures messages { IfOk result (λ _. IsPut (messages_in before_line
         (streams_of_score request limits score.now).messages) messages.old messages.new) }
     ensures unchanged { OnErr result (messages.new ≡ messages.old) }
 {
+    if count <= first.len() {
+        put(&first[..count], messages);
+        return Ok(());
+    }
     if !is_written(messages, count) {
         return Ok(());
     }
@@ -134,8 +154,18 @@ pub(crate) fn messages_by_engine(
         all_warnings,
     };
     let limits = Limits::default();
-    let counted = count_messages(alloc, request, limits, key, score)?;
-    write_messages(alloc, request, limits, key, score, counted.count, messages)?;
+    let mut first = [Message::NONE; KEPT];
+    let counted = count_messages(alloc, request, limits, key, score, &mut first)?;
+    write_messages(
+        alloc,
+        request,
+        limits,
+        key,
+        score,
+        counted.count,
+        &first,
+        messages,
+    )?;
     *count = counted.count;
     Ok(counted.status)
 }

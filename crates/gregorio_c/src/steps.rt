@@ -1,12 +1,14 @@
 //! The steps of a run in pieces: what each makes of the bytes of a state.
 
 ghost use Rattle.std.specs.Prelude.{◌≡◌, ◌++◌, [], false, true, IfErr, IfOk, OnOk};
-ghost use Rattle.gregorio.specs.Engine.{IsPrompt, NothingWaits, RunsJob, StillRuns, is_running};
+ghost use Rattle.gregorio.specs.Engine.{IsPrompt, NothingWaits, RunsJob, StillRuns, is_running, with_waiting};
+ghost use Rattle.gregorio.specs.Streams.{ended_with};
+ghost use Rattle.gregorio_jobs.specs.Status.{code_of};
 ghost use Rattle.gregorio.specs.declared.source_ending.SourceEnding.TheVariants.{Broken};
 ghost use Rattle.gregorio.specs.witness.Engine.{streams_left};
 ghost use Rattle.gregorio.specs.witness.StandsFor.{StandsFor};
 ghost use Rattle.gregorio_c.specs.StepAnswers.{IsReason, lengths_of, step_of};
-ghost use Rattle.gregorio_c.specs.Steps.{Begins, Ends, Feeds, job_of};
+ghost use Rattle.gregorio_c.specs.Steps.{Begins, Ends, Feeds, goes_on, job_of};
 ghost use Rattle.gregorio_c.specs.machine.Steps.{EndedAs, FedAs, Gathers, StandsAlone, number_of};
 
 use crate::lengths::Lengths;
@@ -14,8 +16,8 @@ use crate::options::Asked;
 use crate::step::Step;
 use gregorio::restored_laws::what_is_saved_stands;
 use gregorio::run_ends::a_run_ends_by_its_input;
-use gregorio::{Engine, Job, SourceEnding, StateFault};
 use gabc_places::Limits;
+use gregorio::{Engine, Job, SourceEnding, StateFault, Status};
 use std::alloc::{AllocError, Global};
 use std::hash::DefaultHasher;
 use std::marker::Model;
@@ -113,6 +115,17 @@ impl Made {
     }
 }
 
+/// Returns texts of no bytes.
+fn no_texts(alloc: Global) -> Texts
+    ensures output { result.output.items ≡ [] }
+    ensures messages { result.messages.items ≡ [] }
+{
+    Texts {
+        output: Vec::new(alloc),
+        messages: Vec::new(alloc),
+    }
+}
+
 /// Adds what waits to `texts`, and forgets it.
 fn gather(engine: &mut Engine, texts: &mut Texts) -> Result<(), AllocError>
     ensures output { OnOk result (texts.new.output.items
@@ -138,17 +151,15 @@ fn feed_piece(alloc: Global, engine: &mut Engine, piece: &[u8]) -> Result<Texts,
     ensures prompt { OnOk result (IsPrompt engine.new.written.format
         (streams_left engine.new Broken [])) }
 {
-    let mut texts = Texts {
-        output: Vec::new(alloc),
-        messages: Vec::new(alloc),
-    };
-    let mut count = engine.feed(piece);
-    gather(engine, &mut texts)?;
-    while count < piece.len() {
+    let mut texts = no_texts(alloc);
+    let mut count = 0;
+    loop {
         count += engine.feed(&piece[count..]);
         gather(engine, &mut texts)?;
+        if count == piece.len() {
+            return Ok(texts);
+        }
     }
-    Ok(texts)
 }
 
 /// Returns the state of a run, which stands for what it will still write.
@@ -172,8 +183,18 @@ fn state_by(
     Ok(state)
 }
 
-/// Returns what a step makes that begins a run of `job`: its state, behind which all is still to be written. The table of the headers' names hashes from
-/// `hasher` on.
+/// Returns what a step makes that writes nothing but `state`.
+fn first_of(alloc: Global, state: Vec<u8>) -> Made
+    ensures { result ≡ record { output = []; lines = []; state = state.items; number = goes_on } }
+{
+    Made {
+        texts: no_texts(alloc),
+        state,
+        number: GOES_ON,
+    }
+}
+
+/// Returns what a step makes that begins a run: its state, behind which all is still to be written. The table of the headers' names hashes from `hasher` on.
 pub(crate) fn begin(alloc: Global, asked: Asked, hasher: DefaultHasher) -> Result<Made, Refusal>
     ensures begins { IfOk result (Begins (job_of asked.request) asked.limits) }
     ensures memory { IfErr result (λ refusal. refusal ≡ Refusal.NoMemory) }
@@ -184,24 +205,11 @@ pub(crate) fn begin(alloc: Global, asked: Asked, hasher: DefaultHasher) -> Resul
             let state = state_by(alloc, &engine, &job, asked.limits);
             // A proof follows a call faster than all that lies inside an engine.
             drop(engine);
-            begun(alloc, state)
+            match state {
+                Ok(state) => Ok(first_of(alloc, state)),
+                Err(_) => Err(Refusal::NoMemory),
+            }
         }
-        Err(_) => Err(Refusal::NoMemory),
-    }
-}
-
-/// Returns what a step makes that writes nothing but `state`.
-fn begun(alloc: Global, state: Result<Vec<u8>, AllocError>) -> Result<Made, Refusal>
-{
-    match state {
-        Ok(state) => Ok(Made {
-            texts: Texts {
-                output: Vec::new(alloc),
-                messages: Vec::new(alloc),
-            },
-            state,
-            number: GOES_ON,
-        }),
         Err(_) => Err(Refusal::NoMemory),
     }
 }
@@ -257,11 +265,31 @@ fn fed_by(
         });
     }
     let status = engine.end();
-    Ok(Made {
+    Ok(last_by(alloc, texts, status))
+}
+
+/// Returns what a step makes that is the last, behind which the run is over with `status`.
+fn last_by(alloc: Global, texts: Texts, status: Status) -> Made
+    ensures { result ≡ record { output = texts.output.items; lines = texts.messages.items;
+        state = []; number = code_of status } }
+{
+    Made {
         texts,
         state: Vec::new(alloc),
         number: u32::from(status.code()),
-    })
+    }
+}
+
+/// Ends an input so, and returns how the run ended.
+fn end_engine(engine: &mut Engine, ending: SourceEnding) -> Status
+    requires { NothingWaits engine.old }
+    ensures { streams_left engine.old ending []
+        ≡ with_waiting engine.new (ended_with result) }
+{
+    match ending {
+        SourceEnding::Whole => engine.end(),
+        SourceEnding::Broken => engine.broken(),
+    }
 }
 
 /// Ends an input so, and returns what a step makes of that.
@@ -271,28 +299,10 @@ fn ended_by(alloc: Global, engine: &mut Engine, ending: SourceEnding) -> Result<
     ensures { IfOk result (EndedAs ending (streams_left engine.old)) }
 {
     a_run_ends_by_its_input();
-    let status = match ending {
-        SourceEnding::Whole => engine.end(),
-        SourceEnding::Broken => engine.broken(),
-    };
-    let mut texts = Texts {
-        output: Vec::new(alloc),
-        messages: Vec::new(alloc),
-    };
+    let status = end_engine(engine, ending);
+    let mut texts = no_texts(alloc);
     gather(engine, &mut texts)?;
-    Ok(Made {
-        texts,
-        state: Vec::new(alloc),
-        number: u32::from(status.code()),
-    })
-}
-
-/// Returns what is made, or that there is no memory.
-fn made_or(made: Result<Made, AllocError>) -> Result<Made, Refusal> {
-    match made {
-        Ok(made) => Ok(made),
-        Err(_) => Err(Refusal::NoMemory),
-    }
+    Ok(last_by(alloc, texts, status))
 }
 
 /// Returns what a step makes of `piece` behind the run whose state is `before`. The table of the headers' names hashes from `hasher` on.
@@ -312,7 +322,10 @@ pub(crate) fn feed(
     let mut engine = restored(alloc, &job, asked.limits, hasher, before)?;
     let made = fed_by(alloc, &mut engine, &job, asked.limits, piece);
     drop(engine);
-    made_or(made)
+    match made {
+        Ok(made) => Ok(made),
+        Err(_) => Err(Refusal::NoMemory),
+    }
 }
 
 /// Returns what a step makes of the end of an input, which ends so behind the run whose state is `before`.
@@ -332,5 +345,8 @@ pub(crate) fn end(
     let mut engine = restored(alloc, &job, asked.limits, hasher, before)?;
     let made = ended_by(alloc, &mut engine, ending);
     drop(engine);
-    made_or(made)
+    match made {
+        Ok(made) => Ok(made),
+        Err(_) => Err(Refusal::NoMemory),
+    }
 }

@@ -1,5 +1,5 @@
 -- How lines of messages are read back, byte by byte: `NAME:LINE:COLUMN: KIND: CODE: TEXT` and LF each.
-use Rattle.std.proofs.Common.{◌≡◌, ℕ, ◌+◌, ◌-◌, ◌*◌, ◌/◌, ◌%◌, ◌^◌, ◌<◌, min, ◌==◌, ◌&&◌, Bool, nat_lt, List, [], ◌∷◌, ◌++◌, Option, None, Some, if◌then◌else◌, refl, ap, ◌∙◌}
+use Rattle.std.proofs.Common.{◌≡◌, ℕ, ◌+◌, ◌-◌, ◌*◌, ◌/◌, ◌%◌, ◌^◌, ◌<◌, min, ◌==◌, ◌&&◌, Bool, nat_lt, List, [], ◌∷◌, ◌++◌, Option, None, Some, if◌then◌else◌, refl, ap, ◌∙◌, ◌≤◌, length, take}
 use Rattle.gregorio_c.specs.declared.line_reader.Field.{Field}
 use Rattle.gregorio_c.specs.declared.line_reader.Field.TheVariants.{Name, Line, Column, Kind, Code, Text}
 use Rattle.gregorio_c.specs.declared.line_reader.LineReader.{LineReader}
@@ -79,6 +79,10 @@ counted_behind count (message ∷ messages) = counted_behind (counted_by count m
 pub record AreCounted (count : ℕ) (lines : List ℕ) : Type 0 where
   pub counted : count ≡ counted_behind 0 (messages_in before_line lines)
   pub below : count < 2 ^ 64 - 1
+
+-- these stand at the head of a list, if it has room for them
+pub record AreFirst (messages list : List Message) : Type 0 where
+  pub are : length messages ≤ length list → take (length messages) list ≡ messages
 
 -- ---- lines in two pieces, one behind the other
 

@@ -9,7 +9,6 @@ returns-clause-count c =
     let lines = (streams_left c.args.engine.now Whole c.args.score.now).messages in
     record {
       counted =
-          c.count-count.ensures ∙ ap (λ m. m.count) c.run_over-status.ensures.messages
-          ∙ ap (λ m. counted_behind m.count (messages_in m.reader lines)) c.new-messages.ensures;
+          c.count-count.ensures ∙ ap (λ m. m.count) c.run_over-status.ensures.messages ∙ ap (λ r. counted_behind 0 (messages_in r lines)) c.new.ensures;
       below = omega arith;
     }
