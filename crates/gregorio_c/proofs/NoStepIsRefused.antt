@@ -9,13 +9,14 @@ use Rattle.gregorio.specs.declared.source_ending.SourceEnding.{SourceEnding}
 use Rattle.gregorio.specs.Engine.{EndsByInput}
 use Rattle.gregorio_c.specs.StepAnswers.{Buffer, IsHandedOut, IsRefusal}
 use Rattle.gregorio_c.specs.Steps.{Begins, Ends, Feeds, IsOver, Made, goes_on}
+use Rattle.gregorio_c.specs.machine.Steps.{WritesNothing}
 
-none_of : (n : ℕ) → (n ≡ 3 → ⊥) → (n ≡ 5 → ⊥) → (8 ≤ n → ⊥) → IsRefusal n → ⊥
+none_of : (n : ℕ) → (n ≡ 3 → ⊥) → (n ≡ 5 → ⊥) → (7 ≤ n → ⊥) → WritesNothing n → ⊥
 none_of n a b d (inl e) = a e
 none_of n a b d (inr (inl e)) = b e
 none_of n a b d (inr (inr h)) = d h
 
-by_code : (status : Status) → EndsByInput status → IsRefusal (code_of status) → ⊥
+by_code : (status : Status) → EndsByInput status → WritesNothing (code_of status) → ⊥
 by_code Whole by = none_of 0 (λ e. absurd (cc e)) (λ e. absurd (cc e)) (λ h. absurd (omega (arith, h)))
 by_code Errors by = none_of 1 (λ e. absurd (cc e)) (λ e. absurd (cc e)) (λ h. absurd (omega (arith, h)))
 by_code Fatal by = none_of 2 (λ e. absurd (cc e)) (λ e. absurd (cc e)) (λ h. absurd (omega (arith, h)))
@@ -23,29 +24,46 @@ by_code ReadFault by = none_of 4 (λ e. absurd (cc e)) (λ e. absurd (cc e)) (λ
 by_code WriteFault by = absurd by
 by_code NoMemory by = absurd by
 
-on_goes : IsRefusal goes_on → ⊥
+on_goes : WritesNothing goes_on → ⊥
 on_goes = none_of 6 (λ e. absurd (cc e)) (λ e. absurd (cc e)) (λ h. absurd (omega (arith, h)))
 
+over : (made : Made) (status : Status) → IsOver made status → WritesNothing made.number → ⊥
+over made status is nothing = by_code status is.by_input (subst WritesNothing is.number nothing)
+
+module _ (job : Job) (limits : Limits) (made : Made) where
+  pub begun_writes : Begins job limits made → WritesNothing made.number → ⊥
+  begun_writes is nothing = on_goes (subst WritesNothing is.number nothing)
+
+  pub fed_writes : (before piece : List ℕ) → Feeds job limits before piece made → WritesNothing made.number → ⊥
+  fed_writes before piece is nothing =
+      let stopped = is.over (λ six. on_goes (subst WritesNothing six nothing)) is.left is.stood in
+      over made stopped.status stopped.over nothing
+
+  pub ended_writes : (ending : SourceEnding) (before : List ℕ) → Ends job limits ending before made → WritesNothing made.number → ⊥
+  ended_writes ending before is nothing = over made is.status is.over nothing
+
+-- ---- what is answered, whether there is room for all that is made or not
+
+refusal : (n : ℕ) → IsRefusal n → WritesNothing n
+refusal n (inl e) = inl e
+refusal n (inr (inl e)) = inr (inl e)
+refusal n (inr (inr h)) = inr (inr (omega (arith, h)))
+
 short : IsRefusal 7 → ⊥
-short = none_of 7 (λ e. absurd (cc e)) (λ e. absurd (cc e)) (λ h. absurd (omega (arith, h)))
+short (inl e) = absurd (cc e)
+short (inr (inl e)) = absurd (cc e)
+short (inr (inr h)) = absurd (omega (arith, h))
 
-over : (made : Made) (status : Status) → IsOver made status → IsRefusal made.number → ⊥
-over made status is refused = by_code status is.by_input (subst IsRefusal is.number refused)
-
--- nor is what is answered, whether there is room for all that is made or not
-handed_out : (made : Made) (state output messages : Buffer) (result : ℕ) → (IsRefusal made.number → ⊥) → IsHandedOut made state output messages result → IsRefusal result → ⊥
-handed_out made state output messages result made_one h refused =
-    short (subst IsRefusal (h.short (λ room. made_one (subst IsRefusal (h.all room).number refused))).number refused)
+handed_out : (made : Made) (state output messages : Buffer) (result : ℕ) → (WritesNothing made.number → ⊥) → IsHandedOut made state output messages result → IsRefusal result → ⊥
+handed_out made state output messages result writes (inl (room, filled)) refused = writes (refusal made.number (subst IsRefusal filled.number refused))
+handed_out made state output messages result writes (inr (none, kept)) refused = short (subst IsRefusal kept.number refused)
 
 module _ (job : Job) (limits : Limits) (made : Made) (state output messages : Buffer) (result : ℕ) (h : IsHandedOut made state output messages result) where
   pub begun : Begins job limits made → IsRefusal result → ⊥
-  begun is = handed_out made state output messages result (λ refused. on_goes (subst IsRefusal is.number refused)) h
+  begun is = handed_out made state output messages result (begun_writes job limits made is) h
 
   pub fed : (before piece : List ℕ) → Feeds job limits before piece made → IsRefusal result → ⊥
-  fed before piece is =
-      handed_out made state output messages result
-      (λ refused. let stopped = is.over (λ six. on_goes (subst IsRefusal six refused)) is.left is.stood in over made stopped.status stopped.over refused)
-      h
+  fed before piece is = handed_out made state output messages result (fed_writes job limits made before piece is) h
 
   pub ended : (ending : SourceEnding) (before : List ℕ) → Ends job limits ending before made → IsRefusal result → ⊥
-  ended ending before is = handed_out made state output messages result (over made is.status is.over) h
+  ended ending before is = handed_out made state output messages result (ended_writes job limits made ending before is) h

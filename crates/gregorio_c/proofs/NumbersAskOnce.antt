@@ -6,7 +6,7 @@ use Rattle.gregorio_c.specs.Asked.{AreLimitsOf, AsksFor}
 use Rattle.gregorio_c.specs.declared.options.Options.{Options}
 use Rattle.gregorio_c.specs.declared.request.Request.{Request}
 
-value_or : Request → Option Request → Request
+abbrev value_or : Request → Option Request → Request
 value_or other None = other
 value_or other (Some request) = request
 

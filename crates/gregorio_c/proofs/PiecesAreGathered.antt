@@ -1,5 +1,5 @@
 -- What an engine writes of a piece is gathered as it comes.
-use Rattle.std.proofs.Common.{◌≡◌, ℕ, ◌+◌, List, [], ◌++◌, take, drop, take-append-drop, append_assoc, append-nil, refl, sym, ap, subst, ◌∙◌}
+use Rattle.std.proofs.Common.{◌≡◌, ℕ, ◌+◌, ◌-◌, List, [], ◌++◌, length, length-drop, take, drop, take_all, take-append-drop, append_assoc, refl, sym, ap, subst, ◌∙◌, arith}
 use Rattle.std.proofs.lemmas.List.{drop-drop}
 use Rattle.gabc_places.specs.declared.limits.Limits.{Limits}
 use Rattle.gregorio_jobs.specs.declared.job.Job.{Job}
@@ -15,6 +15,14 @@ joined output lines more more_lines rest =
     let texts = sym (append_assoc output more rest.output) in
     let told = sym (append_assoc lines more_lines rest.messages) in
     λ i. record { output = texts i; messages = told i; status = rest.status }
+
+-- all behind so many bytes
+pub all_behind : (count : ℕ) (piece : List ℕ) → take (length piece - count) (drop count piece) ≡ drop count piece
+all_behind count piece = take_all (length piece - count) (drop count piece) (omega (arith, length-drop count piece))
+
+-- nothing is gathered yet
+pub nothing_gathered : (rest : Streams) (output lines : List ℕ) → output ≡ [] → lines ≡ [] → rest ≡ behind_bytes output lines rest
+nothing_gathered rest output lines none no_lines = sym (ap (λ (bytes : List ℕ). behind_bytes bytes lines rest) none ∙ ap (λ (bytes : List ℕ). behind_bytes [] bytes rest) no_lines)
 
 module _ (e f g : EngineState) (forgets : g ≡ record f { output = []; messages = [] }) where
   pub nothing_waits : NothingWaits g

@@ -48,10 +48,11 @@ pub record AllAreKept (state output messages : Buffer) (result : ℕ) : Type 0 w
   pub lines_are : IsKept messages
   pub number : result ≡ 7
 
--- Where there is room for all that is made, it stands in the buffers; else these are kept.
-pub record IsHandedOut (made : Made) (state output messages : Buffer) (result : ℕ) : Type 0 where
-  pub all : AllHaveRoom made state output messages → AllAreFilled made state output messages result
-  pub short : (AllHaveRoom made state output messages → ⊥) → AllAreKept state output messages result
+-- There is room for all that is made, and it stands in the buffers; or there is not, and these are kept.
+abbrev pub IsHandedOut : Made → Buffer → Buffer → Buffer → ℕ → Type 0
+IsHandedOut made state output messages result =
+    (AllHaveRoom made state output messages × AllAreFilled made state output messages result)
+    ⊎ ((AllHaveRoom made state output messages → ⊥) × AllAreKept state output messages result)
 
 -- the lengths of what is made
 abbrev pub step_of : Made → Step

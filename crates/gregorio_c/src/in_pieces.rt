@@ -1,18 +1,19 @@
 //! A run in pieces as a whole. The contract of the one public function is a law, and its body makes the calls.
 
-ghost use Rattle.std.specs.Prelude.{[], take, IfErr, IfOk};
+ghost use Rattle.std.specs.Prelude.{◌≡◌, ◌↔◌, [], take, IfErr, IfOk, IsTrue};
 ghost use Rattle.gabc_places.specs.declared.limits.Limits.{Limits as RunLimits};
 ghost use Rattle.gregorio.specs.Streams.{joined};
 ghost use Rattle.gregorio_c.specs.Asked.{AsksFor};
 ghost use Rattle.gregorio_c.specs.Steps.{Writes, job_of, run_of};
 ghost use Rattle.gregorio_c.specs.declared.request.Request.{Request as Wanted};
-ghost use Rattle.gregorio_c.specs.machine.InPieces.{MayFail, PutsFed, PutsLast};
+ghost use Rattle.gregorio_c.specs.machine.InPieces.{MayFail, PutsFed, PutsLast, WritesNothing, fed_as};
 ghost use Rattle.gregorio.specs.witness.StandsFor.{StandsFor};
 
 use crate::lengths::Lengths;
 use crate::options::Options;
 use crate::pieces::{front, gregorio_begin, gregorio_broken, gregorio_end, gregorio_feed};
 use crate::step::Step;
+use crate::steps::GOES_ON;
 use gabc_places::Put;
 use gregorio::SourceEnding;
 use gregorio::restored_laws::bytes_are_of_one_state;
@@ -37,6 +38,24 @@ enum Fed {
     Over(u32),
 }
 
+/// Returns whether this is the number of an answer with which no output and no messages are written.
+fn writes_nothing(number: u32) -> bool
+    ensures { IsTrue result ↔ WritesNothing number }
+{
+    number == 3 || number == 5 || number >= 7
+}
+
+/// Returns where a run stands that answered this number, and whose state has so many bytes then.
+fn fed_by(number: u32, len: usize) -> Fed
+    ensures { result ≡ fed_as number len }
+{
+    if number == GOES_ON {
+        Fed::On(len)
+    } else {
+        Fed::Over(number)
+    }
+}
+
 /// Begins a run, and returns how many bytes its first state has. The error is the number that is answered else.
 fn begin_one(alloc: Global, numbers: &Numbers<'_>, state: &mut [u8]) -> Result<usize, u32>
     ensures begun { (request : Wanted) (limits : RunLimits) →
@@ -52,10 +71,12 @@ fn begin_one(alloc: Global, numbers: &Numbers<'_>, state: &mut [u8]) -> Result<u
         output: 0,
         messages: 0,
     };
-    match gregorio_begin(alloc, numbers.format, numbers.flags, numbers.options, state, &mut step) {
-        6 => Ok(step.state),
-        number => Err(number),
+    let (format, flags, options) = (numbers.format, numbers.flags, numbers.options);
+    let number = gregorio_begin(alloc, format, flags, options, state, &mut step);
+    if number != GOES_ON {
+        return Err(number);
     }
+    Ok(step.state)
 }
 
 /// Feeds `piece` to the run whose state are the first `len` bytes of `state`, and puts what is written then. The error is the number of an answer with which
@@ -99,16 +120,12 @@ fn feed_one<O: Put, M: Put>(
         messages,
         &mut step,
     );
-    if matches!(number, 3 | 5 | 7..) {
+    if writes_nothing(number) {
         return Err(number);
     }
     out.put(front(output, step.output));
     lines.put(front(messages, step.messages));
-    if number == 6 {
-        Ok(Fed::On(step.state))
-    } else {
-        Ok(Fed::Over(number))
-    }
+    Ok(fed_by(number, step.state))
 }
 
 /// Ends the run whose state is `state`, and puts what is written then. Returns the number that is answered. The error is that of an answer with which
@@ -147,7 +164,7 @@ fn end_one<O: Put, M: Put>(
             gregorio_broken(alloc, format, flags, options, state, output, messages, &mut lengths)
         }
     };
-    if matches!(number, 3 | 5 | 7..) {
+    if writes_nothing(number) {
         return Err(number);
     }
     out.put(front(output, lengths.output));

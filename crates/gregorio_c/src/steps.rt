@@ -23,7 +23,7 @@ use std::hash::DefaultHasher;
 use std::marker::Model;
 
 /// What is answered where a run goes on.
-const GOES_ON: u32 = 6;
+pub(crate) const GOES_ON: u32 = 6;
 
 /// Why a step is not made.
 #[derive(Clone, Copy, PartialEq, Eq)]

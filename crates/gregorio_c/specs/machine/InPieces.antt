@@ -1,14 +1,18 @@
 -- What the calls of a run in pieces put, each behind what was put before.
-use Rattle.std.specs.Prelude.{◌≡◌, ◌⊎◌, ℕ, List, ◌++◌, take}
+use Rattle.std.specs.Prelude.{◌≡◌, ◌==◌, ◌⊎◌, ℕ, List, ◌++◌, take, if◌then◌else◌}
 use Rattle.gabc_places.specs.declared.limits.Limits.{Limits}
 use Rattle.gregorio_jobs.specs.declared.job.Job.{Job}
 use Rattle.gregorio_jobs.specs.Status.{code_of}
 use Rattle.gregorio.specs.declared.source_ending.SourceEnding.{SourceEnding}
 use Rattle.gregorio.specs.Streams.{Streams, behind_bytes}
 use Rattle.gregorio.specs.witness.StandsFor.{StandsFor}
-use Rattle.gregorio_c.specs.Steps.{Writes}
+use Rattle.gregorio_c.specs.Steps.{Writes, goes_on}
 use Rattle.gregorio_c.specs.declared.in_pieces.Fed.{Fed}
 use Rattle.gregorio_c.specs.declared.in_pieces.Fed.TheVariants.{On, Over}
+
+-- where a run stands that answered this number, and whose state has so many bytes then
+abbrev pub fed_as : ℕ → ℕ → Fed
+fed_as number len = if number == goes_on then On len else Over number
 
 -- a call that asks for something may fail for want of memory, or since a buffer is too small
 abbrev pub MayFail : ℕ → Type 0

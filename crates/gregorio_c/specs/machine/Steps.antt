@@ -1,5 +1,5 @@
 -- What private calls make of an engine, for the steps of a run in pieces.
-use Rattle.std.specs.Prelude.{◌≡◌, ◌≢◌, ℕ, List, [], ◌++◌}
+use Rattle.std.specs.Prelude.{◌≡◌, ◌≢◌, ℕ, ◌≤◌, ◌⊎◌, List, [], ◌++◌}
 use Rattle.gabc_places.specs.declared.limits.Limits.{Limits}
 use Rattle.gregorio_jobs.specs.declared.job.Job.{Job}
 use Rattle.gregorio_jobs.specs.declared.job.Status.{Status}
@@ -37,3 +37,7 @@ abbrev pub number_of : Refusal → ℕ
 number_of NoMemory = 5
 number_of NoState = 8
 number_of OtherState = 9
+
+-- the number of an answer with which no output and no messages are written
+abbrev pub WritesNothing : ℕ → Type 0
+WritesNothing number = (number ≡ 3) ⊎ ((number ≡ 5) ⊎ (7 ≤ number))
