@@ -6,7 +6,8 @@ ghost use Rattle.gregorio.specs.Streams.{joined};
 ghost use Rattle.gregorio_c.specs.Asked.{AsksFor};
 ghost use Rattle.gregorio_c.specs.Steps.{Writes, job_of, run_of};
 ghost use Rattle.gregorio_c.specs.declared.request.Request.{Request as Wanted};
-ghost use Rattle.gregorio_c.specs.machine.InPieces.{MayFail, PutsFed, PutsLast, WritesNothing, fed_as};
+ghost use Rattle.gregorio_c.specs.machine.InPieces.{MayFail, PutsFed, PutsLast, fed_as};
+ghost use Rattle.gregorio_c.specs.machine.Steps.{WritesNothing};
 ghost use Rattle.gregorio.specs.witness.StandsFor.{StandsFor};
 
 use crate::lengths::Lengths;
