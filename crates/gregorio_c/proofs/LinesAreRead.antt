@@ -1,6 +1,6 @@
 -- Lines of messages are read back: each gives its message, if the numbers of its place are read.
-use Rattle.std.proofs.Common.{◌≡◌, ℕ, zero, suc, ◌/◌, ◌%◌, ◌<◌, ◌≤◌, ◌==◌, Bool, true, false, cond, List, [], ◌∷◌, ◌++◌, refl, ap, ◌∙◌, arith, append_assoc, codes, Some}
-use Rattle.std.proofs.lemmas.Bool.{ne_eqb, lt-ltb}
+use Rattle.std.proofs.Common.{◌≡◌, ℕ, zero, suc, ◌/◌, ◌%◌, ◌<◌, ◌≤◌, ◌==◌, Bool, true, false, cond, List, [], ◌∷◌, ◌++◌, refl, sym, ap, subst, ◌∙◌, arith, append_assoc, codes, Some}
+use Rattle.std.proofs.lemmas.Bool.{ne_eqb}
 use Rattle.std.specs.Fmt.{decimal, digits, digits_onto, digit_glyph}
 use Rattle.gabc_places.specs.declared.code.Code.{Code}
 use Rattle.gabc_places.specs.declared.code.Code.TheVariants.{E1, E2, E3, E4, E5, E6, W1, W2, W3, W4, W5, W6, W7, W8, W9, W10, W11, W12, F1, F2, F3, F4, F5, F6, F7}
@@ -15,7 +15,7 @@ use Rattle.gregorio_c.specs.declared.line_reader.Field.TheVariants.{Line, Column
 use Rattle.gregorio_c.specs.declared.line_reader.LineReader.{LineReader}
 use Rattle.gregorio_c.specs.declared.messages.Message.{Message}
 use Rattle.gregorio_c.specs.machine.LineReader.{message_with, before_line, messages_in}
-use Rattle.gregorio_c.proofs.NumbersAreRead.{number_onto}
+use Rattle.gregorio_c.proofs.NumbersAreRead.{glyph_is, number_onto}
 
 abbrev IsDigit : ℕ → Type 0
 IsDigit c = (48 ≤ c) × (c < 58)
@@ -25,7 +25,7 @@ AreDigits [] = Unit {0}
 AreDigits (c ∷ cs) = IsDigit c × AreDigits cs
 
 glyph_is_digit : (d : ℕ) → d < 10 → IsDigit (digit_glyph false d)
-glyph_is_digit d small = rw (lt-ltb d 10 small) (omega arith, omega arith)
+glyph_is_digit d small = subst IsDigit (sym (glyph_is d small)) (omega arith, omega arith)
 
 onto_are_digits : (k n : ℕ) (acc : List ℕ) → AreDigits acc → AreDigits (digits_onto k 10 false n acc)
 onto_are_digits zero n acc are = are

@@ -4,10 +4,7 @@ use Rattle.std.proofs.lemmas.Bool.{cases_lt, and_parts, ltb-true}
 use Rattle.gregorio_c.specs.declared.messages.Message.{Message}
 use Rattle.gregorio_c.specs.machine.LineReader.{has_place, counted_by, counted_behind}
 use Rattle.gregorio_c.proofs.LinesAreRead.{as_read}
-use Rattle.gregorio_c.proofs.NumbersAreRead.{number_is_read}
-
-abbrev most : ℕ
-most = 2 ^ 64 - 1
+use Rattle.gregorio_c.proofs.NumbersAreRead.{most, number_is_read}
 
 -- a count that has reached the last value of a `usize` stays there
 most_stays : (count : ℕ) (messages : List Message) → most ≤ count → most ≤ counted_behind count messages

@@ -7,7 +7,7 @@ use Rattle.std.specs.Fmt.{decimal, digits, digits_onto, digit_glyph}
 use Rattle.gregorio_c.specs.machine.LineReader.{with_digit}
 
 -- the last value of a `u64`
-abbrev most : ℕ
+abbrev pub most : ℕ
 most = 2 ^ 64 - 1
 
 -- the number behind these digits
@@ -19,7 +19,7 @@ number_onto number (c ∷ cs) = number_onto (with_digit number c) cs
 abbrev IsReadOf : ℕ → ℕ → ℕ → Type 0
 IsReadOf k n w = (w ≡ most) ⊎ ((w ≡ n) ⊎ (((k ≡ 0) × (w ≡ 0)) ⊎ (10 ^ k ≤ w * 10)))
 
-glyph_is : (d : ℕ) → d < 10 → digit_glyph false d ≡ 48 + d
+pub glyph_is : (d : ℕ) → d < 10 → digit_glyph false d ≡ 48 + d
 glyph_is d small = ap (λ (b : Bool). cond b (48 + d) (87 + d)) (lt-ltb d 10 small)
 
 digit_is : (w d : ℕ) → (with_digit w (48 + d) ≡ most) ⊎ ((with_digit w (48 + d) ≡ w * 10 + d) × (0 < w + d))

@@ -43,8 +43,11 @@ const REFUSED: u32 = 3;
 /// What is answered where there is no memory.
 const NO_MEMORY: u32 = 5;
 
-/// From how many bytes on a score is run over by an engine. The whole form of a shorter one takes less time, and little memory.
+/// From how many bytes on a score is compiled by an engine. The whole form of a shorter one takes less time, and little memory.
 const LONG: usize = 8192;
+
+/// From how many bytes on the messages of a score are told by an engine. Most take one run, so this is less than `LONG`.
+const LONG_FOR_MESSAGES: usize = 1024;
 
 /// Compiles `score`: puts its output into `output`, the lines of its messages into `messages`, and their exact lengths in bytes into
 /// `lengths`. A text that is longer than its buffer is left out whole, and the buffer stays as it was. `format` is 0 for canonical
@@ -103,7 +106,7 @@ pub extern "C" fn gregorio_messages(
     let Some(all_warnings) = warnings_of(flags) else {
         return REFUSED;
     };
-    let told = if score.len() < LONG {
+    let told = if score.len() < LONG_FOR_MESSAGES {
         messages_whole(alloc, all_warnings, key, score, messages, count)
     } else {
         messages_by_engine(alloc, all_warnings, key, score, messages, count)

@@ -110,12 +110,7 @@ impl LineReader {
     {
         LineReader {
             field: Field::Name,
-            message: Message {
-                line: 0,
-                column: 0,
-                severity: 0,
-                code: 0,
-            },
+            message: Message::NONE,
         }
     }
 

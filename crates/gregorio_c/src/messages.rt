@@ -25,7 +25,7 @@ pub struct Message {
 }
 
 impl Message {
-    /// A message that stands nowhere: it holds a place that no message has filled.
+    /// No message: what stands where none is read or filled in.
     pub(crate) const NONE: Message = Message {
         line: 0,
         column: 0,
