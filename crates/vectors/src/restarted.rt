@@ -11,17 +11,12 @@ use std::alloc::Global;
 /// How many bytes the pieces have of a run that is read to its end.
 const LENGTH: usize = 7;
 
-/// Feeds `bytes`, and takes what is written of them but the last that waits.
-fn feed_in_vain(engine: &mut Engine, bytes: &[u8])
-    requires { NothingWaits engine.old }
-{
+/// Feeds `bytes`, and takes what is written of them but what waits last.
+fn feed_in_vain(engine: &mut Engine, bytes: &[u8]) {
     let mut count = 0;
-    loop {
-        count += engine.feed(&bytes[count..]);
-        if count >= bytes.len() {
-            return;
-        }
+    while count < bytes.len() {
         engine.taken();
+        count += engine.feed(&bytes[count..]);
     }
 }
 
