@@ -9,5 +9,4 @@ pub mod NumbersAreRead
 pub mod NumbersAskOnce
 pub mod OutcomeOfAWhole
 pub mod PiecesAreGathered
-pub mod PiecesArePut
 pub mod StepsOfRuns

@@ -8,14 +8,13 @@ mod buffers;
 mod by_engine;
 mod compiled;
 mod handing_out;
-pub mod in_pieces;
 mod lengths;
 mod line_reader;
 mod message_ends;
 mod messages;
+mod messages_by_engine;
 mod options;
 mod pieces;
-mod messages_by_engine;
 mod request;
 mod step;
 mod steps;
@@ -28,11 +27,11 @@ use by_engine::compile_by_engine;
 use compiled::{compile_whole, messages_whole};
 pub use lengths::Lengths;
 pub use messages::Message;
+use messages_by_engine::messages_by_engine;
 pub use options::Options;
 pub use pieces::{
     gregorio_begin, gregorio_broken, gregorio_end, gregorio_feed, gregorio_state_bound,
 };
-use messages_by_engine::messages_by_engine;
 use request::{request_of, warnings_of};
 pub use step::Step;
 use std::alloc::Global;
