@@ -1,7 +1,7 @@
 //! The compiler as a static library for programs in C. `c/gregorio.h` says what a caller in C has to keep to.
 //!
-//! A slice crosses as a pointer and a count. Each call reads a whole score under the default limits and asks for memory while it
-//! works; it gives back all of it, keeps nothing between calls, and may be made in any number of threads at once.
+//! A slice crosses as a pointer and a count. A call reads a whole score under the default limits, or makes a step of a run in pieces. It asks for memory
+//! while it works, gives back all of it, keeps nothing between calls, and may be made in any number of threads at once.
 #![tactic(auto)]
 
 mod buffers;
