@@ -47,7 +47,11 @@ fn count_by_stage(
     let mut stage = HeaderStage::with_hasher(alloc, limits, hasher)?;
     let mut out = Room::with_limit(alloc, 2)?;
     push_all(&mut stage, text, &mut out);
-    Ok(stage.headers().count())
+    let mut count = 0usize;
+    for _ in stage.headers() {
+        count = count.saturating_add(1);
+    }
+    Ok(count)
 }
 
 /// The headers of a file, by this way to read them. `None` tells that there is no such way, or that they are stopped.
