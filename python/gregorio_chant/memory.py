@@ -96,9 +96,9 @@ class Room:
         if len(self.content) <= _MOST_KEPT:
             self._spare.append(self)
 
-    def address(self) -> ctypes.c_void_p:
-        """Returns where the bytes stand."""
-        return ctypes.cast((ctypes.c_char * len(self.content)).from_buffer(self.content), ctypes.c_void_p)
+    def address(self) -> int | None:
+        """Returns where the bytes stand, as long as the room keeps them. A `ctypes.cast` would hold them until garbage is collected."""
+        return ctypes.addressof(ctypes.c_char.from_buffer(self.content)) if self.content else None
 
     def text(self, length: int) -> str:
         """Returns the text of the first `length` bytes, with no copy but that text."""
