@@ -33,8 +33,8 @@ pub use pieces::{
     gregorio_begin, gregorio_broken, gregorio_end, gregorio_feed, gregorio_state_bound,
 };
 use request::{request_of, warnings_of};
-pub use step::Step;
 use std::alloc::Global;
+pub use step::Step;
 
 /// What is answered where a number of the format or of the flags is not known.
 const REFUSED: u32 = 3;

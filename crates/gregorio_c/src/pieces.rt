@@ -172,7 +172,9 @@ pub extern "C" fn gregorio_end(
         (used messages.old messages.new) lengths.new result }
 {
     let ending = SourceEnding::Whole;
-    end_so(alloc, format, flags, options, state, ending, output, messages, lengths)
+    end_so(
+        alloc, format, flags, options, state, ending, output, messages, lengths,
+    )
 }
 
 /// Ends a run as `gregorio_end` does, of an input whose source has failed. Returns 4 where that is how the run ended.
@@ -197,5 +199,7 @@ pub extern "C" fn gregorio_broken(
         (used messages.old messages.new) lengths.new result }
 {
     let ending = SourceEnding::Broken;
-    end_so(alloc, format, flags, options, state, ending, output, messages, lengths)
+    end_so(
+        alloc, format, flags, options, state, ending, output, messages, lengths,
+    )
 }

@@ -14,9 +14,9 @@ ghost use Rattle.gregorio_c.specs.machine.Steps.{EndedAs, FedAs, Gathers, Stands
 use crate::lengths::Lengths;
 use crate::options::Asked;
 use crate::step::Step;
+use gabc_places::Limits;
 use gregorio::restored_laws::what_is_saved_stands;
 use gregorio::run_ends::a_run_ends_by_its_input;
-use gabc_places::Limits;
 use gregorio::{Engine, Job, SourceEnding, StateFault, Status};
 use std::alloc::{AllocError, Global};
 use std::hash::DefaultHasher;
@@ -270,8 +270,12 @@ fn fed_by(
 
 /// Returns what a step makes that is the last, behind which the run is over with `status`.
 fn last_by(alloc: Global, texts: Texts, status: Status) -> Made
-    ensures { result ≡ record { output = texts.output.items; lines = texts.messages.items;
-        state = []; number = code_of status } }
+    ensures { result ≡ record {
+      output = texts.output.items;
+      lines = texts.messages.items;
+      state = [];
+      number = code_of status;
+    } }
 {
     Made {
         texts,
