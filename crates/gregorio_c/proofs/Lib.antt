@@ -9,4 +9,5 @@ pub mod NumbersAreRead
 pub mod NumbersAskOnce
 pub mod OutcomeOfAWhole
 pub mod PiecesAreGathered
+pub mod PiecesArePut
 pub mod StepsOfRuns

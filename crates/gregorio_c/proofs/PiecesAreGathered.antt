@@ -10,8 +10,8 @@ use Rattle.gregorio.specs.Streams.{Streams, behind_bytes}
 use Rattle.gregorio.specs.witness.Engine.{EngineState, streams_left}
 
 -- what stands behind bytes that stand behind bytes
-joined : (output lines more more_lines : List ℕ) (rest : Streams) → behind_bytes output lines (behind_bytes more more_lines rest) ≡ behind_bytes (output ++ more) (lines ++ more_lines) rest
-joined output lines more more_lines rest =
+pub joined_streams : (output lines more more_lines : List ℕ) (rest : Streams) → behind_bytes output lines (behind_bytes more more_lines rest) ≡ behind_bytes (output ++ more) (lines ++ more_lines) rest
+joined_streams output lines more more_lines rest =
     let texts = sym (append_assoc output more rest.output) in
     let told = sym (append_assoc lines more_lines rest.messages) in
     λ i. record { output = texts i; messages = told i; status = rest.status }
@@ -53,5 +53,5 @@ module _ (e f g : EngineState) (forgets : g ≡ record f { output = []; messages
         let rest = streams_left g ending (drop (count + k) piece ++ more) in
         so_far ending more
         ∙ (ap (behind_bytes output lines) (taken ending more)
-        ∙ (joined output lines f.output f.messages rest
+        ∙ (joined_streams output lines f.output f.messages rest
         ∙ (ap (λ (bytes : List ℕ). behind_bytes bytes (lines ++ f.messages) rest) (sym out) ∙ ap (λ (bytes : List ℕ). behind_bytes output_then bytes rest) (sym told))))

@@ -8,6 +8,7 @@ mod buffers;
 mod by_engine;
 mod compiled;
 mod handing_out;
+pub mod in_pieces;
 mod lengths;
 mod line_reader;
 mod message_ends;
