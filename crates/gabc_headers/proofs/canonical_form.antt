@@ -1,5 +1,4 @@
 pub mod HeaderBytes
 pub mod HeadersEndInTwoPercents
-pub mod NameAndValueFitTheirLine
 pub mod NumbersAreInRange
 pub mod WantsLinesLeftToRight

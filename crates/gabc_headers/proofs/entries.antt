@@ -1,9 +1,8 @@
 pub mod BookIsReadByEntry
-pub mod EntriesLieInTheText
+pub mod HeadersAreSpelled
 pub mod InsertPutsEntry
 pub mod MapIsReadByEntry
-pub mod PushedEntryIsShown
-pub mod RoomIsFilled
 pub mod PutEntriesStand
 pub mod TextsAsBytes
+pub mod TextsGoOn
 pub mod ValuesOfNabcLines

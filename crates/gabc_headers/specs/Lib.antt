@@ -1,7 +1,6 @@
 pub mod machine
 pub mod witness
 pub mod Book
-pub mod BookText
 pub mod Canonical
 pub mod EntryMap
 pub mod Groups

@@ -1,11 +1,12 @@
-pub mod BookRoom
 pub mod Characters
 pub mod Collected
 pub mod EntryMap
 pub mod Events
 pub mod Groups
+pub mod HeaderBook
 pub mod HeaderMachine
 pub mod HeaderStage
 pub mod HeaderText
 pub mod PartMachine
 pub mod Shown
+pub mod Spans

@@ -1,60 +1,66 @@
 //! The book of headers.
 
-ghost use Rattle.std.specs.Prelude.{◌≡◌, ◌<◌, ◌==◌, None, Some, length, slice_get, MatchOption, IsSomeAnd, encode_utf8_all, string_bytes};
+ghost use Rattle.std.specs.Prelude.{◌≡◌, ◌<◌, ◌==◌, None, Some, length, slice_get, IfOk, MatchOption, IsSomeAnd, encode_utf8_all};
 ghost use Rattle.std.specs.Str.{chars};
 ghost use Rattle.gabc_headers.specs.Book.{value_named, has_header, macro_name, nabc_lines_of, macros_of};
 ghost use Rattle.gabc_headers.specs.Canonical.{canonical_heads};
 ghost use Rattle.gabc_headers.specs.Lines.{bytes_len};
-ghost use Rattle.gabc_headers.specs.BookText.{shown_entries, IsBook};
+ghost use Rattle.gabc_headers.specs.machine.EntryMap.{spelled_entries};
+ghost use Rattle.gabc_headers.specs.machine.HeaderBook.{IsBook};
 
-use crate::book_room::{BookRoom, Entry};
 use crate::canonical::canon_header;
+use crate::entry_map::EntryMap;
 use crate::headers::Headers;
 use gabc_places::ByteCounter;
+use std::alloc::{AllocError, Global};
+use std::fmt;
 use std::marker::Model;
 
 /// The headers of a text, in order. Contracts see the list of names and values, each the list of its characters.
-#[derive(Debug, Drop)]
+#[derive(Drop)]
 pub struct HeaderBook {
+    /// The text, at least as far as values stand in it.
     text: String,
-    entries: Vec<Entry>,
+    headers: EntryMap,
 }
 
 impl Model for HeaderBook {
     ghost use Rattle.std.specs.Prelude.{ℕ, List, string_bytes};
-    ghost use Rattle.gabc_headers.specs.BookText.{shown_entries, IsBook};
+    ghost use Rattle.gabc_headers.specs.machine.EntryMap.{spelled_entries};
+    ghost use Rattle.gabc_headers.specs.machine.HeaderBook.{IsBook};
 
     ghost Value = { List (List ℕ × List ℕ) };
 
-    ghost view = { λ b. shown_entries (string_bytes b.text) b.entries.items };
+    ghost view = { λ b. spelled_entries (string_bytes b.text) b.headers.items };
 
-    ghost invariant = { λ b. IsBook (string_bytes b.text) b.entries.items };
+    ghost invariant = { λ b. IsBook (string_bytes b.text) b.headers.items };
 }
 
 impl HeaderBook {
-    /// The book of the headers in `room`.
-    pub(crate) fn of(room: BookRoom) -> HeaderBook
-        requires { IsBook (string_bytes room.text) room.entries.items }
-        ensures { result ≡ shown_entries (string_bytes room.text) room.entries.items }
+    /// The book of these headers of a text, of which it keeps a copy as far as values stand in it.
+    pub(crate) fn of(alloc: Global, text: &str, headers: EntryMap) -> Result<HeaderBook, AllocError>
+        requires { IsBook text.now headers.items }
+        ensures { IfOk result (λ book. book ≡ spelled_entries text.now headers.items) }
     {
-        HeaderBook {
-            text: room.text,
-            entries: room.entries,
-        }
+        let end = headers.end(text);
+        Ok(HeaderBook {
+            text: String::from_str(alloc, &text[..end])?,
+            headers,
+        })
     }
 
     /// Returns the number of headers.
     pub fn len(&self) -> usize
         ensures { result ≡ length self.now }
     {
-        self.entries.len()
+        self.headers.len()
     }
 
     /// Returns whether there are no headers.
     pub fn is_empty(&self) -> bool
         ensures { result ≡ (length self.now == 0) }
     {
-        self.entries.is_empty()
+        self.headers.len() == 0
     }
 
     /// Returns the name of the header at `index`, from 0 and below `len()`.
@@ -62,7 +68,7 @@ impl HeaderBook {
         requires { index < length self.now }
         ensures { IsSomeAnd (slice_get self.now index) (λ entry. chars result.now ≡ entry.0) }
     {
-        self.iter().name(index)
+        self.headers.name(index)
     }
 
     /// Returns the value of the header at `index`, from 0 and below `len()`.
@@ -70,14 +76,14 @@ impl HeaderBook {
         requires { index < length self.now }
         ensures { IsSomeAnd (slice_get self.now index) (λ entry. chars result.now ≡ entry.1) }
     {
-        self.iter().value(index)
+        self.headers.value_in(self.text.as_str(), index)
     }
 
     /// Goes over the names and values of the headers, in order.
     pub fn iter(&self) -> Headers<'_>
         ensures { result ≡ self.now }
     {
-        Headers::new(self.text.as_str(), self.entries.as_slice())
+        Headers::of(self.text.as_str(), &self.headers)
     }
 
     /// Returns the value of the first header with this `name`, or `None` if there is none.
@@ -116,7 +122,7 @@ impl HeaderBook {
         ensures bytes { result ≡ length (encode_utf8_all (canonical_heads self.now)) }
     {
         // what a book holds is known where a field is used
-        let _ = &self.entries;
+        let _ = &self.headers;
         let mut counter = ByteCounter::new();
         canon_header(self.iter(), &mut counter);
         counter.count()
@@ -132,5 +138,12 @@ impl<'a> IntoIterator for &'a HeaderBook {
 
     fn into_iter(self) -> Headers<'a> {
         self.iter()
+    }
+}
+
+/// Writes the names and values of the headers, in order.
+impl fmt::Debug for HeaderBook {
+    fn fmt<W: fmt::Write>(&self, f: &mut fmt::Formatter<W>) -> fmt::Result {
+        f.debug_map().entries(self).finish()
     }
 }

@@ -1,18 +1,13 @@
 //! The headers in the order of their first lines.
 
-ghost use Rattle.std.specs.Prelude.{◌≡◌, ◌≤◌, ◌<◌, ◌-◌, ◌^◌, [], length, min, slice_get, string_bytes, vec_capacity, IfOk, IsSomeAnd};
-ghost use Rattle.std.specs.String.{string_capacity};
+ghost use Rattle.std.specs.Prelude.{◌≡◌, ◌≤◌, ◌<◌, ◌-◌, ◌^◌, [], length, take, min, slice_get, IfOk, IsSomeAnd, IsCharBoundary};
 ghost use Rattle.gabc_places.specs.BoundedList.{Fits};
 ghost use Rattle.std.specs.Str.{chars};
-ghost use Rattle.gabc_headers.specs.Canonical.{header_lines, canonical_heads};
+ghost use Rattle.gabc_headers.specs.Canonical.{header_lines};
 ghost use Rattle.gabc_headers.specs.machine.EntryMap.{key_name, IsKeyOf, comes_again, spelled_entries, AreWithin};
 ghost use Rattle.gabc_headers.specs.EntryMap.{put_entry};
 ghost use Rattle.gabc_headers.specs.Lines.{bytes_len};
-ghost use Rattle.gabc_headers.specs.BookText.{AreEntries, shown_entries};
-ghost use Rattle.gabc_headers.specs.machine.HeaderStage.{HasRoomFor};
 
-use crate::book::HeaderBook;
-use crate::book_room::BookRoom;
 use crate::canonical::put_header;
 use crate::name_hashers::NameHashers;
 use arrayvec::ArrayString;
@@ -121,14 +116,14 @@ impl EntryMap {
     }
 
     /// The number of headers.
-    fn len(&self) -> usize
+    pub(crate) fn len(&self) -> usize
         ensures { result ≡ length self.now.items }
     {
         self.map.len()
     }
 
     /// The name of a header, by its index.
-    fn name(&self, index: usize) -> &str
+    pub(crate) fn name(&self, index: usize) -> &str
         requires { index < length self.now.items }
         ensures { IsSomeAnd (slice_get self.now.items index) (λ entry. chars result.now ≡ entry.0) }
     {
@@ -138,12 +133,23 @@ impl EntryMap {
         }
     }
 
-    /// The value of a header, by its index.
+    /// Where the value of a header stands, by its index.
     fn value(&self, index: usize) -> Span
         requires { index < length self.now.items }
         ensures { IsSomeAnd (slice_get self.now.items index) (λ entry. entry.1 ≡ result) }
     {
         self.map[index]
+    }
+
+    /// The value of a header of a text, by its index.
+    pub(crate) fn value_in<'a>(&self, text: &'a str, index: usize) -> &'a str
+        requires within { AreWithin text.now self.now.items }
+        requires index { index < length self.now.items }
+        ensures { IsSomeAnd (slice_get (spelled_entries text.now self.now.items) index)
+            (λ entry. chars result.now ≡ entry.1) }
+    {
+        let value = self.value(index);
+        &text[value.from..value.to]
     }
 
     /// The number of bytes of the canonical lines of these headers of a text, or the largest number if there are more.
@@ -154,45 +160,21 @@ impl EntryMap {
     {
         let mut counter = ByteCounter::new();
         for index in 0..self.len() {
-            let value = self.value(index);
-            put_header(self.name(index), &text[value.from..value.to], &mut counter);
+            put_header(self.name(index), self.value_in(text, index), &mut counter);
         }
         counter.count()
     }
 
-    /// Adds these headers of a text to an empty room. It asks for no memory.
-    pub(crate) fn fill(&self, text: &str, room: &mut BookRoom)
-        requires within { AreWithin text.now self.now.items }
-        requires room { HasRoomFor (bytes_len (header_lines
-            (spelled_entries text.now self.now.items))) (length self.now.items) room.old }
-        ensures bytes { string_capacity room.old.text ≤ string_capacity room.new.text }
-        ensures headers { vec_capacity room.new.entries ≡ vec_capacity room.old.entries }
-        ensures within { AreEntries (string_bytes room.new.text) room.new.entries.items }
-        ensures shown { shown_entries (string_bytes room.new.text) room.new.entries.items
-            ≡ spelled_entries text.now self.now.items }
+    /// The byte of a text behind the last of these values, or 0 where there are none.
+    pub(crate) fn end(&self, text: &str) -> usize
+        requires { AreWithin text.now self.now.items }
+        ensures last { IsCharBoundary text.now result }
+        ensures within { AreWithin (take result text.now) self.now.items }
     {
+        let mut end = 0;
         for index in 0..self.len() {
-            let value = self.value(index);
-            room.push(self.name(index), &text[value.from..value.to]);
+            end = end.max(self.value(index).to);
         }
-    }
-
-    /// The book of these headers of a text, whose canonical lines have at most so many bytes.
-    pub(crate) fn book(
-        &self,
-        alloc: Global,
-        text: &str,
-        bytes: usize,
-    ) -> Result<HeaderBook, AllocError>
-        requires within { AreWithin text.now self.now.items }
-        requires bytes { bytes_len (header_lines
-            (spelled_entries text.now self.now.items)) ≤ bytes }
-        requires small { bytes_len (canonical_heads
-            (spelled_entries text.now self.now.items)) < 2 ^ 32 }
-        ensures { IfOk result (λ book. book ≡ spelled_entries text.now self.now.items) }
-    {
-        let mut room = BookRoom::with_limits(alloc, bytes, self.len())?;
-        self.fill(text, &mut room);
-        Ok(HeaderBook::of(room))
+        end
     }
 }

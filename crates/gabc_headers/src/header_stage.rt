@@ -10,8 +10,8 @@ ghost use Rattle.gabc_headers.specs.witness.HeadEvents.{IsInHeaders, reading, ov
 ghost use Rattle.gabc_headers.specs.HeldText.{IsHeld};
 ghost use Rattle.gabc_headers.specs.Lines.{bytes_len};
 ghost use Rattle.gabc_headers.specs.machine.Collected.{found_list, name_found};
+ghost use Rattle.gabc_headers.specs.machine.HeaderStage.{part_over};
 
-use crate::book_room::BookRoom;
 use crate::collected::take_event;
 use crate::entry_map::EntryMap;
 use crate::events::HeaderEnding;
@@ -19,17 +19,30 @@ use crate::head_event::HeadEvent;
 use crate::header_machine::{HeaderMachine, HeaderStep};
 use crate::headers::Headers;
 use crate::score_line::{end_fault, score_len};
-use gabc_places::{Char, Code, Fault, Finding, Limits, Place, Room, Stage};
+use gabc_places::{Char, Code, Fault, Finding, Limits, Memory, Place, Room, Stage};
 use std::alloc::{AllocError, Global};
 use std::hash::DefaultHasher;
 use std::marker::Model;
 
-/// Where a stage stands: in the headers, behind their `%%`, or behind its last event.
+/// Where a stage stands: in the headers, behind their `%%`, or behind its last event, which came before their `%%` or behind it.
 #[derive(Clone, Copy)]
 pub(crate) enum HeadPart {
     InHeaders,
     Behind,
+    Stopped,
     Over,
+}
+
+impl HeadPart {
+    /// Where a stage stands behind its last event.
+    fn over(self) -> HeadPart
+        ensures { result ≡ part_over self }
+    {
+        match self {
+            HeadPart::InHeaders | HeadPart::Stopped => HeadPart::Stopped,
+            HeadPart::Behind | HeadPart::Over => HeadPart::Over,
+        }
+    }
 }
 
 /// Reads the headers of a text one character at a time (GregorioRef, "Headers"), and passes on the characters behind them.
@@ -39,10 +52,9 @@ pub struct HeaderStage {
     part: HeadPart,
     /// In the headers, what has read their text.
     machine: HeaderMachine,
-    text: String,
+    /// The text of the headers. It stays as it is once they are whole: their values stand in it.
+    text: String<Memory>,
     headers: EntryMap,
-    /// The headers, once they are whole.
-    room: BookRoom,
 }
 
 impl Model for HeaderStage {
@@ -50,13 +62,12 @@ impl Model for HeaderStage {
     ghost use Rattle.std.specs.String.{string_capacity};
     ghost use Rattle.std.specs.Str.{chars};
     ghost use Rattle.gabc_headers.specs.witness.HeadEvents.{HeaderStageState};
-    ghost use Rattle.gabc_headers.specs.BookText.{shown_entries};
-    ghost use Rattle.gabc_headers.specs.machine.HeaderStage.{progress_in, IsStageIn};
+    ghost use Rattle.gabc_headers.specs.machine.HeaderStage.{book_in, progress_in, IsStageIn};
 
     ghost Value = { HeaderStageState };
 
     ghost view = { λ s.
-        let book = shown_entries (string_bytes s.room.text) s.room.entries.items in
+        let book = book_in s.part (string_bytes s.text) s.headers.items in
         record {
           limits = s.limits;
           progress = progress_in s.part (string_bytes s.text) book;
@@ -64,7 +75,7 @@ impl Model for HeaderStage {
         } };
 
     ghost invariant = { λ s. IsStageIn s.part s.limits (string_bytes s.text)
-        (string_capacity s.text) s.machine s.headers s.room };
+        (string_capacity s.text) s.machine s.headers };
 }
 
 /// Emits what is found, if something is.
@@ -117,15 +128,24 @@ impl HeaderStage {
     ) -> Result<HeaderStage, AllocError>
         ensures { IfOk result (λ stage. stage ≡ fresh_stage limits) }
     {
+        HeaderStage::in_memory(&Memory::with_capacity(alloc, 0)?, limits, hasher)
+    }
+
+    /// Returns a stage as `with_hasher` does, whose text lies in `memory`. It fails only for want of memory.
+    pub fn in_memory(
+        memory: &Memory,
+        limits: Limits,
+        hasher: DefaultHasher,
+    ) -> Result<HeaderStage, AllocError>
+        ensures { IfOk result (λ stage. stage ≡ fresh_stage limits) }
+    {
         let bytes = limits.header as usize;
-        let headers = bytes / 3 + 1;
         Ok(HeaderStage {
             limits,
             part: HeadPart::InHeaders,
             machine: HeaderMachine::new(limits.header),
-            text: String::with_capacity(alloc, bytes + 1)?,
-            headers: EntryMap::with_limit(alloc, headers, hasher)?,
-            room: BookRoom::with_limits(alloc, bytes, headers)?,
+            text: String::with_capacity(memory.share()?, bytes + 1)?,
+            headers: EntryMap::with_limit(memory.global(), bytes / 3 + 1, hasher)?,
         })
     }
 
@@ -137,7 +157,6 @@ impl HeaderStage {
         self.machine = HeaderMachine::new(self.limits.header);
         self.text.clear();
         self.headers.clear();
-        self.room.clear();
     }
 
     /// Emits that the text is stopped. Nothing follows.
@@ -146,7 +165,7 @@ impl HeaderStage {
         ensures state { self.new ≡ stage_at self.old over }
         ensures out { out.new ≡ extended_by out.old (Stop fault ∷ []) }
     {
-        self.part = HeadPart::Over;
+        self.part = self.part.over();
         out.push(HeadEvent::Stop(fault));
     }
 
@@ -182,9 +201,8 @@ impl HeaderStage {
                 let text = self.text.as_str();
                 match score_len(self.limits, text, &self.headers, place, open_line) {
                     Ok(size) => {
-                        self.headers.fill(text, &mut self.room);
                         self.part = HeadPart::Behind;
-                        emit_heads(&self.room.headers(), place, size, out);
+                        emit_heads(&Headers::of(text, &self.headers), place, size, out);
                     }
                     Err(fault) => self.stop(fault, out),
                 }
@@ -219,7 +237,7 @@ impl HeaderStage {
                 Ok(x) => out.push(HeadEvent::Body(x)),
                 Err(fault) => self.stop(fault, out),
             },
-            HeadPart::Over => {}
+            HeadPart::Stopped | HeadPart::Over => {}
         }
     }
 
@@ -239,9 +257,10 @@ impl HeaderStage {
                 out.push(HeadEvent::Stop(end_fault(place, open_line)));
             }
             HeadPart::Behind => out.push(HeadEvent::End),
+            HeadPart::Stopped => {}
             HeadPart::Over => {}
         }
-        self.part = HeadPart::Over;
+        self.part = self.part.over();
     }
 
     /// Returns the text of the headers as far as it is read, with its comments. From the headers' end on it returns `None`. Pushed into a fresh
@@ -254,7 +273,7 @@ impl HeaderStage {
         match self.part {
             HeadPart::InHeaders => Some(self.text.as_str()),
             HeadPart::Behind => None,
-            HeadPart::Over => None,
+            HeadPart::Stopped | HeadPart::Over => None,
         }
     }
 
@@ -262,7 +281,11 @@ impl HeaderStage {
     pub fn headers(&self) -> Headers<'_>
         ensures { result ≡ self.now.book }
     {
-        self.room.headers()
+        let text = self.text.as_str();
+        match self.part {
+            HeadPart::InHeaders | HeadPart::Stopped => Headers::none(text, &self.headers),
+            HeadPart::Behind | HeadPart::Over => Headers::of(text, &self.headers),
+        }
     }
 }
 

@@ -1,31 +1,33 @@
 //! The headers of a book, one after the other.
 
-ghost use Rattle.std.specs.Prelude.{◌≡◌, ◌<◌, None, Some, length, slice_get, MatchOption, IsSomeAnd};
+ghost use Rattle.std.specs.Prelude.{◌≡◌, ◌<◌, [], None, Some, MatchOption};
 ghost use Rattle.std.specs.Str.{chars};
 ghost use Rattle.gabc_headers.specs.Book.{lines_by, value_named, has_header, macro_name, nabc_lines_of, macros_of};
-ghost use Rattle.gabc_headers.specs.BookText.{AreEntries, shown_entries};
+ghost use Rattle.gabc_headers.specs.machine.EntryMap.{AreWithin, spelled_entries};
 
-use crate::book_room::Entry;
+use crate::entry_map::EntryMap;
 use crate::nabc_lines::NABC_LINES;
 use std::marker::Model;
 
 /// Goes over the names and values of a book, in order. Contracts see the list of those to come.
 #[derive(Drop)]
 pub struct Headers<'a> {
+    /// The text in which the values stand.
     text: &'a str,
-    /// Where those to come stand in the text.
-    entries: &'a [Entry],
+    headers: &'a EntryMap,
+    /// The index of the first to come.
+    first: usize,
 }
 
 impl<'a> Model for Headers<'a> {
-    ghost use Rattle.std.specs.Prelude.{ℕ, List};
-    ghost use Rattle.gabc_headers.specs.BookText.{AreEntries, shown_entries};
+    ghost use Rattle.std.specs.Prelude.{ℕ, List, drop};
+    ghost use Rattle.gabc_headers.specs.machine.EntryMap.{AreWithin, spelled_entries};
 
     ghost Value = { List (List ℕ × List ℕ) };
 
-    ghost view = { λ h. shown_entries h.text.now h.entries.now };
+    ghost view = { λ h. drop h.first (spelled_entries h.text.now h.headers.now.items) };
 
-    ghost invariant = { λ h. AreEntries h.text.now h.entries.now };
+    ghost invariant = { λ h. AreWithin h.text.now h.headers.now.items };
 }
 
 /// The name of a macro's header.
@@ -56,40 +58,27 @@ fn lines_in(value: &str) -> u8
 }
 
 impl<'a> Headers<'a> {
-    /// Returns an iterator over all these headers, names and values of `text`.
-    pub(crate) fn new(text: &'a str, entries: &'a [Entry]) -> Headers<'a>
-        requires { AreEntries text.now entries.now }
-        ensures { result ≡ shown_entries text.now entries.now }
+    /// All of these headers of a text.
+    pub(crate) fn of(text: &'a str, headers: &'a EntryMap) -> Headers<'a>
+        requires { AreWithin text.now headers.now.items }
+        ensures { result ≡ spelled_entries text.now headers.now.items }
     {
-        Headers { text, entries }
-    }
-
-    /// The number of headers to come.
-    fn len(&self) -> usize
-        ensures { result ≡ length self.now }
-    {
-        self.entries.len()
-    }
-
-    /// The name of the header at `index`, from 0 and below `len()`.
-    pub(crate) fn name(&self, index: usize) -> &'a str
-        requires { index < length self.now }
-        ensures { IsSomeAnd (slice_get self.now index) (λ entry. chars result.now ≡ entry.0) }
-    {
-        match self.entries.get(index) {
-            Some(entry) => &self.text[entry.name.from..entry.name.to],
-            None => "",
+        Headers {
+            text,
+            headers,
+            first: 0,
         }
     }
 
-    /// The value of the header at `index`, from 0 and below `len()`.
-    pub(crate) fn value(&self, index: usize) -> &'a str
-        requires { index < length self.now }
-        ensures { IsSomeAnd (slice_get self.now index) (λ entry. chars result.now ≡ entry.1) }
+    /// None of these headers.
+    pub(crate) fn none(text: &'a str, headers: &'a EntryMap) -> Headers<'a>
+        requires { AreWithin text.now headers.now.items }
+        ensures { result ≡ [] }
     {
-        match self.entries.get(index) {
-            Some(entry) => &self.text[entry.value.from..entry.value.to],
-            None => "",
+        Headers {
+            text,
+            headers,
+            first: headers.len(),
         }
     }
 
@@ -98,9 +87,9 @@ impl<'a> Headers<'a> {
         ensures { MatchOption result (value_named (chars name.now) self.now ≡ None)
             (λ v. value_named (chars name.now) self.now ≡ Some (chars v.now)) }
     {
-        for index in 0..self.len() {
-            if name == self.name(index) {
-                return Some(self.value(index));
+        for index in self.first..self.headers.len() {
+            if name == self.headers.name(index) {
+                return Some(self.headers.value_in(self.text, index));
             }
         }
         None
@@ -152,10 +141,12 @@ impl<'a> Iterator for Headers<'a> {
     ghost remaining = { λ ahead. at_most (length ahead) };
 
     fn next(&mut self) -> Option<(&'a str, &'a str)> {
-        let (first, rest) = self.entries.split_first()?;
-        self.entries = rest;
-        let name = &self.text[first.name.from..first.name.to];
-        let value = &self.text[first.value.from..first.value.to];
+        if self.first >= self.headers.len() {
+            return None;
+        }
+        let name = self.headers.name(self.first);
+        let value = self.headers.value_in(self.text, self.first);
+        self.first += 1;
         Some((name, value))
     }
 }

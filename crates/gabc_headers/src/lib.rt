@@ -15,7 +15,6 @@
 #![tactic(auto)]
 
 mod book;
-mod book_room;
 mod canonical;
 mod characters;
 mod collected;

@@ -6,6 +6,7 @@ ghost use Rattle.gabc_headers.specs.machine.EntryMap.{AreWithin, spelled_entries
 ghost use Rattle.gabc_headers.specs.Heads.{heads_of, findings_of};
 ghost use Rattle.gabc_headers.specs.machine.Collected.{heads_at_score};
 
+use crate::book::HeaderBook;
 use crate::collected::{Collected, collect};
 use crate::event_list::events_of_headers;
 use crate::events::HeaderEnding;
@@ -77,15 +78,15 @@ fn at_score(
         ≡ heads_at_score limits place body open_line
         (spelled_entries text.now collected.headers.items) collected.findings) }
 {
-    let size = match score_len(limits, text, &collected.headers, place, open_line) {
-        Ok(size) => size,
+    match score_len(limits, text, &collected.headers, place, open_line) {
+        Ok(_) => {}
         Err(fault) => return Ok(Err(head_fault(fault, collected.findings, false))),
-    };
+    }
     let Collected {
         headers,
         mut findings,
     } = collected;
-    let book = headers.book(alloc, text, size)?;
+    let book = HeaderBook::of(alloc, text, headers)?;
     if book.get("name").is_none() {
         findings.push(Finding {
             place,

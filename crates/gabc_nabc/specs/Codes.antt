@@ -11,9 +11,13 @@ use Rattle.gabc_nabc.specs.declared.descriptor.Descriptor.{Descriptor}
 abbrev pub code_at : List ℕ → ℕ → List GlyphCode
 code_at text i = if (i == 1) || (slice_index text (i - 2) == 33) then record { first = slice_index text (i - 1); second = slice_index text i } ∷ [] else []
 
--- the codes at all places of the text but the first, in order
+-- the codes at that place of the text and at those behind it, in order
+abbrev pub codes_from : List ℕ → ℕ → List GlyphCode
+codes_from text at = flat_map (code_at text) (range_with_len at (length text - at))
+
+-- the codes at all places of the text but the first
 abbrev pub codes_in : List ℕ → List GlyphCode
-codes_in text = flat_map (code_at text) (range_with_len 1 (length text - 1))
+codes_in text = codes_from text 1
 
 -- the codes of a part of a kept text: a space has none
 abbrev pub codes_of : List ℕ → Descriptor → List GlyphCode

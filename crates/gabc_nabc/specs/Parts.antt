@@ -35,10 +35,13 @@ placed_parts at (i ∷ is) =
     let to = at + length (encode_utf8_all i.1) in
     record { space = i.0; span = record { from = at; to = to } } ∷ placed_parts to is
 
--- the descriptors and spaces of a text, each the longest that begins at its place: of a snippet all, of another text as far as one
--- begins
+-- the descriptors and spaces of what is left of a text from that byte on, each the longest that begins at its place, as far as one begins
+abbrev pub parts_from : ℕ → List ℕ → List Descriptor
+parts_from at rest = placed_parts at (items nabc (chars rest))
+
+-- the descriptors and spaces of a text: of a snippet all
 abbrev pub parts_of : List ℕ → List Descriptor
-parts_of bytes = placed_parts 0 (items nabc (chars bytes))
+parts_of bytes = parts_from 0 bytes
 
 -- the parts lie in the text
 abbrev pub AreWithin : List ℕ → List Descriptor → Type 0

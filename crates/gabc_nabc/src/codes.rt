@@ -7,6 +7,7 @@ ghost use Rattle.gabc_nabc.specs.Codes.{code_at, codes_of};
 use crate::code::GlyphCode;
 use crate::descriptor::Descriptor;
 use gabc_places::Room;
+use std::marker::Model;
 
 /// Returns the code whose second letter is the byte `at` of `text`, from 1, if one stands there.
 fn code_ending(text: &[u8], at: usize) -> Option<GlyphCode>
@@ -24,22 +25,71 @@ fn code_ending(text: &[u8], at: usize) -> Option<GlyphCode>
     }
 }
 
-/// Adds to `out` the codes of the glyphs of `part`, in order: what stands at its start and behind each `!`. A space has none. The
-/// span of `part` has to lie within `kept`, as that of each part of `descriptors_whole` does, and `out` to take as many codes more
-/// as `part` has bytes.
+/// Goes over the codes of a descriptor's glyphs, in order. Contracts see the list of those to come.
+#[derive(Drop)]
+pub struct CodeReader<'a> {
+    /// The bytes of the descriptor.
+    text: &'a [u8],
+    /// Where the second letter of the next code may stand.
+    at: usize,
+}
+
+impl<'a> Model for CodeReader<'a> {
+    ghost use Rattle.std.specs.Prelude.{◌≤◌, List};
+    ghost use Rattle.gabc_nabc.specs.Codes.{codes_from};
+    ghost use Rattle.gabc_nabc.specs.declared.code.GlyphCode.{GlyphCode};
+
+    ghost Value = { List GlyphCode };
+
+    ghost view = { λ r. codes_from r.text.now r.at };
+
+    ghost invariant = { λ r. 1 ≤ r.at };
+}
+
+impl<'a> Iterator for CodeReader<'a> {
+    type Item = GlyphCode;
+
+    ghost use Rattle.std.specs.Iterator.{YieldsFirst, item_count};
+
+    ghost next_gives = { YieldsFirst (λ ahead. ahead) };
+
+    ghost remaining = { item_count (λ ahead. ahead) };
+
+    fn next(&mut self) -> Option<GlyphCode> {
+        for at in self.at..self.text.len() {
+            if let Some(code) = code_ending(self.text, at) {
+                self.at = at + 1;
+                return Some(code);
+            }
+        }
+        None
+    }
+}
+
+/// Returns an iterator over the codes of the glyphs of `part`, in order: what stands at its start and behind each `!`. A space has none.
+/// The span of `part` has to lie within `kept`, as that of each part of `parts_in` does. It asks for no memory.
+pub fn codes_in(kept: &str, part: Descriptor) -> CodeReader<'_>
+    requires order { part.span.from ≤ part.span.to }
+    requires within { part.span.to ≤ length kept.now }
+    ensures codes { result ≡ codes_of kept.now part }
+    ensures few { length (codes_of kept.now part) ≤ part.span.to - part.span.from }
+{
+    let text = match part.space {
+        true => &[],
+        false => &kept.as_bytes()[part.span.from..part.span.to],
+    };
+    CodeReader { text, at: 1 }
+}
+
+/// Adds to `out` the codes of the glyphs of `part`, as `codes_in` gives them. The span of `part` has to lie within `kept`, and `out` to
+/// take as many codes more as `part` has bytes.
 pub fn codes_into(kept: &str, part: Descriptor, out: &mut Room<GlyphCode>)
     requires order { part.span.from ≤ part.span.to }
     requires within { part.span.to ≤ length kept.now }
     requires room { Fits out.old (part.span.to - part.span.from) }
     ensures { out.new ≡ extended_by out.old (codes_of kept.now part) }
 {
-    if part.space {
-        return;
-    }
-    let text = &kept.as_bytes()[part.span.from..part.span.to];
-    for at in 1..text.len() {
-        if let Some(code) = code_ending(text, at) {
-            out.push(code);
-        }
+    for code in codes_in(kept, part) {
+        out.push(code);
     }
 }

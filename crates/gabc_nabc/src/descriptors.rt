@@ -1,8 +1,8 @@
 //! The descriptors and spaces of a kept text.
 
-ghost use Rattle.std.specs.Prelude.{◌≡◌, length, IfOk};
+ghost use Rattle.std.specs.Prelude.{◌≡◌, ◌≤◌, length, IfOk};
 ghost use Rattle.gabc_places.specs.BoundedList.{Fits, extended_by};
-ghost use Rattle.gabc_nabc.specs.Parts.{parts_of};
+ghost use Rattle.gabc_nabc.specs.Parts.{parts_of, AreWithin};
 ghost use Rattle.gabc_nabc.specs.machine.Parts.{first_part_of};
 
 use crate::class::class_of;
@@ -10,6 +10,7 @@ use crate::descriptor::{Descriptor, Descriptors};
 use crate::state::{DescriptorState, ends, goes_on};
 use gabc_places::{Room, Span};
 use std::alloc::{AllocError, Global};
+use std::marker::Model;
 
 /// Returns the longest part that begins `text`: whether it is a space, and how many bytes it has.
 fn first_part(text: &str) -> Option<(bool, usize)>
@@ -33,38 +34,77 @@ fn first_part(text: &str) -> Option<(bool, usize)>
     best
 }
 
-/// Returns the descriptors and spaces of `kept`, in order: spans that count its bytes, each part the longest that begins where the
-/// one before it ends. They are all of an NABC snippet, such as what `nabc_whole` keeps wherever the snippet ended; another text is
-/// read as far as a part begins. It fails only for want of memory.
+/// Goes over the descriptors and spaces of a kept text, in order. Contracts see the list of those to come.
+#[derive(Drop)]
+pub struct PartReader<'a> {
+    /// The text from the next part on.
+    rest: &'a str,
+    /// How many bytes of the kept text stand before it.
+    at: usize,
+}
+
+impl<'a> Model for PartReader<'a> {
+    ghost use Rattle.std.specs.Prelude.{◌+◌, ◌<◌, ◌^◌, List, length, IsUtf8};
+    ghost use Rattle.gabc_nabc.specs.Parts.{parts_from};
+    ghost use Rattle.gabc_nabc.specs.declared.descriptor.Descriptor.{Descriptor};
+
+    ghost Value = { List Descriptor };
+
+    ghost view = { λ r. parts_from r.at r.rest.now };
+
+    ghost invariant = { λ r. IsUtf8 r.rest.now × (r.at + length r.rest.now < 2 ^ 64) };
+}
+
+impl<'a> Iterator for PartReader<'a> {
+    type Item = Descriptor;
+
+    ghost use Rattle.std.specs.Iterator.{YieldsFirst, item_count};
+
+    ghost next_gives = { YieldsFirst (λ ahead. ahead) };
+
+    ghost remaining = { item_count (λ ahead. ahead) };
+
+    fn next(&mut self) -> Option<Descriptor> {
+        let (space, len) = first_part(self.rest)?;
+        let span = Span {
+            from: self.at,
+            to: self.at + len,
+        };
+        self.rest = &self.rest[len..];
+        self.at += len;
+        Some(Descriptor { space, span })
+    }
+}
+
+/// Returns an iterator over the descriptors and spaces of `kept`, in order: spans that count its bytes, each part the longest that begins
+/// where the one before it ends. They are all of an NABC snippet, such as what `nabc_whole` keeps wherever the snippet ended; another text
+/// is read as far as a part begins. It asks for no memory, and each part is read when it is asked for.
+pub fn parts_in(kept: &str) -> PartReader<'_>
+    ensures parts { result ≡ parts_of kept.now }
+    ensures within { AreWithin kept.now (parts_of kept.now) }
+    ensures few { length (parts_of kept.now) ≤ length kept.now }
+{
+    PartReader { rest: kept, at: 0 }
+}
+
+/// Returns the descriptors and spaces of `kept`, as `parts_in` gives them. It fails only for want of memory.
 pub fn descriptors_whole(alloc: Global, kept: &str) -> Result<Descriptors, AllocError>
     ensures { IfOk result (λ parts. parts ≡ parts_of kept.now) }
 {
     let mut parts = Descriptors::new(alloc);
-    let mut at = 0;
-    while let Some((space, len)) = first_part(&kept[at..]) {
-        let span = Span {
-            from: at,
-            to: at + len,
-        };
-        parts.push(Descriptor { space, span })?;
-        at += len;
+    for part in parts_in(kept) {
+        parts.push(part)?;
     }
     Ok(parts)
 }
 
-/// Adds to `out` the descriptors and spaces of `kept`, as `descriptors_whole` returns them, and asks for no memory. `out` has to
-/// take as many parts more as `kept` has bytes.
+/// Adds to `out` the descriptors and spaces of `kept`, as `parts_in` gives them, and asks for no memory. `out` has to take as many parts
+/// more as `kept` has bytes.
 pub fn descriptors_into(kept: &str, out: &mut Room<Descriptor>)
     requires { Fits out.old (length kept.now) }
     ensures { out.new ≡ extended_by out.old (parts_of kept.now) }
 {
-    let mut at = 0;
-    while let Some((space, len)) = first_part(&kept[at..]) {
-        let span = Span {
-            from: at,
-            to: at + len,
-        };
-        out.push(Descriptor { space, span });
-        at += len;
+    for part in parts_in(kept) {
+        out.push(part);
     }
 }

@@ -7,8 +7,8 @@
 //!
 //! - `nabc_whole` reads the snippet with which a text begins: its kept text, its findings and its end. `kept_chars` gives the
 //!   characters of that kept text with their places in the source.
-//! - `is_nabc` tells whether a text is an NABC snippet. `descriptors_whole` and `descriptors_into` read its descriptors and spaces,
-//!   and `codes_into` the codes of one of them. Spans count its bytes. `name_of` names a code.
+//! - `is_nabc` tells whether a text is an NABC snippet. `parts_in` goes over its descriptors and spaces, and `codes_in` over the codes of
+//!   one of them; `descriptors_whole`, `descriptors_into` and `codes_into` gather them. Spans count its bytes. `name_of` names a code.
 //! - `NabcStage` reads the characters of a snippet one at a time. Its `take_kept` is a short way for a character that is kept and
 //!   brings no finding: it needs no room for events. `NabcStage::in_comment` tells what matters of a stage beside the text that it kept
 //!   (`specs/Keeps.antt`).
@@ -26,9 +26,8 @@
 //!     let parts = descriptors_whole(alloc, &read.kept)?;
 //!     assert_eq!(rt; parts.as_slice(), [virga, pes].as_slice()); // `vi` and `pe`, from byte 2 to byte 4
 //! }
-//! codes_into("vipe", pes, &mut room);
 //! assert_eq!(rt;
-//!     room.slice().first().and_then(|code| code.name()),
+//!     codes_in("vipe", pes).next().and_then(|code| code.name()),
 //!     Some("pes")
 //! );
 //! let chars = kept_chars(alloc, body, Place::START)?;
@@ -52,9 +51,9 @@ mod whole;
 
 pub use chars::kept_chars;
 pub use code::GlyphCode;
-pub use codes::codes_into;
+pub use codes::{CodeReader, codes_in, codes_into};
 pub use descriptor::{Descriptor, Descriptors};
-pub use descriptors::{descriptors_into, descriptors_whole};
+pub use descriptors::{PartReader, descriptors_into, descriptors_whole, parts_in};
 pub use kept::is_nabc;
 pub use name::name_of;
 pub use stage::NabcStage;

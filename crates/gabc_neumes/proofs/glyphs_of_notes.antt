@@ -6,3 +6,4 @@ pub mod KindByStates
 pub mod LettersOfNotes
 pub mod MachineReadsNeumes
 pub mod OneNoteMore
+pub mod SearchOfGlyph

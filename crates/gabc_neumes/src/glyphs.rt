@@ -1,36 +1,100 @@
 //! The glyphs of a segment.
 
-ghost use Rattle.std.specs.Prelude.{◌≡◌, length, [], IfSome, IfNone};
+ghost use Rattle.std.specs.Prelude.{◌≡◌, ◌<◌, ◌+◌, ◌^◌, ◌∷◌, length, [], IfSome, IfNone, true, is_some};
+ghost use Rattle.std.specs.List.{take_while};
 ghost use Rattle.gabc_places.specs.BoundedList.{Fits, extended_by};
-ghost use Rattle.gabc_neumes.specs.Cut.{glyphs_of};
-ghost use Rattle.gabc_neumes.specs.machine.Glyphs.{IsFirstGlyph};
+ghost use Rattle.gabc_notes.specs.Items.{AreWithin};
+ghost use Rattle.gabc_neumes.specs.Cut.{glyphs_of, longest_glyph};
+ghost use Rattle.gabc_neumes.specs.Elements.{is_in_segment, notes_in};
+ghost use Rattle.gabc_neumes.specs.machine.Glyphs.{IsFirstGlyph, search_with};
 
 use crate::glyph::{Glyph, GlyphKind};
+use crate::runs::is_in_segment;
 use crate::state::{GlyphState, class_of, ends, goes_on};
-use gabc_notes::Note;
+use gabc_notes::{ItemReader, Note, note_of};
 use gabc_places::Room;
+
+/// A search for the longest glyph that begins some notes, which reads them one by one.
+#[derive(Clone, Copy)]
+struct GlyphSearch {
+    /// Where the notes that are read stand in a glyph.
+    state: GlyphState,
+    /// The height of the last of them.
+    before: Option<u8>,
+    /// How many they are.
+    read: usize,
+    /// The longest glyph that they begin with: its kind, and how many notes it has.
+    best: Option<(GlyphKind, usize)>,
+}
+
+impl GlyphSearch {
+    /// Before the first note.
+    const START: GlyphSearch = GlyphSearch {
+        state: GlyphState::Start,
+        before: None,
+        read: 0,
+        best: None,
+    };
+
+    /// Returns the search behind `note`, if a glyph may go on with it.
+    #[inline(always)]
+    fn with(self, note: Note) -> Option<GlyphSearch>
+        requires { self.read + 1 < 2 ^ 64 }
+        ensures { result ≡ search_with self note }
+    {
+        let state = goes_on(self.state, class_of(self.before, note))?;
+        let read = self.read + 1;
+        let best = match ends(state) {
+            Some(kind) => Some((kind, read)),
+            None => self.best,
+        };
+        Some(GlyphSearch {
+            state,
+            before: Some(note.height),
+            read,
+            best,
+        })
+    }
+}
 
 /// Returns the longest glyph that begins `notes`: its kind, and how many notes it has.
 fn first_glyph(notes: &[Note]) -> Option<(GlyphKind, usize)>
     ensures found { IfSome result (λ g. IsFirstGlyph notes.now g.0 g.1) }
     ensures none { IfNone result (notes.now ≡ []) }
 {
-    let mut best = None;
-    let mut state = GlyphState::Start;
-    let mut before = None;
-    for (i, note) in notes.iter().enumerate() {
-        match goes_on(state, class_of(before, *note)) {
-            Some(after) => {
-                state = after;
-                before = Some(note.height);
-                if let Some(kind) = ends(state) {
-                    best = Some((kind, i + 1));
-                }
-            }
-            None => return best,
+    let mut search = GlyphSearch::START;
+    for note in notes {
+        match search.with(*note) {
+            Some(after) => search = after,
+            None => return search.best,
         }
     }
-    best
+    search.best
+}
+
+/// Returns the first glyph of the notes of a segment from `first` on, which are `first` and those among the items of the segment that
+/// begin `behind`: the longest neume that begins there, as its kind, and how many notes it has. `behind` has to give items of `kept`,
+/// fewer than it has bytes, as `gabc_notes::items_in` does behind an item. It asks for no memory.
+pub fn glyph_from(kept: &str, first: Note, behind: &ItemReader<'_>) -> Option<(GlyphKind, usize)>
+    requires within { AreWithin kept.now behind.now }
+    requires few { length behind.now < length kept.now }
+    ensures glyph { let notes = first ∷ notes_in kept.now (take_while is_in_segment behind.now) in
+        result ≡ longest_glyph (length notes) notes }
+    ensures some { is_some result ≡ true }
+{
+    let mut search = GlyphSearch::START.with(first)?;
+    for item in behind.ahead() {
+        if !is_in_segment(item) {
+            return search.best;
+        }
+        if let Some(note) = note_of(kept, item) {
+            match search.with(note) {
+                Some(after) => search = after,
+                None => return search.best,
+            }
+        }
+    }
+    search.best
 }
 
 /// Adds to `out` the glyphs of a segment whose notes are `notes`, in order: each is the longest neume that begins where the one

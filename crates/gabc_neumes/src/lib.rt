@@ -7,7 +7,7 @@
 //!   `notes_into` adds the notes among the items of one. `is_in_element` and `is_in_segment` tell it of one item.
 //! - `kind_of` tells which neume some notes are, if they are one. The neumes are the rows of one table (`specs/Table.antt`), which
 //!   reads like the printed one. `cut` adds the glyphs of a segment: each is the longest neume that begins where the one before it
-//!   ends.
+//!   ends. `glyph_from` finds the one that begins with a note, and reads the items behind that note only as far as it has to.
 //! - A `GlyphKind` is printed as its word, such as `pes-subpunctis-resupinus`: those of its base and its tail (`word_of_base`,
 //!   `word_of_tail`). `word_of_shape` is the word of one note's shape.
 //! - `Alterations` follows a score, whose words and items it passes one by one. It tells the clef in force, and how a note sounds: its
@@ -48,7 +48,7 @@ mod words;
 
 pub use alterations::{Alterations, sign_of};
 pub use glyph::{Base, Glyph, GlyphKind, Tail};
-pub use glyphs::cut;
+pub use glyphs::{cut, glyph_from};
 pub use kind::kind_of;
 pub use notes::notes_into;
 pub use runs::{elements, is_in_element, is_in_segment, segments};

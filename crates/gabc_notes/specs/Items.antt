@@ -41,6 +41,10 @@ placed_items at (i ∷ is) =
     let to = at + length (encode_utf8_all i.1) in
     record { kind = i.0; span = record { from = at; to = to } } ∷ placed_items to is
 
--- the items of a text, each the longest that begins at its place: of a snippet all, of another text as far as an item begins
+-- the items of what is left of a text from that byte on, each the longest that begins at its place, as far as an item begins
+abbrev pub items_from : ℕ → List ℕ → List Item
+items_from at rest = placed_items at (items gabc (chars rest))
+
+-- the items of a text: of a snippet all
 abbrev pub items_of : List ℕ → List Item
-items_of bytes = placed_items 0 (items gabc (chars bytes))
+items_of bytes = items_from 0 bytes

@@ -14,6 +14,7 @@ use crate::item::{Item, ItemKind, Items};
 use crate::state::{ItemState, ends, goes_on};
 use gabc_places::{Room, Span};
 use std::alloc::{AllocError, Global};
+use std::marker::Model;
 
 /// Returns whether `byte` is one of the small pitches from `first` to `n`.
 fn is_pitch_from(first: u8, byte: u8) -> bool
@@ -35,6 +36,7 @@ fn begins_with_one_pitch(text: &[u8]) -> bool
 }
 
 /// Returns the longest item that begins `text`: its kind, and how many bytes it has. Many items are one pitch, so these are found first.
+#[inline(always)]
 fn first_item(text: &str) -> Option<(ItemKind, usize)>
     ensures found { IfSome result (λ i. IsFirstItem text.now i.0 i.1) }
     ensures none { IfNone result (longest_item gabc (chars text.now) ≡ None) }
@@ -42,10 +44,14 @@ fn first_item(text: &str) -> Option<(ItemKind, usize)>
     if begins_with_one_pitch(text.as_bytes()) {
         return Some((ItemKind::Note, 1));
     }
+    if text.is_empty() {
+        return None;
+    }
     item_read(text)
 }
 
 /// Returns the longest item that begins `text`, as `first_item` does, by reading it.
+#[inline(never)]
 fn item_read(text: &str) -> Option<(ItemKind, usize)>
     ensures found { IfSome result (λ i. IsFirstItem text.now i.0 i.1) }
     ensures none { IfNone result (longest_item gabc (chars text.now) ≡ None) }
@@ -68,43 +74,95 @@ fn item_read(text: &str) -> Option<(ItemKind, usize)>
     best
 }
 
-/// Returns the items of `kept`, in order: spans that count its bytes, each item the longest that begins where the one before it
-/// ends. They make up all of a snippet, as `is_snippet` tells it; what `snippet_whole` keeps is one wherever the snippet ended. Of
-/// another text they go as far as an item begins. It fails only for want of memory.
+/// Goes over the items of a kept text, in order. Contracts see the list of those to come.
+#[derive(Drop)]
+pub struct ItemReader<'a> {
+    /// The text from the next item on.
+    rest: &'a str,
+    /// How many bytes of the kept text stand before it.
+    at: usize,
+}
+
+impl<'a> Model for ItemReader<'a> {
+    ghost use Rattle.std.specs.Prelude.{◌+◌, ◌<◌, ◌^◌, List, length, IsUtf8};
+    ghost use Rattle.gabc_notes.specs.Items.{items_from};
+    ghost use Rattle.gabc_notes.specs.declared.item.Item.{Item};
+
+    ghost Value = { List Item };
+
+    ghost view = { λ r. items_from r.at r.rest.now };
+
+    ghost invariant = { λ r. IsUtf8 r.rest.now × (r.at + length r.rest.now < 2 ^ 64) };
+}
+
+impl<'a> ItemReader<'a> {
+    /// Returns an iterator over the same items, to look ahead.
+    pub fn ahead(&self) -> ItemReader<'a>
+        ensures { result ≡ self.now }
+    {
+        ItemReader {
+            rest: self.rest,
+            at: self.at,
+        }
+    }
+}
+
+impl<'a> Iterator for ItemReader<'a> {
+    type Item = Item;
+
+    ghost use Rattle.std.specs.Iterator.{YieldsFirst, item_count};
+
+    ghost next_gives = { YieldsFirst (λ ahead. ahead) };
+
+    ghost remaining = { item_count (λ ahead. ahead) };
+
+    #[inline(always)]
+    fn next(&mut self) -> Option<Item> {
+        let (kind, len) = first_item(self.rest)?;
+        let span = Span {
+            from: self.at,
+            to: self.at + len,
+        };
+        self.rest = &self.rest[len..];
+        self.at += len;
+        Some(Item { kind, span })
+    }
+}
+
+/// Returns an iterator over the items of `kept`, in order: spans that count its bytes, each item the longest that begins where the one
+/// before it ends. They make up all of a snippet, as `is_snippet` tells it; what `snippet_whole` keeps is one wherever the snippet ended.
+/// Of another text they go as far as an item begins. It asks for no memory, and each item is read when it is asked for.
+pub fn items_in(kept: &str) -> ItemReader<'_>
+    ensures items { result ≡ items_of kept.now }
+    ensures within { AreWithin kept.now (items_of kept.now) }
+    ensures few { length (items_of kept.now) ≤ length kept.now }
+{
+    ItemReader { rest: kept, at: 0 }
+}
+
+/// Returns the items of `kept`, as `items_in` gives them. It fails only for want of memory.
 pub fn items_whole(alloc: Global, kept: &str) -> Result<Items, AllocError>
     ensures items { IfOk result (λ items. items ≡ items_of kept.now) }
     ensures within { IfOk result (λ items. AreWithin kept.now items) }
     ensures few { IfOk result (λ items. length items ≤ length kept.now) }
 {
     let mut items = Items::new(alloc);
-    let mut at = 0;
-    while let Some((kind, len)) = first_item(&kept[at..]) {
-        let span = Span {
-            from: at,
-            to: at + len,
-        };
-        items.push(Item { kind, span })?;
-        at += len;
+    for item in items_in(kept) {
+        items.push(item)?;
     }
     Ok(items)
 }
 
-/// Adds to `out` the items of `kept`, as `items_whole` returns them, and asks for no memory. `out` has to take as many items more
-/// as `kept` has bytes.
+/// Adds to `out` the items of `kept`, as `items_in` gives them, and asks for no memory. `out` has to take as many items more as `kept`
+/// has bytes.
 pub fn items_into(kept: &str, out: &mut Room<Item>)
     requires { Fits out.old (length kept.now) }
     ensures items { out.new ≡ extended_by out.old (items_of kept.now) }
     ensures within { AreWithin kept.now (items_of kept.now) }
     ensures few { length (items_of kept.now) ≤ length kept.now }
 {
-    let mut at = 0;
-    while let Some((kind, len)) = first_item(&kept[at..]) {
-        let span = Span {
-            from: at,
-            to: at + len,
-        };
-        out.push(Item { kind, span });
-        at += len;
+    for item in items_in(kept) {
+        out.push(item);
     }
 }
 
@@ -118,17 +176,15 @@ fn is_note_or_clef(kind: ItemKind) -> bool
     }
 }
 
-/// Returns which comes first among the items of `kept`, as `items_whole` returns them: a note or a clef. Where neither is among them it
+/// Returns which comes first among the items of `kept`, as `items_in` gives them: a note or a clef. Where neither is among them it
 /// returns `None`. It asks for no memory.
 pub fn first_note_or_clef(kept: &str) -> Option<ItemKind>
     ensures { result ≡ first_of (items_of kept.now) }
 {
-    let mut at = 0;
-    while let Some((kind, len)) = first_item(&kept[at..]) {
-        if is_note_or_clef(kind) {
-            return Some(kind);
+    for item in items_in(kept) {
+        if is_note_or_clef(item.kind) {
+            return Some(item.kind);
         }
-        at += len;
     }
     None
 }

@@ -6,9 +6,9 @@
 //!
 //! - `snippet_whole` reads the snippet with which a text begins: its kept text, its findings and its end. `kept_chars` gives the
 //!   characters of that kept text with their places in the source.
-//! - `is_snippet` tells whether a text is a snippet. `items_whole` and `items_into` read a kept text as far as an item begins, a
-//!   snippet to its end, and `note_of` reads an item. `first_note_or_clef` tells which of the two comes first. Spans count bytes of the
-//!   kept text.
+//! - `is_snippet` tells whether a text is a snippet. `items_in` goes over the items of a kept text as far as an item begins, of a
+//!   snippet to its end; `items_whole` and `items_into` gather them. `note_of` reads an item. `first_note_or_clef` tells which of the
+//!   two comes first. Spans count bytes of the kept text.
 //! - `NoteStage` reads the characters of a snippet one at a time: it emits those that are kept, the findings, and the end. What it
 //!   emits is `note_events` of `specs/Events.antt`, a definition without states: what is emitted of a character depends on it and
 //!   on the characters before it. `NoteStage::take_kept` takes a character of which nothing but itself is emitted (no `)` and no
@@ -58,7 +58,7 @@ mod whole;
 
 pub use chars::{kept_chars, kept_chars_by};
 pub use item::{Item, ItemKind, Items};
-pub use items::{first_note_or_clef, items_into, items_whole};
+pub use items::{ItemReader, first_note_or_clef, items_in, items_into, items_whole};
 pub use kept::is_snippet;
 pub use note::{Note, Shape, height_of, note_of};
 pub use snippet_read::{SnippetEnding, SnippetRead};

@@ -6,6 +6,7 @@ pub mod CallsInTime
 pub mod ChainKeepsEvents
 pub mod EarliestIsLeast
 pub mod GatheredOfAText
+mod Lent
 pub mod LimitsAreNumbers
 pub mod NothingBehindAnEnd
 pub mod PlacesOfAText

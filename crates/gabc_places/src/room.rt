@@ -3,13 +3,14 @@
 ghost use Rattle.std.specs.Prelude.{◌≡◌, ℕ, ◌+◌, ◌-◌, ◌<◌, ◌≤◌, ◌==◌, List, [], ◌∷◌, ◌++◌, length, IfOk, IsTrue, ◌↔◌};
 ghost use Rattle.gabc_places.specs.BoundedList.{Fits, extended_by, room_left};
 
+use crate::memory::Memory;
 use std::alloc::{AllocError, Global};
 use std::marker::Model;
 
 /// A list of at most a stated number of items. Adding to it asks for no memory.
 #[derive(Debug, Drop)]
 pub struct Room<T: Copy> {
-    items: Vec<T>,
+    items: Vec<T, Memory>,
     limit: usize,
 }
 
@@ -29,7 +30,14 @@ impl<T: Copy> Room<T> {
     pub fn with_limit(alloc: Global, limit: usize) -> Result<Room<T>, AllocError>
         ensures { IfOk result (λ r. r ≡ record { items = []; limit = limit }) }
     {
-        let items = Vec::with_capacity(alloc, limit)?;
+        Room::in_memory(&Memory::with_capacity(alloc, 0)?, limit)
+    }
+
+    /// Returns an empty room for `limit` items, which are reserved in `memory`. It fails only for want of memory.
+    pub fn in_memory(memory: &Memory, limit: usize) -> Result<Room<T>, AllocError>
+        ensures { IfOk result (λ r. r ≡ record { items = []; limit = limit }) }
+    {
+        let items = Vec::with_capacity(memory.share()?, limit)?;
         Ok(Room { items, limit })
     }
 

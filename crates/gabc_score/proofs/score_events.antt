@@ -14,6 +14,7 @@ pub mod HeldIsText
 pub mod HeldScoreIsDefinition
 pub mod HeldSyllables
 pub mod HeldWithinLimits
+pub mod LastHasNoNotes
 pub mod MovedIsTold
 pub mod NoStopWhereInputsCease
 pub mod NothingBehindAStop

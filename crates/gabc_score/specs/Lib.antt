@@ -9,6 +9,7 @@ pub mod HeldAside
 pub mod HeldAgain
 pub mod Holding
 pub mod Marks
+pub mod NoNotes
 pub mod NoteBeforeClef
 pub mod Resumed
 pub mod ReadAgain

@@ -22,6 +22,7 @@ use Rattle.gabc_score.specs.ToldWithin.{AreCountsWithin, HoldsIfAny, TellsOfText
 use Rattle.gabc_score.specs.declared.syllable.Position.{Position}
 use Rattle.gabc_score.specs.ScoreEvents.{first_place, ScoreOutput, Found, Stop, Syllable, End, is_last, syllables_in}
 use Rattle.gabc_score.specs.Canonical.{canonical_in_place}
+use Rattle.gabc_score.specs.NoNotes.{OnlyFirstHasNotes}
 use Rattle.gabc_score.specs.Syllable.{UnplacedSyllable, PlacedSyllable}
 use Rattle.std.specs.List.{All, list_any}
 use Rattle.gabc_score.specs.witness.ScoreStage.{ScoreStageState, left_of}
@@ -52,9 +53,10 @@ pub record IsWithin (limits : Limits) (s : PlacedSyllable) : Type 0 where
 abbrev pub IsWithinAnywhere : Limits → UnplacedSyllable → Type 0
 IsWithinAnywhere limits m = (position : Position) → IsWithin limits (record { made = m; position = position })
 
--- so many syllables at most are lent, and they are within the limits
+-- So many syllables at most are lent, and they are within the limits. Those behind the first have no notes.
 pub record Lends (limits : Limits) (most : ℕ) (outputs : List ScoreOutput) : Type 0 where
   pub few : length (syllables_in outputs) ≤ most
+  pub later : OnlyFirstHasNotes (syllables_in outputs)
   pub within : All (IsWithin limits) (syllables_in outputs)
 
 -- how many syllables an input may bring

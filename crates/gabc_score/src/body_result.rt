@@ -8,8 +8,8 @@ ghost use Rattle.gabc_score.specs.machine.Collected.{result_past, result_with};
 use crate::score_event::{LentSyllable, ScoreEvent};
 use crate::slot_pair::SlotPair;
 use crate::syllables::Syllables;
-use gabc_places::{Fault, Findings, Room};
-use std::alloc::{AllocError, Global};
+use gabc_places::{Fault, Findings, Memory, Room};
+use std::alloc::AllocError;
 
 /// What the body of a score says: its whole syllables, what was found, and what stopped the reading.
 #[derive(Drop)]
@@ -20,8 +20,8 @@ pub(crate) struct BodyResult {
 }
 
 impl BodyResult {
-    /// Adds what is given.
-    fn add(&mut self, alloc: Global, pair: &SlotPair, event: ScoreEvent) -> Result<(), AllocError>
+    /// Adds what is given. Copies lie in `memory`.
+    fn add(&mut self, memory: &Memory, pair: &SlotPair, event: ScoreEvent) -> Result<(), AllocError>
         ensures { OnOk result
             (self.new ≡ result_past pair.now.first pair.now.second self.old event) }
     {
@@ -33,20 +33,20 @@ impl BodyResult {
                 }
             }
             ScoreEvent::Syllable(LentSyllable::First) => {
-                self.syllables.push(pair.first().copy(alloc)?)?
+                self.syllables.push(pair.first().copy(memory)?)?
             }
             ScoreEvent::Syllable(LentSyllable::Second) => {
-                self.syllables.push(pair.second().copy(alloc)?)?
+                self.syllables.push(pair.second().copy(memory)?)?
             }
             ScoreEvent::End => {}
         }
         Ok(())
     }
 
-    /// Adds all that was given with an input. Nothing stays in the room.
+    /// Adds all that was given with an input. Copies lie in `memory`, and nothing stays in the room.
     pub(crate) fn add_all(
         &mut self,
-        alloc: Global,
+        memory: &Memory,
         pair: &SlotPair,
         out: &mut Room<ScoreEvent>,
     ) -> Result<(), AllocError>
@@ -57,7 +57,7 @@ impl BodyResult {
         ensures room { OnOk result (out.new ≡ record out.old { items = [] }) }
     {
         for event in out.slice() {
-            self.add(alloc, pair, *event)?;
+            self.add(memory, pair, *event)?;
         }
         out.clear();
         Ok(())

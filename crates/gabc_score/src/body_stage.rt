@@ -32,10 +32,10 @@ use crate::part_pushes::{finish_part, push_gabc, push_nabc, push_text};
 use crate::slot_pair::{SlotPair, SlotUse};
 use gabc_nabc::NabcStage;
 use gabc_notes::{NoteEnd, NoteEvent, NoteStage};
-use gabc_places::{Char, Finding, Place, Room, Stage};
+use gabc_places::{Char, Finding, Memory, Place, Room, Stage};
 use gabc_text::laws::a_fresh_stage_emits_the_events_by_point;
 use gabc_text::{TextEnd, TextEvent, TextPart, TextStage};
-use std::alloc::{AllocError, Global};
+use std::alloc::AllocError;
 use std::marker::Model;
 
 /// The part of a body that the next character stands in. The notes know the place of their `(`.
@@ -118,8 +118,8 @@ fn text_behind(mark: Place) -> BodyPart
 impl BodyStage {
     /// Returns a stage before the first character of a body, behind the `%%` of the headers. `nabc_lines` is the number of NABC lines
     /// under each GABC snippet, and the bit `d` of `macros` tells that the macro of the digit `d` is defined. It tells what the
-    /// definition says of each body in which no count reaches its last value.
-    pub fn new(alloc: Global, nabc_lines: u8, macros: u16) -> Result<BodyStage, AllocError>
+    /// definition says of each body in which no count reaches its last value. Its rooms lie in `memory`.
+    pub fn new(memory: &Memory, nabc_lines: u8, macros: u16) -> Result<BodyStage, AllocError>
         ensures run { IfOk result (λ stage. (xs : List Char) →
             events_left stage xs ≡ events_from texts_by_stage nabc_lines macros InComment xs) }
         ensures open { IfOk result (λ stage. stage.over ≡ false) }
@@ -130,8 +130,8 @@ impl BodyStage {
     {
         // Its clause says where the machine over a text emits what the definition says.
         a_fresh_stage_emits_the_events_by_point();
-        let texts = Room::with_limit(alloc, 8)?;
-        let notes = Room::with_limit(alloc, 3)?;
+        let texts = Room::in_memory(memory, 8)?;
+        let notes = Room::in_memory(memory, 3)?;
         Ok(BodyStage {
             nabc_lines,
             macros,

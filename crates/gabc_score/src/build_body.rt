@@ -18,12 +18,12 @@ use crate::score_event::ScoreEvent;
 use crate::score_machine::ScoreMachine;
 use crate::syllables::Syllables;
 use gabc_headers::HeadEvent;
-use gabc_places::{Char, Limits, Room};
-use std::alloc::{AllocError, Global};
+use gabc_places::{Char, Limits, Memory, Room};
+use std::alloc::AllocError;
 
-/// Reads a body to its end or the first fault, by a new stage.
+/// Reads a body to its end or the first fault, by a new stage. Most of what it takes lies in `memory`.
 pub(crate) fn build_body(
-    alloc: Global,
+    memory: &Memory,
     stage: BodyStage,
     body: &str,
     start: BodyContext,
@@ -39,21 +39,21 @@ pub(crate) fn build_body(
         (with_first_each [] xs (running_events_left stage xs))) }
 {
     let BodyContext { at, head, findings } = start;
-    let mut machine = ScoreMachine::in_body(alloc, limits, stage, at, head)?;
-    let mut out = Room::with_limit(alloc, 16)?;
+    let mut machine = ScoreMachine::in_body(memory, limits, stage, at, head)?;
+    let mut out = Room::in_memory(memory, 16)?;
     let mut result = BodyResult {
-        syllables: Syllables::new(alloc),
+        syllables: Syllables::new(memory.global()),
         findings,
         fault: None,
     };
     let mut place = at;
     for c in body.chars() {
         machine.push(HeadEvent::Body(Char { c, place }), &mut out);
-        result.add_all(alloc, &machine.pair, &mut out)?;
+        result.add_all(memory, &machine.pair, &mut out)?;
         place = place.after(c);
     }
     end_machine(&mut machine, ending, &mut out);
-    result.add_all(alloc, &machine.pair, &mut out)?;
+    result.add_all(memory, &machine.pair, &mut out)?;
     Ok(result)
 }
 

@@ -28,9 +28,9 @@ use crate::score_stage::ScoreStage;
 use crate::slot_pair::SlotPair;
 use crate::stage_laws::a_text_is_read_from_its_beginning;
 use gabc_notes::ItemKind;
-use gabc_places::{Char, Limits, Place, Room, Severity};
+use gabc_places::{Char, Limits, Memory, Place, Room, Severity};
 use gabc_text::TextStage;
-use std::alloc::{AllocError, Global};
+use std::alloc::AllocError;
 
 /// Returns which came first, a note or a clef, where one has come: what was found of it counts no more.
 fn first_sounded(sounded: bool) -> Option<ItemKind>
@@ -80,18 +80,18 @@ impl BodyStage {
 }
 
 impl ScoreMachine {
-    /// Returns a machine in the body, behind the syllables of which `before` tells, and reserves the memory that it ever takes.
-    fn resume(alloc: Global, limits: Limits, before: Before) -> Result<ScoreMachine, AllocError>
+    /// Returns a machine in the body, behind the syllables of which `before` tells, and reserves in `memory` what it ever takes.
+    fn resume(memory: &Memory, limits: Limits, before: Before) -> Result<ScoreMachine, AllocError>
         requires { IsAtOutset (preceding_of before) }
         ensures stands { IfOk result (λ m. StandsBehind limits before (shown m)) }
         ensures rests { IfOk result (λ m. IsScore m) }
     {
-        let mut body = BodyStage::new(alloc, 0, 0)?;
+        let mut body = BodyStage::new(memory, 0, 0)?;
         body.restart(before.nabc_lines, before.macros);
         body.begin_text(Place::START);
-        let mut pair = SlotPair::with_limit(alloc, limits.syllable as usize)?;
+        let mut pair = SlotPair::with_limit(memory, limits.syllable as usize)?;
         pair.follow(before);
-        let found = Room::with_limit(alloc, 9)?;
+        let found = Room::in_memory(memory, 9)?;
         let preceding = before.preceding();
         Ok(ScoreMachine {
             limits,
@@ -224,15 +224,15 @@ impl ScoreMachine {
 
 impl ScoreStage {
     /// Returns a stage in the body that stands behind the syllables of which `before` tells, and reserves the memory that it ever takes, as
-    /// `with_limits` does. It holds no syllable, and the next character is the first of a text. `before` is what another stage under the same
+    /// `in_memory` does. It holds no syllable, and the next character is the first of a text. `before` is what another stage under the same
     /// limits told of what stands before the syllable that it held: where no syllable does, no span is open and nothing has sounded. `go_to` says
     /// where the next character stands. It fails only for want of memory.
-    pub fn resume(alloc: Global, limits: Limits, before: Before) -> Result<ScoreStage, AllocError>
+    pub fn resume(memory: &Memory, limits: Limits, before: Before) -> Result<ScoreStage, AllocError>
         requires { IsAtOutset (preceding_of before) }
         ensures { IfOk result (λ stage. StandsBehind limits before stage) }
     {
         Ok(ScoreStage {
-            machine: ScoreMachine::resume(alloc, limits, before)?,
+            machine: ScoreMachine::resume(memory, limits, before)?,
         })
     }
 

@@ -29,8 +29,8 @@ use crate::score_event::ScoreEvent;
 use crate::slot_pair::{SlotPair, SlotUse};
 use crate::syllable::Syllable;
 use gabc_headers::HeadEvent;
-use gabc_places::{Char, Fault, Finding, Limits, Place, Room, is_printable};
-use std::alloc::{AllocError, Global};
+use gabc_places::{Char, Fault, Finding, Limits, Memory, Place, Room, is_printable};
+use std::alloc::AllocError;
 
 /// Where a machine stands: before the body, in it, or behind its last event.
 #[derive(Clone, Copy)]
@@ -67,10 +67,10 @@ fn columns_within(column: u64, count: usize) -> usize
 }
 
 impl ScoreMachine {
-    /// Reserves the memory that the reading of a body ever takes, whose first character stands at `at`. Its canonical headers
+    /// Reserves in `memory` what the reading of a body ever takes, whose first character stands at `at`. Its canonical headers
     /// have `head` bytes, and `body` is a new stage.
     pub(crate) fn in_body(
-        alloc: Global,
+        memory: &Memory,
         limits: Limits,
         body: BodyStage,
         at: Place,
@@ -83,9 +83,9 @@ impl ScoreMachine {
         ensures rests { IfOk result (λ m. IsScore m) }
         ensures head { head < 2 ^ 64 }
     {
-        let mut pair = SlotPair::with_limit(alloc, limits.syllable as usize)?;
+        let mut pair = SlotPair::with_limit(memory, limits.syllable as usize)?;
         pair.start(head);
-        let found = Room::with_limit(alloc, 9)?;
+        let found = Room::in_memory(memory, 9)?;
         let bounds = Bounds::behind_headers(head);
         Ok(ScoreMachine {
             limits,

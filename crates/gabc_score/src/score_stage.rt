@@ -21,7 +21,7 @@ use crate::score_machine::{ScoreMachine, ScorePart};
 use crate::slot_pair::SlotPair;
 use crate::syllable::Syllable;
 use gabc_headers::HeadEvent;
-use gabc_places::{Limits, Place, Room, Stage};
+use gabc_places::{Limits, Memory, Place, Room, Stage};
 use std::alloc::{AllocError, Global};
 use std::marker::Model;
 
@@ -53,9 +53,19 @@ impl ScoreStage {
         ensures limits { IfOk result (λ stage. stage.limits ≡ limits) }
         ensures part { IfOk result (λ stage. stage.part ≡ ScorePart.Heads) }
     {
-        let body = BodyStage::new(alloc, 0, 0)?;
-        let pair = SlotPair::with_limit(alloc, limits.syllable as usize)?;
-        let found = Room::with_limit(alloc, 9)?;
+        ScoreStage::in_memory(&Memory::with_capacity(alloc, 0)?, limits)
+    }
+
+    /// Returns a stage as `with_limits` does, most of whose memory is reserved in `memory`.
+    pub fn in_memory(memory: &Memory, limits: Limits) -> Result<ScoreStage, AllocError>
+        ensures outputs { IfOk result (λ stage. (xs : List HeadEvent) → AreCountsBelow xs →
+            left_of stage xs ≡ score_outputs texts_by_stage limits xs) }
+        ensures limits { IfOk result (λ stage. stage.limits ≡ limits) }
+        ensures part { IfOk result (λ stage. stage.part ≡ ScorePart.Heads) }
+    {
+        let body = BodyStage::new(memory, 0, 0)?;
+        let pair = SlotPair::with_limit(memory, limits.syllable as usize)?;
+        let found = Room::in_memory(memory, 9)?;
         let bounds = Bounds::behind_headers(0);
         Ok(ScoreStage {
             machine: ScoreMachine {

@@ -4,9 +4,9 @@ use crate::slice::slice_of;
 use crate::snippets::{Snippet, Snippets};
 use crate::syllable::{Position, Syllable};
 use gabc_notes::{ItemKind, first_note_or_clef};
-use gabc_places::Span;
+use gabc_places::{Memory, Span};
 use gabc_text::{TextPart, TextView};
-use std::alloc::{AllocError, Global};
+use std::alloc::AllocError;
 use std::marker::Model;
 
 /// A syllable that is being read, or was read. Its memory is reserved: so many bytes as a syllable may have, and what one
@@ -40,8 +40,8 @@ impl Slot {
     ghost use Rattle.gabc_score.specs.machine.Slot.{placed_in, made_in, FitsKept, FitsPiece, FitsSnippet};
     ghost use Rattle.gabc_score.specs.machine.SyllableBuilder.{nothing_open, with_kept, past_mark, past_text, past_snippet};
 
-    /// Returns a slot in which nothing was read, and reserves room for a syllable of `limit` bytes.
-    pub(crate) fn with_limit(alloc: Global, limit: usize) -> Result<Slot, AllocError>
+    /// Returns a slot in which nothing was read, and reserves room for a syllable of `limit` bytes. Its kept text lies in `memory`.
+    pub(crate) fn with_limit(memory: &Memory, limit: usize) -> Result<Slot, AllocError>
         requires { limit < 2 ^ 32 }
         ensures reading { IfOk result (λ slot. slot.reading ≡ nothing_open) }
         ensures limit { IfOk result (λ slot. slot.limit ≡ limit) }
@@ -49,9 +49,9 @@ impl Slot {
         let room = limit + 32;
         Ok(Slot {
             syllable: Syllable {
-                text: TextView::with_capacity(alloc, room)?,
-                kept: String::with_capacity(alloc, room)?,
-                snippets: Snippets::with_capacity(alloc, room)?,
+                text: TextView::with_capacity(memory.global(), room)?,
+                kept: String::with_capacity(memory.share()?, room)?,
+                snippets: Snippets::with_capacity(memory.global(), room)?,
                 position: Position::One,
                 eu: false,
                 nlba: false,
@@ -210,7 +210,7 @@ ghost use Rattle.std.specs.String.{string_capacity};
 ghost use Rattle.gabc_score.specs.Syllable.{prefix_of};
 
 /// Cuts a text to its first bytes, if a character ends there.
-fn cut_text(kept: &mut String, to: usize)
+fn cut_text(kept: &mut String<Memory>, to: usize)
     ensures bytes { string_bytes kept.new ≡ prefix_of to (string_bytes kept.old) }
     ensures capacity { string_capacity kept.new ≡ string_capacity kept.old }
 {

@@ -8,9 +8,9 @@ use crate::canonical::canonical_len;
 use crate::slot::Slot;
 use crate::syllables::position_by;
 use gabc_notes::{ItemKind, NoteEnd, NoteEvent};
-use gabc_places::{Code, Fault, Limits, Place, Span};
+use gabc_places::{Code, Fault, Limits, Memory, Place, Span};
 use gabc_text::{Piece, PieceKind, TextEnd, TextEvent, TextPart, TextView};
-use std::alloc::{AllocError, Global};
+use std::alloc::AllocError;
 use std::marker::Model;
 use std::mem::swap;
 
@@ -30,10 +30,10 @@ pub(crate) enum SlotUse {
 pub(crate) struct SlotPair {
     /// The most bytes that a syllable may have.
     limit: usize,
-    pub(crate) reader: Box<Slot>,
+    pub(crate) reader: Box<Slot, Memory>,
     pub(crate) used: SlotUse,
     /// The last whole syllable, if it is held.
-    pub(crate) holder: Box<Slot>,
+    pub(crate) holder: Box<Slot, Memory>,
     pub(crate) held: bool,
     /// Whether a syllable stands before the one that is read.
     pub(crate) follows: bool,
@@ -50,13 +50,13 @@ pub(crate) struct SlotPair {
     pub(crate) first_kind: Option<ItemKind>,
 }
 
-/// Returns a slot with room for a syllable of `limit` bytes, in memory of its own.
-fn boxed(alloc: Global, limit: usize) -> Result<Box<Slot>, AllocError>
+/// Returns a slot with room for a syllable of `limit` bytes, in `memory`.
+fn boxed(memory: &Memory, limit: usize) -> Result<Box<Slot, Memory>, AllocError>
     requires { limit < 2 ^ 32 }
     ensures reading { IfOk result (λ slot. slot.value.reading ≡ nothing_open) }
     ensures limit { IfOk result (λ slot. slot.value.limit ≡ limit) }
 {
-    match Box::new(alloc, Slot::with_limit(alloc, limit)?) {
+    match Box::new(memory.share()?, Slot::with_limit(memory, limit)?) {
         Ok(slot) => Ok(slot),
         Err(_) => Err(AllocError),
     }
@@ -100,17 +100,17 @@ impl SlotPair {
     ghost use Rattle.gabc_score.specs.machine.Slot.{FitsText, FitsNote, FitsKept, FitsPiece, FitsSnippet};
     ghost use Rattle.gabc_score.specs.machine.SlotPair.{is_made, used_past, lent_syllables};
 
-    /// Returns two slots in which nothing was read, and reserves room for syllables of `limit` bytes.
-    pub(crate) fn with_limit(alloc: Global, limit: usize) -> Result<SlotPair, AllocError>
+    /// Returns two slots in which nothing was read, and reserves room for syllables of `limit` bytes in `memory`.
+    pub(crate) fn with_limit(memory: &Memory, limit: usize) -> Result<SlotPair, AllocError>
         requires { limit < 2 ^ 32 }
         ensures gathered { IfOk result (λ pair. pair.gathered ≡ nothing_gathered limit 0) }
         ensures used { IfOk result (λ pair. pair.used ≡ SlotUse.Filling) }
     {
         Ok(SlotPair {
             limit,
-            reader: boxed(alloc, limit)?,
+            reader: boxed(memory, limit)?,
             used: SlotUse::Filling,
-            holder: boxed(alloc, limit)?,
+            holder: boxed(memory, limit)?,
             held: false,
             follows: false,
             eu: false,

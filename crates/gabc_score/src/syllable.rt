@@ -3,9 +3,9 @@
 use crate::canonical::canonical_len;
 use crate::slice::{slice_of, text_of};
 use crate::snippets::Snippets;
-use gabc_places::Span;
+use gabc_places::{Memory, Span};
 use gabc_text::TextView;
-use std::alloc::{AllocError, Global};
+use std::alloc::AllocError;
 
 /// Where in its word a syllable stands. A syllable begins a word if blanks stand before its text (GregorioRef, "Syllable Text
 /// Syntax"); the first one of a score does, and behind the last one a word would begin.
@@ -42,7 +42,7 @@ pub struct Syllable {
     /// What its text says.
     pub text: TextView,
     /// The text from the blanks before it to its `)`, without comments and what was left out. Spans count its bytes.
-    pub kept: String,
+    pub kept: String<Memory>,
     /// Its snippets, in order.
     pub snippets: Snippets,
     /// Where in its word it stands.
@@ -79,14 +79,14 @@ impl Syllable {
         self.position.starts_word()
     }
 
-    /// A syllable that says the same, in memory of its own.
-    pub(crate) fn copy(&self, alloc: Global) -> Result<Syllable, AllocError>
+    /// A syllable that says the same, whose kept text lies in `memory`.
+    pub(crate) fn copy(&self, memory: &Memory) -> Result<Syllable, AllocError>
         ensures { IfOk result (λ syllable. placed_of syllable ≡ placed_of self.now) }
     {
         Ok(Syllable {
-            text: self.text.copy(alloc)?,
-            kept: String::from_str(alloc, self.kept.as_str())?,
-            snippets: Snippets::from_slice(alloc, self.snippets.as_slice())?,
+            text: self.text.copy(memory.global())?,
+            kept: String::from_str(memory.share()?, self.kept.as_str())?,
+            snippets: Snippets::from_slice(memory.global(), self.snippets.as_slice())?,
             position: self.position,
             eu: self.eu,
             nlba: self.nlba,

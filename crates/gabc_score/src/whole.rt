@@ -14,7 +14,7 @@ use crate::ending::InputEnding;
 use crate::score::Score;
 use crate::syllables::Syllables;
 use gabc_headers::{HeadFault, Heads, headers_whole_with_hasher};
-use gabc_places::{Fault, Limits, Place, Text};
+use gabc_places::{Fault, Limits, Memory, Place, Text};
 use std::alloc::{AllocError, Global};
 use std::hash::DefaultHasher;
 
@@ -104,7 +104,8 @@ fn score_behind(
         findings,
     } = heads;
     let (prefix, behind) = text.as_str().split_at(body);
-    let stage = BodyStage::new(alloc, book.nabc_lines(), book.macros())?;
+    let memory = Memory::with_capacity(alloc, 0)?;
+    let stage = BodyStage::new(&memory, book.nabc_lines(), book.macros())?;
     let start = BodyContext {
         at: place_past(prefix),
         head: book.canonical_len(),
@@ -114,7 +115,7 @@ fn score_behind(
         syllables,
         findings,
         fault,
-    } = build_body(alloc, stage, behind, start, limits, ending)?;
+    } = build_body(&memory, stage, behind, start, limits, ending)?;
     Ok(Score {
         book: Some(book),
         syllables,

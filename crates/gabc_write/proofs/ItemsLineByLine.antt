@@ -1,24 +1,24 @@
 -- The lines of a snippet's items, put one item at a time.
-use Rattle.std.proofs.Common.{◌≡◌, ℕ, zero, suc, ◌+◌, ◌-◌, ◌≤◌, ◌<◌, ◌==◌, ◌&&◌, List, [], ◌∷◌, ◌++◌, Bool, true, false, not, cond, Option, Some, None, refl, sym, ap, ◌∙◌, subst, length, drop, take, reverse, slice_range, get_or, map, add-one, arith, append_assoc, append-nil, length-append, length-drop, drop-drop, ne_eqb, eqb-true, codes, if◌then◌else◌}
-use Rattle.std.specs.List.{take_while, cons_option}
-use Rattle.std.proofs.lemmas.List.{reverse-append, map-append, take_more, take_all}
-use Rattle.std.proofs.Math.Seq.{drop-cons}
+use Rattle.std.proofs.Common.{◌≡◌, ℕ, zero, suc, ◌+◌, ◌-◌, ◌≤◌, ◌<◌, ◌==◌, ◌&&◌, List, [], ◌∷◌, ◌++◌, Bool, true, false, not, cond, Option, Some, None, refl, sym, ap, ◌∙◌, subst, length, drop, take, reverse, map, arith, append_assoc, append-nil, length-append, ne_eqb, codes, if◌then◌else◌}
+use Rattle.std.specs.List.{take_while}
+use Rattle.std.proofs.lemmas.List.{reverse-append, reverse-reverse, map-append}
 use Rattle.std.proofs.lemmas.List.Elements.{filter_map-append}
 use Rattle.std.proofs.lemmas.List.Sums.{take_while-cons}
-use Rattle.gabc_places.specs.declared.place.Span.{Span}
-use Rattle.gabc_notes.specs.Notes.{note_by, note_in}
+use Rattle.gabc_notes.specs.Items.{bytes_of}
+use Rattle.gabc_notes.specs.Notes.{note_in}
 use Rattle.gabc_notes.specs.declared.item.Item.{Item}
-use Rattle.gabc_notes.specs.declared.item.ItemKind.{ItemKind}
-use Rattle.gabc_notes.specs.declared.item.ItemKind.TheVariants as kind
 use Rattle.gabc_notes.specs.declared.note.Note.{Note}
 use Rattle.gabc_neumes.specs.Cut.{kind_by, longest_glyph, glyphs_within, glyphs_of}
-use Rattle.gabc_neumes.specs.Elements.{is_in_element, is_in_segment, joins_segment, notes_in}
+use Rattle.gabc_neumes.specs.Elements.{is_in_element, is_in_segment, notes_in}
+use Rattle.gabc_neumes.specs.Glyphs.{HasKind, AreGlyphsOf, read_as}
 use Rattle.gabc_neumes.specs.InForce.{InForce, ScoreStep, step_of, in_force_behind, passed}
 use Rattle.gabc_neumes.specs.declared.glyph.Glyph.{Glyph}
 use Rattle.gabc_neumes.specs.declared.glyph.GlyphKind.{GlyphKind}
+use Rattle.gabc_patterns.specs.LongestItems.{IsReadingBy}
 use Rattle.gabc_write.specs.DumpOfNotes.{is_behind_element, element_line, line_of_glyph, line_of_glyph_at, notes_before, notes_behind, is_note, glyph_line, line_of_item, in_force_at, lines_behind}
-use Rattle.gabc_write.specs.machine.NoteLines.{glyphs_from, begins_at, line_of_next, lines_at, more_if, place_behind}
+use Rattle.gabc_write.specs.machine.NoteLines.{glyph_at, line_of_next, left_after, lines_at, place_behind}
 use Rattle.gabc_write.specs.declared.dump_notes.ItemPlace.{ItemPlace}
+use Rattle.gabc_write.proofs.dump_is_short.LinesOfItems.{Kinds, kinds, outside, inside, a_note}
 
 -- ---- glyphs in their order
 
@@ -31,26 +31,24 @@ ascends_below : (low high : ℕ) (gs : List Glyph) → low ≤ high → Ascends 
 ascends_below low high [] l h = tt
 ascends_below low high (g ∷ gs) l h = (let a = h.0 in omega arith, h.1)
 
-longest_some : (n : ℕ) (ns : List Note) (g : GlyphKind × ℕ) → longest_glyph n ns ≡ Some g → 0 < g.1
-longest_some zero ns g e = absurd (cc)
-longest_some (suc n) ns g e = go (kind_by (take (suc n) ns)) e (λ f. longest_some n ns g f)
+-- the longest glyph has a note, and no more than there are
+pub longest_fits : (n : ℕ) (ns : List Note) (g : GlyphKind × ℕ) → longest_glyph n ns ≡ Some g → (0 < g.1) × (g.1 ≤ n)
+longest_fits zero ns g e = absurd (cc)
+longest_fits (suc n) ns g e = go (kind_by (take (suc n) ns)) e (λ f. longest_fits n ns g f)
   where
     go : (o : Option GlyphKind) → (elim o as (λ _. Option (GlyphKind × ℕ)) [ None ↦ longest_glyph n ns | Some kind ↦ Some (kind, suc n) ]) ≡ Some g
-        → (longest_glyph n ns ≡ Some g → 0 < g.1) → 0 < g.1
-    go None f F = F f
-    go (Some k) f F = let same : (k, suc n) ≡ g = cc in let last : suc n ≡ g.1 = ap (λ (x : GlyphKind × ℕ). x.1) same in omega arith
+        → (longest_glyph n ns ≡ Some g → (0 < g.1) × (g.1 ≤ n)) → (0 < g.1) × (g.1 ≤ suc n)
+    go None f F = let both = F f in let less = both.1 in (both.0, omega arith)
+    go (Some k) f F = let same : (k, suc n) ≡ g = cc in let last : suc n ≡ g.1 = ap (λ (x : GlyphKind × ℕ). x.1) same in (omega arith, omega arith)
 
 within_ascends : (n from : ℕ) (ns : List Note) → Ascends from (glyphs_within n from ns)
 within_ascends zero from ns = tt
-within_ascends (suc n) from ns = go (longest_glyph (length ns) ns) (λ g e. longest_some (length ns) ns g e) (λ k. within_ascends n (from + k) (drop k ns))
+within_ascends (suc n) from ns = go (longest_glyph (length ns) ns) (λ g e. (longest_fits (length ns) ns g e).0) (λ k. within_ascends n (from + k) (drop k ns))
   where
     go : (o : Option (GlyphKind × ℕ)) → ((g : GlyphKind × ℕ) → o ≡ Some g → 0 < g.1) → ((k : ℕ) → Ascends (from + k) (glyphs_within n (from + k) (drop k ns)))
         → Ascends from (elim o as (λ _. List Glyph) [ None ↦ [] | Some g ↦ record { kind = g.0; first = from; count = g.1 } ∷ glyphs_within n (from + g.1) (drop g.1 ns) ])
     go None s F = tt
     go (Some g) s F = let some = s g refl in (omega arith, ascends_below (from + 1) (from + g.1) (glyphs_within n (from + g.1) (drop g.1 ns)) (omega arith) (F g.1))
-
-glyphs_ascend : (ns : List Note) → Ascends 0 (glyphs_of ns)
-glyphs_ascend ns = within_ascends (length ns) 0 ns
 
 -- before the first there is none
 none_at : (low index : ℕ) (gs : List Glyph) → Ascends low gs → index < low → line_of_glyph_at gs index ≡ []
@@ -60,74 +58,136 @@ none_at low index (g ∷ gs) h l =
     let apart : (g.first == index) ≡ false = ne_eqb g.first index (λ e. omega arith) in
     ap (λ (b : Bool). (if b then line_of_glyph g else []) ++ line_of_glyph_at gs index) apart ∙ none_at (g.first + 1) index gs h.1 (omega arith)
 
--- the line of the glyph with that first note is that of the first
-next_line : (index : ℕ) (gs : List Glyph) → Ascends index gs → line_of_glyph_at gs index ≡ line_of_next index gs
-next_line index [] h = refl
-next_line index (g ∷ gs) h =
-    let a = h.0 in
-    let none = none_at (g.first + 1) index gs h.1 (omega arith) in
-    ap (λ (t : List ℕ). (if g.first == index then line_of_glyph g else []) ++ t) none ∙ append-nil (if g.first == index then line_of_glyph g else [])
+-- a note begins a glyph
+pub some_glyph : ((notes : List Note) → AreGlyphsOf notes (glyphs_of notes)) → (n : Note) (ns : List Note) → longest_glyph (length (n ∷ ns)) (n ∷ ns) ≡ None → ⊥
+some_glyph law n ns e =
+    let none : glyphs_of (n ∷ ns) ≡ [] =
+    ap (λ (o : Option (GlyphKind × ℕ)). elim o as (λ _. List Glyph) [ None ↦ [] | Some g ↦ record { kind = g.0; first = 0; count = g.1 } ∷ glyphs_within (length ns) (0 + g.1) (drop g.1 (n ∷ ns)) ]) e in
+    let read : IsReadingBy HasKind [] (n ∷ ns) = subst (λ (gs : List Glyph). IsReadingBy HasKind (map (read_as (n ∷ ns)) gs) (n ∷ ns)) none (law (n ∷ ns)).reads in
+    absurd (cc)
 
--- Behind a note the glyphs left go on; their lines are those of all.
-pub record Behind (note : ℕ) (gs : List Glyph) : Type 0 where
-  pub fits : more_if (begins_at note gs) 0 ≤ length gs
-  pub ascends : Ascends (note + 1) (drop (more_if (begins_at note gs) 0) gs)
-  pub lines_same : (index : ℕ) → note < index → line_of_glyph_at gs index ≡ line_of_glyph_at (drop (more_if (begins_at note gs) 0) gs) index
+-- ---- the cut of a segment at one of its notes
 
-behind : (note : ℕ) (gs : List Glyph) → Ascends note gs → Behind note gs
-behind note [] h = record { fits = omega arith; ascends = tt; lines_same = λ index l. refl }
-behind note (g ∷ gs) h = go (g.first == note) refl
+-- each begins before that index
+abbrev pub Below : ℕ → List Glyph → Type 0
+Below high [] = Unit {0}
+Below high (g ∷ gs) = (g.first < high) × Below high gs
+
+below_later : (low high : ℕ) (gs : List Glyph) → low ≤ high → Below low gs → Below high gs
+below_later low high [] l h = tt
+below_later low high (g ∷ gs) l h = (let b = h.0 in omega arith, below_later low high gs l h.1)
+
+below_push : (high : ℕ) (gs : List Glyph) (g : Glyph) → g.first < high → Below high gs → Below high (gs ++ g ∷ [])
+below_push high [] g l h = (l, tt)
+below_push high (f ∷ gs) g l h = (h.0, below_push high gs g l h.1)
+
+-- so none of them begins there
+later_line : (index : ℕ) (gs rest : List Glyph) → Below index gs → line_of_glyph_at (gs ++ rest) index ≡ line_of_glyph_at rest index
+later_line index [] rest h = refl
+later_line index (g ∷ gs) rest h =
+    let b = h.0 in
+    let apart : (g.first == index) ≡ false = ne_eqb g.first index (λ e. omega arith) in
+    ap (λ (x : Bool). (if x then line_of_glyph g else []) ++ line_of_glyph_at (gs ++ rest) index) apart ∙ later_line index gs rest h.1
+
+-- Between notes of a segment: of its glyphs those are written that begin before, and of the last of them so many notes are to come.
+pub record Cut (done ahead : List Note) (left : ℕ) : Type 0 where
+  pub written : List Glyph
+  pub most : ℕ
+  pub fits : left ≤ length ahead
+  pub enough : length ahead ≤ most + left
+  pub all : glyphs_of (done ++ ahead) ≡ written ++ glyphs_within most (length done + left) (drop left ahead)
+  pub below : Below (length done) written
+
+-- where a segment begins
+cut_first : (ahead : List Note) → Cut [] ahead 0
+cut_first ahead = record { written = []; most = length ahead; fits = omega arith; enough = omega arith; all = refl; below = tt }
+
+-- What a note does: the line of the glyph that begins with it, and where the cut stands behind it.
+record AtNote (done ahead : List Note) (n : Note) (left : ℕ) : Type 0 where
+  line : line_of_glyph_at (glyphs_of (done ++ n ∷ ahead)) (length done) ≡ line_of_next left (longest_glyph (length (n ∷ ahead)) (n ∷ ahead))
+  behind : Cut (done ++ n ∷ []) ahead (left_after left (longest_glyph (length (n ∷ ahead)) (n ∷ ahead)))
+
+-- a note of a glyph that is written
+note_inside : (done ahead : List Note) (n : Note) (left : ℕ) → Cut done (n ∷ ahead) (suc left) → AtNote done ahead n (suc left)
+note_inside done ahead n left c =
+    let size : length (done ++ n ∷ []) ≡ length done + 1 = length-append done (n ∷ []) in
+    let here : length done + suc left ≡ length (done ++ n ∷ []) + left = omega arith in
+    let later : List Glyph = glyphs_within c.most (length done + suc left) (drop left ahead) in
+    let fits = c.fits in
+    let enough = c.enough in
+    record {
+      line = ap (λ (gs : List Glyph). line_of_glyph_at gs (length done)) c.all
+          ∙ (later_line (length done) c.written later c.below ∙ none_at (length done + suc left) (length done) later (within_ascends c.most (length done + suc left) (drop left ahead)) (omega arith));
+      behind = record {
+        written = c.written;
+        most = c.most;
+        fits = omega arith;
+        enough = omega arith;
+        all = ap glyphs_of (append_assoc done (n ∷ []) ahead) ∙ (c.all ∙ ap (λ (k : ℕ). c.written ++ glyphs_within c.most k (drop left ahead)) here);
+        below = below_later (length done) (length (done ++ n ∷ [])) c.written (omega arith) c.below;
+      };
+    }
+
+same_there : (n : ℕ) → (n == n) ≡ true
+same_there n = search arith
+
+-- a note with which a glyph begins
+note_begins : (done ahead : List Note) (n : Note) (g : GlyphKind × ℕ) → longest_glyph (length (n ∷ ahead)) (n ∷ ahead) ≡ Some g → Cut done (n ∷ ahead) 0
+    → (line_of_glyph_at (glyphs_of (done ++ n ∷ ahead)) (length done) ≡ line_of_glyph (record { kind = g.0; first = 0; count = g.1 })) × Cut (done ++ n ∷ []) ahead (g.1 - 1)
+note_begins done ahead n g e c = by c.most c.enough c.all
   where
-    go : (b : Bool) → (g.first == note) ≡ b → Behind note (g ∷ gs)
-    go true e =
-        let same : g.first ≡ note = eqb-true g.first note e in
-        let apart : (index : ℕ) → note < index → (g.first == index) ≡ false = λ index l. ne_eqb g.first index (λ f. omega arith) in
+    by : (most : ℕ) → length (n ∷ ahead) ≤ most + 0 → glyphs_of (done ++ n ∷ ahead) ≡ c.written ++ glyphs_within most (length done + 0) (drop 0 (n ∷ ahead))
+        → (line_of_glyph_at (glyphs_of (done ++ n ∷ ahead)) (length done) ≡ line_of_glyph (record { kind = g.0; first = 0; count = g.1 })) × Cut (done ++ n ∷ []) ahead (g.1 - 1)
+    by zero l a = absurd (omega arith)
+    by (suc most) l a =
+        let fits = longest_fits (length (n ∷ ahead)) (n ∷ ahead) g e in
+        let some = fits.0 in
+        let few = fits.1 in
+        let start : length done + 0 ≡ length done = omega arith in
+        let first : Glyph = record { kind = g.0; first = length done + 0; count = g.1 } in
+        let later : List Glyph = glyphs_within most (length done + 0 + g.1) (drop g.1 (n ∷ ahead)) in
+        let opened : glyphs_within (suc most) (length done + 0) (n ∷ ahead) ≡ first ∷ later =
+        ap (λ (o : Option (GlyphKind × ℕ)). elim o as (λ _. List Glyph) [ None ↦ [] | Some h ↦ record { kind = h.0; first = length done + 0; count = h.1 } ∷ glyphs_within most (length done + 0 + h.1) (drop h.1 (n ∷ ahead)) ]) e in
+        let whole : glyphs_of (done ++ n ∷ ahead) ≡ c.written ++ first ∷ later = a ∙ ap (λ (gs : List Glyph). c.written ++ gs) opened in
+        let size : length (done ++ n ∷ []) ≡ length done + 1 = length-append done (n ∷ []) in
+        let place : length done + 0 + g.1 ≡ length (done ++ n ∷ []) + (g.1 - 1) = omega arith in
+        let one : g.1 ≡ suc (g.1 - 1) = omega arith in
+        let rest : drop g.1 (n ∷ ahead) ≡ drop (g.1 - 1) ahead = ap (λ (k : ℕ). drop k (n ∷ ahead)) one in
+        let next : List Glyph = glyphs_within most (length (done ++ n ∷ []) + (g.1 - 1)) (drop (g.1 - 1) ahead) in
+        let moved : later ≡ next = ap (λ (k : ℕ). glyphs_within most k (drop g.1 (n ∷ ahead))) place ∙ ap (λ (ns : List Note). glyphs_within most (length (done ++ n ∷ []) + (g.1 - 1)) ns) rest in
+        let there : (length done + 0 == length done) ≡ true = ap (λ (k : ℕ). k == length done) start ∙ same_there (length done) in (
+          ap (λ (gs : List Glyph). line_of_glyph_at gs (length done)) whole
+              ∙ (later_line (length done) c.written (first ∷ later) c.below
+              ∙ (ap (λ (x : Bool). (if x then line_of_glyph first else []) ++ line_of_glyph_at later (length done)) there
+              ∙ (ap (λ (t : List ℕ). line_of_glyph first ++ t)
+              (none_at (length done + 0 + g.1) (length done) later (within_ascends most (length done + 0 + g.1) (drop g.1 (n ∷ ahead))) (omega arith))
+              ∙ append-nil (line_of_glyph first)))),
+          record {
+            written = c.written ++ first ∷ [];
+            most = most;
+            fits = omega arith;
+            enough = omega arith;
+            all = ap glyphs_of (append_assoc done (n ∷ []) ahead)
+                ∙ (whole ∙ (ap (λ (gs : List Glyph). c.written ++ first ∷ gs) moved ∙ sym (append_assoc c.written (first ∷ []) next)));
+            below = below_push (length (done ++ n ∷ [])) c.written first (omega arith) (below_later (length done) (length (done ++ n ∷ [])) c.written (omega arith) c.below);
+          },
+        )
+
+-- a note
+at_note : ((notes : List Note) → AreGlyphsOf notes (glyphs_of notes)) → (done ahead : List Note) (n : Note) (left : ℕ) → Cut done (n ∷ ahead) left → AtNote done ahead n left
+at_note law done ahead n (suc left) c = note_inside done ahead n left c
+at_note law done ahead n zero c = go (longest_glyph (length (n ∷ ahead)) (n ∷ ahead)) refl
+  where
+    go : (o : Option (GlyphKind × ℕ)) → longest_glyph (length (n ∷ ahead)) (n ∷ ahead) ≡ o → AtNote done ahead n zero
+    go None e = absurd (some_glyph law n ahead e)
+    go (Some g) e =
+        let b = note_begins done ahead n g e c in
         record {
-          fits = rw e (omega arith);
-          ascends = rw e (subst (λ (n : ℕ). Ascends (n + 1) gs) same h.1);
-          lines_same = λ index l. rw e (ap (λ (b : Bool). (if b then line_of_glyph g else []) ++ line_of_glyph_at gs index) (apart index l));
+          line = b.0 ∙ ap (line_of_next zero) (sym e);
+          behind = subst (λ (o : Option (GlyphKind × ℕ)). Cut (done ++ n ∷ []) ahead (left_after zero o)) (sym e) b.1;
         }
-    go false e =
-        let a = h.0 in
-        let apart : note + 1 ≤ g.first = (let other : ¬ (g.first ≡ note) = λ f. (let t : (g.first == note) ≡ true = rw f (same_there note) in absurd (cc)) in omega arith) in
-        record { fits = rw e (omega arith); ascends = rw e (apart, h.1); lines_same = λ index l. rw e refl }
-      where
-        same_there : (n : ℕ) → (n == n) ≡ true
-        same_there n = search arith
 
 -- ---- the notes before an item and behind it
-
-pub notes_few : (kept : List ℕ) (items : List Item) → length (notes_in kept items) ≤ length items
-notes_few kept [] = omega arith
-notes_few kept (i ∷ items) = go (note_in kept i) (notes_few kept items)
-  where
-    go : (o : Option Note) → length (notes_in kept items) ≤ length items → length (cons_option o (notes_in kept items)) ≤ length (i ∷ items)
-    go None h = omega arith
-    go (Some n) h = omega arith
-
--- an item that is a note gives one
-note_count : (k : ItemKind) (span : Span) (t : List ℕ) → length (cons_option (note_by k span t) []) ≡ more_if (is_note k) 0
-note_count kind.Note span t = refl
-note_count kind.Alteration span t = refl
-note_count kind.Clef span t = refl
-note_count kind.Bar span t = refl
-note_count kind.Spacing span t = refl
-note_count kind.Custos span t = refl
-note_count kind.Break span t = refl
-note_count kind.Attribute span t = refl
-note_count kind.Fusion span t = refl
-
--- what stands in no segment is no note
-no_note : (k : ItemKind) → joins_segment k ≡ false → is_note k ≡ false
-no_note kind.Note e = e
-no_note kind.Alteration e = refl
-no_note kind.Clef e = refl
-no_note kind.Bar e = refl
-no_note kind.Spacing e = refl
-no_note kind.Custos e = refl
-no_note kind.Break e = refl
-no_note kind.Attribute e = refl
-no_note kind.Fusion e = refl
 
 -- an item of a segment more before
 before_more : (kept : List ℕ) (before : List Item) (i : Item) → is_in_segment i ≡ true → notes_before kept (i ∷ before) ≡ notes_before kept before ++ notes_in kept (i ∷ [])
@@ -147,238 +207,85 @@ behind_more kept items i e =
     let run : List Item = take_while is_in_segment items in
     ap (notes_in kept) (take_while-cons is_in_segment i items ∙ ap (λ (b : Bool). cond b (i ∷ run) []) e) ∙ filter_map-append (note_in kept) (i ∷ []) run
 
--- an item of a segment goes from what is behind to what is before
-same_notes : (kept : List ℕ) (before items : List Item) (i : Item) → is_in_segment i ≡ true
-    → notes_before kept before ++ notes_behind kept (i ∷ items) ≡ notes_before kept (i ∷ before) ++ notes_behind kept items
-same_notes kept before items i e =
-    ap (λ (x : List Note). notes_before kept before ++ x) (behind_more kept items i e)
-    ∙ (sym (append_assoc (notes_before kept before) (notes_in kept (i ∷ [])) (notes_behind kept items))
-    ∙ ap (λ (x : List Note). x ++ notes_behind kept items) (sym (before_more kept before i e)))
+behind_none : (kept : List ℕ) (items : List Item) (i : Item) → is_in_segment i ≡ false → notes_behind kept (i ∷ items) ≡ []
+behind_none kept items i e = ap (notes_in kept) (take_while-cons is_in_segment i items ∙ ap (λ (b : Bool). cond b (i ∷ take_while is_in_segment items) []) e)
 
 -- ---- where the writer stands
 
--- the nearest item is part of a segment
-abbrev pub is_behind_segment : List Item → Bool
-is_behind_segment [] = false
-is_behind_segment (i ∷ before) = is_in_segment i
-
--- Inside a segment: the glyphs are those of its cut, and those left begin with the next note or later.
-pub record Open (kept : List ℕ) (before items : List Item) (note glyphs_put : ℕ) (glyphs : List Glyph) : Type 0 where
-  pub fits : glyphs_put ≤ length glyphs
-  pub read : glyphs ≡ glyphs_of (notes_before kept before ++ notes_behind kept items)
-  pub ascends : Ascends note (drop glyphs_put glyphs)
-  pub lines : (index : ℕ) → note ≤ index → line_of_glyph_at glyphs index ≡ line_of_glyph_at (drop glyphs_put glyphs) index
-
 -- Between what is before and the items.
-pub record Stands (kept : List ℕ) (before items : List Item) (place : ItemPlace) (glyphs : List Glyph) : Type 0 where
+pub record Stands (kept : List ℕ) (before items : List Item) (place : ItemPlace) : Type 0 where
   pub in_element : place.in_element ≡ is_behind_element kept before
-  pub in_segment : place.in_segment ≡ is_behind_segment before
-  pub notes : place.notes ≡ length (notes_before kept before)
-  pub few : place.notes ≤ length before
-  pub few_written : place.glyphs ≤ place.notes
-  pub none : place.in_segment ≡ false → place.glyphs ≡ 0
-  pub inside : place.in_segment ≡ true → Open kept before items place.notes place.glyphs glyphs
+  pub cut : Cut (notes_before kept before) (notes_behind kept items) place.left
 
 -- before the first item
-pub stands_first : (kept : List ℕ) (items : List Item) (glyphs : List Glyph) → Stands kept [] items (record { in_element = false; in_segment = false; notes = 0; glyphs = 0 }) glyphs
-stands_first kept items glyphs = record { in_element = refl; in_segment = refl; notes = refl; few = omega arith; few_written = omega arith; none = λ e. refl; inside = λ e. absurd (cc) }
+pub stands_first : (kept : List ℕ) (items : List Item) → Stands kept [] items (record { in_element = false; left = 0 })
+stands_first kept items = record { in_element = refl; cut = cut_first (notes_behind kept items) }
 
--- where no segment is open, no notes of one stand before
-no_notes : (kept : List ℕ) (before : List Item) → is_behind_segment before ≡ false → notes_before kept before ≡ []
-no_notes kept [] e = refl
-no_notes kept (i ∷ before) e = before_none kept before i e
+-- What an item does to the cut of its segment, and the line of the glyph that begins with it.
+record AtItem (kept : List ℕ) (before items : List Item) (i : Item) (left : ℕ) : Type 0 where
+  line : (if is_note i.kind then line_of_next left (glyph_at kept (i ∷ items)) else []) ≡ glyph_line kept before i items
+  behind : Cut (notes_before kept (i ∷ before)) (notes_behind kept items) (if is_note i.kind then left_after left (glyph_at kept (i ∷ items)) else left)
 
--- a segment is open at an item of one
-pub opened : (kept : List ℕ) (before items : List Item) (i : Item) (place : ItemPlace) (old : List Glyph) → is_in_segment i ≡ true → Stands kept before (i ∷ items) place old
-    → Open kept before (i ∷ items) place.notes place.glyphs (glyphs_from kept place.in_segment (i ∷ items) old)
-opened kept before items i place old e s = go place.in_segment refl
-  where
-    go : (b : Bool) → place.in_segment ≡ b → Open kept before (i ∷ items) place.notes place.glyphs (glyphs_from kept place.in_segment (i ∷ items) old)
-    go true f =
-        let same : glyphs_from kept place.in_segment (i ∷ items) old ≡ old = rw (e, f) refl in
-        subst (λ (gs : List Glyph). Open kept before (i ∷ items) place.notes place.glyphs gs) (sym same) (s.inside f)
-    go false f =
-        let all : List Glyph = glyphs_of (notes_behind kept (i ∷ items)) in
-        let same : glyphs_from kept place.in_segment (i ∷ items) old ≡ all = rw (e, f) refl in
-        let none = no_notes kept before (sym s.in_segment ∙ f) in
-        let note : place.notes ≡ 0 = s.notes ∙ ap (length {A = Note}) none in
-        let glyphs_put : place.glyphs ≡ 0 = s.none f in
-        let fresh : Open kept before (i ∷ items) 0 0 all = record {
-          fits = omega arith;
-          read = ap (λ (x : List Note). glyphs_of (x ++ notes_behind kept (i ∷ items))) (sym none);
-          ascends = glyphs_ascend (notes_behind kept (i ∷ items));
-          lines = λ index l. refl;
-        } in
-        subst (λ (gs : List Glyph). Open kept before (i ∷ items) place.notes place.glyphs gs) (sym same)
-        (subst (λ (n : ℕ). Open kept before (i ∷ items) n place.glyphs all) (sym note)
-        (subst (λ (n : ℕ). Open kept before (i ∷ items) 0 n all) (sym glyphs_put) fresh))
-
-more_is : (b : Bool) (n : ℕ) → more_if b n ≡ n + more_if b 0
-more_is true n = refl
-more_is false n = omega arith
-
-more_small : (b : Bool) (n : ℕ) → more_if b n ≤ n + 1
-more_small true n = omega arith
-more_small false n = omega arith
+at_item : ((notes : List Note) → AreGlyphsOf notes (glyphs_of notes)) → (kept : List ℕ) (before items : List Item) (i : Item) (left : ℕ)
+    → Cut (notes_before kept before) (notes_behind kept (i ∷ items)) left → Kinds i.kind i.span (bytes_of kept i) → AtItem kept before items i left
+at_item law kept before items i left c (outside e f g) =
+    let none : notes_behind kept (i ∷ items) ≡ [] = behind_none kept items i e in
+    let size = ap (length {A = Note}) none in
+    let fits = c.fits in
+    let zero_left : left ≡ 0 = omega arith in
+    let fresh = cut_first (notes_behind kept items) in
+    record {
+      line = rw f refl;
+      behind = rw f (subst (Cut (notes_before kept (i ∷ before)) (notes_behind kept items)) (sym zero_left)
+          (subst (λ (ns : List Note). Cut ns (notes_behind kept items) 0) (sym (before_none kept before i e)) fresh));
+    }
+at_item law kept before items i left c (inside e f g) =
+    let one : notes_in kept (i ∷ []) ≡ [] = rw g refl in
+    let same_behind : notes_behind kept (i ∷ items) ≡ notes_behind kept items = behind_more kept items i e ∙ ap (λ (x : List Note). x ++ notes_behind kept items) one in
+    let same_before : notes_before kept (i ∷ before) ≡ notes_before kept before =
+    before_more kept before i e ∙ (ap (λ (x : List Note). notes_before kept before ++ x) one ∙ append-nil (notes_before kept before)) in
+    record {
+      line = rw f refl;
+      behind = rw f (subst (λ (ns : List Note). Cut ns (notes_behind kept items) left) (sym same_before) (subst (λ (ns : List Note). Cut (notes_before kept before) ns left) same_behind c));
+    }
+at_item law kept before items i left c (a_note n e f g s l) =
+    let one : notes_in kept (i ∷ []) ≡ n ∷ [] = rw g refl in
+    let nb : List Note = notes_before kept before in
+    let na : List Note = notes_behind kept items in
+    let more_behind : notes_behind kept (i ∷ items) ≡ n ∷ na = behind_more kept items i e ∙ ap (λ (x : List Note). x ++ na) one in
+    let more_before : notes_before kept (i ∷ before) ≡ nb ++ n ∷ [] = before_more kept before i e ∙ ap (λ (x : List Note). nb ++ x) one in
+    let at = at_note law nb na n left (subst (λ (ns : List Note). Cut nb ns left) more_behind c) in
+    let found : longest_glyph (length (n ∷ na)) (n ∷ na) ≡ glyph_at kept (i ∷ items) = ap (λ (ns : List Note). longest_glyph (length ns) ns) (sym more_behind) in
+    record {
+      line = rw f (sym (ap (λ (ns : List Note). line_of_glyph_at (glyphs_of (nb ++ ns)) (length nb)) more_behind ∙ (at.line ∙ ap (line_of_next left) found)));
+      behind = rw f (subst (λ (ns : List Note). Cut ns na (left_after left (glyph_at kept (i ∷ items)))) (sym more_before)
+          (subst (λ (o : Option (GlyphKind × ℕ)). Cut (nb ++ n ∷ []) na (left_after left o)) found at.behind));
+    }
 
 -- What an item's step does: its lines are those of the definition, and the writer stands behind it.
-pub record Step (outset : InForce) (kept : List ℕ) (before items : List Item) (i : Item) (place : ItemPlace) (glyphs : List Glyph) : Type 0 where
-  pub fits : place.glyphs ≤ length glyphs
-  pub lines : lines_at (in_force_at outset kept before) kept place (drop place.glyphs glyphs) i ≡ element_line kept before i ++ (glyph_line kept before i items ++ line_of_item (in_force_at outset kept before) kept i)
-  pub stands : Stands kept (i ∷ before) items (place_behind kept place (drop place.glyphs glyphs) i) glyphs
+pub record Step (outset : InForce) (kept : List ℕ) (before items : List Item) (i : Item) (place : ItemPlace) : Type 0 where
+  pub lines : lines_at (in_force_at outset kept before) kept place i items ++ lines_behind outset kept (i ∷ before) items ≡ lines_behind outset kept before (i ∷ items)
+  pub stands : Stands kept (i ∷ before) items (place_behind kept place i items)
 
 element_same : (kept : List ℕ) (before : List Item) (i : Item) (b : Bool) (t : List ℕ) → b ≡ is_behind_element kept before
     → (if is_in_element kept i && not b then codes "element\n" else []) ++ t ≡ element_line kept before i ++ t
 element_same kept before i b t e = ap (λ (x : Bool). (if is_in_element kept i && not x then codes "element\n" else []) ++ t) e
 
--- inside a segment, an item that is a note
-step_note : (kept : List ℕ) (before items : List Item) (i : Item) (note glyphs_put : ℕ) (glyphs : List Glyph) → is_in_segment i ≡ true → is_note i.kind ≡ true
-    → note ≡ length (notes_before kept before) → Open kept before (i ∷ items) note glyphs_put glyphs
-    → (line_of_next note (drop glyphs_put glyphs) ≡ glyph_line kept before i items) × Open kept (i ∷ before) items (note + 1) (more_if (begins_at note (drop glyphs_put glyphs)) glyphs_put) glyphs
-step_note kept before items i note glyphs_put glyphs e f n o =
-    let left : List Glyph = drop glyphs_put glyphs in
-    let b = behind note left o.ascends in
-    let more = more_is (begins_at note left) glyphs_put in
-    let same : drop (more_if (begins_at note left) glyphs_put) glyphs ≡ drop (more_if (begins_at note left) 0) left = ap (λ (k : ℕ). drop k glyphs) more ∙ sym (drop-drop (more_if (begins_at note left) 0) glyphs_put glyphs) in
-    let fits = o.fits in
-    let some = b.fits in
-    let line : glyph_line kept before i items ≡ line_of_glyph_at glyphs note =
-    ap (λ (x : Bool). if x then line_of_glyph_at (glyphs_of (notes_before kept before ++ notes_behind kept (i ∷ items))) (length (notes_before kept before)) else []) f
-    ∙ (ap (λ (gs : List Glyph). line_of_glyph_at gs (length (notes_before kept before))) (sym o.read) ∙ ap (line_of_glyph_at glyphs) (sym n)) in (
-      sym (line ∙ (o.lines note (omega arith) ∙ next_line note left o.ascends)),
-      record {
-        fits = omega (arith, length-drop glyphs_put glyphs);
-        read = o.read ∙ ap glyphs_of (same_notes kept before items i e);
-        ascends = subst (Ascends (note + 1)) (sym same) b.ascends;
-        lines = λ index l. o.lines index (omega arith) ∙ (b.lines_same index (omega arith) ∙ ap (λ (gs : List Glyph). line_of_glyph_at gs index) (sym same));
-      },
-    )
-
--- outside of a segment
-step_outside : (outset : InForce) (kept : List ℕ) (before items : List Item) (i : Item) (place : ItemPlace) (old : List Glyph) → is_in_segment i ≡ false
-    → Stands kept before (i ∷ items) place old → Step outset kept before items i place old
-step_outside outset kept before items i place old e s =
-    let f : is_note i.kind ≡ false = no_note i.kind e in
-    let there : ItemPlace = record { in_element = is_in_element kept i; in_segment = false; notes = 0; glyphs = 0 } in
-    let same : there ≡ place_behind kept place (drop place.glyphs old) i = rw e refl in
-    let tail : (if is_note i.kind then line_of_next place.notes (drop place.glyphs old) else []) ++ line_of_item (in_force_at outset kept before) kept i ≡ glyph_line kept before i items ++ line_of_item (in_force_at outset kept before) kept i = rw f refl in
-    record {
-      fits = fits place.in_segment refl;
-      lines = ap (λ (t : List ℕ). (if is_in_element kept i && not place.in_element then codes "element\n" else []) ++ t) tail
-          ∙ element_same kept before i place.in_element (glyph_line kept before i items ++ line_of_item (in_force_at outset kept before) kept i) s.in_element;
-      stands = subst (λ (p : ItemPlace). Stands kept (i ∷ before) items p old) same (record {
-        in_element = refl;
-        in_segment = sym e;
-        notes = sym (ap (length {A = Note}) (before_none kept before i e));
-        few = omega arith;
-        few_written = omega arith;
-        none = λ x. refl;
-        inside = λ x. absurd (cc);
-      });
-    }
-  where
-    fits : (b : Bool) → place.in_segment ≡ b → place.glyphs ≤ length old
-    fits true x = (s.inside x).fits
-    fits false x = let z = s.none x in omega arith
-
--- inside a segment
-step_inside : (outset : InForce) (kept : List ℕ) (before items : List Item) (i : Item) (place : ItemPlace) (old glyphs : List Glyph) → is_in_segment i ≡ true
-    → Stands kept before (i ∷ items) place old → Open kept before (i ∷ items) place.notes place.glyphs glyphs → Step outset kept before items i place glyphs
-step_inside outset kept before items i place old glyphs e s o = go (is_note i.kind) refl
-  where
-    count : (b : Bool) → is_note i.kind ≡ b → more_if b place.notes ≡ length (notes_before kept (i ∷ before))
-    count b f =
-        let here = s.notes in
-        let one = note_count i.kind i.span (slice_range kept i.span.from i.span.to) in
-        let size : length (notes_before kept (i ∷ before)) ≡ length (notes_before kept before ++ notes_in kept (i ∷ [])) = ap (length {A = Note}) (before_more kept before i e) in
-        let both = length-append (notes_before kept before) (notes_in kept (i ∷ [])) in
-        let part : length (notes_in kept (i ∷ [])) ≡ more_if b 0 = one ∙ ap (λ (x : Bool). more_if x 0) f in
-        let more = more_is b place.notes in
-        omega arith
-
-    few : (b : Bool) → more_if b place.notes ≤ length (i ∷ before)
-    few true = let n = s.few in omega arith
-    few false = let n = s.few in omega arith
-
-    step_with : (note glyphs_put : ℕ) → note ≡ length (notes_before kept (i ∷ before)) → note ≤ length (i ∷ before) → glyphs_put ≤ note → Open kept (i ∷ before) items note glyphs_put glyphs
-        → Stands kept (i ∷ before) items (record { in_element = is_in_element kept i; in_segment = true; notes = note; glyphs = glyphs_put }) glyphs
-    step_with note glyphs_put n l m p = record { in_element = refl; in_segment = sym e; notes = n; few = l; few_written = m; none = λ x. absurd (cc); inside = λ x. p }
-
-    go : (b : Bool) → is_note i.kind ≡ b → Step outset kept before items i place glyphs
-    go true f =
-        let t = step_note kept before items i place.notes place.glyphs glyphs e f s.notes o in
-        let glyphs_put : ℕ = more_if (begins_at place.notes (drop place.glyphs glyphs)) place.glyphs in
-        let there : ItemPlace = record { in_element = is_in_element kept i; in_segment = true; notes = place.notes + 1; glyphs = glyphs_put } in
-        let same : there ≡ place_behind kept place (drop place.glyphs glyphs) i = rw (e, f) refl in
-        let tail : (if is_note i.kind then line_of_next place.notes (drop place.glyphs glyphs) else []) ++ line_of_item (in_force_at outset kept before) kept i ≡ glyph_line kept before i items ++ line_of_item (in_force_at outset kept before) kept i
-        = ap (λ (x : Bool). (if x then line_of_next place.notes (drop place.glyphs glyphs) else []) ++ line_of_item (in_force_at outset kept before) kept i) f ∙ ap (λ (x : List ℕ). x ++ line_of_item (in_force_at outset kept before) kept i) t.0 in
-        record {
-          fits = o.fits;
-          lines = ap (λ (x : List ℕ). (if is_in_element kept i && not place.in_element then codes "element\n" else []) ++ x) tail
-              ∙ element_same kept before i place.in_element (glyph_line kept before i items ++ line_of_item (in_force_at outset kept before) kept i) s.in_element;
-          stands = subst (λ (p : ItemPlace). Stands kept (i ∷ before) items p glyphs) same (step_with (place.notes + 1) glyphs_put (count true f) (few true) (let m = s.few_written in omega (arith, more_small (begins_at place.notes (drop place.glyphs glyphs)) place.glyphs)) t.1);
-        }
-    go false f =
-        let there : ItemPlace = record { in_element = is_in_element kept i; in_segment = true; notes = place.notes; glyphs = place.glyphs } in
-        let same : there ≡ place_behind kept place (drop place.glyphs glyphs) i = rw (e, f) refl in
-        let tail : (if is_note i.kind then line_of_next place.notes (drop place.glyphs glyphs) else []) ++ line_of_item (in_force_at outset kept before) kept i ≡ glyph_line kept before i items ++ line_of_item (in_force_at outset kept before) kept i = rw f refl in
-        let open_on : Open kept (i ∷ before) items place.notes place.glyphs glyphs = record { fits = o.fits; read = o.read ∙ ap glyphs_of (same_notes kept before items i e); ascends = o.ascends; lines = o.lines } in
-        record {
-          fits = o.fits;
-          lines = ap (λ (x : List ℕ). (if is_in_element kept i && not place.in_element then codes "element\n" else []) ++ x) tail
-              ∙ element_same kept before i place.in_element (glyph_line kept before i items ++ line_of_item (in_force_at outset kept before) kept i) s.in_element;
-          stands = subst (λ (p : ItemPlace). Stands kept (i ∷ before) items p glyphs) same (step_with place.notes place.glyphs (count false f) (few false) s.few_written open_on);
-        }
-
 -- an item's step
-pub step : (outset : InForce) (kept : List ℕ) (before items : List Item) (i : Item) (place : ItemPlace) (old : List Glyph) → Stands kept before (i ∷ items) place old
-    → Step outset kept before items i place (glyphs_from kept place.in_segment (i ∷ items) old)
-step outset kept before items i place old s = go (is_in_segment i) refl
-  where
-    go : (b : Bool) → is_in_segment i ≡ b → Step outset kept before items i place (glyphs_from kept place.in_segment (i ∷ items) old)
-    go true e = step_inside outset kept before items i place old (glyphs_from kept place.in_segment (i ∷ items) old) e s (opened kept before items i place old e s)
-    go false e =
-        let same : old ≡ glyphs_from kept place.in_segment (i ∷ items) old = rw e refl in
-        subst (Step outset kept before items i place) same (step_outside outset kept before items i place old e s)
-
--- ---- over a list
-
--- What the turn of a loop over the items does, at the item with that index.
-pub record Turn (outset : InForce) (kept : List ℕ) (items : List Item) (index : ℕ) (i : Item) (place : ItemPlace) (glyphs : List Glyph) : Type 0 where
-  pub fits : place.glyphs ≤ length glyphs
-  pub lines : lines_behind outset kept (reverse (take index items)) (drop index items)
-      ≡ lines_at (in_force_at outset kept (reverse (take index items))) kept place (drop place.glyphs glyphs) i ++ lines_behind outset kept (reverse (take (index + 1) items)) (drop (index + 1) items)
-  pub stands : Stands kept (reverse (take (index + 1) items)) (drop (index + 1) items) (place_behind kept place (drop place.glyphs glyphs) i) glyphs
-
--- an item more is the nearest before the next
-pub one_more : (items : List Item) (index : ℕ) (d : Item) → index < length items → get_or items index d ∷ reverse (take index items) ≡ reverse (take (index + 1) items)
-one_more items index d l = sym (ap reverse (take_more items index d l) ∙ reverse-append (take index items) (get_or items index d ∷ []))
-
-pub turn : (outset : InForce) (kept : List ℕ) (items : List Item) (index : ℕ) (d : Item) (place : ItemPlace) (old : List Glyph) → index < length items
-    → Stands kept (reverse (take index items)) (drop index items) place old
-    → Turn outset kept items index (get_or items index d) place (glyphs_from kept place.in_segment (drop index items) old)
-turn outset kept items index d place old l s =
-    let i : Item = get_or items index d in
-    let before : List Item = reverse (take index items) in
-    let rest : drop index items ≡ i ∷ drop (index + 1) items = drop-cons items index d l ∙ ap (λ (n : ℕ). i ∷ drop n items) (sym (add-one index)) in
-    let done : i ∷ before ≡ reverse (take (index + 1) items) = one_more items index d l in
-    let t = subst (λ (u : List Item). Step outset kept before (drop (index + 1) items) i place (glyphs_from kept place.in_segment u old)) (sym rest)
-    (step outset kept before (drop (index + 1) items) i place old (subst (λ (u : List Item). Stands kept before u place old) rest s)) in
-    let glyphs : List Glyph = glyphs_from kept place.in_segment (drop index items) old in
-    let later : List ℕ = lines_behind outset kept (i ∷ before) (drop (index + 1) items) in
+pub step : ((notes : List Note) → AreGlyphsOf notes (glyphs_of notes)) → (outset : InForce) (kept : List ℕ) (before items : List Item) (i : Item) (place : ItemPlace)
+    → Stands kept before (i ∷ items) place → Step outset kept before items i place
+step law outset kept before items i place s =
+    let at = at_item law kept before items i place.left s.cut (kinds i.kind i.span (bytes_of kept i)) in
+    let line : List ℕ = line_of_item (in_force_at outset kept before) kept i in
+    let later : List ℕ = lines_behind outset kept (i ∷ before) items in
+    let first : List ℕ = if is_in_element kept i && not place.in_element then codes "element\n" else [] in
+    let glyph : List ℕ = if is_note i.kind then line_of_next place.left (glyph_at kept (i ∷ items)) else [] in
     record {
-      fits = t.fits;
-      lines = ap (lines_behind outset kept before) rest
-          ∙ (ap (λ (x : List ℕ). element_line kept before i ++ x) (sym (append_assoc (glyph_line kept before i (drop (index + 1) items)) (line_of_item (in_force_at outset kept before) kept i) later))
-          ∙ (sym (append_assoc (element_line kept before i) (glyph_line kept before i (drop (index + 1) items) ++ line_of_item (in_force_at outset kept before) kept i) later)
-          ∙ (ap (λ (x : List ℕ). x ++ later) (sym t.lines)
-          ∙ ap (λ (x : List Item). lines_at (in_force_at outset kept before) kept place (drop place.glyphs glyphs) i ++ lines_behind outset kept x (drop (index + 1) items)) done)));
-      stands = subst (λ (x : List Item). Stands kept x (drop (index + 1) items) (place_behind kept place (drop place.glyphs glyphs) i) glyphs) done t.stands;
+      lines = append_assoc first (glyph ++ line) later
+          ∙ (ap (λ (t : List ℕ). first ++ t) (append_assoc glyph line later ∙ ap (λ (t : List ℕ). t ++ (line ++ later)) at.line)
+          ∙ element_same kept before i place.in_element (glyph_line kept before i items ++ (line ++ later)) s.in_element);
+      stands = record { in_element = refl; cut = at.behind };
     }
-
--- what is left from a place on
-pub slice_rest : {X : Type 0} (xs : List X) (at : ℕ) → slice_range xs at (length xs) ≡ drop at xs
-slice_rest xs at = take_all (length xs - at) (drop at xs) (omega (arith, length-drop at xs))
 
 -- ---- the items of a list, passed in order
 
@@ -390,8 +297,14 @@ steps_reversed kept (i ∷ items) =
     ∙ (ap (λ (t : List ScoreStep). t ++ step_of kept i ∷ []) (steps_reversed kept items)
     ∙ sym (reverse-append (step_of kept i ∷ []) (map (step_of kept) items))))
 
--- behind as many items as there are, all are passed
-pub all_passed : (outset : InForce) (kept : List ℕ) (items : List Item) (count : ℕ) → length items ≤ count
-    → in_force_at outset kept (reverse (take count items)) ≡ passed outset (map (step_of kept) items)
-all_passed outset kept items count l =
-    ap (λ (t : List Item). in_force_at outset kept (reverse t)) (take_all count items l) ∙ ap (in_force_behind outset) (steps_reversed kept items)
+-- where none is to come, all are passed
+pub all_passed : (outset : InForce) (kept : List ℕ) (before items : List Item) → items ≡ reverse before ++ [] → in_force_at outset kept before ≡ passed outset (map (step_of kept) items)
+all_passed outset kept before items e =
+    let back : reverse (map (step_of kept) items) ≡ map (step_of kept) before =
+    ap (λ (l : List Item). reverse (map (step_of kept) l)) (e ∙ append-nil (reverse before))
+    ∙ (ap reverse (steps_reversed kept before) ∙ reverse-reverse (map (step_of kept) before)) in
+    ap (in_force_behind outset) (sym back)
+
+-- an item more is passed
+pub one_more : (before items : List Item) (i : Item) → reverse before ++ i ∷ items ≡ reverse (i ∷ before) ++ items
+one_more before items i = sym (ap (λ (l : List Item). l ++ items) (reverse-append (i ∷ []) before) ∙ append_assoc (reverse before) (i ∷ []) items)

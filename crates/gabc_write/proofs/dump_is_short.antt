@@ -4,4 +4,5 @@ pub mod LinesOfGlyphs
 pub mod LinesOfItems
 pub mod LinesOfSnippets
 pub mod LinesOfSyllable
+pub mod LinesWithoutNotes
 pub mod PiecesOfText

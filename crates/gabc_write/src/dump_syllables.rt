@@ -13,7 +13,6 @@ use crate::dump_nabc::put_nabc;
 use crate::dump_notes::put_notes;
 use crate::escape::TextLine;
 use crate::laws::a_dump_is_short;
-use crate::scratch::Scratch;
 use gabc_neumes::Alterations;
 use gabc_neumes::laws::steps_are_passed_one_by_one;
 use gabc_places::{ByteCounter, Put};
@@ -72,22 +71,19 @@ fn put_snippet<S: Put>(
     syllable: &Syllable,
     snippet: Snippet,
     alterations: &mut Alterations,
-    scratch: &mut Scratch,
     out: &mut S,
 )
-    requires { length (string_bytes syllable.now.kept) ≤ scratch.old }
     ensures put { out.new ≡ S.taken out.old
         (lines_of_snippet alterations.old (string_bytes syllable.now.kept) snippet) }
     ensures alterations { alterations.new ≡ passed alterations.old
         (steps_of_snippet (string_bytes syllable.now.kept) snippet) }
-    ensures scratch { scratch.new ≡ scratch.old }
     ensures line { snippet.line < 256 }
 {
     let kept = syllable.text_at(snippet.span);
     if snippet.line == 0 {
-        put_notes(kept, alterations, scratch, out);
+        put_notes(kept, alterations, out);
     } else {
-        put_nabc(snippet.line, kept, scratch, out);
+        put_nabc(snippet.line, kept, out);
     }
 }
 
@@ -96,20 +92,17 @@ fn put_snippets<S: Put>(
     syllable: &Syllable,
     snippets: &[Snippet],
     alterations: &mut Alterations,
-    scratch: &mut Scratch,
     out: &mut S,
 )
-    requires { length (string_bytes syllable.now.kept) ≤ scratch.old }
     ensures put { out.new ≡ S.taken out.old
         (lines_of_snippets alterations.old (string_bytes syllable.now.kept) snippets.now) }
     ensures alterations { alterations.new ≡ passed alterations.old
         (steps_of_snippets (string_bytes syllable.now.kept) snippets.now) }
-    ensures scratch { scratch.new ≡ scratch.old }
     ensures lines { All (λ snippet. snippet.line < 256) snippets.now }
 {
     steps_are_passed_one_by_one();
     for snippet in snippets {
-        put_snippet(syllable, *snippet, alterations, scratch, out);
+        put_snippet(syllable, *snippet, alterations, out);
     }
 }
 
@@ -125,23 +118,20 @@ fn pass_position(position: Position, alterations: &mut Alterations)
 
 /// Puts the lines of `syllable` in a dump, in which it has this `number`: its first line, those of its text and its translation, and
 /// those of its snippets. They are at most 64 bytes for each byte that `canon_len` tells, and 256. `alterations` are those in force before
-/// the syllable, and then those behind it. `scratch` has to take as many bytes as its kept text has. It asks for no memory. A room without
-/// as many bytes left as `dump_len` tells gets as many of them as fit.
+/// the syllable, and then those behind it. It asks for no memory: the kept text is read again as the lines are put. A room without as many
+/// bytes left as `dump_len` tells gets as many of them as fit.
 pub fn dump_syllable<S: Put>(
     number: u64,
     syllable: &Syllable,
     alterations: &mut Alterations,
-    scratch: &mut Scratch,
     out: &mut S,
 )
-    requires { length (string_bytes syllable.now.kept) ≤ scratch.old }
     ensures put { out.new ≡ S.taken out.old
         (lines_of_syllable number alterations.old (placed_of syllable.now)) }
     ensures alterations { alterations.new
         ≡ passed alterations.old (steps_of_syllable (placed_of syllable.now)) }
     ensures short { length (lines_of_syllable number alterations.old (placed_of syllable.now))
         ≤ 64 * length (canonical (starts_word syllable.now.position) (unplaced_of syllable.now)) + 256 }
-    ensures scratch { scratch.new ≡ scratch.old }
 {
     a_dump_is_short();
     steps_are_passed_one_by_one();
@@ -150,25 +140,18 @@ pub fn dump_syllable<S: Put>(
     put_translation(syllable, out);
     pass_position(syllable.position, alterations);
     let snippets = syllable.snippets.as_slice();
-    put_snippets(syllable, snippets, alterations, scratch, out);
+    put_snippets(syllable, snippets, alterations, out);
 }
 
 /// Returns how many bytes `dump_syllable` puts for the same arguments; it saturates at the last value of a `usize`. `alterations` are those
 /// in force before the syllable.
-pub fn dump_len(
-    number: u64,
-    syllable: &Syllable,
-    alterations: &Alterations,
-    scratch: &mut Scratch,
-) -> usize
-    requires { length (string_bytes syllable.now.kept) ≤ scratch.old }
+pub fn dump_len(number: u64, syllable: &Syllable, alterations: &Alterations) -> usize
     ensures len { result ≡ min
         (length (lines_of_syllable number alterations.now (placed_of syllable.now)))
         (2 ^ 64 - 1) }
-    ensures scratch { scratch.new ≡ scratch.old }
 {
     let mut counter = ByteCounter::new();
     let mut behind = *alterations;
-    dump_syllable(number, syllable, &mut behind, scratch, &mut counter);
+    dump_syllable(number, syllable, &mut behind, &mut counter);
     counter.count()
 }

@@ -1,5 +1,5 @@
 //! What a run writes: canonical GABC, the lines of a dump, and message lines. Each call puts its text into a room that the caller made,
-//! or into a counter. No call asks for memory but `Scratch::with_limit`, for the rooms that the lines of a syllable need.
+//! or into a counter. No call asks for memory.
 //!
 //! The caller makes room for what the calls of lengths tell:
 //!
@@ -20,12 +20,11 @@ mod escape;
 pub mod laws;
 mod message;
 pub mod saved_alike;
-mod scratch;
 pub mod set_down;
+pub mod without_notes;
 
 pub use dump::{dump_end, dump_header};
 pub use dump_syllables::{dump_len, dump_syllable};
 pub use gabc_headers::canon_header;
 pub use gabc_score::{canon_len, canon_syllable};
 pub use message::{message_len, message_line};
-pub use scratch::Scratch;

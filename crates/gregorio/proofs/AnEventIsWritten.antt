@@ -1,6 +1,5 @@
 -- A writer of scores writes an event and the end of what comes, by what its stage gave.
-use Rattle.std.proofs.Common.{◌≡◌, ℕ, ◌+◌, ◌*◌, ◌≤◌, List, [], ◌∷◌, ◌++◌, drop, false, Some, IsSome, length, refl, sym, ap, ◌∙◌, subst, append-nil, arith}
-use Rattle.std.proofs.Math.Nat.{mul-le-mul_right}
+use Rattle.std.proofs.Common.{◌≡◌, ℕ, ◌+◌, ◌*◌, ◌≤◌, List, [], ◌∷◌, ◌++◌, drop, Bool, true, false, Some, IsSome, length, refl, sym, ap, ◌∙◌, subst, append-nil, arith}
 use Rattle.gabc_places.specs.BoundedList.{BoundedList, Fits}
 use Rattle.gabc_places.specs.StageLaw.{concat_of, StopsAtEnd}
 use Rattle.gabc_places.specs.declared.limits.Limits.{Limits}
@@ -8,6 +7,7 @@ use Rattle.gabc_headers.specs.declared.head_event.HeadEvent.{HeadEvent}
 use Rattle.gabc_headers.specs.declared.head_event.HeadEvent.TheVariants as head_event
 use Rattle.gabc_score.specs.declared.score_event.LentSyllable.TheVariants.{First}
 use Rattle.gabc_score.specs.declared.score_event.ScoreEvent.{ScoreEvent}
+use Rattle.gabc_score.specs.declared.score_machine.ScorePart.TheVariants as score_part
 use Rattle.gabc_score.specs.ScoreEvents.{ScoreOutput, Found, Stop, Syllable, End}
 use Rattle.gabc_score.specs.ScoreStage.{GivesAt, GivesLast, GivesOutputs, events_left, events_of, is_last_event}
 use Rattle.gabc_score.specs.witness.ScoreStage.{ScoreStageState, left_of}
@@ -16,10 +16,10 @@ use Rattle.gregorio.specs.Streams.{Streams, behind_bytes}
 use Rattle.gregorio.specs.witness.Engine.{Written, behind_output, behind_outputs, ceased_status, ceased_text, first_list, is_before_heads, lines_of_outputs, streams_from, streams_in, text_of_heads, texts_of_outputs, writes_heads}
 use Rattle.gregorio.specs.machine.InStep.{PassesOn}
 use Rattle.gregorio.specs.machine.RunWriter.{RunWriterState, HasRoomFor, IsInRoom, IsSteadyWriter, last_room, line_room, lines_room, past_end, past_outputs, syllable_room, texts_room, with_heads}
-use Rattle.gregorio.specs.machine.ScoreWriter.{ScoreWriterState, FitsEvents, IsSilent, WritesAt, WritesLast, event_room, outputs_of_events, streams_of}
+use Rattle.gregorio.specs.machine.ScoreWriter.{ScoreWriterState, FitsEvents, IsSilent, WritesAt, WritesLast, event_room, needed_in, outputs_of_events, streams_of}
 use Rattle.gregorio.proofs.PassedInHeads.{passed_in_heads}
 use Rattle.gregorio.proofs.OutputsOfEvents.{as_many_emitted, emitted_is, ends_at_last, nothing_left}
-use Rattle.gregorio.proofs.RoomForAnEvent.{event_has_room, event_in_room, lines_within, room_behind, texts_are}
+use Rattle.gregorio.proofs.RoomForAnEvent.{event_has_room, event_in_room, lines_within, needed_for, nothing_over, one_within, room_behind}
 use Rattle.gregorio.proofs.StreamsOfOutputs.{EndsAtLast, headed_stays, heads_come_first, no_heads_at, second_empty}
 use Rattle.gregorio.proofs.pieces.BytesAreJoined.{behind_both, extended_by_both}
 
@@ -66,10 +66,13 @@ module _ (score mid : ScoreStageState) (writer : RunWriterState) (now : ScoreWri
   of_events : (P : Limits → List ScoreOutput → Type 0) → P score.limits step.outputs → P mid.limits (outputs_of_events mid events)
   of_events P h = subst (λ (limits : Limits). P limits (outputs_of_events mid events)) (sym step.limits) (subst (P score.limits) (sym emitted) h)
 
-  pub room_for_event : FitsEvents now (x ∷ []) → HasRoomFor mid.limits writer (outputs_of_events mid events)
+  none : old.score.part ≡ score_part.Over → step.outputs ≡ []
+  none = nothing_over score (x ∷ []) step.outputs (left_of mid []) (step.law [])
+
+  pub room_for_event : FitsEvents now false (x ∷ []) → HasRoomFor mid.limits writer (outputs_of_events mid events)
   room_for_event room =
       of_events (λ limits outputs. HasRoomFor limits writer outputs)
-      (event_has_room (IsSilent mid) old x step.outputs (subst (λ (s : ScoreWriterState). FitsEvents s (x ∷ [])) (sym view) room) step.lends few ends)
+      (event_has_room (IsSilent mid) old x step.outputs (subst (λ (s : ScoreWriterState). FitsEvents s false (x ∷ [])) (sym view) room) step.lends few ends none)
 
   module _ (new : RunWriterState) (writes : new ≡ past_outputs writer (outputs_of_events mid events)) where
     new_is : new ≡ past_outputs writer step.outputs
@@ -112,16 +115,16 @@ module _ (score mid : ScoreStageState) (writer : RunWriterState) (now : ScoreWri
         (subst (λ (v : RunWriterState). IsSome v.written.ended) new_is over)
 
     pub event_keeps_room : IsSteadyWriter writer new → ((lines texts : ℕ) → IsInRoom mid.limits lines texts writer (outputs_of_events mid events) → IsInRoom mid.limits lines texts new [])
-        → (more : List HeadEvent) → FitsEvents now (x ∷ more) → FitsEvents (record { score = mid; writer = new }) more
-    event_keeps_room steady kept more room =
+        → (last : Bool) (more : List HeadEvent) → FitsEvents now last (x ∷ more) → FitsEvents (record { score = mid; writer = new }) last more
+    event_keeps_room steady kept last more room =
         let lines = length writer.messages.items + 16 * line_room writer.written.name in
-        let texts = length writer.out.items + event_room writer.written.format score.limits.syllable x in
-        let fits = subst (λ (s : ScoreWriterState). FitsEvents s (x ∷ more)) (sym view) room in
-        let before = of_events (λ limits outputs. IsInRoom limits lines texts writer outputs) (event_in_room (IsSilent mid) old x step.outputs fits.scratch step.lends few ends) in
+        let texts = length writer.out.items + needed_in score.part (event_room writer.written.format score.limits.syllable x) in
+        let fits = subst (λ (s : ScoreWriterState). FitsEvents s last (x ∷ more)) (sym view) room in
+        let before = of_events (λ limits outputs. IsInRoom limits lines texts writer outputs) (event_in_room (IsSilent mid) old x step.outputs step.lends few ends none) in
         let after = subst (λ (limits : Limits). IsInRoom limits lines texts new []) step.limits (kept lines texts before) in
-        room_behind old (record { score = mid; writer = new }) x more
-        (record { limits = step.limits; format = steady.format; name = steady.name; all_warnings = steady.all_warnings; out = steady.out; messages = steady.messages; scratch = steady.scratch })
-        (ap (λ (v : RunWriterState). v.written.headed) new_is ∙ headed_stays writer.written step.outputs) after fits
+        room_behind old (record { score = mid; writer = new }) x step.outputs last more
+        (record { limits = step.limits; format = steady.format; name = steady.name; all_warnings = steady.all_warnings; out = steady.out; messages = steady.messages })
+        (ap (λ (v : RunWriterState). v.written.headed) new_is ∙ headed_stays writer.written step.outputs) step.part step.last after fits
 
 -- ---- the headers
 
@@ -149,12 +152,12 @@ heads_are_written old lines macros canonical read new a =
 
 module _ (score mid : ScoreStageState) (writer : RunWriterState) (now : ScoreWriterState) (view : record { score = score; writer = writer } ≡ now)
     (r cleared filled : BoundedList ScoreEvent) (empty : cleared ≡ record r { items = [] }) (events : List ScoreEvent) (are : events ≡ filled.items)
-    (step : GivesLast score mid cleared filled) (stops : StopsAtEnd is_last_event (events_left mid) cleared filled) (room : FitsEvents now []) where
+    (step : GivesLast score mid cleared filled) (stops : StopsAtEnd is_last_event (events_left mid) cleared filled) (room : FitsEvents now true []) where
   emitted_last : outputs_of_events mid events ≡ step.outputs
   emitted_last = outs_are step.outputs r cleared filled events mid empty are step.emitted
 
-  fits_last : FitsEvents (record { score = score; writer = writer }) []
-  fits_last = subst (λ (s : ScoreWriterState). FitsEvents s []) (sym view) room
+  fits_last : FitsEvents (record { score = score; writer = writer }) true []
+  fits_last = subst (λ (s : ScoreWriterState). FitsEvents s true []) (sym view) room
 
   abbrev most_lines : ℕ
   most_lines = length writer.messages.items + lines_room writer.written.name step.outputs
@@ -166,16 +169,17 @@ module _ (score mid : ScoreStageState) (writer : RunWriterState) (now : ScoreWri
   in_room lines texts more_lines more_texts =
       subst (λ (limits : Limits). IsInRoom limits lines texts writer (outputs_of_events mid events)) (sym step.limits)
       (subst (λ (outputs : List ScoreOutput). IsInRoom score.limits lines texts writer outputs) (sym emitted_last)
-      (record { lines = more_lines; texts = more_texts; scratch = fits_last.scratch; within = step.lends.within }))
+      (record { lines = more_lines; texts = more_texts; within = step.lends.within }))
 
   -- room is left for the last text behind them
   texts_fit : most_texts + last_room ≤ writer.out.limit
-  texts_fit = omega (
-    arith,
-    fits_last.texts,
-    texts_are (IsSilent mid) writer.written.format score.limits.syllable step.outputs (ends_where_emitted step.outputs cleared filled mid step.emitted stops),
-    mul-le-mul_right (syllable_room writer.written.format score.limits.syllable) step.lends.few,
-  )
+  texts_fit =
+      let format = writer.written.format in
+      let limit = score.limits.syllable in
+      let few = step.lends.few in
+      let within = one_within (IsSilent mid) format limit step.outputs few step.lends.later (ends_where_emitted step.outputs cleared filled mid step.emitted stops) in
+      let needed = needed_for format limit score.part (syllable_room format limit + last_room) step.outputs (nothing_over score [] step.outputs [] step.law) within in
+      omega (arith, fits_last.texts, needed)
 
   pub room_for_last : HasRoomFor mid.limits writer (outputs_of_events mid events)
   room_for_last =

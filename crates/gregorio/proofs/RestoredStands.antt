@@ -1,5 +1,5 @@
 -- The parts that are made from the fields of a state stand together as those of an engine that runs.
-use Rattle.std.proofs.Common.{◌≡◌, ℕ, ◌+◌, ◌-◌, ◌*◌, ◌≤◌, List, [], ◌∷◌, Bool, true, false, Option, Some, None, is_none, inl, IsUtf8, encode_utf8_all, refl, ap, sym, subst, ◌∙◌, arith}
+use Rattle.std.proofs.Common.{◌≡◌, ℕ, ◌+◌, ◌-◌, ◌≤◌, List, [], ◌∷◌, Bool, true, false, Option, Some, None, is_none, inl, IsUtf8, encode_utf8_all, refl, ap, sym, subst, ◌∙◌, arith}
 use Rattle.std.proofs.lemmas.Bool.{and_parts, false≢true}
 use Rattle.std.proofs.lemmas.List.Elements.{All-cons, All-head, All-nil, All-tail}
 use Rattle.std.proofs.lemmas.Str.{chars_from_encodes, scalars-chars}
@@ -36,7 +36,7 @@ use Rattle.gregorio.specs.machine.HeldHeaders.{behind_mark}
 use Rattle.gregorio.specs.machine.InStep.{AreInOnePart, HasForce}
 use Rattle.gregorio.specs.machine.Restored.{GoesOn, HasEmptyRooms, StandIn, StandSo, written_by}
 use Rattle.gregorio.specs.machine.Restoring.{IsSetDown}
-use Rattle.gregorio.specs.machine.RunWriter.{syllable_room, heads_room}
+use Rattle.gregorio.specs.machine.RunWriter.{out_room}
 use Rattle.gregorio.specs.machine.ScoreWriter.{IsReserved, ScoreWriterState}
 use Rattle.gregorio.proofs.pieces.HeadersAreRead.{no_heads_are_short}
 
@@ -99,12 +99,9 @@ module _ (job : Job) (s : StateFields) (limits : Limits) (is_job : IsOfJob job l
   module _ (cr : is_after_cr decoder ≡ s.after_cr) where
     reserved : IsReserved w
     reserved =
-        let size = ap (λ (l : Limits). l.syllable) limits_are in
-        let scratch = rooms.scratch in
         record {
-          out = subst (λ (l : Limits). heads_room w.writer.written.format l.header + 4 * syllable_room w.writer.written.format l.syllable + 128 ≤ w.writer.out.limit) (sym limits_are) rooms.out;
+          out = subst (λ (l : Limits). out_room w.writer.written.format l ≤ w.writer.out.limit) (sym limits_are) rooms.out;
           messages = rooms.messages;
-          scratch = omega (arith, size, scratch);
         }
 
     input_is : s.input_limit ≡ w.score.limits.input

@@ -1,14 +1,23 @@
 -- There is room for what an event brings.
-use Rattle.std.proofs.Common.{◌≡◌, ℕ, suc, ◌+◌, ◌*◌, ◌≤◌, List, [], ◌∷◌, length, ap, ◌∙◌, arith, Bool, if◌then◌else◌}
+use Rattle.std.proofs.Common.{◌≡◌, ℕ, zero, suc, ◌+◌, ◌*◌, ◌≤◌, List, [], ◌∷◌, length, refl, sym, ap, subst, ◌∙◌, arith, Bool, true, false, if◌then◌else◌}
 use Rattle.std.proofs.Math.Nat.{suc-mul, mul-le-mul_right}
+use Rattle.std.specs.List.{All, list_any}
+use Rattle.std.proofs.lemmas.List.Elements.{All-head, All-tail}
+use Rattle.gabc_places.specs.StageLaw.{silence}
 use Rattle.gabc_places.specs.declared.limits.Limits.{Limits}
 use Rattle.gabc_headers.specs.declared.head_event.HeadEvent.{HeadEvent}
 use Rattle.gabc_headers.specs.declared.head_event.HeadEvent.TheVariants as head_event
-use Rattle.gabc_score.specs.ScoreEvents.{ScoreOutput, Found, Stop, Syllable, End, syllables_in}
+use Rattle.gabc_score.specs.NoNotes.{OnlyFirstHasNotes, has_no_notes}
+use Rattle.gabc_score.specs.Syllable.{PlacedSyllable}
+use Rattle.gabc_score.specs.declared.score_machine.ScorePart.{ScorePart}
+use Rattle.gabc_score.specs.declared.score_machine.ScorePart.TheVariants as score_part
+use Rattle.gabc_score.specs.witness.ScoreStage.{ScoreStageState, left_of}
+use Rattle.gabc_score.specs.ScoreEvents.{ScoreOutput, Found, Stop, Syllable, End, is_last, syllables_in}
 use Rattle.gregorio_jobs.specs.declared.job.Format.{Format}
-use Rattle.gabc_score.specs.ScoreStage.{Lends, most_lent}
-use Rattle.gregorio.specs.machine.RunWriter.{RunWriterState, IsInRoom, HasRoomFor, heads_room, line_room, lines_room, texts_room, syllable_room, last_room}
-use Rattle.gregorio.specs.machine.ScoreWriter.{ScoreWriterState, FitsEvents, IsSteady, event_room, events_room, heads_left}
+use Rattle.gregorio_jobs.specs.declared.job.Format.TheVariants.{Gabc, Dump}
+use Rattle.gabc_score.specs.ScoreStage.{Lends, is_final, most_lent, part_past}
+use Rattle.gregorio.specs.machine.RunWriter.{RunWriterState, IsInRoom, HasRoomFor, heads_room, line_room, lines_room, texts_room, syllable_len, syllable_room, room_without_notes, last_room}
+use Rattle.gregorio.specs.machine.ScoreWriter.{ScoreWriterState, FitsEvents, IsSteady, event_room, events_room, heads_left, needed_in}
 use Rattle.gregorio.proofs.StreamsOfOutputs.{EndsAtLast}
 
 -- ---- numbers
@@ -34,32 +43,149 @@ texts_at_end format limit n outputs e =
     let none : texts_room format limit outputs ≡ 0 = ap (texts_room format limit) e in
     omega (arith, none)
 
--- as many syllables, and one end
-pub texts_are : (P : Type 0) (format : Format) (limit : ℕ) (outputs : List ScoreOutput) → EndsAtLast P outputs → texts_room format limit outputs ≤ length (syllables_in outputs) * syllable_room format limit + last_room
-texts_are P format limit [] ends = omega arith
-texts_are P format limit (Found f ∷ outputs) ends = omega (arith, texts_are P format limit outputs ends)
-texts_are P format limit (Stop fault ∷ outputs) ends = texts_at_end format limit (length (syllables_in outputs) * syllable_room format limit) outputs ends.0
-texts_are P format limit (Syllable s ∷ outputs) ends = omega (arith, texts_are P format limit outputs ends, times_more (length (syllables_in outputs)) (syllable_room format limit))
-texts_are P format limit (End ∷ outputs) ends = texts_at_end format limit (length (syllables_in outputs) * syllable_room format limit) outputs ends.0
+-- syllables without notes, and one end
+later_texts_are : (P : Type 0) (format : Format) (limit : ℕ) (outputs : List ScoreOutput) → EndsAtLast P outputs → All (λ (s : PlacedSyllable). has_no_notes s.made ≡ true) (syllables_in outputs)
+    → texts_room format limit outputs ≤ length (syllables_in outputs) * room_without_notes format limit + last_room
+later_texts_are P format limit [] ends none = omega arith
+later_texts_are P format limit (Found f ∷ outputs) ends none = omega (arith, later_texts_are P format limit outputs ends none)
+later_texts_are P format limit (Stop fault ∷ outputs) ends none = texts_at_end format limit (length (syllables_in outputs) * room_without_notes format limit) outputs ends.0
+later_texts_are P format limit (Syllable s ∷ outputs) ends none =
+    let NoNotes : PlacedSyllable → Type 0 = λ t. has_no_notes t.made ≡ true in
+    let here = ap (λ (b : Bool). syllable_len format b (limit + 1)) (All-head NoNotes s (syllables_in outputs) none) in
+    let later = later_texts_are P format limit outputs ends (All-tail NoNotes s (syllables_in outputs) none) in
+    omega (arith, here, later, times_more (length (syllables_in outputs)) (room_without_notes format limit))
+later_texts_are P format limit (End ∷ outputs) ends none = texts_at_end format limit (length (syllables_in outputs) * room_without_notes format limit) outputs ends.0
 
-pub texts_within : (P : Type 0) (format : Format) (limit : ℕ) (x : HeadEvent) (outputs : List ScoreOutput) → length (syllables_in outputs) ≤ most_lent x → EndsAtLast P outputs
-    → texts_room format limit outputs ≤ event_room format limit x
-texts_within P format limit (head_event.Body x) outputs few ends = omega (arith, texts_are P format limit outputs ends, mul-le-mul_right (syllable_room format limit) few)
-texts_within P format limit (head_event.Stop fault) outputs few ends = omega (arith, texts_are P format limit outputs ends, mul-le-mul_right (syllable_room format limit) few)
-texts_within P format limit head_event.End outputs few ends = omega (arith, texts_are P format limit outputs ends, mul-le-mul_right (syllable_room format limit) few)
-texts_within P format limit (head_event.Found f) outputs few ends = omega (arith, texts_are P format limit outputs ends, mul-le-mul_right (syllable_room format limit) few)
-texts_within P format limit (head_event.Heads lines macros canonical) outputs few ends = omega (arith, texts_are P format limit outputs ends, mul-le-mul_right (syllable_room format limit) few)
+-- without notes a syllable takes no more room
+no_more : (format : Format) (no_notes : Bool) (limit : ℕ) → syllable_len format no_notes (limit + 1) ≤ syllable_room format limit
+no_more Gabc no_notes limit = omega arith
+no_more Dump true limit = omega arith
+no_more Dump false limit = omega arith
+
+-- how much room so many syllables take, of which those behind the first have no notes
+abbrev pub texts_of_syllables : Format → ℕ → ℕ → ℕ
+texts_of_syllables format limit zero = 0
+texts_of_syllables format limit (suc n) = syllable_room format limit + n * room_without_notes format limit
+
+-- a syllable, those behind it, and one end
+pub texts_are : (P : Type 0) (format : Format) (limit : ℕ) (outputs : List ScoreOutput) → EndsAtLast P outputs → OnlyFirstHasNotes (syllables_in outputs)
+    → texts_room format limit outputs ≤ texts_of_syllables format limit (length (syllables_in outputs)) + last_room
+texts_are P format limit [] ends later = omega arith
+texts_are P format limit (Found f ∷ outputs) ends later = omega (arith, texts_are P format limit outputs ends later)
+texts_are P format limit (Stop fault ∷ outputs) ends later = texts_at_end format limit (texts_of_syllables format limit (length (syllables_in outputs))) outputs ends.0
+texts_are P format limit (Syllable s ∷ outputs) ends later = omega (arith, later_texts_are P format limit outputs ends later, no_more format (has_no_notes s.made) limit)
+texts_are P format limit (End ∷ outputs) ends later = texts_at_end format limit (texts_of_syllables format limit (length (syllables_in outputs))) outputs ends.0
+
+none_of : (format : Format) (limit n : ℕ) → n ≤ 0 → texts_of_syllables format limit n ≤ 0
+none_of format limit zero few = omega arith
+none_of format limit (suc n) few = absurd (omega (arith, few))
+
+one_of : (format : Format) (limit n : ℕ) → n ≤ 1 → texts_of_syllables format limit n ≤ syllable_room format limit
+one_of format limit zero few = omega arith
+one_of format limit (suc zero) few = omega arith
+one_of format limit (suc (suc n)) few = absurd (omega (arith, few))
+
+two_of : (format : Format) (limit n : ℕ) → n ≤ 2 → texts_of_syllables format limit n ≤ syllable_room format limit + room_without_notes format limit
+two_of format limit zero few = omega arith
+two_of format limit (suc zero) few = omega arith
+two_of format limit (suc (suc zero)) few = omega arith
+two_of format limit (suc (suc (suc n))) few = absurd (omega (arith, few))
+
+-- one at most, and an end
+pub one_within : (P : Type 0) (format : Format) (limit : ℕ) (outputs : List ScoreOutput) → length (syllables_in outputs) ≤ 1 → OnlyFirstHasNotes (syllables_in outputs) → EndsAtLast P outputs
+    → texts_room format limit outputs ≤ syllable_room format limit + last_room
+one_within P format limit outputs few later ends = omega (arith, texts_are P format limit outputs ends later, one_of format limit (length (syllables_in outputs)) few)
+
+texts_within : (P : Type 0) (limits : Limits) (format : Format) (x : HeadEvent) (outputs : List ScoreOutput) → Lends limits (most_lent x) outputs → EndsAtLast P outputs
+    → texts_room format limits.syllable outputs ≤ event_room format limits.syllable x
+texts_within P limits format (head_event.Body x) outputs lends ends = one_within P format limits.syllable outputs lends.few lends.later ends
+texts_within P limits format (head_event.Stop fault) outputs lends ends = one_within P format limits.syllable outputs lends.few lends.later ends
+texts_within P limits format head_event.End outputs lends ends =
+    omega (arith, texts_are P format limits.syllable outputs ends lends.later, two_of format limits.syllable (length (syllables_in outputs)) lends.few)
+texts_within P limits format (head_event.Found f) outputs lends ends =
+    omega (arith, texts_are P format limits.syllable outputs ends lends.later, none_of format limits.syllable (length (syllables_in outputs)) lends.few)
+texts_within P limits format (head_event.Heads lines macros canonical) outputs lends ends =
+    omega (arith, texts_are P format limits.syllable outputs ends lends.later, none_of format limits.syllable (length (syllables_in outputs)) lends.few)
+
+-- ---- the part of the score
+
+pub needed_within : (part : ScorePart) (room : ℕ) → needed_in part room ≤ room
+needed_within score_part.Heads room = omega arith
+needed_within score_part.Body room = omega arith
+needed_within score_part.Over room = omega arith
+
+pub needed_more : (part : ScorePart) (a b : ℕ) → a ≤ b → needed_in part a ≤ needed_in part b
+needed_more score_part.Heads a b h = h
+needed_more score_part.Body a b h = h
+needed_more score_part.Over a b h = omega arith
+
+-- where this is needed, and behind the last nothing is given, so much is needed for what was given
+pub needed_for : (format : Format) (limit : ℕ) (part : ScorePart) (room : ℕ) (outputs : List ScoreOutput) → (part ≡ score_part.Over → outputs ≡ []) → texts_room format limit outputs ≤ room
+    → texts_room format limit outputs ≤ needed_in part room
+needed_for format limit score_part.Heads room outputs none within = within
+needed_for format limit score_part.Body room outputs none within = within
+needed_for format limit score_part.Over room outputs none within =
+    let nothing : texts_room format limit outputs ≡ 0 = ap (texts_room format limit) (none refl) in
+    omega (arith, nothing)
+
+abbrev first_given : List (List ScoreOutput) → List ScoreOutput
+first_given [] = []
+first_given (outputs ∷ lists) = outputs
+
+-- behind the last a stage gives nothing
+pub nothing_over : (s : ScoreStageState) (xs : List HeadEvent) (outputs : List ScoreOutput) (later : List (List ScoreOutput)) → left_of s xs ≡ outputs ∷ later → s.part ≡ score_part.Over → outputs ≡ []
+nothing_over s xs outputs later law over =
+    sym (ap first_given law) ∙ subst (λ (part : ScorePart). first_given (left_of (record s { part = part }) xs) ≡ []) (sym over) (silent xs)
+  where
+    silent : (xs : List HeadEvent) → first_given (silence {O = ScoreOutput} xs) ≡ []
+    silent [] = refl
+    silent (x ∷ xs) = refl
+
+-- a stop or the end is the last
+final_is_over : (part : ScorePart) (x : HeadEvent) (outputs : List ScoreOutput) → is_final x ≡ true → ((part ≡ score_part.Over → ⊥) → list_any is_last outputs ≡ true) → part_past part x outputs ≡ score_part.Over
+final_is_over score_part.Over x outputs final last = refl
+final_is_over score_part.Heads (head_event.Stop fault) outputs final last = ap (λ (b : Bool). if b then score_part.Over else score_part.Heads) (last (λ e. absurd (cc e)))
+final_is_over score_part.Heads head_event.End outputs final last = ap (λ (b : Bool). if b then score_part.Over else score_part.Heads) (last (λ e. absurd (cc e)))
+final_is_over score_part.Heads (head_event.Body x) outputs final last = absurd (cc final)
+final_is_over score_part.Heads (head_event.Found f) outputs final last = absurd (cc final)
+final_is_over score_part.Heads (head_event.Heads lines macros canonical) outputs final last = absurd (cc final)
+final_is_over score_part.Body (head_event.Stop fault) outputs final last = ap (λ (b : Bool). if b then score_part.Over else score_part.Body) (last (λ e. absurd (cc e)))
+final_is_over score_part.Body head_event.End outputs final last = ap (λ (b : Bool). if b then score_part.Over else score_part.Body) (last (λ e. absurd (cc e)))
+final_is_over score_part.Body (head_event.Body x) outputs final last = absurd (cc final)
+final_is_over score_part.Body (head_event.Found f) outputs final last = absurd (cc final)
+final_is_over score_part.Body (head_event.Heads lines macros canonical) outputs final last = absurd (cc final)
+
+-- behind an event no more is needed than was left behind it
+needed_behind : (old new : ScorePart) (x : HeadEvent) (outputs : List ScoreOutput) (one rest : ℕ) → new ≡ part_past old x outputs
+    → ((old ≡ score_part.Over → ⊥) → is_final x ≡ true → list_any is_last outputs ≡ true)
+    → needed_in old one + needed_in new rest ≤ needed_in old (one + (if is_final x then 0 else rest))
+needed_behind old new x outputs one rest is last = by old (is_final x) refl refl
+  where
+    over : (part : ScorePart) → part ≡ score_part.Over → needed_in part rest ≡ 0
+    over part e = ap (λ (p : ScorePart). needed_in p rest) e
+
+    ended : is_final x ≡ true → needed_in new rest ≡ 0
+    ended final = over new (is ∙ final_is_over old x outputs final (λ other. last other final))
+
+    by : (part : ScorePart) (final : Bool) → old ≡ part → is_final x ≡ final → needed_in part one + needed_in new rest ≤ needed_in part (one + (if final then 0 else rest))
+    by score_part.Over final e f = omega (arith, over new (is ∙ ap (λ (p : ScorePart). part_past p x outputs) e))
+    by score_part.Heads true e f = omega (arith, ended f)
+    by score_part.Heads false e f = omega (arith, needed_within new rest)
+    by score_part.Body true e f = omega (arith, ended f)
+    by score_part.Body false e f = omega (arith, needed_within new rest)
 
 -- ---- an event
 
-pub event_in_room : (P : Type 0) (old : ScoreWriterState) (x : HeadEvent) (outputs : List ScoreOutput) → old.score.limits.syllable ≤ old.writer.scratch
-    → Lends old.score.limits (most_lent x) outputs → length outputs ≤ 16 → EndsAtLast P outputs
+pub event_in_room : (P : Type 0) (old : ScoreWriterState) (x : HeadEvent) (outputs : List ScoreOutput)
+    → Lends old.score.limits (most_lent x) outputs → length outputs ≤ 16 → EndsAtLast P outputs → (old.score.part ≡ score_part.Over → outputs ≡ [])
     → IsInRoom old.score.limits (length old.writer.messages.items + 16 * line_room old.writer.written.name)
-    (length old.writer.out.items + event_room old.writer.written.format old.score.limits.syllable x) old.writer outputs
-event_in_room P old x outputs scratch lends few ends = record {
+    (length old.writer.out.items + needed_in old.score.part (event_room old.writer.written.format old.score.limits.syllable x)) old.writer outputs
+event_in_room P old x outputs lends few ends none = record {
   lines = omega (arith, lines_within old.writer.written.name outputs few);
-  texts = omega (arith, texts_within P old.writer.written.format old.score.limits.syllable x outputs lends.few ends);
-  scratch = scratch;
+  texts = let limit = old.score.limits.syllable in
+      let format = old.writer.written.format in
+      let room = event_room format limit x in
+      omega (arith, needed_for format limit old.score.part room outputs none (texts_within P old.score.limits format x outputs lends ends));
   within = lends.within;
 }
 
@@ -68,14 +194,17 @@ pub more_room : (limits : Limits) (a b c d : ℕ) (w : RunWriterState) (outputs 
 more_room limits a b c d w outputs more_lines more_texts h = record {
   lines = omega (arith, h.lines, more_lines);
   texts = omega (arith, h.texts, more_texts);
-  scratch = h.scratch;
   within = h.within;
 }
 
-pub event_has_room : (P : Type 0) (old : ScoreWriterState) (x : HeadEvent) (outputs : List ScoreOutput) → FitsEvents old (x ∷ [])
-    → Lends old.score.limits (most_lent x) outputs → length outputs ≤ 16 → EndsAtLast P outputs → HasRoomFor old.score.limits old.writer outputs
-event_has_room P old x outputs h lends few ends =
-    more_room old.score.limits _ _ _ _ old.writer outputs (omega (arith, h.lines)) (omega (arith, h.texts)) (event_in_room P old x outputs h.scratch lends few ends)
+pub event_has_room : (P : Type 0) (old : ScoreWriterState) (x : HeadEvent) (outputs : List ScoreOutput) → FitsEvents old false (x ∷ [])
+    → Lends old.score.limits (most_lent x) outputs → length outputs ≤ 16 → EndsAtLast P outputs → (old.score.part ≡ score_part.Over → outputs ≡ []) → HasRoomFor old.score.limits old.writer outputs
+event_has_room P old x outputs h lends few ends none =
+    let limit = old.score.limits.syllable in
+    let format = old.writer.written.format in
+    let one = event_room format limit x in
+    let more = needed_more old.score.part one (events_room format limit false (x ∷ [])) (omega arith) in
+    more_room old.score.limits _ _ _ _ old.writer outputs (omega (arith, h.lines)) (omega (arith, h.texts, more)) (event_in_room P old x outputs lends few ends none)
 
 heads_same : (old new : ScoreWriterState) → IsSteady old new → new.writer.written.headed ≡ old.writer.written.headed
     → heads_left new.writer.written new.score.limits.header ≡ heads_left old.writer.written old.score.limits.header
@@ -85,19 +214,23 @@ heads_same old new steady headed =
     ∙ ap (λ (limits : Limits). heads_left old.writer.written limits.header) steady.limits)
 
 -- behind an event there is room for those that follow
-pub room_behind : (old new : ScoreWriterState) (x : HeadEvent) (events : List HeadEvent) → IsSteady old new → new.writer.written.headed ≡ old.writer.written.headed
+pub room_behind : (old new : ScoreWriterState) (x : HeadEvent) (outputs : List ScoreOutput) (ends : Bool) (events : List HeadEvent) → IsSteady old new → new.writer.written.headed ≡ old.writer.written.headed
+    → new.score.part ≡ part_past old.score.part x outputs → ((old.score.part ≡ score_part.Over → ⊥) → is_final x ≡ true → list_any is_last outputs ≡ true)
     → IsInRoom old.score.limits (length old.writer.messages.items + 16 * line_room old.writer.written.name)
-    (length old.writer.out.items + event_room old.writer.written.format old.score.limits.syllable x) new.writer []
-    → FitsEvents old (x ∷ events) → FitsEvents new events
-room_behind old new x events steady headed room h =
+    (length old.writer.out.items + needed_in old.score.part (event_room old.writer.written.format old.score.limits.syllable x)) new.writer []
+    → FitsEvents old ends (x ∷ events) → FitsEvents new ends events
+room_behind old new x outputs ends events steady headed part last room h =
     let lines_same : (length events + 1) * (16 * line_room new.writer.written.name) ≡ (length events + 1) * (16 * line_room old.writer.written.name) =
     ap (λ (name : List ℕ). (length events + 1) * (16 * line_room name)) steady.name in
-    let texts_same : events_room new.writer.written.format new.score.limits.syllable events ≡ events_room old.writer.written.format old.score.limits.syllable events =
-    ap (λ (format : Format). events_room format new.score.limits.syllable events) steady.format ∙ ap (λ (limits : Limits). events_room old.writer.written.format limits.syllable events) steady.limits in
+    let Room : Format → ℕ → ℕ = λ format limit. needed_in new.score.part (events_room format limit ends events) in
+    let texts_same : Room new.writer.written.format new.score.limits.syllable ≡ Room old.writer.written.format old.score.limits.syllable =
+    ap (λ (format : Format). Room format new.score.limits.syllable) steady.format ∙ ap (λ (limits : Limits). Room old.writer.written.format limits.syllable) steady.limits in
+    let one = event_room old.writer.written.format old.score.limits.syllable x in
+    let rest = events_room old.writer.written.format old.score.limits.syllable ends events in
+    let behind = needed_behind old.score.part new.score.part x outputs one rest part last in
     let kept = heads_same old new steady headed in
     let limit_same : new.score.limits.syllable ≡ old.score.limits.syllable = ap (λ (limits : Limits). limits.syllable) steady.limits in
     record {
       lines = omega (arith, room.lines, h.lines, lines_same, one_more (length events) (16 * line_room old.writer.written.name), steady.messages);
-      texts = omega (arith, room.texts, h.texts, texts_same, kept, steady.out);
-      scratch = omega (arith, room.scratch, limit_same);
+      texts = omega (arith, room.texts, h.texts, texts_same, behind, kept, steady.out);
     }

@@ -1,8 +1,7 @@
 //! A run that takes its input in pieces.
 
-ghost use Rattle.std.specs.Prelude.{◌≡◌, ◌<◌, ◌≤◌, ◌-◌, List, [], ◌∷◌, ◌++◌, length, take, true, false, ℕ, IfOk, option_to_list};
+ghost use Rattle.std.specs.Prelude.{◌≡◌, ◌<◌, ◌≤◌, ◌-◌, List, [], ◌∷◌, ◌++◌, length, take, true, false, ℕ, Bool, IfOk, option_to_list};
 ghost use Rattle.gabc_headers.specs.declared.head_event.HeadEvent.{HeadEvent as HeadItem};
-ghost use Rattle.gabc_headers.specs.declared.head_event.HeadEvent.TheVariants.{End};
 ghost use Rattle.gregorio.specs.declared.source_ending.SourceEnding.{SourceEnding as EndOfSource};
 ghost use Rattle.gregorio.specs.declared.source_ending.SourceEnding.TheVariants.{Whole, Broken};
 ghost use Rattle.gabc_places.specs.declared.limits.Limits.{Limits};
@@ -12,17 +11,18 @@ ghost use Rattle.gregorio.specs.Outcome.{outcome_of};
 ghost use Rattle.gregorio.specs.Engine.{IsPrompt, NothingWaits, RunsJob, StillRuns, is_running, with_waiting};
 ghost use Rattle.gregorio.specs.witness.Engine.{streams_left};
 ghost use Rattle.gregorio.specs.Streams.{streams_of_outcome, ended_with};
-ghost use Rattle.gregorio.specs.machine.Engine.{GoTogether, IsEmpty, WritesAll, WritesItems, event_of_item, headed_past};
+ghost use Rattle.gregorio.specs.machine.Engine.{GoTogether, IsEmpty, IsNoCharacter, WritesAll, WritesItems, event_of_item, headed_past};
 ghost use Rattle.gregorio.specs.machine.InStep.{PassesAll, StayInStep};
 ghost use Rattle.gregorio.specs.machine.ReadsHeaders.{ReadsOn};
 ghost use Rattle.gregorio.specs.machine.TellsInStep.{IsInHeads, StayTelling};
-ghost use Rattle.gregorio.specs.machine.ScoreWriter.{FitsEvents, IsReserved, IsShortBook, IsSteady};
+ghost use Rattle.gregorio.specs.machine.ScoreWriter.{FitsEnd, FitsEvents, IsReserved, IsShortBook, IsSteady};
 
 use crate::beginning::what_begins_is_written_whole;
+use crate::rooms::memory_for;
 use crate::run_writer::RunWriter;
 use crate::score_writer::ScoreWriter;
 use gabc_headers::{HeadEvent, HeaderStage};
-use gabc_places::{Char, Decoder, Fault, Limits, Room, Stage};
+use gabc_places::{Char, Decoder, Fault, Limits, Memory, Room, Stage};
 use gabc_score::ScoreStage;
 use gregorio_jobs::{Job, Status};
 use std::alloc::{AllocError, Global};
@@ -68,11 +68,12 @@ impl Model for Engine {
 
 /// Passes `from_heads` on to `writer`. `heads` has the headers that are read, if they are whole.
 fn pass_on(from_heads: &[HeadEvent], heads: &HeaderStage, writer: &mut ScoreWriter)
-    requires room { FitsEvents writer.old from_heads.now }
+    requires room { FitsEvents writer.old false from_heads.now }
     requires book { IsShortBook writer.old.score.limits heads.now.book }
     ensures writes { WritesAll writer.old from_heads.now heads.now.book writer.new }
-    ensures room { (events : List HeadItem) → FitsEvents writer.old (from_heads.now ++ events) →
-        FitsEvents writer.new events }
+    ensures room { (ends : Bool) (events : List HeadItem) →
+        FitsEvents writer.old ends (from_heads.now ++ events) →
+        FitsEvents writer.new ends events }
     ensures passes { PassesAll writer.old from_heads.now writer.new }
     ensures steady { IsSteady writer.old writer.new }
     ensures headed { headed_past writer.old.writer.written.headed from_heads.now ≡ false →
@@ -112,7 +113,7 @@ fn read(
     ensures step { StayInStep heads.old writer.old (item ∷ []) heads.new writer.new }
     ensures reads { ReadsOn heads.old writer.old (item ∷ []) heads.new writer.new }
     ensures tells { StayTelling heads.old writer.old (item ∷ []) writer.new }
-    ensures room { FitsEvents writer.new (End ∷ []) }
+    ensures room { IsNoCharacter (Some item) → FitsEnd writer.new }
     ensures steady { IsSteady writer.old writer.new }
 {
     if !writer.headed() {
@@ -142,7 +143,7 @@ fn read_in_heads(
     ensures step { StayInStep heads.old writer.old (item ∷ []) heads.new writer.new }
     ensures reads { ReadsOn heads.old writer.old (item ∷ []) heads.new writer.new }
     ensures tells { StayTelling heads.old writer.old (item ∷ []) writer.new }
-    ensures room { FitsEvents writer.new (End ∷ []) }
+    ensures room { IsNoCharacter (Some item) → FitsEnd writer.new }
     ensures steady { IsSteady writer.old writer.new }
 {
     gabc_headers::laws::canonical_lines_are_within_the_limits();
@@ -174,7 +175,7 @@ fn read_decoded(
     ensures step { StayInStep heads.old writer.old (option_to_list item) heads.new writer.new }
     ensures reads { ReadsOn heads.old writer.old (option_to_list item) heads.new writer.new }
     ensures tells { StayTelling heads.old writer.old (option_to_list item) writer.new }
-    ensures room { FitsEvents writer.new (End ∷ []) }
+    ensures room { IsNoCharacter item → FitsEnd writer.new }
     ensures steady { IsSteady writer.old writer.new }
 {
     if let Some(item) = item {
@@ -215,11 +216,29 @@ impl Engine {
         ensures running { IfOk result (λ engine. is_running engine ≡ true) }
         ensures job { IfOk result (λ engine. RunsJob job.now limits engine) }
     {
+        let memory = memory_for(alloc, job, limits)?;
+        Engine::in_memory(&memory, job, limits, hasher)
+    }
+
+    /// Returns an engine as `with_hasher` does, most of whose memory is reserved in `memory`.
+    fn in_memory(
+        memory: &Memory,
+        job: &Job,
+        limits: Limits,
+        hasher: DefaultHasher,
+    ) -> Result<Engine, AllocError>
+        ensures all { IfOk result (λ engine. (bytes : List ℕ) (ending : EndOfSource) →
+            streams_left engine ending bytes
+            ≡ streams_of_outcome job.now (outcome_of limits ending bytes)) }
+        ensures waits { IfOk result (λ engine. NothingWaits engine) }
+        ensures running { IfOk result (λ engine. is_running engine ≡ true) }
+        ensures job { IfOk result (λ engine. RunsJob job.now limits engine) }
+    {
         what_begins_is_written_whole();
         gabc_headers::stage_laws::a_held_text_grows();
-        let from_heads = Room::with_limit(alloc, 2)?;
-        let heads = HeaderStage::with_hasher(alloc, limits, hasher)?;
-        match ScoreWriter::with_limits(alloc, job, limits) {
+        let from_heads = Room::in_memory(memory, 2)?;
+        let heads = HeaderStage::in_memory(memory, limits, hasher)?;
+        match ScoreWriter::with_limits(memory, job, limits) {
             Ok(writer) => Ok(Engine {
                 decoder: Decoder::new(limits),
                 heads,

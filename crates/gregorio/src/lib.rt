@@ -28,6 +28,7 @@ mod outcome;
 mod output;
 pub mod restored_laws;
 mod restoring;
+mod rooms;
 mod run;
 pub mod run_ends;
 mod run_writer;

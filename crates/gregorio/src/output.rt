@@ -1,18 +1,17 @@
 //! The rooms that outputs are written into.
 
-ghost use Rattle.std.specs.Prelude.{◌≡◌, ◌-◌, ◌^◌, ◌<◌, ◌≤◌, [], All, length, map, string_bytes, IfOk};
+ghost use Rattle.std.specs.Prelude.{◌≡◌, ◌-◌, ◌^◌, ◌<◌, [], map, IfOk};
 ghost use Rattle.gabc_score.specs.Syllable.{placed_of};
 ghost use Rattle.gabc_write.specs.CanonicalFile.{score_text};
 ghost use Rattle.gabc_write.specs.DumpOfSyllables.{dump_text};
 ghost use Rattle.gregorio.specs.Outcome.{is_read_whole as read_whole, output_of};
 
 use crate::canonical::put_file;
-use crate::dump::{longest_kept, put_dump};
+use crate::dump::put_dump;
 use crate::outcome::Outcome;
 use gabc_headers::HeaderBook;
 use gabc_places::{ByteCounter, Room};
 use gabc_score::Syllable;
-use gabc_write::Scratch;
 use gregorio_jobs::Format;
 use std::alloc::{AllocError, Global};
 
@@ -43,25 +42,6 @@ fn canonical_room(
     Ok(room)
 }
 
-/// Returns the dump of `book` and `syllables`, which are the `whole` score or not. Each kept text fits in `scratch`.
-fn dump_by(
-    alloc: Global,
-    whole: bool,
-    book: &HeaderBook,
-    syllables: &[Syllable],
-    scratch: &mut Scratch,
-) -> Result<Room<u8>, AllocError>
-    requires { All (λ s. length (string_bytes s.kept) ≤ scratch.old) syllables.now }
-    ensures { IfOk result (λ room. room.items
-        ≡ dump_text whole book.now (map placed_of syllables.now)) }
-{
-    let mut counter = ByteCounter::new();
-    put_dump(whole, book, syllables, scratch, &mut counter);
-    let mut room = room_for(alloc, &counter)?;
-    put_dump(whole, book, syllables, scratch, &mut room);
-    Ok(room)
-}
-
 /// Returns the dump of `book` and `syllables`, which are the `whole` score or not.
 fn dump_room(
     alloc: Global,
@@ -72,11 +52,11 @@ fn dump_room(
     ensures { IfOk result (λ room. room.items
         ≡ dump_text whole book.now (map placed_of syllables.now)) }
 {
-    let mut scratch = Scratch::with_limit(alloc, longest_kept(syllables))?;
-    let room = dump_by(alloc, whole, book, syllables, &mut scratch);
-    // A proof follows a call faster than all that lies inside.
-    drop(scratch);
-    room
+    let mut counter = ByteCounter::new();
+    put_dump(whole, book, syllables, &mut counter);
+    let mut room = room_for(alloc, &counter)?;
+    put_dump(whole, book, syllables, &mut room);
+    Ok(room)
 }
 
 /// Returns whether no fault stopped the reading, and the source did not fail.

@@ -19,13 +19,14 @@ ghost use Rattle.gregorio.specs.machine.ScoreWriter.{fresh_writer};
 
 use crate::engine::Engine;
 use crate::held_headers::{HeldHeaders, holds_text, read_mark};
+use crate::rooms::memory_for;
 use crate::run_writer::RunWriter;
 use crate::score_writer::ScoreWriter;
 use crate::set_down::set_down;
 use crate::state_fault::StateFault;
 use gabc_headers::{HeadEvent, HeaderStage};
 use gabc_neumes::Alterations;
-use gabc_places::{Decoder, Limits, Room};
+use gabc_places::{Decoder, Limits, Memory, Room};
 use gabc_score::ScoreStage;
 use gregorio_jobs::Job;
 use gregorio_state::{Phase, ScoreFields, StateFields};
@@ -40,11 +41,11 @@ fn is_of_job(state: &StateFields<'_>, job: &Job, limits: Limits) -> bool
 }
 
 /// Returns an empty room for what a stage of headers emits of a character.
-fn head_room(alloc: Global) -> Result<Room<HeadEvent>, StateFault>
+fn head_room(memory: &Memory) -> Result<Room<HeadEvent>, StateFault>
     ensures room { IfOk result (λ room. 2 ≤ room.limit) }
     ensures fault { IfErr result (λ fault. fault ≡ StateFault.K0) }
 {
-    match Room::with_limit(alloc, 2) {
+    match Room::in_memory(memory, 2) {
         Ok(room) => Ok(room),
         Err(_) => Err(StateFault::K0),
     }
@@ -52,14 +53,14 @@ fn head_room(alloc: Global) -> Result<Room<HeadEvent>, StateFault>
 
 /// Returns a stage of headers before the first character of a text.
 fn fresh_heads(
-    alloc: Global,
+    memory: &Memory,
     limits: Limits,
     hasher: DefaultHasher,
 ) -> Result<HeaderStage, StateFault>
     ensures stage { IfOk result (λ stage. stage ≡ fresh_stage limits) }
     ensures fault { IfErr result (λ fault. fault ≡ StateFault.K0) }
 {
-    match HeaderStage::with_hasher(alloc, limits, hasher) {
+    match HeaderStage::in_memory(memory, limits, hasher) {
         Ok(heads) => Ok(heads),
         Err(_) => Err(StateFault::K0),
     }
@@ -68,7 +69,7 @@ fn fresh_heads(
 /// Returns a stage of headers that holds `text`, the text of the headers of `state`. The error is `K1` where the text does not end there, or gives
 /// another place or other errors, and `K0` where there is no memory.
 fn heads_holding(
-    alloc: Global,
+    memory: &Memory,
     state: &StateFields<'_>,
     text: &str,
     hasher: DefaultHasher,
@@ -85,8 +86,8 @@ fn heads_holding(
         place: state.place,
         has_error: state.has_error,
     };
-    let mut events = head_room(alloc)?;
-    let mut heads = fresh_heads(alloc, state.limits, hasher)?;
+    let mut events = head_room(memory)?;
+    let mut heads = fresh_heads(memory, state.limits, hasher)?;
     if holds_text(&mut heads, text, told, &mut events) {
         Ok(heads)
     } else {
@@ -97,38 +98,38 @@ fn heads_holding(
 
 /// Returns a stage of headers behind their line `%%`.
 fn heads_behind(
-    alloc: Global,
+    memory: &Memory,
     limits: Limits,
     hasher: DefaultHasher,
 ) -> Result<HeaderStage, StateFault>
     ensures stage { IfOk result (λ stage. stage ≡ behind_mark limits) }
     ensures fault { IfErr result (λ fault. fault ≡ StateFault.K0) }
 {
-    let mut events = head_room(alloc)?;
-    let mut heads = fresh_heads(alloc, limits, hasher)?;
+    let mut events = head_room(memory)?;
+    let mut heads = fresh_heads(memory, limits, hasher)?;
     read_mark(&mut heads, &mut events);
     Ok(heads)
 }
 
 /// Returns a stage over a score, before the headers.
-fn fresh_score(alloc: Global, limits: Limits) -> Result<ScoreStage, StateFault>
+fn fresh_score(memory: &Memory, limits: Limits) -> Result<ScoreStage, StateFault>
     ensures limits { IfOk result (λ stage. stage.limits ≡ limits) }
     ensures part { IfOk result (λ stage. stage.part ≡ Heads) }
     ensures fault { IfErr result (λ fault. fault ≡ StateFault.K0) }
 {
-    match ScoreStage::with_limits(alloc, limits) {
+    match ScoreStage::in_memory(memory, limits) {
         Ok(score) => Ok(score),
         Err(_) => Err(StateFault::K0),
     }
 }
 
 /// Returns the writer of a run of `job` that has written nothing.
-fn fresh_writer_of(alloc: Global, job: &Job, limits: Limits) -> Result<RunWriter, StateFault>
+fn fresh_writer_of(memory: &Memory, job: &Job, limits: Limits) -> Result<RunWriter, StateFault>
     ensures written { IfOk result (λ writer. writer.written ≡ fresh_writer job.now) }
     ensures rooms { IfOk result (HasEmptyRooms limits) }
     ensures fault { IfErr result (λ fault. fault ≡ StateFault.K0) }
 {
-    match RunWriter::with_limits(alloc, job, limits) {
+    match RunWriter::with_limits(memory, job, limits) {
         Ok(writer) => Ok(writer),
         Err(_) => Err(StateFault::K0),
     }
@@ -147,7 +148,7 @@ fn force_of(fields: &ScoreFields<'_>) -> Alterations
 
 /// Returns the writer of a run of `job` that has written what stands before what `state` tells.
 fn writer_of(
-    alloc: Global,
+    memory: &Memory,
     job: &Job,
     limits: Limits,
     state: &StateFields<'_>,
@@ -158,7 +159,7 @@ fn writer_of(
     ensures rooms { IfOk result (HasEmptyRooms limits) }
     ensures fault { IfErr result (λ fault. fault ≡ StateFault.K0) }
 {
-    let mut writer = fresh_writer_of(alloc, job, limits)?;
+    let mut writer = fresh_writer_of(memory, job, limits)?;
     match &state.phase {
         Phase::Headers(_) => writer.go_on_in_headers(state.has_error),
         Phase::Score(fields) => {
@@ -190,7 +191,7 @@ fn decoder_of(state: &StateFields<'_>) -> Decoder
 
 /// Returns the writer of scores that goes on with `score` where `state` tells, a state of `job`.
 fn score_writer_of(
-    alloc: Global,
+    memory: &Memory,
     job: &Job,
     limits: Limits,
     state: &StateFields<'_>,
@@ -205,8 +206,8 @@ fn score_writer_of(
     ensures rooms { IfOk result (λ w. HasEmptyRooms limits w.writer) }
     ensures fault { IfErr result (λ fault. fault ≡ StateFault.K0) }
 {
-    match writer_of(alloc, job, limits, state) {
-        Ok(writer) => match ScoreWriter::resume(alloc, score, writer) {
+    match writer_of(memory, job, limits, state) {
+        Ok(writer) => match ScoreWriter::resume(memory, score, writer) {
             Ok(writer) => Ok(writer),
             Err(_) => Err(StateFault::K0),
         },
@@ -220,7 +221,7 @@ fn score_writer_of(
 
 /// Returns the engine of `job` under `limits` that goes on with `heads` and `score` where `state` tells, a state of `job`.
 fn engine_with(
-    alloc: Global,
+    memory: &Memory,
     job: &Job,
     limits: Limits,
     state: &StateFields<'_>,
@@ -233,8 +234,8 @@ fn engine_with(
     ensures goes { IfOk result (GoesOn job.now limits (fields_of state.now)) }
     ensures fault { IfErr result (λ fault. fault ≡ StateFault.K0) }
 {
-    match head_room(alloc) {
-        Ok(from_heads) => match score_writer_of(alloc, job, limits, state, score) {
+    match head_room(memory) {
+        Ok(from_heads) => match score_writer_of(memory, job, limits, state, score) {
             Ok(writer) => Ok(Engine {
                 decoder: decoder_of(state),
                 heads,
@@ -256,7 +257,7 @@ fn engine_with(
 
 /// Returns an engine of `job` under `limits` that goes on in the headers, of which `state` has read `text`. Its errors are those of `restore`.
 fn engine_in_headers(
-    alloc: Global,
+    memory: &Memory,
     job: &Job,
     limits: Limits,
     state: &StateFields<'_>,
@@ -270,13 +271,13 @@ fn engine_in_headers(
     ensures none { result ≡ Err StateFault.K1 → AreOfState (fields_of state.now) → ⊥ }
     ensures other { result ≡ Err StateFault.K2 → IsAnother job.now limits (fields_of state.now) }
 {
-    let heads = heads_holding(alloc, state, text, hasher)?;
+    let heads = heads_holding(memory, state, text, hasher)?;
     if !is_of_job(state, job, limits) {
         drop(heads);
         return Err(StateFault::K2);
     }
-    match fresh_score(alloc, limits) {
-        Ok(score) => engine_with(alloc, job, limits, state, heads, score),
+    match fresh_score(memory, limits) {
+        Ok(score) => engine_with(memory, job, limits, state, heads, score),
         Err(fault) => {
             drop(heads);
             Err(fault)
@@ -286,7 +287,7 @@ fn engine_in_headers(
 
 /// Returns an engine of `job` under `limits` that goes on in the score, where `fields` of `state` tell. Its errors are those of `restore`.
 fn engine_in_score(
-    alloc: Global,
+    memory: &Memory,
     job: &Job,
     limits: Limits,
     state: &StateFields<'_>,
@@ -300,13 +301,13 @@ fn engine_in_score(
     ensures none { result ≡ Err StateFault.K1 → AreOfState (fields_of state.now) → ⊥ }
     ensures other { result ≡ Err StateFault.K2 → IsAnother job.now limits (fields_of state.now) }
 {
-    let score = set_down(alloc, state, fields)?;
+    let score = set_down(memory, state, fields)?;
     if !is_of_job(state, job, limits) {
         drop(score);
         return Err(StateFault::K2);
     }
-    match heads_behind(alloc, limits, hasher) {
-        Ok(heads) => engine_with(alloc, job, limits, state, heads, score),
+    match heads_behind(memory, limits, hasher) {
+        Ok(heads) => engine_with(memory, job, limits, state, heads, score),
         Err(fault) => {
             drop(score);
             Err(fault)
@@ -358,9 +359,12 @@ impl Engine {
         let Some(state) = gregorio_state::read(bytes) else {
             return Err(StateFault::K1);
         };
+        let Ok(memory) = memory_for(alloc, job, state.limits) else {
+            return Err(StateFault::K0);
+        };
         match &state.phase {
-            Phase::Headers(text) => engine_in_headers(alloc, job, limits, &state, text, hasher),
-            Phase::Score(fields) => engine_in_score(alloc, job, limits, &state, fields, hasher),
+            Phase::Headers(text) => engine_in_headers(&memory, job, limits, &state, text, hasher),
+            Phase::Score(fields) => engine_in_score(&memory, job, limits, &state, fields, hasher),
         }
     }
 }

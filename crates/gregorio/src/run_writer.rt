@@ -6,32 +6,34 @@ ghost use Rattle.gabc_score.specs.Canonical.{canonical_in_place};
 ghost use Rattle.gabc_write.specs.Message.{line_of};
 ghost use Rattle.gabc_places.specs.BoundedList.{Fits};
 ghost use Rattle.gabc_score.specs.ScoreEvents.{Found, Stop, Syllable as SyllableGiven, End};
-ghost use Rattle.gabc_score.specs.Syllable.{placed_of};
+ghost use Rattle.gabc_score.specs.NoNotes.{has_no_notes};
+ghost use Rattle.gabc_score.specs.Syllable.{placed_of, unplaced_of};
 ghost use Rattle.gregorio.specs.Streams.{last_text};
 ghost use Rattle.gregorio.specs.Outcome.{shown_line};
 ghost use Rattle.gregorio.specs.witness.Engine.{if_headed, is_before_heads, text_of_heads, text_of_output};
 ghost use Rattle.gregorio.specs.machine.ScoreWriter.{begun_again, fresh_writer};
-ghost use Rattle.gregorio.specs.machine.RunWriter.{syllable_len, syllable_room as room_of_syllable, heads_len, heads_room as room_of_heads, line_room, last_room, with_heads, with_last, past_output, past_end};
+ghost use Rattle.gregorio.specs.machine.RunWriter.{syllable_len, syllable_room as room_of_syllable, room_without_notes as room_of_no_notes, out_room, heads_len, heads_room as room_of_heads, line_room, last_room, with_heads, with_last, past_output, past_end};
 
 use crate::findings::{input_name, is_error, put_finding};
+use crate::rooms::{message_room, output_room};
 use gabc_headers::Headers;
 use gabc_neumes::Alterations;
-use gabc_places::{Fault, Finding, Limits, Room};
+use gabc_places::{Fault, Finding, Limits, Memory, Room};
 use gabc_score::Syllable;
+use gabc_write::without_notes::a_dump_without_notes_is_shorter;
 use gabc_write::{
-    Scratch, canon_header, canon_syllable, dump_end, dump_header, dump_syllable, message_line,
+    canon_header, canon_syllable, dump_end, dump_header, dump_syllable, message_line,
 };
 use gregorio_jobs::{Format, Job, Status};
-use std::alloc::{AllocError, Global};
+use std::alloc::AllocError;
 use std::marker::Model;
 
 /// Writes the headers, syllables and messages of a run.
 #[derive(Drop)]
 pub(crate) struct RunWriter {
     format: Format,
-    name: String,
+    name: String<Memory>,
     all_warnings: bool,
-    scratch: Scratch,
     /// Whether the headers were written.
     headed: bool,
     /// How many syllables were written. It saturates.
@@ -44,44 +46,6 @@ pub(crate) struct RunWriter {
     ended: Option<Status>,
     out: Room<u8>,
     messages: Room<u8>,
-}
-
-/// The most lines that one byte or the end adds.
-const LINES: usize = 128;
-
-/// Returns how many bytes a syllable may have in this `format`, whose canonical text has at most `limit` bytes.
-fn syllable_room(format: Format, limit: usize) -> usize
-    requires { limit < 2 ^ 32 }
-    ensures { result ≡ room_of_syllable format limit }
-{
-    match format {
-        Format::Gabc => limit + 1,
-        Format::Dump => 64 * (limit + 1) + 256,
-    }
-}
-
-/// Returns how many bytes the headers may have in this `format`, whose canonical lines have at most `limit` bytes.
-fn heads_room(format: Format, limit: usize) -> usize
-    requires { limit < 2 ^ 32 }
-    ensures { result ≡ room_of_heads format limit }
-{
-    match format {
-        Format::Gabc => limit + 2,
-        Format::Dump => 3 * (limit + 2) + 7,
-    }
-}
-
-/// Returns an empty room for the lines of messages that call the input by a name of `len` bytes.
-fn message_room(alloc: Global, len: usize) -> Result<Room<u8>, AllocError>
-    ensures { IfOk result (λ room. (room.items ≡ []) × (128 * (len + 128) ≤ room.limit)) }
-{
-    let Some(line) = len.checked_add(128) else {
-        return Err(AllocError);
-    };
-    let Some(bytes) = line.checked_mul(LINES) else {
-        return Err(AllocError);
-    };
-    Room::with_limit(alloc, bytes)
 }
 
 impl Model for RunWriter {
@@ -101,44 +65,39 @@ impl Model for RunWriter {
         errors = w.errors;
         ended = w.ended;
       };
-      scratch = w.scratch;
       out = w.out;
       messages = w.messages;
     } };
 }
 
 impl RunWriter {
-    /// Returns a writer that has written nothing, and reserves the memory that it ever takes.
+    /// Returns a writer that has written nothing, and reserves in `memory` what it ever takes.
     pub(crate) fn with_limits(
-        alloc: Global,
+        memory: &Memory,
         job: &Job,
         limits: Limits,
     ) -> Result<RunWriter, AllocError>
         ensures fresh { IfOk result (λ writer. writer.written ≡ fresh_writer job.now) }
         ensures empty { IfOk result (λ writer. (writer.out.items ≡ [])
             × (writer.messages.items ≡ [])) }
-        ensures out { IfOk result (λ writer. room_of_heads writer.written.format limits.header
-            + 4 * room_of_syllable writer.written.format limits.syllable + 128 ≤ writer.out.limit) }
+        ensures out { IfOk result (λ writer.
+            out_room writer.written.format limits ≤ writer.out.limit) }
         ensures messages { IfOk result (λ writer.
             128 * line_room writer.written.name ≤ writer.messages.limit) }
-        ensures scratch { IfOk result (λ writer. writer.scratch ≡ limits.syllable) }
     {
-        let syllable = limits.syllable as usize;
-        let heads = heads_room(job.format, limits.header as usize);
-        let out = heads + 4 * syllable_room(job.format, syllable) + 128;
+        let out = output_room(job.format, limits);
         let name = input_name(&job.input);
         Ok(RunWriter {
             format: job.format,
-            name: String::from_str(alloc, name)?,
+            name: String::from_str(memory.share()?, name)?,
             all_warnings: job.all_warnings,
             headed: false,
             count: 0,
             alterations: Alterations::new(),
             errors: false,
             ended: None,
-            out: Room::with_limit(alloc, out)?,
-            messages: message_room(alloc, name.len())?,
-            scratch: Scratch::with_limit(alloc, syllable)?,
+            out: Room::in_memory(memory, out)?,
+            messages: message_room(memory, name.len())?,
         })
     }
 
@@ -294,15 +253,17 @@ impl RunWriter {
 
     /// Writes the next syllable, if the headers were written.
     pub(crate) fn syllable(&mut self, syllable: &Syllable)
-        requires scratch { length (string_bytes syllable.now.kept) ≤ self.old.scratch }
         requires fits { Fits self.old.out (syllable_len self.old.written.format
+            (has_no_notes (unplaced_of syllable.now))
             (length (canonical_in_place (placed_of syllable.now)))) }
         ensures writes { self.new ≡ past_output self.old (SyllableGiven (placed_of syllable.now)) }
         ensures short { length
             (text_of_output self.old.written (SyllableGiven (placed_of syllable.now)))
             ≤ syllable_len self.old.written.format
+            (has_no_notes (unplaced_of syllable.now))
             (length (canonical_in_place (placed_of syllable.now))) }
     {
+        a_dump_without_notes_is_shorter();
         if !self.headed {
             return;
         }
@@ -313,7 +274,6 @@ impl RunWriter {
                 self.count,
                 syllable,
                 &mut self.alterations,
-                &mut self.scratch,
                 &mut self.out,
             ),
         }

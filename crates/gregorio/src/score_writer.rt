@@ -1,6 +1,6 @@
 //! What a run does with what a stage of headers emits.
 
-ghost use Rattle.std.specs.Prelude.{◌≡◌, ◌≤◌, ◌||◌, ℕ, List, [], ◌∷◌, length, take, true, false, is_some, None, IfOk, IfSome, IsSome};
+ghost use Rattle.std.specs.Prelude.{◌≡◌, ◌≤◌, ◌||◌, ℕ, Bool, List, [], ◌∷◌, length, take, true, false, is_some, None, IfOk, IfSome, IsSome};
 ghost use Rattle.std.specs.List.{All};
 ghost use Rattle.gabc_places.specs.Skip.{IsPrintable};
 ghost use Rattle.gabc_headers.specs.declared.head_event.HeadEvent.{HeadEvent as HeadItem};
@@ -23,10 +23,10 @@ ghost use Rattle.gregorio.specs.machine.ScoreWriter.{output_of_event, outputs_of
 
 use crate::run_writer::RunWriter;
 use gabc_headers::{HeadEvent, HeaderStage};
-use gabc_places::{Char, Fault, Limits, Place, Room, Stage};
+use gabc_places::{Char, Fault, Limits, Memory, Place, Room, Stage};
 use gabc_score::{ScoreEvent, ScoreStage};
 use gregorio_jobs::{Job, Status};
-use std::alloc::{AllocError, Global};
+use std::alloc::AllocError;
 use std::marker::Model;
 
 /// Reads the score behind a stage of headers, and writes what it gives.
@@ -81,9 +81,9 @@ fn write_events(writer: &mut RunWriter, score: &ScoreStage, events: &[ScoreEvent
 }
 
 impl ScoreWriter {
-    /// Returns a writer before the headers, and reserves the memory that it ever takes.
+    /// Returns a writer before the headers, and reserves in `memory` what it ever takes.
     pub(crate) fn with_limits(
-        alloc: Global,
+        memory: &Memory,
         job: &Job,
         limits: Limits,
     ) -> Result<ScoreWriter, AllocError>
@@ -95,9 +95,9 @@ impl ScoreWriter {
         ensures score { IfOk result (λ writer. (xs : List HeadItem) → AreCountsBelow xs →
             left_of writer.score xs ≡ score_outputs texts_by_stage limits xs) }
     {
-        let events = Room::with_limit(alloc, 16)?;
-        let writer = RunWriter::with_limits(alloc, job, limits)?;
-        match ScoreStage::with_limits(alloc, limits) {
+        let events = Room::in_memory(memory, 16)?;
+        let writer = RunWriter::with_limits(memory, job, limits)?;
+        match ScoreStage::in_memory(memory, limits) {
             Ok(score) => Ok(ScoreWriter {
                 score,
                 events,
@@ -124,9 +124,10 @@ impl ScoreWriter {
         self.writer.restart();
     }
 
-    /// Returns a writer that goes on with `score` and `writer`, whose run goes on, and reserves the room of its events.
+    /// Returns a writer that goes on with `score` and `writer`, whose run goes on, and reserves the room of its events in
+    /// `memory`.
     pub(crate) fn resume(
-        alloc: Global,
+        memory: &Memory,
         score: ScoreStage,
         writer: RunWriter,
     ) -> Result<ScoreWriter, AllocError>
@@ -134,7 +135,7 @@ impl ScoreWriter {
         requires clef { HasClefOfSounds score writer.written }
         ensures { IfOk result (λ w. w ≡ record { score = score; writer = writer }) }
     {
-        match Room::with_limit(alloc, 16) {
+        match Room::in_memory(memory, 16) {
             Ok(events) => Ok(ScoreWriter {
                 score,
                 events,
@@ -151,13 +152,13 @@ impl ScoreWriter {
 
     /// Takes `event` of `heads`, and writes what follows from it: first the headers, where it says that they are whole.
     pub(crate) fn push(&mut self, event: HeadEvent, heads: &HeaderStage)
-        requires room { FitsEvents self.old (event ∷ []) }
+        requires room { FitsEvents self.old false (event ∷ []) }
         requires book { IsShortBook self.old.score.limits heads.now.book }
         ensures writes { WritesAt self.old event heads.now.book self.new }
         ensures passes { PassesOn self.old.score (written_at self.old.writer.written event)
             event self.new }
-        ensures room { (events : List HeadItem) → FitsEvents self.old (event ∷ events) →
-            FitsEvents self.new events }
+        ensures room { (ends : Bool) (events : List HeadItem) →
+            FitsEvents self.old ends (event ∷ events) → FitsEvents self.new ends events }
         ensures steady { IsSteady self.old self.new }
         ensures headed { (self.old.writer.written.headed || is_heads event) ≡ false →
             self.new.writer.written.headed ≡ false }
@@ -170,12 +171,12 @@ impl ScoreWriter {
 
     /// Passes `event` on to the score, and writes what that gives. No headers are to be written at it.
     pub(crate) fn pass(&mut self, event: HeadEvent)
-        requires room { FitsEvents self.old (event ∷ []) }
+        requires room { FitsEvents self.old false (event ∷ []) }
         requires heads { writes_heads self.old.writer.written event ≡ false }
         ensures writes { (read : List (List ℕ × List ℕ)) → WritesAt self.old event read self.new }
         ensures passes { PassesOn self.old.score self.old.writer.written event self.new }
-        ensures room { (events : List HeadItem) → FitsEvents self.old (event ∷ events) →
-            FitsEvents self.new events }
+        ensures room { (ends : Bool) (events : List HeadItem) →
+            FitsEvents self.old ends (event ∷ events) → FitsEvents self.new ends events }
         ensures steady { IsSteady self.old self.new }
         ensures headed { self.new.writer.written.headed ≡ self.old.writer.written.headed }
     {
@@ -217,7 +218,7 @@ impl ScoreWriter {
 
     /// Ends what comes, and returns how the run ended. Where neither a stop nor the end has come, the source has failed.
     pub(crate) fn finish(&mut self) -> Status
-        requires room { FitsEvents self.old [] }
+        requires room { FitsEvents self.old true [] }
         ensures writes { WritesLast self.old self.new result }
         ensures steady { IsSteady self.old self.new }
         ensures over { IsOver self.new.writer.written self.new.score result }

@@ -15,14 +15,13 @@ ghost use Rattle.gregorio.specs.machine.SettingDown.{HasRead, HoldsHeld, ReadsOn
 use crate::comparison::Comparison;
 use crate::saving::HeldSyllable;
 use crate::state_fault::StateFault;
-use gabc_places::Room;
+use gabc_places::{Memory, Room};
 use gabc_score::stage_laws::{
     a_comment_in_front_can_be_read_in_a_text, a_resumed_stage_tells_of_a_text,
     a_text_is_one_syllable, what_is_read_can_be_read_again, whole_syllables_are_given_or_held,
 };
 use gabc_score::{Before, Openers, ScoreEvent, ScoreStage, Spans};
 use gregorio_state::{PutText, ScoreFields, StateFields};
-use std::alloc::Global;
 
 /// Returns what stands before the syllable of which `fields` have the text.
 fn before_held(fields: &ScoreFields<'_>) -> Before
@@ -52,20 +51,20 @@ fn openers(fields: &ScoreFields<'_>) -> Openers
     }
 }
 
-/// Returns an empty room for what a stage finds in a text that it reads again.
-fn event_room(alloc: Global) -> Result<Room<ScoreEvent>, StateFault>
+/// Returns an empty room in `memory` for what a stage finds in a text that it reads again.
+fn event_room(memory: &Memory) -> Result<Room<ScoreEvent>, StateFault>
     ensures room { IfOk result (λ room. room ≡ record { items = []; limit = 16 }) }
     ensures fault { IfErr result (λ fault. fault ≡ StateFault.K0) }
 {
-    match Room::with_limit(alloc, 16) {
+    match Room::in_memory(memory, 16) {
         Ok(room) => Ok(room),
         Err(_) => Err(StateFault::K0),
     }
 }
 
-/// Returns a stage under the limits of `state` that stands behind what stands before the syllable of which `fields` have the text.
+/// Returns a stage in `memory` under the limits of `state` that stands behind what stands before the syllable of which `fields` have the text.
 fn stage_behind(
-    alloc: Global,
+    memory: &Memory,
     state: &StateFields<'_>,
     fields: &ScoreFields<'_>,
 ) -> Result<ScoreStage, StateFault>
@@ -76,7 +75,7 @@ fn stage_behind(
     ensures fault { IfErr result (λ fault. fault ≡ StateFault.K0) }
 {
     a_resumed_stage_tells_of_a_text();
-    match ScoreStage::resume(alloc, state.limits, before_held(fields)) {
+    match ScoreStage::resume(memory, state.limits, before_held(fields)) {
         Ok(stage) => Ok(stage),
         Err(_) => Err(StateFault::K0),
     }
@@ -169,10 +168,10 @@ fn read_texts(
     true
 }
 
-/// Returns a stage over a score that tells what `fields` say, the fields of the score of `state`. The error is `K1` where a text of them is not read
+/// Returns a stage over a score in `memory` that tells what `fields` say, the fields of the score of `state`. The error is `K1` where a text of them is not read
 /// as they say, under the limits of the state, and `K0` where there is no memory.
 pub(crate) fn set_down(
-    alloc: Global,
+    memory: &Memory,
     state: &StateFields<'_>,
     fields: &ScoreFields<'_>,
 ) -> Result<ScoreStage, StateFault>
@@ -186,8 +185,8 @@ pub(crate) fn set_down(
         IsScoreRead state.now.limits (score_of fields.now) → ⊥ }
     ensures never { result ≡ Err StateFault.K2 → ⊥ }
 {
-    let mut room = event_room(alloc)?;
-    let mut stage = stage_behind(alloc, state, fields)?;
+    let mut room = event_room(memory)?;
+    let mut stage = stage_behind(memory, state, fields)?;
     if read_texts(&mut stage, state, fields, &mut room) {
         Ok(stage)
     } else {

@@ -3,12 +3,11 @@
 use crate::digest::digest_of;
 use crate::trial::{Trial, try_call};
 use gabc_headers::HeaderStage;
-use gabc_places::{Limits, Room, Stage, TrialSink};
+use gabc_places::{Limits, Memory, Room, Shared, Stage, TrialSink};
 use gabc_score::stage_laws::a_fresh_stage_reads_texts;
 use gabc_score::{Before, BodyStage, ScoreStage, Spans};
 use gabc_text::TextView;
-use gabc_write::Scratch;
-use std::alloc::{AllocError, Global};
+use std::alloc::{AllocError, Allocator, Global};
 use std::hash::DefaultHasher;
 use std::io;
 
@@ -16,14 +15,19 @@ use std::io;
 #[derive(Clone, Copy)]
 enum Made {
     Room,
+    RoomInMemory,
+    Memory,
+    Arena,
+    Owners,
     Sink,
     View,
-    Scratch,
     BodyStage,
     HeaderStage,
     HashedHeaderStage,
+    HeaderStageInMemory,
     ResumedScoreStage,
     ScoreStage,
+    ScoreStageInMemory,
     LawfulScoreStage,
 }
 
@@ -31,23 +35,60 @@ enum Made {
 fn named(name: &str) -> Option<Made> {
     Some(match name {
         "gabc_places::Room::with_limit" => Made::Room,
+        "gabc_places::Room::in_memory" => Made::RoomInMemory,
+        "gabc_places::Shared::new" => Made::Memory,
+        "gabc_places::Shared::share" => Made::Owners,
+        "gabc_places::Shared::with_capacity" => Made::Arena,
         "gabc_places::TrialSink::new" => Made::Sink,
         "gabc_text::TextView::with_capacity" => Made::View,
-        "gabc_write::Scratch::with_limit" => Made::Scratch,
         "gabc_score::BodyStage::new" => Made::BodyStage,
         "gabc_headers::HeaderStage::with_limits" => Made::HeaderStage,
         "gabc_headers::HeaderStage::with_hasher" => Made::HashedHeaderStage,
+        "gabc_headers::HeaderStage::in_memory" => Made::HeaderStageInMemory,
         "gabc_score::ScoreStage::resume" => Made::ResumedScoreStage,
         "gabc_score::ScoreStage::with_limits" => Made::ScoreStage,
+        "gabc_score::ScoreStage::in_memory" => Made::ScoreStageInMemory,
         "gabc_score::stage_laws::a_fresh_stage_reads_texts" => Made::LawfulScoreStage,
         _ => return None,
     })
+}
+
+/// Makes a room in memory with no capacity, and returns a digest of it.
+fn room_in_memory(alloc: Global) -> Result<u64, AllocError> {
+    let memory = Memory::with_capacity(alloc, 0)?;
+    let room: Room<u64> = Room::in_memory(&memory, 3)?;
+    Ok(digest_of(&room))
 }
 
 /// Makes a room, and returns a digest of it.
 fn room(alloc: Global) -> Result<u64, AllocError> {
     let room: Room<u64> = Room::with_limit(alloc, 3)?;
     Ok(digest_of(&room))
+}
+
+/// Returns a digest of a list of two numbers that lies in `memory`.
+fn list_in<A: Allocator>(memory: A) -> Result<u64, AllocError> {
+    let mut list: Vec<u64, A> = Vec::with_capacity(memory, 2)?;
+    list.extend_from_slice(&[3, 5])?;
+    Ok(digest_of(&list))
+}
+
+/// Makes the allocator `alloc` one with several owners, and returns a digest of a list in its memory.
+fn memory(alloc: Global) -> Result<u64, AllocError> {
+    list_in(Shared::new(alloc, alloc)?)
+}
+
+/// Makes an arena, and returns a digest of a list in it.
+fn arena(alloc: Global) -> Result<u64, AllocError> {
+    list_in(Memory::with_capacity(alloc, 64)?)
+}
+
+/// Makes an arena with two owners, and returns a digest of a list in it. The other owner is let go first.
+fn owners(alloc: Global) -> Result<u64, AllocError> {
+    let memory = Memory::with_capacity(alloc, 64)?;
+    let owner = memory.share()?;
+    drop(memory);
+    list_in(owner)
 }
 
 /// Makes a sink, and returns a digest of what it holds.
@@ -60,14 +101,6 @@ fn view(alloc: Global) -> Result<u64, AllocError> {
     Ok(digest_of(&TextView::with_capacity(alloc, 64)?))
 }
 
-/// Makes a scratch, and returns a digest of its limit.
-fn scratch(alloc: Global) -> Result<u64, AllocError> {
-    let scratch = Scratch::with_limit(alloc, 64)?;
-    let digest = digest_of(&scratch.limit());
-    drop(scratch);
-    Ok(digest)
-}
-
 /// Returns a digest of how many events a stage gives at most. The stage is let go.
 fn most_of<S: Stage + Drop>(stage: S) -> u64 {
     digest_of(&stage.most())
@@ -75,7 +108,8 @@ fn most_of<S: Stage + Drop>(stage: S) -> u64 {
 
 /// Makes a stage of a body, and returns a digest of how many events it gives at most.
 fn body_stage(alloc: Global) -> Result<u64, AllocError> {
-    Ok(most_of(BodyStage::new(alloc, 1, 0)?))
+    let memory = Memory::with_capacity(alloc, 0)?;
+    Ok(most_of(BodyStage::new(&memory, 1, 0)?))
 }
 
 /// Makes a stage of headers, and returns a digest of how many events it gives at most.
@@ -86,6 +120,19 @@ fn header_stage(alloc: Global) -> Result<u64, AllocError> {
 /// Makes a stage of headers with a hasher, and returns a digest of how many events it gives at most.
 fn hashed_header_stage(alloc: Global) -> Result<u64, AllocError> {
     Ok(most_of(HeaderStage::with_hasher(alloc, Limits::DEFAULT, DefaultHasher::new())?))
+}
+
+/// Makes a stage of headers in memory of its own, and returns a digest of how many events it gives at most.
+fn header_stage_in_memory(alloc: Global) -> Result<u64, AllocError> {
+    let memory = Memory::with_capacity(alloc, 0)?;
+    let hasher = DefaultHasher::new();
+    Ok(most_of(HeaderStage::in_memory(&memory, Limits::DEFAULT, hasher)?))
+}
+
+/// Makes a stage over a score in memory of its own, and returns a digest of how many events it gives at most.
+fn score_stage_in_memory(alloc: Global) -> Result<u64, AllocError> {
+    let memory = Memory::with_capacity(alloc, 0)?;
+    Ok(most_of(ScoreStage::in_memory(&memory, Limits::DEFAULT)?))
 }
 
 /// Makes a stage over a score, and returns a digest of how many events it gives at most.
@@ -106,7 +153,8 @@ fn resumed_score_stage(alloc: Global) -> Result<u64, AllocError> {
         },
         sounded: true,
     };
-    Ok(most_of(ScoreStage::resume(alloc, Limits::DEFAULT, before)?))
+    let memory = Memory::with_capacity(alloc, 0)?;
+    Ok(most_of(ScoreStage::resume(&memory, Limits::DEFAULT, before)?))
 }
 
 /// Makes a stage over a score by the law that returns one, and returns a digest of how many events it gives at most.
@@ -118,14 +166,19 @@ impl Trial for Made {
     fn call(&mut self, alloc: Global) -> Result<u64, AllocError> {
         match self {
             Made::Room => room(alloc),
+            Made::RoomInMemory => room_in_memory(alloc),
+            Made::Memory => memory(alloc),
+            Made::Arena => arena(alloc),
+            Made::Owners => owners(alloc),
             Made::Sink => sink(alloc),
             Made::View => view(alloc),
-            Made::Scratch => scratch(alloc),
             Made::BodyStage => body_stage(alloc),
             Made::HeaderStage => header_stage(alloc),
             Made::HashedHeaderStage => hashed_header_stage(alloc),
+            Made::HeaderStageInMemory => header_stage_in_memory(alloc),
             Made::ResumedScoreStage => resumed_score_stage(alloc),
             Made::ScoreStage => score_stage(alloc),
+            Made::ScoreStageInMemory => score_stage_in_memory(alloc),
             Made::LawfulScoreStage => lawful_score_stage(alloc),
         }
     }

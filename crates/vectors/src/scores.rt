@@ -2,7 +2,7 @@
 
 use crate::printed::Printed;
 use crate::show::{show_bytes, show_fault, show_findings, show_note_event, show_text_event};
-use gabc_places::{Limits, Place, Stage, Text, outputs_of};
+use gabc_places::{Limits, Memory, Place, Stage, Text, outputs_of};
 use gabc_score::{BodyEvent, BodyStage, InputEnding, Position, Score, Syllable, score_whole};
 use std::alloc::{AllocError, Global};
 
@@ -119,7 +119,8 @@ fn show_events(most: usize, events: &[BodyEvent], out: &mut Printed) {
 
 /// Prints how many events a stage gives for a character at most, and those that it gives of the body.
 fn answer_body(alloc: Global, input: &str, out: &mut Printed) -> Result<(), AllocError> {
-    let mut stage = BodyStage::new(alloc, 0, 0)?;
+    let memory = Memory::with_capacity(alloc, 0)?;
+    let mut stage = BodyStage::new(&memory, 0, 0)?;
     let events = outputs_of(alloc, &mut stage, input, Place::START)?;
     show_events(stage.most(), events.as_slice(), out);
     Ok(())

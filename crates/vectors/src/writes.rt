@@ -1,7 +1,5 @@
 //! Rows of what the writers add.
 
-ghost use Rattle.std.specs.Prelude.{◌≤◌, length, string_bytes};
-
 use crate::printed::Printed;
 use crate::show::show_bytes;
 use gabc_headers::{HeaderBook, headers_whole};
@@ -9,8 +7,7 @@ use gabc_neumes::Alterations;
 use gabc_places::{Code, Limits, Place, Room, Text};
 use gabc_score::{InputEnding, Syllable, score_whole};
 use gabc_write::{
-    Scratch, canon_header, canon_len, canon_syllable, dump_len, dump_syllable, message_len,
-    message_line,
+    canon_header, canon_len, canon_syllable, dump_len, dump_syllable, message_len, message_line,
 };
 use std::alloc::{AllocError, Global};
 
@@ -113,35 +110,17 @@ fn show_lines(
     number: u64,
     syllable: &Syllable,
     alterations: &mut Alterations,
-    scratch: &mut Scratch,
     out: &mut Printed,
-) -> Result<(), AllocError>
-    requires { length (string_bytes syllable.now.kept) ≤ scratch.old }
-{
-    let len = dump_len(number, syllable, alterations, scratch);
+) -> Result<(), AllocError> {
+    let len = dump_len(number, syllable, alterations);
     if len == usize::MAX {
         return Err(AllocError);
     }
     let mut room = Room::with_limit(alloc, len)?;
-    dump_syllable(number, syllable, alterations, scratch, &mut room);
+    dump_syllable(number, syllable, alterations, &mut room);
     out.put("\t");
     show_counted(len, room.slice(), out);
     Ok(())
-}
-
-/// Reserves what a dump of a syllable needs, and prints its lines.
-fn show_dump(
-    alloc: Global,
-    number: u64,
-    syllable: &Syllable,
-    alterations: &mut Alterations,
-    out: &mut Printed,
-) -> Result<(), AllocError> {
-    let mut scratch = Scratch::with_limit(alloc, syllable.kept.len())?;
-    let shown = show_lines(alloc, number, syllable, alterations, &mut scratch, out);
-    // A proof follows a call faster than all that lies inside.
-    drop(scratch);
-    shown
 }
 
 /// Prints the number of syllables, and the lines of each in a dump. The first one has the number 4294967295.
@@ -150,7 +129,7 @@ fn show_dumps(alloc: Global, syllables: &[Syllable], out: &mut Printed) -> Resul
     let mut alterations = Alterations::new();
     for (index, syllable) in syllables.iter().enumerate() {
         let number = (index as u64).saturating_add(4294967295);
-        show_dump(alloc, number, syllable, &mut alterations, out)?;
+        show_lines(alloc, number, syllable, &mut alterations, out)?;
     }
     Ok(())
 }

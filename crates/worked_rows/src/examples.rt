@@ -11,9 +11,7 @@ use gabc_places::{
 };
 use gabc_score::{InputEnding, Score, Syllable, score_whole};
 use gabc_text::{Piece, kept_chars, text_len, text_whole};
-use gabc_write::{
-    Scratch, dump_end, dump_header, dump_len, dump_syllable, message_len, message_line,
-};
+use gabc_write::{dump_end, dump_header, dump_len, dump_syllable, message_len, message_line};
 use gregorio::{Format, Input, Job, Output, Status, compile};
 use std::alloc::{AllocError, Global};
 
@@ -117,20 +115,12 @@ fn score_of(alloc: Global, text: &str) -> Result<Score, AllocError> {
     score_whole(alloc, &text, InputEnding::Whole, Limits::DEFAULT)
 }
 
-/// Puts the lines of the first syllable of a score, with this number, in a dump, if its text fits. Returns how many bytes `dump_len` tells.
-fn put_lines(
-    number: u64,
-    syllable: &Syllable,
-    scratch: &mut Scratch,
-    out: &mut Room<u8>,
-) -> Option<usize> {
-    if syllable.kept.len() > scratch.limit() {
-        return None;
-    }
+/// Puts the lines of the first syllable of a score, with this number, in a dump. Returns how many bytes `dump_len` tells.
+fn put_lines(number: u64, syllable: &Syllable, out: &mut Room<u8>) -> usize {
     let mut alterations = Alterations::new();
-    let len = dump_len(number, syllable, &alterations, scratch);
-    dump_syllable(number, syllable, &mut alterations, scratch, out);
-    Some(len)
+    let len = dump_len(number, syllable, &alterations);
+    dump_syllable(number, syllable, &mut alterations, out);
+    len
 }
 
 /// Whether these are the lines of a syllable with this number in a dump, and as many bytes as `dump_len` tells.
@@ -141,10 +131,8 @@ fn is_dumped(
     wanted: &str,
 ) -> Result<bool, AllocError> {
     let mut out = Room::with_limit(alloc, 256)?;
-    let mut scratch = Scratch::with_limit(alloc, 64)?;
-    let len = put_lines(number, syllable, &mut scratch, &mut out);
-    drop(scratch);
-    Ok(len == Some(wanted.len()) && out.slice() == wanted.as_bytes())
+    let len = put_lines(number, syllable, &mut out);
+    Ok(len == wanted.len() && out.slice() == wanted.as_bytes())
 }
 
 #[test]

@@ -4,12 +4,11 @@ ghost use Rattle.std.specs.Prelude.{◌≡◌};
 ghost use Rattle.gabc_notes.specs.Items.{AreWithin};
 
 use gabc_neumes::{
-    Base, Glyph, GlyphKind, Tail, cut, elements, is_in_element, is_in_segment, notes_into,
-    word_of_base, word_of_shape, word_of_tail,
+    Base, Glyph, GlyphKind, Tail, cut, elements, glyph_from, is_in_element, is_in_segment,
+    notes_into, word_of_base, word_of_shape, word_of_tail,
 };
-use gabc_notes::{Item, ItemKind, Shape, height_of, is_snippet, items_whole};
+use gabc_notes::{Item, ItemKind, Shape, height_of, is_snippet, items_in, items_whole, note_of};
 use gabc_places::{Room, Span};
-use gabc_write::Scratch;
 use std::alloc::{AllocError, Global};
 
 /// Whether the elements of the items of a kept text are these.
@@ -71,6 +70,28 @@ fn example_of_neumes(rt: HostRuntime) -> Result<(), AllocError> {
     Ok(())
 }
 
+/// Returns the first glyph of a kept text that begins with a note: its kind, and how many notes it has.
+fn first_glyph(kept: &str) -> Option<(GlyphKind, usize)> {
+    let mut items = items_in(kept);
+    let item = items.next()?;
+    let note = note_of(kept, item)?;
+    glyph_from(kept, note, &items)
+}
+
+#[test]
+fn a_glyph_is_found_ahead(rt: HostRuntime) {
+    let torculus = GlyphKind {
+        base: Base::Torculus,
+        tail: Tail::Plain,
+    };
+    let clivis = GlyphKind {
+        base: Base::Clivis,
+        tail: Tail::Plain,
+    };
+    assert!(rt; first_glyph("f[n]g@f/f") == Some((torculus, 3)));
+    assert!(rt; first_glyph("gf/g") == Some((clivis, 2)) && first_glyph("/g").is_none());
+}
+
 /// Whether a kind of glyphs is shown so.
 fn is_shown(alloc: Global, kind: GlyphKind, wanted: &str) -> Result<bool, AllocError> {
     Ok(format!(in alloc; "{kind}")?.as_str() == wanted)
@@ -118,14 +139,5 @@ fn items_stand_where_they_say(rt: HostRuntime) {
 fn items_go_as_far_as_one_begins(rt: HostRuntime) -> Result<(), AllocError> {
     let items = items_whole(rt.alloc(), "g(h")?;
     assert!(rt; items.as_slice() == [item(ItemKind::Note, 0, 1)].as_slice());
-    Ok(())
-}
-
-#[test]
-fn a_scratch_has_its_limit(rt: HostRuntime) -> Result<(), AllocError> {
-    let scratch = Scratch::with_limit(rt.alloc(), 64)?;
-    let limit = scratch.limit();
-    drop(scratch);
-    assert_eq!(rt; limit, 64);
     Ok(())
 }

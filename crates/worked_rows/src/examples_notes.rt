@@ -1,11 +1,9 @@
 //! The examples of `gabc_notes` and `gabc_nabc`.
 
-ghost use Rattle.std.specs.Prelude.{◌≡◌};
-
-use gabc_nabc::{Descriptor, codes_into, descriptors_whole, is_nabc, nabc_whole};
+use gabc_nabc::{Descriptor, codes_in, descriptors_whole, is_nabc, nabc_whole, parts_in};
 use gabc_notes::{
-    Item, ItemKind, Shape, SnippetEnding, SnippetRead, is_snippet, items_whole, kept_chars,
-    note_of, snippet_whole,
+    Item, ItemKind, Shape, SnippetEnding, SnippetRead, is_snippet, items_in, items_whole,
+    kept_chars, note_of, snippet_whole,
 };
 use gabc_places::{Char, Place, Room, Span};
 use std::alloc::{AllocError, Global};
@@ -39,6 +37,19 @@ fn has_items(alloc: Global, kept: &str, wanted: &[Item]) -> Result<bool, AllocEr
 fn keeps_notes(alloc: Global) -> Result<bool, AllocError> {
     let chars = kept_chars(alloc, "g1hv)", Place::START, false, 0)?;
     Ok(ends_in(chars.as_slice(), 4))
+}
+
+/// Whether a kept text has so many items, all of them notes, also looking ahead.
+fn has_notes(kept: &str, count: usize) -> bool {
+    let mut items = items_in(kept);
+    let ahead = items.ahead().count();
+    let all = items.all(|item| item.kind == ItemKind::Note);
+    all && ahead == count
+}
+
+#[test]
+fn items_come_one_by_one(rt: HostRuntime) {
+    assert!(rt; has_notes("ghvF", 3) && !has_notes("g/h", 3) && has_notes("g(h", 1));
 }
 
 #[test]
@@ -76,15 +87,15 @@ fn keeps_nabc(alloc: Global) -> Result<bool, AllocError> {
     Ok(ends_in(chars.as_slice(), 5))
 }
 
-/// Whether the first code of `pe` in the example of NABC has a name, which is `pes`.
-fn names_pes(alloc: Global, pes: Descriptor) -> Result<bool, AllocError>
-    requires { (pes.span.from ≡ 2) × (pes.span.to ≡ 4) }
-{
-    let mut room = Room::with_limit(alloc, 2)?;
-    codes_into("vipe", pes, &mut room);
-    match room.slice().first() {
-        Some(code) => Ok(matches!(code.name(), Some(name) if name == "pes")),
-        None => Ok(false),
+/// Whether the first code of the first part of a kept text has this name.
+fn names_first(kept: &str, wanted: &str) -> bool {
+    let mut parts = parts_in(kept);
+    match parts.next() {
+        Some(part) => match codes_in(kept, part).next() {
+            Some(code) => matches!(code.name(), Some(name) if name == wanted),
+            None => false,
+        },
+        None => false,
     }
 }
 
@@ -101,7 +112,7 @@ fn example_of_nabc(rt: HostRuntime) -> Result<(), AllocError> {
     };
     assert!(rt; reads_nabc(alloc)? && keeps_nabc(alloc)?);
     assert!(rt; has_parts(alloc, "vipe", &[virga, pes])?); // `vi` and `pe`, from byte 2 to byte 4
-    assert!(rt; names_pes(alloc, pes)?);
+    assert!(rt; names_first("pe!vi7", "pes") && !names_first("//vi", "virga"));
     Ok(())
 }
 

@@ -1,5 +1,5 @@
 -- Reading what is gathered entry by entry.
-use Rattle.std.proofs.Common.{◌≡◌, ℕ, ◌<◌, ◌≤◌, ◌+◌, ◌^◌, ◌-◌, suc, zero, min, List, [], ◌∷◌, ◌++◌, length, drop, arith, refl, sym, ap, ◌∙◌, codes, Option, Some, None, slice_get, slice_range, IsSomeAnd, append_assoc, subst}
+use Rattle.std.proofs.Common.{◌≡◌, ℕ, ◌<◌, ◌≤◌, ◌+◌, ◌^◌, ◌-◌, suc, zero, min, List, [], ◌∷◌, ◌++◌, length, drop, arith, refl, sym, ap, ◌∙◌, codes, Option, Some, None, slice_get, IsSomeAnd, append_assoc, subst}
 use Rattle.std.specs.Map.{values_of}
 use Rattle.std.specs.Str.{chars}
 use Rattle.gabc_places.specs.declared.place.Span.{Span}
@@ -8,7 +8,7 @@ use Rattle.gabc_headers.specs.declared.entry_map.Key.{Key}
 use Rattle.gabc_headers.specs.Lines.{bytes_len}
 use Rattle.gabc_headers.specs.Canonical.{header_line, header_lines, canonical_heads}
 use Rattle.gabc_headers.specs.machine.EntryMap.{key_name, named_entries, spelled_entries, AreWithin}
-use Rattle.gabc_headers.specs.BookText.{IsWithin}
+use Rattle.gabc_headers.specs.machine.Spans.{IsWithin}
 use Rattle.gabc_headers.proofs.entries.TextsAsBytes.{bytes_len-append}
 
 pub length-named : {X : Type 0} (es : List (Key × X)) → length (named_entries es) ≡ length es
@@ -34,12 +34,12 @@ within_get text (d ∷ es) zero s w h = subst (IsWithin text) h w.0
 within_get text (d ∷ es) (suc i) s w h = within_get text es i s w.1 h
 
 -- the lines from this entry on
-pub spelled_here : (text : List ℕ) (es : List (List ℕ × Span)) (i : ℕ) (n : List ℕ) (s : Span)
-    → IsSomeAnd (slice_get es i) (λ e. chars n ≡ e.0) → IsSomeAnd (slice_get es i) (λ e. e.1 ≡ s)
-    → spelled_entries text (drop i es) ≡ (chars n, chars (slice_range text s.from s.to)) ∷ spelled_entries text (drop (suc i) es)
-spelled_here text [] i n s h k = absurd h
-spelled_here text (d ∷ es) zero n s h k = rw (h, ← k) refl
-spelled_here text (d ∷ es) (suc i) n s h k = spelled_here text es i n s h k
+pub spelled_here : (text : List ℕ) (es : List (List ℕ × Span)) (i : ℕ) (n v : List ℕ)
+    → IsSomeAnd (slice_get es i) (λ e. chars n ≡ e.0) → IsSomeAnd (slice_get (spelled_entries text es) i) (λ e. chars v ≡ e.1)
+    → spelled_entries text (drop i es) ≡ (chars n, chars v) ∷ spelled_entries text (drop (suc i) es)
+spelled_here text [] i n v h k = absurd h
+spelled_here text (d ∷ es) zero n v h k = rw (h, k) refl
+spelled_here text (d ∷ es) (suc i) n v h k = spelled_here text es i n v h k
 
 pub spelled_none : (text : List ℕ) (es : List (List ℕ × Span)) (i : ℕ) → length es ≤ i → spelled_entries text (drop i es) ≡ []
 spelled_none text [] zero l = refl

@@ -9,22 +9,17 @@ use Rattle.gabc_headers.specs.Parts.{HeaderPart, left_out, header, unended}
 use Rattle.gabc_places.specs.declared.code.Code.TheVariants.{W2, E5}
 use Rattle.gabc_headers.specs.Book.{is_kept}
 use Rattle.gabc_headers.specs.EntryMap.{put_entry}
-use Rattle.gabc_headers.specs.BookText.{text_at}
-use Rattle.gabc_headers.specs.machine.EntryMap.{comes_again, spelled_entries, AreWithin}
+use Rattle.gabc_headers.specs.machine.Spans.{text_at}
+use Rattle.gabc_headers.specs.machine.EntryMap.{comes_again}
 use Rattle.gabc_headers.specs.machine.Collected.{collected_with, collected_with_all, found_with, finding_at}
 use Rattle.gabc_headers.specs.machine.Events.{SpanHolds, IsEventOf, AreEventsOf}
 use Rattle.gabc_places.proofs.texts.CharactersOfStrings.{scalars_split}
 use Rattle.gabc_headers.proofs.collecting.EventsAddEntries.{holds_within}
-use Rattle.gabc_headers.proofs.entries.PushedEntryIsShown.{shown_at-append}
+use Rattle.gabc_headers.proofs.entries.TextsGoOn.{shown_at-append}
 use Rattle.std.proofs.lemmas.Str.{encodes-append}
 
 same_text_at : (t xs v : List ℕ) (s : Span) → scalars (t ++ xs) ≡ true → SpanHolds t s v → text_at (encodes (t ++ xs)) s ≡ text_at (encodes t) s
 same_text_at t xs v s u h = ap (λ (x : List ℕ). text_at x s) (encodes-append t xs) ∙ shown_at-append (encodes t) (encodes xs) s (holds_within t v s (scalars_split t xs u).0 h)
-
--- the values of entries
-pub spelled_longer : (text more : List ℕ) (es : List (List ℕ × Span)) → AreWithin text es → spelled_entries (text ++ more) es ≡ spelled_entries text es
-spelled_longer text more [] h = refl
-spelled_longer text more (e ∷ es) h = rw (shown_at-append text more e.1 h.0, spelled_longer text more es h.1) refl
 
 -- one event
 grown_with : (t xs : List ℕ) (e : HeaderEvent) (p : HeaderPart) (c : Collected) → scalars (t ++ xs) ≡ true → IsEventOf t e p → collected_with (encodes (t ++ xs)) e c ≡ collected_with (encodes t) e c

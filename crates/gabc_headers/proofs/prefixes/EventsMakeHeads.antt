@@ -37,7 +37,7 @@ use Rattle.gabc_headers.proofs.collecting.HeadsFollowFromEvents.{collected_of, r
 use Rattle.gabc_places.proofs.texts.CharactersOfStrings.{scalars_split}
 use Rattle.gabc_headers.proofs.groups.BookNeedsScoreLine.{score_behind}
 use Rattle.gabc_headers.proofs.PrefixHasTheSameHeaders.{len_again, heads_again}
-use Rattle.gabc_headers.proofs.prefixes.EventsGrow.{spelled_longer}
+use Rattle.gabc_headers.proofs.entries.TextsGoOn.{spelled_longer}
 use Rattle.gabc_headers.proofs.prefixes.HeadsSoFar.{HasRead, begin_read, read_more, read_ended, kept_so_far, heads_at, heads_at_end, AreOpen, open_so_far, found_at, found_more}
 
 -- ---- a push never emits the end of the text

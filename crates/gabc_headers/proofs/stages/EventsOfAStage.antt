@@ -24,7 +24,7 @@ use Rattle.gabc_headers.specs.declared.header_machine.HeaderStep.TheVariants.{Re
 use Rattle.gabc_headers.specs.declared.heads.Heads.{Heads}
 use Rattle.gabc_headers.specs.declared.heads.HeadFault.{HeadFault}
 use Rattle.gabc_headers.specs.Book.{has_header, is_kept}
-use Rattle.gabc_headers.specs.BookText.{text_at}
+use Rattle.gabc_headers.specs.machine.Spans.{text_at}
 use Rattle.gabc_headers.specs.EntryMap.{put_entry}
 use Rattle.gabc_headers.specs.Heads.{heads_of}
 use Rattle.gabc_headers.specs.HeadEvents.{event_of_book}
@@ -38,7 +38,8 @@ use Rattle.gabc_headers.specs.machine.HeaderStage.{Takes, IsReading}
 use Rattle.gabc_headers.proofs.collecting.HeadsFollowFromEvents.{collected_of, read_good, read_within}
 use Rattle.gabc_headers.proofs.collecting.HeadsWithinLimits.{by_len, heads_by_len, at_text_end}
 use Rattle.gabc_headers.proofs.entries.TextsAsBytes.{bytes_len-append, bytes_len-chars}
-use Rattle.gabc_headers.proofs.prefixes.EventsGrow.{with_last, spelled_longer}
+use Rattle.gabc_headers.proofs.entries.TextsGoOn.{spelled_longer}
+use Rattle.gabc_headers.proofs.prefixes.EventsGrow.{with_last}
 use Rattle.gabc_headers.proofs.prefixes.EventsMakeHeads.{IsNoText, no_text_push, read_emits, stopped_emits, whole_emits, now_is}
 use Rattle.gabc_headers.proofs.prefixes.HeadsSoFar.{HasRead, read_all, kept_so_far, heads_at, heads_at_end, found_at}
 use Rattle.gabc_headers.proofs.stages.HeadersTakeThreeBytes.{room_for_one}
@@ -85,6 +86,17 @@ good_last text es None h = tt
 good_last text [] (Some e) h = h.0
 good_last text (d ∷ es) (Some e) h = good_last text es (Some e) h.1
 
+-- ---- the values
+
+-- they lie in the text that is read
+pub values_lie_within : (limits : Limits) (text : List ℕ) (space : ℕ) (machine : HeaderMachine) (headers : BoundedList (List ℕ × Span)) → IsUtf8 text → IsReading limits text space machine headers → AreWithin text headers.items
+values_lie_within limits text space machine headers u h =
+    let t = chars text in
+    let bytes_are : encodes t ≡ text = encodes-chars text u in
+    let items_are : headers.items ≡ (collected_of t h.events).headers = h.put ∙ ap (λ (x : List ℕ). (collected_with_all x h.events none).headers) (sym bytes_are) in
+    subst (λ (x : List (List ℕ × Span)). AreWithin text x) (sym items_are) (subst (λ (x : List ℕ). AreWithin x (collected_of t h.events).headers) bytes_are
+    (read_within limits t h.events (end_here machine) (scalars-chars text u) (read_all limits.header t machine h.events (has_read limits.header t machine h.events h.taken))))
+
 -- ---- a character
 
 -- what a character emits with which the headers go on
@@ -126,9 +138,6 @@ module _ (limits : Limits) (text : List ℕ) (space : ℕ) (machine new : Header
 
   scalars_more : scalars longer ≡ true
   scalars_more = subst (λ (x : List ℕ). scalars x ≡ true) chars_more (scalars-chars more more_utf8)
-
-  scalars_all : scalars t ≡ true
-  scalars_all = scalars-chars text u
 
   pub read : HasRead limits.header t machine h.events
   read = has_read limits.header t machine h.events h.taken
@@ -196,12 +205,8 @@ module _ (limits : Limits) (text : List ℕ) (space : ℕ) (machine new : Header
   abbrev book : List (List ℕ × List ℕ)
   book = spelled_entries text headers.items
 
-  pub headers_lie_within : AreWithin text headers.items
-  headers_lie_within = subst (λ (x : List (List ℕ × Span)). AreWithin text x) (sym items_are) (subst (λ (x : List ℕ). AreWithin x (collected_of t h.events).headers) bytes_are
-      (read_within limits t h.events (end_here machine) scalars_all (read_all limits.header t machine h.events read)))
-
   book_is : spelled_entries (encodes longer) (collected_of t h.events).headers ≡ book
-  book_is = ap (λ (x : List ℕ). spelled_entries x (collected_of t h.events).headers) bytes_more ∙ (ap (λ (x : List (List ℕ × Span)). spelled_entries more x) (sym items_are) ∙ spelled_longer text (encode c) headers.items headers_lie_within)
+  book_is = ap (λ (x : List ℕ). spelled_entries x (collected_of t h.events).headers) bytes_more ∙ (ap (λ (x : List (List ℕ × Span)). spelled_entries more x) (sym items_are) ∙ spelled_longer text (encode c) headers.items (values_lie_within limits text space machine headers u h))
 
   heads_are : (place : Place) (body : ℕ) (line : Option ℕ) → push_one machine c ≡ (new, Ended (Score place body line))
       → heads_of limits longer ≡ heads_by_len place body book (collected_of t h.events).findings (len_at_score limits place line book)

@@ -5,7 +5,7 @@ use Rattle.gabc_places.specs.declared.place.Span.{Span}
 use Rattle.gabc_headers.specs.declared.entry_map.Key.{Key}
 use Rattle.gabc_headers.specs.declared.entry_map.Key.TheVariants.{Name, Annotation}
 use Rattle.gabc_headers.specs.Book.{is_one_of}
-use Rattle.gabc_headers.specs.BookText.{IsWithin, text_at}
+use Rattle.gabc_headers.specs.machine.Spans.{IsWithin, text_at}
 use Rattle.gabc_headers.specs.EntryMap.{is_annotation}
 
 -- the names of the entries

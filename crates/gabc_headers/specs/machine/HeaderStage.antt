@@ -1,19 +1,17 @@
 -- What holds of a stage of headers where it stands.
-use Rattle.std.specs.Prelude.{◌≡◌, ℕ, ◌+◌, ◌/◌, ◌≤◌, List, [], ◌∷◌, vec_capacity, string_bytes, Option}
-use Rattle.std.specs.String.{string_capacity}
+use Rattle.std.specs.Prelude.{◌≡◌, ℕ, ◌+◌, ◌/◌, ◌≤◌, List, [], ◌∷◌, Option}
 use Rattle.std.specs.Str.{chars}
 use Rattle.gabc_places.specs.BoundedList.{BoundedList}
 use Rattle.gabc_places.specs.declared.place.Span.{Span}
 use Rattle.gabc_places.specs.declared.limits.Limits.{Limits}
-use Rattle.gabc_headers.specs.declared.book_room.BookRoom.{BookRoom}
 use Rattle.gabc_headers.specs.declared.events.HeaderEvent.{HeaderEvent}
 use Rattle.gabc_headers.specs.declared.header_machine.HeaderMachine.{HeaderMachine}
 use Rattle.gabc_headers.specs.declared.header_machine.HeaderStep.TheVariants.{Read}
 use Rattle.gabc_headers.specs.declared.header_stage.HeadPart.{HeadPart}
-use Rattle.gabc_headers.specs.declared.header_stage.HeadPart.TheVariants.{InHeaders, Behind, Over}
-use Rattle.gabc_headers.specs.BookText.{AreEntries}
+use Rattle.gabc_headers.specs.declared.header_stage.HeadPart.TheVariants.{InHeaders, Behind, Stopped, Over}
 use Rattle.gabc_headers.specs.witness.HeadEvents.{HeadProgress, reading, behind, over}
 use Rattle.gabc_headers.specs.machine.Collected.{collected_with_all, none}
+use Rattle.gabc_headers.specs.machine.EntryMap.{spelled_entries, AreWithin}
 use Rattle.gabc_headers.specs.machine.Events.{with_event}
 use Rattle.gabc_headers.specs.machine.HeaderMachine.{IsBounded, fresh_machine, push_one}
 
@@ -36,27 +34,34 @@ pub record IsReading (limits : Limits) (text : List ℕ) (room : ℕ) (machine :
   pub put : headers.items ≡ (collected_with_all text events none).headers
   pub limit : headers.limit ≡ headers_within limits
 
--- nothing is in the room, and all headers within the limits fit
-pub record HasRoomFor (bytes headers : ℕ) (room : BookRoom) : Type 0 where
-  pub text : string_bytes room.text ≡ []
-  pub entries : room.entries.items ≡ []
-  pub text_fits : bytes ≤ string_capacity room.text
-  pub entries_fit : headers ≤ vec_capacity room.entries
-
--- The memory stays reserved: for the text, for the headers that count and for a book. And what stands in the room of the book is one.
-pub record KeepsMemory (limits : Limits) (space : ℕ) (headers : BoundedList (List ℕ × Span)) (room : BookRoom) : Type 0 where
+-- The memory stays reserved: for the text, and for the headers that count. And their values lie in the text.
+pub record KeepsHeaders (limits : Limits) (text : List ℕ) (space : ℕ) (headers : BoundedList (List ℕ × Span)) : Type 0 where
   pub text_fits : limits.header + 1 ≤ space
   pub headers_fit : headers.limit ≡ headers_within limits
-  pub bytes_fit : limits.header ≤ string_capacity room.text
-  pub entries_fit : headers_within limits ≤ vec_capacity room.entries
-  pub within : AreEntries (string_bytes room.text) room.entries.items
+  pub within : AreWithin text headers.items
 
-abbrev pub IsStageIn : HeadPart → Limits → List ℕ → ℕ → HeaderMachine → BoundedList (List ℕ × Span) → BookRoom → Type 0
-IsStageIn InHeaders limits text space machine headers room = IsReading limits text space machine headers × HasRoomFor limits.header (headers_within limits) room
-IsStageIn Behind limits text space machine headers room = KeepsMemory limits space headers room
-IsStageIn Over limits text space machine headers room = KeepsMemory limits space headers room
+abbrev pub IsStageIn : HeadPart → Limits → List ℕ → ℕ → HeaderMachine → BoundedList (List ℕ × Span) → Type 0
+IsStageIn InHeaders limits text space machine headers = IsReading limits text space machine headers
+IsStageIn Behind limits text space machine headers = KeepsHeaders limits text space headers
+IsStageIn Stopped limits text space machine headers = KeepsHeaders limits text space headers
+IsStageIn Over limits text space machine headers = KeepsHeaders limits text space headers
+
+-- what is lent: the headers, once they are whole
+abbrev pub book_in : HeadPart → List ℕ → List (List ℕ × Span) → List (List ℕ × List ℕ)
+book_in InHeaders text headers = []
+book_in Behind text headers = spelled_entries text headers
+book_in Stopped text headers = []
+book_in Over text headers = spelled_entries text headers
 
 abbrev pub progress_in : HeadPart → List ℕ → List (List ℕ × List ℕ) → HeadProgress
 progress_in InHeaders text book = reading (chars text)
 progress_in Behind text book = behind book
+progress_in Stopped text book = over
 progress_in Over text book = over
+
+-- behind the last event
+abbrev pub part_over : HeadPart → HeadPart
+part_over InHeaders = Stopped
+part_over Behind = Over
+part_over Stopped = Stopped
+part_over Over = Over

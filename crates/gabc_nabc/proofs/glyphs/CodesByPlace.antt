@@ -1,40 +1,42 @@
 -- The codes of a descriptor, one after the other.
-use Rattle.std.proofs.Common.{◌≡◌, ℕ, zero, suc, ◌+◌, ◌-◌, ◌≤◌, List, [], ◌∷◌, ◌++◌, sym, ap, ◌∙◌, arith, length, length-append, append_assoc, append-nil, Option, Some, None, option_to_list}
+use Rattle.std.proofs.Common.{◌≡◌, ℕ, zero, suc, ◌+◌, ◌-◌, ◌≤◌, ◌<◌, ◌==◌, ◌||◌, List, [], ◌∷◌, ◌++◌, Bool, true, false, sym, ap, ◌∙◌, arith, length, length-append, Option, None, Some, option_to_list, get_or, if◌then◌else◌}
 use Rattle.std.specs.List.{flat_map, range_with_len}
-use Rattle.std.proofs.lemmas.Grind.{flat_map-append}
-use Rattle.gabc_places.specs.BoundedList.{BoundedList, extended_by}
+use Rattle.gabc_nabc.specs.Codes.{code_at, codes_from}
+use Rattle.gabc_nabc.specs.declared.code.GlyphCode.{GlyphCode}
 
-range_more : (a n : ℕ) → range_with_len a (suc n) ≡ range_with_len a n ++ (a + n) ∷ []
-range_more a zero = let e : a ≡ a + 0 = omega arith in ap (λ (k : ℕ). k ∷ []) e
-range_more a (suc n) =
-    let e : a + 1 + n ≡ a + suc n = omega arith in
-    ap (λ (l : List ℕ). a ∷ l) (range_more (a + 1) n ∙ ap (λ (k : ℕ). range_with_len (a + 1) n ++ k ∷ []) e)
+-- the codes from a place on are that of the place, and those behind it
+pub codes_next : (text : List ℕ) (at : ℕ) → at < length text → codes_from text at ≡ code_at text at ++ codes_from text (at + 1)
+codes_next text at l =
+    let n : length text - at ≡ suc (length text - (at + 1)) = omega arith in
+    ap (λ (m : ℕ). flat_map (code_at text) (range_with_len at m)) n
 
--- one place more
-pub flat_more : (X : Type 0) (f : ℕ → List X) (at : ℕ) → 1 ≤ at → flat_map f (range_with_len 1 (at + 1 - 1)) ≡ flat_map f (range_with_len 1 (at - 1)) ++ f at
-flat_more X f at h =
-    let e : at + 1 - 1 ≡ suc (at - 1) = omega arith in
-    let g : 1 + (at - 1) ≡ at = omega arith in
-    ap (λ (n : ℕ). flat_map f (range_with_len 1 n)) e ∙ (ap (flat_map f) (range_more 1 (at - 1)) ∙ (flat_map-append f (range_with_len 1 (at - 1)) ((1 + (at - 1)) ∷ [])
-    ∙ (ap (λ (l : List X). flat_map f (range_with_len 1 (at - 1)) ++ l) (append-nil (f (1 + (at - 1)))) ∙ ap (λ (n : ℕ). flat_map f (range_with_len 1 (at - 1)) ++ f n) g)))
+-- behind the last place there are none
+pub codes_end : (text : List ℕ) (at : ℕ) → length text ≤ at → codes_from text at ≡ []
+codes_end text at l =
+    let n : length text - at ≡ 0 = omega arith in
+    ap (λ (m : ℕ). flat_map (code_at text) (range_with_len at m)) n
 
--- What was found up to a place.
-pub record Found {X : Type 0} (f : ℕ → List X) (at : ℕ) (first now : BoundedList X) : Type 0 where
-  pub few : length (flat_map f (range_with_len 1 (at - 1))) ≤ at - 1
-  pub out : now ≡ extended_by first (flat_map f (range_with_len 1 (at - 1)))
+-- at a place with a code, and at one without
+pub codes_some : (text : List ℕ) (at : ℕ) (o : Option GlyphCode) (code : GlyphCode) → at < length text → option_to_list o ≡ code_at text at → o ≡ Some code
+    → codes_from text at ≡ code ∷ codes_from text (at + 1)
+codes_some text at o code l e f = codes_next text at l ∙ ap (λ (c : List GlyphCode). c ++ codes_from text (at + 1)) (sym e ∙ ap option_to_list f)
 
--- and at one place more
-pub found_more : (X : Type 0) (f : ℕ → List X) (at : ℕ) (first now next : BoundedList X) (o : Option X) → 1 ≤ at → option_to_list o ≡ f at → next ≡ extended_by now (option_to_list o)
-    → Found f at first now → Found f (at + 1) first next
-found_more X f at first now next o h e n r =
-    let more = flat_more X f at h in
-    let few = r.few in
-    record {
-      few = few_by o e;
-      out = n ∙ (ap (λ (l : List X). extended_by now l) e ∙ (ap (λ (k : BoundedList X). extended_by k (f at)) r.out
-          ∙ (ap (λ (l : List X). record first { items = l }) (append_assoc first.items (flat_map f (range_with_len 1 (at - 1))) (f at)) ∙ ap (extended_by first) (sym more))));
-    }
-  where
-    few_by : (p : Option X) → option_to_list p ≡ f at → length (flat_map f (range_with_len 1 (at + 1 - 1))) ≤ at + 1 - 1
-    few_by None q = (let m = ap length (flat_more X f at h ∙ ap (λ (l : List X). flat_map f (range_with_len 1 (at - 1)) ++ l) (sym q)) in let b = r.few in omega (arith, m, b, length-append (flat_map f (range_with_len 1 (at - 1))) []))
-    few_by (Some x) q = (let m = ap length (flat_more X f at h ∙ ap (λ (l : List X). flat_map f (range_with_len 1 (at - 1)) ++ l) (sym q)) in let b = r.few in omega (arith, m, b, h, length-append (flat_map f (range_with_len 1 (at - 1))) (x ∷ [])))
+pub codes_none : (text : List ℕ) (at : ℕ) (o : Option GlyphCode) → at < length text → option_to_list o ≡ code_at text at → o ≡ None
+    → codes_from text at ≡ codes_from text (at + 1)
+codes_none text at o l e f = codes_next text at l ∙ ap (λ (c : List GlyphCode). c ++ codes_from text (at + 1)) (sym e ∙ ap option_to_list f)
+
+-- ---- they are few
+
+one_at_most : (b : Bool) (c : GlyphCode) → length (if b then c ∷ [] else []) ≤ 1
+one_at_most true c = omega arith
+one_at_most false c = omega arith
+
+few : (text : List ℕ) (at n : ℕ) → length (flat_map (code_at text) (range_with_len at n)) ≤ n
+few text at zero = omega arith
+few text at (suc n) =
+    let one = one_at_most ((at == 1) || (get_or text (at - 2) 0 == 33)) (record { first = get_or text (at - 1) 0; second = get_or text at 0 }) in
+    let rest = few text (at + 1) n in
+    omega (arith, length-append (code_at text at) (flat_map (code_at text) (range_with_len (at + 1) n)))
+
+pub codes_few : (text : List ℕ) (at : ℕ) → length (codes_from text at) ≤ length text - at
+codes_few text at = few text at (length text - at)

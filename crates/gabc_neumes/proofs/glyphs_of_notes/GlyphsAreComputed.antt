@@ -17,7 +17,7 @@ use Rattle.gabc_neumes.proofs.glyphs_of_notes.GlyphsOneByOne.{none_empty, begins
 use Rattle.gabc_neumes.proofs.glyphs_of_notes.MachineReadsNeumes.{kinds_are_one}
 
 -- the kind of notes that are a glyph
-kind_is : (k : GlyphKind) (ns : List Note) → HasKind k ns → kind_by ns ≡ Some k
+pub kind_is : (k : GlyphKind) (ns : List Note) → HasKind k ns → kind_by ns ≡ Some k
 kind_is k ns h = go (kind_by ns) refl
   where
     go : (o : Option GlyphKind) → kind_by ns ≡ o → o ≡ Some k
@@ -25,7 +25,7 @@ kind_is k ns h = go (kind_by ns) refl
     go (Some j) e = ap (λ (x : GlyphKind). Some x) (kinds_are_one (letters ns) j k (item_at_end neumes (letters ns) j e) h)
 
 -- and of notes that are none
-kind_none : (ns : List Note) → ¬ HasSome HasKind ns → kind_by ns ≡ None
+pub kind_none : (ns : List Note) → ¬ HasSome HasKind ns → kind_by ns ≡ None
 kind_none ns h = go (kind_by ns) refl
   where
     go : (o : Option GlyphKind) → kind_by ns ≡ o → o ≡ None

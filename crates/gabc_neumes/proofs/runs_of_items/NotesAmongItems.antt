@@ -1,12 +1,14 @@
 -- The notes among items, one item after the other.
-use Rattle.std.proofs.Common.{◌≡◌, ℕ, List, [], ◌∷◌, ◌++◌, refl, sym, ap, ◌∙◌, Option, Some, None, take, length, get_or, ◌≤◌, ◌<◌, ◌+◌, arith, append_assoc, append-nil, length-append, length-take}
+use Rattle.std.proofs.Common.{◌≡◌, ℕ, List, [], ◌∷◌, ◌++◌, true, false, cond, refl, sym, ap, ◌∙◌, Option, Some, None, take, length, get_or, ◌≤◌, ◌<◌, ◌+◌, arith, append_assoc, append-nil, length-append, length-take}
+use Rattle.std.specs.List.{take_while, cons_option}
 use Rattle.std.proofs.lemmas.List.{take_more}
+use Rattle.std.proofs.lemmas.List.Sums.{take_while-cons}
 use Rattle.std.proofs.lemmas.List.Elements.{filter_map-append}
 use Rattle.gabc_places.specs.BoundedList.{BoundedList, Fits, extended_by}
 use Rattle.gabc_notes.specs.Notes.{note_in}
 use Rattle.gabc_notes.specs.declared.item.Item.{Item}
 use Rattle.gabc_notes.specs.declared.note.Note.{Note}
-use Rattle.gabc_neumes.specs.Elements.{notes_in}
+use Rattle.gabc_neumes.specs.Elements.{is_in_segment, notes_in}
 
 -- there are no more notes than items
 pub notes_few : (kept : List ℕ) (items : List Item) → length (notes_in kept items) ≤ length items
@@ -47,3 +49,19 @@ pub notes_fit : (kept : List ℕ) (items : List Item) (i : ℕ) (r : BoundedList
     → Fits (extended_by r (notes_in kept (take i items))) 1
 notes_fit kept items i r l h =
     omega (arith, h, notes_few kept (take i items), length-take i items, length-append r.items (notes_in kept (take i items)))
+
+-- ---- the notes of the segment that begins the items
+
+pub ahead_end : (kept : List ℕ) (i : Item) (items : List Item) → is_in_segment i ≡ false → notes_in kept (take_while is_in_segment (i ∷ items)) ≡ []
+ahead_end kept i items e = ap (notes_in kept) (take_while-cons is_in_segment i items ∙ ap (λ b. cond b (i ∷ take_while is_in_segment items) []) e)
+
+ahead_item : (kept : List ℕ) (i : Item) (items : List Item) → is_in_segment i ≡ true → notes_in kept (take_while is_in_segment (i ∷ items)) ≡ notes_in kept (i ∷ take_while is_in_segment items)
+ahead_item kept i items e = ap (notes_in kept) (take_while-cons is_in_segment i items ∙ ap (λ b. cond b (i ∷ take_while is_in_segment items) []) e)
+
+pub ahead_note : (kept : List ℕ) (i : Item) (items : List Item) (n : Note) → is_in_segment i ≡ true → note_in kept i ≡ Some n
+    → notes_in kept (take_while is_in_segment (i ∷ items)) ≡ n ∷ notes_in kept (take_while is_in_segment items)
+ahead_note kept i items n e f = ahead_item kept i items e ∙ ap (λ (o : Option Note). cons_option o (notes_in kept (take_while is_in_segment items))) f
+
+pub ahead_none : (kept : List ℕ) (i : Item) (items : List Item) → is_in_segment i ≡ true → note_in kept i ≡ None
+    → notes_in kept (take_while is_in_segment (i ∷ items)) ≡ notes_in kept (take_while is_in_segment items)
+ahead_none kept i items e f = ahead_item kept i items e ∙ ap (λ (o : Option Note). cons_option o (notes_in kept (take_while is_in_segment items))) f

@@ -1,50 +1,32 @@
 -- The items of a text one after the other, by their bytes.
-use Rattle.std.proofs.Common.{◌≡◌, ℕ, List, [], ◌∷◌, ◌++◌, refl, sym, ap, ◌∙◌, append_assoc, append-nil, take, drop, length, map, slice_range, ◌≤◌, ◌+◌, ◌-◌, arith, length-drop, drop-drop, take-append-drop, IsUtf8, subst, None}
+use Rattle.std.proofs.Common.{◌≡◌, ℕ, zero, suc, List, [], ◌∷◌, ◌++◌, refl, sym, ap, ◌∙◌, take, drop, length, map, slice_range, ◌≤◌, ◌+◌, ◌-◌, arith, length-drop, drop-drop, take-append-drop, IsUtf8, subst, Option, None, Some}
+use Rattle.std.specs.List.{All, concat}
 use Rattle.std.specs.Str.{chars}
-use Rattle.std.proofs.lemmas.Str.{chars-append, IsUtf8-take, IsCharBoundary-from_drop, encodes-chars, encodes-append, scalars-chars, chars-encodes}
+use Rattle.std.proofs.lemmas.Str.{chars-append, IsUtf8-take, IsCharBoundary-from_drop, encodes-chars, encodes-append, scalars-chars, chars-encodes, length-le-encodes}
 use Rattle.std.proofs.lemmas.List.{length-append, length-take-le}
-use Rattle.std.proofs.lemmas.List.Elements.{All-nil, All-push}
+use Rattle.std.proofs.lemmas.List.Elements.{All-nil, All-cons}
 use Rattle.std.proofs.Math.Seq.{take-append_seam, drop-append_seam}
 use lib.Utf8.{encodes, scalars}
-use Rattle.gabc_places.specs.BoundedList.{BoundedList, Fits, extended_by}
 use Rattle.gabc_notes.specs.Table.{gabc}
 use Rattle.gabc_notes.specs.machine.Items.{IsFirstItem}
-use Rattle.gabc_notes.specs.Items.{IsKept, AreItemsOf, AreWithin, read_as, piece_of, placed_items, items_of}
+use Rattle.gabc_notes.specs.Items.{IsKept, AreItemsOf, AreWithin, read_as, piece_of, placed_items, items_from, items_of}
 use Rattle.gabc_notes.specs.declared.item.Item.{Item}
 use Rattle.gabc_notes.specs.declared.item.ItemKind.{ItemKind}
 use Rattle.gabc_patterns.specs.LongestItems.{IsReading}
 use Rattle.gabc_patterns.specs.Items.{FollowOn}
-use Rattle.gabc_patterns.specs.Function.{items, longest_item}
+use Rattle.gabc_patterns.specs.Function.{items, items_within, longest_item}
 use Rattle.gabc_notes.proofs.grammar.LawsOfKeptTexts.{kinds_are_one}
 use Rattle.gabc_places.proofs.texts.CharactersOfStrings.{scalars_split}
 use Rattle.gabc_patterns.proofs.ItemsFunctionReads.{items_are}
-use Rattle.gabc_patterns.proofs.ItemsOneByOne.{items_first, items_none}
-
--- the items of what comes from that byte on
-abbrev pub items_from : List ℕ → ℕ → List Item
-items_from text at = placed_items at (items gabc (chars (drop at text)))
-
--- The items before at are those; more come from there on.
-pub record Listed (text : List ℕ) (listed : List Item) (at : ℕ) : Type 0 where
-  pub fits : at ≤ length text
-  pub utf8 : IsUtf8 (drop at text)
-  pub whole : items_of text ≡ listed ++ items_from text at
-  pub within : AreWithin text listed
-  pub few : length listed ≤ at
-
--- before the first item
-pub listed_first : (text : List ℕ) → IsUtf8 text → Listed text [] 0
-listed_first text u = record { fits = omega arith; utf8 = u; whole = refl; within = All-nil (λ (i : Item). (i.span.from ≤ i.span.to) × (i.span.to ≤ length text)); few = omega arith }
+use Rattle.gabc_patterns.proofs.ItemsOneByOne.{items_first, items_none, items_lie}
 
 -- an item of that kind, and of so many bytes
 abbrev pub item_at : ItemKind → ℕ → ℕ → Item
 item_at k at len = record { kind = k; span = record { from = at; to = at + len } }
 
 -- the first of the items from a byte on, and those behind it
-pub first_from : (text : List ℕ) (at len : ℕ) (k : ItemKind) → IsUtf8 (drop at text) → IsFirstItem (drop at text) k len
-    → items_from text at ≡ item_at k at len ∷ items_from text (at + len)
-first_from text at len k u h =
-    let here : List ℕ = drop at text in
+pub first_from : (here : List ℕ) (at len : ℕ) (k : ItemKind) → IsUtf8 here → IsFirstItem here k len → items_from at here ≡ item_at k at len ∷ items_from (at + len) (drop len here)
+first_from here at len k u h =
     let within = h.within in
     let boundary = IsCharBoundary-from_drop here len within h.utf8 in
     let v : IsUtf8 (take len here) = IsUtf8-take here len u boundary in
@@ -52,54 +34,50 @@ first_from text at len k u h =
     let y : List ℕ = chars (drop len here) in
     let split : chars here ≡ x ++ y = ap chars (sym (take-append-drop len here)) ∙ chars-append (take len here) (drop len here) v in
     let many : length (encodes x) ≡ len = ap length (encodes-chars (take len here) v) ∙ length-take-le len here within in
-    let next : drop len here ≡ drop (at + len) text = drop-drop len at text in
     ap (λ (t : List ℕ). placed_items at (items gabc t)) split
     ∙ (ap (placed_items at) (items_first gabc refl kinds_are_one k x y h.item h.longest)
-    ∙ (ap (λ (n : ℕ). item_at k at n ∷ placed_items (at + n) (items gabc y)) many
-    ∙ ap (λ (t : List ℕ). item_at k at len ∷ placed_items (at + len) (items gabc (chars t))) next))
+    ∙ ap (λ (n : ℕ). item_at k at n ∷ placed_items (at + n) (items gabc y)) many)
 
--- an item more
-pub listed_push : (text : List ℕ) (listed : List Item) (at len : ℕ) (k : ItemKind) → IsFirstItem (drop at text) k len
-    → Listed text listed at → Listed text (listed ++ item_at k at len ∷ []) (at + len)
-listed_push text listed at len k h s =
-    let fits = s.fits in
-    let some = h.some in
-    let within = h.within in
-    let few = s.few in
-    let i : Item = item_at k at len in
-    record {
-      fits = omega (arith, length-drop at text);
-      utf8 = subst IsUtf8 (drop-drop len at text) h.utf8;
-      whole = s.whole ∙ (ap (λ (x : List Item). listed ++ x) (first_from text at len k s.utf8 h) ∙ sym (append_assoc listed (i ∷ []) (items_from text (at + len))));
-      within = All-push (λ (j : Item). (j.span.from ≤ j.span.to) × (j.span.to ≤ length text)) listed i s.within (omega arith, omega (arith, length-drop at text));
-      few = omega (arith, length-append listed (i ∷ []));
-    }
+-- where none begins, there are none
+pub none_from : (here : List ℕ) (at : ℕ) → longest_item gabc (chars here) ≡ None → items_from at here ≡ []
+none_from here at e = ap (placed_items at) (items_none gabc (chars here) e)
 
--- after the last item
-pub listed_end : (text : List ℕ) (listed : List Item) (at : ℕ) → longest_item gabc (chars (drop at text)) ≡ None → Listed text listed at → listed ≡ items_of text
-listed_end text listed at e s =
-    sym (s.whole ∙ (ap (λ (x : List (ItemKind × List ℕ)). listed ++ placed_items at x) (items_none gabc (chars (drop at text)) e) ∙ append-nil listed))
+-- ---- the items of a text lie in it, and are few
 
--- the first item of what is left, whatever names it
-pub first_of_rest : (bytes rest : List ℕ) (k : ItemKind) (len : ℕ) → bytes ≡ rest → IsFirstItem bytes k len → IsFirstItem rest k len
-first_of_rest bytes rest k len e h = subst (λ (x : List ℕ). IsFirstItem x k len) e h
+lie : (at n : ℕ) (is : List (ItemKind × List ℕ)) → at + length (encodes (concat (map (λ (i : ItemKind × List ℕ). i.1) is))) ≤ n
+    → All (λ (i : Item). (i.span.from ≤ i.span.to) × (i.span.to ≤ n)) (placed_items at is)
+lie at n [] l = All-nil (λ (i : Item). (i.span.from ≤ i.span.to) × (i.span.to ≤ n))
+lie at n (i ∷ is) l =
+    let front : List ℕ = concat (map (λ (j : ItemKind × List ℕ). j.1) is) in
+    let size = ap length (encodes-append i.1 front) in
+    let rest = lie (at + length (encodes i.1)) n is (omega (arith, size, length-append (encodes i.1) (encodes front))) in
+    All-cons (λ (j : Item). (j.span.from ≤ j.span.to) × (j.span.to ≤ n)) _ _ (omega arith, omega (arith, size, length-append (encodes i.1) (encodes front))) rest
 
--- what has no first item has none, whatever names it
-pub none_left_of : (bytes rest : List ℕ) → bytes ≡ rest → longest_item gabc (chars bytes) ≡ None → longest_item gabc (chars rest) ≡ None
-none_left_of bytes rest e h = subst (λ (x : List ℕ). longest_item gabc (chars x) ≡ None) e h
+pub items_lie_in : (bytes : List ℕ) → IsUtf8 bytes → AreWithin bytes (items_of bytes)
+items_lie_in bytes u =
+    let (rest, e) = items_lie gabc (length (chars bytes)) (chars bytes) in
+    let front : List ℕ = concat (map (λ (i : ItemKind × List ℕ). i.1) (items gabc (chars bytes))) in
+    let f = ap length (sym (encodes-chars bytes u) ∙ (ap encodes e ∙ encodes-append front rest)) in
+    lie 0 (length bytes) (items gabc (chars bytes)) (omega (arith, f, length-append (encodes front) (encodes rest)))
 
--- an item more is added
-pub more_added : (r : BoundedList Item) (listed : List Item) (i : Item) → extended_by (extended_by r listed) (i ∷ []) ≡ extended_by r (listed ++ i ∷ [])
-more_added r listed i = ap (λ (x : List Item). record r { items = x }) (append_assoc r.items listed (i ∷ []))
+as_many : (at : ℕ) (is : List (ItemKind × List ℕ)) → length (placed_items at is) ≡ length is
+as_many at [] = refl
+as_many at (i ∷ is) = ap suc (as_many (at + length (encodes i.1)) is)
 
--- where an item is left of the text, there is room for it
-pub room_for : (text : List ℕ) (listed : List Item) (at : ℕ) (k : ItemKind) (len : ℕ) (r : BoundedList Item) → Listed text listed at → IsFirstItem (drop at text) k len
-    → Fits r (length text) → Fits (extended_by r listed) 1
-room_for text listed at k len r s h room =
-    let few = s.few in
-    let some = h.some in
-    let within = h.within in
-    omega (arith, length-drop at text, length-append r.items listed, few, some, within, room)
+at_most : (n : ℕ) (t : List ℕ) → length (items_within gabc n t) ≤ n
+at_most zero t = omega arith
+at_most (suc n) t = go (longest_item gabc t) (λ u. at_most n u)
+  where
+    go : (o : Option (ItemKind × ℕ)) → ((u : List ℕ) → length (items_within gabc n u) ≤ n)
+        → length (elim o as (λ _. List (ItemKind × List ℕ)) [ None ↦ [] | Some i ↦ (i.0, take i.1 t) ∷ items_within gabc n (drop i.1 t) ]) ≤ suc n
+    go None F = omega arith
+    go (Some i) F = let few = F (drop i.1 t) in omega arith
+
+pub items_few : (bytes : List ℕ) → IsUtf8 bytes → length (items_of bytes) ≤ length bytes
+items_few bytes u =
+    let few = at_most (length (chars bytes)) (chars bytes) in
+    let whole = ap (length {A = ℕ}) (encodes-chars bytes u) in
+    omega (arith, as_many 0 (items gabc (chars bytes)), few, length-le-encodes (chars bytes), whole)
 
 -- ---- the items of a snippet read it
 

@@ -45,7 +45,7 @@ use Rattle.gabc_score.proofs.texts_of_body.SeamsOfCharacters.{size, size_append}
 
 -- ---- no syllable is made
 
-made_stays : (now : List BodyEvent) (g : Gathered) → list_any closes now ≡ false → (with_all g now).made ≡ g.made
+pub made_stays : (now : List BodyEvent) (g : Gathered) → list_any closes now ≡ false → (with_all g now).made ≡ g.made
 made_stays [] g e = refl
 made_stays (event.Text (text_out.Kept c) ∷ now) g e = made_stays now (with_event g (event.Text (text_out.Kept c))) e
 made_stays (event.Text (text_out.Part text_part.WordStart) ∷ now) g e = made_stays now (with_event g (event.Text (text_out.Part text_part.WordStart))) e
@@ -66,7 +66,7 @@ none_makes : (lines macros : ℕ) (before : BodyPart) (now : List BodyEvent) →
 unfolding PartMakes
 none_makes lines macros before now e p g fits r h = subst (HoldUnits lines p) (sym (made_stays now g e)) h
 
-texts_close_none : (es : List TextEvent) → list_any closes (text_events es) ≡ false
+pub texts_close_none : (es : List TextEvent) → list_any closes (text_events es) ≡ false
 texts_close_none [] = refl
 texts_close_none (o ∷ es) = texts_close_none es
 

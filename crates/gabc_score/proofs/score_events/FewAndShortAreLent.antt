@@ -16,6 +16,7 @@ use Rattle.gabc_score.specs.declared.events.BodyEvent.{BodyEvent}
 use Rattle.gabc_score.specs.declared.events.BodyEvent.TheVariants as event
 use Rattle.gabc_score.specs.Body.{has_text, is_none}
 use Rattle.gabc_score.specs.Canonical.{canonical, placed_syllables_by, starts_word}
+use Rattle.gabc_score.specs.NoNotes.{OnlyFirstHasNotes, has_no_notes}
 use Rattle.gabc_score.specs.ScoreEvents.{ScoreOutput, Found, Syllable, outputs_of, syllables_in}
 use Rattle.gabc_score.specs.ScoreStage.{IsWithin, Lends}
 use Rattle.gabc_score.specs.Syllable.{UnplacedSyllable, PlacedSyllable}
@@ -152,12 +153,18 @@ pub given_syllables : (ss : List PlacedSyllable) (tail : List ScoreOutput) → s
 given_syllables [] tail h = h
 given_syllables (s ∷ ss) tail h = ap (λ (l : List PlacedSyllable). s ∷ l) (given_syllables ss tail h)
 
+-- behind one syllable there is none
+pub one_at_most : (ss : List PlacedSyllable) → length ss ≤ 1 → OnlyFirstHasNotes ss
+one_at_most [] few = tt
+one_at_most (s ∷ []) few = All-nil (λ (t : PlacedSyllable). has_no_notes t.made ≡ true)
+one_at_most (s ∷ t ∷ ss) few = absurd (omega (arith, few))
+
 -- these findings and syllables, and then a stop, the end or nothing
-pub lends_these : (limits : Limits) (most : ℕ) (fs : List Finding) (ss : List PlacedSyllable) (tail : List ScoreOutput) → syllables_in tail ≡ [] → length ss ≤ most → All (IsWithin limits) ss
+pub lends_these : (limits : Limits) (most : ℕ) (fs : List Finding) (ss : List PlacedSyllable) (tail : List ScoreOutput) → syllables_in tail ≡ [] → length ss ≤ most → OnlyFirstHasNotes ss → All (IsWithin limits) ss
     → Lends limits most (outputs_of fs ss ++ tail)
-lends_these limits most fs ss tail none few within =
+lends_these limits most fs ss tail none few later within =
     let e : syllables_in (outputs_of fs ss ++ tail) ≡ ss = ap syllables_in (append_assoc (map (λ f. Found f) fs) (map (λ s. Syllable s) ss) tail) ∙ (found_syllables fs _ ∙ given_syllables ss tail none) in
-    record { few = let n = ap length e in omega (arith, n, few); within = subst (All (IsWithin limits)) (sym e) within }
+    record { few = let n = ap length e in omega (arith, n, few); later = subst OnlyFirstHasNotes (sym e) later; within = subst (All (IsWithin limits)) (sym e) within }
 
 -- no more are given than that number
 pub few_lent : (n : ℕ) (first second : PlacedSyllable) (ss : List PlacedSyllable) → take n (first ∷ second ∷ []) ≡ ss → length ss ≤ n
@@ -167,7 +174,7 @@ few_lent n first second ss e = let h = length-take n (first ∷ second ∷ []) i
 pub held_lends : (limits : Limits) (most : ℕ) (has_lent : Bool) (held made : List UnplacedSyllable) (tail : List ScoreOutput) → syllables_in tail ≡ [] → held ≡ made → All (IsShort limits.syllable) made
     → length (placed_behind has_lent held) ≤ 1 → 1 ≤ most → Lends limits most (outputs_of [] (placed_behind has_lent held) ++ tail)
 held_lends limits most has_lent held made tail none e short few one =
-    lends_these limits most [] (placed_behind has_lent held) tail none (omega (arith, few, one)) (placed_within limits (not has_lent) held (subst (All (IsShort limits.syllable)) (sym e) short))
+    lends_these limits most [] (placed_behind has_lent held) tail none (omega (arith, few, one)) (one_at_most (placed_behind has_lent held) few) (placed_within limits (not has_lent) held (subst (All (IsShort limits.syllable)) (sym e) short))
 
 -- at an end without a fault no limit is passed
 pub no_code : (limits : Limits) (at : Place) (g : Gathered) → end_fault limits at g ≡ None → code_in limits g ≡ None
@@ -183,4 +190,4 @@ no_code limits at g h = by g.cut refl h
 
 -- nothing is lent
 pub lends_none : (limits : Limits) (most : ℕ) (outputs : List ScoreOutput) → syllables_in outputs ≡ [] → Lends limits most outputs
-lends_none limits most outputs e = record { few = let n = ap length e in omega (arith, n); within = subst (All (IsWithin limits)) (sym e) (All-nil (IsWithin limits)) }
+lends_none limits most outputs e = record { few = let n = ap length e in omega (arith, n); later = subst OnlyFirstHasNotes (sym e) tt; within = subst (All (IsWithin limits)) (sym e) (All-nil (IsWithin limits)) }

@@ -36,12 +36,12 @@ HaveBytes (i ∷ is) = (1 ≤ item_size i) × HaveBytes is
 -- ---- items and notes
 
 -- What an item is: part of no segment, of a segment and no note, or a note.
-data Kinds (k : ItemKind) (s : Span) (t : List ℕ) : Type 0 where
+pub data Kinds (k : ItemKind) (s : Span) (t : List ℕ) : Type 0 where
   outside : joins_segment k ≡ false → is_note k ≡ false → note_by k s t ≡ None → Kinds k s t
   inside : joins_segment k ≡ true → is_note k ≡ false → note_by k s t ≡ None → Kinds k s t
   a_note : (n : Note) → joins_segment k ≡ true → is_note k ≡ true → note_by k s t ≡ Some n → n.span ≡ s → (length t ≤ s.to - s.from → 1 ≤ s.to - s.from → length (shape_word n.shape) ≤ 10 * (s.to - s.from)) → Kinds k s t
 
-kinds : (k : ItemKind) (s : Span) (t : List ℕ) → Kinds k s t
+pub kinds : (k : ItemKind) (s : Span) (t : List ℕ) → Kinds k s t
 kinds kind.Note s t = a_note _ refl refl refl refl (λ l m. shape_short t (s.to - s.from) l m)
 kinds kind.Alteration s t = outside refl refl refl
 kinds kind.Clef s t = outside refl refl refl

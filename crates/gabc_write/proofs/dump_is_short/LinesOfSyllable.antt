@@ -59,7 +59,7 @@ flag_short : (b : Bool) (word : List ℕ) → length (if b then word else []) �
 flag_short true word = omega arith
 flag_short false word = omega arith
 
-first_short : (number : ℕ) (s : PlacedSyllable) → number < 2 ^ 64 → length (first_line number s) ≤ 48
+pub first_short : (number : ℕ) (s : PlacedSyllable) → number < 2 ^ 64 → length (first_line number s) ≤ 48
 first_short number s l =
     let digits : length (decimal number) ≤ 20 = length-decimal-le 20 number (omega arith) (omega arith) l in
     let eu : List ℕ = if s.made.eu then codes " eu" else [] in

@@ -1,53 +1,52 @@
 -- The lines of a snippet's items, as the writer puts them one item at a time.
-use Rattle.std.specs.Prelude.{ℕ, ◌+◌, ◌==◌, ◌&&◌, List, [], ◌∷◌, ◌++◌, Bool, false, not, codes, if◌then◌else◌}
+use Rattle.std.specs.Prelude.{ℕ, zero, suc, ◌-◌, ◌&&◌, List, [], ◌∷◌, ◌++◌, Option, Some, None, not, length, codes, if◌then◌else◌}
+use Rattle.gabc_notes.specs.Items.{items_of}
 use Rattle.gabc_notes.specs.declared.item.Item.{Item}
-use Rattle.gabc_notes.specs.declared.item.ItemKind.{ItemKind}
-use Rattle.gabc_neumes.specs.Cut.{glyphs_of}
-use Rattle.gabc_neumes.specs.Elements.{is_in_element, is_in_segment}
+use Rattle.gabc_notes.specs.declared.note.Note.{Note}
+use Rattle.gabc_neumes.specs.Cut.{longest_glyph}
+use Rattle.gabc_neumes.specs.Elements.{is_in_element}
 use Rattle.gabc_neumes.specs.InForce.{InForce}
-use Rattle.gabc_neumes.specs.declared.glyph.Glyph.{Glyph}
-use Rattle.gabc_write.specs.DumpOfNotes.{notes_behind, is_note, line_of_glyph, line_of_item}
+use Rattle.gabc_neumes.specs.declared.glyph.GlyphKind.{GlyphKind}
+use Rattle.gabc_write.specs.DumpOfNotes.{notes_behind, is_note, line_of_glyph, line_of_item, lines_behind}
 use Rattle.gabc_write.specs.declared.dump_notes.ItemPlace.{ItemPlace}
 
--- a segment begins here: its glyphs, else those that are there
-abbrev pub glyphs_from : List ℕ → Bool → List Item → List Glyph → List Glyph
-glyphs_from kept in_segment [] glyphs = glyphs
-glyphs_from kept in_segment (i ∷ items) glyphs =
-    if is_in_segment i && not in_segment then glyphs_of (notes_behind kept (i ∷ items)) else glyphs
+-- the first glyph of a segment's notes from a place on: its kind, and how many notes it has
+abbrev pub glyph_of : List Note → Option (GlyphKind × ℕ)
+glyph_of notes = longest_glyph (length notes) notes
 
--- the first of the glyphs begins with the note of that index
-abbrev pub begins_at : ℕ → List Glyph → Bool
-begins_at note [] = false
-begins_at note (g ∷ glyphs) = g.first == note
+-- the notes of a segment from this one on, which these items stand behind
+abbrev pub notes_from : List ℕ → Note → List Item → List Note
+notes_from kept first behind = first ∷ notes_behind kept behind
 
--- its line, if it does
-abbrev pub line_of_next : ℕ → List Glyph → List ℕ
-line_of_next note [] = []
-line_of_next note (g ∷ glyphs) = if g.first == note then line_of_glyph g else []
+-- the first glyph of the notes of the segment at the head of the items
+abbrev pub glyph_at : List ℕ → List Item → Option (GlyphKind × ℕ)
+glyph_at kept items = glyph_of (notes_behind kept items)
 
--- an item is the note with which the first of the glyphs begins
-abbrev pub begins_glyph : ItemKind → ℕ → List Glyph → Bool
-begins_glyph kind note glyphs = is_note kind && begins_at note glyphs
+-- at a note the line of the glyph that begins with it: one does where none of the notes of the glyph before are left
+abbrev pub line_of_next : ℕ → Option (GlyphKind × ℕ) → List ℕ
+line_of_next (suc left) g = []
+line_of_next zero None = []
+line_of_next zero (Some g) = line_of_glyph (record { kind = g.0; first = 0; count = g.1 })
 
--- the lines of an item at a place, with the glyphs that have not been written; before it this is in force
-abbrev pub lines_at : InForce → List ℕ → ItemPlace → List Glyph → Item → List ℕ
-lines_at force kept place glyphs i =
+-- how many of the glyph's notes are left behind that note
+abbrev pub left_after : ℕ → Option (GlyphKind × ℕ) → ℕ
+left_after (suc left) g = left
+left_after zero None = 0
+left_after zero (Some g) = g.1 - 1
+
+-- the lines of an item at a place, with these items behind it; before it this is in force
+abbrev pub lines_at : InForce → List ℕ → ItemPlace → Item → List Item → List ℕ
+lines_at force kept place i behind =
     (if is_in_element kept i && not place.in_element then codes "element\n" else [])
-    ++ ((if is_note i.kind then line_of_next place.notes glyphs else []) ++ line_of_item force kept i)
+    ++ ((if is_note i.kind then line_of_next place.left (glyph_at kept (i ∷ behind)) else []) ++ line_of_item force kept i)
 
--- one more if it is so
-abbrev pub more_if : Bool → ℕ → ℕ
-more_if b n = if b then n + 1 else n
-
--- the place behind an item, which is part of an element or not, and before which a glyph was written or not
-abbrev pub place_after : ItemPlace → Item → Bool → Bool → ItemPlace
-place_after place i in_element with_glyph = record {
-  in_element = in_element;
-  in_segment = is_in_segment i;
-  notes = if is_in_segment i then more_if (is_note i.kind) place.notes else 0;
-  glyphs = if is_in_segment i then more_if with_glyph place.glyphs else 0;
+-- the place behind it
+abbrev pub place_behind : List ℕ → ItemPlace → Item → List Item → ItemPlace
+place_behind kept place i behind = record {
+  in_element = is_in_element kept i;
+  left = if is_note i.kind then left_after place.left (glyph_at kept (i ∷ behind)) else place.left;
 }
 
--- the place behind an item with these glyphs
-abbrev pub place_behind : List ℕ → ItemPlace → List Glyph → Item → ItemPlace
-place_behind kept place glyphs i = place_after place i (is_in_element kept i) (begins_glyph i.kind place.notes glyphs)
+-- the lines of all items of a text
+abbrev pub lines_of_items : InForce → List ℕ → List ℕ
+lines_of_items outset kept = lines_behind outset kept [] (items_of kept)

@@ -27,10 +27,10 @@ limits_begun (Ok x) true s = refl
 limits_begun (Ok x) false s = refl
 limits_begun (Err fault) headed s = refl
 
-room_begun : (item : Result Char Fault) (headed : Bool) (s : ScoreWriterState) (events : List HeadEvent) → FitsEvents s events → FitsEvents (begun_writer item headed s) events
-room_begun (Ok x) true s events r = record { lines = r.lines; texts = r.texts; scratch = r.scratch }
-room_begun (Ok x) false s events r = record { lines = r.lines; texts = r.texts; scratch = r.scratch }
-room_begun (Err fault) headed s events r = record { lines = r.lines; texts = r.texts; scratch = r.scratch }
+room_begun : (item : Result Char Fault) (headed : Bool) (s : ScoreWriterState) (ends : Bool) (events : List HeadEvent) → FitsEvents s ends events → FitsEvents (begun_writer item headed s) ends events
+room_begun (Ok x) true s ends events r = record { lines = r.lines; texts = r.texts }
+room_begun (Ok x) false s ends events r = record { lines = r.lines; texts = r.texts }
+room_begun (Err fault) headed s ends events r = record { lines = r.lines; texts = r.texts }
 
 steady_begun : (item : Result Char Fault) (headed : Bool) (old s : ScoreWriterState) → IsSteady old s → IsSteady old (begun_writer item headed s)
 steady_begun item headed old s a = record {
@@ -40,7 +40,6 @@ steady_begun item headed old s a = record {
   all_warnings = a.all_warnings;
   out = a.out;
   messages = a.messages;
-  scratch = a.scratch;
 }
 
 -- in front no text has counted a place
@@ -75,8 +74,8 @@ module _ (item : Result Char Fault) (old new : ScoreWriterState) (b : BeginsBody
       ap (λ (v : RunWriterState). streams_from v.written book from_heads (left_of new.score from_heads)) same_writer
       ∙ ap (λ (lists : List (List ScoreOutput)). streams_from old.writer.written book from_heads lists) (b.left from_heads)
 
-  pub room_of_begun : (events : List HeadEvent) → FitsEvents old events → FitsEvents new events
-  room_of_begun events room = subst (λ (s : ScoreWriterState). FitsEvents s events) (sym b.is) (room_begun item old.writer.written.headed old events room)
+  pub room_of_begun : (ends : Bool) (events : List HeadEvent) → FitsEvents old ends events → FitsEvents new ends events
+  room_of_begun ends events room = subst (λ (s : ScoreWriterState). FitsEvents s ends events) (sym b.is) (room_begun item old.writer.written.headed old ends events room)
 
   pub steady_of_begun : (first : ScoreWriterState) → IsSteady first old → IsSteady first new
   steady_of_begun first a = subst (λ (s : ScoreWriterState). IsSteady first s) (sym b.is) (steady_begun item old.writer.written.headed first old a)

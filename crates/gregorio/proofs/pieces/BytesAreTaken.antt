@@ -1,5 +1,5 @@
 -- A byte that an engine takes brings what was to come for it, and so do the bytes of a piece.
-use Rattle.std.proofs.Common.{◌≡◌, ℕ, ◌+◌, ◌*◌, ◌||◌, List, [], ◌∷◌, ◌++◌, length, take, Bool, true, false, not, Option, Some, None, IfSome, is_none, is_some, Result, refl, ap, sym, ◌∙◌, arith}
+use Rattle.std.proofs.Common.{◌≡◌, ℕ, ◌||◌, List, [], ◌∷◌, ◌++◌, length, take, Bool, true, false, not, Option, Some, None, IfSome, is_none, is_some, Result, refl, ap, sym, ◌∙◌, arith}
 use Rattle.std.specs.List.{list_any}
 use Rattle.gabc_places.specs.StageLaw.{concat_of}
 use Rattle.gabc_places.specs.declared.code.Fault.{Fault}
@@ -17,7 +17,7 @@ use Rattle.gregorio.specs.Engine.{NothingWaits, is_running, with_waiting}
 use Rattle.gregorio.specs.witness.Engine.{EngineState, Written, book_behind, head_events_left, items_left, streams_left}
 use Rattle.gregorio.specs.Streams.{Streams, behind_bytes, ended_with}
 use Rattle.gregorio.specs.Outcome.{is_error_finding, is_whole, status_by}
-use Rattle.gregorio.specs.machine.RunWriter.{heads_room, syllable_room, line_room}
+use Rattle.gregorio.specs.machine.RunWriter.{line_room, out_room}
 use Rattle.gregorio.specs.machine.ScoreWriter.{ScoreWriterState, IsOver, IsReserved, IsSteady}
 use Rattle.gregorio.specs.machine.Engine.{IsEmpty, WritesItems, streams_of_items}
 use Rattle.gregorio.proofs.pieces.BytesAreJoined.{waits_now}
@@ -28,25 +28,19 @@ use Rattle.gregorio.proofs.StreamsOfOutputs.{EndsAtLast, outputs_are_said, over_
 
 -- ---- the rooms stay
 
-abbrev out_room : Format → Limits → ℕ
-out_room format limits = heads_room format limits.header + 4 * syllable_room format limits.syllable + 128
-
 pub still_reserved : (old new : ScoreWriterState) → IsSteady old new → IsReserved old → IsReserved new
 still_reserved old new steady reserved =
     let out = reserved.out in
     let messages = reserved.messages in
-    let scratch = reserved.scratch in
     let same_out : out_room new.writer.written.format new.score.limits ≡ out_room old.writer.written.format old.score.limits =
     ap (λ (f : Format). out_room f new.score.limits) steady.format ∙ ap (λ (l : Limits). out_room old.writer.written.format l) steady.limits in
     let same_line : line_room new.writer.written.name ≡ line_room old.writer.written.name = ap (λ (n : List ℕ). line_room n) steady.name in
     let same_limit : new.score.limits.syllable ≡ old.score.limits.syllable = ap (λ (l : Limits). l.syllable) steady.limits in
     let out_limit = steady.out in
     let message_limit = steady.messages in
-    let scratch_limit = steady.scratch in
     record {
       out = omega (arith, out, same_out, out_limit);
       messages = omega (arith, messages, same_line, message_limit);
-      scratch = omega (arith, scratch, same_limit, scratch_limit);
     }
 
 -- ---- a byte

@@ -49,7 +49,6 @@ steady_both old mid new a b = record {
   all_warnings = b.all_warnings ∙ a.all_warnings;
   out = b.out ∙ a.out;
   messages = b.messages ∙ a.messages;
-  scratch = b.scratch ∙ a.scratch;
 }
 
 -- ---- one of a list of events, and those behind it
@@ -61,14 +60,14 @@ module _ (from_heads : List HeadEvent) (i : ℕ) (d : HeadEvent) (within : i < l
   left_is : drop i from_heads ≡ now ∷ drop (i + 1) from_heads
   left_is = drop-cons from_heads i d within ∙ ap (λ (k : ℕ). now ∷ drop k from_heads) (sym (add-one i))
 
-  pub room_now : (w : ScoreWriterState) → FitsEvents w (drop i from_heads) → FitsEvents w (now ∷ [])
-  room_now w room = room_for_first w now (drop (i + 1) from_heads) (subst (λ (left : List HeadEvent). FitsEvents w left) left_is room)
+  pub room_now : (w : ScoreWriterState) → FitsEvents w false (drop i from_heads) → FitsEvents w false (now ∷ [])
+  room_now w room = room_for_first w false now (drop (i + 1) from_heads) (subst (λ (left : List HeadEvent). FitsEvents w false left) left_is room)
 
   pub writes_left : (read : List (List ℕ × List ℕ)) (old mid new : ScoreWriterState) → WritesAt old now read mid → WritesAll mid (drop (i + 1) from_heads) read new → WritesAll old (drop i from_heads) read new
   writes_left read old mid new a b = subst (λ (left : List HeadEvent). WritesAll old left read new) (sym left_is) (writes_next now (drop (i + 1) from_heads) read old mid new a b)
 
-  pub room_left : (w : ScoreWriterState) (events : List HeadEvent) → FitsEvents w (drop i from_heads ++ events) → FitsEvents w (now ∷ (drop (i + 1) from_heads ++ events))
-  room_left w events room = subst (λ (left : List HeadEvent). FitsEvents w (left ++ events)) left_is room
+  pub room_left : (w : ScoreWriterState) (ends : Bool) (events : List HeadEvent) → FitsEvents w ends (drop i from_heads ++ events) → FitsEvents w ends (now ∷ (drop (i + 1) from_heads ++ events))
+  room_left w ends events room = subst (λ (left : List HeadEvent). FitsEvents w ends (left ++ events)) left_is room
 
   pub unheaded_left : (headed behind : Bool) → ((headed || is_heads now) ≡ false → behind ≡ false) → headed_past headed (drop i from_heads) ≡ false → headed_past behind (drop (i + 1) from_heads) ≡ false
   unheaded_left headed behind at h =

@@ -114,7 +114,6 @@ module _ (w new : ScoreWriterState) (at : Place) (bytes : List ℕ) (a : WritesN
     all_warnings = ap (λ (x : RunWriterState). x.written.all_warnings) a.writer;
     out = ap (λ (x : RunWriterState). x.out.limit) a.writer;
     messages = ap (λ (x : RunWriterState). x.messages.limit) a.writer;
-    scratch = ap (λ (x : RunWriterState). x.scratch) a.writer;
   }
 
   front_settled : (h : HeaderStageState) → IsSettled w → (ending : SourceEnding) (more : List (Result Char Fault))

@@ -1,8 +1,7 @@
 -- What the stage of headers gives of an item has room, and is passed on.
-use Rattle.std.proofs.Common.{◌≡◌, ℕ, ◌+◌, ◌*◌, ◌≤◌, List, [], ◌∷◌, ◌++◌, length, codes, false, Result, Ok, refl, ap, sym, ◌∙◌, subst, length-append, arith}
+use Rattle.std.proofs.Common.{◌≡◌, ℕ, ◌+◌, ◌≤◌, List, [], ◌∷◌, ◌++◌, length, codes, true, false, Some, Result, Ok, refl, ap, sym, ◌∙◌, subst, arith}
 use Rattle.std.specs.Char.{len_utf8}
 use Rattle.std.proofs.lemmas.List.Sums.{sum_by-append}
-use Rattle.std.proofs.Math.Nat.{mul-le-mul_right}
 use Rattle.gabc_places.specs.BoundedList.{BoundedList}
 use Rattle.gabc_places.specs.StageLaw.{Pushes, Finishes}
 use Rattle.gabc_places.specs.declared.code.Fault.{Fault}
@@ -13,14 +12,12 @@ use Rattle.gabc_headers.specs.Lines.{bytes_len}
 use Rattle.gabc_headers.specs.Heads.{heads_of}
 use Rattle.gabc_headers.specs.declared.heads.Heads.{Heads}
 use Rattle.gabc_headers.specs.declared.head_event.HeadEvent.{HeadEvent}
-use Rattle.gabc_headers.specs.declared.head_event.HeadEvent.TheVariants as head_event
-use Rattle.gabc_headers.specs.witness.HeadEvents.{HeaderStageState, events_left, events_of_end, events_of_input, stage_after}
+use Rattle.gabc_headers.specs.witness.HeadEvents.{HeadProgress, HeaderStageState, events_left, events_of_end, events_of_input, stage_after}
 use Rattle.gabc_headers.proofs.entries.TextsAsBytes.{length-encodes}
-use Rattle.gregorio.specs.machine.RunWriter.{line_room}
-use Rattle.gregorio.specs.machine.ScoreWriter.{ScoreWriterState, FitsEvents, IsReserved, IsShortBook, IsSteady, events_room}
-use Rattle.gregorio.specs.machine.Engine.{GoTogether, IsEmpty, WritesAll, WritesItems, headed_past}
+use Rattle.gregorio.specs.machine.ScoreWriter.{ScoreWriterState, FitsEvents, IsReserved, IsShortBook, IsSteady}
+use Rattle.gregorio.specs.machine.Engine.{GoTogether, IsEmpty, IsNoCharacter, WritesAll, WritesItems, headed_past}
 use Rattle.gregorio.proofs.pieces.ItemsAreRead.{AreHeadsShort, items_by_heads, short_stage_after, together_by_heads}
-use Rattle.gregorio.proofs.pieces.RoomIsLeft.{input_is_few, least_room, room_with_end}
+use Rattle.gregorio.proofs.pieces.RoomIsLeft.{input_is_few, room_for_fault, room_reserved}
 
 -- ---- the canonical headers in bytes
 
@@ -65,33 +62,17 @@ given_of_end h r old new from_heads empty p now =
 
 -- ---- room
 
-front_room : (w : ScoreWriterState) (events more : List HeadEvent) → FitsEvents w (events ++ more) → FitsEvents w events
-front_room w events more room =
-    let line = 16 * line_room w.writer.written.name in
-    let lines = room.lines in
-    let texts = room.texts in
-    let n : length (events ++ more) ≡ length events + length more = length-append events more in
-    let few : (length events + 1) * line ≤ (length (events ++ more) + 1) * line = mul-le-mul_right line (omega (arith, n)) in
-    let least = front events in
-    record {
-      lines = omega (arith, lines, few);
-      texts = omega (arith, texts, least);
-      scratch = room.scratch;
-    }
-  where
-    front : (xs : List HeadEvent) → events_room w.writer.written.format w.score.limits.syllable xs ≤ events_room w.writer.written.format w.score.limits.syllable (xs ++ more)
-    front [] = least_room w.writer.written.format w.score.limits.syllable more
-    front (x ∷ xs) = let h = front xs in omega (arith, h)
-
 module _ (h : HeaderStageState) (w : ScoreWriterState) (item : Result Char Fault) (from_heads : List HeadEvent) (step : GivesInput h item from_heads) where
-  pub room_for_given : IsReserved w → IsEmpty w → FitsEvents w (from_heads ++ head_event.End ∷ [])
+  pub room_for_given : IsReserved w → IsEmpty w → FitsEvents w false from_heads
   room_for_given reserved empty =
-      subst (λ (events : List HeadEvent). FitsEvents w (events ++ head_event.End ∷ [])) (sym step.is)
-      (room_with_end w (events_of_input h.limits h.progress item) reserved empty
+      subst (λ (events : List HeadEvent). FitsEvents w false events) (sym step.is)
+      (room_reserved w false (events_of_input h.limits h.progress item) reserved empty
       (input_is_few w.writer.written.format w.score.limits.syllable h.limits h.progress item step.few))
 
-  pub room_for_just_given : IsReserved w → IsEmpty w → FitsEvents w from_heads
-  room_for_just_given reserved empty = front_room w from_heads (head_event.End ∷ []) (room_for_given reserved empty)
+  pub room_with_end : IsReserved w → IsEmpty w → IsNoCharacter (Some item) → (limits : Limits) (progress : HeadProgress) → FitsEvents w true (from_heads ++ events_of_end limits progress)
+  room_with_end reserved empty none limits progress =
+      subst (λ (events : List HeadEvent). FitsEvents w true (events ++ events_of_end limits progress)) (sym step.is)
+      (room_for_fault w h.limits h.progress item reserved empty none limits progress)
 
   module _ (now : HeaderStageState) (is_now : now ≡ stage_after h item) (book : List (List ℕ × List ℕ)) (is_book : book ≡ now.book) where
     book_after : book ≡ (stage_after h item).book

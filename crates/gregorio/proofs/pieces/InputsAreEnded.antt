@@ -1,11 +1,12 @@
 -- The end of an input, or the failure of its source, brings what was still to come.
-use Rattle.std.proofs.Common.{◌≡◌, ℕ, inr, List, [], ◌∷◌, ◌++◌, Result, Ok, Err, ap, sym, ◌∙◌, subst}
+use Rattle.std.proofs.Common.{◌≡◌, ◌&&◌, ℕ, inr, Bool, true, false, if◌then◌else◌, List, [], ◌∷◌, ◌++◌, Option, Some, None, option_to_list, Result, Ok, Err, ap, sym, ◌∙◌, subst}
 use Rattle.gabc_places.specs.BoundedList.{extended_by}
 use Rattle.gabc_places.specs.StageLaw.{concat_of}
+use Rattle.gabc_places.specs.declared.code.Code.TheVariants.{F1}
 use Rattle.gabc_places.specs.declared.code.Fault.{Fault}
 use Rattle.gabc_places.specs.declared.limits.Limits.{Limits}
 use Rattle.gabc_places.specs.declared.place.Char.{Char}
-use Rattle.gabc_places.specs.DecoderMachine.{DecoderState}
+use Rattle.gabc_places.specs.DecoderMachine.{DecoderState, is_unfinished}
 use Rattle.gabc_places.specs.witness.DecoderEvents as decoder
 use Rattle.gabc_headers.specs.declared.heads.Heads.{Heads}
 use Rattle.gabc_headers.specs.declared.heads.HeadFault.{HeadFault}
@@ -16,11 +17,10 @@ use Rattle.gregorio.specs.declared.source_ending.SourceEnding.{SourceEnding}
 use Rattle.gregorio.specs.declared.source_ending.SourceEnding.TheVariants.{Whole as Ended}
 use Rattle.gregorio.specs.Streams.{Streams, behind_bytes, ended_with}
 use Rattle.gregorio.specs.witness.Engine.{book_behind, head_events_left}
-use Rattle.gregorio.specs.machine.ScoreWriter.{ScoreWriterState, FitsEvents, IsOver, IsReserved, IsShortBook, IsSteady, WritesLast, streams_of}
-use Rattle.gregorio.specs.machine.Engine.{AreBooksAt, GoTogether, IsEmpty, IsSettled, WritesAll, WritesItems, streams_of_items}
+use Rattle.gregorio.specs.machine.ScoreWriter.{ScoreWriterState, IsOver, IsShortBook, IsSteady, WritesLast, streams_of}
+use Rattle.gregorio.specs.machine.Engine.{AreBooksAt, GoTogether, IsEmpty, IsNoCharacter, IsSettled, WritesAll, WritesItems, streams_of_items}
 use Rattle.gregorio.proofs.StreamsOfOutputs.{over_is_last}
 use Rattle.gregorio.proofs.pieces.BytesAreJoined.{behind_both, extended_by_both, waits_now}
-use Rattle.gregorio.proofs.pieces.RoomIsLeft.{none_are_few, room_for_none, room_with_end}
 use Rattle.gregorio_jobs.specs.declared.job.Status.{Status}
 
 -- these streams are what was written between two states, and nothing follows
@@ -99,12 +99,25 @@ ends_items d h now w mid new status items law a e =
     (ap (λ (lists : List (List (Result Char Fault))). streams_of_items h w Ended (concat_of lists)) law ∙ a.law Ended [])
     e
 
--- ---- room and the book
-
-pub room_for_last : (w : ScoreWriterState) → IsReserved w → IsEmpty w → FitsEvents w []
-room_for_last w reserved empty = room_for_none w _ (room_with_end w [] reserved empty (none_are_few w.writer.written.format w.score.limits.syllable))
+-- ---- the book
 
 pub short_book_at_end : (h now : HeaderStageState) (w : ScoreWriterState) (book : List (List ℕ × List ℕ)) → GoTogether h w → now ≡ stage_at h over → book ≡ now.book → IsShortBook w.score.limits book
 short_book_at_end h now w book together is_now is_book =
     subst (λ (b : List (List ℕ × List ℕ)). IsShortBook w.score.limits b) (sym (is_book ∙ ap (λ (s : HeaderStageState). s.book) is_now))
     (subst (λ (limits : Limits). IsShortBook limits h.book) together.limits together.short)
+
+-- ---- the decoder
+
+-- at the end of the input it gives a fault or nothing
+pub no_character_at_end : (d : DecoderState) (item : Option (Result Char Fault)) → decoder.events_left d [] ≡ option_to_list item ∷ [] → IsNoCharacter item
+no_character_at_end d item law = by (d.running && is_unfinished d.pending) item (ap first_items law)
+  where
+    first_items : List (List (Result Char Fault)) → List (Result Char Fault)
+    first_items [] = []
+    first_items (items ∷ lists) = items
+
+    by : (b : Bool) (item : Option (Result Char Fault)) → (if b then decoder.stop_with F1 d else record { events = []; state = record d { running = false } }).events ≡ option_to_list item → IsNoCharacter item
+    by b None e = tt
+    by b (Some (Err fault)) e = tt
+    by true (Some (Ok x)) e = absurd (cc e)
+    by false (Some (Ok x)) e = absurd (cc e)

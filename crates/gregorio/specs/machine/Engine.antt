@@ -1,5 +1,5 @@
 -- What an engine does with items, which are characters or the fault that stops the text, and what holds of it between two calls.
-use Rattle.std.specs.Prelude.{◌≡◌, ◌≤◌, ◌⊎◌, ◌||◌, ℕ, List, [], ◌∷◌, ◌++◌, Bool, true, Result, Ok, Err}
+use Rattle.std.specs.Prelude.{◌≡◌, ◌≤◌, ◌⊎◌, ◌||◌, ℕ, List, [], ◌∷◌, ◌++◌, Bool, true, Option, Some, None, Result, Ok, Err}
 use Rattle.std.specs.List.{list_any}
 use Rattle.gabc_places.specs.BoundedList.{BoundedList, extended_by}
 use Rattle.gabc_places.specs.declared.code.Fault.{Fault}
@@ -45,6 +45,12 @@ streams_of_items h w ending items = streams_of w (book_behind h items) (head_eve
 abbrev pub event_of_item : Result Char Fault → HeadEvent
 event_of_item (Ok x) = head_event.Body x
 event_of_item (Err fault) = head_event.Stop fault
+
+-- this is no character
+abbrev pub IsNoCharacter : Option (Result Char Fault) → Type 0
+IsNoCharacter None = Unit {0}
+IsNoCharacter (Some (Ok x)) = ⊥
+IsNoCharacter (Some (Err fault)) = Unit {0}
 
 -- At these items it wrote what was to come for them, and goes on with what follows.
 pub record WritesItems (h : HeaderStageState) (old : ScoreWriterState) (items : List (Result Char Fault)) (now : HeaderStageState) (new : ScoreWriterState) : Type 0 where

@@ -1,5 +1,5 @@
 -- What a run that goes on from a saved state has, part by part.
-use Rattle.std.specs.Prelude.{◌≡◌, ◌+◌, ◌-◌, ◌*◌, ◌≤◌, ℕ, List, [], true}
+use Rattle.std.specs.Prelude.{◌≡◌, ◌-◌, ◌*◌, ◌≤◌, ℕ, List, [], true}
 use Rattle.std.specs.Str.{chars}
 use Rattle.gabc_places.specs.declared.limits.Limits.{Limits}
 use Rattle.gabc_headers.specs.HeldText.{holding}
@@ -14,7 +14,7 @@ use Rattle.gregorio.specs.SavedState.{AreOfState, IsOfJob}
 use Rattle.gregorio.specs.witness.Engine.{EngineState, Written}
 use Rattle.gregorio.specs.machine.HeldHeaders.{behind_mark}
 use Rattle.gregorio.specs.machine.Restoring.{IsSetDown}
-use Rattle.gregorio.specs.machine.RunWriter.{RunWriterState, heads_room, line_room, syllable_room}
+use Rattle.gregorio.specs.machine.RunWriter.{RunWriterState, line_room, out_room}
 use Rattle.gregorio.specs.machine.ScoreWriter.{fresh_writer}
 
 -- what was written: in the headers nothing, and in the score the headers and all syllables but the one that is held
@@ -58,6 +58,5 @@ pub record IsAnother (job : Job) (limits : Limits) (s : StateFields) : Type 0 wh
 pub record HasEmptyRooms (limits : Limits) (w : RunWriterState) : Type 0 where
   pub output : w.out.items ≡ []
   pub lines : w.messages.items ≡ []
-  pub out : heads_room w.written.format limits.header + 4 * syllable_room w.written.format limits.syllable + 128 ≤ w.out.limit
+  pub out : out_room w.written.format limits ≤ w.out.limit
   pub messages : 128 * line_room w.written.name ≤ w.messages.limit
-  pub scratch : w.scratch ≡ limits.syllable

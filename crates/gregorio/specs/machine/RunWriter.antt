@@ -1,7 +1,8 @@
 -- What a writer of runs does with what it is given.
-use Rattle.std.specs.Prelude.{◌≡◌, ℕ, ◌+◌, ◌*◌, ◌≤◌, List, [], ◌∷◌, Bool, Some, length}
+use Rattle.std.specs.Prelude.{◌≡◌, ℕ, ◌+◌, ◌*◌, ◌≤◌, List, [], ◌∷◌, Bool, true, false, Some, length}
 use Rattle.std.specs.List.{All}
 use Rattle.gabc_places.specs.BoundedList.{BoundedList, extended_by}
+use Rattle.gabc_score.specs.NoNotes.{has_no_notes}
 use Rattle.gabc_score.specs.ScoreEvents.{ScoreOutput, Found, Stop, Syllable, End, syllables_in}
 use Rattle.gabc_places.specs.declared.limits.Limits.{Limits}
 use Rattle.gabc_score.specs.ScoreStage.{IsWithin}
@@ -10,10 +11,9 @@ use Rattle.gregorio.specs.Streams.{last_text}
 use Rattle.gregorio_jobs.specs.declared.job.Format.{Format}
 use Rattle.gregorio_jobs.specs.declared.job.Format.TheVariants.{Gabc, Dump}
 
--- what it shows: what it writes, how many bytes the kept text of a syllable may have, and its two rooms
+-- what it shows: what it writes, and its two rooms
 pub record RunWriterState : Type 0 where
   pub written : Written
-  pub scratch : ℕ
   pub out : BoundedList ℕ
   pub messages : BoundedList ℕ
 
@@ -44,13 +44,17 @@ past_end w = record w { written = record w.written { ended = Some (ceased_status
 abbrev pub line_room : List ℕ → ℕ
 line_room name = length name + 128
 
--- the most bytes of a syllable, whose canonical text has this many
-abbrev pub syllable_len : Format → ℕ → ℕ
-syllable_len Gabc canonical = canonical
-syllable_len Dump canonical = 64 * canonical + 256
+-- the most bytes of a syllable, whose canonical text has this many, and which has no notes or some
+abbrev pub syllable_len : Format → Bool → ℕ → ℕ
+syllable_len Gabc no_notes canonical = canonical
+syllable_len Dump true canonical = 2 * canonical + 128
+syllable_len Dump false canonical = 64 * canonical + 256
 
 abbrev pub syllable_room : Format → ℕ → ℕ
-syllable_room format limit = syllable_len format (limit + 1)
+syllable_room format limit = syllable_len format false (limit + 1)
+
+abbrev pub room_without_notes : Format → ℕ → ℕ
+room_without_notes format limit = syllable_len format true (limit + 1)
 
 -- the most bytes of the headers, whose canonical lines have this many
 abbrev pub heads_len : Format → ℕ → ℕ
@@ -64,6 +68,10 @@ heads_room format limit = heads_len format (limit + 2)
 abbrev pub last_room : ℕ
 last_room = 25
 
+-- the output that ever waits: the headers, a syllable, one behind it that has no notes, and last lines
+abbrev pub out_room : Format → Limits → ℕ
+out_room format limits = heads_room format limits.header + syllable_room format limits.syllable + room_without_notes format limits.syllable + 128
+
 -- how many bytes of messages these may bring
 abbrev pub lines_room : List ℕ → List ScoreOutput → ℕ
 lines_room name [] = 0
@@ -73,7 +81,7 @@ lines_room name (o ∷ outputs) = line_room name + lines_room name outputs
 abbrev pub text_room : Format → ℕ → ScoreOutput → ℕ
 text_room format limit (Found f) = 0
 text_room format limit (Stop fault) = last_room
-text_room format limit (Syllable s) = syllable_room format limit
+text_room format limit (Syllable s) = syllable_len format (has_no_notes s.made) (limit + 1)
 text_room format limit End = last_room
 
 abbrev pub texts_room : Format → ℕ → List ScoreOutput → ℕ
@@ -84,7 +92,6 @@ texts_room format limit (o ∷ outputs) = text_room format limit o + texts_room 
 pub record IsInRoom (limits : Limits) (most_lines most_texts : ℕ) (w : RunWriterState) (outputs : List ScoreOutput) : Type 0 where
   pub lines : length w.messages.items + lines_room w.written.name outputs ≤ most_lines
   pub texts : length w.out.items + texts_room w.written.format limits.syllable outputs ≤ most_texts
-  pub scratch : limits.syllable ≤ w.scratch
   pub within : All (IsWithin limits) (syllables_in outputs)
 
 abbrev pub HasRoomFor : Limits → RunWriterState → List ScoreOutput → Type 0
@@ -97,4 +104,3 @@ pub record IsSteadyWriter (old new : RunWriterState) : Type 0 where
   pub all_warnings : new.written.all_warnings ≡ old.written.all_warnings
   pub out : new.out.limit ≡ old.out.limit
   pub messages : new.messages.limit ≡ old.messages.limit
-  pub scratch : new.scratch ≡ old.scratch

@@ -9,8 +9,11 @@ use Rattle.gabc_headers.specs.declared.head_event.HeadEvent.TheVariants as head_
 use Rattle.gabc_score.specs.declared.score_event.ScoreEvent.{ScoreEvent}
 use Rattle.gabc_score.specs.declared.score_event.ScoreEvent.TheVariants as event
 use Rattle.gabc_neumes.specs.InForce.{nothing_in_force}
+use Rattle.gabc_headers.specs.witness.HeadEvents.{HeadProgress, events_of_end}
+use Rattle.gabc_score.specs.declared.score_machine.ScorePart.{ScorePart}
+use Rattle.gabc_score.specs.declared.score_machine.ScorePart.TheVariants as score_part
 use Rattle.gabc_score.specs.ScoreEvents.{ScoreOutput, Found, Stop, Syllable, End}
-use Rattle.gabc_score.specs.ScoreStage.{Counts, behind_front, body_inputs, lent_in}
+use Rattle.gabc_score.specs.ScoreStage.{Counts, behind_front, body_inputs, is_final, lent_in}
 use Rattle.gabc_score.specs.ToldWithin.{whole_syllables}
 use Rattle.gabc_places.specs.StageLaw.{concat_of}
 use Rattle.gabc_score.specs.witness.ScoreStage.{ScoreStageState, left_of}
@@ -20,7 +23,7 @@ use Rattle.gregorio.specs.Streams.{Streams, behind_bytes, ended_with}
 use Rattle.gregorio.specs.witness.Engine.{Written, streams_from}
 use Rattle.gregorio.specs.machine.ClefInForce.{HasClefOfSounds}
 use Rattle.gregorio.specs.machine.Telling.{TellsThrough}
-use Rattle.gregorio.specs.machine.RunWriter.{RunWriterState, line_room, syllable_room, heads_room, last_room}
+use Rattle.gregorio.specs.machine.RunWriter.{RunWriterState, line_room, syllable_room, room_without_notes, heads_room, last_room, out_room}
 use Rattle.gregorio_jobs.specs.declared.job.Format.{Format}
 use Rattle.gregorio_jobs.specs.declared.job.Status.{Status}
 
@@ -100,7 +103,6 @@ pub record IsSteady (old new : ScoreWriterState) : Type 0 where
   pub all_warnings : new.writer.written.all_warnings ≡ old.writer.written.all_warnings
   pub out : new.writer.out.limit ≡ old.writer.out.limit
   pub messages : new.writer.messages.limit ≡ old.writer.messages.limit
-  pub scratch : new.writer.scratch ≡ old.writer.scratch
 
 -- ---- room
 
@@ -108,33 +110,42 @@ pub record IsSteady (old new : ScoreWriterState) : Type 0 where
 abbrev pub IsShortBook : Limits → List (List ℕ × List ℕ) → Type 0
 IsShortBook limits book = length (encode_utf8_all (canonical_heads book)) ≤ limits.header + 2
 
--- the most bytes of the output that an event of the body brings
+-- the most bytes of the output that an event brings
 abbrev pub event_room : Format → ℕ → HeadEvent → ℕ
 event_room format limit (head_event.Body x) = syllable_room format limit + last_room
 event_room format limit (head_event.Stop fault) = syllable_room format limit + last_room
-event_room format limit head_event.End = 2 * syllable_room format limit + last_room
+event_room format limit head_event.End = syllable_room format limit + room_without_notes format limit + last_room
 event_room format limit (head_event.Found f) = last_room
 event_room format limit (head_event.Heads lines macros canonical) = last_room
 
-abbrev pub events_room : Format → ℕ → List HeadEvent → ℕ
-events_room format limit [] = syllable_room format limit + 2 * last_room
-events_room format limit (x ∷ events) = event_room format limit x + events_room format limit events
+-- that these bring, and their end if nothing comes behind them: behind a stop or the end nothing is written
+abbrev pub events_room : Format → ℕ → Bool → List HeadEvent → ℕ
+events_room format limit ends [] = if ends then syllable_room format limit + last_room else 0
+events_room format limit ends (x ∷ events) = event_room format limit x + (if is_final x then 0 else events_room format limit ends events)
+
+-- so much of it is needed in this part of the score
+abbrev pub needed_in : ScorePart → ℕ → ℕ
+needed_in score_part.Heads room = room
+needed_in score_part.Body room = room
+needed_in score_part.Over room = 0
 
 -- until the headers are written, room is kept for them
 abbrev pub heads_left : Written → ℕ → ℕ
 heads_left w limit = if w.headed then 0 else heads_room w.format limit
 
--- There is room for what these bring, and for what the end of what comes brings then.
-pub record FitsEvents (s : ScoreWriterState) (events : List HeadEvent) : Type 0 where
+-- There is room for what these bring, and if nothing comes behind them, for what their end brings then.
+pub record FitsEvents (s : ScoreWriterState) (ends : Bool) (events : List HeadEvent) : Type 0 where
   pub lines : length s.writer.messages.items + (length events + 1) * (16 * line_room s.writer.written.name) ≤ s.writer.messages.limit
-  pub texts : length s.writer.out.items + (heads_left s.writer.written s.score.limits.header + events_room s.writer.written.format s.score.limits.syllable events) ≤ s.writer.out.limit
-  pub scratch : s.score.limits.syllable ≤ s.writer.scratch
+  pub texts : length s.writer.out.items + (heads_left s.writer.written s.score.limits.header + needed_in s.score.part (events_room s.writer.written.format s.score.limits.syllable ends events) + last_room) ≤ s.writer.out.limit
+
+-- There is room for what the end of the input brings, wherever the headers stand then.
+abbrev pub FitsEnd : ScoreWriterState → Type 0
+FitsEnd s = (limits : Limits) (progress : HeadProgress) → FitsEvents s true (events_of_end limits progress)
 
 -- the rooms that a writer has
 pub record IsReserved (s : ScoreWriterState) : Type 0 where
-  pub out : heads_room s.writer.written.format s.score.limits.header + 4 * syllable_room s.writer.written.format s.score.limits.syllable + 128 ≤ s.writer.out.limit
+  pub out : out_room s.writer.written.format s.score.limits ≤ s.writer.out.limit
   pub messages : 128 * line_room s.writer.written.name ≤ s.writer.messages.limit
-  pub scratch : s.score.limits.syllable ≤ s.writer.scratch
 
 -- nothing waits
 abbrev pub emptied : ScoreWriterState → ScoreWriterState

@@ -1,38 +1,49 @@
-use Rattle.std.proofs.Common.{sym, ap, ◌∙◌, false}
+use Rattle.std.proofs.Common.{◌≡◌, ◌+◌, ◌<◌, ◌∷◌, ℕ, List, drop, length, get_or, false, ap, sym, ◌∙◌, subst, add-one}
+use Rattle.std.proofs.Math.Seq.{drop-cons}
+use Rattle.std.proofs.lemmas.List.{drop_all}
 use Rattle.gabc_notes.specs.declared.note.Note.{Note}
 use Rattle.gabc_notes.specs.declared.note.Shape.TheVariants.{Punctum}
-use Rattle.gabc_neumes.specs.machine.GlyphMachine.{next_state}
-use Rattle.gabc_neumes.specs.declared.state.NoteClass.{NoteClass}
-use Rattle.gabc_neumes.proofs.glyphs_of_notes.FirstGlyphByStates.{reading_start, reading_ends, reading_on, reading_stops, reading_end}
+use Rattle.gabc_neumes.proofs.glyphs_of_notes.SearchOfGlyph.{Searched, searched_with, searched_stops, searched_end, search_grows}
 use Rattle.gabc_neumes.proofs.glyphs.first_glyph.Goals as goal
-use Rattle.gabc_neumes.proofs.glyphs.first_glyph.Goals.{in-Some-ends, in_default}
 
 abbrev pub default : Note
 default = record { height = 0; shape = Punctum; debilis = false; span = record { from = 0; to = 0 } }
 
-pub loop-i-init : goal.loop-i-init
-loop-i-init c = reading_start c.args.notes.now
+-- what is left at a note
+left_at : (notes : List Note) (i : ℕ) → i < length notes → drop i notes ≡ get_or notes i default ∷ drop (i + 1) notes
+left_at notes i l = drop-cons notes i default l ∙ ap (λ (n : ℕ). get_or notes i default ∷ drop n notes) (sym (add-one i))
+
+pub loop-note-preserved : goal.loop-note-preserved
+loop-note-preserved c =
+    let notes = c.args.notes.now in
+    let i = c.loop-note.note-index in
+    let h = subst (λ (l : List Note). Searched notes l c.loop-note.search) (left_at notes i c.loop-note-test.true) c.loop-note.invariant.searched in
+    let w = sym c.with.ensures ∙ c.in-Some.is in
+    record {
+      searched = searched_with notes (drop (i + 1) notes) (get_or notes i default) c.loop-note.search c.in-Some.after h w;
+      read = search_grows c.loop-note.search c.in-Some.after (get_or notes i default) w ∙ ap (λ (n : ℕ). n + 1) c.loop-note.invariant.read;
+    }
 
 pub returns-in-None-clause-found : goal.returns-in-None-clause-found
 returns-in-None-clause-found c =
-    (reading_stops c.args.notes.now c.loop-i.i c.loop-i.state c.loop-i.before default c.loop-i.best c.loop-i-test.true c.loop-i.invariant
-    (ap (λ (k : NoteClass). next_state c.loop-i.state k) (sym c.class_of.ensures) ∙ (sym c.goes_on.ensures ∙ c.in-None.is))).found
+    let notes = c.args.notes.now in
+    let i = c.loop-note.note-index in
+    (searched_stops notes (drop (i + 1) notes) (get_or notes i default) c.loop-note.search
+    (subst (λ (l : List Note). Searched notes l c.loop-note.search) (left_at notes i c.loop-note-test.true) c.loop-note.invariant.searched) (sym c.with.ensures ∙ c.in-None.is)).found
 
 pub returns-in-None-clause-none : goal.returns-in-None-clause-none
 returns-in-None-clause-none c =
-    (reading_stops c.args.notes.now c.loop-i.i c.loop-i.state c.loop-i.before default c.loop-i.best c.loop-i-test.true c.loop-i.invariant
-    (ap (λ (k : NoteClass). next_state c.loop-i.state k) (sym c.class_of.ensures) ∙ (sym c.goes_on.ensures ∙ c.in-None.is))).none
-
-pub loop-i-preserved : goal.loop-i-preserved
-loop-i-preserved c =
-    let g = ap (λ (k : NoteClass). next_state c.loop-i.state k) (sym c.class_of.ensures) ∙ (sym c.goes_on.ensures ∙ c.in-Some.is) in
-    elim c.match-ends.branch [
-      | in-Some-ends w ↦ rw (w.best-is) (reading_ends c.args.notes.now c.loop-i.i c.loop-i.state c.in-Some.after c.loop-i.before default w.in-Some-ends.kind c.loop-i.best c.loop-i-test.true c.loop-i.invariant g (sym c.ends.ensures ∙ w.in-Some-ends.is))
-      | in_default w ↦ rw (w.best-is) (reading_on c.args.notes.now c.loop-i.i c.loop-i.state c.in-Some.after c.loop-i.before default c.loop-i.best c.loop-i-test.true c.loop-i.invariant g (sym c.ends.ensures ∙ w.in_default.is))
-    ]
+    let notes = c.args.notes.now in
+    let i = c.loop-note.note-index in
+    (searched_stops notes (drop (i + 1) notes) (get_or notes i default) c.loop-note.search
+    (subst (λ (l : List Note). Searched notes l c.loop-note.search) (left_at notes i c.loop-note-test.true) c.loop-note.invariant.searched) (sym c.with.ensures ∙ c.in-None.is)).none
 
 pub returns-clause-found : goal.returns-clause-found
-returns-clause-found c = (reading_end c.args.notes.now c.loop-i.i c.loop-i.state c.loop-i.before c.loop-i.best c.loop-i-test.false c.loop-i.invariant).found
+returns-clause-found c =
+    let notes = c.args.notes.now in
+    (searched_end notes c.loop-note.search (subst (λ (l : List Note). Searched notes l c.loop-note.search) (drop_all c.loop-note.note-index notes c.loop-note-test.false) c.loop-note.invariant.searched)).found
 
 pub returns-clause-none : goal.returns-clause-none
-returns-clause-none c = (reading_end c.args.notes.now c.loop-i.i c.loop-i.state c.loop-i.before c.loop-i.best c.loop-i-test.false c.loop-i.invariant).none
+returns-clause-none c =
+    let notes = c.args.notes.now in
+    (searched_end notes c.loop-note.search (subst (λ (l : List Note). Searched notes l c.loop-note.search) (drop_all c.loop-note.note-index notes c.loop-note-test.false) c.loop-note.invariant.searched)).none

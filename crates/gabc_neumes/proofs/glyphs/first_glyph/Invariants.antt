@@ -1,5 +1,9 @@
-use Rattle.gabc_neumes.proofs.glyphs_of_notes.FirstGlyphByStates.{ReadSoFar}
+use Rattle.std.proofs.Common.{◌≡◌, drop}
+use Rattle.gabc_neumes.proofs.glyphs_of_notes.SearchOfGlyph.{Searched}
 use Rattle.gabc_neumes.proofs.glyphs.first_glyph.Given as goal
 
-abbrev pub invariant-loop-i : goal.invariant-loop-i
-invariant-loop-i l = ReadSoFar l.notes l.i l.state l.before l.best
+abbrev pub invariant-loop-note : goal.invariant-loop-note
+invariant-loop-note l = record {
+  searched : Searched l.notes (drop l.note-index l.notes) l.search;
+  read : l.search.read ≡ l.note-index;
+}

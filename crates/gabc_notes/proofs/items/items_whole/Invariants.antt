@@ -1,9 +1,7 @@
-use Rattle.std.proofs.Common.{length, ◌-◌}
-use Rattle.gabc_notes.proofs.items_of_text.ItemsByBytes.{Listed}
+use Rattle.std.proofs.Common.{◌≡◌, ◌++◌}
+use Rattle.gabc_notes.specs.Items.{items_of}
 use Rattle.gabc_notes.proofs.items.items_whole.Given as goal
 
-abbrev pub invariant-loop-kind : goal.invariant-loop-kind
-invariant-loop-kind l = Listed l.kept l.items l.at
-
-abbrev pub decreases-loop-kind : goal.decreases-loop-kind
-decreases-loop-kind l = length l.kept - l.at
+-- those that are gathered, and those to come
+abbrev pub invariant-loop-item : goal.invariant-loop-item
+invariant-loop-item l = items_of l.kept ≡ l.items ++ l.item-iterator

@@ -48,7 +48,6 @@ loop-snippet-preserved g c =
           ∙ (ap (λ (f : InForce). passed f (steps_of_snippet kept one)) h.alterations
           ∙ (c.steps_are_passed_one_by_one.ensures.forth c.args.alterations.now (steps_of_snippets kept (take i snippets)) (steps_of_snippet kept one)
           ∙ ap (passed c.args.alterations.now) (steps_more kept snippets i inside)));
-      scratch = c.put_snippet.ensures.scratch ∙ h.scratch;
       lines = subst (All (λ (s : Snippet). s.line < 256)) (sym (take_more snippets i none inside))
           (All-push (λ (s : Snippet). s.line < 256) _ _ h.lines c.put_snippet.ensures.line);
     }

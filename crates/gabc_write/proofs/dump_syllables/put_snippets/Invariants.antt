@@ -9,6 +9,5 @@ invariant-loop-snippet g l = record {
   put : g.S.Put.taken l.out (lines_of_snippets l.alterations (string_bytes l.syllable.kept) (drop l.snippet-index l.snippets))
       ≡ g.S.Put.taken l.initial.out (lines_of_snippets l.initial.alterations (string_bytes l.syllable.kept) l.snippets);
   alterations : l.alterations ≡ passed l.initial.alterations (steps_of_snippets (string_bytes l.syllable.kept) (take l.snippet-index l.snippets));
-  scratch : l.scratch ≡ l.initial.scratch;
   lines : All (λ s. s.line < 256) (take l.snippet-index l.snippets);
 }

@@ -9,5 +9,4 @@ abbrev pub invariant-loop-index : goal.invariant-loop-index
 invariant-loop-index g l = record {
   put : g.S.Put.taken l.out (lines_of_syllables (l.index + 1) l.alterations (map placed_of (drop l.index l.syllables)))
       ≡ g.S.Put.taken l.initial.out (lines_of_syllables 1 nothing_in_force (map placed_of l.syllables));
-  scratch : l.scratch ≡ l.initial.scratch;
 }

@@ -1,8 +1,8 @@
-use Rattle.std.proofs.Common.{◌≡◌, [], ◌∷◌, false, ◌&&◌, Bool, Result, Ok, Err, refl, ap, sym, subst, ◌∙◌}
+use Rattle.std.proofs.Common.{◌≡◌, [], ◌∷◌, true, false, ◌&&◌, Bool, Result, Ok, Err, refl, ap, sym, subst, ◌∙◌}
 use Rattle.gabc_places.specs.declared.code.Fault.{Fault}
 use Rattle.gabc_places.specs.declared.place.Char.{Char}
 use Rattle.gabc_headers.specs.declared.head_event.HeadEvent.{HeadEvent as HeadItem}
-use Rattle.gabc_headers.specs.declared.head_event.HeadEvent.TheVariants.{End}
+use Rattle.gabc_headers.specs.witness.HeadEvents.{events_of_end}
 use Rattle.gregorio.specs.witness.Engine.{is_before_heads, is_heads, writes_heads}
 use Rattle.gregorio.specs.machine.Engine.{event_of_item}
 use Rattle.gregorio.specs.machine.ScoreWriter.{FitsEvents, WritesAt}
@@ -11,7 +11,7 @@ use Rattle.gregorio.specs.machine.InStep.{PassesOn}
 use Rattle.gregorio.proofs.pieces.PartsStayInStep.{body_in_step}
 use Rattle.gregorio.proofs.pieces.WrittenGoesOn.{went_on_past}
 use Rattle.gregorio.proofs.pieces.TellsInStepOn.{body_stays_telling}
-use Rattle.gregorio.proofs.pieces.RoomIsLeft.{item_is_few, room_for_first, room_with_end}
+use Rattle.gregorio.proofs.pieces.RoomIsLeft.{item_is_few, room_for_stop, room_reserved}
 use Rattle.gregorio.proofs.pieces.TextOfHeaders.{body_reads_on}
 use Rattle.gregorio.proofs.engine.read.Goals as goal
 
@@ -22,9 +22,8 @@ no_heads (Err fault) = refl
 pub pass-requires-clause-room : goal.pass-requires-clause-room
 pass-requires-clause-room c =
     let w = c.args.writer.now in
-    room_for_first w c.body_event.result (End ∷ [])
-    (subst (λ (x : HeadItem). FitsEvents w (x ∷ End ∷ [])) (sym c.body_event.ensures)
-    (room_with_end w _ c.requires.reserved c.requires.empty (item_is_few w.writer.written.format w.score.limits.syllable c.args.item)))
+    subst (λ (x : HeadItem). FitsEvents w false (x ∷ [])) (sym c.body_event.ensures)
+    (room_reserved w false (event_of_item c.args.item ∷ []) c.requires.reserved c.requires.empty (item_is_few w.writer.written.format w.score.limits.syllable c.args.item))
 
 pub pass-requires-clause-heads : goal.pass-requires-clause-heads
 pass-requires-clause-heads c =
@@ -44,11 +43,11 @@ returns-clause-writes c =
     (subst (λ (x : HeadItem). WritesAt w x [] c.pass.new.self) c.body_event.ensures (c.pass.ensures.writes [])) c.pass.ensures.steady).writes
 
 pub returns-clause-room : goal.returns-clause-room
-returns-clause-room c =
+returns-clause-room c = λ none limits progress.
     let w = c.args.writer.now in
-    c.pass.ensures.room (End ∷ [])
-    (subst (λ (x : HeadItem). FitsEvents w (x ∷ End ∷ [])) (sym c.body_event.ensures)
-    (room_with_end w _ c.requires.reserved c.requires.empty (item_is_few w.writer.written.format w.score.limits.syllable c.args.item)))
+    c.pass.ensures.room true (events_of_end limits progress)
+    (subst (λ (x : HeadItem). FitsEvents w true (x ∷ events_of_end limits progress)) (sym c.body_event.ensures)
+    (room_for_stop w c.args.item c.requires.reserved c.requires.empty none limits progress))
 
 pub returns-clause-step : goal.returns-clause-step
 returns-clause-step c =

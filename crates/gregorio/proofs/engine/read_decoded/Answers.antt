@@ -1,7 +1,6 @@
-use Rattle.std.proofs.Common.{[]}
 use Rattle.gregorio.proofs.pieces.ItemsAreRead.{no_items}
 use Rattle.gregorio.proofs.pieces.PartsStayInStep.{nothing_in_step}
-use Rattle.gregorio.proofs.pieces.RoomIsLeft.{none_are_few, room_with_end}
+use Rattle.gregorio.proofs.pieces.RoomIsLeft.{room_for_end}
 use Rattle.gregorio.proofs.pieces.TextOfHeaders.{nothing_reads_on}
 use Rattle.gregorio.proofs.pieces.TellsInStepOn.{nothing_stays_telling}
 use Rattle.gregorio.proofs.engine.read_decoded.Goals as goal
@@ -10,8 +9,7 @@ pub returns-in_default-clause-writes : goal.returns-in_default-clause-writes
 returns-in_default-clause-writes c = rw c.in_default.is (no_items c.args.heads.now c.args.writer.now)
 
 pub returns-in_default-clause-room : goal.returns-in_default-clause-room
-returns-in_default-clause-room c =
-    room_with_end c.args.writer.now [] c.requires.reserved c.requires.empty (none_are_few c.args.writer.now.writer.written.format c.args.writer.now.score.limits.syllable)
+returns-in_default-clause-room c = λ none. room_for_end c.args.writer.now c.requires.reserved c.requires.empty
 
 pub returns-in_default-clause-step : goal.returns-in_default-clause-step
 returns-in_default-clause-step c =

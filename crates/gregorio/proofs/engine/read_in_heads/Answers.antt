@@ -1,8 +1,7 @@
-use Rattle.gabc_headers.specs.declared.head_event.HeadEvent.TheVariants.{End}
-use Rattle.std.proofs.Common.{List, [], ◌∷◌, refl, sym, subst}
-use Rattle.gregorio.proofs.pieces.HeadersAreRead.{given_of_input, room_for_given, room_for_just_given, short_book_given, short_heads, together_given, writes_given}
+use Rattle.std.proofs.Common.{true, List, [], ◌∷◌, refl, sym, subst}
+use Rattle.gregorio.proofs.pieces.HeadersAreRead.{given_of_input, room_for_given, room_with_end, short_book_given, short_heads, together_given, writes_given}
 use Rattle.gabc_headers.specs.declared.head_event.HeadEvent.{HeadEvent as HeadItem}
-use Rattle.gabc_headers.specs.witness.HeadEvents.{HeaderStageState}
+use Rattle.gabc_headers.specs.witness.HeadEvents.{HeaderStageState, events_of_end}
 use Rattle.gregorio.specs.machine.InStep.{PassesAll, StayInStep}
 use Rattle.gregorio.specs.machine.ReadsHeaders.{ReadsOn}
 use Rattle.gregorio.proofs.pieces.BodiesBegin.{room_of_begun, same_writer, stay_begun, steady_of_begun, together_begun, writes_begun}
@@ -15,7 +14,7 @@ use Rattle.gregorio.proofs.engine.read_in_heads.Goals as goal
 pub pass_on-requires-clause-room : goal.pass_on-requires-clause-room
 pass_on-requires-clause-room c =
     let step = given_of_input c.args.heads.now _ c.args.item c.args.from_heads.now c.clear.new.self c.push.new.out c.slice.result.now c.clear.ensures c.push.ensures.events c.slice.ensures in
-    room_for_just_given c.args.heads.now c.args.writer.now c.args.item c.slice.result.now step c.requires.reserved c.requires.empty
+    room_for_given c.args.heads.now c.args.writer.now c.args.item c.slice.result.now step c.requires.reserved c.requires.empty
 
 pub pass_on-requires-clause-book : goal.pass_on-requires-clause-book
 pass_on-requires-clause-book c =
@@ -47,10 +46,11 @@ returns-clause-writes c =
     c.pass_on.new.writer c.pass_on.ensures.writes)
 
 pub returns-clause-room : goal.returns-clause-room
-returns-clause-room c =
+returns-clause-room c = λ none limits progress.
     let step = given_of_input c.args.heads.now _ c.args.item c.args.from_heads.now c.clear.new.self c.push.new.out c.slice.result.now c.clear.ensures c.push.ensures.events c.slice.ensures in
-    room_of_begun c.args.item c.pass_on.new.writer c.begin_body.new.self c.begin_body.ensures (End ∷ [])
-    (c.pass_on.ensures.room (End ∷ []) (room_for_given c.args.heads.now c.args.writer.now c.args.item c.slice.result.now step c.requires.reserved c.requires.empty))
+    room_of_begun c.args.item c.pass_on.new.writer c.begin_body.new.self c.begin_body.ensures true (events_of_end limits progress)
+    (c.pass_on.ensures.room true (events_of_end limits progress)
+    (room_with_end c.args.heads.now c.args.writer.now c.args.item c.slice.result.now step c.requires.reserved c.requires.empty none limits progress))
 
 pub returns-clause-steady : goal.returns-clause-steady
 returns-clause-steady c = steady_of_begun c.args.item c.pass_on.new.writer c.begin_body.new.self c.begin_body.ensures c.args.writer.now c.pass_on.ensures.steady

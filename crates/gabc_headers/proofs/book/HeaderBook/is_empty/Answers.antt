@@ -1,6 +1,7 @@
+use Rattle.std.proofs.Common.{refl}
 use Rattle.std.specs.String.{string_bytes}
-use Rattle.gabc_headers.proofs.entries.EntriesLieInTheText.{length-shown}
+use Rattle.gabc_headers.proofs.entries.HeadersAreSpelled.{length-spelled}
 use Rattle.gabc_headers.proofs.book.HeaderBook.is_empty.Goals as goal
 
 pub returns : goal.returns
-returns c = rw (← c.self.view_is, length-shown (string_bytes c.self.inside.text) c.self.inside.entries.items, ← c.self.inside.entries.ok.0) c.is_empty.ensures
+returns c = rw (← c.self.view_is, length-spelled (string_bytes c.self.inside.text) c.self.inside.headers.items, c.len.ensures) refl

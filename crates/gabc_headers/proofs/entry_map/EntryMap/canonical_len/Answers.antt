@@ -5,24 +5,19 @@ use Rattle.gabc_headers.proofs.entries.TextsAsBytes.{length-encodes}
 use Rattle.gabc_headers.specs.Lines.{bytes_len}
 use Rattle.gabc_headers.specs.Canonical.{header_line, header_lines}
 use Rattle.gabc_headers.specs.machine.EntryMap.{spelled_entries}
-use Rattle.gabc_headers.proofs.entries.MapIsReadByEntry.{within_get, spelled_here, spelled_none, lines_cons, sum_next}
+use Rattle.gabc_headers.proofs.entries.MapIsReadByEntry.{spelled_here, spelled_none, lines_cons, sum_next}
 use Rattle.gabc_headers.proofs.entry_map.EntryMap.canonical_len.Goals as goal
 
 -- a count that takes more stays a count
 count_fits : (n b m : ℕ) → n < 2 ^ 64 → m ≡ n + min b (2 ^ 64 - 1 - n) → m < 2 ^ 64
 count_fits n b m h e = omega arith
 
-pub range-requires : goal.range-requires
-range-requires c =
-    let w = within_get c.args.text.now c.args.self.now.items c.loop-index.index c.value-value.result c.requires c.value-value.ensures in
-    record { start_le_end = w.order; start_boundary = λ _. w.first; end_boundary = w.last }
-
 pub loop-index-preserved : goal.loop-index-preserved
 loop-index-preserved c =
     let rest = spelled_entries c.args.text.now (drop (suc c.loop-index.index) c.args.self.now.items) in
-    let line : List ℕ × List ℕ = (chars c.name.result.now, chars c.range.result.now) in
+    let line : List ℕ × List ℕ = (chars c.name.result.now, chars c.value_in.result.now) in
     let here : spelled_entries c.args.text.now (drop c.loop-index.index c.args.self.now.items) ≡ line ∷ rest
-    = rw (c.range.ensures.value) (spelled_here c.args.text.now c.args.self.now.items c.loop-index.index c.name.result.now c.value-value.result c.name.ensures c.value-value.ensures) in
+    = spelled_here c.args.text.now c.args.self.now.items c.loop-index.index c.name.result.now c.value_in.result.now c.name.ensures c.value_in.ensures in
     let sum = ap (λ (x : List (List ℕ × List ℕ)). bytes_len (header_lines x)) here ∙ lines_cons line rest in
     record {
       fits = count_fits c.loop-index.counter _ _ c.loop-index.invariant.fits c.put_header.ensures;

@@ -1,6 +1,6 @@
-use Rattle.std.proofs.Common.{List, ℕ, [], refl, sym, ap, arith, ◌∙◌}
+use Rattle.std.proofs.Common.{List, ℕ, [], refl, sym, ap, arith, ◌∙◌, string_bytes}
 use Rattle.std.specs.String.{string_capacity}
-use Rattle.std.proofs.lemmas.Str.{chars-nil}
+use Rattle.std.proofs.lemmas.Str.{chars-nil, IsUtf8-string_bytes}
 use Rattle.gabc_places.specs.BoundedList.{BoundedList}
 use Rattle.gabc_places.specs.declared.place.Span.{Span}
 use Rattle.gabc_headers.specs.witness.HeadEvents.{HeaderStageState}
@@ -10,24 +10,17 @@ use Rattle.gabc_headers.proofs.header_stage.HeaderStage.restart.Goals as goal
 pub invariant_of-self : goal.invariant_of-self
 invariant_of-self c =
     let s = c.self.inside in
-    let k = keeps s.limits s.part _ (string_capacity s.text) s.machine s.headers s.room c.self.invariant in (
-      record {
-        events = [];
-        taken = rw (c.clear.ensures.bytes, chars-nil) (sym c.new-self-inside.ensures.starts, refl);
-        bounded = c.new-self-inside.ensures.bounds;
-        fits = (let a = k.text_fits in let b = c.clear.ensures.capacity in omega (arith, a, b));
-        put = ap (λ (x : BoundedList (List ℕ × Span)). x.items) c.clear-2.ensures;
-        limit = ap (λ (x : BoundedList (List ℕ × Span)). x.limit) c.clear-2.ensures ∙ k.headers_fit;
-      },
-      record {
-        text = c.clear-3.ensures.text;
-        entries = c.clear-3.ensures.entries;
-        text_fits = (let a = k.bytes_fit in let b = c.clear-3.ensures.bytes in omega (arith, a, b));
-        entries_fit = (let a = k.entries_fit in let b = c.clear-3.ensures.headers in omega (arith, a, b));
-      },
-    )
+    let k = keeps s.limits s.part (string_bytes s.text) (string_capacity s.text) s.machine s.headers (IsUtf8-string_bytes s.text) c.self.invariant in
+    record {
+      events = [];
+      taken = rw (c.clear.ensures.bytes, chars-nil) (sym c.new-self-inside.ensures.starts, refl);
+      bounded = c.new-self-inside.ensures.bounds;
+      fits = (let a = k.text_fits in let b = c.clear.ensures.capacity in omega (arith, a, b));
+      put = ap (λ (x : BoundedList (List ℕ × Span)). x.items) c.clear-2.ensures;
+      limit = ap (λ (x : BoundedList (List ℕ × Span)). x.limit) c.clear-2.ensures ∙ k.headers_fit;
+    }
 
 pub returns : goal.returns
 returns c =
     let limits = ap (λ (v : HeaderStageState). v.limits) c.self.view_is in
-    rw (c.clear.ensures.bytes, chars-nil, c.clear-3.ensures.text, c.clear-3.ensures.entries, ← limits) refl
+    rw (c.clear.ensures.bytes, chars-nil, ← limits) refl

@@ -8,4 +8,4 @@ pub returns-in-InHeaders-clause-held : goal.returns-in-InHeaders-clause-held
 returns-in-InHeaders-clause-held c =
     let i = rw c.in-InHeaders.is at c.self.invariant in
     rw (← c.self.view_is, c.as_str.ensures.value)
-    (is_held c.self.inside.limits (string_bytes c.self.inside.text) (string_capacity c.self.inside.text) c.self.inside.machine c.self.inside.headers (IsUtf8-string_bytes c.self.inside.text) i.0)
+    (is_held c.self.inside.limits (string_bytes c.self.inside.text) (string_capacity c.self.inside.text) c.self.inside.machine c.self.inside.headers (IsUtf8-string_bytes c.self.inside.text) i)

@@ -1,13 +1,16 @@
-use Rattle.std.proofs.Common.{rules, ◌≡◌, [], ◌∷◌, ◌++◌, ◌||◌, ◌∙◌, refl, sym, ap, subst, None, arith}
+use Rattle.std.proofs.Common.{rules, ◌≡◌, ◌≤◌, List, length, [], ◌∷◌, ◌++◌, ◌||◌, ◌∙◌, refl, sym, ap, subst, None, arith}
 use Rattle.std.specs.List.{All}
 use Rattle.gabc_headers.specs.declared.head_event.HeadEvent.TheVariants as head_event
 use Rattle.gabc_score.specs.ScoreEvents.{Stop, End, outputs_of}
+use Rattle.gabc_score.specs.NoNotes.{OnlyFirstHasNotes}
+use Rattle.gabc_score.specs.Syllable.{UnplacedSyllable}
 use Rattle.gabc_score.specs.machine.BodyBuilder.{code_in, end_fault, end_findings, with_all}
 use Rattle.gabc_score.specs.machine.Gatherer.{Gathered, with_last}
 use Rattle.gabc_score.specs.machine.ScoreMachine.{IsShort}
 use Rattle.gabc_score.specs.machine.ScoreStage.{placed_behind}
 use Rattle.gabc_score.proofs.score_events.EventsStayWithinBounds.{few_found}
 use Rattle.gabc_score.proofs.score_events.FewAndShortAreLent.{short_at_end, held_lends, lends_these, no_code, placed_within}
+use Rattle.gabc_score.proofs.score_events.LastHasNoNotes.{last_has_no_notes, none_made_at_end}
 use Rattle.gabc_score.proofs.score_events.PartsFollow.{last_behind, leads_out}
 use Rattle.gabc_score.proofs.score_events.MemoryIsKept.{limit_last, limit_past, room_past}
 use Rattle.gabc_score.proofs.score_machine.ScoreMachine.end.Goals as goal
@@ -53,10 +56,15 @@ returns-in-None-clause-step c =
     let old = c.args.self.now.pair.gathered in
     let is : p.gathered ≡ with_last (with_all old now) = c.close_last-has_last.ensures.gathered ∙ ap with_last (c.hold.ensures.gathered ∙ ap (λ (k : Gathered). with_all k now) c.free.ensures.gathered) in
     let none : code_in limits (with_last (with_all old now)) ≡ None = no_code limits c.args.self.now.next (with_last (with_all old now)) (sym (ap (end_fault limits c.args.self.now.next) is) ∙ (sym c.end_fault.ensures.fault ∙ c.in-None.is)) in
+    let all : Gathered = with_all old now in
+    let made : all.made ≡ old.made = none_made_at_end c.args.self.now.body old now c.close.ensures.events.law in
+    let held = ap (λ (k : Gathered). k.made) c.free.ensures.gathered in
+    let one : length all.made ≤ 1 = omega (arith, ap (λ (ms : List UnplacedSyllable). length ms) (made ∙ sym held), c.free.ensures.one) in
+    let later : OnlyFirstHasNotes lent = subst (λ (k : Gathered). OnlyFirstHasNotes (placed_behind c.args.self.now.has_lent k.made)) (sym is) (last_has_no_notes c.args.self.now.has_lent all one) in
     let short : All (IsShort limits.syllable) p.gathered.made = subst (λ (k : Gathered). All (IsShort limits.syllable) k.made) (sym is) (short_at_end limits old now rests.limit rests.over rests.short none) in
     record {
       outputs = outputs_of found lent ++ End ∷ [];
-      lends = lends_these c.args.self.now.limits 2 found lent (End ∷ []) refl c.give_end.ensures.few (placed_within c.args.self.now.limits _ p.gathered.made short);
+      lends = lends_these c.args.self.now.limits 2 found lent (End ∷ []) refl c.give_end.ensures.few later (placed_within c.args.self.now.limits _ p.gathered.made short);
       limits = refl;
       part = leads_out c.args.self.now.part _ head_event.End (outputs_of found lent) End c.requires.part refl refl;
       last = λ other final. last_behind (outputs_of found lent) End refl;

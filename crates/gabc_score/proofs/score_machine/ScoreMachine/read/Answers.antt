@@ -17,7 +17,7 @@ use Rattle.gabc_score.specs.machine.PartOnly.{HoldsTexts, kept_codes}
 use Rattle.gabc_score.specs.machine.ScoreMachine.{IsShort, shown}
 use Rattle.gabc_score.specs.machine.ScoreStage.{placed_behind, with_held}
 use Rattle.gabc_score.specs.machine.Preceded.{IsPreceded, past_point}
-use Rattle.gabc_score.proofs.score_events.FewAndShortAreLent.{short_now, held_lends, lends_these, not_over, placed_within}
+use Rattle.gabc_score.proofs.score_events.FewAndShortAreLent.{short_now, held_lends, lends_these, not_over, one_at_most, placed_within}
 use Rattle.gabc_places.specs.declared.code.Finding.{Finding}
 use Rattle.gabc_places.specs.BoundedList.{BoundedList}
 use Rattle.gabc_score.specs.machine.BodyBuilder.{code_in, with_all}
@@ -109,7 +109,7 @@ returns-after-self-clause-step c =
     λ may is. place_behind c.args.x.place c.args.x.c (subst IsPlace (sym may.0) is) may.1.0.0 may.1.0.1 in
     record {
       outputs = outputs_of fs lent;
-      lends = subst (λ (outputs : List ScoreOutput). Lends limits 1 outputs) (append-nil (outputs_of fs lent)) (lends_these limits 1 fs lent [] refl c.give_point-gave.ensures.few within);
+      lends = subst (λ (outputs : List ScoreOutput). Lends limits 1 outputs) (append-nil (outputs_of fs lent)) (lends_these limits 1 fs lent [] refl c.give_point-gave.ensures.few (one_at_most lent c.give_point-gave.ensures.few) within);
       limits = refl;
       part = stays_inside c.args.self.now.part c.args.self.now.part (head_event.Body c.args.x) fs lent c.requires.part c.requires.part;
       last = λ other final. absurd (cc final);

@@ -2,7 +2,8 @@ use Rattle.std.proofs.Common.{[], ap, sym, ◌∙◌}
 use Rattle.gregorio.specs.declared.source_ending.SourceEnding.TheVariants.{Broken}
 use Rattle.gregorio.specs.witness.Engine.{EngineState, streams_left}
 use Rattle.gregorio.specs.machine.Engine.{IsEmpty}
-use Rattle.gregorio.proofs.pieces.InputsAreEnded.{ends_last, ends_now, over_of_items, over_together, room_for_last}
+use Rattle.gregorio.proofs.pieces.InputsAreEnded.{ends_last, ends_now, over_of_items, over_together}
+use Rattle.gregorio.proofs.pieces.RoomIsLeft.{room_for_last}
 use Rattle.gregorio.proofs.pieces.BytesAreTaken.{still_reserved}
 use Rattle.gregorio.proofs.pieces.PartsStayInStep.{over_in_step}
 use Rattle.gregorio.proofs.pieces.TextOfHeaders.{over_reads}

@@ -1,15 +1,19 @@
-use Rattle.std.proofs.Common.{List, [], option_to_list, ap, sym, subst, ◌∙◌, append-nil, arith}
+use Rattle.std.proofs.Common.{◌≡◌, true, List, [], ◌∷◌, Option, Result, option_to_list, ap, sym, subst, ◌∙◌, append-nil, arith}
 use Rattle.gabc_headers.specs.declared.head_event.HeadEvent.{HeadEvent as HeadItem}
-use Rattle.gabc_headers.specs.witness.HeadEvents.{HeaderStageState}
+use Rattle.gabc_headers.specs.witness.HeadEvents.{HeaderStageState, events_of_end}
 use Rattle.gabc_places.specs.BoundedList.{BoundedList}
+use Rattle.gabc_places.specs.DecoderMachine.{DecoderState}
+use Rattle.gabc_places.specs.declared.code.Fault.{Fault}
+use Rattle.gabc_places.specs.declared.place.Char.{Char}
+use Rattle.gabc_places.specs.witness.DecoderEvents as decoder
 use Rattle.gregorio.specs.Streams.{ended_with}
 use Rattle.gregorio.specs.declared.source_ending.SourceEnding.TheVariants.{Whole}
 use Rattle.gregorio.specs.witness.Engine.{EngineState, streams_left}
-use Rattle.gregorio.specs.machine.Engine.{GoTogether, IsEmpty}
-use Rattle.gregorio.specs.machine.ScoreWriter.{FitsEvents}
+use Rattle.gregorio.specs.machine.Engine.{GoTogether, IsEmpty, IsNoCharacter}
+use Rattle.gregorio.specs.machine.ScoreWriter.{ScoreWriterState, FitsEnd, FitsEvents}
 use Rattle.gregorio.proofs.pieces.HeadersAreRead.{given_of_end}
-use Rattle.gregorio.proofs.pieces.RoomIsLeft.{room_for_end}
-use Rattle.gregorio.proofs.pieces.InputsAreEnded.{ends_given, ends_items, ends_now, over_is_settled, over_of_items, over_stage, over_together}
+use Rattle.gregorio.proofs.pieces.RoomIsLeft.{room_before_end}
+use Rattle.gregorio.proofs.pieces.InputsAreEnded.{no_character_at_end, ends_given, ends_items, ends_now, over_is_settled, over_of_items, over_stage, over_together}
 use Rattle.gregorio.proofs.pieces.BytesAreTaken.{none_wait, still_reserved}
 use Rattle.gregorio.proofs.pieces.EventsAreWritten.{steady_both}
 use Rattle.gregorio.proofs.pieces.PartsStayInStep.{over_in_step}
@@ -21,13 +25,25 @@ use Rattle.gregorio.proofs.engine.Engine.end.Goals as goal
 pub read_decoded-requires-clause-part : goal.read_decoded-requires-clause-part
 read_decoded-requires-clause-part c = in_heads_yet c.self.inside.decoder c.self.inside.heads c.self.inside.writer c.self.invariant.step.runs
 
+room_at_end : (d : DecoderState) (h : HeaderStageState) (w : ScoreWriterState) (item : Option (Result Char Fault)) (events : List HeadItem) → decoder.events_left d [] ≡ option_to_list item ∷ []
+    → (IsNoCharacter item → FitsEnd w) → events ≡ events_of_end h.limits h.progress → FitsEvents w true events
+room_at_end d h w item events at_end room is = subst (λ (xs : List HeadItem). FitsEvents w true xs) (sym is) (room (no_character_at_end d item at_end) h.limits h.progress)
+
+pub pass_on-requires-clause-room : goal.pass_on-requires-clause-room
+pass_on-requires-clause-room c =
+    let h = c.read_decoded.new.heads in
+    let from_heads = given_of_end h c.read_decoded.new.from_heads c.clear.new.self c.finish.new.out c.slice.result.now c.clear.ensures c.finish.ensures.ends c.slice.ensures in
+    room_before_end c.read_decoded.new.writer c.slice.result.now
+    (room_at_end c.self.inside.decoder h c.read_decoded.new.writer c.end-item.result c.slice.result.now c.end-item.ensures.item c.read_decoded.ensures.room from_heads)
+
 pub finish-requires-2 : goal.finish-requires-2
 finish-requires-2 c =
     let w = c.read_decoded.new.writer in
-    let from_heads = given_of_end c.read_decoded.new.heads c.read_decoded.new.from_heads c.clear.new.self c.finish.new.out c.slice.result.now c.clear.ensures c.finish.ensures.ends c.slice.ensures in
+    let h = c.read_decoded.new.heads in
+    let from_heads = given_of_end h c.read_decoded.new.from_heads c.clear.new.self c.finish.new.out c.slice.result.now c.clear.ensures c.finish.ensures.ends c.slice.ensures in
     record {
-      room = c.pass_on.ensures.room [] (subst (λ (events : List HeadItem). FitsEvents w events) (sym (append-nil c.slice.result.now))
-          (subst (λ (events : List HeadItem). FitsEvents w events) (sym from_heads) (room_for_end w c.read_decoded.new.heads.limits c.read_decoded.new.heads.progress c.read_decoded.ensures.room)));
+      room = c.pass_on.ensures.room true [] (subst (λ (events : List HeadItem). FitsEvents w true events) (sym (append-nil c.slice.result.now))
+          (room_at_end c.self.inside.decoder h w c.end-item.result c.slice.result.now c.end-item.ensures.item c.read_decoded.ensures.room from_heads));
     }
 
 pub returns-clause-law : goal.returns-clause-law

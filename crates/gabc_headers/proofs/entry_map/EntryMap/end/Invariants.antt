@@ -1,0 +1,9 @@
+use Rattle.std.proofs.Common.{IsCharBoundary, take}
+use Rattle.gabc_headers.proofs.entries.TextsGoOn.{EndBy}
+use Rattle.gabc_headers.proofs.entry_map.EntryMap.end.Given as goal
+
+abbrev pub invariant-loop-index : goal.invariant-loop-index
+invariant-loop-index l = record {
+  last : IsCharBoundary l.text l.end;
+  ends : EndBy l.end (take l.index l.self.items);
+}

@@ -1,0 +1,22 @@
+use Rattle.std.proofs.Common.{ℕ, ◌+◌, List, ◌∷◌, length, ap, sym, ◌∙◌, arith}
+use Rattle.std.proofs.lemmas.Str.{IsCharBoundary-from_drop}
+use Rattle.gabc_notes.specs.Items.{items_from}
+use Rattle.gabc_notes.specs.declared.item.Item.{Item}
+use Rattle.gabc_notes.proofs.items_of_text.ItemsByBytes.{item_at, first_from}
+use Rattle.gabc_notes.proofs.items.ItemReaderIterator.next.Goals as goal
+
+pub range_from-self-inside-requires : goal.range_from-self-inside-requires
+range_from-self-inside-requires c = let first = c.in_ok-kind.ensures.found in λ l. IsCharBoundary-from_drop c.self.inside.rest.now c.in_ok-kind.len first.within first.utf8
+
+pub returns-clause-steps : goal.returns-clause-steps
+returns-clause-steps c =
+    let item : Item = item_at c.in_ok-kind.kind c.self.inside.at c.in_ok-kind.len in
+    sym c.self.view_is
+    ∙ (first_from c.self.inside.rest.now c.self.inside.at c.in_ok-kind.len c.in_ok-kind.kind c.self.invariant.0 c.in_ok-kind.ensures.found
+    ∙ ap (λ (rest : List ℕ). item ∷ items_from (c.self.inside.at + c.in_ok-kind.len) rest) (sym c.range_from-self-inside.ensures.value))
+
+pub returns-clause-goes : goal.returns-clause-goes
+returns-clause-goes c =
+    let item : Item = item_at c.in_ok-kind.kind c.self.inside.at c.in_ok-kind.len in
+    let more = ap (length {A = Item}) (returns-clause-steps c) in
+    record { on = λ x. (tt, tt, omega (arith, more)); keeps = tt; rests = λ x. tt }
