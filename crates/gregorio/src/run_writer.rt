@@ -1,6 +1,6 @@
 //! What a run writes, in rooms that are reserved.
 
-ghost use Rattle.std.specs.Prelude.{◌≡◌, ◌+◌, ◌*◌, ◌^◌, ◌<◌, ◌≤◌, [], IfOk, IfSome, Some, true, length, string_bytes, encode_utf8_all};
+ghost use Rattle.std.specs.Prelude.{◌≡◌, ◌*◌, ◌≤◌, [], IfOk, IfSome, Some, true, length, string_bytes, encode_utf8_all};
 ghost use Rattle.gabc_headers.specs.Canonical.{canonical_heads};
 ghost use Rattle.gabc_score.specs.Canonical.{canonical_in_place};
 ghost use Rattle.gabc_write.specs.Message.{line_of};
@@ -12,7 +12,7 @@ ghost use Rattle.gregorio.specs.Streams.{last_text};
 ghost use Rattle.gregorio.specs.Outcome.{shown_line};
 ghost use Rattle.gregorio.specs.witness.Engine.{if_headed, is_before_heads, text_of_heads, text_of_output};
 ghost use Rattle.gregorio.specs.machine.ScoreWriter.{begun_again, fresh_writer};
-ghost use Rattle.gregorio.specs.machine.RunWriter.{syllable_len, syllable_room as room_of_syllable, room_without_notes as room_of_no_notes, out_room, heads_len, heads_room as room_of_heads, line_room, last_room, with_heads, with_last, past_output, past_end};
+ghost use Rattle.gregorio.specs.machine.RunWriter.{syllable_len, out_room, heads_len, line_room, last_room, with_heads, with_last, past_output, past_end};
 
 use crate::findings::{input_name, is_error, put_finding};
 use crate::rooms::{message_room, output_room};
