@@ -1,4 +1,5 @@
 pub mod HeadsByEnding
+pub mod LargerLimits
 pub mod MachineEndsAtStop
 pub mod PointsOfStops
 pub mod TextTooLong

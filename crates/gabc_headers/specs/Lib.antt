@@ -12,3 +12,4 @@ pub mod Lines
 pub mod NabcLines
 pub mod NextHeader
 pub mod Parts
+pub mod TooLong

@@ -1,6 +1,6 @@
 //! Laws of the definitions alone. Each function's contract is a law, and its body does nothing.
 
-ghost use Rattle.std.specs.Prelude.{◌≡◌, ◌+◌, ◌<◌, ◌≤◌, ℕ, Bool, false, List, [], ◌∷◌, ◌++◌, length, take, Option, Ok, Err};
+ghost use Rattle.std.specs.Prelude.{◌≡◌, ◌+◌, ◌<◌, ◌≤◌, ℕ, Bool, true, false, List, [], ◌∷◌, ◌++◌, length, take, Option, Ok, Err};
 ghost use Rattle.std.specs.Char.{IsScalar};
 ghost use Rattle.std.specs.List.{All};
 ghost use Rattle.gabc_places.specs.declared.code.Fault.{Fault};
@@ -10,11 +10,13 @@ ghost use Rattle.gabc_places.specs.Findings.{AreInOrder, LieBetween};
 ghost use Rattle.gabc_places.specs.Place.{place_after};
 ghost use Rattle.gabc_places.specs.StageLaw.{concat_of};
 ghost use Rattle.gabc_headers.specs.declared.heads.Heads.{Heads};
+ghost use Rattle.gabc_headers.specs.declared.heads.HeadFault.{HeadFault};
 ghost use Rattle.gabc_headers.specs.Heads.{head_len, heads_of, findings_of, line_place};
 ghost use Rattle.gabc_headers.specs.Book.{macros_of, nabc_lines_of, standing_entries};
 ghost use Rattle.gabc_headers.specs.Canonical.{canonical_heads, header_lines};
 ghost use Rattle.gabc_headers.specs.Lines.{bytes_len};
 ghost use Rattle.gabc_headers.specs.HeadsAgain.{heads_again};
+ghost use Rattle.gabc_headers.specs.TooLong.{is_too_long};
 ghost use Rattle.gabc_headers.specs.EntryMap.{put_all};
 ghost use Rattle.gabc_headers.specs.Groups.{Group, AreGroups, parts_of_groups};
 ghost use Rattle.gabc_headers.specs.HeadEvents.{emitted_by, events_of_broken, events_of_heads, events_of_stopped, inputs_behind};
@@ -95,6 +97,18 @@ pub fn canonical_lines_are_within_the_limits()
     ensures { (limits : Limits) (t : List ℕ) (heads : Heads) → heads_of limits t ≡ Ok heads →
         (bytes_len (header_lines heads.book) ≤ limits.header)
         × (bytes_len (canonical_heads heads.book) + 1 ≤ limits.input) }
+{}
+
+/// Larger limits change nothing where the headers were not too long: headers that are read, or that are stopped by something else, are
+/// read or stopped so under limits that are no less, if the input may be as long. What stops headers that are too long never stands at the end of the text.
+pub fn larger_limits_change_no_headers()
+    ensures same { (limits larger : Limits) (t : List ℕ) → AreNoLess limits larger
+        → limits.input ≡ larger.input
+        → ((stop : HeadFault) → heads_of limits t ≡ Err stop → is_too_long stop.fault.code ≡ false)
+        → heads_of larger t ≡ heads_of limits t }
+    ensures inside { (limits : Limits) (t : List ℕ) (stop : HeadFault)
+        → heads_of limits t ≡ Err stop → is_too_long stop.fault.code ≡ true
+        → stop.at_end ≡ false }
 {}
 
 /// The numbers that the headers of a book give are in range: at most 4 NABC lines, the macros of ten digits, and at least the two bytes of the `%%`.

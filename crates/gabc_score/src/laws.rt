@@ -11,6 +11,7 @@ ghost use Rattle.gabc_places.specs.declared.code.Finding.{Finding};
 ghost use Rattle.gabc_places.specs.declared.severity.Severity.TheVariants.{Fatal};
 ghost use Rattle.gabc_places.specs.declared.place.Char.{Char};
 ghost use Rattle.gabc_places.specs.declared.limits.Limits.{Limits};
+ghost use Rattle.gabc_places.specs.LargerLimits.{AreNoLess};
 ghost use Rattle.gabc_places.specs.declared.place.Span.{Span};
 ghost use Rattle.gabc_text.specs.ViewFacts.{StandsFor};
 ghost use Rattle.gabc_score.specs.declared.ending.InputEnding.{InputEnding};
@@ -19,6 +20,7 @@ ghost use Rattle.gabc_score.specs.Holding.{HoldsParts, HoldsWithNotes, HasWholeS
 ghost use Rattle.gabc_headers.specs.Book.{nabc_lines_of, macros_of};
 ghost use Rattle.gabc_headers.specs.Heads.{heads_of};
 ghost use Rattle.gabc_headers.specs.declared.heads.Heads.{Heads};
+ghost use Rattle.gabc_headers.specs.TooLong.{is_stopped_too_long};
 ghost use Rattle.gabc_notes.specs.ReadAgain.{IsWarning};
 ghost use Rattle.gabc_score.specs.FoundInParts.{TextWarns, UnitsWarn};
 ghost use Rattle.gabc_headers.specs.Canonical.{canonical_heads};
@@ -268,6 +270,17 @@ pub fn no_limit_is_passed_by_short_units()
     gabc_text::laws::events_build_the_text();
     gabc_text::laws::events_by_point_are_the_events();
     gabc_text::laws::spans_stand_for_the_view();
+}
+
+/// Larger limits change nothing where neither the headers nor a syllable were too long: a text that is read, or that is stopped for
+/// another reason, says the same score under limits that are no less, if the input may be as long.
+pub fn larger_limits_change_no_score()
+    ensures { (limits larger : Limits) (ending : InputEnding) (t : List ℕ)
+        → AreNoLess limits larger → limits.input ≡ larger.input
+        → is_stopped_too_long (score_of limits ending t).fault ≡ false
+        → score_of larger ending t ≡ score_of limits ending t }
+{
+    gabc_headers::laws::larger_limits_change_no_headers();
 }
 
 /// What a score emits, character by character, is what the score says: no finding and no syllable comes twice or is left out,

@@ -4,6 +4,7 @@ ghost use Rattle.std.specs.Prelude.{◌≡◌, ℕ, ◌≤◌, List, [], length,
 ghost use Rattle.std.specs.Io.KnownBytes.{Appends};
 ghost use Rattle.gabc_places.specs.declared.limits.Limits.{Limits};
 ghost use Rattle.gabc_places.specs.LargerLimits.{AreNoLess};
+ghost use Rattle.gabc_headers.specs.TooLong.{is_stopped_too_long};
 ghost use Rattle.gregorio_jobs.specs.declared.job.Job.{Job};
 ghost use Rattle.gregorio_jobs.specs.declared.job.Status.{Status};
 ghost use Rattle.gregorio_jobs.specs.declared.job.Status.TheVariants.{Whole as RunWhole};
@@ -68,4 +69,15 @@ pub fn a_stopped_run_writes_what_its_prefix_writes()
     gabc_score::laws::whole_prefixes_are_first_characters();
     gabc_score::laws::the_syllables_are_those_of_the_units();
     gabc_score::laws::a_stopped_score_is_that_of_its_prefix();
+}
+
+/// Larger limits change nothing where neither the headers nor a syllable were too long: what is read, or is stopped for another reason, is read so
+/// under limits that are no less, if the input may be as long.
+pub fn larger_limits_change_nothing()
+    ensures { (limits larger : Limits) (ending : SourceEnding) (bytes : List ℕ) →
+        AreNoLess limits larger → limits.input ≡ larger.input →
+        is_stopped_too_long (outcome_of limits ending bytes).score.fault ≡ false →
+        outcome_of larger ending bytes ≡ outcome_of limits ending bytes }
+{
+    gabc_score::laws::larger_limits_change_no_score();
 }

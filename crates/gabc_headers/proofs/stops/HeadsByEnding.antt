@@ -18,7 +18,7 @@ use Rattle.gabc_headers.specs.machine.Events.{AreEarly, AreLate}
 use Rattle.gabc_headers.proofs.order.FoundBeforeAPoint.{all_known, known-append, known_one, known_none, early_all, still_early}
 use Rattle.gabc_headers.proofs.stops.PointsOfStops.{AllBehind, behind-append, limit_within, first_earliest, open_first, size_first, score_within}
 
-not_eq : (a b : ℕ) → a < b → (a == b) ≡ false
+pub not_eq : (a b : ℕ) → a < b → (a == b) ≡ false
 not_eq a b h = grind (arith, nat_tests)
 
 same_eq : (p : ℕ) → (p == p) ≡ true
@@ -100,7 +100,7 @@ open_behind : (p q : ℕ) (o : Option ℕ) → p < q → AllBehind p (open_stops
 open_behind p q None h = tt
 open_behind p q (Some k) h = (h, tt)
 
-others_behind : (limits : Limits) (t : List ℕ) (p : ℕ) → p < length t → p ≤ head_len t
+pub others_behind : (limits : Limits) (t : List ℕ) (p : ℕ) → p < length t → p ≤ head_len t
     → AllBehind p (cond (has_score (lines t)) (open_stops (head_len t + 1) (open_line (head_parts t)) ++ score_stops limits t) (open_stops (length t) (open_line (head_parts t)) ++ missing_score (open_line (head_parts t)) t))
 others_behind limits t p h l = by (has_score (lines t))
   where
@@ -133,7 +133,7 @@ text_limit limits t events rest p place e a b n =
     (rw n (first_earliest (stop_at p place F4) _ (others_behind limits t p l m)))
     (before t p events rest e a b (omega arith)) (not_eq p (length t) l)
 
-sizes_first : (p : ℕ) (b : Place) (x y : Bool) → earliest (cond x (stop_at p b F4 ∷ []) [] ++ cond y (stop_at p b F7 ∷ []) []) ≡ cond x (Some (stop_at p b F4)) (cond y (Some (stop_at p b F7)) None)
+pub sizes_first : (p : ℕ) (b : Place) (x y : Bool) → earliest (cond x (stop_at p b F4 ∷ []) [] ++ cond y (stop_at p b F7 ∷ []) []) ≡ cond x (Some (stop_at p b F4)) (cond y (Some (stop_at p b F7)) None)
 sizes_first p b true y = size_first p b y
 sizes_first p b false true = refl
 sizes_first p b false false = refl

@@ -1,5 +1,5 @@
 -- The memory of a machine over a score stays reserved at a character and at the end.
-use Rattle.std.proofs.Common.{◌≡◌, ℕ, ◌+◌, ◌≤◌, Bool, true, false, cond, List, refl, ap, ◌∙◌, arith}
+use Rattle.std.proofs.Common.{◌≡◌, ◌≤◌, Bool, true, false, cond, List, refl, ap, ◌∙◌, arith}
 use Rattle.gabc_places.specs.BoundedList.{BoundedList}
 use Rattle.gabc_places.specs.declared.code.Finding.{Finding}
 use Rattle.gabc_score.specs.Body.{has_text}
@@ -9,7 +9,7 @@ use Rattle.gabc_score.specs.declared.score_machine.ScorePart.{ScorePart}
 use Rattle.gabc_score.specs.declared.score_machine.ScorePart.TheVariants as score_part
 use Rattle.gabc_score.specs.machine.BodyBuilder.{with_all, with_found}
 use Rattle.gabc_score.specs.machine.Gatherer.{Gathered, with_last, with_no_notes, with_syllable}
-use Rattle.gabc_score.specs.machine.ScoreMachine.{IsAtRest, IsScoreAt, KeepsMemory}
+use Rattle.gabc_score.specs.machine.ScoreMachine.{IsScoreAt, KeepsMemory}
 use Rattle.gabc_score.proofs.score_events.EventsStayWithinBounds.{limit_stays}
 
 -- wherever a machine stands, it keeps its memory
