@@ -1,10 +1,10 @@
-//! What is written of findings and the fault.
+//! What is written of findings, and how a run ends by what was found.
 
 ghost use Rattle.std.specs.Prelude.{◌≡◌, ◌+◌, ◌≤◌, length};
-ghost use Rattle.std.specs.List.{flat_map, list_any};
-ghost use Rattle.gregorio.specs.Outcome.{lines_of, status_with as status_with_findings, input_name as name_of_input, is_shown as shown, shown_line, fault_line, is_error_finding};
+ghost use Rattle.std.specs.List.{list_any};
+ghost use Rattle.gregorio.specs.Outcome.{status_with as status_with_findings, input_name as name_of_input, is_shown as shown, shown_line, is_error_finding};
 
-use gabc_places::{Fault, Finding, Put, Severity};
+use gabc_places::{Finding, Put, Severity};
 use gabc_score::Score;
 use gabc_write::message_line;
 use gregorio_jobs::{Input, Status};
@@ -34,33 +34,6 @@ pub(crate) fn put_finding<S: Put>(name: &str, all_warnings: bool, finding: Findi
     if is_shown(all_warnings, finding) {
         message_line(name, finding.place, finding.code, out);
     }
-}
-
-/// Puts the lines of the findings that are written.
-fn put_findings<S: Put>(name: &str, all_warnings: bool, findings: &[Finding], out: &mut S)
-    ensures { out.new
-        ≡ S.taken out.old (flat_map (shown_line name.now all_warnings) findings.now) }
-{
-    for finding in findings {
-        put_finding(name, all_warnings, *finding, out);
-    }
-}
-
-/// Puts the line of the fatal fault, if there is one.
-fn put_fault<S: Put>(name: &str, fault: Option<Fault>, out: &mut S)
-    ensures { out.new ≡ S.taken out.old (fault_line name.now fault) }
-{
-    if let Some(fault) = fault {
-        message_line(name, fault.place, fault.code, out);
-    }
-}
-
-/// Puts the lines of what a `score` found, and last that of its fatal fault. They call the input `name`.
-pub(crate) fn put_messages<S: Put>(name: &str, all_warnings: bool, score: &Score, out: &mut S)
-    ensures { out.new ≡ S.taken out.old (lines_of name.now all_warnings score.now) }
-{
-    put_findings(name, all_warnings, score.findings.as_slice(), out);
-    put_fault(name, score.fault, out);
 }
 
 /// Returns whether `finding` is an error.

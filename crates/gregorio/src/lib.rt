@@ -15,9 +15,7 @@
 
 mod beginning;
 mod buffers;
-mod canonical;
 mod comparison;
-mod dump;
 mod engine;
 mod findings;
 mod held_headers;
@@ -25,7 +23,6 @@ mod in_memory;
 pub mod interrupted;
 pub mod laws;
 mod outcome;
-mod output;
 pub mod restored_laws;
 mod restoring;
 mod rooms;

@@ -1,14 +1,13 @@
 //! What a run makes of its input.
 
 ghost use Rattle.std.specs.Prelude.{◌≡◌, IfOk};
-ghost use Rattle.gregorio.specs.Outcome.{outcome_of, ending_by, is_cut_short as cut_short, output_of, lines_of, status_of};
+ghost use Rattle.gregorio.specs.Outcome.{outcome_of, ending_by, is_cut_short as cut_short, status_of};
 
-use crate::findings::{put_messages, status_by};
-use crate::output::{output_room, room_for};
+use crate::findings::status_by;
 use crate::source_ending::SourceEnding;
-use gabc_places::{ByteCounter, Fault, Limits, Room, text_of};
+use gabc_places::{Fault, Limits, text_of};
 use gabc_score::{Score, score_whole_with_hasher};
-use gregorio_jobs::{Format, Status};
+use gregorio_jobs::Status;
 use std::alloc::{AllocError, Global};
 use std::hash::DefaultHasher;
 
@@ -73,30 +72,6 @@ impl Outcome {
         let score = score_whole_with_hasher(alloc, &decoded.text, how, limits, hasher)?;
         let broken = is_cut_short(ending, score.fault);
         Ok(Outcome { score, broken })
-    }
-
-    /// Returns what the run writes in this `format`: nothing, if the headers were not whole. It fails only for want of memory.
-    pub fn output(&self, alloc: Global, format: Format) -> Result<Room<u8>, AllocError>
-        ensures { IfOk result (λ room. room.items ≡ output_of format self.now) }
-    {
-        output_room(alloc, format, self)
-    }
-
-    /// Returns the lines of its messages, which call the input `name`: warnings only if `all_warnings` are wanted. It fails only for
-    /// want of memory.
-    pub fn messages(
-        &self,
-        alloc: Global,
-        name: &str,
-        all_warnings: bool,
-    ) -> Result<Room<u8>, AllocError>
-        ensures { IfOk result (λ room. room.items ≡ lines_of name.now all_warnings self.now.score) }
-    {
-        let mut counter = ByteCounter::new();
-        put_messages(name, all_warnings, &self.score, &mut counter);
-        let mut room = room_for(alloc, &counter)?;
-        put_messages(name, all_warnings, &self.score, &mut room);
-        Ok(room)
     }
 
     /// Returns how the run ends.

@@ -1,4 +1,3 @@
-pub mod EngineBegins
 pub mod LinesAreRead
 pub mod MessagesAreCounted
 pub mod MessagesAreFilled
@@ -7,7 +6,8 @@ pub mod NoBufferIsHandedOut
 pub mod NoStepIsRefused
 pub mod NumbersAreRead
 pub mod NumbersAskOnce
-pub mod OutcomeOfAWhole
 pub mod PiecesAreGathered
 pub mod PiecesArePut
+pub mod RunsAreUsual
 pub mod StepsOfRuns
+pub mod TextsAreKept

@@ -13,7 +13,7 @@ use Rattle.gregorio_c.specs.Messages.{severity_number, number_of, message_at}
 use Rattle.gregorio_c.specs.declared.line_reader.Field.{Field}
 use Rattle.gregorio_c.specs.declared.line_reader.Field.TheVariants.{Line, Column}
 use Rattle.gregorio_c.specs.declared.line_reader.LineReader.{LineReader}
-use Rattle.gregorio_c.specs.declared.messages.Message.{Message}
+use Rattle.gregorio_c.specs.declared.message.Message.{Message}
 use Rattle.gregorio_c.specs.machine.LineReader.{message_with, before_line, messages_in}
 use Rattle.gregorio_c.proofs.NumbersAreRead.{glyph_is, number_onto}
 

@@ -1,7 +1,7 @@
 -- Messages that are read and counted, each with a place, are those of the lines.
 use Rattle.std.proofs.Common.{◌≡◌, ℕ, ◌+◌, ◌-◌, ◌^◌, ◌<◌, ◌≤◌, min, Bool, true, false, cond, List, [], ◌∷◌, length, map, inl, inr, refl, ap, ap₂, subst, ◌∙◌, arith}
 use Rattle.std.proofs.lemmas.Bool.{cases_lt, and_parts, ltb-true}
-use Rattle.gregorio_c.specs.declared.messages.Message.{Message}
+use Rattle.gregorio_c.specs.declared.message.Message.{Message}
 use Rattle.gregorio_c.specs.machine.LineReader.{has_place, counted_by, counted_behind}
 use Rattle.gregorio_c.proofs.LinesAreRead.{as_read}
 use Rattle.gregorio_c.proofs.NumbersAreRead.{most, number_is_read}

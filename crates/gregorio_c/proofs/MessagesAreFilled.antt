@@ -3,7 +3,7 @@ use Rattle.std.proofs.Common.{◌≡◌, ℕ, ◌-◌, ◌<◌, List, [], ◌∷
 use Rattle.std.proofs.lemmas.List.{take-append-drop, take-set, drop-set, take_all}
 use Rattle.gabc_places.specs.Filling.{filled, filled_len, filled_both, filled_len_both}
 use Rattle.gregorio_c.specs.declared.line_reader.LineReader.{LineReader}
-use Rattle.gregorio_c.specs.declared.messages.Message.{Message}
+use Rattle.gregorio_c.specs.declared.message.Message.{Message}
 use Rattle.gregorio_c.specs.machine.LineReader.{behind_byte, ended_by, with_message, counted_by, counted_behind, messages_in}
 
 -- an item that is set fills its place

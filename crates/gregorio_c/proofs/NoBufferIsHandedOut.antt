@@ -1,6 +1,6 @@
 -- What is handed out where a caller gives no buffer for a text.
 use Rattle.std.proofs.Common.{◌≡◌, ℕ, ◌≤◌, List, [], ◌∷◌, ◌++◌, length, drop, inl, inr, refl, arith}
-use Rattle.gregorio_c.specs.StepAnswers.{AllAreFilled, AllHaveRoom, Buffer, IsHandedOut, used}
+use Rattle.gregorio_c.specs.StepAnswers.{Buffer, IsHandedOut, used}
 use Rattle.gregorio_c.specs.Steps.{Made}
 
 empty_filled : (text : List ℕ) → length text ≤ 0 → [] ≡ text ++ drop (length text) []

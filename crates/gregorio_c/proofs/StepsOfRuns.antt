@@ -1,5 +1,5 @@
 -- What a step makes of an engine that stands behind a state.
-use Rattle.std.proofs.Common.{◌≡◌, ◌≢◌, ℕ, List, [], ◌++◌, append-nil, refl, sym, ap, subst, ◌∙◌}
+use Rattle.std.proofs.Common.{◌≡◌, ℕ, List, [], ◌++◌, append-nil, refl, sym, ap, subst, ◌∙◌}
 use Rattle.gabc_places.specs.declared.limits.Limits.{Limits}
 use Rattle.gregorio_jobs.specs.declared.job.Job.{Job}
 use Rattle.gregorio_jobs.specs.declared.job.Status.{Status}
@@ -10,7 +10,7 @@ use Rattle.gregorio.specs.declared.source_ending.SourceEnding.TheVariants.{Broke
 use Rattle.gregorio.specs.Engine.{EndsByInput}
 use Rattle.gregorio.specs.Streams.{Streams, behind_bytes, ended_with}
 use Rattle.gregorio.specs.witness.StandsFor.{StandsFor}
-use Rattle.gregorio_c.specs.Steps.{Begins, Ends, Feeds, GoesOn, IsOver, IsStopped, Made, Writes, goes_on, last_of, run_of}
+use Rattle.gregorio_c.specs.Steps.{Begins, Ends, Feeds, GoesOn, IsStopped, Made, Writes, goes_on, run_of}
 use Rattle.gregorio_c.specs.machine.Steps.{EndedAs, FedAs, StandsAlone}
 
 -- no run ends with the number of one that goes on

@@ -8,7 +8,7 @@ use Rattle.gregorio.specs.declared.source_ending.SourceEnding.TheVariants.{Whole
 use Rattle.gregorio.specs.Outcome.{outcome_of, output_of, lines_of, status_of}
 use Rattle.gregorio_c.specs.Messages.{messages_by}
 use Rattle.gregorio_c.specs.declared.lengths.Lengths.{Lengths}
-use Rattle.gregorio_c.specs.declared.messages.Message.{Message}
+use Rattle.gregorio_c.specs.declared.message.Message.{Message}
 use Rattle.gregorio_c.specs.declared.request.Request.{Request}
 
 -- what messages call the score

@@ -11,7 +11,7 @@ use Rattle.gabc_places.specs.declared.severity.Severity.{Severity}
 use Rattle.gabc_places.specs.declared.severity.Severity.TheVariants.{Warning, Error, Fatal}
 use Rattle.gabc_score.specs.declared.score.Score.{Score}
 use Rattle.gregorio.specs.Outcome.{is_shown}
-use Rattle.gregorio_c.specs.declared.messages.Message.{Message}
+use Rattle.gregorio_c.specs.declared.message.Message.{Message}
 
 abbrev pub severity_number : Severity → ℕ
 severity_number Warning = 0

@@ -1,14 +1,11 @@
 -- What steps answer: what is made stands in the caller's buffers, or nothing is written.
-use Rattle.std.specs.Prelude.{◌≡◌, ℕ, ◌≤◌, ◌⊎◌, ◌++◌, List, [], length, drop, take}
+use Rattle.std.specs.Prelude.{◌≡◌, ℕ, ◌≤◌, ◌⊎◌, ◌++◌, List, [], length, drop}
 use Rattle.gabc_places.specs.declared.limits.Limits.{Limits}
 use Rattle.gregorio_jobs.specs.declared.job.Job.{Job}
 use Rattle.gregorio.specs.SavedState.{IsOfAnother, IsState}
 use Rattle.gregorio.specs.declared.source_ending.SourceEnding.{SourceEnding}
-use Rattle.gregorio_c.specs.Asked.{AsksFor}
-use Rattle.gregorio_c.specs.Steps.{Begins, Ends, Feeds, Made, job_of}
+use Rattle.gregorio_c.specs.Steps.{Begins, Ends, Feeds, Made}
 use Rattle.gregorio_c.specs.declared.lengths.Lengths.{Lengths}
-use Rattle.gregorio_c.specs.declared.options.Options.{Options}
-use Rattle.gregorio_c.specs.declared.request.Request.{Request}
 use Rattle.gregorio_c.specs.declared.step.Step.{Step}
 
 -- a buffer before and after a call

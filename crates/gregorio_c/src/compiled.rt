@@ -1,82 +1,202 @@
-//! What is made of a score in its whole form.
+//! A score that is compiled by runs of an engine over it: one that counts what it writes and keeps the first bytes, and where they are not all, another one
+//! that writes what fits.
 
-ghost use Rattle.std.specs.Prelude.{◌≡◌, IfOk, OnErr};
-ghost use Rattle.gregorio.specs.Outcome.{output_of, lines_of};
-ghost use Rattle.gregorio_c.specs.Answers.{Answer, MessagesAnswer, stdin_name, status_number, IsOutcomeOf};
-ghost use Rattle.gregorio_c.specs.Messages.{messages_by};
+ghost use Rattle.std.specs.Prelude.{◌≡◌, ◌++◌, ◌<◌, ◌-◌, ◌^◌, ℕ, List, true, false, IfOk, OnOk, OnErr, codes};
+ghost use Rattle.gabc_places.specs.Code.{text_of};
+ghost use Rattle.gabc_places.specs.declared.limits.Limits.{Limits};
+ghost use Rattle.gabc_headers.specs.TooLong.{is_stopped_too_long};
+ghost use Rattle.gregorio.specs.declared.source_ending.SourceEnding.TheVariants.{Whole};
+ghost use Rattle.gregorio.specs.Engine.{NothingWaits};
+ghost use Rattle.gregorio.specs.Outcome.{outcome_of};
+ghost use Rattle.gregorio.specs.witness.Engine.{streams_left};
+ghost use Rattle.gregorio_c.specs.Answers.{Answer, IsPut};
+ghost use Rattle.gregorio_c.specs.machine.Runs.{HasWritten, IsAsUsual};
+ghost use Rattle.gregorio_c.specs.machine.Streams.{AreLengthsOf, streams_of_score};
+ghost use Rattle.gregorio_c.specs.declared.request.Request.{Request};
 
-use crate::buffers::put;
+use crate::buffers::{put, start_of};
+use crate::engines::{engine_of, is_fatal, small_limits};
+use crate::first_bytes::FirstBytes;
 use crate::lengths::Lengths;
-use crate::messages::{Message, messages_of_score};
 use crate::request::Request;
-use gabc_places::{Limits, Room};
-use gregorio::{Outcome, SourceEnding};
+use gabc_places::{BufferFiller, Code, Limits};
+use gregorio::{Engine, Status};
 use std::alloc::{AllocError, Global};
-use std::hash::{DefaultHasher, Hasher};
 
-/// The name that messages give the input.
-const NAME: &str = "<stdin>";
+/// The most bytes of the output that the first run keeps. Where there are more, a second run writes them.
+const KEPT_OUTPUT: usize = 1_048_576;
 
-/// The output of a score, the lines of its messages, and the exit status.
-#[derive(Drop)]
-struct Compiled {
-    output: Room<u8>,
-    messages: Room<u8>,
-    status: u32,
+/// How many bytes of the messages the first run keeps.
+const KEPT_MESSAGES: usize = 8192;
+
+/// Returns how many bytes of the output the first run over `score` keeps: 32 for each byte, which is more than most dumps have, and no more than a
+/// megabyte.
+fn kept_output(score: &[u8]) -> usize {
+    score.len().saturating_mul(32).min(KEPT_OUTPUT)
 }
 
-/// The messages of a score, and the exit status.
+/// What a run over a score under `limits` has written, as far as it is kept, and how it ended.
 #[derive(Drop)]
-struct Messages {
-    list: Vec<Message>,
-    status: u32,
+struct Run {
+    limits: Limits,
+    output: FirstBytes,
+    messages: FirstBytes,
+    status: Status,
 }
 
-/// Returns a hasher that has taken the words of `key`. Without one it begins as each such hasher does.
-pub(crate) fn hasher_of(key: &[u64]) -> DefaultHasher {
-    let mut hasher = DefaultHasher::new();
-    for word in key {
-        hasher.write_u64(*word);
+/// Returns whether these `lines` of messages may end with one that tells `code`.
+fn may_end_with(lines: &[u8], code: Code) -> bool
+    ensures { (before : List ℕ) → lines.now ≡ before ++ (text_of code ++ codes "\n")
+        → result ≡ true }
+{
+    match lines.split_last() {
+        Some((_, line)) => line.ends_with(code.text().as_bytes()),
+        None => false,
     }
-    hasher
 }
 
-/// Reads `score`, a whole input, under the default limits, and hashes the names of its headers with `key`. It fails only for want of memory.
-fn outcome_of_whole(alloc: Global, score: &[u8], key: &[u64]) -> Result<Outcome, AllocError>
-    ensures { IfOk result (λ outcome. IsOutcomeOf score.now outcome) }
-{
-    let hasher = hasher_of(key);
-    Outcome::of_with_hasher(alloc, score, SourceEnding::Whole, Limits::default(), hasher)
+impl Run {
+    /// Returns how many bytes it has written.
+    fn lengths(&self) -> Lengths
+        ensures { (request : Request) (limits : Limits) (score : List ℕ) →
+            HasWritten self.now (streams_of_score request limits score) →
+            AreLengthsOf result (streams_of_score request limits score) }
+    {
+        Lengths {
+            output: self.output.count(),
+            messages: self.messages.count(),
+        }
+    }
+
+    /// Returns whether it may have stopped since the headers or a syllable were too long.
+    fn may_be_too_long(&self) -> bool
+        ensures { (request : Request) (limits : Limits) (score : List ℕ) →
+            HasWritten self.now (streams_of_score request limits score) → result ≡ false →
+            is_stopped_too_long (outcome_of limits Whole score).score.fault ≡ false }
+    {
+        if !is_fatal(self.status) {
+            return false;
+        }
+        match self.messages.whole() {
+            Some(lines) => may_end_with(lines, Code::F4) || may_end_with(lines, Code::F5),
+            None => true,
+        }
+    }
 }
 
-/// Returns the exit status of a run with this `outcome`.
-fn status_of(outcome: &Outcome) -> u32
-    ensures { result ≡ status_number outcome.now }
+/// Runs over `score` under `limits`, and returns what it writes. It fails only for want of memory, and where it writes more than can be counted.
+fn run_under(
+    alloc: Global,
+    request: Request,
+    limits: Limits,
+    key: &[u64],
+    score: &[u8],
+) -> Result<Run, AllocError>
+    ensures written { IfOk result (λ run.
+        HasWritten run (streams_of_score request limits score.now)) }
+    ensures limits { IfOk result (λ run. run.limits ≡ limits) }
 {
-    u32::from(outcome.status().code())
-}
-
-/// Returns what is written of `outcome` for this `request`. It fails only for want of memory.
-fn write_outcome(alloc: Global, request: Request, outcome: &Outcome) -> Result<Compiled, AllocError>
-    ensures output { IfOk result (λ made. made.output.items
-        ≡ output_of request.format outcome.now) }
-    ensures messages { IfOk result (λ made. made.messages.items
-        ≡ lines_of stdin_name request.all_warnings outcome.now.score) }
-    ensures status { IfOk result (λ made. made.status ≡ status_number outcome.now) }
-{
-    let output = outcome.output(alloc, request.format)?;
-    let messages = outcome.messages(alloc, NAME, request.all_warnings)?;
-    let status = status_of(outcome);
-    Ok(Compiled {
+    let mut output = FirstBytes::with_limit(alloc, kept_output(score))?;
+    let mut messages = FirstBytes::with_limit(alloc, KEPT_MESSAGES)?;
+    let mut engine = engine_of(alloc, request, limits, key)?;
+    let status = engine.run_over(score, &mut output, &mut messages);
+    // A proof follows a call faster than all that lies inside an engine.
+    drop(engine);
+    if output.count() == usize::MAX || messages.count() == usize::MAX {
+        return Err(AllocError);
+    }
+    Ok(Run {
+        limits,
         output,
         messages,
         status,
     })
 }
 
-/// Compiles `score` in its whole form: puts each of its two texts that fits into its buffer, and their lengths into `lengths`. Returns the exit
-/// status. It fails only for want of memory, and nothing is written then.
-pub(crate) fn compile_whole(
+/// Runs over `score`, and returns what it writes: under small limits, or where it may have stopped at these, under the default ones. It fails as
+/// `run_under` does.
+fn run_over(alloc: Global, request: Request, key: &[u64], score: &[u8]) -> Result<Run, AllocError>
+    ensures written { IfOk result (λ run.
+        HasWritten run (streams_of_score request run.limits score.now)) }
+    ensures usual { IfOk result (λ run. IsAsUsual request run.limits score.now) }
+{
+    gregorio::laws::larger_limits_change_nothing();
+    let usual = Limits::default();
+    let run = run_under(alloc, request, small_limits(usual, score), key, score)?;
+    if run.may_be_too_long() {
+        drop(run);
+        return run_under(alloc, request, usual, key, score);
+    }
+    Ok(run)
+}
+
+/// Runs `engine` over `score`, and writes each of its texts that fits into its buffer. `lengths` are those of the texts.
+fn write_by(
+    engine: &mut Engine,
+    score: &[u8],
+    lengths: &Lengths,
+    output: &mut [u8],
+    messages: &mut [u8],
+)
+    requires waits { NothingWaits engine.old }
+    requires lengths { AreLengthsOf lengths.now (streams_left engine.old Whole score.now) }
+    ensures output { IsPut (streams_left engine.old Whole score.now).output
+        output.old output.new }
+    ensures messages { IsPut (streams_left engine.old Whole score.now).messages
+        messages.old messages.new }
+{
+    let output_start = start_of(output, lengths.output);
+    let messages_start = start_of(messages, lengths.messages);
+    let _ = engine.run_over(
+        score,
+        &mut BufferFiller {
+            buf: output,
+            len: output_start,
+        },
+        &mut BufferFiller {
+            buf: messages,
+            len: messages_start,
+        },
+    );
+}
+
+/// Writes each of the texts of `run`, a run over `score`, that fits into its buffer. `lengths` are those of the texts. It fails only for want of memory,
+/// and nothing is written then.
+fn write_texts(
+    alloc: Global,
+    request: Request,
+    key: &[u64],
+    score: &[u8],
+    run: &Run,
+    lengths: &Lengths,
+    output: &mut [u8],
+    messages: &mut [u8],
+) -> Result<(), AllocError>
+    requires written { HasWritten run.now (streams_of_score request run.now.limits score.now) }
+    requires lengths { AreLengthsOf lengths.now
+        (streams_of_score request run.now.limits score.now) }
+    ensures output { OnOk result (IsPut
+        (streams_of_score request run.now.limits score.now).output output.old output.new) }
+    ensures messages { OnOk result (IsPut
+        (streams_of_score request run.now.limits score.now).messages messages.old messages.new) }
+    ensures unchanged { OnErr result (output.new ≡ output.old) }
+    ensures messages_unchanged { OnErr result (messages.new ≡ messages.old) }
+{
+    let first = (run.output.to_put(output), run.messages.to_put(messages));
+    if let (Some(text), Some(lines)) = first {
+        put(text, output);
+        put(lines, messages);
+        return Ok(());
+    }
+    let mut engine = engine_of(alloc, request, run.limits, key)?;
+    write_by(&mut engine, score, lengths, output, messages);
+    drop(engine);
+    Ok(())
+}
+
+/// Compiles `score`: puts each of its two texts that fits into its buffer, and their lengths into `lengths`. Returns the exit status. It fails
+/// only for want of memory, and nothing is written then.
+pub(crate) fn compile(
     alloc: Global,
     request: Request,
     key: &[u64],
@@ -91,46 +211,9 @@ pub(crate) fn compile_whole(
     ensures messages_unchanged { OnErr result (messages.new ≡ messages.old) }
     ensures lengths_unchanged { OnErr result (lengths.new ≡ lengths.old) }
 {
-    let outcome = outcome_of_whole(alloc, score, key)?;
-    let made = write_outcome(alloc, request, &outcome)?;
-    put(made.output.slice(), output);
-    put(made.messages.slice(), messages);
-    *lengths = Lengths {
-        output: made.output.slice().len(),
-        messages: made.messages.slice().len(),
-    };
-    Ok(made.status)
-}
-
-/// Returns the messages of `outcome`. It fails only for want of memory.
-fn messages_of(alloc: Global, all_warnings: bool, outcome: &Outcome) -> Result<Messages, AllocError>
-    ensures list { IfOk result (λ made. made.list.items
-        ≡ messages_by all_warnings outcome.now.score) }
-    ensures status { IfOk result (λ made. made.status ≡ status_number outcome.now) }
-{
-    let list = messages_of_score(alloc, all_warnings, &outcome.score)?;
-    let status = status_of(outcome);
-    Ok(Messages { list, status })
-}
-
-/// Reads `score` in its whole form: puts its messages into `messages`, if there is room for all, and their number into `count`. Returns the
-/// exit status. It fails only for want of memory, and nothing is written then.
-pub(crate) fn messages_whole(
-    alloc: Global,
-    all_warnings: bool,
-    key: &[u64],
-    score: &[u8],
-    messages: &mut [Message],
-    count: &mut usize,
-) -> Result<u32, AllocError>
-    ensures answered { IfOk result (λ status.
-        MessagesAnswer all_warnings score.now messages.old messages.new count.new status) }
-    ensures unchanged { OnErr result (messages.new ≡ messages.old) }
-    ensures count_unchanged { OnErr result (count.new ≡ count.old) }
-{
-    let outcome = outcome_of_whole(alloc, score, key)?;
-    let made = messages_of(alloc, all_warnings, &outcome)?;
-    put(made.list.as_slice(), messages);
-    *count = made.list.len();
-    Ok(made.status)
+    let run = run_over(alloc, request, key, score)?;
+    let written = run.lengths();
+    write_texts(alloc, request, key, score, &run, &written, output, messages)?;
+    *lengths = written;
+    Ok(u32::from(run.status.code()))
 }

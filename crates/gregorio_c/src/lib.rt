@@ -5,15 +5,16 @@
 #![tactic(auto)]
 
 mod buffers;
-mod by_engine;
 mod compiled;
+mod engines;
+mod first_bytes;
 mod handing_out;
 pub mod in_pieces;
 mod lengths;
 mod line_reader;
+mod message;
 mod message_ends;
 mod messages;
-mod messages_by_engine;
 mod options;
 mod pieces;
 mod request;
@@ -24,11 +25,10 @@ ghost use Rattle.std.specs.Prelude.{◌≡◌, ◌≤◌, ◌⊎◌, None, IfSom
 ghost use Rattle.gregorio_c.specs.Answers.{Answer, MessagesAnswer};
 ghost use Rattle.gregorio_c.specs.Request.{request_by, warnings_by};
 
-use by_engine::compile_by_engine;
-use compiled::{compile_whole, messages_whole};
+use compiled::compile;
 pub use lengths::Lengths;
-pub use messages::Message;
-use messages_by_engine::messages_by_engine;
+pub use message::Message;
+use messages::tell_messages;
 pub use options::Options;
 pub use pieces::{
     gregorio_begin, gregorio_broken, gregorio_end, gregorio_feed, gregorio_state_bound,
@@ -42,12 +42,6 @@ const REFUSED: u32 = 3;
 
 /// What is answered where there is no memory.
 const NO_MEMORY: u32 = 5;
-
-/// From how many bytes on a score is compiled by an engine. The whole form of a shorter one takes less time, and little memory.
-const LONG: usize = 8192;
-
-/// From how many bytes on the messages of a score are told by an engine. Most take one run, so this is less than `LONG`.
-const LONG_FOR_MESSAGES: usize = 1024;
 
 /// Compiles `score`: puts its output into `output`, the lines of its messages into `messages`, and their exact lengths in bytes into
 /// `lengths`. A text that is longer than its buffer is left out whole, and the buffer stays as it was. `format` is 0 for canonical
@@ -76,12 +70,7 @@ pub extern "C" fn gregorio_compile(
     let Some(request) = request_of(format, flags) else {
         return REFUSED;
     };
-    let compiled = if score.len() < LONG {
-        compile_whole(alloc, request, key, score, output, messages, lengths)
-    } else {
-        compile_by_engine(alloc, request, key, score, output, messages, lengths)
-    };
-    compiled.unwrap_or(NO_MEMORY)
+    compile(alloc, request, key, score, output, messages, lengths).unwrap_or(NO_MEMORY)
 }
 
 /// Reads `score`, puts its messages into `messages`, those of the findings and last that of a fatal fault, and their number into
@@ -106,10 +95,5 @@ pub extern "C" fn gregorio_messages(
     let Some(all_warnings) = warnings_of(flags) else {
         return REFUSED;
     };
-    let told = if score.len() < LONG_FOR_MESSAGES {
-        messages_whole(alloc, all_warnings, key, score, messages, count)
-    } else {
-        messages_by_engine(alloc, all_warnings, key, score, messages, count)
-    };
-    told.unwrap_or(NO_MEMORY)
+    tell_messages(alloc, all_warnings, key, score, messages, count).unwrap_or(NO_MEMORY)
 }

@@ -3,7 +3,7 @@
 ghost use Rattle.std.specs.Prelude.{◌≡◌};
 ghost use Rattle.gregorio_c.specs.machine.LineReader.{next_field, with_digit, severity_with, code_with, message_with, before_line, ended_by, behind_byte};
 
-use crate::messages::Message;
+use crate::message::Message;
 
 /// Where a reader stands in a line `NAME:LINE:COLUMN: KIND: CODE: TEXT`. A `:` ends each field but the last.
 #[derive(Clone, Copy)]

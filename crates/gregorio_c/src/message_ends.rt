@@ -5,7 +5,7 @@ ghost use Rattle.gabc_places.specs.Filling.{filled, filled_len};
 ghost use Rattle.gregorio_c.specs.machine.LineReader.{has_place as is_placed, counted_by, counted_behind, before_line, behind_bytes, messages_in};
 
 use crate::line_reader::LineReader;
-use crate::messages::Message;
+use crate::message::Message;
 use gabc_places::Put;
 
 /// Returns whether both numbers of the place of `message` are less than the last value of a `u64`.

@@ -1,132 +1,228 @@
-//! Messages as records.
+//! The messages of a score as records: a run of an engine that counts them and keeps the first, and one that writes them where they are many.
 
-ghost use Rattle.std.specs.Prelude.{◌≡◌, ◌++◌, IfOk};
-ghost use Rattle.std.specs.List.{flat_map};
-ghost use Rattle.gregorio_c.specs.Messages.{severity_number, number_of, message_at, shown_message, fault_message, messages_by};
+ghost use Rattle.std.specs.Prelude.{◌≡◌, ◌≤◌, ℕ, List, take, IfOk, OnErr, length, false};
+ghost use Rattle.gabc_places.specs.declared.limits.Limits.{Limits};
+ghost use Rattle.gabc_headers.specs.TooLong.{is_stopped_too_long};
+ghost use Rattle.gregorio.specs.declared.source_ending.SourceEnding.TheVariants.{Whole};
+ghost use Rattle.gregorio.specs.Engine.{NothingWaits};
+ghost use Rattle.gregorio.specs.witness.Engine.{streams_left};
+ghost use Rattle.gregorio.specs.Outcome.{outcome_of};
+ghost use Rattle.gregorio_c.specs.declared.request.Request.{Request};
+ghost use Rattle.gregorio_c.specs.Answers.{IsPut, MessagesAnswer};
+ghost use Rattle.gregorio_c.specs.machine.LineReader.{AreCounted, AreFirst, before_line, messages_in};
+ghost use Rattle.gregorio_c.specs.machine.Runs.{AreToldBy, IsAsUsual};
+ghost use Rattle.gregorio_c.specs.machine.Streams.{streams_of_score};
 
-use gabc_places::{Code, Fault, Finding, Place, Severity};
-use gabc_score::Score;
-use gregorio::is_shown;
+use crate::buffers::{is_written, put, start_of};
+use crate::engines::{engine_of, is_fatal, small_limits};
+use crate::line_reader::LineReader;
+use crate::message::Message;
+use crate::message_ends::MessageFiller;
+use crate::request::Request;
+use gabc_places::{ByteCounter, Limits};
+use gregorio::{Engine, Format, Status};
 use std::alloc::{AllocError, Global};
 
-/// A message: the line and the column in characters, both from 1, how grave it is (0 a warning, 1 an error, 2 a fatal fault), and its
-/// code: E1 to E6 are 101 to 106, W1 to W12 are 201 to 212, F1 to F7 are 301 to 307.
-#[repr(C)]
-#[derive(Clone, Copy, Debug, PartialEq, Eq)]
-pub struct Message {
-    /// The line, from 1.
-    pub line: u64,
-    /// The column in characters, from 1.
-    pub column: u64,
-    /// 0 for a warning, 1 for an error, 2 for a fatal fault.
-    pub severity: u32,
-    /// The number of its code, which stays as it is: 101 for E1, 201 for W1, 301 for F1.
-    pub code: u32,
+/// How many messages the first run keeps. Where a score has more, a second one writes them.
+const KEPT: usize = 64;
+
+/// How many messages a run under `limits` has, and how it ended.
+#[derive(Drop)]
+struct Counted {
+    limits: Limits,
+    count: usize,
+    status: Status,
 }
 
-impl Message {
-    /// No message: what stands where none is read or filled in.
-    pub(crate) const NONE: Message = Message {
-        line: 0,
-        column: 0,
-        severity: 0,
-        code: 0,
-    };
-}
+/// The number of the code F4: the headers are too long.
+const F4: u32 = 304;
 
-/// Returns the number of `severity`.
-fn number_of_severity(severity: Severity) -> u32
-    ensures { result ≡ severity_number severity }
-{
-    match severity {
-        Severity::Warning => 0,
-        Severity::Error => 1,
-        Severity::Fatal => 2,
-    }
-}
+/// The number of the code F5: a syllable is too long.
+const F5: u32 = 305;
 
-/// Returns the number of `code`: 101 for E1, 201 for W1, 301 for F1, and from there on with the code's own number.
-fn number_of_code(code: Code) -> u32
-    ensures { result ≡ number_of code }
-{
-    match code {
-        Code::E1 => 101,
-        Code::E2 => 102,
-        Code::E3 => 103,
-        Code::E4 => 104,
-        Code::E5 => 105,
-        Code::E6 => 106,
-        Code::W1 => 201,
-        Code::W2 => 202,
-        Code::W3 => 203,
-        Code::W4 => 204,
-        Code::W5 => 205,
-        Code::W6 => 206,
-        Code::W7 => 207,
-        Code::W8 => 208,
-        Code::W9 => 209,
-        Code::W10 => 210,
-        Code::W11 => 211,
-        Code::W12 => 212,
-        Code::F1 => 301,
-        Code::F2 => 302,
-        Code::F3 => 303,
-        Code::F4 => 304,
-        Code::F5 => 305,
-        Code::F6 => 306,
-        Code::F7 => 307,
-    }
-}
-
-/// Returns the message of `code` at `place`.
-fn message_of(place: Place, code: Code) -> Message
-    ensures { result ≡ message_at place code }
-{
-    Message {
-        line: place.line,
-        column: place.column,
-        severity: number_of_severity(code.severity()),
-        code: number_of_code(code),
-    }
-}
-
-/// Adds the messages of `findings` to `list`: warnings only if `all_warnings` are wanted.
-fn add_findings(
-    all_warnings: bool,
-    findings: &[Finding],
-    list: &mut Vec<Message>,
-) -> Result<(), AllocError>
-    ensures { IfOk result (λ _. list.new.items
-        ≡ list.old.items ++ flat_map (shown_message all_warnings) findings.now) }
-{
-    for finding in findings {
-        if is_shown(all_warnings, *finding) {
-            list.push(message_of(finding.place, finding.code))?;
+impl Counted {
+    /// Returns whether the run, whose first messages are `first`, may have stopped since the headers or a syllable were too long.
+    fn may_be_too_long(&self, first: &[Message]) -> bool
+        ensures { (request : Request) (limits : Limits) (score : List ℕ) →
+            AreToldBy self.now first.now (streams_of_score request limits score) →
+            result ≡ false →
+            is_stopped_too_long (outcome_of limits Whole score).score.fault ≡ false }
+    {
+        if !is_fatal(self.status) {
+            return false;
         }
+        if self.count == 0 || first.len() < self.count {
+            return true;
+        }
+        let code = first[self.count - 1].code;
+        code == F4 || code == F5
     }
-    Ok(())
 }
 
-/// Adds the message of `fault` to `list`, if there is one.
-fn add_fault(fault: Option<Fault>, list: &mut Vec<Message>) -> Result<(), AllocError>
-    ensures { IfOk result (λ _. list.new.items ≡ list.old.items ++ fault_message fault) }
+/// Runs `engine`, which has these `limits`, over `score`, writes the first of its messages into `first`, and returns how many it has and how it ended.
+/// Where they are more than can be counted, or a place is larger than a record can tell, it fails as for want of memory.
+fn count_by(
+    engine: &mut Engine,
+    limits: Limits,
+    score: &[u8],
+    first: &mut [Message],
+) -> Result<Counted, AllocError>
+    requires { NothingWaits engine.old }
+    ensures first { AreFirst
+        (messages_in before_line (streams_left engine.old Whole score.now).messages) first.new }
+    ensures count { IfOk result (λ counted.
+        AreCounted counted.count (streams_left engine.old Whole score.now).messages) }
+    ensures status { IfOk result (λ counted.
+        counted.status ≡ (streams_left engine.old Whole score.now).status) }
+    ensures limits { IfOk result (λ counted. counted.limits ≡ limits) }
 {
-    if let Some(fault) = fault {
-        list.push(message_of(fault.place, fault.code))?;
+    let mut messages = MessageFiller {
+        buf: first,
+        len: 0,
+        count: 0,
+        reader: LineReader::new(),
+    };
+    let status = engine.run_over(score, &mut ByteCounter::new(), &mut messages);
+    let count = messages.count();
+    if count == usize::MAX {
+        return Err(AllocError);
     }
+    Ok(Counted {
+        limits,
+        count,
+        status,
+    })
+}
+
+/// Runs over `score` under `limits`, writes the first of its messages into `first`, and returns how many it has and how it ended. It fails only for want
+/// of memory, and as `count_by` does.
+fn count_under(
+    alloc: Global,
+    request: Request,
+    limits: Limits,
+    key: &[u64],
+    score: &[u8],
+    first: &mut [Message],
+) -> Result<Counted, AllocError>
+    ensures told { IfOk result (λ counted.
+        AreToldBy counted first.new (streams_of_score request limits score.now)) }
+    ensures limits { IfOk result (λ counted. counted.limits ≡ limits) }
+{
+    let mut engine = engine_of(alloc, request, limits, key)?;
+    let counted = count_by(&mut engine, limits, score, first);
+    // A proof follows a call faster than all that lies inside an engine.
+    drop(engine);
+    counted
+}
+
+/// Runs over `score`, writes the first of its messages into `first`, and returns how many it has and how it ended: under small limits, or where it
+/// may have stopped at these, under the default ones. It fails as `count_under` does.
+fn count_messages(
+    alloc: Global,
+    request: Request,
+    key: &[u64],
+    score: &[u8],
+    first: &mut [Message],
+) -> Result<Counted, AllocError>
+    ensures told { IfOk result (λ counted. AreToldBy counted first.new
+        (streams_of_score request counted.limits score.now)) }
+    ensures usual { IfOk result (λ counted. IsAsUsual request counted.limits score.now) }
+{
+    gregorio::laws::larger_limits_change_nothing();
+    let usual = Limits::default();
+    let small = small_limits(usual, score);
+    let counted = count_under(alloc, request, small, key, score, first)?;
+    if counted.may_be_too_long(first) {
+        return count_under(alloc, request, usual, key, score, first);
+    }
+    Ok(counted)
+}
+
+/// Runs `engine` over `score`, and writes its messages into `messages`, if there is room for all `count` of them.
+fn write_by(engine: &mut Engine, score: &[u8], count: usize, messages: &mut [Message])
+    requires waits { NothingWaits engine.old }
+    requires count { count ≡ length (messages_in before_line
+        (streams_left engine.old Whole score.now).messages) }
+    ensures { IsPut (messages_in before_line (streams_left engine.old Whole score.now).messages)
+        messages.old messages.new }
+{
+    let start = start_of(messages, count);
+    let _ = engine.run_over(
+        score,
+        &mut ByteCounter::new(),
+        &mut MessageFiller {
+            buf: messages,
+            len: start,
+            count: 0,
+            reader: LineReader::new(),
+        },
+    );
+}
+
+/// Writes the messages of `score` into `messages`, if there is room for all `count` of them; where `first` has as many, these are they. It fails
+/// only for want of memory, and `messages` stays as it was then.
+fn write_messages(
+    alloc: Global,
+    request: Request,
+    limits: Limits,
+    key: &[u64],
+    score: &[u8],
+    count: usize,
+    first: &[Message],
+    messages: &mut [Message],
+) -> Result<(), AllocError>
+    requires count { count ≡ length (messages_in before_line
+        (streams_of_score request limits score.now).messages) }
+    requires first { count ≤ length first.now → take count first.now ≡ messages_in before_line
+        (streams_of_score request limits score.now).messages }
+    ensures messages { IfOk result (λ _. IsPut (messages_in before_line
+        (streams_of_score request limits score.now).messages) messages.old messages.new) }
+    ensures unchanged { OnErr result (messages.new ≡ messages.old) }
+{
+    if count <= first.len() {
+        put(&first[..count], messages);
+        return Ok(());
+    }
+    if !is_written(messages, count) {
+        return Ok(());
+    }
+    let mut engine = engine_of(alloc, request, limits, key)?;
+    write_by(&mut engine, score, count, messages);
+    drop(engine);
     Ok(())
 }
 
-/// Returns the messages of `score`: those of what it found, warnings only if `all_warnings` are wanted, and last that of its fault.
-pub(crate) fn messages_of_score(
+/// Puts the messages of `score` into `messages`, if there is room for all, and their number into `count`: warnings only if `all_warnings` are
+/// wanted. Returns the exit status. It fails only for want of memory, and nothing is written then.
+pub(crate) fn tell_messages(
     alloc: Global,
     all_warnings: bool,
-    score: &Score,
-) -> Result<Vec<Message>, AllocError>
-    ensures { IfOk result (λ list. list.items ≡ messages_by all_warnings score.now) }
+    key: &[u64],
+    score: &[u8],
+    messages: &mut [Message],
+    count: &mut usize,
+) -> Result<u32, AllocError>
+    ensures answered { IfOk result (λ status.
+        MessagesAnswer all_warnings score.now messages.old messages.new count.new status) }
+    ensures unchanged { OnErr result (messages.new ≡ messages.old) }
+    ensures count_unchanged { OnErr result (count.new ≡ count.old) }
 {
-    let mut list = Vec::new(alloc);
-    add_findings(all_warnings, score.findings.as_slice(), &mut list)?;
-    add_fault(score.fault, &mut list)?;
-    Ok(list)
+    let request = Request {
+        format: Format::Gabc,
+        all_warnings,
+    };
+    let mut first = [Message::NONE; KEPT];
+    let counted = count_messages(alloc, request, key, score, &mut first)?;
+    write_messages(
+        alloc,
+        request,
+        counted.limits,
+        key,
+        score,
+        counted.count,
+        &first,
+        messages,
+    )?;
+    *count = counted.count;
+    Ok(u32::from(counted.status.code()))
 }

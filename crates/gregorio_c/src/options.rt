@@ -4,7 +4,7 @@ ghost use Rattle.std.specs.Prelude.{◌≡◌, None, IfSome};
 ghost use Rattle.gabc_places.specs.declared.limits.Limits.{Limits as RunLimits};
 ghost use Rattle.gregorio_c.specs.Asked.{AreLimitsOf, AsksFor, AsksForNothing};
 
-use crate::compiled::hasher_of;
+use crate::engines::hasher_of;
 use crate::request::{Request, request_of};
 use gabc_places::Limits;
 use std::hash::DefaultHasher;

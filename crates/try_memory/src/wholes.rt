@@ -1,11 +1,11 @@
-//! Whole forms, over the file of a score, and the outputs of its outcome.
+//! Whole forms, over the file of a score.
 
 use crate::digest::digest_of;
 use crate::trial::{Trial, try_call};
 use gabc_headers::{headers_whole, headers_whole_with_hasher};
 use gabc_places::{Limits, Text, text_of};
 use gabc_score::{InputEnding, score_whole, score_whole_with_hasher};
-use gregorio::{Format, Outcome, SourceEnding};
+use gregorio::{Outcome, SourceEnding};
 use std::alloc::{AllocError, Global};
 use std::hash::DefaultHasher;
 use std::{fs, io};
@@ -122,51 +122,13 @@ impl Trial for OfScore {
     }
 }
 
-/// An outcome, whose output in a format is wanted, or with no format its messages.
-#[derive(Drop)]
-struct Written {
-    outcome: Outcome,
-    format: Option<Format>,
-}
-
-impl Trial for Written {
-    fn call(&mut self, alloc: Global) -> Result<u64, AllocError> {
-        let room = match self.format {
-            Some(format) => self.outcome.output(alloc, format)?,
-            None => self.outcome.messages(alloc, "x.gabc", true)?,
-        };
-        Ok(digest_of(&room))
-    }
-
-    fn arguments(&self) -> u64 {
-        digest_of(&self.outcome.score)
-    }
-}
-
-/// Tries a call that writes what an outcome has.
-fn try_written(rt: &HostRuntime, format: Option<Format>, bytes: &[u8]) -> io::Result<()> {
-    let outcome = Outcome::of(rt.alloc(), bytes, SourceEnding::Whole, Limits::DEFAULT)?;
-    let mut written = Written { outcome, format };
-    let tried = try_call(rt, &mut written);
-    drop(written);
-    tried
-}
-
 /// Tries a call on the score in the file with the name `input`. Returns whether there is such a call.
 pub(crate) fn is_tried(rt: &HostRuntime, name: &str, input: &str) -> io::Result<bool> {
-    if let Some(call) = named(name) {
-        let score = fs::read_to_string(rt, input)?;
-        let text = Text::from_str(rt.alloc(), score.as_str())?;
-        try_call(rt, &mut OfScore { call, text })?;
-        return Ok(true);
-    }
-    let format = match name {
-        "gregorio::Outcome::output gabc" => Some(Format::Gabc),
-        "gregorio::Outcome::output dump" => Some(Format::Dump),
-        "gregorio::Outcome::messages" => None,
-        _ => return Ok(false),
+    let Some(call) = named(name) else {
+        return Ok(false);
     };
     let score = fs::read_to_string(rt, input)?;
-    try_written(rt, format, score.as_bytes())?;
+    let text = Text::from_str(rt.alloc(), score.as_str())?;
+    try_call(rt, &mut OfScore { call, text })?;
     Ok(true)
 }

@@ -22,6 +22,7 @@ mod show;
 mod state_row;
 mod states;
 mod texts;
+mod wholes;
 mod writes;
 
 use call::is_answered;

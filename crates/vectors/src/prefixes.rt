@@ -3,14 +3,15 @@
 use crate::pieces::{Wanted, agrees_in_pieces};
 use crate::row::row_of;
 use crate::run::{Request, request_of};
+use crate::wholes::{messages_of, output_of};
 use gregorio::{Outcome, SourceEnding};
 use std::alloc::{AllocError, Global};
 
 /// Returns whether runs in pieces give what the whole forms make of the input.
 fn agrees_with_whole(alloc: Global, asked: Request) -> Result<bool, AllocError> {
     let outcome = Outcome::of(alloc, asked.bytes, SourceEnding::Whole, asked.limits)?;
-    let output = outcome.output(alloc, asked.format)?;
-    let messages = outcome.messages(alloc, "<stdin>", asked.all_warnings)?;
+    let output = output_of(alloc, asked.format, &outcome)?;
+    let messages = messages_of(alloc, "<stdin>", asked.all_warnings, &outcome)?;
     let wanted = Wanted {
         output: output.slice(),
         messages: messages.slice(),

@@ -3,7 +3,7 @@ use Rattle.std.proofs.Common.{◌≡◌, ℕ, ◌+◌, ◌-◌, ◌*◌, ◌/◌
 use Rattle.gregorio_c.specs.declared.line_reader.Field.{Field}
 use Rattle.gregorio_c.specs.declared.line_reader.Field.TheVariants.{Name, Line, Column, Kind, Code, Text}
 use Rattle.gregorio_c.specs.declared.line_reader.LineReader.{LineReader}
-use Rattle.gregorio_c.specs.declared.messages.Message.{Message}
+use Rattle.gregorio_c.specs.declared.message.Message.{Message}
 
 -- the field behind a `:`
 abbrev pub next_field : Field → Field

@@ -1,12 +1,9 @@
--- What a run over a score writes, and what of it stands in buffers.
+-- What a run over a score writes.
 use Rattle.std.specs.Prelude.{◌≡◌, ℕ, List, length}
 use Rattle.gabc_places.specs.declared.limits.Limits.{Limits}
 use Rattle.gregorio.specs.declared.source_ending.SourceEnding.TheVariants.{Whole}
 use Rattle.gregorio.specs.Outcome.{outcome_of, output_of, lines_of, status_of}
-use Rattle.gregorio.specs.Engine.{RunsJob}
-use Rattle.gregorio.specs.Streams.{Streams, streams_of_outcome}
-use Rattle.gregorio.specs.witness.Engine.{EngineState, streams_left}
-use Rattle.gregorio_jobs.specs.declared.job.Job.{Job}
+use Rattle.gregorio.specs.Streams.{Streams}
 use Rattle.gregorio_c.specs.Answers.{stdin_name}
 use Rattle.gregorio_c.specs.declared.lengths.Lengths.{Lengths}
 use Rattle.gregorio_c.specs.declared.request.Request.{Request}
@@ -21,10 +18,3 @@ streams_of_score request limits score =
 pub record AreLengthsOf (lengths : Lengths) (streams : Streams) : Type 0 where
   pub output : lengths.output ≡ length streams.output
   pub messages : lengths.messages ≡ length streams.messages
-
--- An engine runs a job, of whose input it has taken nothing.
-pub record HasTakenNothing (s : EngineState) : Type 0 where
-  pub job : Job
-  pub limits : Limits
-  pub runs : RunsJob job limits s
-  pub streams : (score : List ℕ) → streams_left s Whole score ≡ streams_of_outcome job (outcome_of limits Whole score)

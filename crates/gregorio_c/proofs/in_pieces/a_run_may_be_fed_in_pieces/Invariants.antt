@@ -1,4 +1,4 @@
-use Rattle.std.proofs.Common.{List, drop, take, length}
+use Rattle.std.proofs.Common.{take}
 use Rattle.gabc_places.specs.declared.limits.Limits.{Limits}
 use Rattle.gregorio.specs.Streams.{joined}
 use Rattle.gregorio_c.specs.Asked.{AsksFor}

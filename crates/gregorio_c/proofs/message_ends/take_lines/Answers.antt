@@ -1,7 +1,7 @@
 use Rattle.std.proofs.Common.{ℕ, ◌+◌, List, drop, get_or, sym, ap, subst, ◌∙◌}
 use Rattle.std.proofs.lemmas.List.{drop_more}
 use Rattle.gabc_places.specs.Filling.{filled, filled_len}
-use Rattle.gregorio_c.specs.declared.messages.Message.{Message}
+use Rattle.gregorio_c.specs.declared.message.Message.{Message}
 use Rattle.gregorio_c.specs.machine.LineReader.{behind_bytes, counted_behind, messages_in}
 use Rattle.gregorio_c.proofs.MessagesAreFilled.{IsTakenWith, taken_with_none, taken_with_some, messages_on}
 use Rattle.gregorio_c.proofs.message_ends.take_lines.Goals as goal

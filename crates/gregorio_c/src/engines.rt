@@ -1,0 +1,64 @@
+//! Engines for the scores of calls.
+
+ghost use Rattle.std.specs.Prelude.{◌≡◌, ℕ, List, true, IfOk};
+ghost use Rattle.gabc_places.specs.LargerLimits.{AreNoLess};
+ghost use Rattle.gregorio.specs.declared.source_ending.SourceEnding.TheVariants.{Whole};
+ghost use Rattle.gregorio.specs.Engine.{NothingWaits};
+ghost use Rattle.gregorio.specs.witness.Engine.{streams_left};
+ghost use Rattle.gregorio_jobs.specs.declared.job.Status.TheVariants.{Fatal};
+ghost use Rattle.gregorio_c.specs.machine.Streams.{streams_of_score};
+
+use crate::request::Request;
+use gabc_places::Limits;
+use gregorio::{Engine, Status};
+use std::alloc::{AllocError, Global};
+use std::hash::{DefaultHasher, Hasher};
+
+/// Returns a hasher that has taken the words of `key`. Without one it begins as each such hasher does.
+pub(crate) fn hasher_of(key: &[u64]) -> DefaultHasher {
+    let mut hasher = DefaultHasher::new();
+    for word in key {
+        hasher.write_u64(*word);
+    }
+    hasher
+}
+
+/// Returns limits for a run over `score` that few scores of its length pass: its headers and a syllable may have twice its bytes and 64, and no more
+/// than under the `usual` limits. The fewer bytes the headers may have, the less time it takes to make an engine.
+pub(crate) fn small_limits(usual: Limits, score: &[u8]) -> Limits
+    ensures no_less { AreNoLess result usual }
+    ensures input { result.input ≡ usual.input }
+{
+    let len = u32::try_from(score.len()).unwrap_or(u32::MAX);
+    let most = len.saturating_mul(2).saturating_add(64);
+    Limits::new(
+        usual.header.min(most),
+        usual.syllable.min(most),
+        usual.input,
+    )
+    .unwrap_or(usual)
+}
+
+/// Returns whether a run that ended so was stopped by a fatal fault.
+pub(crate) fn is_fatal(status: Status) -> bool
+    ensures { status ≡ Fatal → result ≡ true }
+{
+    match status {
+        Status::Fatal => true,
+        _ => false,
+    }
+}
+
+/// Returns an engine for what is asked for, under `limits`. It hashes the names of headers with `key`, and fails only for want of memory.
+pub(crate) fn engine_of(
+    alloc: Global,
+    request: Request,
+    limits: Limits,
+    key: &[u64],
+) -> Result<Engine, AllocError>
+    ensures waits { IfOk result (λ engine. NothingWaits engine) }
+    ensures all { IfOk result (λ engine. (score : List ℕ) →
+        streams_left engine Whole score ≡ streams_of_score request limits score) }
+{
+    Engine::with_hasher(alloc, &request.job(), limits, hasher_of(key))
+}
