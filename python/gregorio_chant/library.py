@@ -37,6 +37,13 @@ def new_key() -> ctypes.Array[ctypes.c_uint64]:
     return Key.from_buffer_copy(os.urandom(ctypes.sizeof(Key)))
 
 
+def truth(name: str, value: object) -> bool:
+    """Returns `value`, the argument `name`, which is `True` or `False`. Raises `TypeError` for anything else."""
+    if not isinstance(value, bool):
+        raise TypeError(f"{name} is True or False, not {value!r}")
+    return value
+
+
 def _call(data: Borrowed, format: Format, all_warnings: bool, output: Room, messages: Room, wants_output: bool) -> tuple[Status, Lengths]:
     """Calls the library until both texts fit, and returns the status and the lengths. Without `wants_output` the output is written nowhere."""
     key = new_key()
@@ -60,13 +67,13 @@ def compile(score: str | bytes | bytearray | memoryview, format: str | Format = 
     """Compiles `score` under the default limits.
 
     `format` is `"gabc"` for canonical GABC or `"dump"`. Warnings are told if `all_warnings` are wanted. A score that is a `str` is read as
-    its UTF-8. Raises `TypeError` for a score that is neither `str` nor bytes, `ValueError` for another format, and `MemoryError` where there
+    its UTF-8. Raises `TypeError` for a score that is neither `str` nor bytes and for `all_warnings` that are no `bool`, `ValueError` for another format, and `MemoryError` where there
     is not enough memory. While it reads, other threads run; they must not change a `bytearray` that is read.
 
     >>> compile("%%\\nA(f)", all_warnings=False).canonical
     '%%\\nA(f)\\n'
     """
-    wanted = Format(format)
+    wanted, all_warnings = Format(format), truth("all_warnings", all_warnings)
     with Borrowed(bytes_of(score)) as data:
         output, messages = Room.lend(TIMES[wanted] * data.length + LEAST), Room.lend(data.length + LEAST)
         try:
@@ -84,6 +91,7 @@ def check(score: str | bytes | bytearray | memoryview, *, all_warnings: bool = T
     >>> check("%%\\nA(&)", all_warnings=False).messages
     (Message(line=2, column=3, kind=<Kind.ERROR: 'error'>, code='E1', text='character left out of the notes'),)
     """
+    all_warnings = truth("all_warnings", all_warnings)
     with Borrowed(bytes_of(score)) as data:
         output, messages = Room(), Room.lend(data.length + LEAST)
         try:

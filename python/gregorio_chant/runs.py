@@ -5,7 +5,7 @@ import ctypes
 from collections.abc import Callable, Iterable, Iterator
 from typing import Protocol
 
-from gregorio_chant.library import LEAST, LIBRARY, NO_MEMORY, NUMBERS, TIMES, Key, Lengths, new_key
+from gregorio_chant.library import LEAST, LIBRARY, NO_MEMORY, NUMBERS, TIMES, Key, Lengths, new_key, truth
 from gregorio_chant.memory import Borrowed, Room
 from gregorio_chant.results import Format, RunOverError, StateError, Status, Step
 
@@ -101,7 +101,7 @@ class Run:
 
     def __init__(self, format: str | Format = Format.GABC, *, all_warnings: bool = True) -> None:
         self._format = Format(format)
-        self._all_warnings = all_warnings
+        self._all_warnings = truth("all_warnings", all_warnings)
         self._status: Status | None = None
         state, step = Room.lend(_BOUND), _Step()
         try:
@@ -114,8 +114,11 @@ class Run:
     def restore(cls, state: bytes | bytearray | memoryview, format: str | Format = Format.GABC, *, all_warnings: bool = True) -> Run:
         """Returns a run that goes on from `state`, in this process or another than that which saved it.
 
-        Raises `StateError`, a `ValueError`, for bytes that are no state, and for the state of a run with another format or other warnings.
+        Raises `TypeError` for a state that is not bytes, and `StateError`, a `ValueError`, for bytes that are no state, and for the state of a run
+        with another format or other warnings.
         """
+        if not isinstance(state, (bytes, bytearray, memoryview)):
+            raise TypeError(f"a state is bytes, not {type(state).__name__}")
         run = cls(format, all_warnings=all_warnings)
         run._state = bytes(state)
         run.feed(b"")

@@ -78,7 +78,9 @@ impl Run {
     /// [`Error::Limits`] and [`Error::NoMemory`].
     pub fn restore(job: Job, state: &[u8]) -> Result<Run, Error> {
         let mut run = Run::new(job)?;
-        run.state.get_mut(..state.len()).ok_or(Error::NoState)?.copy_from_slice(state);
+        // A state of larger limits may be longer than one of this job: the library says whose it is.
+        run.state.resize(run.state.len().max(state.len()), 0);
+        run.state[..state.len()].copy_from_slice(state);
         run.length = state.len();
         run.feed(b"")?;
         Ok(run)

@@ -16,6 +16,7 @@ ghost use Rattle.gabc_headers.specs.Book.{macros_of, nabc_lines_of, standing_ent
 ghost use Rattle.gabc_headers.specs.Canonical.{canonical_heads, header_lines};
 ghost use Rattle.gabc_headers.specs.Lines.{bytes_len};
 ghost use Rattle.gabc_headers.specs.HeadsAgain.{heads_again};
+ghost use Rattle.gabc_headers.specs.HeldText.{IsHeld};
 ghost use Rattle.gabc_headers.specs.TooLong.{is_too_long};
 ghost use Rattle.gabc_headers.specs.EntryMap.{put_all};
 ghost use Rattle.gabc_headers.specs.Groups.{Group, AreGroups, parts_of_groups};
@@ -109,6 +110,14 @@ pub fn larger_limits_change_no_headers()
     ensures inside { (limits : Limits) (t : List ℕ) (stop : HeadFault)
         → heads_of limits t ≡ Err stop → is_too_long stop.fault.code ≡ true
         → stop.at_end ≡ false }
+{}
+
+/// Law: a text whose headers its end alone stops is read so under all limits that are no less than
+/// its bytes.
+pub fn a_held_text_is_held_under_other_limits()
+    ensures { (limits other : Limits) (t : List ℕ) → IsHeld limits t →
+        bytes_len t ≤ limits.header → bytes_len t ≤ other.header →
+        heads_of other t ≡ heads_of limits t }
 {}
 
 /// The numbers that the headers of a book give are in range: at most 4 NABC lines, the macros of ten digits, and at least the two bytes of the `%%`.

@@ -1,5 +1,6 @@
 pub mod CodesOfLimits
 pub mod GivenAreWithin
+pub mod KeptOfCharacters
 pub mod KeptSoFar
 pub mod LargerLimits
 pub mod NoLimitIsPassed

@@ -116,6 +116,10 @@ impl ScoreMachine {
         ensures limits { self.new.limits ≡ self.old.limits }
         ensures same { result ≡ true → TellsTheSameBut (shown self.old) (shown self.new) next }
         ensures over { result ≡ false → before_of (shown self.new) ≡ None }
+        ensures ends { result ≡ false → self.old.part ≡ ScorePart.Body →
+            self.new.part ≡ ScorePart.Over }
+        ensures outside { (self.old.part ≡ ScorePart.Body → ⊥) →
+            (result ≡ false) × (self.new ≡ self.old) }
         ensures told { result ≡ true → IsPlace next →
             AreOpenersBefore next (openers_of self.new.body.part) →
             IsText (reading_of (shown self.new)) →
@@ -128,11 +132,17 @@ impl ScoreMachine {
         gabc_text::laws::what_is_open_follows_from_the_kept_text();
         gabc_text::laws::a_kept_character_is_kept_again();
         gabc_notes::laws::a_kept_character_is_kept_again();
+        let ScorePart::Body = self.part else {
+            return false;
+        };
         self.read_told(kept, openers, in_comment);
         self.go_to(next);
         match self.part {
             ScorePart::Body => true,
-            ScorePart::Heads | ScorePart::Over => false,
+            ScorePart::Heads | ScorePart::Over => {
+                self.part = ScorePart::Over;
+                false
+            }
         }
     }
 
@@ -144,10 +154,13 @@ impl ScoreMachine {
 }
 
 impl ScoreStage {
-    /// Reads `kept` again, the kept text of a syllable that is not whole. The stage stands before this syllable, of which nothing is read. Behind the
-    /// text this is open at `openers`, a comment is open if `in_comment`, and the next character stands at `next`. Nothing is given, and what
-    /// is found is left out. Returns whether no syllable became whole and no limit was passed. Where one was, the stage gives nothing
-    /// more. From then on it tells what any stage tells that has read this syllable so, behind the same and under the same limits.
+    /// Reads `kept` again, the kept text of a syllable that is not whole. The stage stands before
+    /// this syllable, of which nothing is read. After the text this is open at `openers`, a comment
+    /// is open if `in_comment`, and the next character stands at `next`. Nothing is given, and what
+    /// is found is left out. Returns whether no syllable became whole and no limit was passed. Where
+    /// one was, the stage has come to its end. From then on it reports what any stage reports that
+    /// has read this syllable so, after the same and under the same limits. Outside the body it
+    /// changes nothing and returns `false`.
     pub fn read_again(
         &mut self,
         kept: &str,
@@ -158,6 +171,10 @@ impl ScoreStage {
         ensures limits { self.new.limits ≡ self.old.limits }
         ensures same { result ≡ true → TellsTheSameBut self.old self.new next }
         ensures over { result ≡ false → before_of self.new ≡ None }
+        ensures ends { result ≡ false → self.old.part ≡ ScorePart.Body →
+            self.new.part ≡ ScorePart.Over }
+        ensures outside { (self.old.part ≡ ScorePart.Body → ⊥) →
+            (result ≡ false) × (self.new ≡ self.old) }
         ensures told { result ≡ true → IsPlace next →
             AreOpenersBefore next (openers_of self.new.body.part) →
             IsText (reading_of self.new) → TellsOfText self.old → TellsOfText self.new }

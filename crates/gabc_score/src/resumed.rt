@@ -209,6 +209,7 @@ impl ScoreMachine {
             MayBeHeld self.old.limits (before_with self.old.body self.old.bounds.before)
             (chars text.now) m → ⊥ }
         ensures over { result ≡ false → before_of (shown self.new) ≡ None }
+        ensures ends { result ≡ false → self.new.part ≡ ScorePart.Over }
     {
         a_text_is_read_from_its_beginning();
         if !self.read_all(text, room) {
@@ -253,6 +254,7 @@ impl ScoreStage {
             MayBeHeld self.old.limits (before_with self.old.body self.old.before)
             (chars text.now) m → ⊥ }
         ensures over { result ≡ false → before_of self.new ≡ None }
+        ensures ends { result ≡ false → self.new.part ≡ ScorePart.Over }
     {
         self.machine.hold_again(text, room)
     }

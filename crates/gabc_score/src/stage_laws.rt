@@ -22,10 +22,11 @@ ghost use Rattle.gabc_score.specs.Events.{texts_by_definition, text_from, events
 ghost use Rattle.gabc_score.specs.ScoreEvents.{HasNoEnd, ScoreOutput, fault_in, findings_in, has_end, head_events, outputs_of_text, score_outputs, syllables_in};
 ghost use Rattle.gabc_score.specs.HeldAside.{HoldTheSame, GiveTheSame};
 ghost use Rattle.gabc_score.specs.StandAlike.{StandAlike};
-ghost use Rattle.gabc_score.specs.HeldAgain.{MayBeHeld};
+ghost use Rattle.gabc_score.specs.HeldAgain.{IsOneSyllable, MayBeHeld};
 ghost use Rattle.gabc_score.specs.ReadAgain.{CanBeReadInText, StandsBefore};
 ghost use Rattle.gabc_score.specs.Resumed.{StandsBehind};
 ghost use Rattle.gabc_score.specs.declared.before.Before.{Before};
+ghost use Rattle.gabc_score.specs.declared.before.Spans.{Spans};
 ghost use Rattle.gabc_score.specs.ScoreTells.{before_of, held_of, moved_to, reading_of, openers_of, is_in_comment, is_in_front, StandsAt, StandsInFront};
 ghost use Rattle.gabc_score.specs.ScoreStage.{AreCountsBelow, GivesAt, IsWithinAnywhere, MayCome, StandInLine, events_of};
 ghost use Rattle.gabc_score.specs.SpansPast.{FollowsSpans};
@@ -288,6 +289,15 @@ pub fn a_comment_in_front_can_be_read_in_a_text()
 pub fn a_text_is_one_syllable()
     ensures { (limits : Limits) (before : Before) (text : List ℕ) (m n : UnplacedSyllable) →
         MayBeHeld limits before text m → MayBeHeld limits before text n → m ≡ n }
+{}
+
+/// Law: a text that is one syllable keeps at most five bytes for each of its characters, on the way
+/// and in all. So it is that syllable under each limit that is no less than this.
+pub fn one_syllable_keeps_no_more_than_its_text()
+    ensures { (lines macros : ℕ) (at : Place) (text : List ℕ) (spans : Spans)
+        (limit other : ℕ) (m : UnplacedSyllable) → 5 * length text ≤ other →
+        IsOneSyllable lines macros at text spans limit m →
+        IsOneSyllable lines macros at text spans other m × (length m.kept ≤ other) }
 {}
 
 /// Reads again what `told` tells of the syllable that it reads, in a stage that stands before this syllable. Both stand behind the same and under the same

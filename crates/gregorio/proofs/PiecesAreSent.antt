@@ -1,23 +1,19 @@
 -- What an engine writes of pieces of an input, and sinks take.
-use Rattle.std.proofs.Common.{◌≡◌, ℕ, ◌+◌, ◌-◌, ◌≤◌, List, [], ◌++◌, length, take, drop, take_all, take-append-drop, length-append, length-drop, append_assoc, Option, ◌⊎◌, inl, inr, refl, sym, ap, ◌∙◌, subst, arith}
-use Rattle.std.proofs.Math.Seq.{take-append_seam, take-append-add}
+use Rattle.std.proofs.Common.{◌≡◌, ℕ, ◌+◌, ◌-◌, ◌<◌, ◌≤◌, List, [], ◌++◌, length, take, drop, take_all, length-append, append-nil, length-drop, append_assoc, Option, ◌⊎◌, inl, inr, refl, sym, ap, ◌∙◌, subst, arith}
+use Rattle.std.proofs.Math.Seq.{take-append-add}
+use Rattle.std.proofs.lemmas.List.{take-append-le}
 use Rattle.std.proofs.KnownBytes.{Appends-nil, Appends-trans, Consumes-nil, Consumes-trans, Consumes-kept}
 use Rattle.std.specs.Io.KnownBytes.{Appends, Consumes, Keeps}
 use Rattle.gabc_places.specs.Calls.{Calls, GoesOn, FailsOnce}
 use Rattle.gabc_places.proofs.CallsInTime.{goes_on_here, goes_on_behind, fails_behind}
 use Rattle.gregorio.specs.declared.source_ending.SourceEnding.{SourceEnding}
 use Rattle.gregorio.specs.declared.source_ending.SourceEnding.TheVariants.{Broken}
-use Rattle.gregorio.specs.Engine.{NothingWaits, with_waiting}
+use Rattle.gregorio_jobs.specs.declared.job.Format.{Format}
+use Rattle.gregorio.specs.Engine.{IsPrompt, NothingWaits, with_waiting}
+use Rattle.gregorio.specs.Run.{IsPointOf, used}
 use Rattle.gregorio.specs.witness.Engine.{EngineState, streams_left}
 use Rattle.gregorio.specs.Streams.{Streams, behind_bytes}
-use Rattle.gregorio.specs.Run.{used}
-use Rattle.gregorio.specs.machine.Compile.{AreSent, AreCut, StreamsAreCut, IsFed, IsFedFrom, IsFedAll, IsFedInPart}
-
-take_longer : (n : ℕ) (xs ys : List ℕ) → take n xs ≡ take (length (take n xs)) (xs ++ ys)
-take_longer n xs ys =
-    let front : List ℕ = take n xs in
-    let parts : xs ++ ys ≡ front ++ (drop n xs ++ ys) = ap (λ (l : List ℕ). l ++ ys) (sym (take-append-drop n xs)) ∙ append_assoc front (drop n xs) ys in
-    sym (ap (take (length front)) parts ∙ take-append_seam front (drop n xs ++ ys))
+use Rattle.gregorio.specs.machine.Compile.{AreSent, AreCut, IsPromptAs, Knows, NoneOrAll, StreamsAreCut, IsFed, IsFedFrom, IsFedAll, IsFedInPart}
 
 -- bytes behind bytes
 pub behind_twice : (xs ls ys ks : List ℕ) (s : Streams) → behind_bytes xs ls (behind_bytes ys ks s) ≡ behind_bytes (xs ++ ys) (ls ++ ks) s
@@ -42,6 +38,49 @@ all_behind count piece = take_all (length piece - count) (drop count piece) (ome
 pub nothing_waits_behind : (f g : EngineState) → g ≡ record f { output = []; messages = [] } → NothingWaits g
 nothing_waits_behind f g h = subst NothingWaits (sym h) (record { output = refl; messages = refl })
 
+-- ---- points of the reading
+
+-- behind bytes of which this was written a point of the rest is a point
+is_point_behind : (xs rest front : List ℕ) (ending at : SourceEnding) → IsPointOf rest ending front at → IsPointOf (xs ++ rest) ending (xs ++ front) at
+is_point_behind xs rest front ending at (inl p) = inl (p.0, (ap (λ (l : List ℕ). xs ++ l) p.1.0 ∙ sym (append_assoc xs front p.0), p.1.1))
+is_point_behind xs rest front ending at (inr p) = inr (ap (λ (l : List ℕ). xs ++ l) p.0, p.1)
+
+-- a point before the end is one of more bytes, whatever ends them
+pub knows_longer : (e : EngineState) (xs rest : List ℕ) (ending : SourceEnding) (o l : List ℕ) → Knows e xs Broken o l → Knows e (xs ++ rest) ending o l
+knows_longer e xs rest ending o l k = record { front = k.front; at = k.at; is_point = by k.is_point; left = k.left; known = k.known; prompt = k.prompt }
+  where
+    by : IsPointOf xs Broken k.front k.at → IsPointOf (xs ++ rest) ending k.front k.at
+    by (inl p) = inl (p.0 ++ rest, (ap (λ (x : List ℕ). x ++ rest) p.1.0 ∙ append_assoc k.front p.0 rest, p.1.1))
+    by (inr p) = inl (rest, (ap (λ (x : List ℕ). x ++ rest) (sym p.0), p.1))
+
+-- behind bytes of which this was written the same holds of what is known of the rest
+pub knows_behind : (e f : EngineState) (xs rest : List ℕ) (ending : SourceEnding) (output lines : List ℕ) → f.written.format ≡ e.written.format
+    → ((more : List ℕ) (at : SourceEnding) → streams_left e at (xs ++ more) ≡ behind_bytes output lines (streams_left f at more))
+    → (o l : List ℕ) → Knows f rest ending o l → Knows e (xs ++ rest) ending (output ++ o) (lines ++ l)
+knows_behind e f xs rest ending output lines format law o l k = record {
+  front = xs ++ k.front;
+  at = k.at;
+  is_point = is_point_behind xs rest k.front ending k.at k.is_point;
+  left = k.left;
+  known = law k.front k.at ∙ (ap (behind_bytes output lines) k.known ∙ behind_twice output lines o l k.left);
+  prompt = subst (λ (x : Format). IsPrompt x k.left) format k.prompt;
+}
+
+-- what an engine has written, which keeps nothing back now
+pub knows_here : (e f : EngineState) (xs output lines : List ℕ) → IsPromptAs e f → ((more : List ℕ) (at : SourceEnding) → streams_left e at (xs ++ more) ≡ behind_bytes output lines (streams_left f at more))
+    → Knows e xs Broken output lines
+knows_here e f xs output lines p law = record {
+  front = xs;
+  at = Broken;
+  is_point = inr (refl, refl);
+  left = streams_left f Broken [];
+  known = ap (streams_left e Broken) (sym (append-nil xs)) ∙ law [] Broken;
+  prompt = p.prompt;
+}
+
+pub prompt_on : (e f g : EngineState) → IsPromptAs e f → IsPromptAs f g → IsPromptAs e g
+prompt_on e f g p q = record { format = q.format ∙ p.format; prompt = subst (λ (x : Format). IsPrompt x (streams_left g Broken [])) p.format q.prompt }
+
 module _ {A B : Type 0} (wrote : A → Option (List ℕ)) (went : A → Calls) (emitted : B → Option (List ℕ)) (went_too : B → Calls) where
   pub sent_on : (o p q : A) (m n r : B) (xs ls ys ks : List ℕ) → AreSent (used wrote went o p) (used emitted went_too m n) xs ls → AreSent (used wrote went p q) (used emitted went_too n r) ys ks
       → AreSent (used wrote went o q) (used emitted went_too m r) (xs ++ ys) (ls ++ ks)
@@ -52,50 +91,72 @@ module _ {A B : Type 0} (wrote : A → Option (List ℕ)) (went : A → Calls) (
     messages_go_on = goes_on_behind (went_too m) (went_too n) (went_too r) s.messages_go_on t.messages_go_on;
   }
 
-  pub cut_after : (o p q : A) (m n r : B) (xs ls ys ks : List ℕ) → AreSent (used wrote went o p) (used emitted went_too m n) xs ls → AreCut (used wrote went p q) (used emitted went_too n r) ys ks
-      → AreCut (used wrote went o q) (used emitted went_too m r) (xs ++ ys) (ls ++ ks)
-  cut_after o p q m n r xs ls ys ks s c = record {
+  -- a point of what follows is one behind what was sent
+  pub cut_after : (P Q : List ℕ → List ℕ → Type 0) (o p q : A) (m n r : B) (xs ls ys ks : List ℕ) → ((x l : List ℕ) → P x l → Q (xs ++ x) (ls ++ l))
+      → AreSent (used wrote went o p) (used emitted went_too m n) xs ls → AreCut P (used wrote went p q) (used emitted went_too n r) ys ks
+      → AreCut Q (used wrote went o q) (used emitted went_too m r) (xs ++ ys) (ls ++ ks)
+  cut_after P Q o p q m n r xs ls ys ks point s c = record {
     output_count = length xs + c.output_count;
     lines_count = length ls + c.lines_count;
+    output_within = omega (arith, c.output_within, length-append xs ys);
+    lines_within = omega (arith, c.lines_within, length-append ls ks);
+    order = record {
+      output = xs ++ c.order.output;
+      lines = ls ++ c.order.lines;
+      is_point = point c.order.output c.order.lines c.order.is_point;
+      output_first = omega (arith, c.order.output_first, length-append xs c.order.output);
+      lines_then = omega (arith, c.order.lines_then, length-append ls c.order.lines);
+    };
     written = subst (Appends (wrote o) (wrote q)) (sym (take-append-add xs ys c.output_count)) (Appends-trans (wrote o) (wrote p) (wrote q) xs (take c.output_count ys) s.written c.written);
     messages_written = subst (Appends (emitted m) (emitted r)) (sym (take-append-add ls ks c.lines_count)) (Appends-trans (emitted m) (emitted n) (emitted r) ls (take c.lines_count ks) s.messages_written c.messages_written);
     fails = one_fails (went o) (went p) (went q) (went_too m) (went_too n) (went_too r) s.goes_on s.messages_go_on c.fails;
   }
 
-  pub cut_longer : (o p : A) (m n : B) (xs ls ys ks : List ℕ) → AreCut (used wrote went o p) (used emitted went_too m n) xs ls → AreCut (used wrote went o p) (used emitted went_too m n) (xs ++ ys) (ls ++ ks)
-  cut_longer o p m n xs ls ys ks c = record {
-    output_count = length (take c.output_count xs);
-    lines_count = length (take c.lines_count ls);
-    written = subst (Appends (wrote o) (wrote p)) (take_longer c.output_count xs ys) c.written;
-    messages_written = subst (Appends (emitted m) (emitted n)) (take_longer c.lines_count ls ks) c.messages_written;
+  pub cut_longer : (P Q : List ℕ → List ℕ → Type 0) (o p : A) (m n : B) (xs ls ys ks : List ℕ) → ((x l : List ℕ) → P x l → Q x l) → AreCut P (used wrote went o p) (used emitted went_too m n) xs ls
+      → AreCut Q (used wrote went o p) (used emitted went_too m n) (xs ++ ys) (ls ++ ks)
+  cut_longer P Q o p m n xs ls ys ks point c = record {
+    output_count = c.output_count;
+    lines_count = c.lines_count;
+    output_within = omega (arith, c.output_within, length-append xs ys);
+    lines_within = omega (arith, c.lines_within, length-append ls ks);
+    written = subst (Appends (wrote o) (wrote p)) (sym (take-append-le c.output_count xs ys c.output_within)) c.written;
+    messages_written = subst (Appends (emitted m) (emitted n)) (sym (take-append-le c.lines_count ls ks c.lines_within)) c.messages_written;
     fails = c.fails;
+    order = record { output = c.order.output; lines = c.order.lines; is_point = point _ _ c.order.is_point; output_first = c.order.output_first; lines_then = c.order.lines_then };
   }
 
   -- the output was sent, and the messages were cut
-  pub cut_behind_output : (o p : A) (m n : B) (xs ls : List ℕ) (count : ℕ) → Appends (wrote o) (wrote p) xs → Appends (emitted m) (emitted n) (take count ls) → GoesOn (went o) (went p) → FailsOnce (went_too m) (went_too n)
-      → AreCut (used wrote went o p) (used emitted went_too m n) xs ls
-  cut_behind_output o p m n xs ls count w t g f = record {
+  pub cut_behind_output : (o p : A) (m n : B) (xs ls : List ℕ) (count : ℕ) → count < length ls → Appends (wrote o) (wrote p) xs → Appends (emitted m) (emitted n) (take count ls) → GoesOn (went o) (went p) → FailsOnce (went_too m) (went_too n)
+      → AreCut (NoneOrAll xs ls) (used wrote went o p) (used emitted went_too m n) xs ls
+  cut_behind_output o p m n xs ls count less w t g f = record {
     output_count = length xs;
     lines_count = count;
+    output_within = omega arith;
+    lines_within = omega (arith, less);
+    order = record { output = xs; lines = ls; is_point = inr (refl, refl); output_first = omega arith; lines_then = omega (arith, less) };
     written = subst (Appends (wrote o) (wrote p)) (sym (take_all (length xs) xs (omega arith))) w;
     messages_written = t;
     fails = inr (g, f);
   }
 
   -- the output was cut, and no message was sent
-  pub cut_in_output : (o p : A) (m : B) (xs ls : List ℕ) (count : ℕ) → Appends (wrote o) (wrote p) (take count xs) → FailsOnce (went o) (went p) → AreCut (used wrote went o p) (used emitted went_too m m) xs ls
-  cut_in_output o p m xs ls count w f = record {
+  pub cut_in_output : (o p : A) (m : B) (xs ls : List ℕ) (count : ℕ) → count < length xs → Appends (wrote o) (wrote p) (take count xs) → FailsOnce (went o) (went p) → AreCut (NoneOrAll xs ls) (used wrote went o p) (used emitted went_too m m) xs ls
+  cut_in_output o p m xs ls count less w f = record {
     output_count = count;
     lines_count = 0;
+    output_within = omega (arith, less);
+    lines_within = omega arith;
+    order = record { output = []; lines = []; is_point = inl (refl, refl); output_first = omega arith; lines_then = omega arith };
     written = w;
     messages_written = Appends-nil (emitted m);
     fails = inl (f, goes_on_here (went_too m));
   }
 
-  pub fed_nothing : (o : A) (m : B) (e : EngineState) → IsFed (used wrote went o o) (used emitted went_too m m) e e []
-  fed_nothing o m e = record {
+  pub fed_nothing : (o : A) (m : B) (e : EngineState) → IsPrompt e.written.format (streams_left e Broken []) → IsFed (used wrote went o o) (used emitted went_too m m) e e []
+  fed_nothing o m e prompt = record {
     output = [];
     lines = [];
+    prompt = record { format = refl; prompt = prompt };
     sent = record { written = Appends-nil (wrote o); messages_written = Appends-nil (emitted m); goes_on = goes_on_here (went o); messages_go_on = goes_on_here (went_too m) };
     law = λ rest ending. refl;
   }
@@ -106,51 +167,56 @@ module _ {A B : Type 0} (wrote : A → Option (List ℕ)) (went : A → Calls) (
     output = a.output ++ b.output;
     lines = a.lines ++ b.lines;
     sent = sent_on o p q m n r a.output a.lines b.output b.lines a.sent b.sent;
+    prompt = prompt_on e f g a.prompt b.prompt;
     law = λ rest ending. ap (streams_left e ending) (append_assoc xs ys rest) ∙ (a.law (ys ++ rest) ending ∙ (ap (behind_bytes a.output a.lines) (b.law rest ending) ∙ behind_twice a.output a.lines b.output b.lines (streams_left g ending rest)));
   }
 
   pub cut_by : (o p q : A) (m n r : B) (e f : EngineState) (xs rest : List ℕ) (ending : SourceEnding) → IsFed (used wrote went o p) (used emitted went_too m n) e f xs
-      → StreamsAreCut (used wrote went p q) (used emitted went_too n r) (streams_left f ending rest) → StreamsAreCut (used wrote went o q) (used emitted went_too m r) (streams_left e ending (xs ++ rest))
+      → StreamsAreCut (used wrote went p q) (used emitted went_too n r) f ending rest → StreamsAreCut (used wrote went o q) (used emitted went_too m r) e ending (xs ++ rest)
   cut_by o p q m n r e f xs rest ending a c =
       let s = streams_left f ending rest in
-      subst (StreamsAreCut (used wrote went o q) (used emitted went_too m r)) (sym (a.law rest ending)) (cut_after o p q m n r a.output a.lines s.output s.messages a.sent c)
+      subst (λ (y : Streams). AreCut (Knows e (xs ++ rest) ending) (used wrote went o q) (used emitted went_too m r) y.output y.messages) (sym (a.law rest ending))
+      (cut_after (Knows f rest ending) (Knows e (xs ++ rest) ending) o p q m n r a.output a.lines s.output s.messages (knows_behind e f xs rest ending a.output a.lines a.prompt.format a.law) a.sent c)
 
   -- ---- an input
 
   module _ {C : Type 0} (left : C → Option (List ℕ)) (reads_went : C → Calls) where
-    pub from_nothing : (s : C) (o : A) (m : B) (e : EngineState) → IsFedFrom (used left reads_went s s) (used wrote went o o) (used emitted went_too m m) e e 0
-    from_nothing s o m e = record { bytes = []; counted = refl; consumed = Consumes-nil (left s); goes_on = goes_on_here (reads_went s); fed = fed_nothing o m e }
+    pub from_nothing : (s : C) (o : A) (m : B) (e : EngineState) → IsPrompt e.written.format (streams_left e Broken []) → IsFedFrom (used left reads_went s s) (used wrote went o o) (used emitted went_too m m) e e 0
+    from_nothing s o m e prompt = record { bytes = []; counted = refl; reads = omega arith; consumed = Consumes-nil (left s); goes_on = goes_on_here (reads_went s); fed = fed_nothing o m e prompt }
 
     pub from_more : (s t u : C) (o p q : A) (m n r : B) (e f g : EngineState) (xs : List ℕ) (count k : ℕ) → IsFedFrom (used left reads_went s t) (used wrote went o p) (used emitted went_too m n) e f count
-        → Consumes (left t) (left u) xs → GoesOn (reads_went t) (reads_went u) → length xs ≡ k → IsFed (used wrote went p q) (used emitted went_too n r) f g xs
+        → Consumes (left t) (left u) xs → GoesOn (reads_went t) (reads_went u) → (reads_went u).made ≡ (reads_went t).made + 1 → 0 < k → length xs ≡ k → IsFed (used wrote went p q) (used emitted went_too n r) f g xs
         → IsFedFrom (used left reads_went s u) (used wrote went o q) (used emitted went_too m r) e g (count + k)
-    from_more s t u o p q m n r e f g xs count k a c st k_is b = record {
+    from_more s t u o p q m n r e f g xs count k a c st once some k_is b = record {
       bytes = a.bytes ++ xs;
       counted = omega (arith, a.counted, k_is, length-append a.bytes xs);
+      reads = omega (arith, a.reads, once, some);
       consumed = Consumes-trans (left s) (left t) (left u) a.bytes xs a.consumed c;
       goes_on = goes_on_behind (reads_went s) (reads_went t) (reads_went u) a.goes_on st;
       fed = fed_on o p q m n r e f g a.bytes xs a.fed b;
     }
 
     pub in_part : (limit : ℕ) (s t u : C) (o p q : A) (m n r : B) (e f : EngineState) (xs : List ℕ) (count : ℕ) → IsFedFrom (used left reads_went s t) (used wrote went o p) (used emitted went_too m n) e f count
-        → Consumes (left t) (left u) xs → GoesOn (reads_went t) (reads_went u) → count + length xs ≤ limit + 1 → ((ending : SourceEnding) → StreamsAreCut (used wrote went p q) (used emitted went_too n r) (streams_left f ending xs))
+        → Consumes (left t) (left u) xs → GoesOn (reads_went t) (reads_went u) → (reads_went u).made ≡ (reads_went t).made + 1 → 0 < length xs → count + length xs ≤ limit + 1 → ((ending : SourceEnding) → StreamsAreCut (used wrote went p q) (used emitted went_too n r) f ending xs)
         → IsFedInPart limit (used left reads_went s u) (used wrote went o q) (used emitted went_too m r) e
-    in_part limit s t u o p q m n r e f xs count a c g within cut = record {
+    in_part limit s t u o p q m n r e f xs count a c g once some within cut = record {
       bytes = a.bytes ++ xs;
       consumed = Consumes-trans (left s) (left t) (left u) a.bytes xs a.consumed c;
       goes_on = goes_on_behind (reads_went s) (reads_went t) (reads_went u) a.goes_on g;
+      reads = omega (arith, a.reads, a.counted, once, some, length-append a.bytes xs);
       within = omega (arith, a.counted, within, length-append a.bytes xs);
       cut = cut_by o p q m n r e f a.bytes xs Broken a.fed (cut Broken);
     }
 
     pub all_broken : (limit : ℕ) (s t u : C) (o p : A) (m n : B) (e f : EngineState) (count : ℕ) → IsFedFrom (used left reads_went s t) (used wrote went o p) (used emitted went_too m n) e f count
-        → Keeps (left t) (left u) → FailsOnce (reads_went t) (reads_went u) → count ≤ limit + 1 → IsFedAll limit (used left reads_went s u) (used wrote went o p) (used emitted went_too m n) e f Broken
-    all_broken limit s t u o p m n e f count a k fails within =
+        → Keeps (left t) (left u) → FailsOnce (reads_went t) (reads_went u) → (reads_went u).made ≡ (reads_went t).made + 1 → count ≤ limit + 1 → IsFedAll limit (used left reads_went s u) (used wrote went o p) (used emitted went_too m n) e f Broken
+    all_broken limit s t u o p m n e f count a k fails once within =
         let all : FailsOnce (reads_went s) (reads_went u) = fails_behind (reads_went s) (reads_went t) (reads_went u) a.goes_on fails in
         record {
           bytes = a.bytes;
           reads = record {
             consumed = Consumes-kept (left s) (left t) (left u) a.bytes a.consumed k;
+            reads = omega (arith, a.reads, a.counted, once);
             within = omega (arith, a.counted, within);
             whole = λ no. cc;
             stopped = λ no. cc;

@@ -53,7 +53,7 @@ text_characters : (bytes : List ℕ) → IsText bytes → All IsTextCharacter (c
 text_characters bytes is = characters (chars bytes) (scalars-chars bytes is.utf8) is.plain
 
 -- and its bytes are those of its characters
-text_bytes : (bytes : List ℕ) → IsUtf8 bytes → encode_utf8_all (chars bytes) ≡ bytes
+pub text_bytes : (bytes : List ℕ) → IsUtf8 bytes → encode_utf8_all (chars bytes) ≡ bytes
 text_bytes bytes is = ap encode_utf8_all (sym (chars_from_encodes is.0 bytes is is.1.1)) ∙ is.1.1
 
 -- ---- the syllables before the one that is held

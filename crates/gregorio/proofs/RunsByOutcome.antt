@@ -17,13 +17,14 @@ use Rattle.gregorio_jobs.specs.declared.job.Job.{Job}
 use Rattle.gregorio_jobs.specs.declared.job.Status.{Status}
 use Rattle.gregorio_jobs.specs.declared.job.Status.TheVariants.{NoMemory, ReadFault, WriteFault}
 use Rattle.gregorio.specs.declared.outcome.Outcome.{Outcome}
-use Rattle.gregorio.specs.Engine.{with_waiting}
+use Rattle.gregorio_jobs.specs.declared.job.Format.{Format}
+use Rattle.gregorio.specs.Engine.{IsPrompt, with_waiting}
 use Rattle.gregorio.specs.witness.Engine.{EngineState, streams_left}
 use Rattle.gregorio.specs.Streams.{Streams, behind_bytes, ended_with, streams_of_outcome}
-use Rattle.gregorio.specs.Run.{Use, used, Done, SinkCut, Compiles}
+use Rattle.gregorio.specs.Run.{Use, used, Done, IsKnown, SinkCut, Compiles}
 use Rattle.gregorio.specs.SourceBytes.{ReadsSource}
 use Rattle.gregorio.specs.Outcome.{is_whole, ending_by, is_cut_short, outcome_of, status_by, status_of, is_error_finding}
-use Rattle.gregorio.specs.machine.Compile.{AreSent, AreCut, StreamsAreCut, IsFedAll, IsFedInPart, IsRun, SaysOutcomes}
+use Rattle.gregorio.specs.machine.Compile.{AreSent, AreCut, IsPromptAs, Knows, NoneOrAll, StreamsAreCut, IsFedAll, IsFedInPart, IsRun, SaysOutcomes}
 use Rattle.gregorio.proofs.PiecesAreSent.{behind_twice, sent_on, cut_by, cut_longer}
 
 done_by : (job : Job) (limits : Limits) (source out messages : Use) (o : Option Fault) (b e : Bool) → Done job limits source out messages (status_by o b e) → Compiles job limits source out messages (status_by o b e)
@@ -86,13 +87,46 @@ unmet_broken old new calls_old calls_new limit bytes Broken r runs few = refl
 unmet_broken old new calls_old calls_new limit bytes Ended r runs few =
     absurd (never_stopped (sym (r.stopped refl few) ∙ runs))
 
+-- one that failed is broken
+failed_broken : (old new : Option (List ℕ)) (calls_old calls_new : Calls) (limit : ℕ) (bytes : List ℕ) (ending : SourceEnding) → ReadsSource old new calls_old calls_new limit bytes ending
+    → calls_old.failures < calls_new.failures → ending ≡ Broken
+failed_broken old new calls_old calls_new limit bytes Broken r more = refl
+failed_broken old new calls_old calls_new limit bytes Ended r more = absurd (let same = r.steady refl in omega (arith, same, more))
+
+-- what an engine knows that says the outcomes of a job is known of the job
+is_known : (job : Job) (limits : Limits) (e : EngineState) (bytes : List ℕ) (ending : SourceEnding) (o l : List ℕ) → SaysOutcomes job limits e → (k : Knows e bytes ending o l)
+    → IsKnown job limits bytes ending
+is_known job limits e bytes ending o l all k = record {
+  front = k.front;
+  at = k.at;
+  is_point = k.is_point;
+  output = o;
+  lines = l;
+  left = k.left;
+  known = sym (all.all k.front k.at) ∙ k.known;
+  prompt = subst (λ (x : Format). IsPrompt x k.left) all.format k.prompt;
+}
+
+prompt_itself : (e f : EngineState) → IsPromptAs e f → IsPrompt f.written.format (streams_left f Broken [])
+prompt_itself e f p = subst (λ (x : Format). IsPrompt x (streams_left f Broken [])) (sym p.format) p.prompt
+
+-- at the end nothing of what is still written is known, or all
+known_at_end : (f g : EngineState) (ending : SourceEnding) (status : Status) → IsPrompt f.written.format (streams_left f Broken []) → streams_left f ending [] ≡ with_waiting g (ended_with status)
+    → (o l : List ℕ) → NoneOrAll g.output g.messages o l → Knows f [] ending o l
+known_at_end f g ending status prompt last o l (inl none) =
+    subst (λ (x : List ℕ). Knows f [] ending x l) (sym none.0) (subst (λ (x : List ℕ). Knows f [] ending [] x) (sym none.1)
+    (record { front = []; at = Broken; is_point = inl ([], (refl, refl)); left = streams_left f Broken []; known = refl; prompt = prompt }))
+known_at_end f g ending status prompt last o l (inr all) =
+    subst (λ (x : List ℕ). Knows f [] ending x l) (sym all.0) (subst (λ (x : List ℕ). Knows f [] ending g.output x) (sym all.1)
+    (record { front = []; at = ending; is_point = inr (refl, refl); left = ended_with status; known = last; prompt = record { messages = refl; output = inl refl } }))
+
 module _ {A B C : Type 0} (wrote : A → Option (List ℕ)) (went : A → Calls) (emitted : B → Option (List ℕ)) (went_too : B → Calls) (left : C → Option (List ℕ)) (reads_went : C → Calls) (job : Job) (limits : Limits) where
   -- what an engine wrote of an input is its outcome's
   streams_are : (s t : C) (o p : A) (m n : B) (e f g : EngineState) (ending : SourceEnding) (status : Status) → SaysOutcomes job limits e
       → (a : IsFedAll limits.input (used left reads_went s t) (used wrote went o p) (used emitted went_too m n) e f ending) → streams_left f ending [] ≡ with_waiting g (ended_with status)
       → streams_of_outcome job (outcome_of limits ending a.bytes) ≡ behind_bytes (a.fed.output ++ g.output) (a.fed.lines ++ g.messages) (ended_with status)
   streams_are s t o p m n e f g ending status all a last =
-      sym (all a.bytes ending) ∙ (ap (streams_left e ending) (sym (append-nil a.bytes)) ∙ (a.fed.law [] ending
+      sym (all.all a.bytes ending) ∙ (ap (streams_left e ending) (sym (append-nil a.bytes)) ∙ (a.fed.law [] ending
       ∙ (ap (behind_bytes a.fed.output a.fed.lines) last ∙ behind_twice a.fed.output a.fed.lines g.output g.messages (ended_with status))))
 
   -- a run that wrote all
@@ -132,33 +166,40 @@ module _ {A B C : Type 0} (wrote : A → Option (List ℕ)) (went : A → Calls)
   runs_short : (s t : C) (o p : A) (m n : B) (e : EngineState) → SaysOutcomes job limits e → IsFedInPart limits.input (used left reads_went s t) (used wrote went o p) (used emitted went_too m n) e
       → SinkCut job limits (used left reads_went s t) (used wrote went o p) (used emitted went_too m n)
   runs_short s t o p m n e all a =
-      let c = subst (StreamsAreCut (used wrote went o p) (used emitted went_too m n)) (all a.bytes Broken) a.cut in
+      let c = subst (λ (y : Streams). AreCut (Knows e a.bytes Broken) (used wrote went o p) (used emitted went_too m n) y.output y.messages) (all.all a.bytes Broken) a.cut in
       record {
-        input = record { bytes = a.bytes; ending = Broken; consumed = a.consumed; within = a.within; whole = λ no. cc; met = λ runs stopped same. absurd (never_stopped (sym stopped ∙ (a.goes_on.is_stopped ∙ runs))); unmet = λ _ _. refl };
+        input = record { bytes = a.bytes; ending = Broken; consumed = a.consumed; reads = omega (arith, a.reads); within = a.within; whole = λ no. cc; met = λ runs stopped same. absurd (never_stopped (sym stopped ∙ (a.goes_on.is_stopped ∙ runs))); unmet = λ _ _. refl; failed = λ _. refl };
         written_count = c.output_count;
         messages_count = c.lines_count;
         written = c.written;
         messages_written = c.messages_written;
         fails = c.fails;
+        known = is_known job limits e a.bytes Broken c.order.output c.order.lines all c.order.is_point;
+        output_first = c.order.output_first;
+        messages_then = c.order.lines_then;
       }
 
   -- a run that a sink's failure cut at its end
   runs_cut : (s t : C) (o p q : A) (m n r : B) (e f g : EngineState) (ending : SourceEnding) (status : Status) → SaysOutcomes job limits e
       → IsFedAll limits.input (used left reads_went s t) (used wrote went o p) (used emitted went_too m n) e f ending → streams_left f ending [] ≡ with_waiting g (ended_with status)
-      → AreCut (used wrote went p q) (used emitted went_too n r) g.output g.messages
+      → AreCut (NoneOrAll g.output g.messages) (used wrote went p q) (used emitted went_too n r) g.output g.messages
       → SinkCut job limits (used left reads_went s t) (used wrote went o q) (used emitted went_too m r)
   runs_cut s t o p q m n r e f g ending status all a last cut =
-      let longer : StreamsAreCut (used wrote went p q) (used emitted went_too n r) (streams_left f ending []) =
-      subst (StreamsAreCut (used wrote went p q) (used emitted went_too n r)) (sym last) (cut_longer wrote went emitted went_too p q n r g.output g.messages [] [] cut) in
-      let c = subst (StreamsAreCut (used wrote went o q) (used emitted went_too m r)) (ap (streams_left e ending) (append-nil a.bytes) ∙ all a.bytes ending)
-      (cut_by wrote went emitted went_too o p q m n r e f a.bytes [] ending a.fed longer) in
+      let longer : StreamsAreCut (used wrote went p q) (used emitted went_too n r) f ending [] =
+      subst (λ (y : Streams). AreCut (Knows f [] ending) (used wrote went p q) (used emitted went_too n r) y.output y.messages) (sym last)
+      (cut_longer wrote went emitted went_too (NoneOrAll g.output g.messages) (Knows f [] ending) p q n r g.output g.messages [] [] (known_at_end f g ending status (prompt_itself e f a.fed.prompt) last) cut) in
+      let c = subst (λ (y : Streams). AreCut (Knows e a.bytes ending) (used wrote went o q) (used emitted went_too m r) y.output y.messages) (all.all a.bytes ending)
+      (subst (StreamsAreCut (used wrote went o q) (used emitted went_too m r) e ending) (append-nil a.bytes) (cut_by wrote went emitted went_too o p q m n r e f a.bytes [] ending a.fed longer)) in
       record {
-        input = record { bytes = a.bytes; ending = ending; consumed = a.reads.consumed; within = a.reads.within; whole = a.reads.whole; met = λ _ _ same. met_whole _ _ _ _ _ _ ending a.reads same; unmet = unmet_broken _ _ _ _ _ _ ending a.reads };
+        input = record { bytes = a.bytes; ending = ending; consumed = a.reads.consumed; reads = a.reads.reads; within = a.reads.within; whole = a.reads.whole; met = λ _ _ same. met_whole _ _ _ _ _ _ ending a.reads same; unmet = unmet_broken _ _ _ _ _ _ ending a.reads; failed = failed_broken _ _ _ _ _ _ ending a.reads };
         written_count = c.output_count;
         messages_count = c.lines_count;
         written = c.written;
         messages_written = c.messages_written;
         fails = c.fails;
+        known = is_known job limits e a.bytes ending c.order.output c.order.lines all c.order.is_point;
+        output_first = c.order.output_first;
+        messages_then = c.order.lines_then;
       }
 
   -- ---- and which ends failed
@@ -192,7 +233,7 @@ module _ {A B C : Type 0} (wrote : A → Option (List ℕ)) (went : A → Calls)
 
   pub is_run_cut_late : (s t : C) (o p q : A) (m n r : B) (e f g : EngineState) (ending : SourceEnding) (status : Status) → SaysOutcomes job limits e
       → IsFedAll limits.input (used left reads_went s t) (used wrote went o p) (used emitted went_too m n) e f ending → streams_left f ending [] ≡ with_waiting g (ended_with status)
-      → AreCut (used wrote went p q) (used emitted went_too n r) g.output g.messages
+      → AreCut (NoneOrAll g.output g.messages) (used wrote went p q) (used emitted went_too n r) g.output g.messages
       → IsRun job limits (used left reads_went s t) (used wrote went o q) (used emitted went_too m r) WriteFault
   is_run_cut_late s t o p q m n r e f g ending status all a last cut =
       is_run_cut (used left reads_went s t) (used wrote went o q) (used emitted went_too m r) (runs_cut s t o p q m n r e f g ending status all a last cut) a.in_time

@@ -1,14 +1,12 @@
 -- The fields of a state are judged by its texts, under the limits that it tells.
-use Rattle.std.proofs.Common.{◌≡◌, Result, Ok, Err, IfOk, IsTrue, false, subst, sym}
-use Rattle.std.proofs.lemmas.Bool.{false≢true}
+use Rattle.std.proofs.Common.{◌≡◌, ◌↔◌, Bool, Result, Ok, Err, IfOk, IsTrue, subst, sym}
 use Rattle.gabc_places.specs.declared.limits.Limits.{Limits}
 use Rattle.gabc_headers.specs.witness.HeadEvents.{HeaderStageState}
 use Rattle.gabc_score.specs.witness.ScoreStage.{ScoreStageState}
-use Rattle.gregorio_jobs.specs.declared.job.Job.{Job}
 use Rattle.gregorio_state.specs.Conditions.{AreStateFields}
 use Rattle.gregorio_state.specs.Fields.{PhaseFields, StateFields}
-use Rattle.gregorio.specs.SavedState.{AreOfState, IsOfJob, IsPhaseRead, TellsLimits}
-use Rattle.gregorio.specs.machine.Restored.{IsAnother, StandIn, StandSo}
+use Rattle.gregorio.specs.SavedState.{AreOfState, IsPhaseRead, TellsLimits}
+use Rattle.gregorio.specs.machine.Restored.{StandIn, StandSo}
 use Rattle.gregorio.proofs.LimitsAreTold.{told_once}
 
 module _ (s : StateFields) (own : Limits) (tells : TellsLimits s own) (fields : AreStateFields s) (phase : PhaseFields) (is : s.phase ≡ phase) where
@@ -18,8 +16,9 @@ module _ (s : StateFields) (own : Limits) (tells : TellsLimits s own) (fields : 
   pub not_read : (IsPhaseRead own s phase → ⊥) → AreOfState s → ⊥
   not_read refused h = refused (subst (IsPhaseRead own s) is (subst (λ (l : Limits). IsPhaseRead l s s.phase) (told_once s h.limits own h.limits_are tells) h.read))
 
-  pub of_another : (job : Job) (limits : Limits) → (IsOfJob job limits s → IsTrue false) → IsPhaseRead own s phase → IsAnother job limits s
-  of_another job limits other read = record { fields = read_so read; other = λ is. false≢true (other is) }
+  -- the texts are read exactly where the fields are those of a state
+  pub judged : (b : Bool) → IsTrue b ↔ IsPhaseRead own s phase → IsTrue b ↔ AreOfState s
+  judged b both = (λ yes. read_so (both.0 yes), λ h. both.1 (subst (IsPhaseRead own s) is (subst (λ (l : Limits). IsPhaseRead l s s.phase) (told_once s h.limits own h.limits_are tells) h.read)))
 
   -- under the limits of a job whose state it is
   module _ (limits : Limits) (told : TellsLimits s limits) where

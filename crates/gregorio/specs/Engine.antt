@@ -1,7 +1,9 @@
 -- A run in pieces: what an engine will still write, and how it will end.
 use Rattle.std.specs.Prelude.{◌≡◌, ◌≤◌, ◌⊎◌, ℕ, List, [], ◌++◌, length, Bool, false, is_none}
 use Rattle.gabc_neumes.specs.InForce.{InForce}
+use Rattle.std.specs.List.{All}
 use Rattle.gabc_score.specs.Syllable.{PlacedSyllable}
+use Rattle.gabc_score.specs.UnitRead.{HoldsSomeUnit}
 use Rattle.gabc_places.specs.declared.limits.Limits.{Limits}
 use Rattle.gregorio_jobs.specs.declared.job.Format.{Format}
 use Rattle.gregorio_jobs.specs.declared.job.Job.{Job}
@@ -28,6 +30,8 @@ pub record IsHeldText (format : Format) (output : List ℕ) : Type 0 where
   pub force : InForce
   pub held : List PlacedSyllable
   pub few : length held ≤ 1
+  pub lines : ℕ
+  pub noted : All (λ (s : PlacedSyllable). HoldsSomeUnit lines s.made) held
   pub is : output ≡ texts_behind format count force held ++ last_text format false (count_behind count held)
 
 -- A run that breaks off now has nothing to write that it could have written before: no message, and of the output nothing, or the held

@@ -1,5 +1,5 @@
 -- What a run does to its source and its sinks.
-use Rattle.std.specs.Prelude.{◌≡◌, ℕ, ◌≤◌, ◌+◌, List, length, take, Option, ◌⊎◌, true, false}
+use Rattle.std.specs.Prelude.{◌≡◌, ℕ, ◌<◌, ◌≤◌, ◌+◌, List, ◌++◌, length, take, Option, ◌⊎◌, true, false}
 use Rattle.std.specs.Io.KnownBytes.{Appends, Consumes, IsAtEnd, Keeps}
 use Rattle.gabc_places.specs.Calls.{Calls, NoneLate, GoesOn, FailsOnce}
 use Rattle.gabc_places.specs.declared.limits.Limits.{Limits}
@@ -8,8 +8,10 @@ use Rattle.gregorio.specs.declared.source_ending.SourceEnding.TheVariants.{Whole
 use Rattle.gregorio_jobs.specs.declared.job.Job.{Job}
 use Rattle.gregorio_jobs.specs.declared.job.Status.{Status}
 use Rattle.gregorio_jobs.specs.declared.job.Status.TheVariants.{NoMemory, WriteFault}
+use Rattle.gregorio.specs.Engine.{IsPrompt}
 use Rattle.gregorio.specs.Outcome.{outcome_of, output_of, messages_of, status_of}
 use Rattle.gregorio.specs.SourceBytes.{ReadsSource}
+use Rattle.gregorio.specs.Streams.{Streams, behind_bytes, streams_of_outcome}
 
 -- An end before and after a run: its bytes, where they are known, and how its calls went.
 pub record Use : Type 0 where
@@ -40,16 +42,34 @@ pub record Taken (limits : Limits) (source : Use) : Type 0 where
   pub bytes : List ℕ
   pub ending : SourceEnding
   pub consumed : Consumes source.old source.new bytes
+  pub reads : source.calls_new.made ≤ source.calls_old.made + length bytes + 1
   pub within : length bytes ≤ limits.input + 1
   pub whole : ending ≡ Whole → length bytes ≤ limits.input → IsAtEnd source.new
   pub met : source.calls_old.is_stopped ≡ false → source.calls_new.is_stopped ≡ true → source.calls_new.failures ≡ source.calls_old.failures → ending ≡ Whole
   pub unmet : source.calls_new.is_stopped ≡ false → length bytes ≤ limits.input → ending ≡ Broken
+  pub failed : source.calls_old.failures < source.calls_new.failures → ending ≡ Broken
 
 -- One sink failed, once, and the other did not.
 abbrev pub OneFails : Use → Use → Type 0
 OneFails out messages = (FailsOnce out.calls_old out.calls_new × GoesOn messages.calls_old messages.calls_new) ⊎ (GoesOn out.calls_old out.calls_new × FailsOnce messages.calls_old messages.calls_new)
 
--- A sink failed: each stream holds a prefix of its text, for the bytes that were taken.
+-- A point of the reading of an input: after a front of it, as if its source failed there, or at its end.
+abbrev pub IsPointOf : List ℕ → SourceEnding → List ℕ → SourceEnding → Type 0
+IsPointOf bytes ending front at = ((rest : List ℕ) × ((bytes ≡ front ++ rest) × (at ≡ Broken))) ⊎ ((front ≡ bytes) × (at ≡ ending))
+
+-- Up to some point of the input this output and these messages are known: nothing else of what is read there is, but for the text of the held syllable.
+pub record IsKnown (job : Job) (limits : Limits) (bytes : List ℕ) (ending : SourceEnding) : Type 0 where
+  pub front : List ℕ
+  pub at : SourceEnding
+  pub is_point : IsPointOf bytes ending front at
+  pub output : List ℕ
+  pub lines : List ℕ
+  pub left : Streams
+  pub known : streams_of_outcome job (outcome_of limits at front) ≡ behind_bytes output lines left
+  pub prompt : IsPrompt job.format left
+
+-- A sink failed: each stream holds a prefix of its text, for the bytes that were taken. At some point of the input all output that was known is written, and
+-- of the messages no more than were known there: so output is written before messages.
 pub record SinkCut (job : Job) (limits : Limits) (source out messages : Use) : Type 0 where
   pub input : Taken limits source
   pub written_count : ℕ
@@ -57,6 +77,9 @@ pub record SinkCut (job : Job) (limits : Limits) (source out messages : Use) : T
   pub written : Appends out.old out.new (take written_count (output_of job.format (outcome_of limits input.ending input.bytes)))
   pub messages_written : Appends messages.old messages.new (take messages_count (messages_of job (outcome_of limits input.ending input.bytes)))
   pub fails : OneFails out messages
+  pub known : IsKnown job limits input.bytes input.ending
+  pub output_first : length known.output ≤ written_count
+  pub messages_then : messages_count ≤ length known.lines
 
 -- An end was not touched: it has the bytes, where they are known, that it had, and was not called.
 pub record IsUntouched (end : Use) : Type 0 where

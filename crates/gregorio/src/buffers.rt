@@ -1,9 +1,9 @@
 //! Bytes that wait to be sent.
 
-ghost use Rattle.std.specs.Prelude.{◌≡◌, ◌<◌, true, false, IfOk, OnOk, OnErr};
+ghost use Rattle.std.specs.Prelude.{◌≡◌, true, false, IfOk, OnOk, OnErr};
 ghost use Rattle.gregorio.specs.Run.{used};
 ghost use Rattle.gregorio.specs.machine.Buffers.{IsTakenOver, nothing_buffered};
-ghost use Rattle.gregorio.specs.machine.Compile.{AreCut, AreSent};
+ghost use Rattle.gregorio.specs.machine.Compile.{AreCut, AreSent, NoneOrAll};
 
 use crate::engine::Engine;
 use gabc_places::{Room, Sink, SinkFault, Unsent, send_all};
@@ -63,7 +63,8 @@ impl Buffers {
             (used M.written M.calls messages.old messages.new)
             self.old.output self.old.messages) }
         ensures forgets { OnOk result (self.new ≡ nothing_buffered) }
-        ensures cut { OnErr result (AreCut (used O.written O.calls out.old out.new)
+        ensures cut { OnErr result (AreCut (NoneOrAll self.old.output self.old.messages)
+            (used O.written O.calls out.old out.new)
             (used M.written M.calls messages.old messages.new)
             self.old.output self.old.messages) }
     {
@@ -84,11 +85,10 @@ pub(crate) fn send_both<O: Sink, M: Sink>(
     ensures all { OnOk result (AreSent (used O.written O.calls out.old out.new)
         (used M.written M.calls messages.old messages.new)
         output.now lines.now) }
-    ensures cut { OnErr result (AreCut (used O.written O.calls out.old out.new)
+    ensures cut { OnErr result (AreCut (NoneOrAll output.now lines.now)
+        (used O.written O.calls out.old out.new)
         (used M.written M.calls messages.old messages.new)
         output.now lines.now) }
-    ensures order { OnErr result ((O.calls out.old).failures < (O.calls out.new).failures →
-        messages.new ≡ messages.old) }
 {
     if let Err(Unsent { .. }) = send_all(out, output) {
         return Err(SinkFault);

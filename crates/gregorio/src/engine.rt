@@ -255,10 +255,12 @@ impl Engine {
 
     /// Does nothing. Its contract is a law: nothing is kept back but what is held.
     #[inline(always)]
-    fn keeps_nothing_back(&self)
+    pub(crate) fn keeps_nothing_back(&self)
         ensures { IsPrompt self.now.written.format (streams_left self.now Broken []) }
     {
         gabc_score::stage_laws::inputs_that_cease_give_no_stop();
+        gabc_score::stage_laws::what_is_held_holds_a_unit();
+        gabc_score::stage_laws::a_stage_may_stand(self.writer.score());
         self.writer.at_most_one_is_held();
     }
 
@@ -365,6 +367,7 @@ impl Engine {
             ≡ with_waiting self.new (streams_left self.new ending bytes) }
         ensures all { NothingWaits self.new → result ≡ length piece.now }
         ensures job { StillRuns self.old self.new }
+        ensures format { self.new.written.format ≡ self.old.written.format }
         ensures over { is_running self.old ≡ false
             → (result ≡ length piece.now) × (self.new ≡ self.old) }
         ensures running { is_running self.new ≡ true →

@@ -1,10 +1,11 @@
 //! A run over an input in memory.
 
-ghost use Rattle.std.specs.Prelude.{◌≡◌, List, [], ◌++◌, ℕ};
+ghost use Rattle.std.specs.Prelude.{◌≡◌, List, [], ◌++◌, ℕ, false};
 ghost use Rattle.gregorio.specs.declared.source_ending.SourceEnding.{SourceEnding as EndOfSource};
 ghost use Rattle.gregorio.specs.declared.source_ending.SourceEnding.TheVariants.{Whole};
 ghost use Rattle.gregorio.specs.Engine.{NothingWaits, StillRuns};
-ghost use Rattle.gregorio.specs.witness.Engine.{streams_left};
+ghost use Rattle.gregorio.specs.Streams.{ended_with};
+ghost use Rattle.gregorio.specs.witness.Engine.{is_running, streams_left};
 ghost use Rattle.gregorio.specs.machine.InMemory.{TakeTheSame};
 
 use crate::engine::Engine;
@@ -44,8 +45,10 @@ pub(crate) fn feed_input<O: Put, M: Put>(
 }
 
 impl Engine {
-    /// Reads `input`, the whole rest of the input, and puts all that is still to be written into `out` and `messages`. Returns how the run
-    /// ended. Nothing may wait before. An end that takes less than all is left as its `put` leaves it; `ByteCounter`s tell what there is.
+    /// Reads `input`, the whole rest of the input, and puts all that is still to be written into
+    /// `out` and `messages`. Returns how the run ended. Nothing may wait before, and nothing waits
+    /// afterwards: the run is over then, as after `end`. An end that takes less than all is left as
+    /// its `put` leaves it; `ByteCounter`s count what there is.
     pub fn run_over<O: Put, M: Put>(
         &mut self,
         input: &[u8],
@@ -59,6 +62,10 @@ impl Engine {
             ≡ M.taken messages.old (streams_left self.old Whole input.now).messages }
         ensures status { result ≡ (streams_left self.old Whole input.now).status }
         ensures job { StillRuns self.old self.new }
+        ensures waits { NothingWaits self.new }
+        ensures over { is_running self.new ≡ false }
+        ensures last { (bytes : List ℕ) (ending : EndOfSource) →
+            streams_left self.new ending bytes ≡ ended_with result }
     {
         feed_input(self, input, out, messages);
         let status = self.end();

@@ -20,6 +20,7 @@ mod engine;
 mod findings;
 mod held_headers;
 mod in_memory;
+mod judging;
 pub mod interrupted;
 pub mod laws;
 mod outcome;

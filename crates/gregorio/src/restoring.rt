@@ -14,11 +14,12 @@ ghost use Rattle.gregorio.specs.Saved.{GivesHeaders, state_of};
 ghost use Rattle.gregorio.specs.SavedState.{AreOfState, IsOfAnother, IsOfJob, IsState};
 ghost use Rattle.gregorio.specs.machine.ClefInForce.{HasClefOfSounds};
 ghost use Rattle.gregorio.specs.machine.HeldHeaders.{behind_mark};
-ghost use Rattle.gregorio.specs.machine.Restored.{GoesOn, HasEmptyRooms, IsAnother, StandSo, written_by};
+ghost use Rattle.gregorio.specs.machine.Restored.{GoesOn, HasEmptyRooms, StandSo, written_by};
 ghost use Rattle.gregorio.specs.machine.ScoreWriter.{fresh_writer};
 
 use crate::engine::Engine;
 use crate::held_headers::{HeldHeaders, holds_text, read_mark};
+use crate::judging::judge;
 use crate::rooms::memory_for;
 use crate::run_writer::RunWriter;
 use crate::score_writer::ScoreWriter;
@@ -41,7 +42,7 @@ fn is_of_job(state: &StateFields<'_>, job: &Job, limits: Limits) -> bool
 }
 
 /// Returns an empty room for what a stage of headers emits of a character.
-fn head_room(memory: &Memory) -> Result<Room<HeadEvent>, StateFault>
+pub(crate) fn head_room(memory: &Memory) -> Result<Room<HeadEvent>, StateFault>
     ensures room { IfOk result (λ room. 2 ≤ room.limit) }
     ensures fault { IfErr result (λ fault. fault ≡ StateFault.K0) }
 {
@@ -52,7 +53,7 @@ fn head_room(memory: &Memory) -> Result<Room<HeadEvent>, StateFault>
 }
 
 /// Returns a stage of headers before the first character of a text.
-fn fresh_heads(
+pub(crate) fn fresh_heads(
     memory: &Memory,
     limits: Limits,
     hasher: DefaultHasher,
@@ -255,7 +256,8 @@ fn engine_with(
     }
 }
 
-/// Returns an engine of `job` under `limits` that goes on in the headers, of which `state` has read `text`. Its errors are those of `restore`.
+/// Returns an engine that goes on in the headers, of which `state` has read `text`, a state of `job`
+/// under `limits`. Its errors are those of `restore`.
 fn engine_in_headers(
     memory: &Memory,
     job: &Job,
@@ -266,16 +268,13 @@ fn engine_in_headers(
 ) -> Result<Engine, StateFault>
     requires fields { AreStateFields (fields_of state.now) }
     requires phase { phase_of state.now.phase ≡ InHeaders text.now }
+    requires job { IsOfJob job.now limits (fields_of state.now) }
     ensures goes { IfOk result (GoesOn job.now limits (fields_of state.now)) }
     ensures read { IfOk result (λ _. AreOfState (fields_of state.now)) }
     ensures none { result ≡ Err StateFault.K1 → AreOfState (fields_of state.now) → ⊥ }
-    ensures other { result ≡ Err StateFault.K2 → IsAnother job.now limits (fields_of state.now) }
+    ensures never { result ≡ Err StateFault.K2 → ⊥ }
 {
     let heads = heads_holding(memory, state, text, hasher)?;
-    if !is_of_job(state, job, limits) {
-        drop(heads);
-        return Err(StateFault::K2);
-    }
     match fresh_score(memory, limits) {
         Ok(score) => engine_with(memory, job, limits, state, heads, score),
         Err(fault) => {
@@ -285,7 +284,8 @@ fn engine_in_headers(
     }
 }
 
-/// Returns an engine of `job` under `limits` that goes on in the score, where `fields` of `state` tell. Its errors are those of `restore`.
+/// Returns an engine that goes on in the score where `fields` of `state` say, a state of `job` under
+/// `limits`. Its errors are those of `restore`.
 fn engine_in_score(
     memory: &Memory,
     job: &Job,
@@ -296,16 +296,13 @@ fn engine_in_score(
 ) -> Result<Engine, StateFault>
     requires fields { AreStateFields (fields_of state.now) }
     requires phase { phase_of state.now.phase ≡ InScore (score_of fields.now) }
+    requires job { IsOfJob job.now limits (fields_of state.now) }
     ensures goes { IfOk result (GoesOn job.now limits (fields_of state.now)) }
     ensures read { IfOk result (λ _. AreOfState (fields_of state.now)) }
     ensures none { result ≡ Err StateFault.K1 → AreOfState (fields_of state.now) → ⊥ }
-    ensures other { result ≡ Err StateFault.K2 → IsAnother job.now limits (fields_of state.now) }
+    ensures never { result ≡ Err StateFault.K2 → ⊥ }
 {
     let score = set_down(memory, state, fields)?;
-    if !is_of_job(state, job, limits) {
-        drop(score);
-        return Err(StateFault::K2);
-    }
     match heads_behind(memory, limits, hasher) {
         Ok(heads) => engine_with(memory, job, limits, state, heads, score),
         Err(fault) => {
@@ -320,9 +317,9 @@ impl Engine {
     /// wants warnings, and `limits` have to be those of that run. The name of the input is that of `job`: it stands in no state.
     ///
     /// The error is K0 for want of memory, wherever it is met; else K1 exactly where `bytes` are no saved state; else K2: the state is one of
-    /// another format, of other limits, or of a run that wants warnings where `job` does not, or the other way round. The texts of a state are read
-    /// under the limits that stand in it, so these say how much memory is asked for before K1 can be told: take bytes of strangers only where
-    /// their limits are fine. Names of headers are hashed as in `new`.
+    /// another format, of other limits, or of a run that wants warnings where `job` does not, or the other way round. The texts of a state of another
+    /// run are read in memory of their own, which is no larger than they need: only for one of `job` under `limits` is that of an engine asked for.
+    /// Names of headers are hashed as in `new`.
     pub fn restore(
         alloc: Global,
         job: &Job,
@@ -359,7 +356,10 @@ impl Engine {
         let Some(state) = gregorio_state::read(bytes) else {
             return Err(StateFault::K1);
         };
-        let Ok(memory) = memory_for(alloc, job, state.limits) else {
+        if !is_of_job(&state, job, limits) {
+            return Err(judge(alloc, &state, hasher));
+        }
+        let Ok(memory) = memory_for(alloc, job, limits) else {
             return Err(StateFault::K0);
         };
         match &state.phase {

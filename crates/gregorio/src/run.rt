@@ -7,8 +7,8 @@ ghost use Rattle.gregorio.specs.Engine.{NothingWaits, with_waiting};
 ghost use Rattle.gregorio.specs.Streams.{ended_with};
 ghost use Rattle.gregorio.specs.witness.Engine.{streams_left};
 ghost use Rattle.gregorio.specs.Run.{Compiles, InTime, used};
-ghost use Rattle.gregorio.specs.machine.Buffers.{AreBuffered, nothing_buffered};
-ghost use Rattle.gregorio.specs.machine.Compile.{AreCut, AreSent, IsFed, IsFedAll, IsFedInPart, IsRun, SaysOutcomes, StreamsAreCut};
+ghost use Rattle.gregorio.specs.machine.Buffers.{AreBuffered, BuffersOrAll, nothing_buffered};
+ghost use Rattle.gregorio.specs.machine.Compile.{AreCut, AreSent, IsFed, IsFedAll, IsFedInPart, IsRun, NoneOrAll, SaysOutcomes, StreamsAreCut};
 
 use crate::buffers::{Buffers, send_both};
 use crate::engine::Engine;
@@ -34,7 +34,8 @@ fn send_waiting<O: Sink, M: Sink>(
         (used M.written M.calls messages.old messages.new)
         engine.old.output engine.old.messages) }
     ensures forgets { OnOk result (engine.new ≡ record engine.old { output = []; messages = [] }) }
-    ensures cut { OnErr result (AreCut (used O.written O.calls out.old out.new)
+    ensures cut { OnErr result (AreCut (NoneOrAll engine.old.output engine.old.messages)
+        (used O.written O.calls out.old out.new)
         (used M.written M.calls messages.old messages.new)
         engine.old.output engine.old.messages) }
 {
@@ -53,7 +54,8 @@ fn buffer_waiting<O: Sink, M: Sink>(
     ensures buffers { OnOk result (AreBuffered (used O.written O.calls out.old out.new)
         (used M.written M.calls messages.old messages.new)
         buffers.old engine.old buffers.new engine.new) }
-    ensures cut { OnErr result (AreCut (used O.written O.calls out.old out.new)
+    ensures cut { OnErr result (AreCut (BuffersOrAll buffers.old engine.old)
+        (used O.written O.calls out.old out.new)
         (used M.written M.calls messages.old messages.new)
         (buffers.old.output ++ engine.old.output) (buffers.old.messages ++ engine.old.messages)) }
 {
@@ -82,9 +84,9 @@ fn feed_piece<O: Sink, M: Sink>(
         engine.old engine.new piece.now) }
     ensures cut { OnErr result ((ending : EndOfSource) →
         StreamsAreCut (used O.written O.calls out.old out.new)
-        (used M.written M.calls messages.old messages.new)
-        (streams_left engine.old ending piece.now)) }
+        (used M.written M.calls messages.old messages.new) engine.old ending piece.now) }
 {
+    engine.keeps_nothing_back();
     let mut count = 0;
     while count < piece.len() {
         count += engine.feed(&piece[count..]);
@@ -117,6 +119,7 @@ fn feed_all<S: Source, O: Sink, M: Sink>(
         (used M.written M.calls messages.old messages.new)
         engine.old) }
 {
+    engine.keeps_nothing_back();
     let most = limit as usize + 1;
     let mut taken = 0;
     let mut buffer = [0; PIECE];

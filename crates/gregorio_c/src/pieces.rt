@@ -54,6 +54,7 @@ pub extern "C" fn gregorio_begin(
     step: &mut Step,
 ) -> u32
     ensures refused { result ≡ 3 → AsksForNothing format flags options.now }
+    ensures refuses { AsksForNothing format flags options.now → result ≡ 3 }
     ensures unchanged { IsRefusal result → (state.new ≡ state.old) × (step.new ≡ step.old) }
     ensures answered { (request : Wanted) (limits : RunLimits) →
         AsksFor format flags options.now request limits → (result ≡ 5) ⊎
@@ -91,6 +92,7 @@ pub extern "C" fn gregorio_feed(
     step: &mut Step,
 ) -> u32
     ensures refused { result ≡ 3 → AsksForNothing format flags options.now }
+    ensures refuses { AsksForNothing format flags options.now → result ≡ 3 }
     ensures unchanged { IsRefusal result → (state.new ≡ state.old) × ((output.new ≡ output.old) ×
         ((messages.new ≡ messages.old) × (step.new ≡ step.old))) }
     ensures answered { (request : Wanted) (limits : RunLimits) →
@@ -126,6 +128,7 @@ fn end_so(
     lengths: &mut Lengths,
 ) -> u32
     ensures refused { result ≡ 3 → AsksForNothing format flags options.now }
+    ensures refuses { AsksForNothing format flags options.now → result ≡ 3 }
     ensures unchanged { IsRefusal result → (output.new ≡ output.old) ×
         ((messages.new ≡ messages.old) × (lengths.new ≡ lengths.old)) }
     ensures answered { (request : Wanted) (limits : RunLimits) →
@@ -163,6 +166,7 @@ pub extern "C" fn gregorio_end(
     lengths: &mut Lengths,
 ) -> u32
     ensures refused { result ≡ 3 → AsksForNothing format flags options.now }
+    ensures refuses { AsksForNothing format flags options.now → result ≡ 3 }
     ensures unchanged { IsRefusal result → (output.new ≡ output.old) ×
         ((messages.new ≡ messages.old) × (lengths.new ≡ lengths.old)) }
     ensures answered { (request : Wanted) (limits : RunLimits) →
@@ -190,6 +194,7 @@ pub extern "C" fn gregorio_broken(
     lengths: &mut Lengths,
 ) -> u32
     ensures refused { result ≡ 3 → AsksForNothing format flags options.now }
+    ensures refuses { AsksForNothing format flags options.now → result ≡ 3 }
     ensures unchanged { IsRefusal result → (output.new ≡ output.old) ×
         ((messages.new ≡ messages.old) × (lengths.new ≡ lengths.old)) }
     ensures answered { (request : Wanted) (limits : RunLimits) →

@@ -84,7 +84,7 @@ text_not_long limit larger t h e = by (first_above larger (take (head_len t) t))
 -- ---- the earliest stop
 
 -- the earliest stop of a text that is not too long: with a line `%%` or not, with an open value or not, and with sizes above the limits or not
-abbrev earliest_of : List ℕ → Bool → Option ℕ → Bool → Bool → Option Stop
+abbrev pub earliest_of : List ℕ → Bool → Option ℕ → Bool → Bool → Option Stop
 earliest_of t true (Some k) x y = Some (stop_at (head_len t + 1) (line_place k) F3)
 earliest_of t true None x y = cond x (Some (stop_at (head_len t + 1) (place_after (take (head_len t) t)) F4)) (cond y (Some (stop_at (head_len t + 1) (place_after (take (head_len t) t)) F7)) None)
 earliest_of t false (Some k) x y = Some (stop_at (length t) (line_place k) F3)
@@ -95,7 +95,7 @@ abbrev size_of : List ℕ → ℕ
 size_of t = bytes_len (header_lines (book_of (head_parts t)))
 
 -- the earliest stop of a text that is not too long, under these limits
-abbrev stop_of : Limits → List ℕ → Option Stop
+abbrev pub stop_of : Limits → List ℕ → Option Stop
 stop_of limits t = earliest_of t (has_score (lines t)) (open_line (head_parts t)) (nat_lt limits.header (size_of t)) (nat_lt limits.input (size_of t + 3))
 
 -- which it is
@@ -115,7 +115,7 @@ earliest_is limits t e =
     by false None x y = refl
 
 -- the headers of a text that is not too long
-heads_are : (limits : Limits) (t : List ℕ) → text_stops limits.header t ≡ [] → heads_of limits t ≡ heads_by t (stop_of limits t)
+pub heads_are : (limits : Limits) (t : List ℕ) → text_stops limits.header t ≡ [] → heads_of limits t ≡ heads_by t (stop_of limits t)
 heads_are limits t e = ap (heads_by t) (earliest_is limits t e)
 
 -- the headers of a text that is too long
@@ -165,7 +165,7 @@ abbrev IsInside : List ℕ → Option Stop → Type 0
 IsInside t o = (stop : HeadFault) → heads_by t o ≡ Err stop → is_too_long stop.fault.code ≡ true → stop.at_end ≡ false
 
 -- an error has one fault
-same_fault : (a b : HeadFault) → ◌≡◌ {A = Result Heads HeadFault} (Err a) (Err b) → a ≡ b
+pub same_fault : (a b : HeadFault) → ◌≡◌ {A = Result Heads HeadFault} (Err a) (Err b) → a ≡ b
 same_fault a b e = cc
 
 -- a stop in front of the end

@@ -1,6 +1,8 @@
 -- An engine keeps nothing back but the held syllable, and stops with the byte that brings a fault.
 use Rattle.std.proofs.Common.{rules, ◌≡◌, ℕ, ◌+◌, ◌-◌, ◌<◌, ◌≤◌, ◌⊎◌, ◌||◌, inl, inr, IsSome, List, [], ◌∷◌, ◌++◌, length, map, take, drop, Bool, true, false, if◌then◌else◌, Option, Some, None, Result, Ok, Err, codes, refl, ap, sym, subst, ◌∙◌, arith, append-nil, length-append, take-add}
-use Rattle.std.specs.List.{flat_map}
+use Rattle.std.specs.List.{All, flat_map}
+use Rattle.gabc_score.specs.Syllable.{PlacedSyllable}
+use Rattle.gabc_score.specs.UnitRead.{HoldsSomeUnit}
 use Rattle.gabc_places.specs.StageLaw.{concat_of}
 use Rattle.gabc_places.specs.declared.code.Fault.{Fault}
 use Rattle.gabc_places.specs.declared.code.Finding.{Finding}
@@ -31,14 +33,17 @@ use Rattle.gregorio.proofs.pieces.BytesAreTaken.{GivesNoLast, Takes, broken_is_s
 -- ---- what is held
 
 -- where the headers are not written, nothing is
-held_text : (headed : Bool) (w : Written) (outputs : List ScoreOutput) → w.headed ≡ headed → has_end outputs ≡ false → length (syllables_in outputs) ≤ 1
+held_text : (lines : ℕ) (headed : Bool) (w : Written) (outputs : List ScoreOutput) → w.headed ≡ headed → has_end outputs ≡ false → length (syllables_in outputs) ≤ 1
+    → All (λ (s : PlacedSyllable). HoldsSomeUnit lines s.made) (syllables_in outputs)
     → ((said w outputs).output ≡ []) ⊎ IsHeldText w.format (said w outputs).output
-held_text false w outputs headed end few = inl (ap (λ (b : Bool). if b then texts_behind w.format w.count w.force (syllables_in outputs) ++ last_text w.format (has_end outputs) (count_behind w.count (syllables_in outputs)) else []) headed)
-held_text true w outputs headed end few = inr (record {
+held_text lines false w outputs headed end few noted = inl (ap (λ (b : Bool). if b then texts_behind w.format w.count w.force (syllables_in outputs) ++ last_text w.format (has_end outputs) (count_behind w.count (syllables_in outputs)) else []) headed)
+held_text lines true w outputs headed end few noted = inr (record {
   count = w.count;
   force = w.force;
   held = syllables_in outputs;
   few = few;
+  lines = lines;
+  noted = noted;
   is = ap (λ (b : Bool). if b then texts_behind w.format w.count w.force (syllables_in outputs) ++ last_text w.format (has_end outputs) (count_behind w.count (syllables_in outputs)) else []) headed
       ∙ ap (λ (whole : Bool). texts_behind w.format w.count w.force (syllables_in outputs) ++ last_text w.format whole (count_behind w.count (syllables_in outputs))) end;
 })
@@ -48,9 +53,10 @@ pub prompt_where_over : (s : EngineState) (status : Status) → IsOver s.written
 prompt_where_over s status ended =
     subst (λ (streams : Streams). IsPrompt s.written.format streams) (sym (over_left s status ended Broken [])) (record { messages = refl; output = inl refl })
 
-pub prompt_now : (s : EngineState) → GivesNoLast (concat_of (left_of s.score [])) → length (syllables_in (concat_of (left_of s.score []))) ≤ 1 → (IsSome s.written.ended → IsSilent s.score)
+pub prompt_now : (s : EngineState) → GivesNoLast (concat_of (left_of s.score [])) → length (syllables_in (concat_of (left_of s.score []))) ≤ 1
+    → All (λ (p : PlacedSyllable). HoldsSomeUnit s.score.body.nabc_lines p.made) (syllables_in (concat_of (left_of s.score []))) → (IsSome s.written.ended → IsSilent s.score)
     → IsPrompt s.written.format (streams_left s Broken [])
-prompt_now s gives few silent = by s.written.ended refl
+prompt_now s gives few noted silent = by s.written.ended refl
   where
     by : (ended : Option Status) → s.written.ended ≡ ended → IsPrompt s.written.format (streams_left s Broken [])
     by (Some status) ended = prompt_where_over s status (record { ended = ended; silent = silent (subst IsSome (sym ended) (search rules)) })
@@ -61,7 +67,7 @@ prompt_now s gives few silent = by s.written.ended refl
           messages =
               ap (λ (fs : List Finding). flat_map (shown_line w.name w.all_warnings) fs ++ fault_line w.name (fault_in outputs)) gives.findings
               ∙ ap (λ (fault : Option Fault). fault_line w.name fault) gives.stop;
-          output = held_text w.headed w outputs refl gives.end few;
+          output = held_text s.score.body.nabc_lines w.headed w outputs refl gives.end few noted;
         })
 
 -- ---- the last byte

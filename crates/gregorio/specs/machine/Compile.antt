@@ -1,14 +1,15 @@
 -- What the parts of a run do to its source and its sinks.
-use Rattle.std.specs.Prelude.{◌≡◌, ◌≢◌, ℕ, ◌+◌, ◌<◌, ◌≤◌, List, ◌++◌, length, take, ◌⊎◌}
+use Rattle.std.specs.Prelude.{◌≡◌, ◌≢◌, ℕ, ◌+◌, ◌<◌, ◌≤◌, List, [], ◌++◌, length, take, ◌⊎◌}
 use Rattle.std.specs.Io.KnownBytes.{Appends, Consumes}
 use Rattle.gabc_places.specs.Calls.{GoesOn, NoneLate}
 use Rattle.gabc_places.specs.declared.limits.Limits.{Limits}
 use Rattle.gregorio.specs.declared.source_ending.SourceEnding.{SourceEnding}
 use Rattle.gregorio.specs.declared.source_ending.SourceEnding.TheVariants.{Broken}
 use Rattle.gregorio.specs.witness.Engine.{EngineState, streams_left}
+use Rattle.gregorio.specs.Engine.{IsPrompt}
 use Rattle.gregorio.specs.Streams.{Streams, behind_bytes, streams_of_outcome}
 use Rattle.gregorio.specs.Outcome.{outcome_of}
-use Rattle.gregorio.specs.Run.{Compiles, InTime, OneFails, Use}
+use Rattle.gregorio.specs.Run.{Compiles, InTime, IsPointOf, OneFails, Use}
 use Rattle.gregorio.specs.SourceBytes.{ReadsSource}
 use Rattle.gregorio_jobs.specs.declared.job.Job.{Job}
 use Rattle.gregorio_jobs.specs.declared.job.Status.{Status}
@@ -21,29 +22,60 @@ pub record AreSent (out messages : Use) (output lines : List ℕ) : Type 0 where
   pub goes_on : GoesOn out.calls_old out.calls_new
   pub messages_go_on : GoesOn messages.calls_old messages.calls_new
 
--- A sink failed: each took a prefix of these bytes.
-pub record AreCut (out messages : Use) (output lines : List ℕ) : Type 0 where
+-- So many bytes of both streams were written: at some point no less of the output, and no more of the messages.
+pub record AreInOrder (IsPoint : List ℕ → List ℕ → Type 0) (output_count lines_count : ℕ) : Type 0 where
+  pub output : List ℕ
+  pub lines : List ℕ
+  pub is_point : IsPoint output lines
+  pub output_first : length output ≤ output_count
+  pub lines_then : lines_count ≤ length lines
+
+-- A sink failed: each took a prefix of these bytes, and at some point of them all output and no more messages.
+pub record AreCut (IsPoint : List ℕ → List ℕ → Type 0) (out messages : Use) (output lines : List ℕ) : Type 0 where
   pub output_count : ℕ
   pub lines_count : ℕ
+  pub output_within : output_count ≤ length output
+  pub lines_within : lines_count ≤ length lines
   pub written : Appends out.old out.new (take output_count output)
   pub messages_written : Appends messages.old messages.new (take lines_count lines)
   pub fails : OneFails out messages
+  pub order : AreInOrder IsPoint output_count lines_count
 
--- A sink failed: each took a prefix of these streams.
-abbrev pub StreamsAreCut : Use → Use → Streams → Type 0
-StreamsAreCut out messages streams = AreCut out messages streams.output streams.messages
+-- the points of one sending: nothing, and all of it
+abbrev pub NoneOrAll : List ℕ → List ℕ → List ℕ → List ℕ → Type 0
+NoneOrAll output lines o l = ((o ≡ []) × (l ≡ [])) ⊎ ((o ≡ output) × (l ≡ lines))
+
+-- At some point of these bytes an engine has written this, and keeps nothing back.
+pub record Knows (old : EngineState) (bytes : List ℕ) (ending : SourceEnding) (output lines : List ℕ) : Type 0 where
+  pub front : List ℕ
+  pub at : SourceEnding
+  pub is_point : IsPointOf bytes ending front at
+  pub left : Streams
+  pub known : streams_left old at front ≡ behind_bytes output lines left
+  pub prompt : IsPrompt old.written.format left
+
+-- A sink failed: each took a prefix of what an engine writes of these bytes, in order.
+abbrev pub StreamsAreCut : Use → Use → EngineState → SourceEnding → List ℕ → Type 0
+StreamsAreCut out messages old ending bytes = AreCut (Knows old bytes ending) out messages (streams_left old ending bytes).output (streams_left old ending bytes).messages
+
+-- An engine that was `old` keeps nothing back, and writes in the same format.
+pub record IsPromptAs (old new : EngineState) : Type 0 where
+  pub format : new.written.format ≡ old.written.format
+  pub prompt : IsPrompt old.written.format (streams_left new Broken [])
 
 -- An engine took these bytes, and what it wrote at them was sent.
 pub record IsFed (out messages : Use) (old new : EngineState) (bytes : List ℕ) : Type 0 where
   pub output : List ℕ
   pub lines : List ℕ
   pub sent : AreSent out messages output lines
+  pub prompt : IsPromptAs old new
   pub law : (rest : List ℕ) (ending : SourceEnding) → streams_left old ending (bytes ++ rest) ≡ behind_bytes output lines (streams_left new ending rest)
 
 -- Of a source so many bytes were taken without a failure, and an engine took them.
 pub record IsFedFrom (source out messages : Use) (old new : EngineState) (count : ℕ) : Type 0 where
   pub bytes : List ℕ
   pub counted : length bytes ≡ count
+  pub reads : source.calls_new.made ≤ source.calls_old.made + count
   pub consumed : Consumes source.old source.new bytes
   pub goes_on : GoesOn source.calls_old source.calls_new
   pub fed : IsFed out messages old new bytes
@@ -60,12 +92,14 @@ pub record IsFedInPart (limit : ℕ) (source out messages : Use) (old : EngineSt
   pub bytes : List ℕ
   pub consumed : Consumes source.old source.new bytes
   pub goes_on : GoesOn source.calls_old source.calls_new
+  pub reads : source.calls_new.made ≤ source.calls_old.made + length bytes
   pub within : length bytes ≤ limit + 1
-  pub cut : StreamsAreCut out messages (streams_left old Broken bytes)
+  pub cut : StreamsAreCut out messages old Broken bytes
 
 -- What an engine says of every input is its outcome for this job.
-abbrev pub SaysOutcomes : Job → Limits → EngineState → Type 0
-SaysOutcomes job limits e = (bytes : List ℕ) (ending : SourceEnding) → streams_left e ending bytes ≡ streams_of_outcome job (outcome_of limits ending bytes)
+pub record SaysOutcomes (job : Job) (limits : Limits) (e : EngineState) : Type 0 where
+  pub format : e.written.format ≡ job.format
+  pub all : (bytes : List ℕ) (ending : SourceEnding) → streams_left e ending bytes ≡ streams_of_outcome job (outcome_of limits ending bytes)
 
 -- A whole run, and which ends failed.
 pub record IsRun (job : Job) (limits : Limits) (source out messages : Use) (status : Status) : Type 0 where

@@ -49,11 +49,6 @@ pub record GoesOn (job : Job) (limits : Limits) (s : StateFields) (e : EngineSta
   pub running : is_running e ≡ true
   pub waits : NothingWaits e
 
--- the fields of a state are those of another job, or under other limits
-pub record IsAnother (job : Job) (limits : Limits) (s : StateFields) : Type 0 where
-  pub fields : AreOfState s
-  pub other : IsOfJob job limits s → ⊥
-
 -- nothing waits, and there is room for all that is written under these limits
 pub record HasEmptyRooms (limits : Limits) (w : RunWriterState) : Type 0 where
   pub output : w.out.items ≡ []

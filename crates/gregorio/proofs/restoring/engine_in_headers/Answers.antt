@@ -1,24 +1,19 @@
-use Rattle.std.proofs.Common.{rules, ◌≡◌, refl, ap, subst, ◌∙◌}
+use Rattle.std.proofs.Common.{◌≡◌, refl, ap, subst, ◌∙◌}
 use Rattle.std.specs.Str.{chars}
 use Rattle.gabc_places.specs.declared.limits.Limits.{Limits}
 use Rattle.gabc_headers.specs.HeldText.{holding}
 use Rattle.gregorio_state.specs.Fields.{fields_of, InHeaders}
 use Rattle.gregorio.specs.Saved.{GivesHeaders}
 use Rattle.gregorio.specs.SavedState.{IsOfJob, TellsLimits}
-use Rattle.gregorio.proofs.StatesAreJudged.{if_any, of_another, read_so, same, stand_so}
+use Rattle.gregorio.proofs.StatesAreJudged.{if_any, read_so, same, stand_so}
 use Rattle.gregorio.proofs.restoring.engine_in_headers.Goals as goal
-
-pub returns-then-not-is_of_job-clause-other : goal.returns-then-not-is_of_job-clause-other
-returns-then-not-is_of_job-clause-other c = λ is.
-    of_another (fields_of c.args.state.now) c.args.state.now.limits (record { header = refl; syllable = refl; input = refl }) c.requires.fields (InHeaders c.args.text.now) c.requires.phase
-    c.args.job.now c.args.limits c.if-not-is_of_job.ensures.1 c.in_ok-heads.ensures.gives
 
 pub engine_with-requires-clause-stand : goal.engine_with-requires-clause-stand
 engine_with-requires-clause-stand c =
     let s = fields_of c.args.state.now in
     let own = c.args.state.now.limits in
     let tells : TellsLimits s own = record { header = refl; syllable = refl; input = refl } in
-    let is : IsOfJob c.args.job.now c.args.limits s = c.if-not-is_of_job.ensures.0 (search rules) in
+    let is : IsOfJob c.args.job.now c.args.limits s = c.requires.job in
     let limits : own ≡ c.args.limits = same s own tells c.requires.fields (InHeaders c.args.text.now) c.requires.phase c.args.limits is.limits_are in
     stand_so s own tells c.requires.fields (InHeaders c.args.text.now) c.requires.phase c.args.limits is.limits_are c.in_ok-heads.heads c.in-Ok.score c.in-Ok.ensures.limits
     (record {

@@ -4,7 +4,7 @@ use Rattle.gregorio.specs.declared.state_fault.StateFault.{StateFault}
 use Rattle.gregorio.specs.declared.state_fault.StateFault.TheVariants.{K1}
 use Rattle.gregorio.specs.SavedState.{IsOfJob, TellsLimits}
 use Rattle.gregorio.proofs.LimitsAreTold.{told_once}
-use Rattle.gregorio.proofs.StatesAreJudged.{if_any, not_read, of_another, read_so, stand_so}
+use Rattle.gregorio.proofs.StatesAreJudged.{if_any, not_read, read_so, stand_so}
 use Rattle.gregorio.proofs.restoring.engine_in_score.Goals as goal
 
 pub returns-in_err-score-clause-none : goal.returns-in_err-score-clause-none
@@ -13,18 +13,13 @@ returns-in_err-score-clause-none c = λ is.
     not_read (fields_of c.args.state.now) c.args.state.now.limits (record { header = refl; syllable = refl; input = refl }) c.requires.fields (InScore (score_of c.args.fields.now)) c.requires.phase
     (c.in_err-score.ensures.refused (ap (λ (fault : StateFault). Err fault) same))
 
-pub returns-then-not-is_of_job-clause-other : goal.returns-then-not-is_of_job-clause-other
-returns-then-not-is_of_job-clause-other c = λ is.
-    of_another (fields_of c.args.state.now) c.args.state.now.limits (record { header = refl; syllable = refl; input = refl }) c.requires.fields (InScore (score_of c.args.fields.now)) c.requires.phase
-    c.args.job.now c.args.limits c.if-not-is_of_job.ensures.1 c.in_ok-score.ensures.read
-
 pub engine_with-requires-clause-stand : goal.engine_with-requires-clause-stand
 engine_with-requires-clause-stand c =
     let s = fields_of c.args.state.now in
     let own = c.args.state.now.limits in
     let f = score_of c.args.fields.now in
     let tells : TellsLimits s own = record { header = refl; syllable = refl; input = refl } in
-    let is : IsOfJob c.args.job.now c.args.limits s = c.if-not-is_of_job.ensures.0 (search rules) in
+    let is : IsOfJob c.args.job.now c.args.limits s = c.requires.job in
     let d = c.in_ok-score.ensures.told in
     stand_so s own tells c.requires.fields (InScore f) c.requires.phase c.args.limits is.limits_are c.in-Ok.heads c.in_ok-score.score
     (told_once s c.in_ok-score.score.limits c.args.limits d.limits_are is.limits_are)

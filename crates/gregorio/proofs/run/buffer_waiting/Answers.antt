@@ -1,9 +1,8 @@
 use Rattle.std.proofs.Common.{◌≡◌, ◌++◌, refl, rules, subst}
 use Rattle.gregorio.specs.Run.{used}
 use Rattle.gregorio.specs.machine.Compile.{AreCut}
-use Rattle.gregorio.specs.machine.Buffers.{BufferedBytes}
-use Rattle.gregorio.proofs.PiecesAreSent.{cut_longer}
-use Rattle.gregorio.proofs.PiecesAreBuffered.{buffered_only, buffered_and_sent, cut_behind_buffers}
+use Rattle.gregorio.specs.machine.Buffers.{BufferedBytes, BuffersOrAll}
+use Rattle.gregorio.proofs.PiecesAreBuffered.{buffered_only, buffered_and_sent, cut_behind_buffers, cut_of_buffers}
 use Rattle.gregorio.proofs.run.buffer_waiting.Goals as goal
 
 pub returns-then-take-clause-buffers : goal.returns-then-take-clause-buffers
@@ -13,9 +12,9 @@ returns-then-take-clause-buffers g c =
 pub returns-in_err-send-clause-cut : goal.returns-in_err-send-clause-cut
 returns-in_err-send-clause-cut g c =
     let e = c.args.engine.now in
-    let cut : (h : BufferedBytes) → c.take.new.self ≡ h → AreCut (used g.O.Sink.written g.O.Sink.calls c.args.out.now c.send.new.out) (used g.M.Sink.written g.M.Sink.calls c.args.messages.now c.send.new.messages) (h.output ++ e.output) (h.messages ++ e.messages) =
-    λ h same. subst (λ (x : BufferedBytes). AreCut (used g.O.Sink.written g.O.Sink.calls c.args.out.now c.send.new.out) (used g.M.Sink.written g.M.Sink.calls c.args.messages.now c.send.new.messages) (x.output ++ e.output) (x.messages ++ e.messages)) same
-    (cut_longer g.O.Sink.written g.O.Sink.calls g.M.Sink.written g.M.Sink.calls _ _ _ _ _ _ e.output e.messages c.in_err-send.ensures.cut) in
+    let cut : (h : BufferedBytes) → c.take.new.self ≡ h → AreCut (BuffersOrAll h e) (used g.O.Sink.written g.O.Sink.calls c.args.out.now c.send.new.out) (used g.M.Sink.written g.M.Sink.calls c.args.messages.now c.send.new.messages) (h.output ++ e.output) (h.messages ++ e.messages) =
+    λ h same. subst (λ (x : BufferedBytes). AreCut (BuffersOrAll x e) (used g.O.Sink.written g.O.Sink.calls c.args.out.now c.send.new.out) (used g.M.Sink.written g.M.Sink.calls c.args.messages.now c.send.new.messages) (x.output ++ e.output) (x.messages ++ e.messages)) same
+    (cut_of_buffers g.O.Sink.written g.O.Sink.calls g.M.Sink.written g.M.Sink.calls _ _ _ _ c.take.new.self e c.in_err-send.ensures.cut) in
     search (rules, cut c.args.buffers.now (c.if-take.ensures.unchanged refl))
 
 pub returns-in_err-send_waiting-clause-cut : goal.returns-in_err-send_waiting-clause-cut

@@ -1,4 +1,5 @@
-use Rattle.std.proofs.Common.{◌≡◌, ◌+◌, ◌≤◌, ℕ, List, take, length, length-take, arith, rules}
+use Rattle.std.proofs.Common.{◌≡◌, ◌+◌, ◌≤◌, ℕ, List, take, length, length-take, ap, arith, rules}
+use Rattle.gabc_places.specs.Calls.{Calls}
 use Rattle.gregorio.specs.Run.{used}
 use Rattle.gregorio.specs.machine.Compile.{IsFedInPart}
 use Rattle.gabc_places.proofs.CallsInTime.{failed, read_some}
@@ -11,7 +12,7 @@ loop-taken-init g c = record {
   limit = omega arith;
   waits = c.requires.waits;
   buffers = c.requires.buffers;
-  fed = from_nothing g.O.Sink.written g.O.Sink.calls g.M.Sink.written g.M.Sink.calls g.S.Source.remaining g.S.Source.calls _ _ _ _;
+  fed = from_nothing g.O.Sink.written g.O.Sink.calls g.M.Sink.written g.M.Sink.calls g.S.Source.remaining g.S.Source.calls _ _ _ _ c.keeps_nothing_back.ensures;
 }
 
 pub returns-in_err-feed_piece-in-Ok-clause-cut : goal.returns-in_err-feed_piece-in-Ok-clause-cut
@@ -20,13 +21,13 @@ returns-in_err-feed_piece-in-Ok-clause-cut g c =
     let size : c.loop-taken.taken + length piece ≤ c.args.limit + 1 = search (rules, length-take c.in-Ok.n c.read.new.buf) in
     let some = read_some c.in-Ok.n _ (g.S.Source.calls c.loop-taken.source) (g.S.Source.calls c.read.new.self) (first_of (omega arith, omega (arith, c.in-Ok.n-test), search (rules, c.in-Ok.n-test))) c.in-Ok.ensures.calls in
     let cut : IsFedInPart c.args.limit (used g.S.Source.remaining g.S.Source.calls c.args.source.now c.read.new.self) (used g.O.Sink.written g.O.Sink.calls c.args.out.now c.feed_piece.new.out) (used g.M.Sink.written g.M.Sink.calls c.args.messages.now c.feed_piece.new.messages) c.args.engine.now =
-    in_part g.O.Sink.written g.O.Sink.calls g.M.Sink.written g.M.Sink.calls g.S.Source.remaining g.S.Source.calls _ _ c.loop-taken.source _ _ c.loop-taken.out _ _ c.loop-taken.messages _ _ c.loop-taken.engine piece c.loop-taken.taken c.loop-taken.invariant.fed (c.in-Ok.ensures.bytes.0) some size c.in_err-feed_piece-in-Ok.ensures.cut in
+    in_part g.O.Sink.written g.O.Sink.calls g.M.Sink.written g.M.Sink.calls g.S.Source.remaining g.S.Source.calls _ _ c.loop-taken.source _ _ c.loop-taken.out _ _ c.loop-taken.messages _ _ c.loop-taken.engine piece c.loop-taken.taken c.loop-taken.invariant.fed (c.in-Ok.ensures.bytes.0) some (ap (λ (k : Calls). k.made) c.in-Ok.ensures.calls) (search (rules, length-take c.in-Ok.n c.read.new.buf)) size c.in_err-feed_piece-in-Ok.ensures.cut in
     search (rules, cut)
 
 pub returns-in-Err-clause-fed : goal.returns-in-Err-clause-fed
 returns-in-Err-clause-fed g c =
     let i = c.loop-taken.invariant in
-    all_broken g.O.Sink.written g.O.Sink.calls g.M.Sink.written g.M.Sink.calls g.S.Source.remaining g.S.Source.calls _ _ c.loop-taken.source _ _ _ _ _ _ c.loop-taken.engine c.loop-taken.taken i.fed c.in-Err.ensures.bytes (failed (g.S.Source.calls c.loop-taken.source) (g.S.Source.calls c.read.new.self) c.in-Err.ensures.calls) (omega arith)
+    all_broken g.O.Sink.written g.O.Sink.calls g.M.Sink.written g.M.Sink.calls g.S.Source.remaining g.S.Source.calls _ _ c.loop-taken.source _ _ _ _ _ _ c.loop-taken.engine c.loop-taken.taken i.fed c.in-Err.ensures.bytes (failed (g.S.Source.calls c.loop-taken.source) (g.S.Source.calls c.read.new.self) c.in-Err.ensures.calls) (ap (λ (k : Calls). k.made) c.in-Err.ensures.calls) (omega arith)
 
 pub loop-taken-preserved : goal.loop-taken-preserved
 loop-taken-preserved g c =
@@ -38,5 +39,5 @@ loop-taken-preserved g c =
       limit = omega arith;
       waits = c.in_ok-feed_piece-in-Ok.ensures.waits;
       buffers = c.in_ok-feed_piece-in-Ok.ensures.buffers;
-      fed = from_more g.O.Sink.written g.O.Sink.calls g.M.Sink.written g.M.Sink.calls g.S.Source.remaining g.S.Source.calls _ c.loop-taken.source _ _ c.loop-taken.out _ _ c.loop-taken.messages _ _ c.loop-taken.engine _ piece c.loop-taken.taken c.in-Ok.n c.loop-taken.invariant.fed (c.in-Ok.ensures.bytes.0) some size c.in_ok-feed_piece-in-Ok.ensures.fed;
+      fed = from_more g.O.Sink.written g.O.Sink.calls g.M.Sink.written g.M.Sink.calls g.S.Source.remaining g.S.Source.calls _ c.loop-taken.source _ _ c.loop-taken.out _ _ c.loop-taken.messages _ _ c.loop-taken.engine _ piece c.loop-taken.taken c.in-Ok.n c.loop-taken.invariant.fed (c.in-Ok.ensures.bytes.0) some (ap (λ (k : Calls). k.made) c.in-Ok.ensures.calls) (first_of (omega arith, omega (arith, c.in-Ok.n-test), search (rules, c.in-Ok.n-test))) size c.in_ok-feed_piece-in-Ok.ensures.fed;
     }

@@ -49,6 +49,9 @@ returns-clause-law c = c.loop-count.invariant.taken
 pub returns-clause-job : goal.returns-clause-job
 returns-clause-job c = c.loop-count.invariant.job
 
+pub returns-clause-format : goal.returns-clause-format
+returns-clause-format c = c.loop-count.invariant.format
+
 pub returns-clause-running : goal.returns-clause-running
 returns-clause-running c = λ runs.
     let law = c.inputs_that_cease_give_no_stop.ensures in

@@ -1,8 +1,9 @@
-use Rattle.std.proofs.Common.{List, [], ℕ, append-nil, subst}
+use Rattle.std.proofs.Common.{List, [], ℕ, append-nil, ap, ◌∙◌, subst}
 use Rattle.gregorio.specs.declared.source_ending.SourceEnding.TheVariants.{Whole}
 use Rattle.gregorio.specs.machine.InMemory.{TakeTheSame}
-use Rattle.gregorio.specs.witness.Engine.{streams_left}
+use Rattle.gregorio.specs.witness.Engine.{EngineState, is_running, streams_left}
 use Rattle.gregorio.proofs.InputsArePut.{last_taken, runs_where_taken}
+use Rattle.gregorio.proofs.PiecesAreSent.{nothing_waits_behind}
 use Rattle.gregorio.proofs.engine.Engine.run_over.Goals as goal
 
 pub returns : goal.returns
@@ -14,4 +15,7 @@ returns g c =
       messages = last.1;
       status = last.2;
       job = λ job limits runs. runs_where_taken c.end-status.new.self c.put_waiting.new.engine job limits c.put_waiting.ensures.forgets (c.end-status.ensures.job job limits (c.feed_input.ensures.job job limits runs));
+      waits = nothing_waits_behind c.end-status.new.self c.put_waiting.new.engine c.put_waiting.ensures.forgets;
+      over = ap (λ (e : EngineState). is_running e) c.put_waiting.ensures.forgets ∙ c.end-status.ensures.over;
+      last = λ bytes ending. ap (λ (e : EngineState). streams_left e ending bytes) c.put_waiting.ensures.forgets ∙ c.end-status.ensures.last bytes ending;
     }
