@@ -2,7 +2,9 @@ pub mod machine
 pub mod witness
 pub mod Book
 pub mod Canonical
+pub mod Entries
 pub mod EntryMap
+pub mod FreshStage
 pub mod Groups
 pub mod HeadEvents
 pub mod Heads

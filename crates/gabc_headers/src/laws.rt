@@ -3,6 +3,7 @@
 ghost use Rattle.std.specs.Prelude.{◌≡◌, ◌+◌, ◌<◌, ◌≤◌, ℕ, Bool, true, false, List, [], ◌∷◌, ◌++◌, length, take, Option, Ok, Err};
 ghost use Rattle.std.specs.Char.{IsScalar};
 ghost use Rattle.std.specs.List.{All};
+ghost use Rattle.std.specs.declared.hash.DefaultHasher.{DefaultHasher};
 ghost use Rattle.gabc_places.specs.declared.code.Fault.{Fault};
 ghost use Rattle.gabc_places.specs.declared.limits.Limits.{Limits};
 ghost use Rattle.gabc_places.specs.LargerLimits.{AreNoLess};
@@ -144,8 +145,8 @@ pub fn events_need_no_end()
 
 /// Once a stage has read the characters of a text whose headers are whole, it holds their book; a fault behind them changes nothing of it.
 pub fn the_book_is_read()
-    ensures { (limits : Limits) (t : List ℕ) (heads : Heads) (fault : Option Fault) →
-        All IsScalar t → heads_of limits t ≡ Ok heads →
-        (stage_past (fresh_stage limits) (inputs_behind [] t ++ fault_items fault)).book
+    ensures { (limits : Limits) (hasher : DefaultHasher) (t : List ℕ) (heads : Heads)
+        (fault : Option Fault) → All IsScalar t → heads_of limits t ≡ Ok heads →
+        (stage_past (fresh_stage limits hasher) (inputs_behind [] t ++ fault_items fault)).book
         ≡ heads.book }
 {}

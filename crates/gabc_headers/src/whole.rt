@@ -2,7 +2,8 @@
 
 ghost use Rattle.std.specs.Prelude.{◌≡◌, IfOk};
 ghost use Rattle.gabc_places.specs.Findings.{AreInOrder};
-ghost use Rattle.gabc_headers.specs.machine.EntryMap.{AreWithin, spelled_entries};
+ghost use Rattle.gabc_headers.specs.Entries.{spelled_entries};
+ghost use Rattle.gabc_headers.specs.machine.EntryMap.{AreWithin};
 ghost use Rattle.gabc_headers.specs.Heads.{heads_of, findings_of};
 ghost use Rattle.gabc_headers.specs.machine.Collected.{heads_at_score};
 

@@ -19,19 +19,19 @@ collect-requires c =
 pub at_score-requires : goal.at_score-requires
 at_score-requires c =
     let u = scalars_of c.args.text.now c.as_str-written.result.now c.as_str-written.utf8 c.as_str-written.ensures.bytes in
-    rw (ap (λ (x : Collected). x.headers) c.in_ok-collected.ensures, c.as_str-written.ensures.bytes, c.deref.ensures.value) (read_within c.args.limits c.args.text.now c.in_ok-read.read.events.items c.in_ok-read.read.end u c.in_ok-read.ensures)
+    rw (ap (λ (x : Collected). x.headers) c.in_ok-collected.ensures.all, c.as_str-written.ensures.bytes, c.deref.ensures.value) (read_within c.args.limits c.args.text.now c.in_ok-read.read.events.items c.in_ok-read.read.end u c.in_ok-read.ensures)
 
 pub returns-in-Limit-clause-exact : goal.returns-in-Limit-clause-exact
 returns-in-Limit-clause-exact c =
     let u = scalars_of c.args.text.now c.as_str-written.result.now c.as_str-written.utf8 c.as_str-written.ensures.bytes in
-    rw (c.head_fault.ensures, ap (λ (x : Collected). x.findings) c.in_ok-collected.ensures, c.as_str-written.ensures.bytes, c.deref.ensures.value)
+    rw (c.head_fault.ensures, ap (λ (x : Collected). x.findings) c.in_ok-collected.ensures.all, c.as_str-written.ensures.bytes, c.deref.ensures.value)
     (case_limit c.args.limits c.args.text.now c.in_ok-read.read.events.items c.in_ok-read.read.end u c.in_ok-read.ensures c.in-Limit.place c.in-Limit.is)
 
 pub returns-in-Score-clause-exact : goal.returns-in-Score-clause-exact
 returns-in-Score-clause-exact c =
     let u = scalars_of c.args.text.now c.as_str-written.result.now c.as_str-written.utf8 c.as_str-written.ensures.bytes in
     let e = case_score c.args.limits c.args.text.now c.in_ok-read.read.events.items c.in_ok-read.read.end u c.in_ok-read.ensures c.in-Score.place c.in-Score.body c.in-Score.open_line c.in-Score.is in
-    rw (← e, ← c.as_str-written.ensures.bytes, ← c.deref.ensures.value, ← ap (λ (x : Collected). x.headers) c.in_ok-collected.ensures, ← ap (λ (x : Collected). x.findings) c.in_ok-collected.ensures) c.at_score.ensures
+    rw (← e, ← c.as_str-written.ensures.bytes, ← c.deref.ensures.value, ← ap (λ (x : Collected). x.headers) c.in_ok-collected.ensures.all, ← ap (λ (x : Collected). x.findings) c.in_ok-collected.ensures.all) c.at_score.ensures
 
 pub returns-clause-exact : goal.returns-clause-exact
 returns-clause-exact c =
@@ -40,7 +40,7 @@ returns-clause-exact c =
       c.head_fault-in-Text.ensures,
       c.end_fault-fault.ensures,
       ← at_text_end c.in-Text.place c.in-Text.open_line c.in_ok-collected.collected.findings,
-      ap (λ (x : Collected). x.findings) c.in_ok-collected.ensures,
+      ap (λ (x : Collected). x.findings) c.in_ok-collected.ensures.all,
       c.as_str-written.ensures.bytes,
       c.deref.ensures.value,
     )
