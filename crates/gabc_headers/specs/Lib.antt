@@ -9,6 +9,7 @@ pub mod Groups
 pub mod HeadEvents
 pub mod Heads
 pub mod HeadsAgain
+pub mod HeadsOfGroups
 pub mod HeldText
 pub mod Lines
 pub mod NabcLines
