@@ -11,8 +11,10 @@ use Rattle.gabc_headers.specs.declared.heads.Heads.{Heads}
 use Rattle.gabc_headers.specs.Book.{book_of}
 use Rattle.gabc_headers.specs.Canonical.{header_lines}
 use Rattle.gabc_headers.specs.Lines.{bytes_len, lines, has_score, is_percent, is_score_line}
-use Rattle.gabc_headers.specs.Parts.{HeaderPart, outside, parts}
-use Rattle.gabc_headers.specs.Heads.{head_len, head_parts, open_line, stop_at, first_above, is_line_percent, too_long, text_stops, open_stops, score_stops, missing_score, head_stops, heads_by, heads_of}
+use Rattle.gabc_headers.specs.Parts.{HeaderPart}
+use Rattle.gabc_headers.specs.witness.Parts.{outside, parts, head_parts}
+use Rattle.gabc_headers.specs.Heads.{head_len, open_line, stop_at, first_above, is_line_percent, too_long, text_stops, open_stops, missing_score, heads_of}
+use Rattle.gabc_headers.specs.witness.Heads.{score_stops, head_stops, heads_by}
 use Rattle.gabc_headers.proofs.groups.TextBeforeScore.{head_text, is_scored, score_lines, head_length, parts_head}
 use Rattle.gabc_headers.proofs.stops.PointsOfStops.{above_within}
 use Rattle.gabc_headers.proofs.stops.TextTooLong.{take_head}

@@ -3,3 +3,4 @@ pub mod GroupsAreUnique
 pub mod GroupsTellParts
 pub mod NamesAreShort
 pub mod TextBeforeScore
+pub mod HeadsAreOfGroups

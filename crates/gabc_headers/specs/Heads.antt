@@ -12,13 +12,10 @@ use Rattle.gabc_places.specs.Findings.{Known, findings_before, Stop, earliest}
 use Rattle.gabc_headers.specs.declared.heads.Heads.{Heads}
 use Rattle.gabc_headers.specs.declared.heads.HeadFault.{HeadFault}
 use Rattle.gabc_headers.specs.Lines.{bytes_len, lines, head_of, has_score, lines_len}
-use Rattle.gabc_headers.specs.Parts.{HeaderPart, left_out, header, unended, outside, parts}
+use Rattle.gabc_headers.specs.Parts.{HeaderPart, left_out, header, unended}
+use Rattle.gabc_headers.specs.witness.Parts.{head_parts}
 use Rattle.gabc_headers.specs.Book.{book_of, is_kept, repeats, has_header}
 use Rattle.gabc_headers.specs.Canonical.{header_lines}
-
--- the parts of the lines before the line `%%`, or of all lines
-abbrev pub head_parts : List ℕ → List HeaderPart
-head_parts t = parts outside 1 0 (head_of (lines t))
 
 -- the length of the text before the line `%%`, or of all
 abbrev pub head_len : List ℕ → ℕ
@@ -55,13 +52,13 @@ findings_behind seen [] = []
 findings_behind seen (p ∷ ps) = findings_at seen p ++ findings_behind (names_after seen p) ps
 
 -- no header `name`, known at the second `%` of the line `%%`
-abbrev pub name_findings : List ℕ → List Known
-name_findings t = cond (has_score (lines t) && not (has_header (codes "name") (book_of (head_parts t))))
+abbrev pub findings_of_name : List ℕ → List HeaderPart → List Known
+findings_of_name t ps = cond (has_score (lines t) && not (has_header (codes "name") (book_of ps)))
     (known_at (head_len t + 1) (place_after (take (head_len t) t)) W1 ∷ []) []
 
--- all that is found in the headers of a text
-abbrev pub head_findings : List ℕ → List Known
-head_findings t = findings_behind [] (head_parts t) ++ name_findings t
+-- all that is found in the headers of a text, whose lines make these parts
+abbrev pub findings_of_parts : List ℕ → List HeaderPart → List Known
+findings_of_parts t ps = findings_behind [] ps ++ findings_of_name t ps
 
 -- ---- what stops them
 
@@ -99,10 +96,10 @@ open_stops p None = []
 open_stops p (Some k) = stop_at p (line_place k) F3 ∷ []
 
 -- at the second `%` of the line `%%`: the canonical lines, or with `%%` and LF the canonical file, have too many bytes
-abbrev pub score_stops : Limits → List ℕ → List Stop
-score_stops limits t =
+abbrev pub stops_of_score : Limits → List ℕ → List HeaderPart → List Stop
+stops_of_score limits t ps =
     let place = place_after (take (head_len t) t) in
-    let size = bytes_len (header_lines (book_of (head_parts t))) in
+    let size = bytes_len (header_lines (book_of ps)) in
     cond (nat_lt limits.header size) (stop_at (head_len t + 1) place F4 ∷ []) []
     ++ cond (nat_lt limits.input (size + 3)) (stop_at (head_len t + 1) place F7 ∷ []) []
 
@@ -111,13 +108,13 @@ abbrev pub missing_score : Option ℕ → List ℕ → List Stop
 missing_score None t = stop_at (length t) (place_after t) F2 ∷ []
 missing_score (Some k) t = []
 
--- all that stops the headers of a text
-abbrev pub head_stops : Limits → List ℕ → List Stop
-head_stops limits t =
+-- all that stops the headers of a text, whose lines make these parts
+abbrev pub stops_of_parts : Limits → List ℕ → List HeaderPart → List Stop
+stops_of_parts limits t ps =
     text_stops limits.header t
     ++ cond (has_score (lines t))
-    (open_stops (head_len t + 1) (open_line (head_parts t)) ++ score_stops limits t)
-    (open_stops (length t) (open_line (head_parts t)) ++ missing_score (open_line (head_parts t)) t)
+    (open_stops (head_len t + 1) (open_line ps) ++ stops_of_score limits t ps)
+    (open_stops (length t) (open_line ps) ++ missing_score (open_line ps) t)
 
 -- ---- the headers
 
@@ -125,13 +122,17 @@ head_stops limits t =
 abbrev pub body_byte : List ℕ → ℕ
 body_byte t = bytes_len (take (head_len t + 2) t)
 
-abbrev pub heads_by : List ℕ → Option Stop → Result Heads HeadFault
-heads_by t None = Ok (record { book = book_of (head_parts t); body = body_byte t; findings = findings_before (length t + 1) (head_findings t) })
-heads_by t (Some s) = Err (record { fault = s.fault; findings = findings_before s.point (head_findings t); at_end = s.point == length t })
+abbrev pub heads_of_parts_by : List ℕ → List HeaderPart → Option Stop → Result Heads HeadFault
+heads_of_parts_by t ps None = Ok (record { book = book_of ps; body = body_byte t; findings = findings_before (length t + 1) (findings_of_parts t ps) })
+heads_of_parts_by t ps (Some s) = Err (record { fault = s.fault; findings = findings_before s.point (findings_of_parts t ps); at_end = s.point == length t })
 
 -- The book with all that is found, or the earliest stop with what is found before it.
+abbrev pub heads_of_parts : Limits → List ℕ → List HeaderPart → Result Heads HeadFault
+heads_of_parts limits t ps = heads_of_parts_by t ps (earliest (stops_of_parts limits t ps))
+
+-- the headers of a text, of which a law says that they are those of its groups
 abbrev pub heads_of : Limits → List ℕ → Result Heads HeadFault
-heads_of limits t = heads_by t (earliest (head_stops limits t))
+heads_of limits t = heads_of_parts limits t (head_parts t)
 
 -- what is found, in either case
 abbrev pub findings_of : Result Heads HeadFault → List Finding

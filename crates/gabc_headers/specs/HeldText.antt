@@ -1,5 +1,6 @@
 -- The text of the headers that a stage holds until their line `%%`.
 use Rattle.std.specs.Prelude.{◌≡◌, ◌⊎◌, ℕ, ◌-◌, ◌≤◌, List, [], length, drop, map, codes, true, Result, Ok, Err}
+use Rattle.std.specs.declared.hash.DefaultHasher.{DefaultHasher}
 use Rattle.gabc_places.specs.declared.place.Char.{Char}
 use Rattle.gabc_places.specs.declared.code.Fault.{Fault}
 use Rattle.gabc_places.specs.declared.code.Finding.{Finding}
@@ -23,8 +24,8 @@ abbrev pub findings_held : Limits → List ℕ → List Finding
 findings_held limits t = findings_of (heads_of limits t)
 
 -- the stage that holds it
-abbrev pub holding : Limits → List ℕ → HeaderStageState
-holding limits t = record { limits = limits; progress = reading t; book = [] }
+abbrev pub holding : Limits → DefaultHasher → List ℕ → HeaderStageState
+holding limits hasher t = record { limits = limits; progress = reading t; book = []; hasher = hasher }
 
 -- ---- characters, wherever they stand
 

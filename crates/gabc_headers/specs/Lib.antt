@@ -2,11 +2,14 @@ pub mod machine
 pub mod witness
 pub mod Book
 pub mod Canonical
+pub mod Entries
 pub mod EntryMap
+pub mod FreshStage
 pub mod Groups
 pub mod HeadEvents
 pub mod Heads
 pub mod HeadsAgain
+pub mod HeadsOfGroups
 pub mod HeldText
 pub mod Lines
 pub mod NabcLines

@@ -1,1 +1,3 @@
 pub mod HeadEvents
+pub mod Heads
+pub mod Parts

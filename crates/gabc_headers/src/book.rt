@@ -1,17 +1,15 @@
 //! The book of headers.
 
-ghost use Rattle.std.specs.Prelude.{◌≡◌, ◌<◌, ◌==◌, None, Some, length, slice_get, IfOk, MatchOption, IsSomeAnd, encode_utf8_all};
+ghost use Rattle.std.specs.Prelude.{◌≡◌, ◌<◌, ◌==◌, ◌&&◌, None, Some, length, nat_lt, slice_get, IfOk, MatchOption, IsSomeAnd, encode_utf8_all};
 ghost use Rattle.std.specs.Str.{chars};
 ghost use Rattle.gabc_headers.specs.Book.{value_named, has_header, macro_name, nabc_lines_of, macros_of};
 ghost use Rattle.gabc_headers.specs.Canonical.{canonical_heads};
 ghost use Rattle.gabc_headers.specs.Lines.{bytes_len};
-ghost use Rattle.gabc_headers.specs.machine.EntryMap.{spelled_entries};
+ghost use Rattle.gabc_headers.specs.Entries.{spelled_entries};
 ghost use Rattle.gabc_headers.specs.machine.HeaderBook.{IsBook};
 
-use crate::canonical::canon_header;
 use crate::entry_map::EntryMap;
 use crate::headers::Headers;
-use gabc_places::ByteCounter;
 use std::alloc::{AllocError, Global};
 use std::fmt;
 use std::marker::Model;
@@ -26,7 +24,7 @@ pub struct HeaderBook {
 
 impl Model for HeaderBook {
     ghost use Rattle.std.specs.Prelude.{ℕ, List, string_bytes};
-    ghost use Rattle.gabc_headers.specs.machine.EntryMap.{spelled_entries};
+    ghost use Rattle.gabc_headers.specs.Entries.{spelled_entries};
     ghost use Rattle.gabc_headers.specs.machine.HeaderBook.{IsBook};
 
     ghost Value = { List (List ℕ × List ℕ) };
@@ -101,10 +99,9 @@ impl HeaderBook {
         self.iter().nabc_lines()
     }
 
-    /// Returns whether the macro of `digit`, 0 to 9, is defined (GregorioRef, "Macros").
+    /// Returns whether the macro of `digit` is defined (GregorioRef, "Macros"). Only the digits 0 to 9 have macros.
     pub fn is_macro(&self, digit: u8) -> bool
-        requires { digit < 10 }
-        ensures { result ≡ has_header (macro_name digit) self.now }
+        ensures { result ≡ (nat_lt digit 10 && has_header (macro_name digit) self.now) }
     {
         self.iter().is_macro(digit)
     }
@@ -123,9 +120,7 @@ impl HeaderBook {
     {
         // what a book holds is known where a field is used
         let _ = &self.headers;
-        let mut counter = ByteCounter::new();
-        canon_header(self.iter(), &mut counter);
-        counter.count()
+        self.iter().canonical_len()
     }
 }
 

@@ -1,11 +1,11 @@
 //! The headers that count, and what is found at them.
 
 ghost use Rattle.std.specs.Prelude.{◌≡◌, ◌≤◌, [], ◌∷◌, length, OnOk, IfOk};
-ghost use Rattle.gabc_places.specs.BoundedList.{Fits};
 ghost use Rattle.std.specs.Str.{chars};
 ghost use Rattle.gabc_headers.specs.Book as book;
 ghost use Rattle.gabc_headers.specs.machine.Collected as spec;
 ghost use Rattle.gabc_headers.specs.machine.Collected.{IsGoodEvent, AreGoodEvents, collected_with, collected_with_all, found_with, found_list, of_headers};
+ghost use Rattle.gabc_headers.specs.machine.EntryMap.{HasPlace};
 ghost use Rattle.gabc_headers.specs.machine.Shown.{shown};
 
 use crate::entry_map::EntryMap;
@@ -40,10 +40,11 @@ fn finding_at(line: u64, code: Code) -> Finding
 /// Takes an event of the text to the headers, and returns what is found at it. It asks for no memory.
 pub(crate) fn take_event(headers: &mut EntryMap, text: &str, event: HeaderEvent) -> Option<Finding>
     requires good { IsGoodEvent text.now event }
-    requires room { Fits headers.old 1 }
+    requires room { HasPlace headers.old }
     ensures headers { headers.new.items
         ≡ (collected_with text.now event (of_headers headers.old.items)).headers }
     ensures limit { headers.new.limit ≡ headers.old.limit }
+    ensures hasher { headers.new.hasher ≡ headers.old.hasher }
     ensures found { found_list result
         ≡ found_with text.now event (of_headers headers.old.items) }
 {
@@ -71,10 +72,11 @@ impl Collected {
     /// Takes an event of the text.
     fn take(&mut self, text: &str, event: HeaderEvent) -> Result<(), AllocError>
         requires good { IsGoodEvent text.now event }
-        requires room { Fits self.old.headers 1 }
+        requires room { HasPlace self.old.headers }
         ensures taken { OnOk result
             (shown self.new ≡ collected_with text.now event (shown self.old)) }
         ensures limit { self.new.headers.limit ≡ self.old.headers.limit }
+        ensures hasher { self.new.headers.hasher ≡ self.old.headers.hasher }
     {
         if let Some(finding) = take_event(&mut self.headers, text, event) {
             self.findings.push(finding)?;
@@ -91,8 +93,9 @@ pub(crate) fn collect(
     hasher: DefaultHasher,
 ) -> Result<Collected, AllocError>
     requires { AreGoodEvents text.now events.now }
-    ensures { IfOk result (λ collected. shown collected
+    ensures all { IfOk result (λ collected. shown collected
         ≡ collected_with_all text.now events.now (record { headers = []; findings = [] })) }
+    ensures hasher { IfOk result (λ collected. collected.headers.hasher ≡ hasher) }
 {
     let mut collected = Collected {
         headers: EntryMap::with_limit(alloc, events.len(), hasher)?,

@@ -1,10 +1,10 @@
 //! The headers in the order of their first lines.
 
 ghost use Rattle.std.specs.Prelude.{◌≡◌, ◌≤◌, ◌<◌, ◌-◌, ◌^◌, [], length, take, min, slice_get, IfOk, IsSomeAnd, IsCharBoundary};
-ghost use Rattle.gabc_places.specs.BoundedList.{Fits};
 ghost use Rattle.std.specs.Str.{chars};
 ghost use Rattle.gabc_headers.specs.Canonical.{header_lines};
-ghost use Rattle.gabc_headers.specs.machine.EntryMap.{key_name, IsKeyOf, comes_again, spelled_entries, AreWithin};
+ghost use Rattle.gabc_headers.specs.Entries.{key_name, spelled_entries};
+ghost use Rattle.gabc_headers.specs.machine.EntryMap.{HasPlace, IsKeyOf, comes_again, AreWithin};
 ghost use Rattle.gabc_headers.specs.EntryMap.{put_entry};
 ghost use Rattle.gabc_headers.specs.Lines.{bytes_len};
 
@@ -59,16 +59,17 @@ pub(crate) struct EntryMap {
 }
 
 impl Model for EntryMap {
-    ghost use Rattle.std.specs.Prelude.{ℕ, List};
-    ghost use Rattle.gabc_places.specs.declared.place.Span.{Span};
-    ghost use Rattle.gabc_places.specs.BoundedList.{BoundedList};
-    ghost use Rattle.indexmap.specs.IndexMap.{spare};
+    ghost use Rattle.indexmap.specs.IndexMap.{hasher_of, spare};
+    ghost use Rattle.gabc_headers.specs.Entries.{EntryMapState, named_entries};
+    ghost use Rattle.gabc_headers.specs.machine.EntryMap.{IsEntryRoom};
 
-    ghost Value = { BoundedList (List ℕ × Span) };
+    ghost Value = { EntryMapState };
 
-    ghost use Rattle.gabc_headers.specs.machine.EntryMap.{named_entries, IsEntryRoom};
-
-    ghost view = { λ g. record { items = named_entries g.map.entries; limit = g.limit } };
+    ghost view = { λ g. record {
+      items = named_entries g.map.entries;
+      limit = g.limit;
+      hasher = (hasher_of g.map).first;
+    } };
 
     ghost invariant = { λ g. IsEntryRoom g.limit (spare g.map) g.map.entries };
 }
@@ -80,7 +81,8 @@ impl EntryMap {
         limit: usize,
         hasher: DefaultHasher,
     ) -> Result<EntryMap, AllocError>
-        ensures { IfOk result (λ map. map ≡ record { items = []; limit = limit }) }
+        ensures { IfOk result (λ map. map
+            ≡ record { items = []; limit = limit; hasher = hasher }) }
     {
         Ok(EntryMap {
             map: IndexMap::with_capacity_and_hasher(alloc, limit, NameHashers { first: hasher })?,
@@ -98,7 +100,7 @@ impl EntryMap {
     /// Puts a header, and answers whether its name comes again. An annotation never does. It asks for no memory.
     pub(crate) fn put(&mut self, name: &str, value: Span) -> bool
         requires short { length name.now ≤ 64 }
-        requires room { Fits self.old 1 }
+        requires room { HasPlace self.old }
         ensures put { self.new ≡ record self.old {
           items = put_entry self.old.items (chars name.now) value;
         } }

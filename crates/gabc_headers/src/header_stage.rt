@@ -2,9 +2,11 @@
 
 ghost use Rattle.std.specs.Prelude.{◌≡◌, ◌↔◌, IsSome, IfSome, ◌<◌, ◌≤◌, ◌^◌, [], ◌∷◌, ◌++◌, length, map, IfOk};
 ghost use Rattle.std.specs.Str.{chars};
+ghost use Rattle.std.specs.Hash.DefaultHasher.{initial};
 ghost use Rattle.gabc_places.specs.BoundedList.{Fits, extended_by};
 ghost use Rattle.gabc_headers.specs.declared.head_event.HeadEvent.TheVariants.{Found, Stop};
 ghost use Rattle.gabc_headers.specs.Canonical.{header_lines};
+ghost use Rattle.gabc_headers.specs.FreshStage.{EmitsHeaders};
 ghost use Rattle.gabc_headers.specs.HeadEvents.{event_of_book};
 ghost use Rattle.gabc_headers.specs.witness.HeadEvents.{IsInHeaders, reading, over, fresh_stage, stage_at, stage_after, progress_with, events_at, events_of_input, events_of_end, text_held};
 ghost use Rattle.gabc_headers.specs.HeldText.{IsHeld};
@@ -18,6 +20,7 @@ use crate::events::HeaderEnding;
 use crate::head_event::HeadEvent;
 use crate::header_machine::{HeaderMachine, HeaderStep};
 use crate::headers::Headers;
+use crate::laws;
 use crate::score_line::{end_fault, score_len};
 use gabc_places::{Char, Code, Fault, Finding, Limits, Memory, Place, Room, Stage};
 use std::alloc::{AllocError, Global};
@@ -72,6 +75,7 @@ impl Model for HeaderStage {
           limits = s.limits;
           progress = progress_in s.part (string_bytes s.text) book;
           book = book;
+          hasher = s.headers.hasher;
         } };
 
     ghost invariant = { λ s. IsStageIn s.part s.limits (string_bytes s.text)
@@ -114,7 +118,8 @@ impl HeaderStage {
     /// of memory. Names are hashed with a fixed key, so names can be chosen that are slow to read: 1,872 of 8 bytes
     /// took 31 ms, where others take 3. Where strangers write the text, take `with_hasher`.
     pub fn with_limits(alloc: Global, limits: Limits) -> Result<HeaderStage, AllocError>
-        ensures { IfOk result (λ stage. stage ≡ fresh_stage limits) }
+        ensures fresh { IfOk result (λ stage. stage ≡ fresh_stage limits initial) }
+        ensures events { IfOk result (EmitsHeaders limits) }
     {
         HeaderStage::with_hasher(alloc, limits, DefaultHasher::new())
     }
@@ -126,7 +131,8 @@ impl HeaderStage {
         limits: Limits,
         hasher: DefaultHasher,
     ) -> Result<HeaderStage, AllocError>
-        ensures { IfOk result (λ stage. stage ≡ fresh_stage limits) }
+        ensures fresh { IfOk result (λ stage. stage ≡ fresh_stage limits hasher) }
+        ensures events { IfOk result (EmitsHeaders limits) }
     {
         HeaderStage::in_memory(&Memory::with_capacity(alloc, 0)?, limits, hasher)
     }
@@ -137,8 +143,10 @@ impl HeaderStage {
         limits: Limits,
         hasher: DefaultHasher,
     ) -> Result<HeaderStage, AllocError>
-        ensures { IfOk result (λ stage. stage ≡ fresh_stage limits) }
+        ensures fresh { IfOk result (λ stage. stage ≡ fresh_stage limits hasher) }
+        ensures events { IfOk result (EmitsHeaders limits) }
     {
+        laws::events_make_the_headers();
         let bytes = limits.header as usize;
         Ok(HeaderStage {
             limits,
@@ -151,7 +159,7 @@ impl HeaderStage {
 
     /// Begins a text, as a new stage does, wherever the stage stands. It keeps its limits, its hasher and its memory, and asks for none.
     pub fn restart(&mut self)
-        ensures { self.new ≡ fresh_stage self.old.limits }
+        ensures { self.new ≡ fresh_stage self.old.limits self.old.hasher }
     {
         self.part = HeadPart::InHeaders;
         self.machine = HeaderMachine::new(self.limits.header);
@@ -277,8 +285,9 @@ impl HeaderStage {
         }
     }
 
-    /// Goes over the headers, in order, once their `%%` is read. Before, there are none.
-    pub fn headers(&self) -> Headers<'_>
+    /// Returns the headers by name and in order, borrowed, from the event of whole headers on. Before it, and where the text was stopped before
+    /// their `%%`, there are none.
+    pub fn book(&self) -> Headers<'_>
         ensures { result ≡ self.now.book }
     {
         let text = self.text.as_str();

@@ -1,12 +1,17 @@
 //! The headers of a book, one after the other.
 
-ghost use Rattle.std.specs.Prelude.{◌≡◌, ◌<◌, [], None, Some, MatchOption};
+ghost use Rattle.std.specs.Prelude.{◌≡◌, ◌<◌, ◌-◌, ◌^◌, ◌&&◌, [], None, Some, MatchOption, min, nat_lt};
 ghost use Rattle.std.specs.Str.{chars};
 ghost use Rattle.gabc_headers.specs.Book.{lines_by, value_named, has_header, macro_name, nabc_lines_of, macros_of};
-ghost use Rattle.gabc_headers.specs.machine.EntryMap.{AreWithin, spelled_entries};
+ghost use Rattle.gabc_headers.specs.Canonical.{canonical_heads};
+ghost use Rattle.gabc_headers.specs.Lines.{bytes_len};
+ghost use Rattle.gabc_headers.specs.Entries.{spelled_entries};
+ghost use Rattle.gabc_headers.specs.machine.EntryMap.{AreWithin};
 
+use crate::canonical::canon_header;
 use crate::entry_map::EntryMap;
 use crate::nabc_lines::NABC_LINES;
+use gabc_places::ByteCounter;
 use std::marker::Model;
 
 /// Goes over the names and values of a book, in order. Contracts see the list of those to come.
@@ -21,7 +26,8 @@ pub struct Headers<'a> {
 
 impl<'a> Model for Headers<'a> {
     ghost use Rattle.std.specs.Prelude.{ℕ, List, drop};
-    ghost use Rattle.gabc_headers.specs.machine.EntryMap.{AreWithin, spelled_entries};
+    ghost use Rattle.gabc_headers.specs.Entries.{spelled_entries};
+    ghost use Rattle.gabc_headers.specs.machine.EntryMap.{AreWithin};
 
     ghost Value = { List (List ℕ × List ℕ) };
 
@@ -82,8 +88,8 @@ impl<'a> Headers<'a> {
         }
     }
 
-    /// The value of the first header with this `name`.
-    pub(crate) fn get(&self, name: &str) -> Option<&'a str>
+    /// Returns the value of the first header to come with this `name`, or `None` if there is none.
+    pub fn get(&self, name: &str) -> Option<&'a str>
         ensures { MatchOption result (value_named (chars name.now) self.now ≡ None)
             (λ v. value_named (chars name.now) self.now ≡ Some (chars v.now)) }
     {
@@ -95,8 +101,8 @@ impl<'a> Headers<'a> {
         None
     }
 
-    /// The number of lines of NABC under each snippet of notes, by the header `nabc-lines`.
-    pub(crate) fn nabc_lines(&self) -> u8
+    /// Returns the number of lines of NABC under each snippet of notes: 0 to 4, by the header `nabc-lines` (GregorioRef, "Headers").
+    pub fn nabc_lines(&self) -> u8
         ensures { result ≡ nabc_lines_of self.now }
     {
         match self.get("nabc-lines") {
@@ -105,16 +111,15 @@ impl<'a> Headers<'a> {
         }
     }
 
-    /// Whether the macro of `digit`, 0 to 9, is defined.
-    pub(crate) fn is_macro(&self, digit: u8) -> bool
-        requires { digit < 10 }
-        ensures { result ≡ has_header (macro_name digit) self.now }
+    /// Returns whether the macro of `digit` is defined (GregorioRef, "Macros"). Only the digits 0 to 9 have macros.
+    pub fn is_macro(&self, digit: u8) -> bool
+        ensures { result ≡ (nat_lt digit 10 && has_header (macro_name digit) self.now) }
     {
-        self.get(macro_header(digit)).is_some()
+        digit < 10 && self.get(macro_header(digit)).is_some()
     }
 
-    /// The macros that are defined, as bits.
-    pub(crate) fn macros(&self) -> u16
+    /// Returns the macros that are defined: the bit `d` tells it of the macro of the digit `d` (GregorioRef, "Macros").
+    pub fn macros(&self) -> u16
         ensures { result ≡ macros_of self.now }
     {
         let mut macros = 0;
@@ -126,6 +131,15 @@ impl<'a> Headers<'a> {
             bit *= 2;
         }
         macros
+    }
+    /// Returns the number of bytes of the canonical lines of these headers and `%%`, or the largest number if there are more.
+    pub fn canonical_len(&self) -> usize
+        ensures { result ≡ min (bytes_len (canonical_heads self.now)) (2 ^ 64 - 1) }
+    {
+        let Headers { text, headers, first } = *self;
+        let mut counter = ByteCounter::new();
+        canon_header(Headers { text, headers, first }, &mut counter);
+        counter.count()
     }
 }
 

@@ -1,8 +1,9 @@
 //! Laws of the definitions alone. Each function's contract is a law, and its body does nothing.
 
-ghost use Rattle.std.specs.Prelude.{◌≡◌, ◌+◌, ◌<◌, ◌≤◌, ℕ, Bool, true, false, List, [], ◌∷◌, ◌++◌, length, take, Option, Ok, Err};
+ghost use Rattle.std.specs.Prelude.{◌≡◌, ◌+◌, ◌<◌, ◌≤◌, ℕ, Bool, true, false, List, [], ◌∷◌, ◌++◌, length, take, Option, Result, Ok, Err};
 ghost use Rattle.std.specs.Char.{IsScalar};
 ghost use Rattle.std.specs.List.{All};
+ghost use Rattle.std.specs.declared.hash.DefaultHasher.{DefaultHasher};
 ghost use Rattle.gabc_places.specs.declared.code.Fault.{Fault};
 ghost use Rattle.gabc_places.specs.declared.limits.Limits.{Limits};
 ghost use Rattle.gabc_places.specs.LargerLimits.{AreNoLess};
@@ -16,6 +17,7 @@ ghost use Rattle.gabc_headers.specs.Book.{macros_of, nabc_lines_of, standing_ent
 ghost use Rattle.gabc_headers.specs.Canonical.{canonical_heads, header_lines};
 ghost use Rattle.gabc_headers.specs.Lines.{bytes_len};
 ghost use Rattle.gabc_headers.specs.HeadsAgain.{heads_again};
+ghost use Rattle.gabc_headers.specs.HeadsOfGroups.{AreHeads};
 ghost use Rattle.gabc_headers.specs.HeldText.{IsHeld};
 ghost use Rattle.gabc_headers.specs.TooLong.{is_too_long};
 ghost use Rattle.gabc_headers.specs.EntryMap.{put_all};
@@ -23,7 +25,7 @@ ghost use Rattle.gabc_headers.specs.Groups.{Group, AreGroups, parts_of_groups};
 ghost use Rattle.gabc_headers.specs.HeadEvents.{emitted_by, events_of_broken, events_of_heads, events_of_stopped, inputs_behind};
 ghost use Rattle.gabc_headers.specs.witness.HeadEvents.{events_left, fresh_stage, reading, stage_past};
 ghost use Rattle.gabc_places.specs.Decoder.{fault_items};
-ghost use Rattle.gabc_headers.specs.Parts.{outside, parts};
+ghost use Rattle.gabc_headers.specs.witness.Parts.{outside, parts};
 
 pub use crate::nabc_lines::nabc_lines_are_these;
 
@@ -43,6 +45,13 @@ pub fn groups_are_unique()
 pub fn groups_tell_parts()
     ensures { (lines : List (List ℕ)) (groups : List Group) (k n : ℕ) → AreGroups lines groups →
         parts outside k n lines ≡ parts_of_groups k n groups }
+{}
+
+/// Law: the headers of a text are what the groups of its lines tell, and nothing else is.
+pub fn heads_are_of_groups()
+    ensures are { (limits : Limits) (t : List ℕ) → AreHeads limits t (heads_of limits t) }
+    ensures one { (limits : Limits) (t : List ℕ) (read : Result Heads HeadFault) →
+        AreHeads limits t read → read ≡ heads_of limits t }
 {}
 
 /// Headers that are put in turn, each of which replaces the value of an earlier one of its name unless it is an
@@ -153,8 +162,8 @@ pub fn events_need_no_end()
 
 /// Once a stage has read the characters of a text whose headers are whole, it holds their book; a fault behind them changes nothing of it.
 pub fn the_book_is_read()
-    ensures { (limits : Limits) (t : List ℕ) (heads : Heads) (fault : Option Fault) →
-        All IsScalar t → heads_of limits t ≡ Ok heads →
-        (stage_past (fresh_stage limits) (inputs_behind [] t ++ fault_items fault)).book
+    ensures { (limits : Limits) (hasher : DefaultHasher) (t : List ℕ) (heads : Heads)
+        (fault : Option Fault) → All IsScalar t → heads_of limits t ≡ Ok heads →
+        (stage_past (fresh_stage limits hasher) (inputs_behind [] t ++ fault_items fault)).book
         ≡ heads.book }
 {}

@@ -5,7 +5,8 @@ ghost use Rattle.gabc_headers.specs.Heads.{line_place};
 ghost use Rattle.gabc_places.specs.declared.code.Code.TheVariants.{F3};
 ghost use Rattle.gabc_headers.specs.machine.Collected as spec;
 ghost use Rattle.gabc_headers.specs.machine.Collected.{len_at_score};
-ghost use Rattle.gabc_headers.specs.machine.EntryMap.{AreWithin, spelled_entries};
+ghost use Rattle.gabc_headers.specs.Entries.{spelled_entries};
+ghost use Rattle.gabc_headers.specs.machine.EntryMap.{AreWithin};
 
 use crate::entry_map::EntryMap;
 use gabc_places::{Code, Fault, Limits, Place};

@@ -3,6 +3,7 @@
 ghost use Rattle.std.specs.Prelude.{◌≡◌, ℕ, ◌+◌, ◌*◌, ◌≤◌, List, [], ◌∷◌, ◌++◌, true, false, length, map, None, Ok, OnErr, OnOk, Result, encode_utf8_all};
 ghost use Rattle.std.specs.Char.{IsScalar};
 ghost use Rattle.std.specs.List.{All};
+ghost use Rattle.std.specs.declared.hash.DefaultHasher.{DefaultHasher};
 ghost use Rattle.gabc_places.specs.declared.place.Char.{Char};
 ghost use Rattle.gabc_places.specs.declared.code.Fault.{Fault};
 ghost use Rattle.gabc_places.specs.BoundedList.{Fits, extended_by};
@@ -110,9 +111,10 @@ pub fn stages_of_one_text_agree()
 /// The text that a stage holds sets it down again: pushed into a fresh stage, wherever its characters are said to stand, it leaves a stage that
 /// holds this text. What that emits are the findings of the text.
 pub fn a_held_text_is_held_again()
-    ensures state { (limits : Limits) (xs : List Char) → All IsScalar (text_in xs) →
-        IsHeld limits (text_in xs) →
-        stage_past (fresh_stage limits) (inputs_of xs) ≡ holding limits (text_in xs) }
+    ensures state { (limits : Limits) (hasher : DefaultHasher) (xs : List Char) →
+        All IsScalar (text_in xs) → IsHeld limits (text_in xs) →
+        stage_past (fresh_stage limits hasher) (inputs_of xs)
+        ≡ holding limits hasher (text_in xs) }
     ensures found { (limits : Limits) (xs : List Char) → All IsScalar (text_in xs) →
         IsHeld limits (text_in xs) →
         emitted_by false (inputs_of xs) (events_left limits (reading []) (inputs_of xs))

@@ -2,8 +2,10 @@
 
 ghost use Rattle.std.specs.Prelude.{◌≡◌, IfOk};
 ghost use Rattle.gabc_places.specs.Findings.{AreInOrder};
-ghost use Rattle.gabc_headers.specs.machine.EntryMap.{AreWithin, spelled_entries};
-ghost use Rattle.gabc_headers.specs.Heads.{heads_of, findings_of};
+ghost use Rattle.gabc_headers.specs.Entries.{spelled_entries};
+ghost use Rattle.gabc_headers.specs.machine.EntryMap.{AreWithin};
+ghost use Rattle.gabc_headers.specs.Heads.{findings_of};
+ghost use Rattle.gabc_headers.specs.HeadsOfGroups.{AreHeads};
 ghost use Rattle.gabc_headers.specs.machine.Collected.{heads_at_score};
 
 use crate::book::HeaderBook;
@@ -26,7 +28,7 @@ pub fn headers_whole(
     text: &Text,
     limits: Limits,
 ) -> Result<Result<Heads, HeadFault>, AllocError>
-    ensures exact { IfOk result (λ read. read ≡ heads_of limits text.now) }
+    ensures exact { IfOk result (AreHeads limits text.now) }
     ensures order { IfOk result (λ read. AreInOrder (findings_of read)) }
 {
     headers_whole_with_hasher(alloc, text, limits, DefaultHasher::new())
@@ -40,7 +42,7 @@ pub fn headers_whole_with_hasher(
     limits: Limits,
     hasher: DefaultHasher,
 ) -> Result<Result<Heads, HeadFault>, AllocError>
-    ensures exact { IfOk result (λ read. read ≡ heads_of limits text.now) }
+    ensures exact { IfOk result (AreHeads limits text.now) }
     ensures order { IfOk result (λ read. AreInOrder (findings_of read)) }
 {
     let read = events_of_headers(alloc, text, limits.header)?;

@@ -5,6 +5,7 @@ pub mod Bytes
 pub mod Calls
 pub mod Chain
 pub mod Code
+pub mod CodesSpelled
 pub mod Decoder
 pub mod DecoderMachine
 pub mod DecoderTells

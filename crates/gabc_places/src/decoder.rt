@@ -5,7 +5,7 @@ ghost use Rattle.std.specs.List.{All};
 ghost use Rattle.gabc_places.specs.StageLaw.{concat_of, EmitsNothing};
 ghost use Rattle.gabc_places.specs.Decoder.{known_of, known_at_end};
 ghost use Rattle.gabc_places.specs.DecoderMachine.{fresh_decoder, is_fault_item};
-ghost use Rattle.gabc_places.specs.witness.DecoderEvents.{stop_with, take_character as taken_character, events_left};
+ghost use Rattle.gabc_places.specs.witness.DecoderEvents.{stop_with, take_character as taken_character, take_byte, events_left};
 ghost use Rattle.gabc_places.specs.DecoderMachine.{IsPartial, IsReached, BeginsLine};
 ghost use Rattle.gabc_places.specs.DecoderTells.{MayBeTold, MovesOn, is_after_cr, resumed};
 ghost use Rattle.gabc_places.specs.machine.Decoder.{take_part as taken_part};
@@ -165,8 +165,8 @@ impl Decoder {
         })
     }
 
-    /// Takes `byte`, and returns the character that is whole with it, or the fault known by it. Behind a fault and behind the end it
-    /// returns nothing more.
+    /// Takes `byte`, and returns the character that is whole with it, or the fault known by it. After a fault and after the end it
+    /// returns nothing more, and the decoder stays as it is.
     pub fn take(&mut self, byte: u8) -> Option<Result<Char, Fault>>
         ensures item { (bytes : List ℕ) → events_left self.old (byte ∷ bytes)
             ≡ option_to_list result ∷ events_left self.new bytes }
@@ -175,6 +175,8 @@ impl Decoder {
         ensures place { IfSome result (λ item. is_fault_item item ≡ true →
             self.new.place ≡ self.old.place) }
         ensures moves { MovesOn self.old (option_to_list result) self.new }
+        ensures state { self.new ≡ (take_byte byte self.old).state }
+        ensures stays { self.old.running ≡ false → self.new ≡ self.old }
     {
         if !self.running {
             return None;
@@ -189,11 +191,12 @@ impl Decoder {
         self.take_part(byte)
     }
 
-    /// Ends the input, and returns the fault of a character that is not whole. From then on it returns nothing.
+    /// Ends the input, and returns the fault of a character that is not whole. From then on it returns nothing; else the decoder stays as
+    /// it is.
     pub fn end(&mut self) -> Option<Result<Char, Fault>>
         ensures item { events_left self.old [] ≡ option_to_list result ∷ [] }
         ensures over { EmitsNothing (events_left self.new) }
-        ensures place { self.new.place ≡ self.old.place }
+        ensures rest { self.new ≡ record self.old { running = false } }
     {
         if self.running && !self.pending.is_empty() {
             return self.stop(Code::F1);

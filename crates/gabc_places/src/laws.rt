@@ -1,6 +1,6 @@
 //! Laws of the definitions that contracts speak of. Each function is there for its clauses: all but two do nothing, and those run a fresh decoder.
 
-ghost use Rattle.std.specs.Prelude.{◌≡◌, ◌≢◌, ℕ, ◌<◌, List, [], ◌∷◌, ◌++◌, length, take, Bool, true, ◌≤◌, Some, None, IsSome, slice_index, encode_utf8_all};
+ghost use Rattle.std.specs.Prelude.{◌≡◌, ◌≢◌, ℕ, ◌<◌, List, [], ◌∷◌, ◌++◌, map, length, take, Bool, true, ◌≤◌, Some, None, IsSome, slice_index, encode_utf8_all};
 ghost use Rattle.std.specs.Char.{IsScalar};
 ghost use Rattle.std.specs.List.{slice_get, Contains, All};
 ghost use Rattle.gabc_places.specs.Place.{place_after, placed_characters, placed_characters_behind};
@@ -17,6 +17,8 @@ ghost use Rattle.gabc_places.specs.DecoderMachine.{DecoderState, IsPartial};
 ghost use Rattle.gabc_places.specs.DecoderTells.{TellTheSame, MayBeTold, is_after_cr};
 ghost use Rattle.gabc_places.specs.Code.{severity_of, severity_by_kind};
 ghost use Rattle.gabc_places.specs.declared.code.Code.{Code};
+ghost use Rattle.gabc_places.specs.declared.codes.TheConstants.{CODES};
+ghost use Rattle.gabc_places.specs.CodesSpelled.{codes_spelled};
 ghost use Rattle.gabc_places.specs.Limits.{AreUsual};
 
 use crate::chain::push_all;
@@ -139,6 +141,11 @@ pub fn what_a_decoder_tells_may_be_told(decoder: &Decoder)
 /// Each code is as grave as its letter says: E an error, W a warning, F a fatal fault.
 pub fn codes_are_graded_by_their_letters()
     ensures { (code : Code) → severity_of code ≡ severity_by_kind code }
+{}
+
+/// Law: the table `CODES` has these names and texts, in this order.
+pub fn codes_are_these()
+    ensures { map (λ row. (row.1.now, row.2.now)) CODES ≡ codes_spelled }
 {}
 
 /// The limits of a run that is given no others are 65,536 bytes of headers, 16,384 of a syllable and 4,294,967,295 of input.

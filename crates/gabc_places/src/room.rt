@@ -69,9 +69,7 @@ impl<T: Copy> Room<T> {
         requires { Fits self.old 1 }
         ensures { self.new ≡ extended_by self.old (item ∷ []) }
     {
-        let Ok(()) = self.items.push(item) else {
-            unreachable!()
-        };
+        self.items.push_reserved(item);
     }
 
     /// Adds `items` at the end. There has to be room for them.

@@ -86,7 +86,8 @@ fn takes_a_write_of_none_for_a_failure(rt: HostRuntime) {
     assert_eq!(rt; send_all(&mut sink, b"x"), Err(Unsent { sent: 0 }));
 }
 
-/// A writer that counts its calls. The second one, each behind the fourth and each flush fails; the others take at most one byte.
+/// A writer that counts its calls. The second one and each flush fails, each call after the fourth is interrupted; the others take at most
+/// one byte.
 #[derive(Drop)]
 struct Counting {
     calls: u8,
@@ -95,8 +96,11 @@ struct Counting {
 impl Write for Counting {
     fn write(&mut self, buf: &[u8]) -> std::io::Result<usize> {
         self.calls = self.calls.saturating_add(1);
-        if self.calls == 2 || self.calls > 4 {
+        if self.calls == 2 {
             return Err(std::io::Error::from(std::io::ErrorKind::BrokenPipe));
+        }
+        if self.calls > 4 {
+            return Err(std::io::Error::from(std::io::ErrorKind::Interrupted));
         }
         Ok(buf.len().min(1))
     }

@@ -2,6 +2,7 @@
 
 use gabc_places::{FromReader, Source, SourceFault};
 use std::io::{self, ErrorKind, Read};
+use std::test::Fail;
 
 #[test]
 fn reads_a_slice(rt: HostRuntime) {
@@ -16,7 +17,7 @@ fn reads_a_slice(rt: HostRuntime) {
     assert_eq!(rt; buf, *b"ier");
 }
 
-/// A reader that counts its calls. The first one gives a byte, the third one ends, each other fails.
+/// A reader that counts its calls. The first one gives a byte, the third one ends, each other fails: interrupted where it is asked for nothing.
 #[derive(Drop)]
 struct Stumbling {
     calls: u8,
@@ -29,7 +30,7 @@ impl Read for Stumbling {
             return Ok(0);
         }
         let Some(first) = buf.first_mut() else {
-            return Err(io::Error::from(ErrorKind::BrokenPipe));
+            return Err(io::Error::from(ErrorKind::Interrupted));
         };
         if self.calls != 1 {
             return Err(io::Error::from(ErrorKind::BrokenPipe));
@@ -59,4 +60,11 @@ fn passes_on_reads_of_nothing(rt: HostRuntime) {
     let counts = [source.read(&mut []), source.read(&mut [])];
     assert_eq!(rt; counts, [Ok(0), Err(SourceFault)]);
     assert_eq!(rt; source.inner().calls, 4);
+}
+
+#[test]
+fn says_that_it_failed(rt: HostRuntime) -> Result<(), Fail> {
+    let printed = format!(in rt.alloc(); "{SourceFault}")?;
+    assert_eq!(rt; printed.as_str(), "the source failed");
+    Ok(())
 }

@@ -11,8 +11,9 @@ use Rattle.gabc_headers.specs.declared.events.HeaderEvent.TheVariants.{LeftOut, 
 use Rattle.gabc_headers.specs.Lines.{bytes_len}
 use Rattle.gabc_headers.specs.Parts.{HeaderPart, left_out, header, unended}
 use Rattle.gabc_headers.specs.EntryMap.{is_annotation, put_entry, with_value}
-use Rattle.gabc_headers.specs.machine.EntryMap.{spelled_entries, AreWithin}
-use Rattle.gabc_headers.specs.machine.Spans.{IsWithin, text_at}
+use Rattle.gabc_headers.specs.Entries.{spelled_entries, text_at}
+use Rattle.gabc_headers.specs.machine.EntryMap.{AreWithin}
+use Rattle.gabc_headers.specs.machine.Spans.{IsWithin}
 use Rattle.gabc_headers.specs.machine.Collected.{AreGoodEvents, Collected, collected_with, finding_at}
 use Rattle.gabc_headers.specs.Book.{is_kept}
 use Rattle.gabc_places.specs.declared.code.Code.TheVariants.{E5, W2}

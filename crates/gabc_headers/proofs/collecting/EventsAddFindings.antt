@@ -12,7 +12,8 @@ use Rattle.gabc_headers.specs.Parts.{HeaderPart, left_out, header, unended}
 use Rattle.gabc_headers.specs.Book.{is_kept, repeats, entries, is_one_of}
 use Rattle.gabc_headers.specs.Heads.{findings_behind, known_at, line_place}
 use Rattle.gabc_headers.specs.EntryMap.{is_annotation, put_entry, put_all, with_value}
-use Rattle.gabc_headers.specs.machine.EntryMap.{names, comes_again, spelled_entries, AreWithin}
+use Rattle.gabc_headers.specs.Entries.{spelled_entries}
+use Rattle.gabc_headers.specs.machine.EntryMap.{names, comes_again, AreWithin}
 use Rattle.gabc_headers.specs.machine.Collected.{collected_with, collected_with_all, finding_at}
 use Rattle.gabc_headers.specs.machine.Events.{AreEventsOf}
 use Rattle.gabc_headers.proofs.order.FoundBeforeAPoint.{all_known}

@@ -12,10 +12,12 @@ use Rattle.gabc_headers.specs.declared.events.HeaderEvent.{HeaderEvent}
 use Rattle.gabc_headers.specs.declared.events.HeaderEnding.{HeaderEnding}
 use Rattle.gabc_headers.specs.declared.events.HeaderEnding.TheVariants.{Score, Limit, Text}
 use Rattle.gabc_headers.specs.Lines.{lines, head_of}
-use Rattle.gabc_headers.specs.Parts.{HeaderPart, outside}
+use Rattle.gabc_headers.specs.Parts.{HeaderPart}
+use Rattle.gabc_headers.specs.witness.Parts.{outside, head_parts}
 use Rattle.gabc_headers.specs.Book.{book_of, entries}
-use Rattle.gabc_headers.specs.machine.EntryMap.{spelled_entries, AreWithin}
-use Rattle.gabc_headers.specs.Heads.{head_parts, head_len, findings_behind, line_place, heads_of}
+use Rattle.gabc_headers.specs.Entries.{spelled_entries}
+use Rattle.gabc_headers.specs.machine.EntryMap.{AreWithin}
+use Rattle.gabc_headers.specs.Heads.{head_len, findings_behind, line_place, heads_of}
 use Rattle.gabc_headers.specs.machine.Collected.{AreGoodEvents, collected_with_all, none, heads_at_body, heads_at_score, fault_at_end}
 use Rattle.gabc_headers.specs.machine.Events.{AreHeaderEvents, EndsAs, AreEarly, AreLate}
 use Rattle.gabc_headers.proofs.order.FoundBeforeAPoint.{all_known}

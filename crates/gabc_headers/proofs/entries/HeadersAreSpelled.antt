@@ -2,7 +2,7 @@
 use Rattle.std.proofs.Common.{◌≡◌, ℕ, zero, suc, List, [], ◌∷◌, length, drop, refl, ap, slice_get, slice_range, IsSomeAnd}
 use Rattle.std.specs.Str.{chars}
 use Rattle.gabc_places.specs.declared.place.Span.{Span}
-use Rattle.gabc_headers.specs.machine.EntryMap.{spelled_entries}
+use Rattle.gabc_headers.specs.Entries.{spelled_entries}
 
 pub length-spelled : (text : List ℕ) (es : List (List ℕ × Span)) → length (spelled_entries text es) ≡ length es
 length-spelled text [] = refl

@@ -3,11 +3,12 @@ use Rattle.std.proofs.Common.{◌≡◌, ℕ, ◌<◌, ◌≤◌, ◌+◌, ◌^�
 use Rattle.std.specs.Map.{values_of}
 use Rattle.std.specs.Str.{chars}
 use Rattle.gabc_places.specs.declared.place.Span.{Span}
-use Rattle.gabc_places.specs.BoundedList.{BoundedList, Fits}
+use Rattle.std.specs.declared.hash.DefaultHasher.{DefaultHasher}
 use Rattle.gabc_headers.specs.declared.entry_map.Key.{Key}
 use Rattle.gabc_headers.specs.Lines.{bytes_len}
 use Rattle.gabc_headers.specs.Canonical.{header_line, header_lines, canonical_heads}
-use Rattle.gabc_headers.specs.machine.EntryMap.{key_name, named_entries, spelled_entries, AreWithin}
+use Rattle.gabc_headers.specs.Entries.{EntryMapState, key_name, named_entries, spelled_entries}
+use Rattle.gabc_headers.specs.machine.EntryMap.{AreWithin, HasPlace}
 use Rattle.gabc_headers.specs.machine.Spans.{IsWithin}
 use Rattle.gabc_headers.proofs.entries.TextsAsBytes.{bytes_len-append}
 
@@ -74,9 +75,10 @@ get_none (e ∷ es) zero h l = absurd (cc)
 get_none (e ∷ es) (suc i) h l = get_none es i h (omega arith)
 
 -- the room that is left
-pub fits_inside : (es : List (Key × Span)) (limit : ℕ) (view : BoundedList (List ℕ × Span)) → record { items = named_entries es; limit = limit } ≡ view → Fits view 1 → length es + 1 ≤ limit
-fits_inside es limit view e f =
-    let n = ap (λ (v : BoundedList (List ℕ × Span)). length v.items) e in
-    let m = ap (λ (v : BoundedList (List ℕ × Span)). v.limit) e in
+pub fits_inside : (es : List (Key × Span)) (limit : ℕ) (hasher : DefaultHasher) (view : EntryMapState) → record { items = named_entries es; limit = limit; hasher = hasher } ≡ view → HasPlace view
+    → length es + 1 ≤ limit
+fits_inside es limit hasher view e f =
+    let n = ap (λ (v : EntryMapState). length v.items) e in
+    let m = ap (λ (v : EntryMapState). v.limit) e in
     let l = length-named es in
     omega arith

@@ -5,8 +5,9 @@ use Rattle.std.specs.Str.{chars}
 use Rattle.std.proofs.lemmas.Bool.Decides.{nat_tests}
 use Rattle.std.proofs.lemmas.List.{get_or-take, take-append-drop, take-append-le, drop-append-le}
 use Rattle.gabc_places.specs.declared.place.Span.{Span}
-use Rattle.gabc_headers.specs.machine.EntryMap.{spelled_entries, AreWithin}
-use Rattle.gabc_headers.specs.machine.Spans.{IsWithin, text_at}
+use Rattle.gabc_headers.specs.Entries.{spelled_entries, text_at}
+use Rattle.gabc_headers.specs.machine.EntryMap.{AreWithin}
+use Rattle.gabc_headers.specs.machine.Spans.{IsWithin}
 use Rattle.gabc_headers.proofs.entries.MapIsReadByEntry.{within_get}
 
 -- more text changes no span

@@ -5,7 +5,9 @@ use Rattle.gabc_places.specs.Findings.{Stop, earliest, or_earlier}
 use Rattle.gabc_headers.specs.declared.heads.Heads.{Heads}
 use Rattle.gabc_headers.specs.declared.heads.HeadFault.{HeadFault}
 use Rattle.gabc_headers.specs.Lines.{lines, has_score}
-use Rattle.gabc_headers.specs.Heads.{head_len, head_parts, open_line, open_stops, score_stops, missing_score, text_stops, head_stops, heads_by, heads_of}
+use Rattle.gabc_headers.specs.Heads.{head_len, open_line, open_stops, missing_score, text_stops, heads_of}
+use Rattle.gabc_headers.specs.witness.Heads.{score_stops, head_stops, heads_by}
+use Rattle.gabc_headers.specs.witness.Parts.{head_parts}
 use Rattle.gabc_headers.proofs.stops.PointsOfStops.{score_within}
 
 some_earliest : (xs ys : List Stop) (s : Stop) → (first : Stop) × (earliest (xs ++ s ∷ ys) ≡ Some first)

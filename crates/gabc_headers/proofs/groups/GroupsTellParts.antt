@@ -1,7 +1,8 @@
 -- The parts of lines are what their groups tell.
 use Rattle.std.proofs.Common.{◌≡◌, ℕ, ◌+◌, List, [], ◌∷◌, ◌++◌, length, Bool, true, false, cond, Option, refl, sym, ap, ap₂, ◌∙◌, append_assoc, append-nil, arith}
 use Rattle.gabc_headers.specs.Lines.{is_bare, has_mark, before_mark, mark_end, has_colon, before_colon, after_colon, lines_len}
-use Rattle.gabc_headers.specs.Parts.{HeaderPart, left_out, unended, outside, within, parts, name_of, bad_name_parts, ended_parts}
+use Rattle.gabc_headers.specs.Parts.{HeaderPart, left_out, unended, name_of, bad_name_parts, ended_parts}
+use Rattle.gabc_headers.specs.witness.Parts.{outside, within, parts}
 use Rattle.gabc_headers.specs.Groups.{Group, skipped, colonless, valued, unfinished, EndAtMark, HaveNoMark, BeginsHeader, EndsValue, AreGroups, value_below, mark_below, parts_of_group, parts_of_groups}
 
 -- the lines of a value that ends

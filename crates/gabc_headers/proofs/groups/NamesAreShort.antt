@@ -2,7 +2,8 @@
 use Rattle.std.proofs.Common.{◌≡◌, ℕ, ◌+◌, ◌≤◌, ◌||◌, not, List, [], ◌∷◌, ◌++◌, Bool, true, false, cond, refl, arith, length, Option, Some, None, nat_le}
 use Rattle.std.proofs.lemmas.Bool.Decides.{nat_tests}
 use Rattle.gabc_headers.specs.Lines.{bytes_len, is_bare, has_mark, before_mark, has_colon, before_colon, after_colon, trim_name}
-use Rattle.gabc_headers.specs.Parts.{HeaderPart, left_out, header, unended, LineContext, outside, within, parts, parts_of_line, context_below, parts_left_open, name_of, good_name, ended_parts, bad_name_parts}
+use Rattle.gabc_headers.specs.Parts.{HeaderPart, left_out, header, unended, name_of, good_name, ended_parts, bad_name_parts}
+use Rattle.gabc_headers.specs.witness.Parts.{LineContext, outside, within, parts, parts_of_line, context_below, parts_left_open}
 use Rattle.gabc_headers.proofs.collecting.EventsAddEntries.{HaveShortNames}
 
 -- a name that is kept is short

@@ -2,8 +2,9 @@
 use Rattle.std.proofs.Common.{◌≡◌, ℕ, ◌+◌, suc, List, [], ◌∷◌, ◌++◌, length, Bool, true, false, cond, ◌&&◌, ◌||◌, ◌==◌, refl, sym, ap, ◌∙◌, arith, append_assoc}
 use Rattle.std.proofs.lemmas.Bool.Decides.{nat_tests}
 use Rattle.gabc_headers.specs.Lines.{lines, on_first, is_percent, is_score_line, head_of, has_score, lines_len}
-use Rattle.gabc_headers.specs.Parts.{HeaderPart, LineContext, outside, within, parts, parts_of_line, context_below}
-use Rattle.gabc_headers.specs.Heads.{head_parts, head_len}
+use Rattle.gabc_headers.specs.Parts.{HeaderPart}
+use Rattle.gabc_headers.specs.witness.Parts.{LineContext, outside, within, parts, parts_of_line, context_below, head_parts}
+use Rattle.gabc_headers.specs.Heads.{head_len}
 use Rattle.gabc_headers.proofs.machines.PartsBehindState.{first_line, later_lines, lines_split}
 
 -- what stands before the line `%%`; the text begins a line, or goes on with one

@@ -12,7 +12,7 @@ use Rattle.gabc_headers.specs.declared.header_machine.HeaderMachine.{HeaderMachi
 use Rattle.gabc_headers.specs.declared.events.HeaderEvent.{HeaderEvent}
 use Rattle.gabc_headers.specs.Lines.{bytes_len, is_score_line}
 use Rattle.gabc_headers.specs.Parts.{HeaderPart, is_good_name}
-use Rattle.gabc_headers.specs.Heads.{head_parts}
+use Rattle.gabc_headers.specs.witness.Parts.{head_parts}
 use Rattle.gabc_headers.specs.machine.Characters.{header_char_of}
 use Rattle.gabc_headers.specs.machine.PartMachine.{at_line_start, next_part_machine, span_of, is_good_span}
 use Rattle.gabc_headers.specs.machine.HeaderMachine.{fresh_machine, part_step, machine_with}

@@ -1,7 +1,8 @@
 -- Where the machine stands: the parts of the text are those emitted so far, and those of what is left.
 use Rattle.std.proofs.Common.{◌≡◌, ℕ, ◌+◌, suc, List, [], ◌∷◌, ◌++◌, length, drop, Bool, true, false, cond, ◌&&◌, ◌||◌, ◌==◌, not, Option, Some, None, refl, sym, ap, ◌∙◌, subst, arith, append_assoc, append-nil, length-append, slice_range}
 use Rattle.gabc_headers.specs.Lines.{mark_end, run_len, lines, on_first, is_blank, is_blank_or_lf, ends_no_value, is_bare, has_mark, before_mark, has_colon, before_colon, after_colon, trim_value, trim_name}
-use Rattle.gabc_headers.specs.Parts.{HeaderPart, left_out, header, unended, outside, within, parts, ended_parts, bad_name_parts, name_of, good_name, is_good_name}
+use Rattle.gabc_headers.specs.Parts.{HeaderPart, left_out, header, unended, ended_parts, bad_name_parts, name_of, good_name, is_good_name}
+use Rattle.gabc_headers.specs.witness.Parts.{outside, within, parts}
 use Rattle.gabc_places.specs.declared.place.Span.{Span}
 use Rattle.gabc_headers.specs.declared.characters.Run.{Run}
 use Rattle.gabc_headers.specs.declared.characters.Run.TheVariants.{Text}

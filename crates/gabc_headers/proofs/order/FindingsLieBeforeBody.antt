@@ -9,8 +9,10 @@ use Rattle.gabc_places.specs.Place.{place_after}
 use Rattle.gabc_headers.specs.declared.heads.Heads.{Heads}
 use Rattle.gabc_headers.specs.Book.{is_kept, repeats, has_header, book_of}
 use Rattle.gabc_headers.specs.Lines.{lines, head_of, has_score}
-use Rattle.gabc_headers.specs.Parts.{HeaderPart, left_out, header, unended, outside}
-use Rattle.gabc_headers.specs.Heads.{head_parts, head_len, head_findings, name_findings, findings_behind, names_after, heads_of, heads_by, head_stops, text_stops, open_stops, score_stops, missing_score, open_line, findings_of, known_at, line_place}
+use Rattle.gabc_headers.specs.Parts.{HeaderPart, left_out, header, unended}
+use Rattle.gabc_headers.specs.witness.Parts.{outside, head_parts}
+use Rattle.gabc_headers.specs.Heads.{head_len, findings_behind, names_after, heads_of, text_stops, open_stops, missing_score, open_line, findings_of, known_at, line_place}
+use Rattle.gabc_headers.specs.witness.Heads.{head_findings, name_findings, heads_by, head_stops, score_stops}
 use Rattle.gabc_headers.proofs.order.FoundBeforeAPoint.{known-append}
 use Rattle.gabc_headers.proofs.order.FindingsStandInOrder.{Rise, rise_up, rises, score_line}
 

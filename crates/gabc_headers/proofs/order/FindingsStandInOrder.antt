@@ -7,9 +7,11 @@ use Rattle.gabc_places.specs.declared.code.Finding.{Finding}
 use Rattle.gabc_places.specs.Place.{place_after, is_line_feed}
 use Rattle.gabc_places.specs.Findings.{Known, findings_before, AreInOrder, StandBehind, Stop, earliest}
 use Rattle.gabc_headers.specs.Lines.{lines, on_first, lines_len, head_of, has_score, is_score_line, is_bare, has_mark, before_mark, mark_end, has_colon, before_colon, after_colon, trim_value}
-use Rattle.gabc_headers.specs.Parts.{HeaderPart, left_out, header, LineContext, outside, within, parts, name_of, ended_parts, bad_name_parts}
+use Rattle.gabc_headers.specs.Parts.{HeaderPart, left_out, header, name_of, ended_parts, bad_name_parts}
+use Rattle.gabc_headers.specs.witness.Parts.{LineContext, outside, within, parts, head_parts}
 use Rattle.gabc_headers.specs.Book.{is_kept, repeats, has_header, book_of}
-use Rattle.gabc_headers.specs.Heads.{head_parts, head_len, head_findings, name_findings, findings_behind, findings_at, names_after, heads_of, heads_by, head_stops, findings_of, known_at, line_place}
+use Rattle.gabc_headers.specs.Heads.{head_len, findings_behind, findings_at, names_after, heads_of, findings_of, known_at, line_place}
+use Rattle.gabc_headers.specs.witness.Heads.{head_findings, name_findings, heads_by, head_stops}
 
 -- findings on rising lines, all behind line k and before line m
 abbrev pub Rise : ℕ → ℕ → List Known → Type 0

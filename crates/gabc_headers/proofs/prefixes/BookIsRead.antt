@@ -1,6 +1,7 @@
 -- Once a stage has read a text whose headers are whole, its book has them, whatever follows.
 use Rattle.std.proofs.Common.{◌≡◌, ℕ, List, [], ◌∷◌, ◌++◌, true, refl, ap, ◌∙◌, subst, Option, Some, None, Result, Ok, Err}
 use lib.Utf8.{scalars}
+use Rattle.std.specs.declared.hash.DefaultHasher.{DefaultHasher}
 use Rattle.gabc_places.specs.declared.place.Char.{Char}
 use Rattle.gabc_places.specs.declared.limits.Limits.{Limits}
 use Rattle.gabc_places.specs.declared.code.Fault.{Fault}
@@ -44,11 +45,11 @@ fault_keeps s (Some fault) = by s.progress
     by (reading t) = refl
     by over = refl
 
-pub book_is_read : (limits : Limits) (t : List ℕ) (heads : Heads) (fault : Option Fault) → scalars t ≡ true → heads_of limits t ≡ Ok heads
-    → (stage_past (fresh_stage limits) (inputs_behind [] t ++ fault_items fault)).book ≡ heads.book
-book_is_read limits t heads fault u h =
-    let s = stage_past (fresh_stage limits) (inputs_behind [] t) in
-    let stands : s.progress ≡ behind heads.book = stands_past (fresh_stage limits) (inputs_behind [] t) ∙ (standing limits t u ∙ ap (progress_by t) h) in
-    let fits : IsBookOf s.progress s.book = keeps_book (fresh_stage limits) (inputs_behind [] t) tt in
-    ap (λ (x : HeaderStageState). x.book) (past_both (fresh_stage limits) (inputs_behind [] t) (fault_items fault))
+pub book_is_read : (limits : Limits) (hasher : DefaultHasher) (t : List ℕ) (heads : Heads) (fault : Option Fault) → scalars t ≡ true → heads_of limits t ≡ Ok heads
+    → (stage_past (fresh_stage limits hasher) (inputs_behind [] t ++ fault_items fault)).book ≡ heads.book
+book_is_read limits hasher t heads fault u h =
+    let s = stage_past (fresh_stage limits hasher) (inputs_behind [] t) in
+    let stands : s.progress ≡ behind heads.book = stands_past (fresh_stage limits hasher) (inputs_behind [] t) ∙ (standing limits t u ∙ ap (progress_by t) h) in
+    let fits : IsBookOf s.progress s.book = keeps_book (fresh_stage limits hasher) (inputs_behind [] t) tt in
+    ap (λ (x : HeaderStageState). x.book) (past_both (fresh_stage limits hasher) (inputs_behind [] t) (fault_items fault))
     ∙ (fault_keeps s fault ∙ subst (λ (p : HeadProgress). IsBookOf p s.book) stands fits)

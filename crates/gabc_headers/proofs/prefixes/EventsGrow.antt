@@ -9,7 +9,7 @@ use Rattle.gabc_headers.specs.Parts.{HeaderPart, left_out, header, unended}
 use Rattle.gabc_places.specs.declared.code.Code.TheVariants.{W2, E5}
 use Rattle.gabc_headers.specs.Book.{is_kept}
 use Rattle.gabc_headers.specs.EntryMap.{put_entry}
-use Rattle.gabc_headers.specs.machine.Spans.{text_at}
+use Rattle.gabc_headers.specs.Entries.{text_at}
 use Rattle.gabc_headers.specs.machine.EntryMap.{comes_again}
 use Rattle.gabc_headers.specs.machine.Collected.{collected_with, collected_with_all, found_with, finding_at}
 use Rattle.gabc_headers.specs.machine.Events.{SpanHolds, IsEventOf, AreEventsOf}

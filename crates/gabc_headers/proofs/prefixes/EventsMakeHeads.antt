@@ -29,7 +29,8 @@ use Rattle.gabc_headers.specs.declared.header_machine.HeaderStep.TheVariants.{Re
 use Rattle.gabc_headers.specs.Heads.{heads_of, findings_of, head_len}
 use Rattle.gabc_headers.specs.HeadEvents.{event_of_book, inputs_behind, body_characters, events_of_heads}
 use Rattle.gabc_headers.specs.witness.HeadEvents.{HeadProgress, reading, behind, over, events_by, events_at, progress_by, events_left, events_at_end, new_findings}
-use Rattle.gabc_headers.specs.machine.EntryMap.{spelled_entries, AreWithin}
+use Rattle.gabc_headers.specs.Entries.{spelled_entries}
+use Rattle.gabc_headers.specs.machine.EntryMap.{AreWithin}
 use Rattle.gabc_headers.specs.machine.Collected.{heads_at_score}
 use Rattle.gabc_headers.specs.machine.HeaderMachine.{push_one, take_one, then_take, held_push, fresh_machine}
 use Rattle.gabc_headers.specs.machine.Events.{with_event}

@@ -16,7 +16,7 @@ use Rattle.gabc_headers.specs.declared.header_machine.HeaderMachine.{HeaderMachi
 use Rattle.gabc_headers.specs.declared.header_machine.HeaderStep.{HeaderStep}
 use Rattle.gabc_headers.specs.declared.header_machine.HeaderStep.TheVariants.{Read, Ended}
 use Rattle.gabc_headers.specs.machine.Collected.{fault_at_end, heads_at_score, collected_with_all, found_with, none}
-use Rattle.gabc_headers.specs.machine.EntryMap.{spelled_entries}
+use Rattle.gabc_headers.specs.Entries.{spelled_entries}
 use Rattle.gabc_headers.specs.machine.PartMachine.{open_in}
 use Rattle.gabc_headers.specs.machine.HeaderMachine.{push_one, end_here, fresh_machine}
 use Rattle.gabc_headers.specs.machine.Events.{AreHeaderEvents, with_event}

@@ -11,11 +11,13 @@ use Rattle.gabc_places.specs.Findings.{Known, Stop, findings_before, earliest}
 use Rattle.gabc_places.specs.Place.{place_after}
 use Rattle.gabc_headers.specs.declared.heads.Heads.{Heads}
 use Rattle.gabc_headers.specs.Lines.{bytes_len, lines, on_first, lines_len, head_of, has_score, before_colon}
-use Rattle.gabc_headers.specs.Parts.{HeaderPart, outside, parts, bad_name_parts, ended_parts}
+use Rattle.gabc_headers.specs.Parts.{HeaderPart, bad_name_parts, ended_parts}
+use Rattle.gabc_headers.specs.witness.Parts.{outside, parts, head_parts}
 use Rattle.gabc_headers.specs.Book.{entries, standing_entries, book_of, has_header}
 use Rattle.gabc_headers.specs.Groups.{Group, valued, AreGroups, value_text, mark_point, parts_of_groups}
 use Rattle.gabc_headers.specs.Canonical.{header_line, header_lines, canonical_heads}
-use Rattle.gabc_headers.specs.Heads.{head_len, head_parts, open_line, findings_behind, name_findings, head_findings, known_at, stop_at, text_stops, open_stops, score_stops, missing_score, head_stops, body_byte, heads_by, heads_of}
+use Rattle.gabc_headers.specs.Heads.{head_len, open_line, findings_behind, known_at, stop_at, text_stops, open_stops, missing_score, body_byte, heads_of}
+use Rattle.gabc_headers.specs.witness.Heads.{name_findings, head_findings, score_stops, head_stops, heads_by}
 use Rattle.gabc_headers.specs.HeadsAgain.{nameless, heads_again}
 use Rattle.gabc_headers.proofs.canonical_form.HeadersEndInTwoPercents.{heads_len}
 use Rattle.gabc_headers.proofs.machines.PartsBehindState.{first_line, later_lines, lines_split}

@@ -3,7 +3,6 @@ use Rattle.std.proofs.Common.{◌≡◌, ℕ, ◌≤◌, List, [], ◌∷◌, �
 use Rattle.std.specs.Str.{chars}
 use Rattle.gabc_places.specs.BoundedList.{BoundedList, extended_by}
 use Rattle.gabc_places.specs.declared.place.Place.{Place}
-use Rattle.gabc_places.specs.declared.place.Span.{Span}
 use Rattle.gabc_places.specs.declared.limits.Limits.{Limits}
 use Rattle.gabc_places.specs.declared.code.Code.TheVariants.{W1}
 use Rattle.gabc_places.specs.declared.code.Finding.{Finding}
@@ -16,21 +15,26 @@ use Rattle.gabc_headers.specs.Book.{has_header}
 use Rattle.gabc_headers.specs.Heads.{heads_of}
 use Rattle.gabc_headers.specs.witness.HeadEvents.{IsInHeaders, reading, behind, over, HeaderStageState, stage_at, events_at, events_at_end, events_of_end, text_held, progress_with}
 use Rattle.gabc_headers.specs.machine.Collected.{found_list, name_found}
-use Rattle.gabc_headers.specs.machine.EntryMap.{spelled_entries}
+use Rattle.gabc_headers.specs.Entries.{EntryMapState, spelled_entries}
 use Rattle.gabc_headers.specs.machine.HeaderStage.{IsReading, KeepsHeaders, IsStageIn, book_in, progress_in, part_over}
 use Rattle.gabc_headers.proofs.stages.EventsOfAStage.{values_lie_within}
 
 -- what the fields show
-abbrev pub view_of : Limits → HeadPart → List ℕ → List (List ℕ × Span) → HeaderStageState
-view_of limits part text headers = record { limits = limits; progress = progress_in part text (book_in part text headers); book = book_in part text headers }
+abbrev pub view_of : Limits → HeadPart → List ℕ → EntryMapState → HeaderStageState
+view_of limits part text headers = record {
+  limits = limits;
+  progress = progress_in part text (book_in part text headers.items);
+  book = book_in part text headers.items;
+  hasher = headers.hasher;
+}
 
 -- a stage in the headers
-pub record StandsInHeaders (limits : Limits) (part : HeadPart) (text : List ℕ) (space : ℕ) (machine : HeaderMachine) (headers : BoundedList (List ℕ × Span)) : Type 0 where
+pub record StandsInHeaders (limits : Limits) (part : HeadPart) (text : List ℕ) (space : ℕ) (machine : HeaderMachine) (headers : EntryMapState) : Type 0 where
   pub part_is : part ≡ InHeaders
   pub reads : IsReading limits text space machine headers
 
-pub stands : (limits : Limits) (part : HeadPart) (text : List ℕ) (space : ℕ) (machine : HeaderMachine) (headers : BoundedList (List ℕ × Span)) (view : HeaderStageState)
-    → view_of limits part text headers.items ≡ view → IsInHeaders view.progress → IsStageIn part limits text space machine headers → StandsInHeaders limits part text space machine headers
+pub stands : (limits : Limits) (part : HeadPart) (text : List ℕ) (space : ℕ) (machine : HeaderMachine) (headers : EntryMapState) (view : HeaderStageState)
+    → view_of limits part text headers ≡ view → IsInHeaders view.progress → IsStageIn part limits text space machine headers → StandsInHeaders limits part text space machine headers
 stands limits part text space machine headers view e r i = by part (subst (λ (v : HeaderStageState). IsInHeaders v.progress) (sym e) r) i
   where
     by : (part : HeadPart) → IsInHeaders (progress_in part text (book_in part text headers.items)) → IsStageIn part limits text space machine headers → StandsInHeaders limits part text space machine headers
@@ -40,57 +44,57 @@ stands limits part text space machine headers view e r i = by part (subst (λ (v
     by Over r i = absurd r
 
 -- the events of a character are those at the text
-pub events_in : (limits : Limits) (part : HeadPart) (text : List ℕ) (headers : List (List ℕ × Span)) (view : HeaderStageState) (c : ℕ) → part ≡ InHeaders → view_of limits part text headers ≡ view
+pub events_in : (limits : Limits) (part : HeadPart) (text : List ℕ) (headers : EntryMapState) (view : HeaderStageState) (c : ℕ) → part ≡ InHeaders → view_of limits part text headers ≡ view
     → events_at view.limits (text_held view.progress) c ≡ events_at limits (chars text) c
-events_in limits part text headers view c p e = sym (ap (λ (v : HeaderStageState). events_at v.limits (text_held v.progress) c) e) ∙ ap (λ (p : HeadPart). events_at limits (text_held (progress_in p text (book_in p text headers))) c) p
+events_in limits part text headers view c p e = sym (ap (λ (v : HeaderStageState). events_at v.limits (text_held v.progress) c) e) ∙ ap (λ (p : HeadPart). events_at limits (text_held (progress_in p text (book_in p text headers.items))) c) p
 
 -- what is added for it
-pub out_is : (limits : Limits) (part : HeadPart) (text : List ℕ) (headers : List (List ℕ × Span)) (view : HeaderStageState) (c : ℕ) (events : List HeadEvent) (out new : BoundedList HeadEvent)
+pub out_is : (limits : Limits) (part : HeadPart) (text : List ℕ) (headers : EntryMapState) (view : HeaderStageState) (c : ℕ) (events : List HeadEvent) (out new : BoundedList HeadEvent)
     → part ≡ InHeaders → view_of limits part text headers ≡ view → events_at limits (chars text) c ≡ events → new ≡ extended_by out events
     → new ≡ extended_by out (events_at view.limits (text_held view.progress) c)
 out_is limits part text headers view c events out new p e q n = n ∙ ap (extended_by out) (sym (events_in limits part text headers view c p e ∙ q))
 
-pub few_is : (limits : Limits) (part : HeadPart) (text : List ℕ) (headers : List (List ℕ × Span)) (view : HeaderStageState) (c : ℕ) (events : List HeadEvent)
+pub few_is : (limits : Limits) (part : HeadPart) (text : List ℕ) (headers : EntryMapState) (view : HeaderStageState) (c : ℕ) (events : List HeadEvent)
     → part ≡ InHeaders → view_of limits part text headers ≡ view → events_at limits (chars text) c ≡ events → length events ≤ 2
     → length (events_at view.limits (text_held view.progress) c) ≤ 2
 few_is limits part text headers view c events p e q l = subst (λ (x : List HeadEvent). length x ≤ 2) (sym (events_in limits part text headers view c p e ∙ q)) l
 
 -- the state behind a character with which the headers go on
-pub state_on : (limits : Limits) (part : HeadPart) (text more : List ℕ) (headers now : List (List ℕ × Span)) (view : HeaderStageState) (c : ℕ) → part ≡ InHeaders → view_of limits part text headers ≡ view
-    → progress_with limits (chars text) c ≡ reading (chars more) → view_of limits part more now ≡ stage_at view (progress_with view.limits (text_held view.progress) c)
-state_on limits part text more headers now view c p e q = rw (← e, p, q) refl
+pub state_on : (limits : Limits) (part : HeadPart) (text more : List ℕ) (headers now : EntryMapState) (view : HeaderStageState) (c : ℕ) → part ≡ InHeaders → view_of limits part text headers ≡ view
+    → now.hasher ≡ headers.hasher → progress_with limits (chars text) c ≡ reading (chars more) → view_of limits part more now ≡ stage_at view (progress_with view.limits (text_held view.progress) c)
+state_on limits part text more headers now view c p e h q = rw (← e, p, q, h) refl
 
 -- with which they are stopped
-pub state_over : (limits : Limits) (part : HeadPart) (text : List ℕ) (headers : List (List ℕ × Span)) (view new : HeaderStageState) (c : ℕ) → part ≡ InHeaders → view_of limits part text headers ≡ view
+pub state_over : (limits : Limits) (part : HeadPart) (text : List ℕ) (headers : EntryMapState) (view new : HeaderStageState) (c : ℕ) → part ≡ InHeaders → view_of limits part text headers ≡ view
     → progress_with limits (chars text) c ≡ over → new ≡ stage_at view over → new ≡ stage_at view (progress_with view.limits (text_held view.progress) c)
 state_over limits part text headers view new c p e q n = n ∙ rw (← e, p, q) refl
 
 -- with which they are whole
-pub state_behind : (limits : Limits) (part : HeadPart) (text : List ℕ) (headers : List (List ℕ × Span)) (view : HeaderStageState) (c : ℕ) → part ≡ InHeaders → view_of limits part text headers ≡ view
-    → progress_with limits (chars text) c ≡ behind (spelled_entries text headers) → view_of limits Behind text headers ≡ stage_at view (progress_with view.limits (text_held view.progress) c)
+pub state_behind : (limits : Limits) (part : HeadPart) (text : List ℕ) (headers : EntryMapState) (view : HeaderStageState) (c : ℕ) → part ≡ InHeaders → view_of limits part text headers ≡ view
+    → progress_with limits (chars text) c ≡ behind (spelled_entries text headers.items) → view_of limits Behind text headers ≡ stage_at view (progress_with view.limits (text_held view.progress) c)
 state_behind limits part text headers view c p e q = rw (← e, p, q) refl
 
 -- ---- the end
 
-pub end_reading : (limits : Limits) (part : HeadPart) (text : List ℕ) (headers : List (List ℕ × Span)) (view : HeaderStageState) (events : List HeadEvent) → part ≡ InHeaders → view_of limits part text headers ≡ view
+pub end_reading : (limits : Limits) (part : HeadPart) (text : List ℕ) (headers : EntryMapState) (view : HeaderStageState) (events : List HeadEvent) → part ≡ InHeaders → view_of limits part text headers ≡ view
     → events_at_end (heads_of limits (chars text)) ≡ events → events_of_end view.limits view.progress ≡ events
-end_reading limits part text headers view events p e q = sym (ap (λ (v : HeaderStageState). events_of_end v.limits v.progress) e) ∙ (ap (λ (p : HeadPart). events_of_end limits (progress_in p text (book_in p text headers))) p ∙ q)
+end_reading limits part text headers view events p e q = sym (ap (λ (v : HeaderStageState). events_of_end v.limits v.progress) e) ∙ (ap (λ (p : HeadPart). events_of_end limits (progress_in p text (book_in p text headers.items))) p ∙ q)
 
-pub end_behind : (limits : Limits) (part : HeadPart) (text : List ℕ) (headers : List (List ℕ × Span)) (view : HeaderStageState) → part ≡ Behind → view_of limits part text headers ≡ view
+pub end_behind : (limits : Limits) (part : HeadPart) (text : List ℕ) (headers : EntryMapState) (view : HeaderStageState) → part ≡ Behind → view_of limits part text headers ≡ view
     → events_of_end view.limits view.progress ≡ End ∷ []
-end_behind limits part text headers view p e = sym (ap (λ (v : HeaderStageState). events_of_end v.limits v.progress) e) ∙ ap (λ (p : HeadPart). events_of_end limits (progress_in p text (book_in p text headers))) p
+end_behind limits part text headers view p e = sym (ap (λ (v : HeaderStageState). events_of_end v.limits v.progress) e) ∙ ap (λ (p : HeadPart). events_of_end limits (progress_in p text (book_in p text headers.items))) p
 
-pub end_over : (limits : Limits) (part : HeadPart) (text : List ℕ) (headers : List (List ℕ × Span)) (view : HeaderStageState) → part ≡ Over → view_of limits part text headers ≡ view
+pub end_over : (limits : Limits) (part : HeadPart) (text : List ℕ) (headers : EntryMapState) (view : HeaderStageState) → part ≡ Over → view_of limits part text headers ≡ view
     → events_of_end view.limits view.progress ≡ []
-end_over limits part text headers view p e = sym (ap (λ (v : HeaderStageState). events_of_end v.limits v.progress) e) ∙ ap (λ (p : HeadPart). events_of_end limits (progress_in p text (book_in p text headers))) p
+end_over limits part text headers view p e = sym (ap (λ (v : HeaderStageState). events_of_end v.limits v.progress) e) ∙ ap (λ (p : HeadPart). events_of_end limits (progress_in p text (book_in p text headers.items))) p
 
-pub end_stopped : (limits : Limits) (part : HeadPart) (text : List ℕ) (headers : List (List ℕ × Span)) (view : HeaderStageState) → part ≡ Stopped → view_of limits part text headers ≡ view
+pub end_stopped : (limits : Limits) (part : HeadPart) (text : List ℕ) (headers : EntryMapState) (view : HeaderStageState) → part ≡ Stopped → view_of limits part text headers ≡ view
     → events_of_end view.limits view.progress ≡ []
-end_stopped limits part text headers view p e = sym (ap (λ (v : HeaderStageState). events_of_end v.limits v.progress) e) ∙ ap (λ (p : HeadPart). events_of_end limits (progress_in p text (book_in p text headers))) p
+end_stopped limits part text headers view p e = sym (ap (λ (v : HeaderStageState). events_of_end v.limits v.progress) e) ∙ ap (λ (p : HeadPart). events_of_end limits (progress_in p text (book_in p text headers.items))) p
 
 -- ---- behind the last event
 
-pub shows_over : (limits : Limits) (part : HeadPart) (text : List ℕ) (headers : List (List ℕ × Span)) (view : HeaderStageState) → view_of limits part text headers ≡ view
+pub shows_over : (limits : Limits) (part : HeadPart) (text : List ℕ) (headers : EntryMapState) (view : HeaderStageState) → view_of limits part text headers ≡ view
     → view_of limits (part_over part) text headers ≡ stage_at view over
 shows_over limits part text headers view e = by part ∙ ap (λ (v : HeaderStageState). stage_at v over) e
   where
@@ -116,14 +120,14 @@ few_heads place book event = by (has_header (codes "name") book)
 -- ---- wherever a stage stands
 
 -- it keeps its memory, and the values lie in its text
-pub keeps : (limits : Limits) (part : HeadPart) (text : List ℕ) (space : ℕ) (machine : HeaderMachine) (headers : BoundedList (List ℕ × Span)) → IsUtf8 text → IsStageIn part limits text space machine headers
+pub keeps : (limits : Limits) (part : HeadPart) (text : List ℕ) (space : ℕ) (machine : HeaderMachine) (headers : EntryMapState) → IsUtf8 text → IsStageIn part limits text space machine headers
     → KeepsHeaders limits text space headers
 keeps limits InHeaders text space machine headers u i = record { text_fits = i.fits; headers_fit = i.limit; within = values_lie_within limits text space machine headers u i }
 keeps limits Behind text space machine headers u i = i
 keeps limits Stopped text space machine headers u i = i
 keeps limits Over text space machine headers u i = i
 
-pub stands_over : (limits : Limits) (part : HeadPart) (text : List ℕ) (space : ℕ) (machine : HeaderMachine) (headers : BoundedList (List ℕ × Span)) → KeepsHeaders limits text space headers
+pub stands_over : (limits : Limits) (part : HeadPart) (text : List ℕ) (space : ℕ) (machine : HeaderMachine) (headers : EntryMapState) → KeepsHeaders limits text space headers
     → IsStageIn (part_over part) limits text space machine headers
 stands_over limits InHeaders text space machine headers k = k
 stands_over limits Behind text space machine headers k = k

@@ -4,7 +4,6 @@ use Rattle.std.specs.Char.{IsScalar, len_utf8}
 use Rattle.std.specs.Str.{chars}
 use Rattle.std.proofs.lemmas.Str.{chars-append, encodes-chars, IsUtf8-append, IsUtf8-encode, length-encode, scalars-chars}
 use lib.Utf8.{encode, encodes, scalars}
-use Rattle.gabc_places.specs.BoundedList.{BoundedList, Fits}
 use Rattle.gabc_places.specs.declared.place.Place.{Place}
 use Rattle.gabc_places.specs.declared.place.Span.{Span}
 use Rattle.gabc_places.specs.declared.limits.Limits.{Limits}
@@ -24,14 +23,14 @@ use Rattle.gabc_headers.specs.declared.header_machine.HeaderStep.TheVariants.{Re
 use Rattle.gabc_headers.specs.declared.heads.Heads.{Heads}
 use Rattle.gabc_headers.specs.declared.heads.HeadFault.{HeadFault}
 use Rattle.gabc_headers.specs.Book.{has_header, is_kept}
-use Rattle.gabc_headers.specs.machine.Spans.{text_at}
+use Rattle.gabc_headers.specs.Entries.{EntryMapState, text_at, spelled_entries}
 use Rattle.gabc_headers.specs.EntryMap.{put_entry}
 use Rattle.gabc_headers.specs.Heads.{heads_of}
 use Rattle.gabc_headers.specs.HeadEvents.{event_of_book}
 use Rattle.gabc_headers.specs.witness.HeadEvents.{HeadProgress, reading, behind, over, events_at, events_at_end, progress_with}
 use Rattle.gabc_headers.specs.Lines.{bytes_len}
 use Rattle.gabc_headers.specs.machine.Collected.{Collected, IsGoodEvent, AreGoodEvents, collected_with, collected_with_all, of_headers, none, name_found, len_at_score, end_fault, finding_at}
-use Rattle.gabc_headers.specs.machine.EntryMap.{spelled_entries, AreWithin, comes_again}
+use Rattle.gabc_headers.specs.machine.EntryMap.{AreWithin, comes_again, HasPlace}
 use Rattle.gabc_headers.specs.machine.Events.{with_event}
 use Rattle.gabc_headers.specs.machine.HeaderMachine.{IsBounded, fresh_machine, push_one, end_here}
 use Rattle.gabc_headers.specs.machine.HeaderStage.{Takes, IsReading}
@@ -89,7 +88,7 @@ good_last text (d ∷ es) (Some e) h = good_last text es (Some e) h.1
 -- ---- the values
 
 -- they lie in the text that is read
-pub values_lie_within : (limits : Limits) (text : List ℕ) (space : ℕ) (machine : HeaderMachine) (headers : BoundedList (List ℕ × Span)) → IsUtf8 text → IsReading limits text space machine headers → AreWithin text headers.items
+pub values_lie_within : (limits : Limits) (text : List ℕ) (space : ℕ) (machine : HeaderMachine) (headers : EntryMapState) → IsUtf8 text → IsReading limits text space machine headers → AreWithin text headers.items
 values_lie_within limits text space machine headers u h =
     let t = chars text in
     let bytes_are : encodes t ≡ text = encodes-chars text u in
@@ -100,13 +99,13 @@ values_lie_within limits text space machine headers u h =
 -- ---- a character
 
 -- what a character emits with which the headers go on
-pub record ReadsOn (limits : Limits) (text : List ℕ) (space : ℕ) (new : HeaderMachine) (headers : BoundedList (List ℕ × Span)) (c : ℕ) (e : Option HeaderEvent) : Type 0 where
+pub record ReadsOn (limits : Limits) (text : List ℕ) (space : ℕ) (new : HeaderMachine) (headers : EntryMapState) (c : ℕ) (e : Option HeaderEvent) : Type 0 where
   pub fits : length text + length (encode c) ≤ space
   pub good : IsGoodOption (text ++ encode c) e
-  pub room : Fits headers 1
+  pub room : HasPlace headers
   pub events : events_at limits (chars text) c ≡ map (λ f. Found f) (found_at (text ++ encode c) e (of_headers headers.items))
   pub progress : progress_with limits (chars text) c ≡ reading (chars (text ++ encode c))
-  pub next : (now : BoundedList (List ℕ × Span)) (more : ℕ) → space ≤ more → now.items ≡ put_at (text ++ encode c) e headers.items → now.limit ≡ headers.limit
+  pub next : (now : EntryMapState) (more : ℕ) → space ≤ more → now.items ≡ put_at (text ++ encode c) e headers.items → now.limit ≡ headers.limit
       → IsReading limits (text ++ encode c) more new now
 
 -- what a character emits that ends the headers
@@ -114,7 +113,7 @@ pub record EndsHeaders (limits : Limits) (text : List ℕ) (c : ℕ) (events : L
   pub events_are : events_at limits (chars text) c ≡ events
   pub progress_is : progress_with limits (chars text) c ≡ progress
 
-module _ (limits : Limits) (text : List ℕ) (space : ℕ) (machine new : HeaderMachine) (headers : BoundedList (List ℕ × Span)) (c : ℕ) (u : IsUtf8 text) (s : IsScalar c) (h : IsReading limits text space machine headers) where
+module _ (limits : Limits) (text : List ℕ) (space : ℕ) (machine new : HeaderMachine) (headers : EntryMapState) (c : ℕ) (u : IsUtf8 text) (s : IsScalar c) (h : IsReading limits text space machine headers) where
   abbrev t : List ℕ
   t = chars text
 
@@ -186,7 +185,7 @@ module _ (limits : Limits) (text : List ℕ) (space : ℕ) (machine new : Header
           let k = held_at_most new.held in
           omega (arith, a, b, l, one, d, g, f, m, k)
 
-      room_is : Fits headers 1
+      room_is : HasPlace headers
       room_is =
           let r = room_for_one limits.header t text machine h.events h.taken (let b = h.bounded.bytes in let l = (counted limits.header t machine h.events h.taken).limit in omega (arith, b, l)) in
           let i = ap (λ (x : List (List ℕ × Span)). length x) h.put in
@@ -239,7 +238,7 @@ module _ (limits : Limits) (text : List ℕ) (space : ℕ) (machine new : Header
 
 -- ---- the end of the text
 
-pub emits_end : (limits : Limits) (text : List ℕ) (space : ℕ) (machine : HeaderMachine) (headers : BoundedList (List ℕ × Span)) → IsUtf8 text → IsReading limits text space machine headers
+pub emits_end : (limits : Limits) (text : List ℕ) (space : ℕ) (machine : HeaderMachine) (headers : EntryMapState) → IsUtf8 text → IsReading limits text space machine headers
     → (place : Place) (line : Option ℕ) → Text place line ≡ end_here machine → events_at_end (heads_of limits (chars text)) ≡ Stop (end_fault place line) ∷ []
 emits_end limits text space machine headers u h place line e =
     let read = has_read limits.header (chars text) machine h.events h.taken in

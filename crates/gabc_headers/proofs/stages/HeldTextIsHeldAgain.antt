@@ -1,15 +1,16 @@
 -- The text that a stage of headers holds: its end alone stops it, and pushed into a fresh stage it is held again.
 use Rattle.std.proofs.Common.{◌≡◌, ℕ, List, [], ◌∷◌, ◌++◌, length, take, map, Bool, true, false, refl, sym, ap, ◌∙◌, subst, append-nil, Result, Err}
 use Rattle.std.specs.Str.{chars}
+use Rattle.std.specs.Hash.DefaultHasher.{initial}
 use Rattle.std.proofs.lemmas.Str.{scalars-chars}
 use Rattle.std.specs.Prelude.{IsUtf8}
 use lib.Utf8.{scalars}
-use Rattle.gabc_places.specs.BoundedList.{BoundedList}
+use Rattle.std.specs.declared.hash.DefaultHasher.{DefaultHasher}
 use Rattle.gabc_places.specs.declared.place.Char.{Char}
-use Rattle.gabc_places.specs.declared.place.Span.{Span}
 use Rattle.gabc_places.specs.declared.code.Fault.{Fault}
 use Rattle.gabc_places.specs.declared.limits.Limits.{Limits}
 use Rattle.gabc_places.specs.StageLaw.{concat_of}
+use Rattle.gabc_headers.specs.Entries.{EntryMapState}
 use Rattle.gabc_headers.specs.declared.head_event.HeadEvent.{HeadEvent}
 use Rattle.gabc_headers.specs.declared.head_event.HeadEvent.TheVariants.{Found}
 use Rattle.gabc_headers.specs.declared.header_machine.HeaderMachine.{HeaderMachine}
@@ -27,7 +28,7 @@ use Rattle.gabc_headers.proofs.prefixes.HeadsSoFar.{begin_read, open_so_far}
 use Rattle.gabc_headers.proofs.stages.MachineTakesText.{has_read}
 
 -- a stage that has read a text holds it
-pub is_held : (limits : Limits) (text : List ℕ) (space : ℕ) (machine : HeaderMachine) (headers : BoundedList (List ℕ × Span)) → IsUtf8 text → IsReading limits text space machine headers → IsHeld limits (chars text)
+pub is_held : (limits : Limits) (text : List ℕ) (space : ℕ) (machine : HeaderMachine) (headers : EntryMapState) → IsUtf8 text → IsReading limits text space machine headers → IsHeld limits (chars text)
 is_held limits text space machine headers u h =
     let here = open_so_far limits (chars text) machine h.events (scalars-chars text u) (has_read limits.header (chars text) machine h.events h.taken) in
     record { stopped = here.fault; heads = here.heads; at_end = here.at_end }
@@ -49,13 +50,13 @@ passed_stays : (limits : Limits) (book : List (List ℕ × List ℕ)) (xs : List
 passed_stays limits book xs q e = absurd (let f : false ≡ true = ap is_open (sym (stays_behind limits book xs) ∙ e) in cc)
 
 -- The stage that stands in the headers behind these characters, however they are placed.
-pub record IsHeldPast (limits : Limits) (p : List ℕ) (xs : List Char) (b q : List ℕ) : Type 0 where
-  pub stage : stage_past (holding limits p) (inputs_of xs) ≡ holding limits q
+pub record IsHeldPast (limits : Limits) (hasher : DefaultHasher) (p : List ℕ) (xs : List Char) (b q : List ℕ) : Type 0 where
+  pub stage : stage_past (holding limits hasher p) (inputs_of xs) ≡ holding limits hasher q
   pub events : so_far limits (reading p) (inputs_of xs) ≡ so_far limits (reading p) (inputs_behind b (text_in xs))
 
-held_past : (limits : Limits) (p : List ℕ) (xs : List Char) (b q : List ℕ) → progress_past limits (reading p) (inputs_of xs) ≡ reading q → IsHeldPast limits p xs b q
-held_past limits p [] b q e = record { stage = ap (holding limits) (ap text_held e); events = refl }
-held_past limits p (x ∷ xs) b q e = by (λ t f. held_past limits t xs (b ++ x.c ∷ []) q f) (progress_with limits p x.c) refl e
+held_past : (limits : Limits) (hasher : DefaultHasher) (p : List ℕ) (xs : List Char) (b q : List ℕ) → progress_past limits (reading p) (inputs_of xs) ≡ reading q → IsHeldPast limits hasher p xs b q
+held_past limits hasher p [] b q e = record { stage = ap (holding limits hasher) (ap text_held e); events = refl }
+held_past limits hasher p (x ∷ xs) b q e = by (λ t f. held_past limits hasher t xs (b ++ x.c ∷ []) q f) (progress_with limits p x.c) refl e
   where
     first : List HeadEvent
     first = events_at limits p x.c
@@ -63,12 +64,12 @@ held_past limits p (x ∷ xs) b q e = by (λ t f. held_past limits t xs (b ++ x.
     split : (progress : HeadProgress) (ys : List (Result Char Fault)) → concat_of (first ∷ take (length ys) (events_left limits progress ys)) ≡ first ++ so_far limits progress ys
     split progress ys = concat-cons first (take (length ys) (events_left limits progress ys))
 
-    by : ((t : List ℕ) → progress_past limits (reading t) (inputs_of xs) ≡ reading q → IsHeldPast limits t xs (b ++ x.c ∷ []) q)
-        → (progress : HeadProgress) → progress_with limits p x.c ≡ progress → progress_past limits (progress_with limits p x.c) (inputs_of xs) ≡ reading q → IsHeldPast limits p (x ∷ xs) b q
+    by : ((t : List ℕ) → progress_past limits (reading t) (inputs_of xs) ≡ reading q → IsHeldPast limits hasher t xs (b ++ x.c ∷ []) q)
+        → (progress : HeadProgress) → progress_with limits p x.c ≡ progress → progress_past limits (progress_with limits p x.c) (inputs_of xs) ≡ reading q → IsHeldPast limits hasher p (x ∷ xs) b q
     by again (reading t) f g =
         let more = again t (subst (λ (n : HeadProgress). progress_past limits n (inputs_of xs) ≡ reading q) f g) in
         record {
-          stage = ap (λ (n : HeadProgress). stage_past (record { limits = limits; progress = n; book = book_at n [] }) (inputs_of xs)) f ∙ more.stage;
+          stage = ap (λ (n : HeadProgress). stage_past (record { limits = limits; progress = n; book = book_at n []; hasher = hasher }) (inputs_of xs)) f ∙ more.stage;
           events = split (progress_with limits p x.c) (inputs_of xs) ∙ ap (λ (n : HeadProgress). first ++ so_far limits n (inputs_of xs)) f ∙ ap (λ (es : List HeadEvent). first ++ es) more.events
               ∙ sym (ap (λ (n : HeadProgress). first ++ so_far limits n (inputs_behind (b ++ x.c ∷ []) (text_in xs))) f) ∙ sym (split (progress_with limits p x.c) (inputs_behind (b ++ x.c ∷ []) (text_in xs)));
         }
@@ -82,9 +83,9 @@ same_progress limits (reading t) (x ∷ xs) b = same_progress limits (progress_w
 same_progress limits (behind book) (x ∷ xs) b = same_progress limits (behind book) xs (b ++ x.c ∷ [])
 same_progress limits over (x ∷ xs) b = same_progress limits over xs (b ++ x.c ∷ [])
 
-pub held_again : (limits : Limits) (xs : List Char) → scalars (text_in xs) ≡ true → IsHeld limits (text_in xs) → IsHeldPast limits [] xs [] (text_in xs)
-held_again limits xs u h =
-    held_past limits [] xs [] (text_in xs)
+pub held_again : (limits : Limits) (hasher : DefaultHasher) (xs : List Char) → scalars (text_in xs) ≡ true → IsHeld limits (text_in xs) → IsHeldPast limits hasher [] xs [] (text_in xs)
+held_again limits hasher xs u h =
+    held_past limits hasher [] xs [] (text_in xs)
     (same_progress limits (reading []) xs [] ∙ stands limits (text_in xs) [] (fresh_machine limits.header) [] u (begin_read limits.header)
     ∙ ap (progress_by (text_in xs)) h.heads ∙ open_progress (text_in xs) h.stopped h.at_end)
 
@@ -92,7 +93,7 @@ held_again limits xs u h =
 pub found_held : (limits : Limits) (xs : List Char) → scalars (text_in xs) ≡ true → IsHeld limits (text_in xs)
     → so_far limits (reading []) (inputs_of xs) ≡ map (λ f. Found f) (findings_held limits (text_in xs))
 found_held limits xs u h =
-    (held_again limits xs u h).events ∙ broken_gives limits (text_in xs) u
+    (held_again limits initial xs u h).events ∙ broken_gives limits (text_in xs) u
     ∙ ap (events_of_broken (text_in xs)) h.heads ∙ alone h.stopped h.at_end ∙ sym (ap (λ (r : Result Heads HeadFault). map (λ f. Found f) (findings_of r)) h.heads)
   where
     alone : (f : HeadFault) → f.at_end ≡ true → events_of_broken (text_in xs) (Err f) ≡ map (λ f. Found f) f.findings

@@ -22,7 +22,9 @@ use Rattle.gabc_headers.specs.declared.heads.HeadFault.{HeadFault}
 use Rattle.gabc_headers.specs.Lines.{bytes_len, lines, has_score}
 use Rattle.gabc_headers.specs.Book.{book_of}
 use Rattle.gabc_headers.specs.Canonical.{header_lines}
-use Rattle.gabc_headers.specs.Heads.{heads_by, head_stops, head_len, first_above, is_line_percent, too_long, text_stops, open_stops, score_stops, missing_score, stop_at, open_line, head_parts, line_place}
+use Rattle.gabc_headers.specs.Heads.{head_len, first_above, is_line_percent, too_long, text_stops, open_stops, missing_score, stop_at, open_line, line_place}
+use Rattle.gabc_headers.specs.witness.Heads.{heads_by, head_stops, score_stops}
+use Rattle.gabc_headers.specs.witness.Parts.{head_parts}
 use Rattle.gabc_headers.specs.HeldText.{IsHeld, IsWithinHeaders}
 use Rattle.gabc_headers.proofs.entries.TextsAsBytes.{length-encodes}
 use Rattle.gabc_headers.proofs.stops.PointsOfStops.{above_within, score_within}

@@ -12,7 +12,9 @@ use Rattle.gabc_headers.specs.Lines.{bytes_len, lines, has_score}
 use Rattle.gabc_headers.specs.Parts.{HeaderPart}
 use Rattle.gabc_headers.specs.Book.{book_of, has_header}
 use Rattle.gabc_headers.specs.Canonical.{header_lines}
-use Rattle.gabc_headers.specs.Heads.{head_parts, head_len, head_findings, name_findings, known_at, findings_behind, open_line, text_stops, open_stops, score_stops, missing_score, head_stops, stop_at, line_place, body_byte, heads_by, heads_of}
+use Rattle.gabc_headers.specs.Heads.{head_len, known_at, findings_behind, open_line, text_stops, open_stops, missing_score, stop_at, line_place, body_byte, heads_of}
+use Rattle.gabc_headers.specs.witness.Heads.{head_findings, name_findings, score_stops, head_stops, heads_by}
+use Rattle.gabc_headers.specs.witness.Parts.{head_parts}
 use Rattle.gabc_headers.specs.machine.Collected.{heads_at_body}
 use Rattle.gabc_headers.specs.machine.Events.{AreEarly, AreLate}
 use Rattle.gabc_headers.proofs.order.FoundBeforeAPoint.{all_known, known-append, known_one, known_none, early_all, still_early}

@@ -15,7 +15,9 @@ use Rattle.gabc_headers.specs.Lines.{bytes_len, lines, has_score}
 use Rattle.gabc_headers.specs.Book.{book_of}
 use Rattle.gabc_headers.specs.Canonical.{header_lines}
 use Rattle.gabc_headers.specs.TooLong.{is_too_long}
-use Rattle.gabc_headers.specs.Heads.{head_parts, head_len, open_line, line_place, stop_at, first_above, is_line_percent, too_long, text_stops, open_stops, score_stops, missing_score, head_stops, heads_by, heads_of}
+use Rattle.gabc_headers.specs.Heads.{head_len, open_line, line_place, stop_at, first_above, is_line_percent, too_long, text_stops, open_stops, missing_score, heads_of}
+use Rattle.gabc_headers.specs.witness.Heads.{score_stops, head_stops, heads_by}
+use Rattle.gabc_headers.specs.witness.Parts.{head_parts}
 use Rattle.gabc_headers.proofs.stops.PointsOfStops.{above_within, limit_within, first_earliest, open_first, score_within}
 use Rattle.gabc_headers.proofs.stops.HeadsByEnding.{not_eq, others_behind, sizes_first}
 

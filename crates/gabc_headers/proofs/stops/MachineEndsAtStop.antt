@@ -13,7 +13,8 @@ use Rattle.gabc_headers.specs.declared.events.HeaderEvent.{HeaderEvent}
 use Rattle.gabc_headers.specs.declared.events.HeaderEnding.TheVariants.{Score, Limit, Text}
 use Rattle.gabc_headers.specs.Lines.{bytes_len, is_score_line}
 use Rattle.gabc_headers.specs.Parts.{HeaderPart}
-use Rattle.gabc_headers.specs.Heads.{head_parts, head_len, stop_at, text_stops, open_line, body_byte}
+use Rattle.gabc_headers.specs.Heads.{head_len, stop_at, text_stops, open_line, body_byte}
+use Rattle.gabc_headers.specs.witness.Parts.{head_parts}
 use Rattle.gabc_headers.specs.machine.PartMachine.{open_in}
 use Rattle.gabc_headers.specs.machine.Events.{AreHeaderEvents, open_part}
 use Rattle.gabc_headers.proofs.groups.TextBeforeScore.{head_text, is_scored, head_length, head_next}

@@ -17,7 +17,8 @@ use Rattle.gabc_headers.specs.EntryMap.{put_entry}
 use Rattle.gabc_headers.specs.machine.EntryMap.{comes_again}
 use Rattle.gabc_headers.specs.Heads.{line_place}
 use Rattle.gabc_headers.specs.Lines.{bytes_len}
-use Rattle.gabc_headers.specs.machine.Spans.{IsWithin, text_at}
+use Rattle.gabc_headers.specs.Entries.{text_at}
+use Rattle.gabc_headers.specs.machine.Spans.{IsWithin}
 
 -- the headers that count, with the spans of their values, and what was found
 pub record Collected : Type 0 where

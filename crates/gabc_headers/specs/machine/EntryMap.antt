@@ -1,12 +1,17 @@
 -- What is gathered: names with values, each name at the place of its first and with the value of its last.
-use Rattle.std.specs.Prelude.{ℕ, ◌+◌, ◌<◌, ◌≤◌, ◌≡◌, length, List, [], ◌∷◌, Bool, true, false, not, ◌&&◌, codes, IsUtf8}
+use Rattle.std.specs.Prelude.{ℕ, ◌+◌, ◌<◌, ◌≤◌, ◌≡◌, length, List, [], ◌∷◌, Bool, true, false, not, ◌&&◌, IsUtf8}
 use Rattle.std.specs.Str.{chars}
 use Rattle.gabc_places.specs.declared.place.Span.{Span}
 use Rattle.gabc_headers.specs.declared.entry_map.Key.{Key}
 use Rattle.gabc_headers.specs.declared.entry_map.Key.TheVariants.{Name, Annotation}
 use Rattle.gabc_headers.specs.Book.{is_one_of}
-use Rattle.gabc_headers.specs.machine.Spans.{IsWithin, text_at}
+use Rattle.gabc_headers.specs.Entries.{EntryMapState}
+use Rattle.gabc_headers.specs.machine.Spans.{IsWithin}
 use Rattle.gabc_headers.specs.EntryMap.{is_annotation}
+
+-- there is room for one header more
+abbrev pub HasPlace : EntryMapState → Type 0
+HasPlace map = length map.items < map.limit
 
 -- the names of the entries
 abbrev pub names : {X : Type 0} → List (List ℕ × X) → List (List ℕ)
@@ -17,19 +22,10 @@ names (d ∷ ds) = d.0 ∷ names ds
 abbrev pub comes_again : {X : Type 0} → List (List ℕ × X) → List ℕ → Bool
 comes_again es name = not (is_annotation name) && is_one_of name (names es)
 
--- what a key stands for
-abbrev pub key_name : Key → List ℕ
-key_name (Name s) = chars s.bytes
-key_name (Annotation i) = codes "annotation"
-
 -- the key of a header of this name, before which there are n
 abbrev pub IsKeyOf : List ℕ → ℕ → Key → Type 0
 IsKeyOf name n (Name s) = (s.bytes ≡ name) × (is_annotation (chars name) ≡ false)
 IsKeyOf name n (Annotation i) = (i ≡ n) × (is_annotation (chars name) ≡ true)
-
-abbrev pub named_entries : {X : Type 0} → List (Key × X) → List (List ℕ × X)
-named_entries [] = []
-named_entries (e ∷ es) = (key_name e.0, e.1) ∷ named_entries es
 
 -- a key that is a name is a text and no annotation, and one that is a number is below the number of the entries
 abbrev pub IsKeyBelow : ℕ → Key → Type 0
@@ -44,11 +40,6 @@ AreKeysBelow n (e ∷ es) = IsKeyBelow n e.0 × AreKeysBelow n es
 pub record IsEntryRoom (limit room : ℕ) (es : List (Key × Span)) : Type 0 where
   pub keys : AreKeysBelow (length es) es
   pub fits : limit ≤ length es + room
-
--- the names with the characters of their spans of a text's bytes
-abbrev pub spelled_entries : List ℕ → List (List ℕ × Span) → List (List ℕ × List ℕ)
-spelled_entries text [] = []
-spelled_entries text (e ∷ es) = (e.0, text_at text e.1) ∷ spelled_entries text es
 
 -- each span lies in the text, between characters
 abbrev pub AreWithin : List ℕ → List (List ℕ × Span) → Type 0

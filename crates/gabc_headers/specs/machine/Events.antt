@@ -9,7 +9,8 @@ use Rattle.gabc_headers.specs.declared.events.HeaderEnding.{HeaderEnding}
 use Rattle.gabc_headers.specs.declared.events.HeaderEnding.TheVariants.{Score, Limit, Text}
 use Rattle.gabc_headers.specs.Lines.{bytes_len, lines, has_score}
 use Rattle.gabc_headers.specs.Parts.{HeaderPart, left_out, header, unended}
-use Rattle.gabc_headers.specs.Heads.{head_parts, head_len, open_line, text_stops, stop_at, body_byte}
+use Rattle.gabc_headers.specs.Heads.{head_len, open_line, text_stops, stop_at, body_byte}
+use Rattle.gabc_headers.specs.witness.Parts.{head_parts}
 
 -- the span of the text's bytes holds v
 pub record SpanHolds (t : List ℕ) (s : Span) (v : List ℕ) : Type 0 where

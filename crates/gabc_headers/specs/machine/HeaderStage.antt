@@ -1,7 +1,6 @@
 -- What holds of a stage of headers where it stands.
 use Rattle.std.specs.Prelude.{◌≡◌, ℕ, ◌+◌, ◌/◌, ◌≤◌, List, [], ◌∷◌, Option}
 use Rattle.std.specs.Str.{chars}
-use Rattle.gabc_places.specs.BoundedList.{BoundedList}
 use Rattle.gabc_places.specs.declared.place.Span.{Span}
 use Rattle.gabc_places.specs.declared.limits.Limits.{Limits}
 use Rattle.gabc_headers.specs.declared.events.HeaderEvent.{HeaderEvent}
@@ -11,7 +10,8 @@ use Rattle.gabc_headers.specs.declared.header_stage.HeadPart.{HeadPart}
 use Rattle.gabc_headers.specs.declared.header_stage.HeadPart.TheVariants.{InHeaders, Behind, Stopped, Over}
 use Rattle.gabc_headers.specs.witness.HeadEvents.{HeadProgress, reading, behind, over}
 use Rattle.gabc_headers.specs.machine.Collected.{collected_with_all, none}
-use Rattle.gabc_headers.specs.machine.EntryMap.{spelled_entries, AreWithin}
+use Rattle.gabc_headers.specs.Entries.{EntryMapState, spelled_entries}
+use Rattle.gabc_headers.specs.machine.EntryMap.{AreWithin}
 use Rattle.gabc_headers.specs.machine.Events.{with_event}
 use Rattle.gabc_headers.specs.machine.HeaderMachine.{IsBounded, fresh_machine, push_one}
 
@@ -26,7 +26,7 @@ abbrev pub headers_within : Limits → ℕ
 headers_within limits = limits.header / 3 + 1
 
 -- In the headers: the machine has read the text, and what it emitted of headers is put.
-pub record IsReading (limits : Limits) (text : List ℕ) (room : ℕ) (machine : HeaderMachine) (headers : BoundedList (List ℕ × Span)) : Type 0 where
+pub record IsReading (limits : Limits) (text : List ℕ) (room : ℕ) (machine : HeaderMachine) (headers : EntryMapState) : Type 0 where
   pub events : List HeaderEvent
   pub taken : Takes (fresh_machine limits.header) [] (chars text) machine events
   pub bounded : IsBounded machine
@@ -35,12 +35,12 @@ pub record IsReading (limits : Limits) (text : List ℕ) (room : ℕ) (machine :
   pub limit : headers.limit ≡ headers_within limits
 
 -- The memory stays reserved: for the text, and for the headers that count. And their values lie in the text.
-pub record KeepsHeaders (limits : Limits) (text : List ℕ) (space : ℕ) (headers : BoundedList (List ℕ × Span)) : Type 0 where
+pub record KeepsHeaders (limits : Limits) (text : List ℕ) (space : ℕ) (headers : EntryMapState) : Type 0 where
   pub text_fits : limits.header + 1 ≤ space
   pub headers_fit : headers.limit ≡ headers_within limits
   pub within : AreWithin text headers.items
 
-abbrev pub IsStageIn : HeadPart → Limits → List ℕ → ℕ → HeaderMachine → BoundedList (List ℕ × Span) → Type 0
+abbrev pub IsStageIn : HeadPart → Limits → List ℕ → ℕ → HeaderMachine → EntryMapState → Type 0
 IsStageIn InHeaders limits text space machine headers = IsReading limits text space machine headers
 IsStageIn Behind limits text space machine headers = KeepsHeaders limits text space headers
 IsStageIn Stopped limits text space machine headers = KeepsHeaders limits text space headers

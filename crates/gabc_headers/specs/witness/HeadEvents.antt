@@ -1,5 +1,6 @@
 -- What a stage of headers will still emit, in any state. Nobody has to believe it: the laws state what a fresh stage emits.
 use Rattle.std.specs.Prelude.{ℕ, List, [], ◌∷◌, ◌++◌, if◌then◌else◌, length, drop, map, Result, Ok, Err}
+use Rattle.std.specs.declared.hash.DefaultHasher.{DefaultHasher}
 use Rattle.gabc_places.specs.declared.place.Char.{Char}
 use Rattle.gabc_places.specs.declared.code.Fault.{Fault}
 use Rattle.gabc_places.specs.declared.code.Finding.{Finding}
@@ -71,15 +72,16 @@ abbrev pub events_left : Limits → HeadProgress → List (Result Char Fault) �
 events_left limits progress [] = events_of_end limits progress ∷ []
 events_left limits progress (x ∷ xs) = events_of_input limits progress x ∷ events_left limits (progress_after limits progress x) xs
 
--- what a stage of headers shows: its limits, where it stands, and, once the line `%%` is read, the headers
+-- what a stage of headers shows: its limits, where it stands, once the line `%%` is read the headers, and from where it hashes names
 pub record HeaderStageState : Type 0 where
   pub limits : Limits
   pub progress : HeadProgress
   pub book : List (List ℕ × List ℕ)
+  pub hasher : DefaultHasher
 
 -- before the first character
-abbrev pub fresh_stage : Limits → HeaderStageState
-fresh_stage limits = record { limits = limits; progress = reading []; book = [] }
+abbrev pub fresh_stage : Limits → DefaultHasher → HeaderStageState
+fresh_stage limits hasher = record { limits = limits; progress = reading []; book = []; hasher = hasher }
 
 -- the headers are kept from where they are whole
 abbrev pub book_at : HeadProgress → List (List ℕ × List ℕ) → List (List ℕ × List ℕ)

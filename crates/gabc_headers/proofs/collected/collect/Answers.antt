@@ -11,5 +11,6 @@ loop-event-preserved c =
       good = grind (arith, common_steps);
       same = grind (arith, common_steps, c.in_ok-take.ensures.taken);
       limit = c.in_ok-take.ensures.limit ∙ c.loop-event.invariant.limit;
+      hasher = c.in_ok-take.ensures.hasher ∙ c.loop-event.invariant.hasher;
       few = (let f = c.loop-event.invariant.few in omega (arith, taken, length-collected));
     }

@@ -8,5 +8,6 @@ invariant-loop-event l = record {
   good : AreGoodEvents l.text (drop l.event-index l.events);
   same : collected_with_all l.text (drop l.event-index l.events) (shown l.collected) ≡ collected_with_all l.text l.events (record { headers = []; findings = [] });
   limit : l.collected.headers.limit ≡ length l.events;
+  hasher : l.collected.headers.hasher ≡ l.initial.collected.headers.hasher;
   few : length l.collected.headers.items ≤ l.event-index;
 }

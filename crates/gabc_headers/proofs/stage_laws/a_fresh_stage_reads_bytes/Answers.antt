@@ -14,7 +14,7 @@ returns-clause-all c =
     c.drive.ensures.events
     ∙ ap (λ (x : List HeadEvent). extended_by c.args.out.now x)
     (ap (λ (p : StagePair DecoderState HeaderStageState). concat_of (chain_events (decoder_events p.first) (events_left p.second.limits p.second.progress) c.args.bytes.items)) c.new-chain.ensures
-    ∙ (ap (λ (s : HeaderStageState). concat_of (chain_events (decoder_events c.new.result) (events_left s.limits s.progress) c.args.bytes.items)) c.in_ok-stage.ensures
+    ∙ (ap (λ (s : HeaderStageState). concat_of (chain_events (decoder_events c.new.result) (events_left s.limits s.progress) c.args.bytes.items)) c.in_ok-stage.ensures.fresh
     ∙ chained c.args.limits (decoder_events c.new.result) c.args.bytes.items _ (c.new.ensures.at_end c.args.bytes.items)))
 
 pub returns-clause-text : goal.returns-clause-text

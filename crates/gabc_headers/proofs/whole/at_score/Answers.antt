@@ -2,7 +2,7 @@ use Rattle.std.proofs.Common.{◌≡◌, ◌++◌, ◌∷◌, [], Bool, cond, sy
 use Rattle.gabc_places.specs.declared.code.Code.TheVariants.{W1}
 use Rattle.gabc_places.specs.declared.code.Fault.{Fault}
 use Rattle.gabc_headers.specs.Book.{has_header, value_named}
-use Rattle.gabc_headers.specs.machine.EntryMap.{spelled_entries}
+use Rattle.gabc_headers.specs.Entries.{spelled_entries}
 use Rattle.gabc_headers.proofs.entries.TextsAsBytes.{chars-name}
 use Rattle.gabc_headers.proofs.collecting.HeadsWithinLimits.{by_len, heads_by_len, found_same}
 use Rattle.gabc_headers.proofs.whole.at_score.Goals as goal

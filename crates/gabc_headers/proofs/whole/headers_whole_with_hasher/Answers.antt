@@ -8,6 +8,8 @@ use Rattle.gabc_headers.specs.declared.heads.Heads.{Heads}
 use Rattle.gabc_headers.specs.declared.heads.HeadFault.{HeadFault}
 use Rattle.gabc_headers.proofs.collecting.HeadsFollowFromEvents.{scalars_of, read_good, read_within, case_limit, case_score, case_text}
 use Rattle.gabc_headers.proofs.collecting.HeadsWithinLimits.{at_text_end}
+use Rattle.gabc_headers.specs.HeadsOfGroups.{AreHeads}
+use Rattle.gabc_headers.proofs.groups.HeadsAreOfGroups.{of_groups, one_reading}
 use Rattle.gabc_headers.proofs.order.FindingsStandInOrder.{heads_order}
 use Rattle.gabc_headers.proofs.whole.headers_whole_with_hasher.Goals as goal
 
@@ -19,38 +21,43 @@ collect-requires c =
 pub at_score-requires : goal.at_score-requires
 at_score-requires c =
     let u = scalars_of c.args.text.now c.as_str-written.result.now c.as_str-written.utf8 c.as_str-written.ensures.bytes in
-    rw (ap (λ (x : Collected). x.headers) c.in_ok-collected.ensures, c.as_str-written.ensures.bytes, c.deref.ensures.value) (read_within c.args.limits c.args.text.now c.in_ok-read.read.events.items c.in_ok-read.read.end u c.in_ok-read.ensures)
+    rw (ap (λ (x : Collected). x.headers) c.in_ok-collected.ensures.all, c.as_str-written.ensures.bytes, c.deref.ensures.value) (read_within c.args.limits c.args.text.now c.in_ok-read.read.events.items c.in_ok-read.read.end u c.in_ok-read.ensures)
 
 pub returns-in-Limit-clause-exact : goal.returns-in-Limit-clause-exact
 returns-in-Limit-clause-exact c =
     let u = scalars_of c.args.text.now c.as_str-written.result.now c.as_str-written.utf8 c.as_str-written.ensures.bytes in
-    rw (c.head_fault.ensures, ap (λ (x : Collected). x.findings) c.in_ok-collected.ensures, c.as_str-written.ensures.bytes, c.deref.ensures.value)
-    (case_limit c.args.limits c.args.text.now c.in_ok-read.read.events.items c.in_ok-read.read.end u c.in_ok-read.ensures c.in-Limit.place c.in-Limit.is)
+    of_groups c.args.limits c.args.text.now _
+    (rw (c.head_fault.ensures, ap (λ (x : Collected). x.findings) c.in_ok-collected.ensures.all, c.as_str-written.ensures.bytes, c.deref.ensures.value)
+    (case_limit c.args.limits c.args.text.now c.in_ok-read.read.events.items c.in_ok-read.read.end u c.in_ok-read.ensures c.in-Limit.place c.in-Limit.is))
+
+of_groups_ok : {E : Type 0} (limits : Limits) (t : List ℕ) (read : Result (Result Heads HeadFault) E) → IfOk read (λ r. r ≡ heads_of limits t) → IfOk read (AreHeads limits t)
+of_groups_ok limits t (Ok r) h = of_groups limits t r h
+of_groups_ok limits t (Err e) h = tt
 
 pub returns-in-Score-clause-exact : goal.returns-in-Score-clause-exact
 returns-in-Score-clause-exact c =
     let u = scalars_of c.args.text.now c.as_str-written.result.now c.as_str-written.utf8 c.as_str-written.ensures.bytes in
     let e = case_score c.args.limits c.args.text.now c.in_ok-read.read.events.items c.in_ok-read.read.end u c.in_ok-read.ensures c.in-Score.place c.in-Score.body c.in-Score.open_line c.in-Score.is in
-    rw (← e, ← c.as_str-written.ensures.bytes, ← c.deref.ensures.value, ← ap (λ (x : Collected). x.headers) c.in_ok-collected.ensures, ← ap (λ (x : Collected). x.findings) c.in_ok-collected.ensures) c.at_score.ensures
+    of_groups_ok c.args.limits c.args.text.now c.at_score.result
+    (rw (← e, ← c.as_str-written.ensures.bytes, ← c.deref.ensures.value, ← ap (λ (x : Collected). x.headers) c.in_ok-collected.ensures.all, ← ap (λ (x : Collected). x.findings) c.in_ok-collected.ensures.all) c.at_score.ensures)
 
 pub returns-clause-exact : goal.returns-clause-exact
 returns-clause-exact c =
     let u = scalars_of c.args.text.now c.as_str-written.result.now c.as_str-written.utf8 c.as_str-written.ensures.bytes in
-    rw (
+    of_groups c.args.limits c.args.text.now _ (rw (
       c.head_fault-in-Text.ensures,
       c.end_fault-fault.ensures,
       ← at_text_end c.in-Text.place c.in-Text.open_line c.in_ok-collected.collected.findings,
-      ap (λ (x : Collected). x.findings) c.in_ok-collected.ensures,
+      ap (λ (x : Collected). x.findings) c.in_ok-collected.ensures.all,
       c.as_str-written.ensures.bytes,
       c.deref.ensures.value,
     )
-    (case_text c.args.limits c.args.text.now c.in_ok-read.read.events.items c.in_ok-read.read.end u c.in_ok-read.ensures c.in-Text.place c.in-Text.open_line c.in-Text.is)
+    (case_text c.args.limits c.args.text.now c.in_ok-read.read.events.items c.in_ok-read.read.end u c.in_ok-read.ensures c.in-Text.place c.in-Text.open_line c.in-Text.is))
 
--- what is as the definition says has its findings in order
-in_order : (limits : Limits) (t : List ℕ) (read : Result Heads HeadFault) → read ≡ heads_of limits t → AreInOrder (findings_of read)
-in_order limits t read e = subst (λ (r : Result Heads HeadFault). AreInOrder (findings_of r)) (sym e) (heads_order limits t)
+in_order : (limits : Limits) (t : List ℕ) (read : Result Heads HeadFault) → AreHeads limits t read → AreInOrder (findings_of read)
+in_order limits t read h = subst (λ (r : Result Heads HeadFault). AreInOrder (findings_of r)) (sym (one_reading limits t read h)) (heads_order limits t)
 
-in_order_ok : {E : Type 0} (limits : Limits) (t : List ℕ) (read : Result (Result Heads HeadFault) E) → IfOk read (λ r. r ≡ heads_of limits t) → IfOk read (λ r. AreInOrder (findings_of r))
+in_order_ok : {E : Type 0} (limits : Limits) (t : List ℕ) (read : Result (Result Heads HeadFault) E) → IfOk read (AreHeads limits t) → IfOk read (λ r. AreInOrder (findings_of r))
 in_order_ok limits t (Ok r) h = in_order limits t r h
 in_order_ok limits t (Err e) h = tt
 

@@ -7,8 +7,8 @@ use Rattle.gabc_headers.proofs.book.HeaderBook.canonical_len.Goals as goal
 pub returns-clause-len : goal.returns-clause-len
 returns-clause-len c =
     let small : bytes_len (canonical_heads c.args.self.now) < 2 ^ 32 = rw (← c.self.view_is) c.self.invariant.small in
-    let counted = rw (c.canon_header.ensures, c.new-counter.ensures, c.iter.ensures) at c.count.ensures in
-    omega (arith, small, counted, length-encodes (canonical_heads c.args.self.now))
+    let counted = rw c.iter.ensures at c.canonical_len.ensures in
+    omega (arith, small, counted)
 
 pub returns-clause-bytes : goal.returns-clause-bytes
 returns-clause-bytes c = returns-clause-len c ∙ sym (length-encodes (canonical_heads c.args.self.now))

@@ -4,7 +4,7 @@ use lib.Utf8.{encodes}
 use Rattle.gabc_headers.proofs.entries.TextsAsBytes.{length-encodes}
 use Rattle.gabc_headers.specs.Lines.{bytes_len}
 use Rattle.gabc_headers.specs.Canonical.{header_line, header_lines}
-use Rattle.gabc_headers.specs.machine.EntryMap.{spelled_entries}
+use Rattle.gabc_headers.specs.Entries.{spelled_entries}
 use Rattle.gabc_headers.proofs.entries.MapIsReadByEntry.{spelled_here, spelled_none, lines_cons, sum_next}
 use Rattle.gabc_headers.proofs.entry_map.EntryMap.canonical_len.Goals as goal
 

@@ -1,6 +1,6 @@
 use Rattle.std.proofs.Common.{◌≡◌, ◌<◌, ◌+◌, ◌-◌, ◌^◌, min, drop}
 use Rattle.gabc_headers.specs.Canonical.{header_lines}
-use Rattle.gabc_headers.specs.machine.EntryMap.{spelled_entries}
+use Rattle.gabc_headers.specs.Entries.{spelled_entries}
 use Rattle.gabc_headers.specs.Lines.{bytes_len}
 use Rattle.gabc_headers.proofs.entry_map.EntryMap.canonical_len.Given as goal
 

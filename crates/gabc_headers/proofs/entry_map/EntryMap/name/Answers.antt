@@ -1,16 +1,14 @@
 use Rattle.std.proofs.Common.{◌≡◌, ap, List, ℕ}
-use Rattle.gabc_places.specs.BoundedList.{BoundedList}
-use Rattle.gabc_places.specs.declared.place.Span.{Span}
-use Rattle.gabc_headers.specs.machine.EntryMap.{named_entries}
+use Rattle.gabc_headers.specs.Entries.{EntryMapState, named_entries}
 use Rattle.gabc_headers.proofs.entries.MapIsReadByEntry.{length-named, named_get, get_none}
 use Rattle.gabc_headers.proofs.entry_map.EntryMap.name.Goals as goal
 
 pub returns-in-Some : goal.returns-in-Some
 returns-in-Some c =
-    let view : named_entries c.self.inside.map.entries ≡ c.args.self.now.items = ap (λ (v : BoundedList (List ℕ × Span)). v.items) c.self.view_is in
+    let view : named_entries c.self.inside.map.entries ≡ c.args.self.now.items = ap (λ (v : EntryMapState). v.items) c.self.view_is in
     rw (← view, named_get c.self.inside.map.entries c.args.index _ c.in-Some.ensures.entry) c.name.ensures
 
 pub returns-in-None : goal.returns-in-None
 returns-in-None c =
-    let view : named_entries c.self.inside.map.entries ≡ c.args.self.now.items = ap (λ (v : BoundedList (List ℕ × Span)). v.items) c.self.view_is in
+    let view : named_entries c.self.inside.map.entries ≡ c.args.self.now.items = ap (λ (v : EntryMapState). v.items) c.self.view_is in
     absurd (get_none c.self.inside.map.entries c.args.index c.in-None.ensures.entry (rw (← length-named c.self.inside.map.entries, view) c.requires))

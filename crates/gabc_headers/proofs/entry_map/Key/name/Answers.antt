@@ -1,6 +1,6 @@
 use Rattle.std.proofs.Common.{ap, sym, ◌∙◌}
 use Rattle.gabc_headers.specs.declared.entry_map.Key.{Key}
-use Rattle.gabc_headers.specs.machine.EntryMap.{key_name}
+use Rattle.gabc_headers.specs.Entries.{key_name}
 use Rattle.gabc_headers.proofs.entries.TextsAsBytes.{chars-annotation}
 use Rattle.gabc_headers.proofs.entry_map.Key.name.Goals as goal
 

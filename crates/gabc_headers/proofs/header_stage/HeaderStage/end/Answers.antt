@@ -17,10 +17,10 @@ returns-clause-out c =
       | in-InHeaders+in-Text w ↦
           let inside = subst (λ (p : HeadPart). IsStageIn p c.self.inside.limits text (string_capacity c.self.inside.text) c.self.inside.machine c.self.inside.headers) w.in-InHeaders.is c.self.invariant in
           let parts_at_end = emits_end c.self.inside.limits text (string_capacity c.self.inside.text) c.self.inside.machine c.self.inside.headers (IsUtf8-string_bytes c.self.inside.text) inside w.in-Text.place w.in-Text.open_line (sym w.in-Text.is ∙ w.end.ensures) in
-          w.out-is ∙ (w.push.ensures ∙ ap (λ (x : List HeadEvent). extended_by c.args.out.now x) (rw w.end_fault.ensures (sym (end_reading c.self.inside.limits c.self.inside.part text c.self.inside.headers.items c.args.self.now _ w.in-InHeaders.is c.self.view_is parts_at_end))))
-      | in-Behind w ↦ w.out-is ∙ (w.push-in-Behind.ensures ∙ ap (λ (x : List HeadEvent). extended_by c.args.out.now x) (sym (end_behind c.self.inside.limits c.self.inside.part text c.self.inside.headers.items c.args.self.now w.in-Behind.is c.self.view_is)))
-      | in-Stopped w ↦ w.out-is ∙ (nothing_added c.args.out.now ∙ ap (λ (x : List HeadEvent). extended_by c.args.out.now x) (sym (end_stopped c.self.inside.limits c.self.inside.part text c.self.inside.headers.items c.args.self.now w.in-Stopped.is c.self.view_is)))
-      | in-Over w ↦ w.out-is ∙ (nothing_added c.args.out.now ∙ ap (λ (x : List HeadEvent). extended_by c.args.out.now x) (sym (end_over c.self.inside.limits c.self.inside.part text c.self.inside.headers.items c.args.self.now w.in-Over.is c.self.view_is)))
+          w.out-is ∙ (w.push.ensures ∙ ap (λ (x : List HeadEvent). extended_by c.args.out.now x) (rw w.end_fault.ensures (sym (end_reading c.self.inside.limits c.self.inside.part text c.self.inside.headers c.args.self.now _ w.in-InHeaders.is c.self.view_is parts_at_end))))
+      | in-Behind w ↦ w.out-is ∙ (w.push-in-Behind.ensures ∙ ap (λ (x : List HeadEvent). extended_by c.args.out.now x) (sym (end_behind c.self.inside.limits c.self.inside.part text c.self.inside.headers c.args.self.now w.in-Behind.is c.self.view_is)))
+      | in-Stopped w ↦ w.out-is ∙ (nothing_added c.args.out.now ∙ ap (λ (x : List HeadEvent). extended_by c.args.out.now x) (sym (end_stopped c.self.inside.limits c.self.inside.part text c.self.inside.headers c.args.self.now w.in-Stopped.is c.self.view_is)))
+      | in-Over w ↦ w.out-is ∙ (nothing_added c.args.out.now ∙ ap (λ (x : List HeadEvent). extended_by c.args.out.now x) (sym (end_over c.self.inside.limits c.self.inside.part text c.self.inside.headers c.args.self.now w.in-Over.is c.self.view_is)))
     ]
 
 pub invariant_of-self : goal.invariant_of-self
@@ -32,4 +32,4 @@ invariant_of-self c =
 pub returns-clause-state : goal.returns-clause-state
 returns-clause-state c =
     let s = c.self.inside in
-    rw c.over-self-inside.ensures (shows_over s.limits s.part (string_bytes s.text) s.headers.items c.args.self.now c.self.view_is)
+    rw c.over-self-inside.ensures (shows_over s.limits s.part (string_bytes s.text) s.headers c.args.self.now c.self.view_is)

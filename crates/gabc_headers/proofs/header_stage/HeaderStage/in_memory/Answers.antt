@@ -1,7 +1,7 @@
 use Rattle.std.proofs.Common.{List, ℕ, [], refl, sym, ap}
 use Rattle.std.proofs.lemmas.Str.{chars-nil}
-use Rattle.gabc_places.specs.BoundedList.{BoundedList}
-use Rattle.gabc_places.specs.declared.place.Span.{Span}
+use Rattle.gabc_headers.specs.Entries.{EntryMapState}
+use Rattle.gabc_headers.specs.witness.HeadEvents.{fresh_stage}
 use Rattle.gabc_headers.proofs.header_stage.HeaderStage.in_memory.Goals as goal
 
 pub invariant_of-result : goal.invariant_of-result
@@ -10,9 +10,12 @@ invariant_of-result c = record {
   taken = rw (c.in_ok-with_capacity.ensures.bytes, chars-nil) (sym c.new.ensures.starts, refl);
   bounded = c.new.ensures.bounds;
   fits = c.in_ok-with_capacity.ensures.capacity;
-  put = ap (λ (x : BoundedList (List ℕ × Span)). x.items) c.in_ok-with_limit.ensures;
-  limit = ap (λ (x : BoundedList (List ℕ × Span)). x.limit) c.in_ok-with_limit.ensures;
+  put = ap (λ (x : EntryMapState). x.items) c.in_ok-with_limit.ensures;
+  limit = ap (λ (x : EntryMapState). x.limit) c.in_ok-with_limit.ensures;
 }
 
 pub returns : goal.returns
-returns c = rw (c.in_ok-with_capacity.ensures.bytes, chars-nil) refl
+returns c = record {
+  fresh = rw (c.in_ok-with_capacity.ensures.bytes, chars-nil) (ap (fresh_stage c.args.limits) (ap (λ (x : EntryMapState). x.hasher) c.in_ok-with_limit.ensures));
+  events = rw (c.in_ok-with_capacity.ensures.bytes, chars-nil) (c.events_make_the_headers.ensures c.args.limits);
+}

@@ -13,4 +13,4 @@ invariant_of-self c =
 pub returns-clause-state : goal.returns-clause-state
 returns-clause-state c =
     let s = c.self.inside in
-    rw c.over-self-inside.ensures (shows_over s.limits s.part (string_bytes s.text) s.headers.items c.args.self.now c.self.view_is)
+    rw c.over-self-inside.ensures (shows_over s.limits s.part (string_bytes s.text) s.headers c.args.self.now c.self.view_is)

@@ -2,7 +2,7 @@ use Rattle.std.proofs.Common.{◌≤◌, ◌∙◌, sym, ap, add-one, arith, len
 use Rattle.std.proofs.Math.ListN.{drop_of_length-le}
 use Rattle.std.specs.Str.{chars}
 use Rattle.gabc_headers.specs.Book.{value_named}
-use Rattle.gabc_headers.specs.machine.EntryMap.{spelled_entries}
+use Rattle.gabc_headers.specs.Entries.{spelled_entries}
 use Rattle.gabc_headers.proofs.entries.BookIsReadByEntry.{named_here, named_later}
 use Rattle.gabc_headers.proofs.entries.HeadersAreSpelled.{length-spelled, name_spelled}
 use Rattle.gabc_headers.proofs.headers.Headers.get.Goals as goal

@@ -1,7 +1,7 @@
 use Rattle.std.proofs.Common.{◌≡◌, drop}
 use Rattle.std.specs.Str.{chars}
 use Rattle.gabc_headers.specs.Book.{value_named}
-use Rattle.gabc_headers.specs.machine.EntryMap.{spelled_entries}
+use Rattle.gabc_headers.specs.Entries.{spelled_entries}
 use Rattle.gabc_headers.proofs.headers.Headers.get.Given as goal
 
 abbrev pub invariant-loop-index : goal.invariant-loop-index

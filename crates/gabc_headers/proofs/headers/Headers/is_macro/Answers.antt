@@ -1,4 +1,5 @@
 use Rattle.std.proofs.Common.{◌≡◌, ℕ, List, Option, None, Some, is_some, ap, sym, ◌∙◌, Bor, MatchOption}
+use Rattle.std.proofs.lemmas.Bool.{lt-ltb}
 use Rattle.std.specs.Str.{chars}
 use Rattle.gabc_headers.proofs.entries.TextsAsBytes.{chars-macro}
 use Rattle.gabc_headers.proofs.headers.Headers.is_macro.Goals as goal
@@ -7,5 +8,7 @@ some_same : (o : Option (Bor (List ℕ))) (p : Option (List ℕ)) → MatchOptio
 some_same None p h = sym (ap (λ (x : Option (List ℕ)). is_some x) h)
 some_same (Some v) p h = sym (ap (λ (x : Option (List ℕ)). is_some x) h)
 
-pub returns : goal.returns
-returns c = c.is_some.ensures ∙ some_same c.get.result _ (rw (← chars-macro c.args.digit c.requires, ← c.macro_header.ensures) c.get.ensures)
+pub returns-then-digit-lt10 : goal.returns-then-digit-lt10
+returns-then-digit-lt10 c =
+    let here = c.if-digit-lt10.true in
+    rw (lt-ltb c.args.digit 10 here) (c.is_some.ensures ∙ some_same c.get.result _ (rw (← chars-macro c.args.digit here, ← c.macro_header.ensures) c.get.ensures))

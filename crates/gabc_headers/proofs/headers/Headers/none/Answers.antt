@@ -1,6 +1,6 @@
 use Rattle.std.proofs.Common.{◌≤◌, length, arith}
 use Rattle.std.proofs.Math.ListN.{drop_of_length-le}
-use Rattle.gabc_headers.specs.machine.EntryMap.{spelled_entries}
+use Rattle.gabc_headers.specs.Entries.{spelled_entries}
 use Rattle.gabc_headers.proofs.entries.HeadersAreSpelled.{length-spelled}
 use Rattle.gabc_headers.proofs.headers.Headers.none.Goals as goal
 

@@ -1,6 +1,6 @@
 use Rattle.std.proofs.Common.{◌≡◌, ◌≤◌, ◌∙◌, sym, ap, add-one, arith, length, List, ℕ, []}
 use Rattle.std.proofs.Math.ListN.{drop_of_length-le}
-use Rattle.gabc_headers.specs.machine.EntryMap.{spelled_entries}
+use Rattle.gabc_headers.specs.Entries.{spelled_entries}
 use Rattle.gabc_headers.proofs.entries.HeadersAreSpelled.{length-spelled, name_spelled, left_here}
 use Rattle.gabc_headers.proofs.headers.HeadersIterator.next.Goals as goal
 

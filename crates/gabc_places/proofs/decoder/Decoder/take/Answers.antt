@@ -52,3 +52,6 @@ returns-clause-moves c =
       place = elim c.else-byte-lt128.branch [ else-byte-lt128-via-then-byte-lt128+else-is_empty w ↦ cc (ap (λ (s : DecoderState). s.place) w.self-is) | else-byte-lt128-via-else-byte-lt128 w ↦ cc (ap (λ (s : DecoderState). s.place) w.self-is) ];
       running = elim c.else-byte-lt128.branch [ else-byte-lt128-via-then-byte-lt128+else-is_empty w ↦ cc (ap (λ (s : DecoderState). s.running) w.self-is) | else-byte-lt128-via-else-byte-lt128 w ↦ cc (ap (λ (s : DecoderState). s.running) w.self-is) ];
     }) c.take_part.ensures.state c.take_part.ensures.events)
+
+pub returns-then-is_empty-clause-state : goal.returns-then-is_empty-clause-state
+returns-then-is_empty-clause-state c = rw (← c.self.view_is) (c.take_character.ensures.state ∙ ap (λ (t : DecoderStep). t.state) (taken c))

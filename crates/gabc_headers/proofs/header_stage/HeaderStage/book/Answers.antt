@@ -2,7 +2,7 @@ use Rattle.std.proofs.Common.{string_bytes}
 use Rattle.std.specs.String.{string_capacity}
 use Rattle.std.proofs.lemmas.Str.{IsUtf8-string_bytes}
 use Rattle.gabc_headers.proofs.stages.CharactersOfAStage.{keeps}
-use Rattle.gabc_headers.proofs.header_stage.HeaderStage.headers.Goals as goal
+use Rattle.gabc_headers.proofs.header_stage.HeaderStage.book.Goals as goal
 
 pub none-requires : goal.none-requires
 none-requires c =
