@@ -1,5 +1,6 @@
 //! A run that takes its input in pieces.
 
+ghost use Rattle.std.specs.Hash.DefaultHasher.{initial};
 ghost use Rattle.std.specs.Prelude.{◌≡◌, ◌<◌, ◌≤◌, ◌-◌, List, [], ◌∷◌, ◌++◌, length, take, true, false, ℕ, Bool, IfOk, option_to_list};
 ghost use Rattle.gabc_headers.specs.declared.head_event.HeadEvent.{HeadEvent as HeadItem};
 ghost use Rattle.gregorio.specs.declared.source_ending.SourceEnding.{SourceEnding as EndOfSource};
@@ -197,6 +198,7 @@ impl Engine {
         ensures waits { IfOk result (λ engine. NothingWaits engine) }
         ensures running { IfOk result (λ engine. is_running engine ≡ true) }
         ensures job { IfOk result (λ engine. RunsJob job.now limits engine) }
+        ensures hasher { IfOk result (λ engine. engine.heads.hasher ≡ initial) }
     {
         Engine::with_hasher(alloc, job, limits, DefaultHasher::new())
     }
@@ -215,6 +217,7 @@ impl Engine {
         ensures waits { IfOk result (λ engine. NothingWaits engine) }
         ensures running { IfOk result (λ engine. is_running engine ≡ true) }
         ensures job { IfOk result (λ engine. RunsJob job.now limits engine) }
+        ensures hasher { IfOk result (λ engine. engine.heads.hasher ≡ hasher) }
     {
         let memory = memory_for(alloc, job, limits)?;
         Engine::in_memory(&memory, job, limits, hasher)
@@ -233,6 +236,7 @@ impl Engine {
         ensures waits { IfOk result (λ engine. NothingWaits engine) }
         ensures running { IfOk result (λ engine. is_running engine ≡ true) }
         ensures job { IfOk result (λ engine. RunsJob job.now limits engine) }
+        ensures hasher { IfOk result (λ engine. engine.heads.hasher ≡ hasher) }
     {
         what_begins_is_written_whole();
         gabc_headers::stage_laws::a_held_text_grows();
@@ -476,6 +480,7 @@ impl Engine {
         ensures waits { NothingWaits self.new }
         ensures running { is_running self.new ≡ true }
         ensures job { StillRuns self.old self.new }
+        ensures hasher { self.new.heads.hasher ≡ self.old.heads.hasher }
     {
         what_begins_is_written_whole();
         gabc_headers::stage_laws::a_held_text_grows();

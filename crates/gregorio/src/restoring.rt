@@ -1,6 +1,7 @@
 //! A run that goes on from its saved state.
 
 ghost use Rattle.std.specs.Prelude.{◌≡◌, ◌↔◌, ◌<◌, ◌≤◌, ◌^◌, length, true, Err, IfErr, IfOk, IfSome, IsTrue};
+ghost use Rattle.std.specs.Hash.DefaultHasher.{initial};
 ghost use Rattle.std.specs.Str.{chars};
 ghost use Rattle.gabc_headers.specs.HeldText.{holding};
 ghost use Rattle.gabc_headers.specs.witness.HeadEvents.{fresh_stage};
@@ -58,7 +59,7 @@ pub(crate) fn fresh_heads(
     limits: Limits,
     hasher: DefaultHasher,
 ) -> Result<HeaderStage, StateFault>
-    ensures stage { IfOk result (λ stage. stage ≡ fresh_stage limits) }
+    ensures stage { IfOk result (λ stage. stage ≡ fresh_stage limits hasher) }
     ensures fault { IfErr result (λ fault. fault ≡ StateFault.K0) }
 {
     match HeaderStage::in_memory(memory, limits, hasher) {
@@ -76,7 +77,8 @@ fn heads_holding(
     hasher: DefaultHasher,
 ) -> Result<HeaderStage, StateFault>
     requires { length text.now < 2 ^ 63 }
-    ensures stage { IfOk result (λ stage. stage ≡ holding state.now.limits (chars text.now)) }
+    ensures stage { IfOk result (λ stage. stage ≡ holding state.now.limits hasher
+        (chars text.now)) }
     ensures gives { IfOk result (λ _. GivesHeaders state.now.limits (chars text.now)
         state.now.place state.now.has_error) }
     ensures refused { result ≡ Err StateFault.K1 → GivesHeaders state.now.limits (chars text.now)
@@ -103,7 +105,7 @@ fn heads_behind(
     limits: Limits,
     hasher: DefaultHasher,
 ) -> Result<HeaderStage, StateFault>
-    ensures stage { IfOk result (λ stage. stage ≡ behind_mark limits) }
+    ensures stage { IfOk result (λ stage. stage ≡ behind_mark limits hasher) }
     ensures fault { IfErr result (λ fault. fault ≡ StateFault.K0) }
 {
     let mut events = head_room(memory)?;
@@ -233,6 +235,7 @@ fn engine_with(
     requires job { IsOfJob job.now limits (fields_of state.now) }
     requires stand { StandSo (fields_of state.now) limits heads score }
     ensures goes { IfOk result (GoesOn job.now limits (fields_of state.now)) }
+    ensures hasher { IfOk result (λ engine. engine.heads.hasher ≡ heads.hasher) }
     ensures fault { IfErr result (λ fault. fault ≡ StateFault.K0) }
 {
     match head_room(memory) {
@@ -270,6 +273,7 @@ fn engine_in_headers(
     requires phase { phase_of state.now.phase ≡ InHeaders text.now }
     requires job { IsOfJob job.now limits (fields_of state.now) }
     ensures goes { IfOk result (GoesOn job.now limits (fields_of state.now)) }
+    ensures hasher { IfOk result (λ engine. engine.heads.hasher ≡ hasher) }
     ensures read { IfOk result (λ _. AreOfState (fields_of state.now)) }
     ensures none { result ≡ Err StateFault.K1 → AreOfState (fields_of state.now) → ⊥ }
     ensures never { result ≡ Err StateFault.K2 → ⊥ }
@@ -298,6 +302,7 @@ fn engine_in_score(
     requires phase { phase_of state.now.phase ≡ InScore (score_of fields.now) }
     requires job { IsOfJob job.now limits (fields_of state.now) }
     ensures goes { IfOk result (GoesOn job.now limits (fields_of state.now)) }
+    ensures hasher { IfOk result (λ engine. engine.heads.hasher ≡ hasher) }
     ensures read { IfOk result (λ _. AreOfState (fields_of state.now)) }
     ensures none { result ≡ Err StateFault.K1 → AreOfState (fields_of state.now) → ⊥ }
     ensures never { result ≡ Err StateFault.K2 → ⊥ }
@@ -331,6 +336,7 @@ impl Engine {
         ensures job { IfOk result (λ engine. RunsJob job.now limits engine) }
         ensures running { IfOk result (λ engine. is_running engine ≡ true) }
         ensures waits { IfOk result (λ engine. NothingWaits engine) }
+        ensures hasher { IfOk result (λ engine. engine.heads.hasher ≡ initial) }
         ensures none { result ≡ Err StateFault.K1 → IsState bytes.now → ⊥ }
         ensures other { result ≡ Err StateFault.K2 → IsOfAnother job.now limits bytes.now }
     {
@@ -350,6 +356,7 @@ impl Engine {
         ensures job { IfOk result (λ engine. RunsJob job.now limits engine) }
         ensures running { IfOk result (λ engine. is_running engine ≡ true) }
         ensures waits { IfOk result (λ engine. NothingWaits engine) }
+        ensures hasher { IfOk result (λ engine. engine.heads.hasher ≡ hasher) }
         ensures none { result ≡ Err StateFault.K1 → IsState bytes.now → ⊥ }
         ensures other { result ≡ Err StateFault.K2 → IsOfAnother job.now limits bytes.now }
     {

@@ -1,5 +1,6 @@
 -- An engine that has taken nothing of its input.
 use Rattle.std.specs.Prelude.{◌≡◌, ℕ, List, ◌++◌, length, take}
+use Rattle.std.specs.declared.hash.DefaultHasher.{DefaultHasher}
 use Rattle.gabc_places.specs.Decoder.{known_of, known_at_end}
 use Rattle.gabc_places.specs.StageLaw.{concat_of}
 use Rattle.gabc_places.specs.declared.limits.Limits.{Limits}
@@ -18,6 +19,7 @@ use Rattle.gregorio.specs.machine.ScoreWriter.{fresh_writer}
 pub record HasBegun (job : Job) (limits : Limits) (s : EngineState) : Type 0 where
   pub known : (bytes more : List ℕ) → concat_of (take (length bytes) (decoder.events_left s.decoder (bytes ++ more))) ≡ known_of limits bytes
   pub at_end : (bytes : List ℕ) → concat_of (decoder.events_left s.decoder bytes) ≡ known_at_end limits bytes
-  pub heads : s.heads ≡ fresh_stage limits
+  pub hasher : DefaultHasher
+  pub heads : s.heads ≡ fresh_stage limits hasher
   pub score : (xs : List HeadEvent) → AreCountsBelow xs → left_of s.score xs ≡ score_outputs texts_by_stage limits xs
   pub written : s.written ≡ fresh_writer job

@@ -17,7 +17,8 @@ engine_with-requires-clause-stand c =
     let limits : own ≡ c.args.limits = same s own tells c.requires.fields (InHeaders c.args.text.now) c.requires.phase c.args.limits is.limits_are in
     stand_so s own tells c.requires.fields (InHeaders c.args.text.now) c.requires.phase c.args.limits is.limits_are c.in_ok-heads.heads c.in-Ok.score c.in-Ok.ensures.limits
     (record {
-      heads = c.in_ok-heads.ensures.stage ∙ ap (λ (l : Limits). holding l (chars c.args.text.now)) limits;
+      hasher = c.args.hasher;
+      heads = c.in_ok-heads.ensures.stage ∙ ap (λ (l : Limits). holding l c.args.hasher (chars c.args.text.now)) limits;
       gives = subst (λ (l : Limits). GivesHeaders l (chars c.args.text.now) s.place s.has_error) limits c.in_ok-heads.ensures.gives;
       part = c.in-Ok.ensures.part;
     })

@@ -23,7 +23,7 @@ engine_with-requires-clause-stand c =
     let d = c.in_ok-score.ensures.told in
     stand_so s own tells c.requires.fields (InScore f) c.requires.phase c.args.limits is.limits_are c.in-Ok.heads c.in_ok-score.score
     (told_once s c.in_ok-score.score.limits c.args.limits d.limits_are is.limits_are)
-    (record { heads = c.in-Ok.ensures.stage; set_down = d })
+    (record { hasher = c.args.hasher; heads = c.in-Ok.ensures.stage; set_down = d })
 
 pub returns-in-Ok-clause-read : goal.returns-in-Ok-clause-read
 returns-in-Ok-clause-read c =
