@@ -10,6 +10,7 @@ pub mod FirstNotes
 pub mod EmittedByHeaders
 pub mod GivenSyllables
 pub mod HeadersMayCome
+pub mod HeldHoldUnits
 pub mod HeldIsText
 pub mod HeldScoreIsDefinition
 pub mod HeldSyllables

@@ -245,6 +245,16 @@ pub fn what_is_held_holds_a_unit()
     gabc_nabc::laws::kept_again();
 }
 
+/// Law: where the inputs of a stage just cease, whatever it has read, each syllable that it gives
+/// then is the one that it holds, and holds some unit.
+pub fn what_breaks_off_holds_a_unit()
+    ensures { (s : ScoreStageState) → MayStand s →
+        All (λ p. HoldsSomeUnit s.body.nabc_lines p.made)
+        (syllables_in (concat_of (left_of s []))) }
+{
+    what_is_held_holds_a_unit();
+}
+
 /// Which spans are open behind the whole syllable that a stage holds, whatever it has read, follows from its text and from those that are open
 /// before it.
 pub fn spans_of_what_is_held_follow()

@@ -7,7 +7,6 @@ pub mod ItemsAreRead
 pub mod HeadersAreRead
 pub mod BytesAreTaken
 pub mod FrontIsTaken
-pub mod HeldHoldUnits
 pub mod NothingIsKeptBack
 pub mod InputsAreEnded
 pub mod WrittenGoesOn

@@ -263,7 +263,7 @@ impl Engine {
         ensures { IsPrompt self.now.written.format (streams_left self.now Broken []) }
     {
         gabc_score::stage_laws::inputs_that_cease_give_no_stop();
-        gabc_score::stage_laws::what_is_held_holds_a_unit();
+        gabc_score::stage_laws::what_breaks_off_holds_a_unit();
         gabc_score::stage_laws::a_stage_may_stand(self.writer.score());
         self.writer.at_most_one_is_held();
     }

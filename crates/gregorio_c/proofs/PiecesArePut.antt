@@ -22,7 +22,8 @@ use Rattle.gregorio_c.specs.declared.lengths.Lengths.{Lengths}
 use Rattle.gregorio_c.specs.declared.step.Step.{Step}
 use Rattle.gregorio_c.specs.declared.in_pieces.Fed.{Fed}
 use Rattle.gregorio_c.specs.declared.in_pieces.Fed.TheVariants.{On, Over}
-use Rattle.gregorio_c.specs.machine.InPieces.{MayFail, PutsFed, PutsLast, PutsOn, fed_as}
+use Rattle.gregorio_c.specs.InPieces.{MayFail, PutsLast}
+use Rattle.gregorio_c.specs.machine.InPieces.{PutsFed, PutsOn, fed_as}
 use Rattle.gregorio_c.specs.machine.Steps.{WritesNothing}
 use Rattle.gregorio_c.proofs.PiecesAreGathered.{joined_streams}
 use Rattle.gregorio_c.proofs.NoStepIsRefused.{begun_writes, ended_writes, fed_writes}

@@ -1,13 +1,14 @@
 //! A run in pieces as a whole. The contract of the one public function is a law, and its body makes the calls.
 
-ghost use Rattle.std.specs.Prelude.{◌≡◌, ◌↔◌, ◌⊎◌, [], take, IfErr, IfOk, IsTrue};
+ghost use Rattle.std.specs.Prelude.{◌≡◌, ◌↔◌, ◌⊎◌, [], take, Err, IfErr, IfOk, IsTrue};
 ghost use Rattle.gabc_places.specs.declared.limits.Limits.{Limits as RunLimits};
 ghost use Rattle.gregorio.specs.Streams.{joined};
-ghost use Rattle.gregorio_c.specs.Asked.{AsksFor};
+ghost use Rattle.gregorio_c.specs.Asked.{AsksFor, AsksForNothing};
 ghost use Rattle.gregorio_c.specs.StepAnswers.{EndAnswer, IsReason, used};
 ghost use Rattle.gregorio_c.specs.Steps.{Writes, job_of, run_of};
 ghost use Rattle.gregorio_c.specs.declared.request.Request.{Request as Wanted};
-ghost use Rattle.gregorio_c.specs.machine.InPieces.{MayFail, PutsFed, PutsLast, fed_as};
+ghost use Rattle.gregorio_c.specs.InPieces.{MayFail, PutsLast};
+ghost use Rattle.gregorio_c.specs.machine.InPieces.{PutsFed, fed_as};
 ghost use Rattle.gregorio_c.specs.machine.Steps.{WritesNothing};
 ghost use Rattle.gregorio.specs.witness.StandsFor.{StandsFor};
 
@@ -67,6 +68,8 @@ fn begin_one(alloc: Global, numbers: &Numbers<'_>, state: &mut [u8]) -> Result<u
     ensures error { (request : Wanted) (limits : RunLimits) →
         AsksFor numbers.now.format numbers.now.flags numbers.now.options.now request limits →
         IfErr result MayFail }
+    ensures nothing { AsksForNothing numbers.now.format numbers.now.flags numbers.now.options.now →
+        result ≡ Err 3 }
 {
     let mut step = Step {
         state: 0,
@@ -227,6 +230,8 @@ pub fn a_run_may_be_fed_in_pieces<O: Put, M: Put>(
     ensures error { (request : Wanted) (limits : RunLimits) →
         AsksFor numbers.now.format numbers.now.flags numbers.now.options.now request limits →
         IfErr result MayFail }
+    ensures nothing { AsksForNothing numbers.now.format numbers.now.flags numbers.now.options.now →
+        result ≡ Err 3 }
 {
     let mut len = begin_one(alloc, numbers, state)?;
     for piece in pieces {

@@ -11,7 +11,9 @@ use Rattle.gabc_headers.specs.Lines.{bytes_len, lines, has_score}
 use Rattle.gabc_headers.specs.Book.{book_of}
 use Rattle.gabc_headers.specs.Canonical.{header_lines}
 use Rattle.gabc_headers.specs.declared.heads.HeadFault.{HeadFault}
-use Rattle.gabc_headers.specs.Heads.{head_parts, head_len, open_line, first_above, too_long, text_stops, heads_by, heads_of}
+use Rattle.gabc_headers.specs.Heads.{head_len, open_line, first_above, too_long, text_stops, heads_of}
+use Rattle.gabc_headers.specs.witness.Heads.{heads_by}
+use Rattle.gabc_headers.specs.witness.Parts.{head_parts}
 use Rattle.gabc_headers.proofs.stops.HeadsByEnding.{not_eq}
 use Rattle.gabc_headers.proofs.stops.LargerLimits.{earliest_of, heads_are, same_fault, stop_of}
 use Rattle.gabc_headers.proofs.stops.PointsOfStops.{score_within}

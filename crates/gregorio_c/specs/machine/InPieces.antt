@@ -1,11 +1,11 @@
 -- What the calls of a run in pieces put, each behind what was put before.
-use Rattle.std.specs.Prelude.{◌≡◌, ◌==◌, ◌⊎◌, ℕ, List, ◌++◌, take, if◌then◌else◌}
+use Rattle.std.specs.Prelude.{◌≡◌, ◌==◌, ℕ, List, ◌++◌, take, if◌then◌else◌}
 use Rattle.gabc_places.specs.declared.limits.Limits.{Limits}
 use Rattle.gregorio_jobs.specs.declared.job.Job.{Job}
-use Rattle.gregorio_jobs.specs.Status.{code_of}
 use Rattle.gregorio.specs.declared.source_ending.SourceEnding.{SourceEnding}
-use Rattle.gregorio.specs.Streams.{Streams, behind_bytes}
+use Rattle.gregorio.specs.Streams.{behind_bytes}
 use Rattle.gregorio.specs.witness.StandsFor.{StandsFor}
+use Rattle.gregorio_c.specs.InPieces.{PutsLast}
 use Rattle.gregorio_c.specs.Steps.{Writes, goes_on}
 use Rattle.gregorio_c.specs.declared.in_pieces.Fed.{Fed}
 use Rattle.gregorio_c.specs.declared.in_pieces.Fed.TheVariants.{On, Over}
@@ -14,17 +14,7 @@ use Rattle.gregorio_c.specs.declared.in_pieces.Fed.TheVariants.{On, Over}
 abbrev pub fed_as : ℕ → ℕ → Fed
 fed_as number len = if number == goes_on then On len else Over number
 
--- a call that asks for something may fail for want of memory, or since a buffer is too small
-abbrev pub MayFail : ℕ → Type 0
-MayFail number = (number ≡ 5) ⊎ (number ≡ 7)
-
 module _ {A B : Type 0} (takes : A → List ℕ → A) (takes_too : B → List ℕ → B) where
-  -- two ends have taken these streams, and this is the number of their status
-  pub record PutsLast (streams : Streams) (o : A) (m : B) (o_then : A) (m_then : B) (number : ℕ) : Type 0 where
-    pub out_is : o_then ≡ takes o streams.output
-    pub lines_are : m_then ≡ takes_too m streams.messages
-    pub number_is : number ≡ code_of streams.status
-
   -- They have taken what was written of these bytes, and the state stands for the rest.
   pub record PutsOn (job : Job) (limits : Limits) (left : Writes) (bytes : List ℕ) (o : A) (m : B) (state : List ℕ) (o_then : A) (m_then : B) : Type 0 where
     pub output : List ℕ
@@ -37,4 +27,4 @@ module _ {A B : Type 0} (takes : A → List ℕ → A) (takes_too : B → List �
 
   abbrev pub PutsFed : Job → Limits → Writes → List ℕ → A → B → List ℕ → A → B → Fed → Type 0
   PutsFed job limits left piece o m state o_then m_then (On len) = PutsOn job limits left piece o m (take len state) o_then m_then
-  PutsFed job limits left piece o m state o_then m_then (Over number) = (ending : SourceEnding) (more : List ℕ) → PutsLast (left ending (piece ++ more)) o m o_then m_then number
+  PutsFed job limits left piece o m state o_then m_then (Over number) = (ending : SourceEnding) (more : List ℕ) → PutsLast takes takes_too (left ending (piece ++ more)) o m o_then m_then number

@@ -5,7 +5,6 @@ use Rattle.gabc_score.specs.witness.ScoreStage.{left_of}
 use Rattle.gregorio.specs.witness.Engine.{EngineState}
 use Rattle.gregorio.specs.machine.ScoreWriter.{IsSilent}
 use Rattle.gabc_score.specs.witness.MayStand.{MayStand}
-use Rattle.gregorio.proofs.pieces.HeldHoldUnits.{noted}
 use Rattle.gregorio.proofs.pieces.NothingIsKeptBack.{prompt_now}
 use Rattle.gregorio.proofs.engine.Engine.keeps_nothing_back.Goals as goal
 
@@ -16,4 +15,4 @@ returns c =
     let few = subst (λ (e : EngineState). length (syllables_in (concat_of (left_of e.score []))) ≤ 1) c.self.view_is c.at_most_one_is_held.ensures.held in
     let over = subst (λ (e : EngineState). IsSome e.written.ended → IsSilent e.score) c.self.view_is c.at_most_one_is_held.ensures.over in
     let may = subst (λ (e : EngineState). MayStand e.score) c.self.view_is (subst MayStand c.score.ensures c.a_stage_may_stand.ensures) in
-    prompt_now s (record { findings = law.findings s.score; stop = law.stop s.score; end = law.end s.score }) few (noted c.what_is_held_holds_a_unit.ensures s.score may) over
+    prompt_now s (record { findings = law.findings s.score; stop = law.stop s.score; end = law.end s.score }) few (c.what_breaks_off_holds_a_unit.ensures s.score may) over

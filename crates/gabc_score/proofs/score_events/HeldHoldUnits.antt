@@ -31,7 +31,6 @@ by_part P limits score_part.Body h body few some = given P h h.gathered.made ref
 few_in : (s : ScoreStageState) → MayStand s → s.part ≡ score_part.Body → length s.held.gathered.made ≤ 1
 few_in s h = subst (λ (s : ScoreStageState). s.part ≡ score_part.Body → length s.held.gathered.made ≤ 1) h.shows h.few
 
-
 pub noted : ((s : ScoreStageState) → MayStand s → IfSome (held_in_body s.part s.held.gathered.made) (HoldsSomeUnit s.body.nabc_lines)) → (s : ScoreStageState) → MayStand s
     → All (λ (p : PlacedSyllable). HoldsSomeUnit s.body.nabc_lines p.made) (syllables_in (concat_of (left_of s [])))
 noted law s may = by_part (HoldsSomeUnit s.body.nabc_lines) s.limits s.part s.held s.body (few_in s may) (law s may)
