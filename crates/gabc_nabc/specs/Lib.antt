@@ -3,6 +3,7 @@ pub mod witness
 pub mod CharClass
 pub mod Codes
 pub mod Events
+pub mod KnownNames
 pub mod Names
 pub mod Parts
 pub mod ReadAgain
