@@ -24,7 +24,9 @@ ghost use Rattle.gabc_notes.specs.witness.Keeps.{set_down};
 ghost use Rattle.gabc_nabc.specs.witness.DescriptorMachine.{events_left};
 ghost use Rattle.gabc_nabc.specs.witness.Keeps.{comment_of, IsKeptAgain, Keeps};
 ghost use Rattle.gabc_nabc.specs.ReadAgain.{IsNabcReadAgain};
-ghost use Rattle.gabc_nabc.specs.SnippetRead.{before_end, from_end, kept_before, end_before, AreAtMostOne};
+ghost use Rattle.gabc_nabc.specs.SnippetRead.{before_end, from_end, kept_before, end_before, AreAtMostOne, IsComputed};
+ghost use Rattle.gabc_nabc.specs.NabcRead.{IsNabcRead};
+ghost use Rattle.gabc_notes.specs.declared.snippet_read.SnippetRead.{SnippetRead};
 
 pub use crate::names::names_are_these;
 use crate::stage::NabcStage;
@@ -64,6 +66,12 @@ pub fn parts_are_computed()
     ensures snippet { (bytes : List ℕ) → IsUtf8 bytes → IsNabc bytes →
         MakeUp bytes (parts_of bytes) }
     ensures within { (bytes : List ℕ) → IsUtf8 bytes → AreWithin bytes (parts_of bytes) }
+{}
+
+/// What is read of a text, by relations over the whole of it, is what is computed a character at a time.
+pub fn what_is_read_is_computed()
+    ensures { (at : Place) (t : List ℕ) (read : SnippetRead) →
+        IsNabcRead at t read ↔ IsComputed at t read }
 {}
 
 /// A viable text is an NABC snippet with at most two characters more.
