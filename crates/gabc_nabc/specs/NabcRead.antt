@@ -9,7 +9,7 @@ use Rattle.gabc_places.specs.Place.{place_past, placed_characters_from}
 use Rattle.gabc_patterns.specs.Kept.{Keeps, Trims}
 use Rattle.gabc_patterns.specs.LongestItems.{IsSnippet, IsViable}
 use Rattle.gabc_patterns.specs.Pattern.{Spells}
-use Rattle.gabc_notes.specs.FoundAt.{AreFoundAt}
+use Rattle.gabc_notes.specs.FoundAt.{AreThoseFound}
 use Rattle.gabc_notes.specs.declared.snippet_read.SnippetEnding.TheVariants.{Next, Close, Cut}
 use Rattle.gabc_notes.specs.declared.snippet_read.SnippetRead.{SnippetRead}
 use Rattle.gabc_nabc.specs.Table.{nabc, code}
@@ -35,15 +35,14 @@ IsFound kept c E3 = ¬ IsViable nabc (kept ++ c ∷ [])
 IsFound kept c W7 = IsViable nabc (kept ++ c ∷ []) × EndsUnknownCode kept c
 IsFound kept c _ = ⊥
 
--- the code is found at the character c behind the text
-abbrev pub IsFoundBehind : List ℕ → ℕ → Code → Type 0
-IsFoundBehind t c found = (is_character t c ≡ true) × ((kept : List ℕ) × IsKeptOf t kept × IsFound kept c found)
+-- the finding is made at the character behind the text
+abbrev pub IsFoundBehind : List ℕ → Char → Finding → Type 0
+IsFoundBehind t x f = (f.place ≡ x.place) × (is_character t x.c ≡ true) × ((kept : List ℕ) × IsKeptOf t kept × IsFound kept x.c f.code)
 
 -- these are found at the characters behind the text, in order
 abbrev pub AreFound : List ℕ → List Char → List Finding → Type 0
 AreFound t [] fs = fs ≡ []
-AreFound t (x ∷ xs) fs =
-    (here later : List Finding) × (fs ≡ here ++ later) × AreFoundAt (IsFoundBehind t x.c) x.place here × AreFound (t ++ x.c ∷ []) xs later
+AreFound t (x ∷ xs) fs = (here later : List Finding) × (fs ≡ here ++ later) × AreThoseFound (IsFoundBehind t x) here × AreFound (t ++ x.c ∷ []) xs later
 
 -- The snippet ends at the mark c behind its text, of which that is kept and found. An unfinished end is left out, and found at the mark.
 pub record IsEnded (at : Place) (front kept : List ℕ) (found : List Finding) (c : ℕ) (r : SnippetRead) : Type 0 where
@@ -51,7 +50,7 @@ pub record IsEnded (at : Place) (front kept : List ℕ) (found : List Finding) (
   pub whole : List ℕ
   pub trims : Trims nabc kept whole
   pub last : List Finding
-  pub unfinished : AreFoundAt (λ found. (found ≡ E6) × (¬ IsSnippet nabc kept)) (place_past at front) last
+  pub unfinished : AreThoseFound (λ f. (f ≡ record { place = place_past at front; code = E6 }) × (¬ IsSnippet nabc kept)) last
   pub kept_is : string_bytes r.kept ≡ encode_utf8_all whole
   pub findings_are : r.findings ≡ found ++ last
   pub how_is : r.how ≡ (let n = length (encode_utf8_all front) in if c == 124 then Next n else Close n)

@@ -1,9 +1,7 @@
--- What is found at one place.
+-- What is found at one character.
 use Rattle.std.specs.Prelude.{◌≡◌, ◌⊎◌, List, [], ◌∷◌}
-use Rattle.gabc_places.specs.declared.code.Code.{Code}
 use Rattle.gabc_places.specs.declared.code.Finding.{Finding}
-use Rattle.gabc_places.specs.declared.place.Place.{Place}
 
--- one finding at the place, of a code that is found there; or none, where no code is
-abbrev pub AreFoundAt : (Code → Type 0) → Place → List Finding → Type 0
-AreFoundAt Is place fs = ((code : Code) × Is code × (fs ≡ record { place = place; code = code } ∷ [])) ⊎ (((code : Code) → ¬ Is code) × (fs ≡ []))
+-- these are the one finding that is made, or none where none is made
+abbrev pub AreThoseFound : (Finding → Type 0) → List Finding → Type 0
+AreThoseFound Is fs = ((f : Finding) × Is f × (fs ≡ f ∷ [])) ⊎ (((f : Finding) → ¬ Is f) × (fs ≡ []))

@@ -16,7 +16,8 @@ use Rattle.gabc_patterns.specs.Derivative.{is_snippet, is_viable}
 use Rattle.gabc_patterns.specs.Function.{trim}
 use Rattle.gabc_patterns.proofs.FunctionsMeetRelations.{keep_keeps, keeps_is, not_viable, no_snippet, trim_trims, trims_is}
 use Rattle.gabc_patterns.proofs.LongestMunchByCharacter.{viable_to, viable_from, snippet_to, snippet_from}
-use Rattle.gabc_notes.specs.FoundAt.{AreFoundAt}
+use Rattle.gabc_notes.specs.FoundAt.{AreThoseFound}
+use Rattle.gabc_notes.proofs.FoundOnce.{same_finding, found_once}
 use Rattle.gabc_notes.specs.Events.{finding_event, end_by_mark}
 use Rattle.gabc_notes.specs.SnippetRead.{findings_of}
 use Rattle.gabc_notes.specs.declared.stage.NoteEvent.{NoteEvent}
@@ -128,9 +129,9 @@ found_only kept c W7 h = inr (refl, h.0, h.1)
 found_only kept c _ h = absurd h
 
 -- what the events at a character tell
-found_here : (t : List ℕ) (x : Char) → has_end t ≡ false → is_end t x.c ≡ false → AreFoundAt (IsFoundBehind t x.c) x.place (findings_of (events_at t x))
+found_here : (t : List ℕ) (x : Char) → has_end t ≡ false → is_end t x.c ≡ false → AreThoseFound (IsFoundBehind t x) (findings_of (events_at t x))
 found_here t x running no_mark =
-    subst (λ (es : List NoteEvent). AreFoundAt (IsFoundBehind t x.c) x.place (findings_of es)) (sym same) (at_character (is_character t x.c) refl)
+    subst (λ (es : List NoteEvent). AreThoseFound (IsFoundBehind t x) (findings_of es)) (sym same) (at_character (is_character t x.c) refl)
   where
     same : events_at t x ≡ cond (is_character t x.c) (character_events (kept_of t) x) []
     same =
@@ -144,54 +145,47 @@ found_here t x running no_mark =
     ]
 
     at_code : is_character t x.c ≡ true → is_viable nabc (kept_of t ++ x.c ∷ []) ≡ true → (b : Bool) → is_missing (first_of (kept_of t)) x.c ≡ b
-        → AreFoundAt (IsFoundBehind t x.c) x.place (findings_of (Kept x ∷ cond b (finding_event x.place W7 ∷ []) []))
-    at_code e f true g = inl (W7, (e, (kept_of t, kept_keeps t, (viable_from nabc refl (kept_of t ++ x.c ∷ []) f, missing_to (kept_of t) x.c g))), refl)
-    at_code e f false g = inr ((λ found h. named f g found h.1.0 h.1.1 h.1.2), refl)
+        → AreThoseFound (IsFoundBehind t x) (findings_of (Kept x ∷ cond b (finding_event x.place W7 ∷ []) []))
+    at_code e f true g = inl (record { place = x.place; code = W7 }, (refl, e, (kept_of t, kept_keeps t, (viable_from nabc refl (kept_of t ++ x.c ∷ []) f, missing_to (kept_of t) x.c g))), refl)
+    at_code e f false g = inr ((λ found h. named f g found.code h.2.0 h.2.1 h.2.2), refl)
 
     at_viable : is_character t x.c ≡ true → (b : Bool) → is_viable nabc (kept_of t ++ x.c ∷ []) ≡ b
-        → AreFoundAt (IsFoundBehind t x.c) x.place (findings_of (cond b (Kept x ∷ cond (is_missing (first_of (kept_of t)) x.c) (finding_event x.place W7 ∷ []) []) (finding_event x.place E3 ∷ [])))
+        → AreThoseFound (IsFoundBehind t x) (findings_of (cond b (Kept x ∷ cond (is_missing (first_of (kept_of t)) x.c) (finding_event x.place W7 ∷ []) []) (finding_event x.place E3 ∷ [])))
     at_viable e true f = at_code e f (is_missing (first_of (kept_of t)) x.c) refl
-    at_viable e false f = inl (E3, (e, (kept_of t, kept_keeps t, not_viable nabc refl (kept_of t ++ x.c ∷ []) f)), refl)
+    at_viable e false f = inl (record { place = x.place; code = E3 }, (refl, e, (kept_of t, kept_keeps t, not_viable nabc refl (kept_of t ++ x.c ∷ []) f)), refl)
 
-    at_character : (b : Bool) → is_character t x.c ≡ b → AreFoundAt (IsFoundBehind t x.c) x.place (findings_of (cond b (character_events (kept_of t) x) []))
+    at_character : (b : Bool) → is_character t x.c ≡ b → AreThoseFound (IsFoundBehind t x) (findings_of (cond b (character_events (kept_of t) x) []))
     at_character true e = at_viable e (is_viable nabc (kept_of t ++ x.c ∷ [])) refl
-    at_character false e = inr ((λ found h. let f = h.0 in absurd (cc)), refl)
+    at_character false e = inr ((λ found h. let f = h.1 in absurd (cc)), refl)
 
 -- what the events at a mark tell
-unfinished_at : (k : List ℕ) (x : Char) → AreFoundAt (λ found. (found ≡ E6) × (¬ IsSnippet nabc k)) x.place (findings_of (end_events k x))
+unfinished_at : (k : List ℕ) (x : Char) → AreThoseFound (λ f. (f ≡ record { place = x.place; code = E6 }) × (¬ IsSnippet nabc k)) (findings_of (end_events k x))
 unfinished_at k x = go (is_snippet nabc k) refl
   where
     go : (b : Bool) → is_snippet nabc k ≡ b
-        → AreFoundAt (λ found. (found ≡ E6) × (¬ IsSnippet nabc k)) x.place (findings_of (cond b [] (finding_event x.place E6 ∷ []) ++ Ended (end_by_mark x.c) (bytes_in (trim nabc k)) ∷ []))
-    go true e = inr ((λ found h. h.1 (snippet_from nabc refl k e)), refl)
-    go false e = inl (E6, (refl, no_snippet nabc refl k e), refl)
+        → AreThoseFound (λ f. (f ≡ record { place = x.place; code = E6 }) × (¬ IsSnippet nabc k)) (findings_of (cond b [] (finding_event x.place E6 ∷ []) ++ Ended (end_by_mark x.c) (bytes_in (trim nabc k)) ∷ []))
+    go true e = inr ((λ f h. h.1 (snippet_from nabc refl k e)), refl)
+    go false e = inl (record { place = x.place; code = E6 }, (refl, no_snippet nabc refl k e), refl)
 
 -- ---- nothing else is so found
 
--- two lists that are found at one place are one, if one code is
-pub one_at_place : (Is : Code → Type 0) → ((one other : Code) → Is one → Is other → one ≡ other) → (p : Place) (fs gs : List Finding) → AreFoundAt Is p fs → AreFoundAt Is p gs → fs ≡ gs
-one_at_place Is only p fs gs (inl u) (inl v) = u.2 ∙ (ap (λ (found : Code). record { place = p; code = found } ∷ []) (only u.0 v.0 u.1 v.1) ∙ sym v.2)
-one_at_place Is only p fs gs (inl u) (inr v) = absurd (v.0 u.0 u.1)
-one_at_place Is only p fs gs (inr u) (inl v) = absurd (u.0 v.0 v.1)
-one_at_place Is only p fs gs (inr u) (inr v) = u.1 ∙ sym v.1
-
-one_code : (t : List ℕ) (c : ℕ) (one other : Code) → IsFoundBehind t c one → IsFoundBehind t c other → one ≡ other
-one_code t c one other h k = go (found_only h.1.0 c one h.1.2) (found_only k.1.0 c other k.1.2)
+one_code : (t : List ℕ) (x : Char) (f g : Finding) → IsFoundBehind t x f → IsFoundBehind t x g → f ≡ g
+one_code t x f g h k = same_finding f g (h.0 ∙ sym k.0) (go (found_only h.2.0 x.c f.code h.2.2) (found_only k.2.0 x.c g.code k.2.2))
   where
-    same : h.1.0 ≡ k.1.0
-    same = kept_is t h.1.0 h.1.1 ∙ sym (kept_is t k.1.0 k.1.1)
+    same : h.2.0 ≡ k.2.0
+    same = kept_is t h.2.0 h.2.1 ∙ sym (kept_is t k.2.0 k.2.1)
 
-    go : ((one ≡ E3) × (¬ IsViable nabc (h.1.0 ++ c ∷ []))) ⊎ ((one ≡ W7) × IsViable nabc (h.1.0 ++ c ∷ []) × EndsUnknownCode h.1.0 c)
-        → ((other ≡ E3) × (¬ IsViable nabc (k.1.0 ++ c ∷ []))) ⊎ ((other ≡ W7) × IsViable nabc (k.1.0 ++ c ∷ []) × EndsUnknownCode k.1.0 c) → one ≡ other
+    go : ((f.code ≡ E3) × (¬ IsViable nabc (h.2.0 ++ x.c ∷ []))) ⊎ ((f.code ≡ W7) × IsViable nabc (h.2.0 ++ x.c ∷ []) × EndsUnknownCode h.2.0 x.c)
+        → ((g.code ≡ E3) × (¬ IsViable nabc (k.2.0 ++ x.c ∷ []))) ⊎ ((g.code ≡ W7) × IsViable nabc (k.2.0 ++ x.c ∷ []) × EndsUnknownCode k.2.0 x.c) → f.code ≡ g.code
     go (inl u) (inl v) = u.0 ∙ sym v.0
-    go (inl u) (inr v) = absurd (u.1 (subst (λ (w : List ℕ). IsViable nabc (w ++ c ∷ [])) (sym same) v.1))
-    go (inr u) (inl v) = absurd (v.1 (subst (λ (w : List ℕ). IsViable nabc (w ++ c ∷ [])) same u.1))
+    go (inl u) (inr v) = absurd (u.1 (subst (λ (w : List ℕ). IsViable nabc (w ++ x.c ∷ [])) (sym same) v.1))
+    go (inr u) (inl v) = absurd (v.1 (subst (λ (w : List ℕ). IsViable nabc (w ++ x.c ∷ [])) same u.1))
     go (inr u) (inr v) = u.0 ∙ sym v.0
 
 one_found : (t : List ℕ) (xs : List Char) (fs gs : List Finding) → AreFound t xs fs → AreFound t xs gs → fs ≡ gs
 one_found t [] fs gs h k = h ∙ sym k
 one_found t (x ∷ xs) fs gs (a, b, e, here, later) (c, d, f, there, more) =
-    let p = one_at_place (IsFoundBehind t x.c) (one_code t x.c) x.place a c here there in
+    let p = found_once (IsFoundBehind t x) (one_code t x) a c here there in
     let q = one_found (t ++ x.c ∷ []) xs b d later more in
     e ∙ (ap (λ (u : List Finding). u ++ b) p ∙ (ap (λ (u : List Finding). c ++ u) q ∙ sym f))
 
@@ -362,7 +356,7 @@ relations_are_computed at t r h = go h.rest h.cut h.is_read
         let x : Char = record { c = c; place = place_past at h.front } in
         i.findings_are
         ∙ ap (λ (u : List Finding). h.found ++ u)
-        (one_at_place (λ found. (found ≡ E6) × (¬ IsSnippet nabc h.kept)) (λ one other u v. u.0 ∙ sym v.0) x.place i.last (findings_of (end_events h.kept x)) i.unfinished (unfinished_at h.kept x)
+        (found_once (λ f. (f ≡ record { place = x.place; code = E6 }) × (¬ IsSnippet nabc h.kept)) (λ f g u v. u.0 ∙ sym v.0) i.last (findings_of (end_events h.kept x)) i.unfinished (unfinished_at h.kept x)
         ∙ ap (λ (u : List ℕ). findings_of (end_events u x)) kept)
 
     text : (rest : List ℕ) → IsRead at h.front h.kept h.found rest r → string_bytes r.kept ≡ encodes (kept_before h.front rest)
