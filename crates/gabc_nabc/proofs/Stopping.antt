@@ -1,5 +1,5 @@
 -- Behind an end that a stage emits, it emits nothing.
-use Rattle.std.proofs.Common.{◌≡◌, List, [], ◌∷◌, ◌++◌, Bool, true, false, cond, refl, ap, ◌∙◌, ℕ, Some, None, option_to_list}
+use Rattle.std.proofs.Common.{◌≡◌, List, [], ◌∷◌, ◌++◌, Bool, true, false, cond, refl, ap, ◌∙◌, ℕ, Option, Some, None, option_to_list}
 use Rattle.std.specs.List.{list_any}
 use Rattle.gabc_places.specs.declared.code.Code.TheVariants.{E6, W7}
 use Rattle.gabc_places.specs.declared.place.Char.{Char}
@@ -10,12 +10,13 @@ use Rattle.gabc_notes.specs.declared.stage.NoteEnd.TheVariants.{Cut}
 use Rattle.gabc_notes.specs.declared.stage.NoteEvent.{NoteEvent}
 use Rattle.gabc_notes.specs.declared.stage.NoteEvent.TheVariants.{Kept, Ended}
 use Rattle.gabc_places.proofs.NothingBehindAnEnd.{stops-endless, stops-last}
-use Rattle.gabc_nabc.specs.witness.DescriptorMachine.{events_in, event_list, role_at, facts_at, stage_events_at, stage_after, events_of_cut, events_left}
+use Rattle.gabc_nabc.specs.witness.DescriptorMachine.{events_in, event_list, role_at, facts_at, next_at, stage_events_at, stage_after, stage_moved_on, events_of_cut, events_left}
 use Rattle.gabc_notes.specs.Events.{finding_event, end_by_mark}
 use Rattle.gabc_nabc.specs.declared.stage.NabcStage.{NabcStage}
 use Rattle.gabc_nabc.specs.declared.stage.NabcRole.{NabcRole}
 use Rattle.gabc_nabc.specs.declared.stage.NabcRole.TheVariants.{Silent, Ends, Keep, LeaveOut}
 use Rattle.gabc_nabc.specs.declared.stage.NabcFacts.{NabcFacts}
+use Rattle.gabc_nabc.specs.declared.state.DescriptorState.{DescriptorState}
 
 -- a stage that has ended gives nothing
 pub ended-emits_nothing : (st : NabcStage) → st.ended ≡ true → EmitsNothing (events_left st)
@@ -68,6 +69,35 @@ push_stops st next x old new n p = running st.ended refl
     running : (b : Bool) → st.ended ≡ b → StopsAtEnd is_ended (events_left next) old new
     running true e = stops-endless is_ended (events_left next) old new (stage_events_at st x) p (rw e refl)
     running false e = at_role (role_at st x.c) refl e
+
+-- a character that ends a stage changes nothing else of it
+pub ended_as_before : (st next : NabcStage) (c : ℕ) → next ≡ stage_after st c → next.ended ≡ true → next ≡ record st { ended = true }
+ended_as_before st next c n h = running st.ended refl
+  where
+    runs_on : (r : NabcRole) (e : NabcFacts) (o : Option DescriptorState) → (r ≡ Ends → ⊥) → (stage_moved_on st r e o c).ended ≡ st.ended
+    runs_on Ends e o k = absurd (k refl)
+    runs_on Silent e o k = refl
+    runs_on LeaveOut e o k = refl
+    runs_on Keep e None k = refl
+    runs_on Keep e (Some z) k = refl
+
+    moved : st.ended ≡ false → next ≡ stage_moved_on st (role_at st c) (facts_at st c) (next_at st c) c
+    moved e = n ∙ rw e refl
+
+    goes_on : st.ended ≡ false → (role_at st c ≡ Ends → ⊥) → ⊥
+    goes_on e k =
+        let f = ap (λ (s : NabcStage). s.ended) (moved e) ∙ runs_on (role_at st c) (facts_at st c) (next_at st c) k in
+        cc
+
+    at_role : (r : NabcRole) → role_at st c ≡ r → st.ended ≡ false → next ≡ record st { ended = true }
+    at_role Ends f e = moved e ∙ ap (λ (r : NabcRole). stage_moved_on st r (facts_at st c) (next_at st c) c) f
+    at_role Silent f e = absurd (goes_on e (λ h. cc))
+    at_role Keep f e = absurd (goes_on e (λ h. cc))
+    at_role LeaveOut f e = absurd (goes_on e (λ h. cc))
+
+    running : (b : Bool) → st.ended ≡ b → next ≡ record st { ended = true }
+    running true e = n ∙ (rw e refl ∙ ap (λ (b : Bool). record st { ended = b }) e)
+    running false e = at_role (role_at st c) refl e
 
 -- and so is it behind the end
 pub finish_stops : (st next : NabcStage) (old new : BoundedList NoteEvent) → next.ended ≡ true → new ≡ extended_by old (events_of_cut st)

@@ -1,2 +1,3 @@
 pub mod LawsOfEvents
+pub mod ReadByRelations
 pub mod SnippetIsReadAgain

@@ -3,6 +3,8 @@ pub mod witness
 pub mod CharClass
 pub mod Codes
 pub mod Events
+pub mod KnownNames
+pub mod NabcRead
 pub mod Names
 pub mod Parts
 pub mod ReadAgain

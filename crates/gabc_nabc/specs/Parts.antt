@@ -1,9 +1,10 @@
 -- The parts of a kept text by the bytes where they begin and end.
-use Rattle.std.specs.Prelude.{ℕ, ◌+◌, ◌≤◌, List, [], ◌∷◌, Bool, All, map, slice_range, length, encode_utf8_all}
+use Rattle.std.specs.Prelude.{◌≡◌, ℕ, ◌+◌, ◌≤◌, List, [], ◌∷◌, Bool, All, map, slice_range, length, encode_utf8_all}
 use Rattle.std.specs.Str.{chars}
 use Rattle.gabc_patterns.specs.LongestItems.{IsReading, IsSnippet}
 use Rattle.gabc_patterns.specs.Function.{items}
 use Rattle.gabc_patterns.specs.Items.{FollowOn, ItemSpan}
+use Rattle.gabc_patterns.specs.ItemsRead.{ReadsTo}
 use Rattle.gabc_nabc.specs.Table.{nabc}
 use Rattle.gabc_nabc.specs.declared.descriptor.Descriptor.{Descriptor}
 
@@ -23,8 +24,8 @@ read_as bytes i = (i.space, chars (bytes_of bytes i))
 abbrev pub piece_of : Descriptor → ItemSpan Bool
 piece_of i = (i.space, i.span.from, i.span.to)
 
--- The parts are the reading of the text, each the longest that begins at its place; each begins where the one before it ends.
-pub record AreDescriptorsOf (bytes : List ℕ) (parts : List Descriptor) : Type 0 where
+-- The parts make up the text: each is the longest that begins at its place, and begins where the one before it ends.
+pub record MakeUp (bytes : List ℕ) (parts : List Descriptor) : Type 0 where
   pub reads : IsReading nabc (map (read_as bytes) parts) (chars bytes)
   pub joined : FollowOn 0 (map piece_of parts) (length bytes)
 
@@ -34,6 +35,13 @@ placed_parts at [] = []
 placed_parts at (i ∷ is) =
     let to = at + length (encode_utf8_all i.1) in
     record { space = i.0; span = record { from = at; to = to } } ∷ placed_parts to is
+
+-- The parts of the text, as far as one begins: each is the longest that begins where the one before it ends. Of a snippet they are all.
+pub record AreDescriptorsOf (bytes : List ℕ) (parts : List Descriptor) : Type 0 where
+  pub texts : List (Bool × List ℕ)
+  pub rest : List ℕ
+  pub reads : ReadsTo nabc texts (chars bytes) rest
+  pub placed : parts ≡ placed_parts 0 texts
 
 -- the descriptors and spaces of what is left of a text from that byte on, each the longest that begins at its place, as far as one begins
 abbrev pub parts_from : ℕ → List ℕ → List Descriptor

@@ -52,8 +52,8 @@ abbrev pub ending_behind : List ℕ → List ℕ → SnippetEnding
 ending_behind prefix [] = Cut (record { line = 0; column = 0 })
 ending_behind prefix (c ∷ cs) = if c == 124 then Next (length (encode_utf8_all prefix)) else Close (length (encode_utf8_all prefix))
 
--- The findings are those that a stage emits of the characters, in order.
-pub record IsNabcRead (at : Place) (t : List ℕ) (r : SnippetRead) : Type 0 where
+-- So what `nabc_whole` says of a text is computed. The findings are those that a stage emits of the characters, in order.
+pub record IsComputed (at : Place) (t : List ℕ) (r : SnippetRead) : Type 0 where
   pub kept_is : string_bytes r.kept ≡ encode_utf8_all (kept_before (before_end t) (from_end t))
   pub findings_are : r.findings ≡ findings_of (concat_of (nabc_events (placed_characters_from at t)))
   pub how_is : r.how ≡ ending_behind (before_end t) (from_end t)

@@ -2,11 +2,12 @@
 
 ghost use Rattle.std.specs.Prelude.{◌≡◌, ◌≤◌, length, IfOk};
 ghost use Rattle.gabc_places.specs.BoundedList.{Fits, extended_by};
-ghost use Rattle.gabc_nabc.specs.Parts.{parts_of, AreWithin};
+ghost use Rattle.gabc_nabc.specs.Parts.{parts_of, AreDescriptorsOf, AreWithin};
 ghost use Rattle.gabc_nabc.specs.machine.Parts.{first_part_of};
 
 use crate::class::class_of;
 use crate::descriptor::{Descriptor, Descriptors};
+use crate::laws;
 use crate::state::{DescriptorState, ends, goes_on};
 use gabc_places::{Room, Span};
 use std::alloc::{AllocError, Global};
@@ -89,8 +90,9 @@ pub fn parts_in(kept: &str) -> PartReader<'_>
 
 /// Returns the descriptors and spaces of `kept`, as `parts_in` gives them. It fails only for want of memory.
 pub fn descriptors_whole(alloc: Global, kept: &str) -> Result<Descriptors, AllocError>
-    ensures { IfOk result (λ parts. parts ≡ parts_of kept.now) }
+    ensures { IfOk result (λ parts. AreDescriptorsOf kept.now parts) }
 {
+    laws::parts_are_computed();
     let mut parts = Descriptors::new(alloc);
     for part in parts_in(kept) {
         parts.push(part)?;

@@ -13,7 +13,8 @@ ghost use Rattle.gabc_nabc.specs.Table.{nabc, code, descriptor};
 ghost use Rattle.std.specs.Str.{IsUtf8};
 ghost use Rattle.gabc_nabc.specs.Codes.{HasCodesOfGlyphs};
 ghost use Rattle.gabc_nabc.specs.Names.{name_by};
-ghost use Rattle.gabc_nabc.specs.Parts.{IsNabc, AreDescriptorsOf, AreWithin, parts_of};
+ghost use Rattle.gabc_nabc.specs.declared.descriptor.Descriptor.{Descriptor};
+ghost use Rattle.gabc_nabc.specs.Parts.{IsNabc, AreDescriptorsOf, MakeUp, AreWithin, parts_of};
 ghost use Rattle.gabc_nabc.specs.Events.{bytes_in, has_end, is_code, kept_of, nabc_events, events_at, nabc_events_behind, cut_events};
 ghost use Rattle.gabc_notes.specs.SnippetRead.{ends_of, findings_of, kept_of as kept_in};
 ghost use Rattle.gabc_notes.specs.Ends.{IsMarkOf, EndAtMost, AreCutAtMost};
@@ -23,8 +24,11 @@ ghost use Rattle.gabc_notes.specs.witness.Keeps.{set_down};
 ghost use Rattle.gabc_nabc.specs.witness.DescriptorMachine.{events_left};
 ghost use Rattle.gabc_nabc.specs.witness.Keeps.{comment_of, IsKeptAgain, Keeps};
 ghost use Rattle.gabc_nabc.specs.ReadAgain.{IsNabcReadAgain};
-ghost use Rattle.gabc_nabc.specs.SnippetRead.{before_end, from_end, kept_before, end_before, AreAtMostOne};
+ghost use Rattle.gabc_nabc.specs.SnippetRead.{before_end, from_end, kept_before, end_before, AreAtMostOne, IsComputed};
+ghost use Rattle.gabc_nabc.specs.NabcRead.{IsNabcRead};
+ghost use Rattle.gabc_notes.specs.declared.snippet_read.SnippetRead.{SnippetRead};
 
+pub use crate::names::names_are_these;
 use crate::stage::NabcStage;
 use gabc_notes::NoteEvent;
 use gabc_places::{Char, Room, drive};
@@ -48,17 +52,26 @@ pub fn a_part_has_one_kind()
     ensures { OneKind nabc }
 {}
 
-/// A text has at most one list of descriptors and spaces.
+/// A text has one reading at most, and one list of descriptors and spaces.
 pub fn descriptors_are_one()
-    ensures { (is js : List (Bool × List ℕ)) (t : List ℕ) → IsReading nabc is t →
+    ensures readings { (is js : List (Bool × List ℕ)) (t : List ℕ) → IsReading nabc is t →
         IsReading nabc js t → is ≡ js }
+    ensures parts { (bytes : List ℕ) (ps qs : List Descriptor) → AreDescriptorsOf bytes ps →
+        AreDescriptorsOf bytes qs → ps ≡ qs }
 {}
 
-/// The parts of an NABC snippet are its reading. Those of any text in UTF-8 lie in it.
-pub fn parts_are_the_reading()
+/// The function `parts_of` gives the parts of any text, which lie in it if it is UTF-8. Those of an NABC snippet make it up.
+pub fn parts_are_computed()
+    ensures parts { (bytes : List ℕ) → AreDescriptorsOf bytes (parts_of bytes) }
     ensures snippet { (bytes : List ℕ) → IsUtf8 bytes → IsNabc bytes →
-        AreDescriptorsOf bytes (parts_of bytes) }
+        MakeUp bytes (parts_of bytes) }
     ensures within { (bytes : List ℕ) → IsUtf8 bytes → AreWithin bytes (parts_of bytes) }
+{}
+
+/// What is read of a text, by relations over the whole of it, is what is computed a character at a time.
+pub fn what_is_read_is_computed()
+    ensures { (at : Place) (t : List ℕ) (read : SnippetRead) →
+        IsNabcRead at t read ↔ IsComputed at t read }
 {}
 
 /// A viable text is an NABC snippet with at most two characters more.

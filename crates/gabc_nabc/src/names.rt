@@ -1,5 +1,8 @@
 //! The table of the codes' names. Code and definitions read this one.
 
+ghost use Rattle.std.specs.Prelude.{◌≡◌, [], ◌∷◌, map};
+ghost use Rattle.gabc_nabc.specs.KnownNames.{names_spelled};
+
 /// The codes that are known: two letters and the name of the neume, in this project's words.
 #[rattlefmt::skip]
 pub(crate) const NAMES: [(char, char, &str); 31] = [
@@ -35,3 +38,8 @@ pub(crate) const NAMES: [(char, char, &str); 31] = [
     ('o', 'c', "oriscus-clivis"),
     ('n', 'i', "nihil"),
 ];
+
+/// The codes in the table of names are these, each with its name.
+pub fn names_are_these()
+    ensures { map (λ row. (row.0 ∷ row.1 ∷ [], row.2.now)) NAMES ≡ names_spelled }
+{}

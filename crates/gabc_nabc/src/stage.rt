@@ -253,6 +253,7 @@ impl NabcStage {
             → KeepsOn self.old x (Ended NoteEnd.Next kept ∷ []) self.new) }
         ensures same { result ≡ None → self.new ≡ self.old }
         ensures takes { StandsBeforeNext self.old → IsSome result }
+        ensures ended { IfSome result (λ _. self.new ≡ record self.old { ended = true }) }
     {
         if self.ended || self.comment || !is_whole(self.state) {
             return None;
@@ -305,7 +306,7 @@ impl Stage for NabcStage {
     type Output = NoteEvent;
 
     ghost use Rattle.std.specs.Prelude.{drop, length};
-    ghost use Rattle.gabc_places.specs.StageLaw.{Pushes, StopsAtEnd};
+    ghost use Rattle.gabc_places.specs.StageLaw.{Pushes, Finishes, StopsAtEnd, EmitsNothing};
 
     ghost rest = { events_left };
 
@@ -322,11 +323,19 @@ impl Stage for NabcStage {
         ensures events { Pushes (events_left self.old) (events_left self.new) x 3 out.old out.new }
         ensures end { StopsAtEnd is_ended (events_left self.new) out.old out.new }
         ensures keeps { KeepsOn self.old x (drop (length out.old.items) out.new.items) self.new }
+        ensures stays { self.old.ended ≡ true → self.new ≡ self.old }
+        ensures ended { self.new.ended ≡ true → self.new ≡ record self.old { ended = true } }
     {
         self.take(x, out);
     }
 
-    fn finish(&mut self, out: &mut Room<NoteEvent>) {
+    fn finish(&mut self, out: &mut Room<NoteEvent>)
+        requires { Fits out.old 3 }
+        ensures ends { Finishes (events_left self.old) 3 out.old out.new }
+        ensures end { StopsAtEnd is_ended (events_left self.new) out.old out.new }
+        ensures over { EmitsNothing (events_left self.new) }
+        ensures ended { self.new ≡ record self.old { ended = true } }
+    {
         self.stop(out);
         self.ended = true;
     }

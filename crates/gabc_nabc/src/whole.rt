@@ -3,7 +3,7 @@
 ghost use Rattle.std.specs.Prelude.{◌≡◌, ◌+◌, ◌^◌, ◌<◌, ◌≤◌, [], ◌∷◌, length, take, IfOk, OnOk, string_bytes};
 ghost use Rattle.std.specs.Str.{chars, IsCharBoundary};
 ghost use Rattle.gabc_nabc.specs.witness.DescriptorMachine.{stage_events_at, stage_after, events_of_cut};
-ghost use Rattle.gabc_nabc.specs.SnippetRead.{IsNabcRead};
+ghost use Rattle.gabc_nabc.specs.NabcRead.{IsNabcRead};
 ghost use Rattle.gabc_nabc.specs.machine.BuiltNabc.{built_nabc_of, with_event, with_events, no_nabc};
 
 use crate::stage::NabcStage;

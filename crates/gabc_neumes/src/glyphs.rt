@@ -1,11 +1,13 @@
 //! The glyphs of a segment.
 
-ghost use Rattle.std.specs.Prelude.{◌≡◌, ◌<◌, ◌+◌, ◌^◌, ◌∷◌, length, [], IfSome, IfNone, true, is_some};
+ghost use Rattle.std.specs.Prelude.{◌≡◌, ◌<◌, ◌+◌, ◌^◌, ◌∷◌, List, length, [], IfSome, IfNone, true, is_some};
 ghost use Rattle.std.specs.List.{take_while};
 ghost use Rattle.gabc_places.specs.BoundedList.{Fits, extended_by};
 ghost use Rattle.gabc_notes.specs.Items.{AreWithin};
-ghost use Rattle.gabc_neumes.specs.Cut.{glyphs_of, longest_glyph};
+ghost use Rattle.gabc_neumes.specs.Cut.{longest_glyph};
 ghost use Rattle.gabc_neumes.specs.Elements.{is_in_segment, notes_in};
+ghost use Rattle.gabc_neumes.specs.Glyphs.{AreGlyphsOf};
+ghost use Rattle.gabc_neumes.specs.declared.glyph.Glyph.{Glyph};
 ghost use Rattle.gabc_neumes.specs.machine.Glyphs.{IsFirstGlyph, search_with};
 
 use crate::glyph::{Glyph, GlyphKind};
@@ -102,7 +104,8 @@ pub fn glyph_from(kept: &str, first: Note, behind: &ItemReader<'_>) -> Option<(G
 /// as many glyphs more as there are notes. It asks for no memory.
 pub fn cut(notes: &[Note], out: &mut Room<Glyph>)
     requires { Fits out.old (length notes.now) }
-    ensures { out.new ≡ extended_by out.old (glyphs_of notes.now) }
+    ensures { (glyphs : List Glyph) × AreGlyphsOf notes.now glyphs ×
+        (out.new ≡ extended_by out.old glyphs) }
 {
     let mut at = 0;
     while let Some((kind, count)) = first_glyph(&notes[at..]) {

@@ -3,6 +3,7 @@ pub mod items_of_text
 pub mod machine
 pub mod order
 pub mod resuming
+pub mod FoundOnce
 pub mod KeptChars
 pub mod KeptText
 pub mod Stopping

@@ -11,6 +11,7 @@ use Rattle.gabc_places.specs.StageLaw.{EmitsNothing, StopsAtEnd}
 use Rattle.gabc_places.proofs.PushesAreOne.{joined_silence}
 use Rattle.gabc_notes.specs.Ends.{is_ended}
 use Rattle.gabc_notes.specs.machine.ItemMachine.{stage_after}
+use Rattle.gabc_notes.specs.machine.StageBehind.{next_of, facts_of, role_of, stage_behind}
 use Rattle.gabc_notes.specs.witness.ItemMachine.{events_left}
 use Rattle.gabc_notes.specs.Events.{finding_event, end_by_mark, is_missing}
 use Rattle.gabc_notes.specs.witness.StageEvents.{events_in, event_list}
@@ -65,3 +66,34 @@ push_stops st next x o e Keep g old new m n p =
 push_stops st next x o e LeaveOut g old new m n p = stops-endless is_ended (events_left next) old new (event_list g) p (ap (λ (y : CharEvents). list_any is_ended (event_list y)) m)
 push_stops st next x o e Silent g old new m n p = stops-endless is_ended (events_left next) old new (event_list g) p (ap (λ (y : CharEvents). list_any is_ended (event_list y)) m)
 push_stops st next x o e Comment g old new m n p = stops-endless is_ended (events_left next) old new (event_list g) p (ap (λ (y : CharEvents). list_any is_ended (event_list y)) m)
+
+-- a character that ends a stage changes nothing else of it
+pub ended_as_before : (st next : NoteStage) (x : Char) → next ≡ stage_behind st x → next.ended ≡ true → next ≡ record st { ended = true }
+ended_as_before st next x n h = running st.ended refl
+  where
+    runs_on : (r : CharRole) (e : CharFacts) (o : Option ItemState) → (r ≡ Ends → ⊥) → (stage_after st r e o x).ended ≡ st.ended
+    runs_on Ends e o k = absurd (k refl)
+    runs_on Silent e o k = refl
+    runs_on Comment e o k = refl
+    runs_on LeaveOut e o k = refl
+    runs_on Keep e None k = refl
+    runs_on Keep e (Some z) k = refl
+
+    moved : st.ended ≡ false → next ≡ stage_after st (role_of st x.c) (facts_of st x.c) (next_of st x.c) x
+    moved e = n ∙ rw e refl
+
+    goes_on : st.ended ≡ false → (role_of st x.c ≡ Ends → ⊥) → ⊥
+    goes_on e k =
+        let f = ap (λ (s : NoteStage). s.ended) (moved e) ∙ runs_on (role_of st x.c) (facts_of st x.c) (next_of st x.c) k in
+        cc
+
+    at_role : (r : CharRole) → role_of st x.c ≡ r → st.ended ≡ false → next ≡ record st { ended = true }
+    at_role Ends f e = moved e ∙ ap (λ (r : CharRole). stage_after st r (facts_of st x.c) (next_of st x.c) x) f
+    at_role Silent f e = absurd (goes_on e (λ k. cc))
+    at_role Comment f e = absurd (goes_on e (λ k. cc))
+    at_role Keep f e = absurd (goes_on e (λ k. cc))
+    at_role LeaveOut f e = absurd (goes_on e (λ k. cc))
+
+    running : (b : Bool) → st.ended ≡ b → next ≡ record st { ended = true }
+    running true e = n ∙ (rw e refl ∙ ap (λ (b : Bool). record st { ended = b }) e)
+    running false e = at_role (role_of st x.c) refl e

@@ -1,10 +1,11 @@
 -- The items of a kept text by the bytes where they begin and end.
-use Rattle.std.specs.Prelude.{ℕ, ◌+◌, ◌≤◌, List, [], ◌∷◌, map, slice_range, length, encode_utf8_all}
+use Rattle.std.specs.Prelude.{◌≡◌, ℕ, ◌+◌, ◌≤◌, List, [], ◌∷◌, map, slice_range, length, encode_utf8_all}
 use Rattle.std.specs.Str.{chars}
 use Rattle.std.specs.List.{All}
 use Rattle.gabc_patterns.specs.LongestItems.{IsReading, IsSnippet}
 use Rattle.gabc_patterns.specs.Function.{items}
 use Rattle.gabc_patterns.specs.Items.{FollowOn, ItemSpan}
+use Rattle.gabc_patterns.specs.ItemsRead.{ReadsTo}
 use Rattle.gabc_notes.specs.Table.{gabc}
 use Rattle.gabc_notes.specs.declared.item.Item.{Item}
 use Rattle.gabc_notes.specs.declared.item.ItemKind.{ItemKind}
@@ -29,8 +30,8 @@ read_as bytes i = (i.kind, chars (bytes_of bytes i))
 abbrev pub piece_of : Item → ItemSpan ItemKind
 piece_of i = (i.kind, i.span.from, i.span.to)
 
--- The items are the reading of the text, each the longest that begins at its place; each begins where the one before it ends.
-pub record AreItemsOf (bytes : List ℕ) (items : List Item) : Type 0 where
+-- The items make up the text: each is the longest that begins at its place, and begins where the one before it ends.
+pub record MakeUp (bytes : List ℕ) (items : List Item) : Type 0 where
   pub reads : IsReading gabc (map (read_as bytes) items) (chars bytes)
   pub joined : FollowOn 0 (map piece_of items) (length bytes)
 
@@ -40,6 +41,13 @@ placed_items at [] = []
 placed_items at (i ∷ is) =
     let to = at + length (encode_utf8_all i.1) in
     record { kind = i.0; span = record { from = at; to = to } } ∷ placed_items to is
+
+-- The items of the text, as far as one begins: each is the longest that begins where the one before it ends. Of a snippet they are all.
+pub record AreItemsOf (bytes : List ℕ) (items : List Item) : Type 0 where
+  pub texts : List (ItemKind × List ℕ)
+  pub rest : List ℕ
+  pub reads : ReadsTo gabc texts (chars bytes) rest
+  pub placed : items ≡ placed_items 0 texts
 
 -- the items of what is left of a text from that byte on, each the longest that begins at its place, as far as an item begins
 abbrev pub items_from : ℕ → List ℕ → List Item

@@ -3,6 +3,7 @@ pub mod witness
 pub mod Ends
 pub mod Events
 pub mod FirstNoteOrClef
+pub mod FoundAt
 pub mod Items
 pub mod Notes
 pub mod Raw

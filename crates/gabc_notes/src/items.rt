@@ -5,12 +5,13 @@ ghost use Rattle.std.specs.Str.{chars};
 ghost use Rattle.gabc_patterns.specs.Function.{longest_item};
 ghost use Rattle.gabc_places.specs.BoundedList.{Fits, extended_by};
 ghost use Rattle.gabc_notes.specs.FirstNoteOrClef.{is_note_or_clef as note_or_clef, first_note_or_clef as first_of};
-ghost use Rattle.gabc_notes.specs.Items.{items_of, AreWithin};
+ghost use Rattle.gabc_notes.specs.Items.{items_of, AreItemsOf, AreWithin};
 ghost use Rattle.gabc_notes.specs.Table.{gabc};
 ghost use Rattle.gabc_notes.specs.machine.Items.{IsFirstItem};
 
 use crate::class::class_of;
 use crate::item::{Item, ItemKind, Items};
+use crate::laws;
 use crate::state::{ItemState, ends, goes_on};
 use gabc_places::{Room, Span};
 use std::alloc::{AllocError, Global};
@@ -142,10 +143,11 @@ pub fn items_in(kept: &str) -> ItemReader<'_>
 
 /// Returns the items of `kept`, as `items_in` gives them. It fails only for want of memory.
 pub fn items_whole(alloc: Global, kept: &str) -> Result<Items, AllocError>
-    ensures items { IfOk result (λ items. items ≡ items_of kept.now) }
+    ensures items { IfOk result (λ items. AreItemsOf kept.now items) }
     ensures within { IfOk result (λ items. AreWithin kept.now items) }
     ensures few { IfOk result (λ items. length items ≤ length kept.now) }
 {
+    laws::items_are_computed();
     let mut items = Items::new(alloc);
     for item in items_in(kept) {
         items.push(item)?;

@@ -11,13 +11,14 @@ ghost use Rattle.gabc_places.specs.BoundedList.{Fits, extended_by};
 ghost use Rattle.gabc_places.specs.StageLaw.{concat_of};
 ghost use Rattle.gabc_patterns.specs.LongestItems.{IsReading, IsItem, OneKind, IsSnippet, IsViable};
 ghost use Rattle.gabc_notes.specs.Table.{gabc};
-ghost use Rattle.gabc_notes.specs.Items.{IsKept, AreItemsOf, items_of};
+ghost use Rattle.gabc_notes.specs.Items.{IsKept, AreItemsOf, MakeUp, items_of};
 ghost use Rattle.gabc_notes.specs.Events.{in_raw, Point, is_comment, is_over, kept, bytes_of, events_at, cut_events, note_events};
 ghost use Rattle.gabc_notes.specs.SnippetRead.{kept_of, kept_chars_of, findings_of, ends_of, stop_after, kept_by, end_by};
 ghost use Rattle.gabc_places.specs.Place.{place_past, placed_characters_from};
 ghost use Rattle.gabc_notes.specs.Ends.{IsMarkOf, EndAtMost, AreCutAtMost};
 ghost use Rattle.gabc_notes.specs.Raw.{IsOpen, InComment, IsOpenedAt};
 ghost use Rattle.gabc_notes.specs.ReadAgain.{IsReadAgain};
+ghost use Rattle.gabc_notes.specs.declared.item.Item.{Item};
 ghost use Rattle.gabc_notes.specs.declared.item.ItemKind.{ItemKind};
 ghost use Rattle.gabc_notes.specs.declared.stage.NoteEnd.{NoteEnd};
 ghost use Rattle.gabc_notes.specs.declared.stage.NoteEvent.{NoteEvent};
@@ -53,15 +54,19 @@ pub fn an_item_has_one_kind()
     ensures { OneKind gabc }
 {}
 
-/// A text has at most one list of items.
+/// A text has one reading at most, and one list of items.
 pub fn items_are_one()
-    ensures { (is js : List (ItemKind × List ℕ)) (t : List ℕ) → IsReading gabc is t →
+    ensures readings { (is js : List (ItemKind × List ℕ)) (t : List ℕ) → IsReading gabc is t →
         IsReading gabc js t → is ≡ js }
+    ensures items { (bytes : List ℕ) (is js : List Item) → AreItemsOf bytes is →
+        AreItemsOf bytes js → is ≡ js }
 {}
 
-/// The function `items_of` gives the items of each snippet.
+/// The function `items_of` gives the items of any text. Those of a snippet make it up.
 pub fn items_are_computed()
-    ensures { (kept : List ℕ) → IsUtf8 kept → IsKept kept → AreItemsOf kept (items_of kept) }
+    ensures items { (kept : List ℕ) → AreItemsOf kept (items_of kept) }
+    ensures snippet { (kept : List ℕ) → IsUtf8 kept → IsKept kept →
+        MakeUp kept (items_of kept) }
 {}
 
 /// A viable text is a snippet with at most one character more.

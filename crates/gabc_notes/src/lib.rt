@@ -62,5 +62,5 @@ pub use items::{ItemReader, first_note_or_clef, items_in, items_into, items_whol
 pub use kept::is_snippet;
 pub use note::{Note, Shape, height_of, note_of};
 pub use snippet_read::{SnippetEnding, SnippetRead};
-pub use stage::{NoteEnd, NoteEvent, NoteStage};
+pub use stage::{NoteEnd, NoteEvent, NoteOut, NoteStage};
 pub use whole::snippet_whole;

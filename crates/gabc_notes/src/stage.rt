@@ -56,6 +56,9 @@ pub enum NoteEvent {
     Ended { how: NoteEnd, kept: usize },
 }
 
+/// What a `NoteStage` puts out.
+pub type NoteOut = NoteEvent;
+
 /// What is known of a character where it stands.
 #[derive(Clone, Copy)]
 pub(crate) struct CharFacts {
@@ -421,6 +424,7 @@ impl NoteStage {
             → KeepsOn self.old x (NoteEvent.Ended NoteEnd.Next kept ∷ []) self.new) }
         ensures same { result ≡ None → self.new ≡ self.old }
         ensures takes { StandsBeforeNext self.old → IsSome result }
+        ensures ended { IfSome result (λ _. self.new ≡ record self.old { ended = true }) }
     {
         let before = self.before;
         if self.ended || !self.split || before.comment || before.fused || !is_whole(self.state) {
@@ -455,6 +459,7 @@ impl Stage for NoteStage {
     type Output = NoteEvent;
 
     ghost use Rattle.std.specs.Prelude.{drop, length};
+    ghost use Rattle.gabc_places.specs.StageLaw.{Finishes, EmitsNothing};
 
     ghost rest = { events_left };
 
@@ -471,6 +476,8 @@ impl Stage for NoteStage {
         ensures events { Pushes (events_left self.old) (events_left self.new) x 3 out.old out.new }
         ensures end { StopsAtEnd is_ended (events_left self.new) out.old out.new }
         ensures keeps { KeepsOn self.old x (drop (length out.old.items) out.new.items) self.new }
+        ensures stays { self.old.ended ≡ true → self.new ≡ self.old }
+        ensures ended { self.new.ended ≡ true → self.new ≡ record self.old { ended = true } }
     {
         if self.ended {
             return;
@@ -486,7 +493,13 @@ impl Stage for NoteStage {
         }
     }
 
-    fn finish(&mut self, out: &mut Room<NoteEvent>) {
+    fn finish(&mut self, out: &mut Room<NoteEvent>)
+        requires { Fits out.old 3 }
+        ensures ends { Finishes (events_left self.old) 3 out.old out.new }
+        ensures end { StopsAtEnd is_ended (events_left self.new) out.old out.new }
+        ensures over { EmitsNothing (events_left self.new) }
+        ensures ended { self.new ≡ record self.old { ended = true } }
+    {
         if self.ended {
             return;
         }

@@ -10,6 +10,7 @@ pub mod FunctionsMeetRelations
 pub mod ItemHere
 pub mod ItemList
 pub mod ItemSoFar
+pub mod ItemsAsFarAsOneBegins
 pub mod ItemsByLetters
 pub mod ItemsFunctionReads
 pub mod ItemsOneByOne

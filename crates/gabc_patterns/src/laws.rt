@@ -2,9 +2,10 @@
 //!
 //! A law of tables holds for rows of any type `K` of kinds. `¬ IsItem rows []` says that no row spells the empty text.
 
-ghost use Rattle.std.specs.Prelude.{◌≡◌, ℕ, List, [], ◌∷◌, ◌++◌, map, Decides};
+ghost use Rattle.std.specs.Prelude.{◌≡◌, ◌↔◌, ℕ, List, [], ◌∷◌, ◌++◌, map, Decides};
 ghost use Rattle.gabc_patterns.specs.Pattern.{Pattern, Spells};
 ghost use Rattle.gabc_patterns.specs.LongestItems.{Table, Longest, IsItem, IsReading, OneKind, IsSnippet, IsViable};
+ghost use Rattle.gabc_patterns.specs.ItemsRead.{ReadsTo};
 ghost use Rattle.gabc_patterns.specs.Kept.{Keeps, Trims, IsKeptText};
 ghost use Rattle.gabc_patterns.specs.Derivative.{may_end, derivative, is_snippet, is_viable};
 ghost use Rattle.gabc_patterns.specs.Function.{items, keep, more_kept, trim, kept_text};
@@ -44,6 +45,18 @@ pub fn derivatives_decide<K>()
 pub fn items_read<K>()
     ensures { (rows : Table K) → ¬ IsItem rows [] → (t : List ℕ) → IsSnippet rows t →
         IsReading rows (items rows t) t }
+{}
+
+/// A text has one list of items that reads it as far as an item begins, if no text is spelled by rows of two kinds, and the function `items`
+/// gives such a list. A snippet is read to its end.
+pub fn items_read_as_far_as_one_begins<K>()
+    ensures items { (rows : Table K) → ¬ IsItem rows [] → (t : List ℕ) →
+        (rest : List ℕ) × ReadsTo rows (items rows t) t rest }
+    ensures one { (rows : Table K) → ¬ IsItem rows [] → OneKind rows →
+        (is js : List (K × List ℕ)) (t r s : List ℕ) → ReadsTo rows is t r → ReadsTo rows js t s →
+        (is ≡ js) × (r ≡ s) }
+    ensures snippet { (rows : Table K) → ¬ IsItem rows [] → (is : List (K × List ℕ)) (t : List ℕ) →
+        IsReading rows is t ↔ ReadsTo rows is t [] }
 {}
 
 /// The functions `keep`, `trim` and `kept_text` give what the relations say, and nothing else is so related.

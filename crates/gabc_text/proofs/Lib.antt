@@ -5,6 +5,7 @@ pub mod printing
 pub mod resuming
 pub mod spans
 pub mod tokens
+pub mod EndedStages
 pub mod KeptCharacters
 pub mod NothingBehindTheEnd
 pub mod PiecesFollowCharacters

@@ -1,5 +1,5 @@
 -- What a stage tells of where it stands, beside the text that it has kept, and how it is set there again.
-use Rattle.std.specs.Prelude.{Bool, true, false, Option, Some, None, if◌then◌else◌}
+use Rattle.std.specs.Prelude.{◌≡◌, Bool, true, false, Option, Some, None, if◌then◌else◌}
 use Rattle.gabc_places.specs.declared.place.Place.{Place}
 use Rattle.gabc_text.specs.declared.token_state.TokenState.{TokenState}
 use Rattle.gabc_text.specs.declared.token_state.TokenState.TheVariants.{Dollar, Comment, Tag, Raw, Translation}
@@ -27,6 +27,12 @@ is_in_comment s = is_comment s.state
 -- the place of the next character
 abbrev pub next_of : TextStage → Place
 next_of s = s.progress.next
+
+-- What a stage tells that has ended: no opener, no comment, and the place at which it stood.
+pub record EndedInPlace (before after : TextStage) : Type 0 where
+  pub opener : opener_of after ≡ None
+  pub comment : is_in_comment after ≡ false
+  pub next : next_of after ≡ next_of before
 
 -- The next character stands at this place. What is open keeps the place where it began.
 abbrev pub moved_to : Place → TextStage → TextStage

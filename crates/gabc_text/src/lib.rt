@@ -34,6 +34,6 @@ pub use canonical::{text_len, text_span, write_text};
 pub use kept::kept_chars;
 pub use stage::TextStage;
 pub use styles::{Style, Styles};
-pub use text_event::{TextEnd, TextEvent, TextPart};
+pub use text_event::{TextEnd, TextEvent, TextOut, TextPart};
 pub use view::{Piece, PieceKind, Pieces, TextEnding, TextView};
 pub use whole::{TextRead, text_whole};

@@ -141,6 +141,7 @@ impl TextStage {
     pub fn take_end(&mut self) -> bool
         ensures taken { TakesEnd self.old result self.new }
         ensures takes { StandsBeforeSilentEnd self.old → IsTrue result }
+        ensures done { result ≡ true → self.new ≡ record self.old { done = true } }
     {
         match self.state {
             TokenState::Plain if !self.done && self.ends_silently() => {
@@ -444,6 +445,7 @@ impl Stage for TextStage {
     ghost use Rattle.gabc_places.specs.StageLaw.{Pushes, Finishes, EmitsNothing, StopsAtEnd};
     ghost use Rattle.gabc_text.specs.BuiltText.{kept_in};
     ghost use Rattle.gabc_text.specs.witness.Keeps.{KeepsOn};
+    ghost use Rattle.gabc_text.specs.StageTells.{EndedInPlace};
     ghost use Rattle.gabc_text.specs.PiecesOwed.{pieces_in, pieces_owed, PiecesArePaid};
 
     ghost rest = { λ s cs. events_left s (codes_of cs) };
@@ -464,6 +466,9 @@ impl Stage for TextStage {
         ensures pieces { PiecesArePaid self.old
             (drop (length out.old.items) out.new.items) self.new }
         ensures keeps { KeepsOn self.old input.c (drop (length out.old.items) out.new.items) self.new }
+        ensures stays { self.old.done ≡ true → self.new ≡ self.old }
+        ensures ended { self.old.done ≡ false → self.new.done ≡ true →
+            EndedInPlace self.old self.new }
     {
         self.take(input.c, out);
     }
@@ -474,6 +479,8 @@ impl Stage for TextStage {
         ensures end { StopsAtEnd is_end (λ cs. events_left self.new (codes_of cs)) out.old out.new }
         ensures over { EmitsNothing (λ cs. events_left self.new (codes_of cs)) }
         ensures done { self.new.done ≡ true }
+        ensures stays { self.old.done ≡ true → self.new ≡ self.old }
+        ensures ended { self.old.done ≡ false → EndedInPlace self.old self.new }
         ensures pieces { let events = drop (length out.old.items) out.new.items in
             pieces_in events ≤ pieces_owed self.old + length (kept_in events) }
     {

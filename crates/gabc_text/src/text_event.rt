@@ -39,3 +39,6 @@ pub enum TextEvent {
     /// The end, behind which nothing more comes.
     Ended(TextEnd),
 }
+
+/// What a `TextStage` puts out.
+pub type TextOut = TextEvent;

@@ -112,6 +112,8 @@ impl TextView {
     pub fn add(&mut self, part: TextPart) -> Result<(), AllocError>
         ensures added { OnOk result (content_of self.new ≡ with_part (content_of self.old) part) }
         ensures capacity { self.old.pieces.capacity ≤ self.new.pieces.capacity }
+        ensures had_room { HasRoomFor self.old.pieces 1 →
+            self.new.pieces.capacity ≡ self.old.pieces.capacity }
         ensures succeeds { HasRoomFor self.old.pieces 1 → IsOk result }
         ensures unchanged { OnErr result (content_of self.new ≡ content_of self.old) }
     {

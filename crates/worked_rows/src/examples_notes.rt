@@ -134,7 +134,7 @@ fn laws_of_stages_and_tables_are_called(rt: HostRuntime) -> Result<(), AllocErro
     gabc_notes::laws::an_item_has_one_kind();
     gabc_nabc::laws::no_part_is_empty();
     gabc_nabc::laws::a_part_has_one_kind();
-    gabc_nabc::laws::parts_are_the_reading();
+    gabc_nabc::laws::parts_are_computed();
     let alloc = rt.alloc();
     let mut out = Room::with_limit(alloc, 3)?;
     gabc_notes::laws::a_fresh_stage_emits(false, 0, Vec::new(alloc), &mut out);

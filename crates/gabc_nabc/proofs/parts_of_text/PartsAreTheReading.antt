@@ -11,9 +11,11 @@ use Rattle.gabc_patterns.specs.LongestItems.{IsReading}
 use Rattle.gabc_patterns.specs.Function.{items}
 use Rattle.gabc_patterns.specs.Items.{FollowOn}
 use Rattle.gabc_patterns.proofs.ItemsFunctionReads.{items_are}
+use Rattle.gabc_patterns.proofs.ItemsAsFarAsOneBegins.{items_read_on, one_read_on}
 use Rattle.gabc_patterns.proofs.ItemsOneByOne.{items_lie}
 use Rattle.gabc_nabc.specs.Table.{nabc}
-use Rattle.gabc_nabc.specs.Parts.{IsNabc, AreDescriptorsOf, AreWithin, placed_parts, parts_of, read_as, piece_of}
+use Rattle.gabc_nabc.specs.Parts.{IsNabc, AreDescriptorsOf, MakeUp, AreWithin, placed_parts, parts_of, read_as, piece_of}
+use Rattle.gabc_nabc.proofs.grammar.LawsOfEvents.{kinds_are_one}
 use Rattle.gabc_nabc.specs.declared.descriptor.Descriptor.{Descriptor}
 use Rattle.gabc_places.proofs.texts.CharactersOfStrings.{scalars_split}
 
@@ -51,7 +53,7 @@ placed before t (i ∷ is) s (rest, cut, has, longest, r) =
     }
 
 -- the parts of a snippet
-pub parts_read : (bytes : List ℕ) → IsUtf8 bytes → IsNabc bytes → AreDescriptorsOf bytes (parts_of bytes)
+pub parts_read : (bytes : List ℕ) → IsUtf8 bytes → IsNabc bytes → MakeUp bytes (parts_of bytes)
 parts_read bytes u s =
     let same : encodes (chars bytes) ≡ bytes = encodes-chars bytes u in
     let p = placed [] (chars bytes) (items nabc (chars bytes)) (scalars-chars bytes u) (items_are nabc refl (chars bytes) s) in
@@ -59,6 +61,15 @@ parts_read bytes u s =
       reads = subst (λ (is : List (Bool × List ℕ)). IsReading nabc is (chars bytes)) (sym p.read ∙ ap (λ (b : List ℕ). map (read_as b) (parts_of bytes)) same) (items_are nabc refl (chars bytes) s);
       joined = subst (λ (b : List ℕ). FollowOn 0 (map piece_of (parts_of bytes)) (length b)) same p.joined;
     }
+
+-- the parts of any text, as far as one begins
+pub parts_are : (bytes : List ℕ) → AreDescriptorsOf bytes (parts_of bytes)
+parts_are bytes = let r = items_read_on nabc refl (chars bytes) in record { texts = items nabc (chars bytes); rest = r.0; reads = r.1; placed = refl }
+
+-- they are one list
+pub parts_are_one : (bytes : List ℕ) (ps qs : List Descriptor) → AreDescriptorsOf bytes ps → AreDescriptorsOf bytes qs → ps ≡ qs
+parts_are_one bytes ps qs h k =
+    h.placed ∙ (ap (placed_parts 0) (one_read_on nabc refl kinds_are_one h.texts k.texts (chars bytes) h.rest k.rest h.reads k.reads).0 ∙ sym k.placed)
 
 lie : (at n : ℕ) (is : List (Bool × List ℕ)) → at + length (encodes (concat (map (λ (i : Bool × List ℕ). i.1) is))) ≤ n
     → All (λ (part : Descriptor). (part.span.from ≤ part.span.to) × (part.span.to ≤ n)) (placed_parts at is)

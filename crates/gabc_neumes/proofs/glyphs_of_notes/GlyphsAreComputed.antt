@@ -12,7 +12,7 @@ use Rattle.gabc_neumes.specs.Letters.{letters}
 use Rattle.gabc_neumes.specs.Table.{neumes}
 use Rattle.gabc_neumes.specs.declared.glyph.Glyph.{Glyph}
 use Rattle.gabc_neumes.specs.declared.glyph.GlyphKind.{GlyphKind}
-use Rattle.gabc_neumes.proofs.glyphs_of_notes.GlyphsAreOne.{glyphs_are_one, placed, placed_reads}
+use Rattle.gabc_neumes.proofs.glyphs_of_notes.GlyphsAreOne.{placed, placed_reads}
 use Rattle.gabc_neumes.proofs.glyphs_of_notes.GlyphsOneByOne.{none_empty, begins}
 use Rattle.gabc_neumes.proofs.glyphs_of_notes.MachineReadsNeumes.{kinds_are_one}
 
@@ -83,7 +83,3 @@ glyphs_are ns =
     let p = placed_reads ns 0 r.0 ns (omega arith) refl r.1 in
     subst (AreGlyphsOf ns) (sym (computed (length ns) 0 r.0 ns (omega arith) r.1))
     (record { reads = subst (λ (w : List (GlyphKind × List Note)). IsReadingBy HasKind w ns) (sym p.0) r.1; joined = p.1 })
-
--- and nothing else is
-pub glyphs_only : (ns : List Note) (gs : List Glyph) → AreGlyphsOf ns gs → gs ≡ glyphs_of ns
-glyphs_only ns gs h = glyphs_are_one ns gs (glyphs_of ns) h (glyphs_are ns)

@@ -9,7 +9,7 @@ use Rattle.std.proofs.Math.Seq.{take-append_seam, drop-append_seam}
 use lib.Utf8.{encodes, scalars}
 use Rattle.gabc_notes.specs.Table.{gabc}
 use Rattle.gabc_notes.specs.machine.Items.{IsFirstItem}
-use Rattle.gabc_notes.specs.Items.{IsKept, AreItemsOf, AreWithin, read_as, piece_of, placed_items, items_from, items_of}
+use Rattle.gabc_notes.specs.Items.{IsKept, AreItemsOf, MakeUp, AreWithin, read_as, piece_of, placed_items, items_from, items_of}
 use Rattle.gabc_notes.specs.declared.item.Item.{Item}
 use Rattle.gabc_notes.specs.declared.item.ItemKind.{ItemKind}
 use Rattle.gabc_patterns.specs.LongestItems.{IsReading}
@@ -17,6 +17,7 @@ use Rattle.gabc_patterns.specs.Items.{FollowOn}
 use Rattle.gabc_patterns.specs.Function.{items, items_within, longest_item}
 use Rattle.gabc_notes.proofs.grammar.LawsOfKeptTexts.{kinds_are_one}
 use Rattle.gabc_places.proofs.texts.CharactersOfStrings.{scalars_split}
+use Rattle.gabc_patterns.proofs.ItemsAsFarAsOneBegins.{items_read_on, one_read_on}
 use Rattle.gabc_patterns.proofs.ItemsFunctionReads.{items_are}
 use Rattle.gabc_patterns.proofs.ItemsOneByOne.{items_first, items_none, items_lie}
 
@@ -79,6 +80,16 @@ items_few bytes u =
     let whole = ap (length {A = ℕ}) (encodes-chars bytes u) in
     omega (arith, as_many 0 (items gabc (chars bytes)), few, length-le-encodes (chars bytes), whole)
 
+-- ---- the items of a text, as far as one begins
+
+pub items_are_those : (bytes : List ℕ) → AreItemsOf bytes (items_of bytes)
+items_are_those bytes = let r = items_read_on gabc refl (chars bytes) in record { texts = items gabc (chars bytes); rest = r.0; reads = r.1; placed = refl }
+
+-- they are one list
+pub items_are_one_list : (bytes : List ℕ) (is js : List Item) → AreItemsOf bytes is → AreItemsOf bytes js → is ≡ js
+items_are_one_list bytes is js h k =
+    h.placed ∙ (ap (placed_items 0) (one_read_on gabc refl kinds_are_one h.texts k.texts (chars bytes) h.rest k.rest h.reads k.reads).0 ∙ sym k.placed)
+
 -- ---- the items of a snippet read it
 
 placed_reads : (text : List ℕ) (at : ℕ) (is : List (ItemKind × List ℕ)) (t : List ℕ) → at ≤ length text → IsUtf8 (drop at text) → chars (drop at text) ≡ t → IsReading gabc is t
@@ -104,7 +115,7 @@ placed_reads text at ((k, w) ∷ is) t l u e (rest, f, has, long, reads) =
       (refl, later.1),
     )
 
-pub items_read_text : (text : List ℕ) → IsUtf8 text → IsKept text → AreItemsOf text (items_of text)
+pub items_read_text : (text : List ℕ) → IsUtf8 text → IsKept text → MakeUp text (items_of text)
 items_read_text text u k =
     let r : IsReading gabc (items gabc (chars text)) (chars text) = items_are gabc refl (chars text) k in
     let p = placed_reads text 0 (items gabc (chars text)) (chars text) (omega arith) u refl r in

@@ -6,6 +6,7 @@ use lib.Utf8.{encode}
 use Rattle.gabc_nabc.specs.machine.BuiltNabc.{built_nabc_of}
 use Rattle.gabc_places.proofs.texts.CharactersOfStrings.{chars-none}
 use Rattle.gabc_nabc.proofs.machine.LoopOverBody.{goes_on, fits, ends, cut_open, place_fits}
+use Rattle.gabc_nabc.proofs.grammar.ReadByRelations.{read_by_relations}
 use Rattle.gabc_nabc.proofs.whole.nabc_whole.Goals as goal
 
 pub cut-requires : goal.cut-requires
@@ -25,11 +26,11 @@ returns-in-Some-emitted_end c =
     let e = (ends c.args.at (chars c.args.body.now) c.loop-c.yielded (chars (chars_rest c.next.new.self)) c.loop-c.place c.in-Some.c c.loop-c.stage (built_nabc_of c.loop-c.builder) (built_nabc_of c.feed.new.self)
     c.loop-c.index c.in-Some-emitted_end.kept c.in-Some-emitted_end.end (rw past at i.going) c.in_ok-feed.ensures.gathered (sym c.emitted_end.ensures ∙ c.in-Some-emitted_end.is) (IsUtf8-string_bytes c.feed.new.self.kept)
     (omega (arith, n, c.requires.line))).1 in
-    record {
+    read_by_relations c.args.at (chars c.args.body.now) c.into_read.result (record {
       kept_is = c.into_read.ensures.kept ∙ (c.cut.ensures.kept ∙ e.kept_is);
       findings_are = c.into_read.ensures.findings ∙ (c.cut.ensures.findings ∙ e.findings_are);
       how_is = c.into_read.ensures.how ∙ (c.at.ensures ∙ e.how_is);
-    }
+    })
 
 pub overflow_add-index : goal.overflow_add-index
 overflow_add-index c =
@@ -66,8 +67,8 @@ returns c =
     let none : chars (chars_rest c.loop-c.c-iterator) ≡ [] = chars-none (chars_rest c.loop-c.c-iterator) c.in-None.ensures.steps.0.0 in
     let e = cut_open c.args.at (chars c.args.body.now) c.loop-c.yielded c.loop-c.place c.loop-c.stage (built_nabc_of c.loop-c.builder) (built_nabc_of c.close.new.self) c.loop-c.index
     (rw none at i.going) c.in_ok-close.ensures in
-    record {
+    read_by_relations c.args.at (chars c.args.body.now) c.into_read-2.result (record {
       kept_is = c.into_read-2.ensures.kept ∙ e.kept_is;
       findings_are = c.into_read-2.ensures.findings ∙ e.findings_are;
       how_is = c.into_read-2.ensures.how ∙ e.how_is;
-    }
+    })

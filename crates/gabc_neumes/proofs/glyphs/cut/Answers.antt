@@ -2,7 +2,6 @@ use Rattle.std.proofs.Common.{List, ◌++◌, ◌∷◌, [], ap, sym, ◌∙◌,
 use Rattle.gabc_places.specs.BoundedList.{BoundedList, extended_by}
 use Rattle.gabc_neumes.specs.declared.glyph.Glyph.{Glyph}
 use Rattle.gabc_neumes.proofs.RoomsGrow.{extended-more}
-use Rattle.gabc_neumes.proofs.glyphs_of_notes.GlyphsAreComputed.{glyphs_only}
 use Rattle.gabc_neumes.proofs.glyphs_of_notes.GlyphsOneByOne.{cutting_start, cutting_push, cutting_end, room_for, slice_rest}
 use Rattle.gabc_neumes.proofs.glyphs.cut.Goals as goal
 
@@ -27,4 +26,4 @@ pub returns : goal.returns
 returns c =
     let i = c.loop-kind.invariant in
     let are = cutting_end c.args.notes.now (slice_range c.args.notes.now c.loop-kind.at (length c.args.notes.now)) i.0 c.loop-kind.at (slice_rest c.args.notes.now c.loop-kind.at) c.in_default.ensures.none i.1 in
-    i.2 ∙ ap (extended_by c.args.out.now) (glyphs_only c.args.notes.now i.0 are)
+    (i.0, are, i.2)

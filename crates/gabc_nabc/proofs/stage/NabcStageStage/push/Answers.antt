@@ -4,7 +4,7 @@ use Rattle.gabc_nabc.specs.witness.DescriptorMachine.{event_list, stage_events_a
 use Rattle.gabc_nabc.specs.declared.stage.NabcEvents.{NabcEvents}
 use Rattle.gabc_nabc.specs.declared.stage.NabcStage.{NabcStage}
 use Rattle.gabc_nabc.proofs.StagesKeep.{push_keeps_in}
-use Rattle.gabc_nabc.proofs.Stopping.{push_stops}
+use Rattle.gabc_nabc.proofs.Stopping.{push_stops, ended_as_before}
 use Rattle.gabc_nabc.proofs.stage.NabcStageStage.push.Goals as goal
 
 few_outputs : (b : Bool) (g : NabcEvents) → length (cond b [] (event_list g)) ≤ 3
@@ -32,3 +32,6 @@ returns-clause-end c = push_stops c.args.self.now c.take.new.self c.args.x c.arg
 
 pub returns-clause-keeps : goal.returns-clause-keeps
 returns-clause-keeps c = push_keeps_in c.args.self.now c.take.new.self c.args.x c.args.out.now c.take.new.out c.take.ensures.stage c.take.ensures.out
+
+pub returns-clause-ended : goal.returns-clause-ended
+returns-clause-ended c = ended_as_before c.args.self.now c.take.new.self c.args.x.c c.take.ensures.stage

@@ -1,3 +1,4 @@
+use Rattle.gabc_notes.proofs.Stopping.{ended_as_before}
 use Rattle.gabc_notes.proofs.resuming.CallsKeep.{push_keeps_in}
 use Rattle.gabc_notes.proofs.stage.NoteStageStage.push.Goals as goal
 
@@ -17,3 +18,15 @@ pub returns-else-x-eq41-clause-keeps : goal.returns-else-x-eq41-clause-keeps
 returns-else-x-eq41-clause-keeps c =
     let r = c.read-else-x-eq41 in
     push_keeps_in c.args.self.now r.new.self c.args.x c.args.out.now r.new.out c.if-self.false r.ensures.state r.ensures.events
+
+pub returns-then-self-2-clause-ended : goal.returns-then-self-2-clause-ended
+returns-then-self-2-clause-ended c = ended_as_before c.args.self.now c.read.new.self c.args.x c.read.ensures.state
+
+pub returns-in-Some-clause-ended : goal.returns-in-Some-clause-ended
+returns-in-Some-clause-ended c = ended_as_before c.args.self.now c.read_short.new.self c.args.x c.read_short.ensures.state
+
+pub returns-then-not-is_raw-clause-ended : goal.returns-then-not-is_raw-clause-ended
+returns-then-not-is_raw-clause-ended c = ended_as_before c.args.self.now c.read_close.new.self c.args.x c.read_close.ensures.state
+
+pub returns-else-x-eq41-clause-ended : goal.returns-else-x-eq41-clause-ended
+returns-else-x-eq41-clause-ended c = ended_as_before c.args.self.now c.read-else-x-eq41.new.self c.args.x c.read-else-x-eq41.ensures.state

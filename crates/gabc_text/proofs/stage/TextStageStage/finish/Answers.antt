@@ -1,5 +1,6 @@
 use Rattle.std.proofs.Common.{ap, ◌∙◌}
 use Rattle.gabc_text.specs.declared.stage.TextStage.{TextStage}
+use Rattle.gabc_text.proofs.EndedStages.{finish_ended, finish_stays}
 use Rattle.gabc_text.proofs.PiecesFollowCharacters.{finish_is_paid}
 use Rattle.gabc_text.proofs.machine.EventsLeftAreThoseAhead.{finish_ends}
 use Rattle.gabc_text.proofs.NothingBehindTheEnd.{is_done, finish_stops, finish_is_over}
@@ -19,3 +20,9 @@ returns-clause-pieces c = finish_is_paid c.args.self.now c.args.out.now c.stop.n
 
 pub returns-clause-done : goal.returns-clause-done
 returns-clause-done c = ap (λ (x : TextStage). x.done) c.stop.ensures.stage ∙ is_done c.args.self.now
+
+pub returns-clause-stays : goal.returns-clause-stays
+returns-clause-stays c = finish_stays c.args.self.now c.stop.new.self c.stop.ensures.stage
+
+pub returns-clause-ended : goal.returns-clause-ended
+returns-clause-ended c = finish_ended c.args.self.now c.stop.new.self c.stop.ensures.stage

@@ -1,0 +1,38 @@
+-- The codes that have names, spelled out.
+use Rattle.std.specs.Prelude.{ℕ, List, [], ◌∷◌, codes}
+
+-- the two letters of each code, and its name
+abbrev pub names_spelled : List (List ℕ × List ℕ)
+names_spelled =
+    (codes "vi", codes "virga")
+    ∷ (codes "pu", codes "punctum")
+    ∷ (codes "ta", codes "tractulus")
+    ∷ (codes "gr", codes "gravis")
+    ∷ (codes "cl", codes "clivis")
+    ∷ (codes "pe", codes "pes")
+    ∷ (codes "po", codes "porrectus")
+    ∷ (codes "to", codes "torculus")
+    ∷ (codes "ci", codes "climacus")
+    ∷ (codes "sc", codes "scandicus")
+    ∷ (codes "pf", codes "porrectus-flexus")
+    ∷ (codes "sf", codes "scandicus-flexus")
+    ∷ (codes "tr", codes "torculus-resupinus")
+    ∷ (codes "st", codes "stropha")
+    ∷ (codes "ds", codes "distropha")
+    ∷ (codes "ts", codes "tristropha")
+    ∷ (codes "tg", codes "trigonus")
+    ∷ (codes "bv", codes "bivirga")
+    ∷ (codes "tv", codes "trivirga")
+    ∷ (codes "pr", codes "pressus-maior")
+    ∷ (codes "pi", codes "pressus-minor")
+    ∷ (codes "vs", codes "virga-strata")
+    ∷ (codes "or", codes "oriscus")
+    ∷ (codes "sa", codes "salicus")
+    ∷ (codes "pq", codes "pes-quassus")
+    ∷ (codes "pt", codes "pes-stratus")
+    ∷ (codes "ql", codes "quilisma-three-loops")
+    ∷ (codes "qi", codes "quilisma-two-loops")
+    ∷ (codes "un", codes "uncinus")
+    ∷ (codes "oc", codes "oriscus-clivis")
+    ∷ (codes "ni", codes "nihil")
+    ∷ []

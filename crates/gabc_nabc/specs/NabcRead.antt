@@ -1,0 +1,73 @@
+-- What `nabc_whole` says of a text, by relations over the whole of the snippet with which it begins.
+use Rattle.std.specs.Prelude.{◌≡◌, ◌⊎◌, ℕ, List, [], ◌∷◌, ◌++◌, ◌==◌, true, false, if◌then◌else◌, length, string_bytes, encode_utf8_all}
+use Rattle.gabc_places.specs.declared.code.Code.{Code}
+use Rattle.gabc_places.specs.declared.code.Code.TheVariants.{E3, E6, W7}
+use Rattle.gabc_places.specs.declared.code.Finding.{Finding}
+use Rattle.gabc_places.specs.declared.place.Char.{Char}
+use Rattle.gabc_places.specs.declared.place.Place.{Place}
+use Rattle.gabc_places.specs.Place.{place_past, placed_characters_from}
+use Rattle.gabc_patterns.specs.Kept.{Keeps, Trims}
+use Rattle.gabc_patterns.specs.LongestItems.{IsSnippet, IsViable}
+use Rattle.gabc_patterns.specs.Pattern.{Spells}
+use Rattle.gabc_notes.specs.FoundAt.{AreThoseFound}
+use Rattle.gabc_notes.specs.declared.snippet_read.SnippetEnding.TheVariants.{Next, Close, Cut}
+use Rattle.gabc_notes.specs.declared.snippet_read.SnippetRead.{SnippetRead}
+use Rattle.gabc_nabc.specs.Table.{nabc, code}
+use Rattle.gabc_nabc.specs.Names.{is_known}
+use Rattle.gabc_nabc.specs.Events.{is_character, is_end, characters_behind}
+
+-- that is kept of the text: of its characters each one, exactly if what is kept before it, followed by it, is viable
+abbrev pub IsKeptOf : List ℕ → List ℕ → Type 0
+IsKeptOf t kept = Keeps nabc [] (characters_behind [] t) kept
+
+-- The letter c ends a code that the table of names lacks. A code may begin behind a snippet, and behind the `!` that joins glyphs.
+pub record EndsUnknownCode (kept : List ℕ) (c : ℕ) : Type 0 where
+  pub before : List ℕ
+  pub first : ℕ
+  pub cut : kept ≡ before ++ first ∷ []
+  pub begins : IsSnippet nabc before ⊎ ((joined : List ℕ) × (before ≡ joined ++ 33 ∷ []))
+  pub is_code : Spells code (first ∷ c ∷ [])
+  pub unknown : is_known first c ≡ false
+
+-- the code is found at a character c of the snippet, where that is kept before it
+abbrev pub IsFound : List ℕ → ℕ → Code → Type 0
+IsFound kept c E3 = ¬ IsViable nabc (kept ++ c ∷ [])
+IsFound kept c W7 = IsViable nabc (kept ++ c ∷ []) × EndsUnknownCode kept c
+IsFound kept c _ = ⊥
+
+-- the finding is made at the character behind the text
+abbrev pub IsFoundBehind : List ℕ → Char → Finding → Type 0
+IsFoundBehind t x f = (f.place ≡ x.place) × (is_character t x.c ≡ true) × ((kept : List ℕ) × IsKeptOf t kept × IsFound kept x.c f.code)
+
+-- these are found at the characters behind the text, in order
+abbrev pub AreFound : List ℕ → List Char → List Finding → Type 0
+AreFound t [] fs = fs ≡ []
+AreFound t (x ∷ xs) fs = (here later : List Finding) × (fs ≡ here ++ later) × AreThoseFound (IsFoundBehind t x) here × AreFound (t ++ x.c ∷ []) xs later
+
+-- The snippet ends at the mark c behind its text, of which that is kept and found. An unfinished end is left out, and found at the mark.
+pub record IsEnded (at : Place) (front kept : List ℕ) (found : List Finding) (c : ℕ) (r : SnippetRead) : Type 0 where
+  pub mark : is_end front c ≡ true
+  pub whole : List ℕ
+  pub trims : Trims nabc kept whole
+  pub last : List Finding
+  pub unfinished : AreThoseFound (λ f. (f ≡ record { place = place_past at front; code = E6 }) × (¬ IsSnippet nabc kept)) last
+  pub kept_is : string_bytes r.kept ≡ encode_utf8_all whole
+  pub findings_are : r.findings ≡ found ++ last
+  pub how_is : r.how ≡ (let n = length (encode_utf8_all front) in if c == 124 then Next n else Close n)
+
+-- the snippet ends where the rest begins, or is cut where the text ends
+abbrev pub IsRead : Place → List ℕ → List ℕ → List Finding → List ℕ → SnippetRead → Type 0
+IsRead at front kept found [] r = (string_bytes r.kept ≡ encode_utf8_all kept) × (r.findings ≡ found) × (r.how ≡ Cut (record { line = 0; column = 0 }))
+IsRead at front kept found (c ∷ rest) r = IsEnded at front kept found c r
+
+-- The text begins with the snippet, and what stands in front of the rest has no mark that ends one.
+pub record IsNabcRead (at : Place) (t : List ℕ) (r : SnippetRead) : Type 0 where
+  pub front : List ℕ
+  pub rest : List ℕ
+  pub cut : t ≡ front ++ rest
+  pub unended : (before behind : List ℕ) (c : ℕ) → front ≡ before ++ c ∷ behind → is_end before c ≡ false
+  pub kept : List ℕ
+  pub keeps : IsKeptOf front kept
+  pub found : List Finding
+  pub finds : AreFound [] (placed_characters_from at front) found
+  pub is_read : IsRead at front kept found rest r

@@ -1,0 +1,91 @@
+-- A stage that has ended tells no opener and no comment, and the place at which it stood.
+use Rattle.std.proofs.Common.{◌≡◌, ◌==◌, ◌&&◌, ℕ, Bool, true, false, cond, Option, Some, None, refl, ap, sym, ◌∙◌, subst}
+use Rattle.gabc_text.specs.declared.stage.TextStage.{TextStage}
+use Rattle.gabc_text.specs.declared.token.TokenKind.{TokenKind}
+use Rattle.gabc_text.specs.declared.token_state.Step.{Step}
+use Rattle.gabc_text.specs.declared.token_state.Step.TheVariants.{Stays, Ends}
+use Rattle.gabc_text.specs.declared.token_state.TokenState.{TokenState}
+use Rattle.gabc_text.specs.declared.token_state.TokenState.TheVariants.{Plain, Dollar, Comment, Tag, Raw, Translation}
+use Rattle.gabc_text.specs.StageTells.{EndedInPlace, is_open, is_comment}
+use Rattle.gabc_text.specs.machine.TextStage.{settle_stage, settle_stage_by, end_stage, stage_past_char, stage_after_step, read_stage, settled_push_stage, push_stage, finish_stage, finish_stage_by}
+use Rattle.gabc_text.specs.machine.TokenState.{settled_kind, next_step, kind_at_end, is_plain}
+
+-- a stage between tokens that ends
+plain_ends : (t u : TextStage) → is_plain u.state ≡ true → u.progress.next ≡ t.progress.next → EndedInPlace t (end_stage u)
+plain_ends t u p n = record {
+  opener = ap (λ (b : Bool). cond b (Some u.progress.place) None) (closed u.state p);
+  comment = silent u.state p;
+  next = n;
+}
+  where
+    closed : (s : TokenState) → is_plain s ≡ true → is_open s ≡ false
+    closed Plain e = refl
+    closed Dollar e = absurd (cc)
+    closed Comment e = absurd (cc)
+    closed (Tag name) e = absurd (cc)
+    closed (Raw part m) e = absurd (cc)
+    closed Translation e = absurd (cc)
+
+    silent : (s : TokenState) → is_plain s ≡ true → is_comment s ≡ false
+    silent Plain e = refl
+    silent Dollar e = absurd (cc)
+    silent Comment e = absurd (cc)
+    silent (Tag name) e = absurd (cc)
+    silent (Raw part m) e = absurd (cc)
+    silent Translation e = absurd (cc)
+
+-- a token that ends leaves a stage running, and where it stood
+settled_runs : (t : TextStage) (o : Option TokenKind) → ((settle_stage_by t o).done ≡ t.done) × ((settle_stage_by t o).progress.next ≡ t.progress.next)
+settled_runs t None = (refl, refl)
+settled_runs t (Some k) = (refl, refl)
+
+-- so does a step
+step_runs : (t : TextStage) (s : Step) → (stage_after_step t s).done ≡ t.done
+step_runs t (Stays state) = refl
+step_runs t (Ends k s) = refl
+
+-- at a character, behind the token that ended before it
+settled_ends : (t u next : TextStage) (c : ℕ) → u.done ≡ false → u.progress.next ≡ t.progress.next → next ≡ settled_push_stage u c → next.done ≡ true → EndedInPlace t next
+settled_ends t u next c runs place is d = go (c == 40 && is_plain u.state) refl
+  where
+    plain : (b : Bool) → (b && is_plain u.state) ≡ true → is_plain u.state ≡ true
+    plain true e = e
+    plain false e = absurd (cc)
+
+    go : (b : Bool) → (c == 40 && is_plain u.state) ≡ b → EndedInPlace t next
+    go true e =
+        subst (EndedInPlace t) (sym (is ∙ ap (λ (b : Bool). cond b (end_stage u) (read_stage u c)) e))
+        (plain_ends t u (plain (c == 40) e) place)
+    go false e =
+        let f = ap (λ (s : TextStage). s.done) (is ∙ ap (λ (b : Bool). cond b (end_stage u) (read_stage u c)) e) in
+        let g = step_runs (stage_past_char u c) (next_step u.state c) in
+        absurd (cc)
+
+-- at a character
+pub push_ended : (t next : TextStage) (c : ℕ) → next ≡ push_stage t c → t.done ≡ false → next.done ≡ true → EndedInPlace t next
+push_ended t next c n r d =
+    let s = settled_runs t (settled_kind t.state c) in
+    settled_ends t (settle_stage t c) next c (s.0 ∙ r) s.1 (n ∙ ap (λ (b : Bool). cond b t (settled_push_stage (settle_stage t c) c)) r) d
+
+-- at the end of the characters
+pub finish_ended : (t next : TextStage) → next ≡ finish_stage t → t.done ≡ false → EndedInPlace t next
+finish_ended t next n r = subst (EndedInPlace t) (sym (n ∙ ap (λ (b : Bool). cond b t (finish_stage_by t (kind_at_end t.state))) r)) (go (kind_at_end t.state) refl)
+  where
+    between : (s : TokenState) → kind_at_end s ≡ None → is_plain s ≡ true
+    between Plain e = refl
+    between Dollar e = absurd (cc)
+    between Comment e = absurd (cc)
+    between (Tag name) e = absurd (cc)
+    between (Raw part m) e = absurd (cc)
+    between Translation e = absurd (cc)
+
+    go : (o : Option TokenKind) → kind_at_end t.state ≡ o → EndedInPlace t (finish_stage_by t o)
+    go None e = plain_ends t t (between t.state e) refl
+    go (Some k) e = record { opener = refl; comment = refl; next = refl }
+
+-- a stage that has ended stays as it is
+pub push_stays : (t next : TextStage) (c : ℕ) → next ≡ push_stage t c → t.done ≡ true → next ≡ t
+push_stays t next c n d = n ∙ ap (λ (b : Bool). cond b t (settled_push_stage (settle_stage t c) c)) d
+
+pub finish_stays : (t next : TextStage) → next ≡ finish_stage t → t.done ≡ true → next ≡ t
+finish_stays t next n d = n ∙ ap (λ (b : Bool). cond b t (finish_stage_by t (kind_at_end t.state))) d
