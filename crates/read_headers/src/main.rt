@@ -48,7 +48,7 @@ fn count_by_stage(
     let mut out = Room::with_limit(alloc, 2)?;
     push_all(&mut stage, text, &mut out);
     let mut count = 0usize;
-    for _ in stage.headers() {
+    for _ in stage.book() {
         count = count.saturating_add(1);
     }
     Ok(count)
