@@ -4,7 +4,7 @@ ghost use Rattle.std.specs.Prelude.{◌≡◌, ◌≤◌, ◌<◌, ◌-◌, ◌^
 ghost use Rattle.std.specs.Str.{chars};
 ghost use Rattle.gabc_headers.specs.Canonical.{header_lines};
 ghost use Rattle.gabc_headers.specs.Entries.{key_name, spelled_entries};
-ghost use Rattle.gabc_headers.specs.machine.EntryMap.{HasPlace, IsKeyOf, comes_again, AreWithin};
+ghost use Rattle.gabc_headers.specs.machine.EntryMap.{HasPlace, IsKeyOf, comes_again, AreWithin, values_end};
 ghost use Rattle.gabc_headers.specs.EntryMap.{put_entry};
 ghost use Rattle.gabc_headers.specs.Lines.{bytes_len};
 
@@ -167,9 +167,10 @@ impl EntryMap {
         counter.count()
     }
 
-    /// The byte of a text behind the last of these values, or 0 where there are none.
+    /// Returns the byte of a text after the last of these values, or 0 where there are none.
     pub(crate) fn end(&self, text: &str) -> usize
         requires { AreWithin text.now self.now.items }
+        ensures exact { result ≡ values_end self.now.items }
         ensures last { IsCharBoundary text.now result }
         ensures within { AreWithin (take result text.now) self.now.items }
     {

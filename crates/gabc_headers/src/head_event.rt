@@ -23,3 +23,6 @@ pub enum HeadEvent {
     /// The text has ended behind its headers. Nothing follows.
     End,
 }
+
+/// What a header stage puts out, by another name.
+pub type HeadOut = HeadEvent;

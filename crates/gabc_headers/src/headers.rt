@@ -136,9 +136,8 @@ impl<'a> Headers<'a> {
     pub fn canonical_len(&self) -> usize
         ensures { result ≡ min (bytes_len (canonical_heads self.now)) (2 ^ 64 - 1) }
     {
-        let Headers { text, headers, first } = *self;
         let mut counter = ByteCounter::new();
-        canon_header(Headers { text, headers, first }, &mut counter);
+        canon_header(Headers { ..*self }, &mut counter);
         counter.count()
     }
 }

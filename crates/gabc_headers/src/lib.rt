@@ -36,7 +36,7 @@ mod whole;
 
 pub use book::HeaderBook;
 pub use canonical::{canon_header, wants_own_lines};
-pub use head_event::HeadEvent;
+pub use head_event::{HeadEvent, HeadOut};
 pub use header_stage::HeaderStage;
 pub use headers::Headers;
 pub use heads::{HeadFault, Heads};

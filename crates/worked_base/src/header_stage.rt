@@ -115,7 +115,7 @@ fn push_all(stage: &mut HeaderStage, text: &str, out: &mut Room<HeadEvent>)
 fn show_lent(stage: &HeaderStage, shown: &mut String) -> Result<(), AllocError> {
     let text = stage.text().unwrap_or("none");
     write!(shown, "{text}|")?;
-    for (name, value) in stage.headers() {
+    for (name, value) in stage.book() {
         write!(shown, "{name}={value},")?;
     }
     write!(shown, "|")
@@ -153,6 +153,31 @@ fn the_text_and_then_the_book_are_lent(rt: HostRuntime) -> Result<(), Fail> {
         shown?.as_str(),
         "mode:1;\nmode:2;\n%||none|mode=2,|||none|name=a,|"
     );
+    Ok(())
+}
+
+/// Returns whether each method of the book of `stage` answers what the text of `a_book_is_borrowed_by_name` says.
+fn is_book_of(stage: &HeaderStage) -> bool {
+    let book = stage.book();
+    book.get("mode") == Some("2")
+        && book.get("name").is_none()
+        && book.nabc_lines() == 2
+        && book.is_macro(1)
+        && !book.is_macro(2)
+        && !book.is_macro(11)
+        && book.macros() == 2
+        && book.canonical_len() == 9 + 15 + 11 + 11 + 2
+}
+
+#[test]
+fn a_book_is_borrowed_by_name(rt: HostRuntime) -> Result<(), Fail> {
+    let mut out = Room::with_limit(rt.alloc(), 2)?;
+    let mut stage = HeaderStage::with_limits(rt.alloc(), Limits::DEFAULT)?;
+    let text = "mode:1;\nmode:2;\nnabc-lines:2;\ndef-m1:x;\ndef-m;:x;\n%%";
+    push_all(&mut stage, text, &mut out);
+    let well = is_book_of(&stage);
+    drop(stage);
+    assert!(rt; well);
     Ok(())
 }
 

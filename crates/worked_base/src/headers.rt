@@ -176,6 +176,26 @@ fn looks_into_books(rt: HostRuntime) -> Result<(), Fail> {
 }
 
 #[test]
+fn only_digits_have_macros(rt: HostRuntime) -> Result<(), Fail> {
+    let well = match read(&rt, "def-m;: x;\ndef-m0: y;\n%%\n", 1000)? {
+        Ok(heads) => heads.book.is_macro(0) && !heads.book.is_macro(11),
+        Err(_) => false,
+    };
+    assert!(rt; well);
+    Ok(())
+}
+
+#[test]
+fn shows_the_names_and_values_of_a_book(rt: HostRuntime) -> Result<(), Fail> {
+    let shown = match read(&rt, "name:A;\nmode:1;\n%%\n", 1000)? {
+        Ok(heads) => format!(in rt.alloc(); "{:?}", heads.book)?,
+        Err(_) => String::new(rt.alloc()),
+    };
+    assert_eq!(rt; shown.as_str(), "{\"name\": \"A\", \"mode\": \"1\"}");
+    Ok(())
+}
+
+#[test]
 fn says_which_values_want_lines(rt: HostRuntime) {
     for (value, wants) in [
         ("", false),
@@ -193,6 +213,7 @@ fn laws_are_called() {
     laws::lines_have_groups();
     laws::groups_are_unique();
     laws::groups_tell_parts();
+    laws::heads_are_of_groups();
     laws::last_value_at_first_place();
     laws::findings_in_order();
     laws::findings_lie_before_the_body();

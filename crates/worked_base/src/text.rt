@@ -200,6 +200,7 @@ fn keeps_texts_and_findings(rt: HostRuntime) -> Result<(), Fail> {
 #[test]
 fn laws_are_called() {
     laws::texts_are_plain();
+    laws::codes_are_these();
     laws::texts_are_scalars_within_the_limit();
     laws::text_again();
     laws::a_prefix_of_a_text_is_read_of_a_prefix_of_its_bytes();

@@ -1,12 +1,12 @@
 -- Spans in the beginning of a text.
-use Rattle.std.proofs.Common.{◌≡◌, ℕ, ◌<◌, ◌≤◌, ◌-◌, zero, suc, List, [], ◌∷◌, ◌++◌, length, take, drop, arith, refl, sym, ap, ◌∙◌, length-take, length-drop, slice_get, IsSomeAnd, IsCharBoundary, Bool, true, false, cond, nat_lt, ◌==◌, Less, Equal, Greater}
+use Rattle.std.proofs.Common.{◌≡◌, ℕ, ◌<◌, ◌≤◌, ◌-◌, zero, suc, List, [], ◌∷◌, ◌++◌, length, take, drop, arith, refl, sym, ap, ◌∙◌, length-take, length-drop, slice_get, IsSomeAnd, IsCharBoundary, Bool, true, false, cond, nat_lt, max, ◌==◌, Less, Equal, Greater}
 use Rattle.std.specs.Ordering.{is_lt, nat_cmp, ord_max}
 use Rattle.std.specs.Str.{chars}
 use Rattle.std.proofs.lemmas.Bool.Decides.{nat_tests}
 use Rattle.std.proofs.lemmas.List.{get_or-take, take-append-drop, take-append-le, drop-append-le}
 use Rattle.gabc_places.specs.declared.place.Span.{Span}
 use Rattle.gabc_headers.specs.Entries.{spelled_entries, text_at}
-use Rattle.gabc_headers.specs.machine.EntryMap.{AreWithin}
+use Rattle.gabc_headers.specs.machine.EntryMap.{AreWithin, values_end}
 use Rattle.gabc_headers.specs.machine.Spans.{IsWithin}
 use Rattle.gabc_headers.proofs.entries.MapIsReadByEntry.{within_get}
 
@@ -78,3 +78,25 @@ later_end text m n b c = by (nat_lt n m) (n == m) refl
     by true y q = let l : n < m = grind (arith, nat_tests) in (omega arith, omega (arith, l), b)
     by false true q = let l : m ≤ n = grind (arith, nat_tests) in (l, omega arith, c)
     by false false q = let l : m ≤ n = grind (arith, nat_tests) in (l, omega arith, c)
+
+-- the later of two numbers
+is_later : (m n : ℕ) → ord_max nat_cmp m n ≡ max m n
+is_later m n = by (nat_lt n m) (n == m) refl
+  where
+    by : (x y : Bool) → nat_lt n m ≡ x → later m n x y ≡ max m n
+    by true y q = let l : n < m = grind (arith, nat_tests) in omega (arith, l)
+    by false true q = let l : m ≤ n = grind (arith, nat_tests) in omega (arith, l)
+    by false false q = let l : m ≤ n = grind (arith, nat_tests) in omega (arith, l)
+
+-- of the ends that are still to come, the next one counts now
+pub far_on : (es : List (List ℕ × Span)) (i n m : ℕ) (s : Span) → IsSomeAnd (slice_get es i) (λ e. e.1 ≡ s) → m ≡ ord_max nat_cmp n s.to
+    → max n (values_end (drop i es)) ≡ max m (values_end (drop (suc i) es))
+far_on [] i n m s h e = absurd h
+far_on (d ∷ es) zero n m s h e = let k = e ∙ is_later n s.to in rw h (omega (arith, k))
+far_on (d ∷ es) (suc i) n m s h e = far_on es i n m s h e
+
+pub far_end : (es : List (List ℕ × Span)) (i n : ℕ) → length es ≤ i → max n (values_end (drop i es)) ≡ n
+far_end [] zero n l = omega arith
+far_end [] (suc i) n l = omega arith
+far_end (d ∷ es) zero n l = absurd (omega arith)
+far_end (d ∷ es) (suc i) n l = far_end es i n (omega arith)

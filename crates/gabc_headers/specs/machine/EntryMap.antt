@@ -1,5 +1,5 @@
 -- What is gathered: names with values, each name at the place of its first and with the value of its last.
-use Rattle.std.specs.Prelude.{ℕ, ◌+◌, ◌<◌, ◌≤◌, ◌≡◌, length, List, [], ◌∷◌, Bool, true, false, not, ◌&&◌, IsUtf8}
+use Rattle.std.specs.Prelude.{ℕ, ◌+◌, ◌<◌, ◌≤◌, ◌≡◌, length, max, List, [], ◌∷◌, Bool, true, false, not, ◌&&◌, IsUtf8}
 use Rattle.std.specs.Str.{chars}
 use Rattle.gabc_places.specs.declared.place.Span.{Span}
 use Rattle.gabc_headers.specs.declared.entry_map.Key.{Key}
@@ -45,3 +45,8 @@ pub record IsEntryRoom (limit room : ℕ) (es : List (Key × Span)) : Type 0 whe
 abbrev pub AreWithin : List ℕ → List (List ℕ × Span) → Type 0
 AreWithin text [] = Unit {0}
 AreWithin text (e ∷ es) = IsWithin text e.1 × AreWithin text es
+
+-- the end of the last of these spans, or 0
+abbrev pub values_end : List (List ℕ × Span) → ℕ
+values_end [] = 0
+values_end (e ∷ es) = max e.1.to (values_end es)
