@@ -44,6 +44,7 @@ pub fn score_whole_with_hasher(
 ) -> Result<Score, AllocError>
     ensures { IfOk result (λ score. score ≡ score_of limits ending text.now) }
 {
+    gabc_headers::laws::heads_are_of_groups();
     match headers_whole_with_hasher(alloc, text, limits, hasher)? {
         Ok(heads) => score_behind(alloc, text, ending, limits, heads),
         Err(stop) => Ok(stopped_in_heads(alloc, ending, stop)),

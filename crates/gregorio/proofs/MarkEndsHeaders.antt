@@ -7,7 +7,8 @@ use Rattle.gabc_places.specs.declared.code.Code.TheVariants.{F2, F4, F7}
 use Rattle.gabc_places.specs.declared.limits.Limits.{Limits}
 use Rattle.gabc_places.specs.declared.place.Char.{Char}
 use Rattle.gabc_headers.specs.HeldText.{inputs_of, text_in}
-use Rattle.gabc_headers.specs.Heads.{heads_by, line_place, stop_at, too_long}
+use Rattle.gabc_headers.specs.Heads.{line_place, stop_at, too_long}
+use Rattle.gabc_headers.specs.witness.Heads.{heads_by}
 use Rattle.gabc_headers.specs.witness.HeadEvents.{HeadProgress, reading, behind, fresh_stage, progress_after, progress_by, progress_with, stage_at, stage_past}
 use Rattle.gregorio.specs.machine.HeldHeaders.{behind_mark}
 

@@ -8,7 +8,9 @@ use Rattle.gabc_headers.specs.Lines.{on_first, lines, is_blank, is_bare, is_mark
 use Rattle.gabc_headers.specs.Parts.{HeaderPart, left_out, header, unended, is_good_name, name_of, ended_parts, bad_name_parts, LineContext, outside, within, parts_of_line, context_below, parts_left_open, parts}
 use Rattle.gabc_headers.specs.Book.{is_kept, repeats, unless, entries, last_value, value_of, standing_entries, book_of}
 use Rattle.gabc_headers.specs.Canonical.{wants_lines, printed_value, header_line, header_lines, canonical_heads}
-use Rattle.gabc_headers.specs.Heads.{head_parts, head_stops, heads_by, heads_of}
+use Rattle.gabc_headers.specs.Heads.{heads_of}
+use Rattle.gabc_headers.specs.witness.Heads.{head_stops, heads_by}
+use Rattle.gabc_headers.specs.witness.Parts.{head_parts}
 use Rattle.gabc_write.proofs.plain.PlainCharacters.{either, plain_option, is_plain, plain, both, and, append}
 use Rattle.std.specs.Prelude.{bytes_eq}
 

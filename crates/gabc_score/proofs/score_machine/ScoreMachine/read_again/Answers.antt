@@ -1,17 +1,17 @@
-use Rattle.std.proofs.Common.{◌≡◌, ◌⊎◌, inl, inr, None, refl, sym, ap, ◌∙◌}
+use Rattle.std.proofs.Common.{◌≡◌, ◌⊎◌, inl, inr, refl, sym, ap, ◌∙◌}
 use Rattle.std.proofs.lemmas.Bool.{true≢false}
 use Rattle.gabc_score.specs.declared.bounds.Bounds.{Bounds}
 use Rattle.gabc_score.specs.declared.score_machine.ScorePart.{ScorePart}
 use Rattle.gabc_score.specs.declared.score_machine.ScorePart.TheVariants as score_part
-use Rattle.gabc_score.specs.ScoreTells.{before_with, in_body}
 use Rattle.gabc_score.specs.machine.ScoreMachine.{shown}
 use Rattle.gabc_score.specs.witness.ScoreStage.{ScoreStageState}
 use Rattle.gabc_score.proofs.resuming.MachinesReadAgain.{is_told, stands_before, told_alike, tells_so}
 use Rattle.gabc_score.proofs.resuming.ResumedIsOfText.{told_again}
+use Rattle.gabc_score.proofs.score_events.MemoryIsKept.{keeps}
 use Rattle.gabc_score.proofs.score_machine.ScoreMachine.read_again.Goals as goal
 
-pub returns-in-Body-clause-again : goal.returns-in-Body-clause-again
-returns-in-Body-clause-again c = λ told can limits before tells first.
+pub returns-in-Body-part-clause-again : goal.returns-in-Body-part-clause-again
+returns-in-Body-part-clause-again c = λ told can limits before tells first.
     let old = c.args.self.now in
     let openers = c.args.openers in
     let kept = c.args.kept.now in
@@ -24,11 +24,11 @@ returns-in-Body-clause-again c = λ told can limits before tells first.
           (told_alike old c.read_told.new.self told.body.part kept c.read_told.ensures.run t) tells.front tells.openers_are (c.read_told.ensures.again told.body.part t tells.front tells.comment_is start) c.go_to.ensures.moved,
     )
 
-pub returns-in-Body-clause-told : goal.returns-in-Body-clause-told
-returns-in-Body-clause-told c = λ fine is openers text told.
+pub returns-in-Body-part-clause-told : goal.returns-in-Body-part-clause-told
+returns-in-Body-part-clause-told c = λ fine is openers text told.
     let moved = c.go_to.ensures.moved in
     let run = c.read_told.ensures.run in
-    let same = c.read_told.ensures.same (sym (ap (λ (s : ScoreStageState). s.part) moved) ∙ c.in-Body.is) in
+    let same = c.read_told.ensures.same (sym (ap (λ (s : ScoreStageState). s.part) moved) ∙ c.in-Body-part.is) in
     told_again (shown c.args.self.now) (shown c.go_to.new.self) c.args.next same.body (ap (λ (s : ScoreStageState). s.limits) moved ∙ run.limits) (ap (λ (s : ScoreStageState). s.body.nabc_lines) moved ∙ run.lines)
     (ap (λ (s : ScoreStageState). s.body.macros) moved ∙ run.macros) (ap (λ (s : ScoreStageState). s.before) moved ∙ ap (λ (b : Bounds). b.before) same.bounds) (ap (λ (s : ScoreStageState). s.held.gathered.made) moved ∙ same.made)
     (ap (λ (s : ScoreStageState). s.held.next) moved) is openers text told
@@ -39,10 +39,12 @@ returns-in-Heads c =
     let openers = c.args.openers in
     let kept = c.args.kept.now in
     record {
-      rests = c.go_to.ensures.rests;
+      rests = let k = keeps c.go_to.new.self c.go_to.new.self.part c.go_to.ensures.rests in record { room = k.room; limit = k.limit };
       limits = ap (λ (s : ScoreStageState). s.limits) c.go_to.ensures.moved ∙ c.read_told.ensures.run.limits;
       same = λ e. absurd (true≢false (sym e));
-      over = λ e. by c.go_to.new.self.part c.in-Heads.is;
+      over = λ e. refl;
+      ends = λ e body. refl;
+      outside = λ no. absurd (no c.in-Body.is);
       told = λ e. absurd (true≢false (sym e));
       again = λ told can limits before tells first.
           let start = stands_before c.what_is_open_follows_from_the_kept_text.ensures.opener old openers c.requires.rests first in
@@ -50,10 +52,6 @@ returns-in-Heads c =
           absurd (outside c.go_to.new.self.part c.in-Heads.is (ap (λ (s : ScoreStageState). s.part) c.go_to.ensures.moved ∙ (c.read_told.ensures.again told.body.part t tells.front tells.comment_is start).body));
     }
   where
-    by : (p : ScorePart) → (p ≡ score_part.Heads) ⊎ (p ≡ score_part.Over) → in_body p (before_with c.go_to.new.self.body c.go_to.new.self.bounds.before) ≡ None
-    by p (inl e) = ap (λ (k : ScorePart). in_body k (before_with c.go_to.new.self.body c.go_to.new.self.bounds.before)) e
-    by p (inr e) = ap (λ (k : ScorePart). in_body k (before_with c.go_to.new.self.body c.go_to.new.self.bounds.before)) e
-
     outside : (p : ScorePart) → (p ≡ score_part.Heads) ⊎ (p ≡ score_part.Over) → p ≡ score_part.Body → ⊥
     outside p (inl e) f = cc (sym e ∙ f)
     outside p (inr e) f = cc (sym e ∙ f)
