@@ -15,4 +15,5 @@ pub mod Lines
 pub mod NabcLines
 pub mod NextHeader
 pub mod Parts
+pub mod ShownStage
 pub mod TooLong

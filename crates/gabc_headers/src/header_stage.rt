@@ -65,7 +65,8 @@ impl Model for HeaderStage {
     ghost use Rattle.std.specs.String.{string_capacity};
     ghost use Rattle.std.specs.Str.{chars};
     ghost use Rattle.gabc_headers.specs.witness.HeadEvents.{HeaderStageState};
-    ghost use Rattle.gabc_headers.specs.machine.HeaderStage.{book_in, progress_in, IsStageIn};
+    ghost use Rattle.gabc_headers.specs.ShownStage.{book_in, progress_in};
+    ghost use Rattle.gabc_headers.specs.machine.HeaderStage.{IsStageIn};
 
     ghost Value = { HeaderStageState };
 

@@ -16,7 +16,8 @@ use Rattle.gabc_headers.specs.Heads.{heads_of}
 use Rattle.gabc_headers.specs.witness.HeadEvents.{IsInHeaders, reading, behind, over, HeaderStageState, stage_at, events_at, events_at_end, events_of_end, text_held, progress_with}
 use Rattle.gabc_headers.specs.machine.Collected.{found_list, name_found}
 use Rattle.gabc_headers.specs.Entries.{EntryMapState, spelled_entries}
-use Rattle.gabc_headers.specs.machine.HeaderStage.{IsReading, KeepsHeaders, IsStageIn, book_in, progress_in, part_over}
+use Rattle.gabc_headers.specs.ShownStage.{book_in, progress_in}
+use Rattle.gabc_headers.specs.machine.HeaderStage.{IsReading, KeepsHeaders, IsStageIn, part_over}
 use Rattle.gabc_headers.proofs.stages.EventsOfAStage.{values_lie_within}
 
 -- what the fields show

@@ -1,16 +1,14 @@
 -- What holds of a stage of headers where it stands.
 use Rattle.std.specs.Prelude.{◌≡◌, ℕ, ◌+◌, ◌/◌, ◌≤◌, List, [], ◌∷◌, Option}
 use Rattle.std.specs.Str.{chars}
-use Rattle.gabc_places.specs.declared.place.Span.{Span}
 use Rattle.gabc_places.specs.declared.limits.Limits.{Limits}
 use Rattle.gabc_headers.specs.declared.events.HeaderEvent.{HeaderEvent}
 use Rattle.gabc_headers.specs.declared.header_machine.HeaderMachine.{HeaderMachine}
 use Rattle.gabc_headers.specs.declared.header_machine.HeaderStep.TheVariants.{Read}
 use Rattle.gabc_headers.specs.declared.header_stage.HeadPart.{HeadPart}
 use Rattle.gabc_headers.specs.declared.header_stage.HeadPart.TheVariants.{InHeaders, Behind, Stopped, Over}
-use Rattle.gabc_headers.specs.witness.HeadEvents.{HeadProgress, reading, behind, over}
 use Rattle.gabc_headers.specs.machine.Collected.{collected_with_all, none}
-use Rattle.gabc_headers.specs.Entries.{EntryMapState, spelled_entries}
+use Rattle.gabc_headers.specs.Entries.{EntryMapState}
 use Rattle.gabc_headers.specs.machine.EntryMap.{AreWithin}
 use Rattle.gabc_headers.specs.machine.Events.{with_event}
 use Rattle.gabc_headers.specs.machine.HeaderMachine.{IsBounded, fresh_machine, push_one}
@@ -45,19 +43,6 @@ IsStageIn InHeaders limits text space machine headers = IsReading limits text sp
 IsStageIn Behind limits text space machine headers = KeepsHeaders limits text space headers
 IsStageIn Stopped limits text space machine headers = KeepsHeaders limits text space headers
 IsStageIn Over limits text space machine headers = KeepsHeaders limits text space headers
-
--- what is lent: the headers, once they are whole
-abbrev pub book_in : HeadPart → List ℕ → List (List ℕ × Span) → List (List ℕ × List ℕ)
-book_in InHeaders text headers = []
-book_in Behind text headers = spelled_entries text headers
-book_in Stopped text headers = []
-book_in Over text headers = spelled_entries text headers
-
-abbrev pub progress_in : HeadPart → List ℕ → List (List ℕ × List ℕ) → HeadProgress
-progress_in InHeaders text book = reading (chars text)
-progress_in Behind text book = behind book
-progress_in Stopped text book = over
-progress_in Over text book = over
 
 -- behind the last event
 abbrev pub part_over : HeadPart → HeadPart

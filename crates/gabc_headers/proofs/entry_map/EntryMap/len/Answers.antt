@@ -1,4 +1,4 @@
-use Rattle.std.proofs.Common.{◌≡◌, ap, List, ℕ}
+use Rattle.std.proofs.Common.{◌≡◌, ap}
 use Rattle.gabc_headers.specs.Entries.{EntryMapState, named_entries}
 use Rattle.gabc_headers.proofs.entries.MapIsReadByEntry.{length-named}
 use Rattle.gabc_headers.proofs.entry_map.EntryMap.len.Goals as goal

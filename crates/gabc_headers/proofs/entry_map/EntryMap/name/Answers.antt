@@ -1,4 +1,4 @@
-use Rattle.std.proofs.Common.{◌≡◌, ap, List, ℕ}
+use Rattle.std.proofs.Common.{◌≡◌, ap}
 use Rattle.gabc_headers.specs.Entries.{EntryMapState, named_entries}
 use Rattle.gabc_headers.proofs.entries.MapIsReadByEntry.{length-named, named_get, get_none}
 use Rattle.gabc_headers.proofs.entry_map.EntryMap.name.Goals as goal

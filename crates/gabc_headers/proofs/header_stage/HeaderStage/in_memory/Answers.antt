@@ -1,4 +1,4 @@
-use Rattle.std.proofs.Common.{List, ℕ, [], refl, sym, ap}
+use Rattle.std.proofs.Common.{[], refl, sym, ap}
 use Rattle.std.proofs.lemmas.Str.{chars-nil}
 use Rattle.gabc_headers.specs.Entries.{EntryMapState}
 use Rattle.gabc_headers.specs.witness.HeadEvents.{fresh_stage}

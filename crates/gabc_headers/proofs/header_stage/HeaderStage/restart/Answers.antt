@@ -1,4 +1,4 @@
-use Rattle.std.proofs.Common.{List, ℕ, [], refl, sym, ap, arith, ◌∙◌, string_bytes}
+use Rattle.std.proofs.Common.{[], refl, sym, ap, arith, ◌∙◌, string_bytes}
 use Rattle.std.specs.String.{string_capacity}
 use Rattle.std.proofs.lemmas.Str.{chars-nil, IsUtf8-string_bytes}
 use Rattle.gabc_headers.specs.Entries.{EntryMapState}
