@@ -2,6 +2,7 @@
 use Rattle.std.proofs.Common.{◌≡◌, ℕ, ◌*◌, ◌≤◌, ◌<◌, ◌^◌, List, [], ◌∷◌, ◌++◌, length, take, Bool, true, false, Option, Some, None, is_some, Result, Ok, Err, IfSome, refl, sym, ap, ◌∙◌, arith, append-nil, encode_utf8_all}
 use Rattle.std.specs.Char.{IsScalar}
 use Rattle.std.specs.List.{All}
+use Rattle.std.specs.declared.hash.DefaultHasher.{DefaultHasher}
 use Rattle.gabc_places.specs.Decoder.{fault_items, items_of, known_of, known_at_end}
 use Rattle.gabc_places.specs.DecoderMachine.{DecoderState}
 use Rattle.gabc_places.specs.witness.DecoderEvents as decoder
@@ -50,14 +51,14 @@ pub record GivesHeads (limits : Limits) (t : List ℕ) : Type 0 where
   pub broken : head_events limits score_ending.Broken t ≡ emitted_by false (inputs_behind [] t) (events_left limits (reading []) (inputs_behind [] t))
   pub stopped : (fault : Fault) (ended : Bool) → head_events limits (score_ending.At fault) t ≡ emitted_by ended (inputs_behind [] t ++ Err fault ∷ []) (events_left limits (reading []) (inputs_behind [] t ++ Err fault ∷ []))
 
-pub given_are : (limits : Limits) (ending : SourceEnding) (t : List ℕ) (stop : Option Fault) → GivesHeads limits t
-    → head_events_left (fresh_stage limits) ending (inputs_behind [] t ++ fault_items stop) ≡ head_events limits (ending_by ending stop) t
-given_are limits Ended t None g =
+pub given_are : (limits : Limits) (hasher : DefaultHasher) (ending : SourceEnding) (t : List ℕ) (stop : Option Fault) → GivesHeads limits t
+    → head_events_left (fresh_stage limits hasher) ending (inputs_behind [] t ++ fault_items stop) ≡ head_events limits (ending_by ending stop) t
+given_are limits hasher Ended t None g =
     ap (λ (xs : List (Result Char Fault)). emitted_by true xs (events_left limits (reading []) xs)) (append-nil (inputs_behind [] t)) ∙ sym g.whole
-given_are limits Broken t None g =
+given_are limits hasher Broken t None g =
     ap (λ (xs : List (Result Char Fault)). emitted_by false xs (events_left limits (reading []) xs)) (append-nil (inputs_behind [] t)) ∙ sym g.broken
-given_are limits Ended t (Some fault) g = sym (g.stopped fault true)
-given_are limits Broken t (Some fault) g = sym (g.stopped fault false)
+given_are limits hasher Ended t (Some fault) g = sym (g.stopped fault true)
+given_are limits hasher Broken t (Some fault) g = sym (g.stopped fault false)
 
 -- the book is that of the headers
 book_by : (limits : Limits) (e : InputEnding) (t : List ℕ) (r : Result Heads HeadFault) (read : List (List ℕ × List ℕ)) → ((heads : Heads) → r ≡ Ok heads → read ≡ heads.book)
@@ -100,7 +101,7 @@ module _ (job : Job) (limits : Limits) (score : ScoreStageState) (ending : Sourc
 pub record LawsBelow : Type 0 where
   pub scalars : (limit : ℕ) (bytes : List ℕ) → All IsScalar (text_of_bytes limit bytes)
   pub short : (limit : ℕ) (bytes : List ℕ) → length (encode_utf8_all (text_of_bytes limit bytes)) ≤ limit
-  pub book : (limits : Limits) (t : List ℕ) (heads : Heads) (fault : Option Fault) → All IsScalar t → heads_of limits t ≡ Ok heads → (stage_past (fresh_stage limits) (inputs_behind [] t ++ fault_items fault)).book ≡ heads.book
+  pub book : (limits : Limits) (hasher : DefaultHasher) (t : List ℕ) (heads : Heads) (fault : Option Fault) → All IsScalar t → heads_of limits t ≡ Ok heads → (stage_past (fresh_stage limits hasher) (inputs_behind [] t ++ fault_items fault)).book ≡ heads.book
   pub whole : (limits : Limits) (t : List ℕ) → All IsScalar t → let xs = inputs_behind [] t in head_events limits score_ending.Whole t ≡ emitted_by true xs (events_left limits (reading []) xs)
   pub broken : (limits : Limits) (t : List ℕ) → All IsScalar t → let xs = inputs_behind [] t in head_events limits score_ending.Broken t ≡ emitted_by false xs (events_left limits (reading []) xs)
   pub stopped : (limits : Limits) (t : List ℕ) (fault : Fault) (ended : Bool) → All IsScalar t → let xs = inputs_behind [] t ++ Err fault ∷ [] in head_events limits (score_ending.At fault) t ≡ emitted_by ended xs (events_left limits (reading []) xs)
@@ -114,7 +115,7 @@ pub record LawsBelow : Type 0 where
   pub end : (limits : Limits) (e : InputEnding) (t : List ℕ) → has_end (outputs_of_text limits e t) ≡ is_whole_score e (score_of limits e t).fault
   pub few : (limits : Limits) (e : InputEnding) (t : List ℕ) → 2 * length (score_of limits e t).syllables ≤ limits.input
 
-module _ (below : LawsBelow) (job : Job) (limits : Limits) (d : DecoderState) (score : ScoreStageState)
+module _ (below : LawsBelow) (job : Job) (limits : Limits) (hasher : DefaultHasher) (d : DecoderState) (score : ScoreStageState)
     (known : (bytes more : List ℕ) → concat_of (take (length bytes) (decoder.events_left d (bytes ++ more))) ≡ known_of limits bytes)
     (at_end : (bytes : List ℕ) → concat_of (decoder.events_left d bytes) ≡ known_at_end limits bytes)
     (fresh : (xs : List HeadEvent) → AreCountsBelow xs → left_of score xs ≡ score_outputs texts_by_stage limits xs) where
@@ -141,8 +142,8 @@ module _ (below : LawsBelow) (job : Job) (limits : Limits) (d : DecoderState) (s
 
   pub streams_are : (bytes : List ℕ) (ending : SourceEnding)
       → (let items = emitted_by (is_whole ending) bytes (decoder.events_left d bytes) in
-      let from_heads = head_events_left (fresh_stage limits) ending items in
-      streams_from (fresh_writer job) (stage_past (fresh_stage limits) items).book from_heads (left_of score from_heads))
+      let from_heads = head_events_left (fresh_stage limits hasher) ending items in
+      streams_from (fresh_writer job) (stage_past (fresh_stage limits hasher) items).book from_heads (left_of score from_heads))
       ≡ streams_of_outcome job (outcome_of limits ending bytes)
   streams_are bytes ending =
       let decoded = decoded_of limits (is_whole ending) bytes in
@@ -150,7 +151,7 @@ module _ (below : LawsBelow) (job : Job) (limits : Limits) (d : DecoderState) (s
       let xs = inputs_behind [] t ++ fault_items decoded.fault in
       let scalars : All IsScalar t = below.scalars limits.input bytes in
       let step : GivesHeads limits t = record { whole = below.whole limits t scalars; broken = below.broken limits t scalars; stopped = λ fault ended. below.stopped limits t fault ended scalars } in
-      ap (λ (items : List (Result Char Fault)). let from_heads = head_events_left (fresh_stage limits) ending items in
-      streams_from (fresh_writer job) (stage_past (fresh_stage limits) items).book from_heads (left_of score from_heads)) (items_are d limits known at_end ending bytes)
-      ∙ (ap (λ (from_heads : List HeadEvent). streams_from (fresh_writer job) (stage_past (fresh_stage limits) xs).book from_heads (left_of score from_heads)) (given_are limits ending t decoded.fault step)
-      ∙ says_outcome job limits score ending decoded (reads (ending_by ending decoded.fault) bytes) (stage_past (fresh_stage limits) xs).book (λ heads h. below.book limits t heads decoded.fault scalars h))
+      ap (λ (items : List (Result Char Fault)). let from_heads = head_events_left (fresh_stage limits hasher) ending items in
+      streams_from (fresh_writer job) (stage_past (fresh_stage limits hasher) items).book from_heads (left_of score from_heads)) (items_are d limits known at_end ending bytes)
+      ∙ (ap (λ (from_heads : List HeadEvent). streams_from (fresh_writer job) (stage_past (fresh_stage limits hasher) xs).book from_heads (left_of score from_heads)) (given_are limits hasher ending t decoded.fault step)
+      ∙ says_outcome job limits score ending decoded (reads (ending_by ending decoded.fault) bytes) (stage_past (fresh_stage limits hasher) xs).book (λ heads h. below.book limits hasher t heads decoded.fault scalars h))

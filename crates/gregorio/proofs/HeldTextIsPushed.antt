@@ -4,6 +4,7 @@ use Rattle.std.specs.Char.{IsScalar}
 use Rattle.std.specs.List.{All, list_any}
 use Rattle.std.proofs.lemmas.List.Elements.{All-nil, All-push}
 use Rattle.std.proofs.lemmas.List.Folds.{list_any-append}
+use Rattle.std.specs.declared.hash.DefaultHasher.{DefaultHasher}
 use Rattle.gabc_places.specs.declared.code.Finding.{Finding}
 use Rattle.gabc_places.specs.declared.limits.Limits.{Limits}
 use Rattle.gabc_places.specs.declared.place.Char.{Char}
@@ -79,18 +80,18 @@ past_limits : (xs : List Char) (h : HeaderStageState) → (stage_past h (inputs_
 past_limits [] h = refl
 past_limits (x ∷ xs) h = past_limits xs (stage_after h (Ok x))
 
-pub pushed_limits : (limits : Limits) (t : List ℕ) (h : HeaderStageState) (error : Bool) → IsPushed limits t h error → h.limits ≡ limits
-pushed_limits limits t h error p = ap (λ (s : HeaderStageState). s.limits) p.past ∙ past_limits p.xs (fresh_stage limits)
+pub pushed_limits : (limits : Limits) (hasher : DefaultHasher) (t : List ℕ) (h : HeaderStageState) (error : Bool) → IsPushed limits hasher t h error → h.limits ≡ limits
+pushed_limits limits hasher t h error p = ap (λ (s : HeaderStageState). s.limits) p.past ∙ past_limits p.xs (fresh_stage limits hasher)
 
-pub pushed_on : IsFoundBehind → (limits : Limits) (t : List ℕ) (x : Char) (old new : HeaderStageState) (error found : Bool) → IsScalar x.c → IsPushed limits t old error → new ≡ stage_after old (Ok x)
-    → found ≡ list_any is_error_event (events_of_input old.limits old.progress (Ok x)) → IsPushed limits (t ++ x.c ∷ []) new (error || found)
-pushed_on law limits t x old new error found scalar p is found_is =
-    let at = pushed_limits limits t old error p in
+pub pushed_on : IsFoundBehind → (limits : Limits) (hasher : DefaultHasher) (t : List ℕ) (x : Char) (old new : HeaderStageState) (error found : Bool) → IsScalar x.c → IsPushed limits hasher t old error → new ≡ stage_after old (Ok x)
+    → found ≡ list_any is_error_event (events_of_input old.limits old.progress (Ok x)) → IsPushed limits hasher (t ++ x.c ∷ []) new (error || found)
+pushed_on law limits hasher t x old new error found scalar p is found_is =
+    let at = pushed_limits limits hasher t old error p in
     record {
       xs = p.xs ++ x ∷ [];
       text = text_past p.xs x ∙ ap (λ (cs : List ℕ). cs ++ x.c ∷ []) p.text;
       scalars = All-push IsScalar t x.c p.scalars scalar;
-      past = is ∙ (ap (λ (s : HeaderStageState). stage_after s (Ok x)) p.past ∙ sym (past_one p.xs x (fresh_stage limits)));
+      past = is ∙ (ap (λ (s : HeaderStageState). stage_after s (Ok x)) p.past ∙ sym (past_one p.xs x (fresh_stage limits hasher)));
       holds = subst (λ (s : HeaderStageState). HoldsSo limits (t ++ x.c ∷ []) (error || found) s.progress) (sym is)
           (subst (λ (l : Limits). HoldsSo limits (t ++ x.c ∷ []) (error || found) (progress_after l old.progress (Ok x))) (sym at)
           (subst (λ (b : Bool). HoldsSo limits (t ++ x.c ∷ []) (error || b) (progress_after limits old.progress (Ok x)))
@@ -98,8 +99,8 @@ pushed_on law limits t x old new error found scalar p is found_is =
           (holds_on law limits t x p.scalars scalar error old.progress p.holds)));
     }
 
-pub none_pushed : (limits : Limits) (h : HeaderStageState) → ((limits : Limits) → IsHeld limits []) → h ≡ fresh_stage limits → IsPushed limits [] h false
-none_pushed limits h begins is = record {
+pub none_pushed : (limits : Limits) (hasher : DefaultHasher) (h : HeaderStageState) → ((limits : Limits) → IsHeld limits []) → h ≡ fresh_stage limits hasher → IsPushed limits hasher [] h false
+none_pushed limits hasher h begins is = record {
   xs = [];
   text = refl;
   scalars = All-nil IsScalar;

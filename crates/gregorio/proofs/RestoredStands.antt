@@ -6,6 +6,7 @@ use Rattle.std.proofs.lemmas.Str.{chars_from_encodes, scalars-chars}
 use lib.Utf8.{scalars}
 use Rattle.std.specs.List.{All}
 use Rattle.std.specs.Str.{chars}
+use Rattle.std.specs.declared.hash.DefaultHasher.{DefaultHasher}
 use Rattle.gabc_places.specs.BoundedList.{BoundedList}
 use Rattle.gabc_places.specs.DecoderMachine.{DecoderState}
 use Rattle.gabc_places.specs.DecoderTells.{is_after_cr, resumed}
@@ -110,7 +111,7 @@ module _ (job : Job) (s : StateFields) (limits : Limits) (is_job : IsOfJob job l
     near : s.place.line + s.place.column ≤ s.taken + 2
     near = let reached = fields.decoder.reached.bytes in omega (arith, reached)
 
-    module _ (text : List ℕ) (are : AreHeaderFields s text) (gives : GivesHeaders limits (chars text) s.place s.has_error) (part : w.score.part ≡ score_part.Heads)
+    module _ (hasher : DefaultHasher) (text : List ℕ) (are : AreHeaderFields s text) (gives : GivesHeaders limits (chars text) s.place s.has_error) (part : w.score.part ≡ score_part.Heads)
         (is_w : w.writer.written ≡ written_by job s (InHeaders text)) where
       unheaded : w.writer.written.headed ≡ false
       unheaded = ap (λ (v : Written). v.headed) is_w
@@ -118,7 +119,7 @@ module _ (job : Job) (s : StateFields) (limits : Limits) (is_job : IsOfJob job l
       parts : AreInOnePart (reading (chars text)) w.score.part w.writer.written.headed
       parts = subst (λ (p : ScorePart). AreInOnePart (reading (chars text)) p w.writer.written.headed) (sym part) unheaded
 
-      pub engine_in_headers : IsEngine decoder (holding limits (chars text)) from_heads w
+      pub engine_in_headers : IsEngine decoder (holding limits hasher (chars text)) from_heads w
       engine_in_headers = record {
         few = few;
         together = record {
@@ -152,14 +153,14 @@ module _ (job : Job) (s : StateFields) (limits : Limits) (is_job : IsOfJob job l
         };
       }
 
-    module _ (f : ScoreFields) (are : AreScoreFields s f) (d : IsSetDown s f w.score) (is_w : w.writer.written ≡ written_by job s (InScore f)) where
+    module _ (hasher : DefaultHasher) (f : ScoreFields) (are : AreScoreFields s f) (d : IsSetDown s f w.score) (is_w : w.writer.written ≡ written_by job s (InScore f)) where
       headed : w.writer.written.headed ≡ true
       headed = ap (λ (v : Written). v.headed) is_w
 
       body_parts : AreInOnePart (behind []) w.score.part w.writer.written.headed
       body_parts = subst (λ (p : ScorePart). AreInOnePart (behind []) p w.writer.written.headed) (sym d.body) headed
 
-      pub engine_in_score : IsEngine decoder (behind_mark limits) from_heads w
+      pub engine_in_score : IsEngine decoder (behind_mark limits hasher) from_heads w
       engine_in_score = record {
         few = few;
         together = record {
@@ -196,8 +197,8 @@ module _ (job : Job) (s : StateFields) (limits : Limits) (is_job : IsOfJob job l
       }
 
     by_phase : (phase : PhaseFields) (h : HeaderStageState) → ArePhaseFields s phase → StandIn s phase limits h w.score → w.writer.written ≡ written_by job s phase → IsEngine decoder h from_heads w
-    by_phase (InHeaders text) h are stand is_w = subst (λ (x : HeaderStageState). IsEngine decoder x from_heads w) (sym stand.heads) (engine_in_headers text are stand.gives stand.part is_w)
-    by_phase (InScore f) h are stand is_w = subst (λ (x : HeaderStageState). IsEngine decoder x from_heads w) (sym stand.heads) (engine_in_score f are stand.set_down is_w)
+    by_phase (InHeaders text) h are stand is_w = subst (λ (x : HeaderStageState). IsEngine decoder x from_heads w) (sym stand.heads) (engine_in_headers h.hasher text are stand.gives stand.part is_w)
+    by_phase (InScore f) h are stand is_w = subst (λ (x : HeaderStageState). IsEngine decoder x from_heads w) (sym stand.heads) (engine_in_score h.hasher f are stand.set_down is_w)
 
     pub restored_engine : (d : DecoderState) (h : HeaderStageState) → d ≡ decoder → StandSo s limits h w.score → w.writer.written ≡ written_by job s s.phase → IsEngine d h from_heads w
     restored_engine d h is_d so is_w = subst (λ (x : DecoderState). IsEngine x h from_heads w) (sym is_d) (by_phase s.phase h fields.phase so.stand is_w)

@@ -55,11 +55,12 @@ fn push_character(heads: &mut HeaderStage, x: Char, events: &mut Room<HeadEvent>
 /// Pushes the characters of `text` into `heads`, which stands before the first one, and returns what they give. `events` has room for what is
 /// emitted of one.
 fn push_text(heads: &mut HeaderStage, text: &str, events: &mut Room<HeadEvent>) -> HeldHeaders
-    requires fresh { heads.old ≡ fresh_stage heads.old.limits }
+    requires fresh { heads.old ≡ fresh_stage heads.old.limits heads.old.hasher }
     requires short { length text.now < 2 ^ 63 }
     requires room { 2 ≤ events.old.limit }
     ensures place { result.place ≡ place_after (chars text.now) }
-    ensures pushed { IsPushed heads.old.limits (chars text.now) heads.new result.has_error }
+    ensures pushed { IsPushed heads.old.limits heads.old.hasher (chars text.now) heads.new
+        result.has_error }
 {
     gabc_headers::stage_laws::a_held_text_grows();
     let mut given = HeldHeaders {
@@ -85,12 +86,13 @@ pub(crate) fn holds_text(
     told: HeldHeaders,
     events: &mut Room<HeadEvent>,
 ) -> bool
-    requires fresh { heads.old ≡ fresh_stage heads.old.limits }
+    requires fresh { heads.old ≡ fresh_stage heads.old.limits heads.old.hasher }
     requires short { length text.now < 2 ^ 63 }
     requires room { 2 ≤ events.old.limit }
     ensures gives { IsTrue result
         ↔ GivesHeaders heads.old.limits (chars text.now) told.place told.has_error }
-    ensures holds { result ≡ true → heads.new ≡ holding heads.old.limits (chars text.now) }
+    ensures holds { result ≡ true →
+        heads.new ≡ holding heads.old.limits heads.old.hasher (chars text.now) }
 {
     gabc_headers::stage_laws::a_held_text_is_held_again();
     let given = push_text(heads, text, events);
@@ -102,9 +104,9 @@ pub(crate) fn holds_text(
 
 /// Reads the line `%%` with `heads`, which stands before the first character of a text. `events` has room for what is emitted of a character.
 pub(crate) fn read_mark(heads: &mut HeaderStage, events: &mut Room<HeadEvent>)
-    requires fresh { heads.old ≡ fresh_stage heads.old.limits }
+    requires fresh { heads.old ≡ fresh_stage heads.old.limits heads.old.hasher }
     requires room { 2 ≤ events.old.limit }
-    ensures { heads.new ≡ behind_mark heads.old.limits }
+    ensures { heads.new ≡ behind_mark heads.old.limits heads.old.hasher }
 {
     let _ = push_text(heads, "%%", events);
 }

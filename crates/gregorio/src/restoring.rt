@@ -57,7 +57,7 @@ fn fresh_heads(
     limits: Limits,
     hasher: DefaultHasher,
 ) -> Result<HeaderStage, StateFault>
-    ensures stage { IfOk result (λ stage. stage ≡ fresh_stage limits) }
+    ensures stage { IfOk result (λ stage. stage ≡ fresh_stage limits hasher) }
     ensures fault { IfErr result (λ fault. fault ≡ StateFault.K0) }
 {
     match HeaderStage::in_memory(memory, limits, hasher) {
@@ -75,7 +75,8 @@ fn heads_holding(
     hasher: DefaultHasher,
 ) -> Result<HeaderStage, StateFault>
     requires { length text.now < 2 ^ 63 }
-    ensures stage { IfOk result (λ stage. stage ≡ holding state.now.limits (chars text.now)) }
+    ensures stage { IfOk result (λ stage. stage
+        ≡ holding state.now.limits hasher (chars text.now)) }
     ensures gives { IfOk result (λ _. GivesHeaders state.now.limits (chars text.now)
         state.now.place state.now.has_error) }
     ensures refused { result ≡ Err StateFault.K1 → GivesHeaders state.now.limits (chars text.now)
@@ -102,7 +103,7 @@ fn heads_behind(
     limits: Limits,
     hasher: DefaultHasher,
 ) -> Result<HeaderStage, StateFault>
-    ensures stage { IfOk result (λ stage. stage ≡ behind_mark limits) }
+    ensures stage { IfOk result (λ stage. stage ≡ behind_mark limits hasher) }
     ensures fault { IfErr result (λ fault. fault ≡ StateFault.K0) }
 {
     let mut events = head_room(memory)?;

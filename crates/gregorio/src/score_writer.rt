@@ -164,7 +164,7 @@ impl ScoreWriter {
             self.new.writer.written.headed ≡ false }
     {
         if let HeadEvent::Heads { .. } = event {
-            self.writer.heads(heads.headers());
+            self.writer.heads(heads.book());
         }
         self.pass(event);
     }

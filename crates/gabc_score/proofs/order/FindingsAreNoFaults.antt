@@ -19,7 +19,9 @@ use Rattle.gabc_headers.specs.declared.heads.HeadFault.{HeadFault}
 use Rattle.gabc_headers.specs.Book.{nabc_lines_of, is_kept, repeats, has_header, book_of, macros_of}
 use Rattle.gabc_headers.specs.Lines.{lines, has_score}
 use Rattle.gabc_headers.specs.Parts.{HeaderPart as HeadPart, left_out, header, unended}
-use Rattle.gabc_headers.specs.Heads.{findings_behind as heads_found, findings_at, names_after, name_findings, head_findings, head_stops, heads_by, heads_of, findings_of as found_in_heads, head_parts}
+use Rattle.gabc_headers.specs.Heads.{findings_behind as heads_found, findings_at, names_after, heads_of, findings_of as found_in_heads}
+use Rattle.gabc_headers.specs.witness.Heads.{name_findings, head_findings, head_stops, heads_by}
+use Rattle.gabc_headers.specs.witness.Parts.{head_parts}
 use Rattle.gabc_text.specs.declared.text_event.TextEvent.{TextEvent}
 use Rattle.gabc_text.specs.declared.text_event.TextEvent.TheVariants as text
 use Rattle.gabc_text.specs.Events.{codes_of, events_by_point}

@@ -2,6 +2,7 @@
 use Rattle.std.specs.Prelude.{◌≡◌, ℕ, List, [], Bool, false}
 use Rattle.std.specs.List.{All, list_any}
 use Rattle.std.specs.Char.{IsScalar}
+use Rattle.std.specs.declared.hash.DefaultHasher.{DefaultHasher}
 use Rattle.gabc_places.specs.declared.limits.Limits.{Limits}
 use Rattle.gabc_places.specs.declared.place.Char.{Char}
 use Rattle.gabc_headers.specs.HeldText.{IsHeld, findings_held, inputs_of, text_in}
@@ -26,13 +27,13 @@ HoldsSo limits t error (behind book) = Unit {0}
 HoldsSo limits t error over = Unit {0}
 
 -- The characters of this text, wherever they stand, were pushed into a fresh stage.
-pub record IsPushed (limits : Limits) (t : List ℕ) (h : HeaderStageState) (error : Bool) : Type 0 where
+pub record IsPushed (limits : Limits) (hasher : DefaultHasher) (t : List ℕ) (h : HeaderStageState) (error : Bool) : Type 0 where
   pub xs : List Char
   pub text : text_in xs ≡ t
   pub scalars : All IsScalar t
-  pub past : h ≡ stage_past (fresh_stage limits) (inputs_of xs)
+  pub past : h ≡ stage_past (fresh_stage limits hasher) (inputs_of xs)
   pub holds : HoldsSo limits t error h.progress
 
 -- behind the line `%%` alone
-abbrev pub behind_mark : Limits → HeaderStageState
-behind_mark limits = record { limits = limits; progress = behind []; book = [] }
+abbrev pub behind_mark : Limits → DefaultHasher → HeaderStageState
+behind_mark limits hasher = record { limits = limits; progress = behind []; book = []; hasher = hasher }

@@ -25,7 +25,7 @@ loop-c-init c =
       front = [];
       all = ap chars rest;
       place = refl;
-      pushed = none_pushed c.args.heads.now.limits c.args.heads.now c.a_held_text_grows.ensures.begins c.requires.fresh;
+      pushed = none_pushed c.args.heads.now.limits c.args.heads.now.hasher c.args.heads.now c.a_held_text_grows.ensures.begins c.requires.fresh;
       line = omega (arith, size, short);
       column = omega (arith, size, short);
     }
@@ -48,7 +48,7 @@ loop-c-preserved c =
       front = i.front ++ c.in-Some.c ∷ [];
       all = append_assoc i.front (c.in-Some.c ∷ []) (chars next) ∙ (ap (λ (cs : List ℕ). i.front ++ cs) (sym past) ∙ i.all);
       place = c.after.ensures.follows i.front i.place;
-      pushed = pushed_on c.a_held_text_grows.ensures.found c.args.heads.now.limits i.front (record { c = c.in-Some.c; place = here }) c.loop-c.heads c.push_character-found.new.heads
+      pushed = pushed_on c.a_held_text_grows.ensures.found c.args.heads.now.limits c.args.heads.now.hasher i.front (record { c = c.in-Some.c; place = here }) c.loop-c.heads c.push_character-found.new.heads
           c.loop-c.given.has_error c.push_character-found.result scalar i.pushed c.push_character-found.ensures.state c.push_character-found.ensures.error;
       line = omega (arith, fits.0);
       column = omega (arith, fits.1);
@@ -64,4 +64,4 @@ pub returns-clause-pushed : goal.returns-clause-pushed
 returns-clause-pushed c =
     let i = c.loop-c.invariant in
     let none = chars-none (chars_rest c.loop-c.c-iterator) c.in-None.ensures.steps.0.0 in
-    subst (λ (t : List ℕ). IsPushed c.args.heads.now.limits t c.loop-c.heads c.loop-c.given.has_error) (sym (append-nil i.front) ∙ (ap (λ (cs : List ℕ). i.front ++ cs) (sym none) ∙ i.all)) i.pushed
+    subst (λ (t : List ℕ). IsPushed c.args.heads.now.limits c.args.heads.now.hasher t c.loop-c.heads c.loop-c.given.has_error) (sym (append-nil i.front) ∙ (ap (λ (cs : List ℕ). i.front ++ cs) (sym none) ∙ i.all)) i.pushed

@@ -14,7 +14,7 @@ invariant-loop-c l = record {
   front : List ℕ;
   all : front ++ chars (chars_rest l.c-iterator) ≡ chars l.fn.text;
   place : l.given.place ≡ place_after front;
-  pushed : IsPushed l.initial.heads.limits front l.heads l.given.has_error;
+  pushed : IsPushed l.initial.heads.limits l.initial.heads.hasher front l.heads l.given.has_error;
   line : l.given.place.line + length (chars_rest l.c-iterator) < 2 ^ 64;
   column : l.given.place.column + length (chars_rest l.c-iterator) < 2 ^ 64;
 }

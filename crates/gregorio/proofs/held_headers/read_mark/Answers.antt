@@ -6,4 +6,4 @@ use Rattle.gregorio.proofs.held_headers.read_mark.Goals as goal
 pub returns : goal.returns
 returns c =
     let p = c.push_text.ensures.pushed in
-    p.past ∙ mark_ends c.args.heads.now.limits p.xs (p.text ∙ chars-IsAscii _ (search rules))
+    p.past ∙ mark_ends c.args.heads.now.limits c.args.heads.now.hasher p.xs (p.text ∙ chars-IsAscii _ (search rules))
