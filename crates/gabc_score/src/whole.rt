@@ -13,6 +13,7 @@ use crate::context::BodyContext;
 use crate::ending::InputEnding;
 use crate::score::Score;
 use crate::syllables::Syllables;
+use gabc_headers::laws::heads_are_of_groups;
 use gabc_headers::{HeadFault, Heads, headers_whole_with_hasher};
 use gabc_places::{Fault, Limits, Memory, Place, Text};
 use std::alloc::{AllocError, Global};
@@ -44,7 +45,7 @@ pub fn score_whole_with_hasher(
 ) -> Result<Score, AllocError>
     ensures { IfOk result (λ score. score ≡ score_of limits ending text.now) }
 {
-    gabc_headers::laws::heads_are_of_groups();
+    heads_are_of_groups();
     match headers_whole_with_hasher(alloc, text, limits, hasher)? {
         Ok(heads) => score_behind(alloc, text, ending, limits, heads),
         Err(stop) => Ok(stopped_in_heads(alloc, ending, stop)),

@@ -18,8 +18,8 @@ use Rattle.gregorio.proofs.pieces.PartsStayInStep.{fresh_in_step}
 use Rattle.gregorio.proofs.pieces.TextOfHeaders.{fresh_reads}
 use Rattle.gregorio.proofs.pieces.TellsInStepOn.{fresh_tells}
 
-pub begins : (v : Written) (limits : Limits) (hasher : DefaultHasher) (d : DecoderState) (h : HeaderStageState) (from_heads : BoundedList HeadEvent) (s : ScoreWriterState)
-    → ((limits : Limits) → IsHeld limits []) → 2 ≤ from_heads.limit → d ≡ fresh_decoder limits.input → h ≡ fresh_stage limits hasher → s.writer.written ≡ begun_again v
+pub begins : (v : Written) (limits : Limits) (d : DecoderState) (h : HeaderStageState) (from_heads : BoundedList HeadEvent) (s : ScoreWriterState)
+    → ((limits : Limits) → IsHeld limits []) → 2 ≤ from_heads.limit → d ≡ fresh_decoder limits.input → h ≡ fresh_stage limits h.hasher → s.writer.written ≡ begun_again v
     → s.score.limits ≡ limits → s.score.part ≡ score_part.Heads → IsReserved s → IsEngine d h from_heads s
 begins v limits hasher d h from_heads s law few is_d is_h is_w is_limits heads reserved = record {
   few = few;

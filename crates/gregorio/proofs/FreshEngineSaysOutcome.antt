@@ -3,6 +3,7 @@ use Rattle.std.specs.declared.hash.DefaultHasher.{DefaultHasher}
 use Rattle.std.proofs.Common.{◌≡◌, ℕ, ◌*◌, ◌≤◌, ◌<◌, ◌^◌, List, [], ◌∷◌, ◌++◌, length, take, Bool, true, false, Option, Some, None, is_some, Result, Ok, Err, IfSome, refl, sym, ap, ◌∙◌, arith, append-nil, encode_utf8_all}
 use Rattle.std.specs.Char.{IsScalar}
 use Rattle.std.specs.List.{All}
+use Rattle.std.specs.declared.hash.DefaultHasher.{DefaultHasher}
 use Rattle.gabc_places.specs.Decoder.{fault_items, items_of, known_of, known_at_end}
 use Rattle.gabc_places.specs.DecoderMachine.{DecoderState}
 use Rattle.gabc_places.specs.witness.DecoderEvents as decoder
@@ -51,14 +52,14 @@ pub record GivesHeads (limits : Limits) (t : List ℕ) : Type 0 where
   pub broken : head_events limits score_ending.Broken t ≡ emitted_by false (inputs_behind [] t) (events_left limits (reading []) (inputs_behind [] t))
   pub stopped : (fault : Fault) (ended : Bool) → head_events limits (score_ending.At fault) t ≡ emitted_by ended (inputs_behind [] t ++ Err fault ∷ []) (events_left limits (reading []) (inputs_behind [] t ++ Err fault ∷ []))
 
-pub given_are : (limits : Limits) (ending : SourceEnding) (t : List ℕ) (stop : Option Fault) → GivesHeads limits t
+pub given_are : (limits : Limits) (hasher : DefaultHasher) (ending : SourceEnding) (t : List ℕ) (stop : Option Fault) → GivesHeads limits t
     → head_events_left (fresh_stage limits hasher) ending (inputs_behind [] t ++ fault_items stop) ≡ head_events limits (ending_by ending stop) t
-given_are limits Ended t None g =
+given_are limits hasher Ended t None g =
     ap (λ (xs : List (Result Char Fault)). emitted_by true xs (events_left limits (reading []) xs)) (append-nil (inputs_behind [] t)) ∙ sym g.whole
-given_are limits Broken t None g =
+given_are limits hasher Broken t None g =
     ap (λ (xs : List (Result Char Fault)). emitted_by false xs (events_left limits (reading []) xs)) (append-nil (inputs_behind [] t)) ∙ sym g.broken
-given_are limits Ended t (Some fault) g = sym (g.stopped fault true)
-given_are limits Broken t (Some fault) g = sym (g.stopped fault false)
+given_are limits hasher Ended t (Some fault) g = sym (g.stopped fault true)
+given_are limits hasher Broken t (Some fault) g = sym (g.stopped fault false)
 
 -- the book is that of the headers
 book_by : (limits : Limits) (e : InputEnding) (t : List ℕ) (r : Result Heads HeadFault) (read : List (List ℕ × List ℕ)) → ((heads : Heads) → r ≡ Ok heads → read ≡ heads.book)
@@ -153,5 +154,5 @@ module _ (below : LawsBelow) (job : Job) (limits : Limits) (hasher : DefaultHash
       let step : GivesHeads limits t = record { whole = below.whole limits t scalars; broken = below.broken limits t scalars; stopped = λ fault ended. below.stopped limits t fault ended scalars } in
       ap (λ (items : List (Result Char Fault)). let from_heads = head_events_left (fresh_stage limits hasher) ending items in
       streams_from (fresh_writer job) (stage_past (fresh_stage limits hasher) items).book from_heads (left_of score from_heads)) (items_are d limits known at_end ending bytes)
-      ∙ (ap (λ (from_heads : List HeadEvent). streams_from (fresh_writer job) (stage_past (fresh_stage limits hasher) xs).book from_heads (left_of score from_heads)) (given_are limits ending t decoded.fault step)
+      ∙ (ap (λ (from_heads : List HeadEvent). streams_from (fresh_writer job) (stage_past (fresh_stage limits hasher) xs).book from_heads (left_of score from_heads)) (given_are limits hasher ending t decoded.fault step)
       ∙ says_outcome job limits score ending decoded (reads (ending_by ending decoded.fault) bytes) (stage_past (fresh_stage limits hasher) xs).book (λ heads h. below.book limits hasher t heads decoded.fault scalars h))

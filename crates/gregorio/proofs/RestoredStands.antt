@@ -7,6 +7,7 @@ use Rattle.std.proofs.lemmas.Str.{chars_from_encodes, scalars-chars}
 use lib.Utf8.{scalars}
 use Rattle.std.specs.List.{All}
 use Rattle.std.specs.Str.{chars}
+use Rattle.std.specs.declared.hash.DefaultHasher.{DefaultHasher}
 use Rattle.gabc_places.specs.BoundedList.{BoundedList}
 use Rattle.gabc_places.specs.DecoderMachine.{DecoderState}
 use Rattle.gabc_places.specs.DecoderTells.{is_after_cr, resumed}
@@ -197,8 +198,8 @@ module _ (job : Job) (s : StateFields) (limits : Limits) (is_job : IsOfJob job l
       }
 
     by_phase : (phase : PhaseFields) (h : HeaderStageState) → ArePhaseFields s phase → StandIn s phase limits h w.score → w.writer.written ≡ written_by job s phase → IsEngine decoder h from_heads w
-    by_phase (InHeaders text) h are stand is_w = subst (λ (x : HeaderStageState). IsEngine decoder x from_heads w) (sym stand.heads) (engine_in_headers stand.hasher text are stand.gives stand.part is_w)
-    by_phase (InScore f) h are stand is_w = subst (λ (x : HeaderStageState). IsEngine decoder x from_heads w) (sym stand.heads) (engine_in_score stand.hasher f are stand.set_down is_w)
+    by_phase (InHeaders text) h are stand is_w = subst (λ (x : HeaderStageState). IsEngine decoder x from_heads w) (sym stand.heads) (engine_in_headers h.hasher text are stand.gives stand.part is_w)
+    by_phase (InScore f) h are stand is_w = subst (λ (x : HeaderStageState). IsEngine decoder x from_heads w) (sym stand.heads) (engine_in_score h.hasher f are stand.set_down is_w)
 
     pub restored_engine : (d : DecoderState) (h : HeaderStageState) → d ≡ decoder → StandSo s limits h w.score → w.writer.written ≡ written_by job s s.phase → IsEngine d h from_heads w
     restored_engine d h is_d so is_w = subst (λ (x : DecoderState). IsEngine x h from_heads w) (sym is_d) (by_phase s.phase h fields.phase so.stand is_w)

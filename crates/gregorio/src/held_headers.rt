@@ -59,7 +59,8 @@ fn push_text(heads: &mut HeaderStage, text: &str, events: &mut Room<HeadEvent>) 
     requires short { length text.now < 2 ^ 63 }
     requires room { 2 ≤ events.old.limit }
     ensures place { result.place ≡ place_after (chars text.now) }
-    ensures pushed { IsPushed heads.old.limits heads.old.hasher (chars text.now) heads.new result.has_error }
+    ensures pushed { IsPushed heads.old.limits heads.old.hasher (chars text.now) heads.new
+        result.has_error }
 {
     gabc_headers::stage_laws::a_held_text_grows();
     let mut given = HeldHeaders {
@@ -90,7 +91,8 @@ pub(crate) fn holds_text(
     requires room { 2 ≤ events.old.limit }
     ensures gives { IsTrue result
         ↔ GivesHeaders heads.old.limits (chars text.now) told.place told.has_error }
-    ensures holds { result ≡ true → heads.new ≡ holding heads.old.limits heads.old.hasher (chars text.now) }
+    ensures holds { result ≡ true →
+        heads.new ≡ holding heads.old.limits heads.old.hasher (chars text.now) }
 {
     gabc_headers::stage_laws::a_held_text_is_held_again();
     let given = push_text(heads, text, events);

@@ -77,8 +77,8 @@ fn heads_holding(
     hasher: DefaultHasher,
 ) -> Result<HeaderStage, StateFault>
     requires { length text.now < 2 ^ 63 }
-    ensures stage { IfOk result (λ stage. stage ≡ holding state.now.limits hasher
-        (chars text.now)) }
+    ensures stage { IfOk result (λ stage. stage
+        ≡ holding state.now.limits hasher (chars text.now)) }
     ensures gives { IfOk result (λ _. GivesHeaders state.now.limits (chars text.now)
         state.now.place state.now.has_error) }
     ensures refused { result ≡ Err StateFault.K1 → GivesHeaders state.now.limits (chars text.now)

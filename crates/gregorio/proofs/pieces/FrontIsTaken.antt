@@ -1,6 +1,7 @@
 -- A front of bytes at which nothing is written leaves what was to come behind it.
 use Rattle.std.proofs.Common.{◌≡◌, ℕ, ◌+◌, ◌<◌, ◌≤◌, ◌⊎◌, inl, inr, List, [], ◌∷◌, ◌++◌, length, map, true, take, drop, slice_index_or, Result, Ok, refl, ap, sym, subst, ◌∙◌, append_assoc, arith, add-one, length-take, take-add, take-take}
 use Rattle.std.proofs.Math.Seq.{take-suc}
+use Rattle.std.specs.declared.hash.DefaultHasher.{DefaultHasher}
 use Rattle.gabc_places.specs.StageLaw.{concat_of}
 use Rattle.gabc_places.specs.Skip.{characters_at, skipped_events}
 use Rattle.gabc_places.specs.declared.code.Fault.{Fault}
@@ -80,12 +81,12 @@ items_skipped at (byte ∷ bytes) more rest Broken =
 
 -- ---- what a stage of headers passes on
 
-inputs_behind : (limits : Limits) (book : List (List ℕ × List ℕ)) (cs : List Char) (ending : SourceEnding) (more : List (Result Char Fault))
-    → (let h : HeaderStageState = record { limits = limits; progress = behind book; book = book } in
+inputs_behind : (limits : Limits) (hasher : DefaultHasher) (book : List (List ℕ × List ℕ)) (cs : List Char) (ending : SourceEnding) (more : List (Result Char Fault))
+    → (let h : HeaderStageState = record { limits = limits; progress = behind book; book = book; hasher = hasher } in
     head_events_left h ending (map (λ (c : Char). Ok c) cs ++ more) ≡ map (λ (c : Char). head_event.Body c) cs ++ head_events_left h ending more)
-inputs_behind limits book [] ending more = refl
-inputs_behind limits book (c ∷ cs) Ended more = ap (λ (events : List HeadEvent). head_event.Body c ∷ events) (inputs_behind limits book cs Ended more)
-inputs_behind limits book (c ∷ cs) Broken more = ap (λ (events : List HeadEvent). head_event.Body c ∷ events) (inputs_behind limits book cs Broken more)
+inputs_behind limits hasher book [] ending more = refl
+inputs_behind limits hasher book (c ∷ cs) Ended more = ap (λ (events : List HeadEvent). head_event.Body c ∷ events) (inputs_behind limits hasher book cs Ended more)
+inputs_behind limits hasher book (c ∷ cs) Broken more = ap (λ (events : List HeadEvent). head_event.Body c ∷ events) (inputs_behind limits hasher book cs Broken more)
 
 -- ---- what both write
 
@@ -123,32 +124,32 @@ module _ (w new : ScoreWriterState) (at : Place) (bytes : List ℕ) (a : WritesN
       settled (book_behind h all) (book_behind h more) (head_events_left h ending all) (body_inputs at bytes ++ head_events_left h ending more)
       ∙ a.law (book_behind h more) (head_events_left h ending more)
 
-  front_behind : (limits : Limits) (book : List (List ℕ × List ℕ)) (ending : SourceEnding) (more : List (Result Char Fault))
-      → (let h : HeaderStageState = record { limits = limits; progress = behind book; book = book } in
+  front_behind : (limits : Limits) (hasher : DefaultHasher) (book : List (List ℕ × List ℕ)) (ending : SourceEnding) (more : List (Result Char Fault))
+      → (let h : HeaderStageState = record { limits = limits; progress = behind book; book = book; hasher = hasher } in
       streams_of_items h w ending (characters at bytes ++ more) ≡ streams_of_items h new ending more)
-  front_behind limits book ending more =
-      let h : HeaderStageState = record { limits = limits; progress = behind book; book = book } in
+  front_behind limits hasher book ending more =
+      let h : HeaderStageState = record { limits = limits; progress = behind book; book = book; hasher = hasher } in
       let all = characters at bytes ++ more in
-      ap (λ (b : List (List ℕ × List ℕ)). streams_of w b (head_events_left h ending all)) (past_behind limits book all ∙ sym (past_behind limits book more))
-      ∙ (ap (λ (from_heads : List HeadEvent). streams_of w (book_behind h more) from_heads) (inputs_behind limits book (characters_at at bytes) ending more)
+      ap (λ (b : List (List ℕ × List ℕ)). streams_of w b (head_events_left h ending all)) (past_behind limits hasher book all ∙ sym (past_behind limits hasher book more))
+      ∙ (ap (λ (from_heads : List HeadEvent). streams_of w (book_behind h more) from_heads) (inputs_behind limits hasher book (characters_at at bytes) ending more)
       ∙ a.law (book_behind h more) (head_events_left h ending more))
 
-  front_in_body : (limits : Limits) (progress : HeadProgress) (book : List (List ℕ × List ℕ)) (ending : SourceEnding) (more : List (Result Char Fault)) → IsBehind progress
-      → (let h : HeaderStageState = record { limits = limits; progress = progress; book = book } in
+  front_in_body : (limits : Limits) (hasher : DefaultHasher) (progress : HeadProgress) (book : List (List ℕ × List ℕ)) (ending : SourceEnding) (more : List (Result Char Fault)) → IsBehind progress
+      → (let h : HeaderStageState = record { limits = limits; progress = progress; book = book; hasher = hasher } in
       GoTogether h w → streams_of_items h w ending (characters at bytes ++ more) ≡ streams_of_items h new ending more)
-  front_in_body limits (reading t) book ending more is together = absurd is
-  front_in_body limits over book ending more is together = absurd is
-  front_in_body limits (behind other) book ending more is together =
-      subst (λ (b : List (List ℕ × List ℕ)). let h : HeaderStageState = record { limits = limits; progress = behind b; book = book } in
+  front_in_body limits hasher (reading t) book ending more is together = absurd is
+  front_in_body limits hasher over book ending more is together = absurd is
+  front_in_body limits hasher (behind other) book ending more is together =
+      subst (λ (b : List (List ℕ × List ℕ)). let h : HeaderStageState = record { limits = limits; progress = behind b; book = book; hasher = hasher } in
       streams_of_items h w ending (characters at bytes ++ more) ≡ streams_of_items h new ending more)
-      (sym together.book) (front_behind limits book ending more)
+      (sym together.book) (front_behind limits hasher book ending more)
 
   front_of_items : (h : HeaderStageState) → w.writer.written.headed ≡ true → GoTogether h w → (ending : SourceEnding) (more : List (Result Char Fault))
       → streams_of_items h w ending (characters at bytes ++ more) ≡ streams_of_items h new ending more
   front_of_items h headed together ending more = by (together.headed headed)
     where
       by : IsBehind h.progress ⊎ IsSettled w → streams_of_items h w ending (characters at bytes ++ more) ≡ streams_of_items h new ending more
-      by (inl is) = front_in_body h.limits h.progress h.book ending more is together
+      by (inl is) = front_in_body h.limits h.hasher h.progress h.book ending more is together
       by (inr settled) = front_settled h settled ending more
 
 pub items_of_a_front : (w new : ScoreWriterState) (at : Place) (bytes : List ℕ) → WritesNothing w at bytes new → (h : HeaderStageState) → GoTogether h w

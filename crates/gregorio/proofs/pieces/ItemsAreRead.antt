@@ -2,6 +2,7 @@
 use Rattle.std.proofs.Common.{◌≡◌, ℕ, ◌⊎◌, inl, inr, List, [], ◌∷◌, ◌++◌, map, Bool, true, false, ◌||◌, cond, Result, Ok, Err, refl, ap, sym, ◌∙◌, subst}
 use Rattle.std.proofs.lemmas.Bool.{true≢false}
 use Rattle.std.specs.List.{list_any}
+use Rattle.std.specs.declared.hash.DefaultHasher.{DefaultHasher}
 use Rattle.gabc_places.specs.StageLaw.{concat_of}
 use Rattle.gabc_places.specs.declared.code.Fault.{Fault}
 use Rattle.gabc_places.specs.declared.code.Finding.{Finding}
@@ -31,14 +32,14 @@ given_next : (h : HeaderStageState) (ending : SourceEnding) (item : Result Char 
 given_next h Ended item items = refl
 given_next h Broken item items = refl
 
-past_over : (limits : Limits) (book : List (List ℕ × List ℕ)) (items : List (Result Char Fault)) → (stage_past (record { limits = limits; progress = over; book = book }) items).book ≡ book
-past_over limits book [] = refl
-past_over limits book (item ∷ items) = past_over limits book items
+past_over : (limits : Limits) (hasher : DefaultHasher) (book : List (List ℕ × List ℕ)) (items : List (Result Char Fault)) → (stage_past (record { limits = limits; progress = over; book = book; hasher = hasher }) items).book ≡ book
+past_over limits hasher book [] = refl
+past_over limits hasher book (item ∷ items) = past_over limits hasher book items
 
-pub past_behind : (limits : Limits) (book : List (List ℕ × List ℕ)) (items : List (Result Char Fault)) → (stage_past (record { limits = limits; progress = behind book; book = book }) items).book ≡ book
-past_behind limits book [] = refl
-past_behind limits book (Ok c ∷ items) = past_behind limits book items
-past_behind limits book (Err fault ∷ items) = past_over limits book items
+pub past_behind : (limits : Limits) (hasher : DefaultHasher) (book : List (List ℕ × List ℕ)) (items : List (Result Char Fault)) → (stage_past (record { limits = limits; progress = behind book; book = book; hasher = hasher }) items).book ≡ book
+past_behind limits hasher book [] = refl
+past_behind limits hasher book (Ok c ∷ items) = past_behind limits hasher book items
+past_behind limits hasher book (Err fault ∷ items) = past_over limits hasher book items
 
 found_books : (fs : List Finding) (rest : List HeadEvent) (book read : List (List ℕ × List ℕ)) → AreBooksAt rest book read → AreBooksAt (map (λ f. head_event.Found f) fs ++ rest) book read
 found_books [] rest book read h = h
@@ -48,25 +49,25 @@ just_found_books : (fs : List Finding) (book read : List (List ℕ × List ℕ))
 just_found_books [] book read = tt
 just_found_books (f ∷ fs) book read = (tt, just_found_books fs book read)
 
-books_by : (limits : Limits) (t : List ℕ) (old : List (List ℕ × List ℕ)) (found : List Finding) (r : Result Heads HeadFault) (items : List (Result Char Fault))
-    → AreBooksAt (events_by found r) (stage_past (record { limits = limits; progress = progress_by t r; book = book_at (progress_by t r) old }) items).book (book_at (progress_by t r) old)
-books_by limits t old found (Ok heads) items = found_books found (event_of_book heads.book ∷ []) _ heads.book (past_behind limits heads.book items, tt)
-books_by limits t old found (Err stopped) items = by stopped.at_end
+books_by : (limits : Limits) (hasher : DefaultHasher) (t : List ℕ) (old : List (List ℕ × List ℕ)) (found : List Finding) (r : Result Heads HeadFault) (items : List (Result Char Fault))
+    → AreBooksAt (events_by found r) (stage_past (record { limits = limits; progress = progress_by t r; book = book_at (progress_by t r) old; hasher = hasher }) items).book (book_at (progress_by t r) old)
+books_by limits hasher t old found (Ok heads) items = found_books found (event_of_book heads.book ∷ []) _ heads.book (past_behind limits hasher heads.book items, tt)
+books_by limits hasher t old found (Err stopped) items = by stopped.at_end
   where
     by : (at_end : Bool) → AreBooksAt (cond at_end (map (λ f. head_event.Found f) found) (head_event.Stop stopped.fault ∷ []))
-        (stage_past (record { limits = limits; progress = cond at_end (reading t) over; book = book_at (cond at_end (reading t) over) old }) items).book (book_at (cond at_end (reading t) over) old)
+        (stage_past (record { limits = limits; progress = cond at_end (reading t) over; book = book_at (cond at_end (reading t) over) old; hasher = hasher }) items).book (book_at (cond at_end (reading t) over) old)
     by true = just_found_books found _ _
     by false = (tt, tt)
 
 -- the book at the line `%%` is the one that all later items leave
-books_are_kept : (limits : Limits) (progress : HeadProgress) (old : List (List ℕ × List ℕ)) (item : Result Char Fault) (items : List (Result Char Fault))
-    → (let h : HeaderStageState = record { limits = limits; progress = progress; book = old } in
+books_are_kept : (limits : Limits) (hasher : DefaultHasher) (progress : HeadProgress) (old : List (List ℕ × List ℕ)) (item : Result Char Fault) (items : List (Result Char Fault))
+    → (let h : HeaderStageState = record { limits = limits; progress = progress; book = old; hasher = hasher } in
     AreBooksAt (events_of_input limits progress item) (stage_past (stage_after h item) items).book (stage_after h item).book)
-books_are_kept limits (reading t) old (Ok c) items = books_by limits (t ++ c.c ∷ []) old (new_findings limits t (t ++ c.c ∷ [])) (heads_of limits (t ++ c.c ∷ [])) items
-books_are_kept limits (reading t) old (Err fault) items = (tt, tt)
-books_are_kept limits (behind book) old (Ok c) items = (tt, tt)
-books_are_kept limits (behind book) old (Err fault) items = (tt, tt)
-books_are_kept limits over old item items = tt
+books_are_kept limits hasher (reading t) old (Ok c) items = books_by limits hasher (t ++ c.c ∷ []) old (new_findings limits t (t ++ c.c ∷ [])) (heads_of limits (t ++ c.c ∷ [])) items
+books_are_kept limits hasher (reading t) old (Err fault) items = (tt, tt)
+books_are_kept limits hasher (behind book) old (Ok c) items = (tt, tt)
+books_are_kept limits hasher (behind book) old (Err fault) items = (tt, tt)
+books_are_kept limits hasher over old item items = tt
 
 pub items_by_heads : (h : HeaderStageState) (w new : ScoreWriterState) (item : Result Char Fault) → WritesAll w (events_of_input h.limits h.progress item) (stage_after h item).book new
     → WritesItems h w (item ∷ []) (stage_after h item) new
@@ -77,7 +78,7 @@ items_by_heads h w new item a = record {
   messages = a.messages;
   law = λ ending more.
       ap (λ (from_heads : List HeadEvent). streams_of w (book_behind (stage_after h item) more) from_heads) (given_next h ending item more)
-      ∙ a.law (book_behind (stage_after h item) more) (head_events_left (stage_after h item) ending more) (books_are_kept h.limits h.progress h.book item more);
+      ∙ a.law (book_behind (stage_after h item) more) (head_events_left (stage_after h item) ending more) (books_are_kept h.limits h.hasher h.progress h.book item more);
 }
 
 -- ---- what holds of it then
@@ -192,10 +193,10 @@ module _ (w new : ScoreWriterState) (item : Result Char Fault) (a : WritesAt w (
         together = record { limits = together.limits ∙ sym steady.limits; headed = λ e. inr after; book = together.book; short = together.short };
       }
 
-character_read : (limits : Limits) (book : List (List ℕ × List ℕ)) (w new : ScoreWriterState) (c : Char) → WritesAt w (head_event.Body c) [] new
-    → (let h : HeaderStageState = record { limits = limits; progress = behind book; book = book } in WritesItems h w (Ok c ∷ []) h new)
-character_read limits book w new c a =
-    let h : HeaderStageState = record { limits = limits; progress = behind book; book = book } in
+character_read : (limits : Limits) (hasher : DefaultHasher) (book : List (List ℕ × List ℕ)) (w new : ScoreWriterState) (c : Char) → WritesAt w (head_event.Body c) [] new
+    → (let h : HeaderStageState = record { limits = limits; progress = behind book; book = book; hasher = hasher } in WritesItems h w (Ok c ∷ []) h new)
+character_read limits hasher book w new c a =
+    let h : HeaderStageState = record { limits = limits; progress = behind book; book = book; hasher = hasher } in
     record {
       output = a.output;
       lines = a.lines;
@@ -221,20 +222,20 @@ stop_read last h book w new fault progress a settled = record {
       ∙ ap (λ (s : Streams). behind_bytes a.output a.lines s) (settled (book_behind h (Err fault ∷ more)) (book_behind h more) rest (head_events_left h ending more)));
 }
 
-module _ (last : IsStopLast) (limits : Limits) (w new : ScoreWriterState) (headed : w.writer.written.headed ≡ true) (steady : IsSteady w new) where
+module _ (last : IsStopLast) (limits : Limits) (hasher : DefaultHasher) (w new : ScoreWriterState) (headed : w.writer.written.headed ≡ true) (steady : IsSteady w new) where
   behind_item : (progress : HeadProgress) (book : List (List ℕ × List ℕ)) (item : Result Char Fault) → WritesAt w (event_of_item item) [] new → IsBehind progress
-      → (let h : HeaderStageState = record { limits = limits; progress = progress; book = book } in GoTogether h w → ReadsItem h w item new)
+      → (let h : HeaderStageState = record { limits = limits; progress = progress; book = book; hasher = hasher } in GoTogether h w → ReadsItem h w item new)
   behind_item (reading t) book item a is together = absurd is
   behind_item over book item a is together = absurd is
   behind_item (behind other) book (Ok c) a is together = record {
-    writes = subst (λ (b : List (List ℕ × List ℕ)). let h : HeaderStageState = record { limits = limits; progress = behind b; book = book } in WritesItems h w (Ok c ∷ []) h new)
-        (sym together.book) (character_read limits book w new c a);
+    writes = subst (λ (b : List (List ℕ × List ℕ)). let h : HeaderStageState = record { limits = limits; progress = behind b; book = book; hasher = hasher } in WritesItems h w (Ok c ∷ []) h new)
+        (sym together.book) (character_read limits hasher book w new c a);
     together = record { limits = together.limits ∙ sym steady.limits; headed = λ e. inl tt; book = together.book; short = together.short };
   }
   behind_item (behind other) book (Err fault) a is together =
       let settled : IsSettled new = settled_behind w new (Err fault) a (stop_in_body last w headed fault) in
       record {
-        writes = stop_read last (record { limits = limits; progress = behind other; book = book }) other w new fault refl a settled;
+        writes = stop_read last (record { limits = limits; progress = behind other; book = book; hasher = hasher }) other w new fault refl a settled;
         together = record { limits = together.limits ∙ sym steady.limits; headed = λ e. inr settled; book = together.book; short = together.short };
       }
 
@@ -243,7 +244,7 @@ pub reads_item : IsStopLast → (h : HeaderStageState) (w new : ScoreWriterState
 reads_item last h w new item headed together a steady = by (together.headed headed)
   where
     by : IsBehind h.progress ⊎ IsSettled w → ReadsItem h w item new
-    by (inl is) = behind_item last h.limits w new headed steady h.progress h.book item a is together
+    by (inl is) = behind_item last h.limits h.hasher w new headed steady h.progress h.book item a is together
     by (inr settled) = settled_item w new item a steady h together settled
 
 -- ---- no item

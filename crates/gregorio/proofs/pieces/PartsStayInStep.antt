@@ -220,7 +220,7 @@ front_in_step d e h old new w n skips limits part before whole counts was = reco
 fresh_force : (v : Written) → HasForce (begun_again v)
 fresh_force v = record { untracked = λ gabc. refl; outset = λ none. refl }
 
-pub fresh_in_step : (v : Written) (limits : Limits) (hasher : DefaultHasher) (d : DecoderState) (h : HeaderStageState) (s : ScoreWriterState) → d ≡ fresh_decoder limits.input → h ≡ fresh_stage limits hasher → s.writer.written ≡ begun_again v
+pub fresh_in_step : (v : Written) (limits : Limits) (d : DecoderState) (h : HeaderStageState) (s : ScoreWriterState) → d ≡ fresh_decoder limits.input → h ≡ fresh_stage limits h.hasher → s.writer.written ≡ begun_again v
     → s.score.limits ≡ limits → s.score.part ≡ score_part.Heads → IsInStep d h s.score s.writer.written
 fresh_in_step v limits hasher d h s is_d is_h is_w is_limits heads = record {
   force = subst HasForce (sym is_w) (fresh_force v);

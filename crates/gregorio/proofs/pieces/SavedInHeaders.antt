@@ -178,8 +178,8 @@ saved_in_heads one other run other_run headed name same =
 
 -- ---- what both write
 
-heads_but_book : (one other : HeaderStageState) → one.limits ≡ other.limits → one.progress ≡ other.progress → record { limits = one.limits; progress = one.progress; book = other.book } ≡ other
-heads_but_book one other limits progress = λ i. record { limits = limits i; progress = progress i; book = other.book }
+heads_but_book : (one other : HeaderStageState) → one.limits ≡ other.limits → one.progress ≡ other.progress → record { limits = one.limits; progress = one.progress; book = other.book; hasher = other.hasher } ≡ other
+heads_but_book one other limits progress = λ i. record { limits = limits i; progress = progress i; book = other.book; hasher = other.hasher }
 
 pub heads_agree : (one other : EngineState) → AreAlikeInHeads one other → ((bytes : List ℕ) → decoder.events_left one.decoder bytes ≡ decoder.events_left other.decoder bytes)
     → ((items : List (Result Char Fault)) → events_left one.heads.limits one.heads.progress items ≡ events_left other.heads.limits other.heads.progress items) → (ending : SourceEnding) (bytes : List ℕ)
@@ -189,7 +189,7 @@ heads_agree one other alike decoded given ending bytes =
     let from_heads = head_events_left one.heads ending items in
     let progress = alike.reads ∙ (ap (λ (t : List ℕ). reading t) alike.text ∙ sym alike.other_reads) in
     streams_agree one other ending bytes alike.written (decoded bytes) given
-    (no_matter_which_book one.written one.heads.limits one.heads.progress one.heads.book other.heads.book ending items (left_of one.score from_heads)
+    (no_matter_which_book one.written one.heads.limits one.heads.hasher other.heads.hasher one.heads.progress one.heads.book other.heads.book ending items (left_of one.score from_heads)
     ∙ ap (λ (h : HeaderStageState). streams_from one.written (book_behind h items) from_heads (left_of one.score from_heads)) (heads_but_book one.heads other.heads alike.limits progress))
     (alike.gives from_heads)
 

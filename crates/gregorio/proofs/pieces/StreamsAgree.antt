@@ -2,6 +2,7 @@
 use Rattle.std.proofs.Common.{◌≡◌, ℕ, zero, suc, ◌⊎◌, inl, inr, List, [], ◌∷◌, ◌++◌, length, take, true, false, Bool, ◌||◌, Result, Ok, Err, refl, ap, sym, ◌∙◌}
 use Rattle.std.proofs.lemmas.List.Folds.{list_any-append}
 use Rattle.std.specs.List.{list_any}
+use Rattle.std.specs.declared.hash.DefaultHasher.{DefaultHasher}
 use Rattle.gabc_places.specs.StageLaw.{concat_of}
 use Rattle.gabc_places.specs.declared.code.Fault.{Fault}
 use Rattle.gabc_places.specs.declared.limits.Limits.{Limits}
@@ -54,43 +55,43 @@ none_at_end limits over = refl
 -- ---- the book
 
 -- behind the line `%%` the book is the one that was read, whatever was before
-one_book : (limits : Limits) (progress : HeadProgress) (old other : List (List ℕ × List ℕ)) (items : List (Result Char Fault)) → IsBehind progress
-    → (stage_past (record { limits = limits; progress = progress; book = book_at progress old }) items).book ≡ (stage_past (record { limits = limits; progress = progress; book = book_at progress other }) items).book
-one_book limits (behind book) old other items h = refl
-one_book limits (reading t) old other items h = absurd h
-one_book limits over old other items h = absurd h
+one_book : (limits : Limits) (hasher another : DefaultHasher) (progress : HeadProgress) (old other : List (List ℕ × List ℕ)) (items : List (Result Char Fault)) → IsBehind progress
+    → (stage_past (record { limits = limits; progress = progress; book = book_at progress old; hasher = hasher }) items).book ≡ (stage_past (record { limits = limits; progress = progress; book = book_at progress other; hasher = another }) items).book
+one_book limits hasher another (behind book) old other items h = refl
+one_book limits hasher another (reading t) old other items h = absurd h
+one_book limits hasher another over old other items h = absurd h
 
 -- of two stages that differ in their books alone: both have one book behind these, or no headers are whole among what they give
-abbrev OneBookOrNone : Limits → HeadProgress → List (List ℕ × List ℕ) → List (List ℕ × List ℕ) → List (Result Char Fault) → Type 0
-OneBookOrNone limits progress old other items =
-    ((stage_past (record { limits = limits; progress = progress; book = old }) items).book ≡ (stage_past (record { limits = limits; progress = progress; book = other }) items).book)
+abbrev OneBookOrNone : Limits → DefaultHasher → DefaultHasher → HeadProgress → List (List ℕ × List ℕ) → List (List ℕ × List ℕ) → List (Result Char Fault) → Type 0
+OneBookOrNone limits hasher another progress old other items =
+    ((stage_past (record { limits = limits; progress = progress; book = old; hasher = hasher }) items).book ≡ (stage_past (record { limits = limits; progress = progress; book = other; hasher = another }) items).book)
     ⊎ NoHeads (concat_of (events_left limits progress items))
 
-books_next : (limits : Limits) (progress : HeadProgress) (old other : List (List ℕ × List ℕ)) (x : Result Char Fault) (items : List (Result Char Fault))
+books_next : (limits : Limits) (hasher another : DefaultHasher) (progress : HeadProgress) (old other : List (List ℕ × List ℕ)) (x : Result Char Fault) (items : List (Result Char Fault))
     → IsBehind (progress_after limits progress x) ⊎ NoHeads (events_of_input limits progress x)
-    → (let after = progress_after limits progress x in OneBookOrNone limits after (book_at after old) (book_at after other) items) → OneBookOrNone limits progress old other (x ∷ items)
-books_next limits progress old other x items (inl is) later = inl (one_book limits (progress_after limits progress x) old other items is)
-books_next limits progress old other x items (inr none) (inl same) = inl same
-books_next limits progress old other x items (inr none) (inr none_later) =
+    → (let after = progress_after limits progress x in OneBookOrNone limits hasher another after (book_at after old) (book_at after other) items) → OneBookOrNone limits hasher another progress old other (x ∷ items)
+books_next limits hasher another progress old other x items (inl is) later = inl (one_book limits hasher another (progress_after limits progress x) old other items is)
+books_next limits hasher another progress old other x items (inr none) (inl same) = inl same
+books_next limits hasher another progress old other x items (inr none) (inr none_later) =
     inr (none_in_both (events_of_input limits progress x) (concat_of (events_left limits (progress_after limits progress x) items)) none none_later)
 
-books_or_none : (limits : Limits) (progress : HeadProgress) (old other : List (List ℕ × List ℕ)) (items : List (Result Char Fault)) → OneBookOrNone limits progress old other items
-books_or_none limits progress old other [] = inr (none_in_both (events_of_end limits progress) [] (none_at_end limits progress) refl)
-books_or_none limits progress old other (x ∷ items) =
+books_or_none : (limits : Limits) (hasher another : DefaultHasher) (progress : HeadProgress) (old other : List (List ℕ × List ℕ)) (items : List (Result Char Fault)) → OneBookOrNone limits hasher another progress old other items
+books_or_none limits hasher another progress old other [] = inr (none_in_both (events_of_end limits progress) [] (none_at_end limits progress) refl)
+books_or_none limits hasher another progress old other (x ∷ items) =
     let after = progress_after limits progress x in
-    books_next limits progress old other x items (behind_or_none limits progress x) (books_or_none limits after (book_at after old) (book_at after other) items)
+    books_next limits hasher another progress old other x items (behind_or_none limits progress x) (books_or_none limits hasher another after (book_at after old) (book_at after other) items)
 
-module _ (w : Written) (limits : Limits) (progress : HeadProgress) (old other : List (List ℕ × List ℕ)) (ending : SourceEnding) (items : List (Result Char Fault)) (lists : List (List ScoreOutput)) where
+module _ (w : Written) (limits : Limits) (hasher another : DefaultHasher) (progress : HeadProgress) (old other : List (List ℕ × List ℕ)) (ending : SourceEnding) (items : List (Result Char Fault)) (lists : List (List ScoreOutput)) where
   abbrev one : HeaderStageState
-  one = record { limits = limits; progress = progress; book = old }
+  one = record { limits = limits; progress = progress; book = old; hasher = hasher }
 
   abbrev two : HeaderStageState
-  two = record { limits = limits; progress = progress; book = other }
+  two = record { limits = limits; progress = progress; book = other; hasher = another }
 
   abbrev given : List HeadEvent
   given = head_events_left one ending items
 
-  either_book : OneBookOrNone limits progress old other items → streams_from w (book_behind one items) given lists ≡ streams_from w (book_behind two items) given lists
+  either_book : OneBookOrNone limits hasher another progress old other items → streams_from w (book_behind one items) given lists ≡ streams_from w (book_behind two items) given lists
   either_book (inl same) = ap (λ (book : List (List ℕ × List ℕ)). streams_from w book given lists) same
   either_book (inr none) =
       let never = inr (none_emitted ending items (events_left limits progress items) none) in
@@ -98,7 +99,7 @@ module _ (w : Written) (limits : Limits) (progress : HeadProgress) (old other : 
 
   -- The book that a stage had before makes no difference.
   pub no_matter_which_book : streams_from w (book_behind one items) given lists ≡ streams_from w (book_behind two items) given lists
-  no_matter_which_book = either_book (books_or_none limits progress old other items)
+  no_matter_which_book = either_book (books_or_none limits hasher another progress old other items)
 
 -- Where the headers are written, the book makes none.
 pub no_matter_which_book_behind : (w : Written) (book other : List (List ℕ × List ℕ)) (from_heads : List HeadEvent) (lists : List (List ScoreOutput)) → w.headed ≡ true

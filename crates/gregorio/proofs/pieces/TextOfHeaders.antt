@@ -151,7 +151,7 @@ front_reads_on d e h s (suc n) line column headed ran reads running =
 
 -- ---- before the first byte, and behind the last
 
-pub fresh_reads : (v : Written) (limits : Limits) (hasher : DefaultHasher) (d : DecoderState) (h : HeaderStageState) (w : Written) → ((limits : Limits) → IsHeld limits []) → d ≡ fresh_decoder limits.input → h ≡ fresh_stage limits hasher → w ≡ begun_again v
+pub fresh_reads : (v : Written) (limits : Limits) (d : DecoderState) (h : HeaderStageState) (w : Written) → ((limits : Limits) → IsHeld limits []) → d ≡ fresh_decoder limits.input → h ≡ fresh_stage limits h.hasher → w ≡ begun_again v
     → ReadsHeaders d h w
 fresh_reads v limits hasher d h w law is_d is_h is_w running =
     subst (λ (s : HeaderStageState). IsReadSoFar s.limits s.progress d.place w.errors) (sym is_h) (record {

@@ -19,7 +19,6 @@ use Rattle.gregorio.specs.machine.ScoreWriter.{fresh_writer}
 pub record HasBegun (job : Job) (limits : Limits) (s : EngineState) : Type 0 where
   pub known : (bytes more : List ℕ) → concat_of (take (length bytes) (decoder.events_left s.decoder (bytes ++ more))) ≡ known_of limits bytes
   pub at_end : (bytes : List ℕ) → concat_of (decoder.events_left s.decoder bytes) ≡ known_at_end limits bytes
-  pub hasher : DefaultHasher
-  pub heads : s.heads ≡ fresh_stage limits hasher
+  pub heads : s.heads ≡ fresh_stage limits s.heads.hasher
   pub score : (xs : List HeadEvent) → AreCountsBelow xs → left_of s.score xs ≡ score_outputs texts_by_stage limits xs
   pub written : s.written ≡ fresh_writer job

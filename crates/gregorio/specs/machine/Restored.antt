@@ -25,15 +25,13 @@ written_by job s (InScore f) = record (fresh_writer job) { headed = true; count 
 
 -- In the headers one stage holds their text, and the other one is before the body.
 pub record StandInHeaders (s : StateFields) (text : List ℕ) (limits : Limits) (h : HeaderStageState) (score : ScoreStageState) : Type 0 where
-  pub hasher : DefaultHasher
-  pub heads : h ≡ holding limits hasher (chars text)
+  pub heads : h ≡ holding limits h.hasher (chars text)
   pub gives : GivesHeaders limits (chars text) s.place s.has_error
   pub part : score.part ≡ Heads
 
 -- In the score one stage is behind some headers, and the other one is set down.
 pub record StandInScore (s : StateFields) (f : ScoreFields) (limits : Limits) (h : HeaderStageState) (score : ScoreStageState) : Type 0 where
-  pub hasher : DefaultHasher
-  pub heads : h ≡ behind_mark limits hasher
+  pub heads : h ≡ behind_mark limits h.hasher
   pub set_down : IsSetDown s f score
 
 abbrev pub StandIn : StateFields → PhaseFields → Limits → HeaderStageState → ScoreStageState → Type 0

@@ -33,4 +33,4 @@ returns c job limits s begun bytes ending =
     let streams : Written → HeaderStageState → Streams = λ written h. streams_from written (stage_past h items).book (head_events_left h ending items) (left_of s.score (head_events_left h ending items)) in
     ap (λ (written : Written). streams written s.heads) begun.written
     ∙ (ap (λ (h : HeaderStageState). streams (fresh_writer job) h) begun.heads
-    ∙ streams_are below job limits begun.hasher s.decoder s.score begun.known begun.at_end begun.score bytes ending)
+    ∙ streams_are below job limits s.heads.hasher s.decoder s.score begun.known begun.at_end begun.score bytes ending)

@@ -1,7 +1,9 @@
-use Rattle.std.proofs.Common.{◌≡◌, refl, ap, subst, ◌∙◌}
+use Rattle.std.proofs.Common.{rules, ◌≡◌, refl, ap, subst, sym, ◌∙◌}
 use Rattle.std.specs.Str.{chars}
+use Rattle.std.specs.declared.hash.DefaultHasher.{DefaultHasher}
 use Rattle.gabc_places.specs.declared.limits.Limits.{Limits}
 use Rattle.gabc_headers.specs.HeldText.{holding}
+use Rattle.gabc_headers.specs.witness.HeadEvents.{HeaderStageState}
 use Rattle.gregorio_state.specs.Fields.{fields_of, InHeaders}
 use Rattle.gregorio.specs.Saved.{GivesHeaders}
 use Rattle.gregorio.specs.SavedState.{IsOfJob, TellsLimits}
@@ -15,10 +17,10 @@ engine_with-requires-clause-stand c =
     let tells : TellsLimits s own = record { header = refl; syllable = refl; input = refl } in
     let is : IsOfJob c.args.job.now c.args.limits s = c.requires.job in
     let limits : own ≡ c.args.limits = same s own tells c.requires.fields (InHeaders c.args.text.now) c.requires.phase c.args.limits is.limits_are in
+    let hasher = ap (λ (h : HeaderStageState). h.hasher) c.in_ok-heads.ensures.stage in
     stand_so s own tells c.requires.fields (InHeaders c.args.text.now) c.requires.phase c.args.limits is.limits_are c.in_ok-heads.heads c.in-Ok.score c.in-Ok.ensures.limits
     (record {
-      hasher = c.args.hasher;
-      heads = c.in_ok-heads.ensures.stage ∙ ap (λ (l : Limits). holding l c.args.hasher (chars c.args.text.now)) limits;
+      heads = c.in_ok-heads.ensures.stage ∙ ap (λ (l : Limits). holding l c.args.hasher (chars c.args.text.now)) limits ∙ ap (λ (k : DefaultHasher). holding c.args.limits k (chars c.args.text.now)) (sym hasher);
       gives = subst (λ (l : Limits). GivesHeaders l (chars c.args.text.now) s.place s.has_error) limits c.in_ok-heads.ensures.gives;
       part = c.in-Ok.ensures.part;
     })

@@ -1,7 +1,9 @@
-use Rattle.std.proofs.Common.{rules, ◌≡◌, Err, refl, ap}
+use Rattle.std.proofs.Common.{rules, ◌≡◌, ◌∙◌, Err, refl, ap, sym}
 use Rattle.gregorio_state.specs.Fields.{fields_of, score_of, InScore}
 use Rattle.gregorio.specs.declared.state_fault.StateFault.{StateFault}
 use Rattle.gregorio.specs.declared.state_fault.StateFault.TheVariants.{K1}
+use Rattle.gabc_headers.specs.witness.HeadEvents.{HeaderStageState}
+use Rattle.gregorio.specs.machine.HeldHeaders.{behind_mark}
 use Rattle.gregorio.specs.SavedState.{IsOfJob, TellsLimits}
 use Rattle.gregorio.proofs.LimitsAreTold.{told_once}
 use Rattle.gregorio.proofs.StatesAreJudged.{if_any, not_read, read_so, stand_so}
@@ -23,7 +25,7 @@ engine_with-requires-clause-stand c =
     let d = c.in_ok-score.ensures.told in
     stand_so s own tells c.requires.fields (InScore f) c.requires.phase c.args.limits is.limits_are c.in-Ok.heads c.in_ok-score.score
     (told_once s c.in_ok-score.score.limits c.args.limits d.limits_are is.limits_are)
-    (record { hasher = c.args.hasher; heads = c.in-Ok.ensures.stage; set_down = d })
+    (record { heads = c.in-Ok.ensures.stage ∙ ap (behind_mark c.args.limits) (sym (ap (λ (h : HeaderStageState). h.hasher) c.in-Ok.ensures.stage)); set_down = d })
 
 pub returns-in-Ok-clause-read : goal.returns-in-Ok-clause-read
 returns-in-Ok-clause-read c =

@@ -18,7 +18,7 @@ returns-clause-writes c =
     elim c.match-event.branch [
       | in-Heads w ↦
           let passed = subst (λ (s : ScoreWriterState). WritesAt s c.args.event read new) w.self-is (c.pass.ensures.writes read) in
-          let behind = subst (λ (v : RunWriterState). WritesAt (record { score = i.score; writer = v }) c.args.event read new) (w.heads.ensures.writes ∙ ap (with_heads i.writer) w.headers.ensures) passed in
+          let behind = subst (λ (v : RunWriterState). WritesAt (record { score = i.score; writer = v }) c.args.event read new) (w.heads.ensures.writes ∙ ap (with_heads i.writer) w.book.ensures) passed in
           subst (λ (s : ScoreWriterState). WritesAt s c.args.event read new) c.self.view_is
           (subst (λ (x : HeadEvent). WritesAt old x read new) (sym w.in-Heads.is)
           (heads_are_written old w.in-Heads.nabc_lines w.in-Heads.macros w.in-Heads.canonical read new
@@ -34,7 +34,7 @@ returns-clause-passes c =
     elim c.match-event.branch [
       | in-Heads w ↦
           let passed = subst (λ (s : ScoreWriterState). PassesOn s.score s.writer.written c.args.event new) w.self-is c.pass.ensures.passes in
-          let behind = subst (λ (v : RunWriterState). PassesOn i.score v.written c.args.event new) (w.heads.ensures.writes ∙ ap (with_heads i.writer) w.headers.ensures) passed in
+          let behind = subst (λ (v : RunWriterState). PassesOn i.score v.written c.args.event new) (w.heads.ensures.writes ∙ ap (with_heads i.writer) w.book.ensures) passed in
           subst (λ (s : ScoreWriterState). PassesOn s.score (written_at s.writer.written c.args.event) c.args.event new) c.self.view_is
           (subst (λ (x : HeadEvent). PassesOn i.score (written_at i.writer.written x) x new) (sym w.in-Heads.is)
           (subst (λ (x : HeadEvent). PassesOn i.score (with_heads i.writer c.args.heads.now.book).written x new) w.in-Heads.is behind))
