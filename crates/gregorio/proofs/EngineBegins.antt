@@ -1,5 +1,4 @@
 -- The parts of an engine that has taken nothing go together.
-use Rattle.std.specs.declared.hash.DefaultHasher.{DefaultHasher}
 use Rattle.std.proofs.Common.{◌≡◌, ◌≤◌, [], ap, sym, subst, ◌∙◌, refl}
 use Rattle.gabc_places.specs.BoundedList.{BoundedList}
 use Rattle.gabc_places.specs.DecoderMachine.{DecoderState, fresh_decoder}
@@ -21,7 +20,7 @@ use Rattle.gregorio.proofs.pieces.TellsInStepOn.{fresh_tells}
 pub begins : (v : Written) (limits : Limits) (d : DecoderState) (h : HeaderStageState) (from_heads : BoundedList HeadEvent) (s : ScoreWriterState)
     → ((limits : Limits) → IsHeld limits []) → 2 ≤ from_heads.limit → d ≡ fresh_decoder limits.input → h ≡ fresh_stage limits h.hasher → s.writer.written ≡ begun_again v
     → s.score.limits ≡ limits → s.score.part ≡ score_part.Heads → IsReserved s → IsEngine d h from_heads s
-begins v limits hasher d h from_heads s law few is_d is_h is_w is_limits heads reserved = record {
+begins v limits d h from_heads s law few is_d is_h is_w is_limits heads reserved = record {
   few = few;
   together = record {
     limits = ap (λ (x : HeaderStageState). x.limits) is_h ∙ sym is_limits;
@@ -30,8 +29,8 @@ begins v limits hasher d h from_heads s law few is_d is_h is_w is_limits heads r
     short = subst (λ (x : HeaderStageState). IsShortBook x.limits x.book) (sym is_h) (no_heads_are_short limits);
   };
   reserved = reserved;
-  step = fresh_in_step v limits hasher d h s is_d is_h is_w is_limits heads;
-  headers = fresh_reads v limits hasher d h s.writer.written law is_d is_h is_w;
+  step = fresh_in_step v limits d h s is_d is_h is_w is_limits heads;
+  headers = fresh_reads v limits d h s.writer.written law is_d is_h is_w;
   tells = fresh_tells limits d s is_d (ap (λ (w : Written). w.headed) is_w);
 }
 

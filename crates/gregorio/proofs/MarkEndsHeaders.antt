@@ -1,5 +1,4 @@
 -- The line `%%` alone is whole headers: a fresh stage into which it is pushed stands behind them.
-use Rattle.std.specs.declared.hash.DefaultHasher.{DefaultHasher}
 use Rattle.std.proofs.Common.{◌≡◌, ℕ, List, [], ◌∷◌, ◌++◌, Bool, true, false, cond, nat_lt, Some, None, Ok, refl, ap, sym, ◌∙◌, arith}
 use Rattle.std.proofs.lemmas.Bool.{false≢true, le-ltb}
 use Rattle.std.specs.declared.hash.DefaultHasher.{DefaultHasher}

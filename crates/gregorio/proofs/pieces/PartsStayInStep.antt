@@ -1,5 +1,4 @@
 -- The parts of an engine stay in step in its body, and where it begins and ends.
-use Rattle.std.specs.declared.hash.DefaultHasher.{DefaultHasher}
 use Rattle.std.proofs.Common.{◌≡◌, ℕ, ◌+◌, ◌-◌, ◌^◌, ◌≤◌, ◌<◌, min, zero, suc, List, [], ◌∷◌, Bool, true, false, Option, Some, is_none, Result, Ok, Err, if◌then◌else◌, refl, ap, sym, subst, ◌∙◌, arith}
 use Rattle.std.proofs.lemmas.Bool.{false≢true}
 use Rattle.std.specs.List.{list_any}
@@ -222,7 +221,7 @@ fresh_force v = record { untracked = λ gabc. refl; outset = λ none. refl }
 
 pub fresh_in_step : (v : Written) (limits : Limits) (d : DecoderState) (h : HeaderStageState) (s : ScoreWriterState) → d ≡ fresh_decoder limits.input → h ≡ fresh_stage limits h.hasher → s.writer.written ≡ begun_again v
     → s.score.limits ≡ limits → s.score.part ≡ score_part.Heads → IsInStep d h s.score s.writer.written
-fresh_in_step v limits hasher d h s is_d is_h is_w is_limits heads = record {
+fresh_in_step v limits d h s is_d is_h is_w is_limits heads = record {
   force = subst HasForce (sym is_w) (fresh_force v);
   runs = λ running. record {
     runs = ap (λ (x : DecoderState). x.running) is_d;

@@ -1,5 +1,4 @@
 -- Of the text of headers that an engine reads the place and the errors are those that it gives.
-use Rattle.std.specs.declared.hash.DefaultHasher.{DefaultHasher}
 use Rattle.std.proofs.Common.{◌≡◌, ℕ, ◌+◌, ◌<◌, ◌||◌, zero, suc, List, [], ◌∷◌, ◌++◌, Bool, true, false, is_none, Option, Some, Result, Ok, Err, if◌then◌else◌, refl, ap, sym, subst, ◌∙◌, arith}
 use Rattle.std.proofs.Math.Bool.{or-false, or_assoc}
 use Rattle.std.proofs.lemmas.Bool.{false≢true}
@@ -153,7 +152,7 @@ front_reads_on d e h s (suc n) line column headed ran reads running =
 
 pub fresh_reads : (v : Written) (limits : Limits) (d : DecoderState) (h : HeaderStageState) (w : Written) → ((limits : Limits) → IsHeld limits []) → d ≡ fresh_decoder limits.input → h ≡ fresh_stage limits h.hasher → w ≡ begun_again v
     → ReadsHeaders d h w
-fresh_reads v limits hasher d h w law is_d is_h is_w running =
+fresh_reads v limits d h w law is_d is_h is_w running =
     subst (λ (s : HeaderStageState). IsReadSoFar s.limits s.progress d.place w.errors) (sym is_h) (record {
       text = All-nil IsTextCharacter;
       gives = record {

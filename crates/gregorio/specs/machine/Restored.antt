@@ -1,7 +1,6 @@
 -- What a run that goes on from a saved state has, part by part.
 use Rattle.std.specs.Prelude.{◌≡◌, ◌-◌, ◌*◌, ◌≤◌, ℕ, List, [], true}
 use Rattle.std.specs.Str.{chars}
-use Rattle.std.specs.declared.hash.DefaultHasher.{DefaultHasher}
 use Rattle.gabc_places.specs.declared.limits.Limits.{Limits}
 use Rattle.gabc_headers.specs.HeldText.{holding}
 use Rattle.gabc_headers.specs.witness.HeadEvents.{HeaderStageState}

@@ -40,7 +40,6 @@ returns-clause-all c job limits runs bytes ending =
     c.what_begins_is_written_whole.ensures job c.limits.result engine (record {
       known = c.new-self-inside.ensures.known;
       at_end = c.new-self-inside.ensures.at_end;
-      hasher = c.self.inside.heads.hasher;
       heads = heads;
       score = λ xs below. c.restart-2.ensures.score xs below ∙ ap (λ (l : Limits). score_outputs texts_by_stage l xs) (sym own);
       written = written;
