@@ -1,20 +1,20 @@
 -- What is said of a snippet's characters by relations is what is computed of them.
-use Rattle.std.proofs.Common.{◌≡◌, ℕ, List, [], ◌∷◌, ◌++◌, Bool, true, false, cond, not, ◌&&◌, ◌||◌, ◌==◌, ◌⊎◌, inl, inr, refl, sym, ap, ◌∙◌, subst, codes, map, Option, Some, None, append-nil, append_assoc}
+use Rattle.std.proofs.Common.{◌≡◌, ℕ, List, [], ◌∷◌, ◌++◌, Bool, true, false, cond, not, ◌&&◌, ◌||◌, ◌==◌, inl, inr, refl, sym, ap, ◌∙◌, subst, codes, map, Option, Some, None}
 use Rattle.std.specs.List.{list_any}
 use Rattle.gabc_places.specs.declared.place.Char.{Char}
 use Rattle.gabc_places.specs.declared.place.Place.{Place}
-use Rattle.gabc_patterns.specs.LongestItems.{IsReading, IsViable}
+use Rattle.gabc_patterns.specs.LongestItems.{IsReading}
 use Rattle.gabc_patterns.specs.Kept.{Keeps}
-use Rattle.gabc_patterns.specs.Derivative.{same_texts, is_snippet, is_viable}
+use Rattle.gabc_patterns.specs.Derivative.{is_snippet, is_viable}
 use Rattle.gabc_patterns.specs.Function.{items, keep}
-use Rattle.gabc_patterns.proofs.BothOfTwoTests.{and_true, or_true}
+use Rattle.gabc_patterns.proofs.BothOfTwoTests.{and_true}
 use Rattle.gabc_patterns.proofs.EqualPatterns.{same_texts_equal}
-use Rattle.gabc_patterns.proofs.FunctionsMeetRelations.{keep_keeps, keeps_is, not_viable}
+use Rattle.gabc_patterns.proofs.FunctionsMeetRelations.{keep_keeps, keeps_is}
 use Rattle.gabc_patterns.proofs.ItemsFunctionReads.{items_are}
 use Rattle.gabc_patterns.proofs.LongestMunchByCharacter.{viable_to, viable_from, snippet_from}
 use Rattle.gabc_notes.specs.Table.{gabc}
-use Rattle.gabc_notes.specs.Raw.{IsOpen, InComment}
-use Rattle.gabc_notes.specs.Events.{ItemText, in_raw, outside_comments, with_comments, goes_in_comment, kept, is_comment, is_in_raw, kept_with, is_kept, last_of, last_item, item_at, opens_fusion, closes_fusion, is_fused, opener}
+use Rattle.gabc_notes.specs.Raw.{IsOpen}
+use Rattle.gabc_notes.specs.Events.{ItemText, in_raw, outside_comments, with_comments, kept, is_comment, is_in_raw, kept_with, is_kept, last_of, last_item, item_at, opens_fusion, closes_fusion, is_fused, opener}
 use Rattle.gabc_notes.specs.NotesRead.{Marked, outside, IsKeptOf, IsInRaw, IsInComment, AreMarked, IsKeptWith, EndsItem, IsFused, IsKeptOutside, IsOpener}
 use Rattle.gabc_notes.specs.declared.item.ItemKind.TheVariants.{Note, Alteration, Clef, Bar, Spacing, Custos, Break, Attribute, Fusion}
 use Rattle.gabc_notes.proofs.grammar.LawsOfEventsByPoint.{comment_decides, not_true}

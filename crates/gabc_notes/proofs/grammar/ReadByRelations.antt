@@ -1,7 +1,7 @@
 -- What is read of a text by relations over the whole of it is what is computed character by character.
 use mathlib.Core.List.{reverse_aux}
 use lib.Utf8.{encodes}
-use Rattle.std.proofs.Common.{◌≡◌, ℕ, ◌+◌, List, [], ◌∷◌, ◌++◌, Bool, true, false, cond, not, ◌&&◌, ◌||◌, ◌==◌, ◌⊎◌, inl, inr, refl, sym, ap, ◌∙◌, subst, codes, map, length, drop, Option, Some, None, append-nil, append_assoc, eqb-true}
+use Rattle.std.proofs.Common.{◌≡◌, ℕ, ◌+◌, List, [], ◌∷◌, ◌++◌, Bool, true, false, cond, not, ◌&&◌, ◌||◌, ◌==◌, ◌⊎◌, inl, inr, refl, sym, ap, ◌∙◌, subst, codes, length, drop, Option, Some, None, append-nil, append_assoc, eqb-true}
 use Rattle.std.specs.Prelude.{reverse, sum_by, string_bytes}
 use Rattle.std.specs.Char.{len_utf8}
 use Rattle.std.specs.List.{fold}
@@ -16,22 +16,20 @@ use Rattle.gabc_places.specs.declared.place.Place.{Place}
 use Rattle.gabc_places.specs.Place.{placed_characters_from}
 use Rattle.gabc_places.specs.StageLaw.{concat_of}
 use Rattle.gabc_patterns.specs.LongestItems.{IsSnippet}
-use Rattle.gabc_patterns.specs.Derivative.{is_snippet, is_viable}
+use Rattle.gabc_patterns.specs.Derivative.{is_snippet}
 use Rattle.gabc_patterns.specs.Function.{trim}
 use Rattle.gabc_patterns.proofs.BothOfTwoTests.{and_true, or_true}
 use Rattle.gabc_patterns.proofs.FunctionsMeetRelations.{trim_trims, trims_is, no_snippet}
 use Rattle.gabc_patterns.proofs.LongestMunchByCharacter.{snippet_from}
 use Rattle.gabc_notes.specs.Table.{gabc}
-use Rattle.gabc_notes.specs.Events.{ItemText, in_raw, kept, is_comment, kept_with, is_kept, item_at, opens_fusion, closes_fusion, macro_in, macro_of, is_fused, opener, finding_event, end_by_mark, is_defined, is_missing, bytes_of, is_end, is_over, is_unpaired, warnings, at_end, events_at, cut_events, note_events_behind, note_events}
+use Rattle.gabc_notes.specs.Events.{ItemText, in_raw, kept, is_comment, kept_with, is_kept, item_at, opens_fusion, closes_fusion, macro_in, macro_of, is_fused, opener, finding_event, end_by_mark, is_defined, is_missing, bytes_of, is_end, is_over, is_unpaired, warnings, at_end, events_at, note_events_behind, note_events}
 use Rattle.gabc_notes.specs.FoundAt.{AreThoseFound}
-use Rattle.gabc_notes.specs.SnippetRead.{SnippetStop, findings_of, stop_after, kept_by, index_of, end_by, ending_at, ending_by, IsComputed}
-use Rattle.gabc_notes.specs.NotesRead.{Marked, IsKeptOf, IsInRaw, IsInComment, IsKeptWith, EndsItem, IsFused, IsOpener, IsFound, AreFound, IsEnd, IsCutAt, IsRead, IsSnippetRead}
+use Rattle.gabc_notes.specs.SnippetRead.{SnippetStop, findings_of, stop_after, kept_by, index_of, ending_at, ending_by, IsComputed}
+use Rattle.gabc_notes.specs.NotesRead.{Marked, IsKeptOf, EndsItem, IsFused, IsFound, AreFound, IsEnd, IsCutAt, IsRead, IsSnippetRead}
 use Rattle.gabc_notes.specs.declared.item.ItemKind.{ItemKind}
 use Rattle.gabc_notes.specs.declared.item.ItemKind.TheVariants.{Note, Alteration, Clef, Bar, Spacing, Custos, Break, Attribute, Fusion}
-use Rattle.gabc_notes.specs.declared.snippet_read.SnippetEnding.{SnippetEnding}
 use Rattle.gabc_notes.specs.declared.snippet_read.SnippetEnding.TheVariants as snippet_ending
 use Rattle.gabc_notes.specs.declared.snippet_read.SnippetRead.{SnippetRead}
-use Rattle.gabc_notes.specs.declared.stage.NoteEnd.{NoteEnd}
 use Rattle.gabc_notes.specs.declared.stage.NoteEnd.TheVariants as ending
 use Rattle.gabc_notes.specs.declared.stage.NoteEvent.{NoteEvent}
 use Rattle.gabc_notes.specs.declared.stage.NoteEvent.TheVariants.{Kept, Ended}
