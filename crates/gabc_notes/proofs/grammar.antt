@@ -1,5 +1,7 @@
+pub mod CharactersByRelations
 pub mod InsideRawIsAnOpenBracket
 pub mod LawsOfEventsByPoint
 pub mod LawsOfKeptTexts
 pub mod OpenBracketByLastItem
+pub mod ReadByRelations
 pub mod SnippetIsReadAgain

@@ -80,8 +80,8 @@ ending_at (end.Cut place) index = Cut place
 abbrev pub ending_by : Option ℕ → List Char → SnippetEnding
 ending_by mark back = ending_at (end_by mark back) (index_of back)
 
--- what is read of a text that begins at this place
-pub record IsSnippetRead (at : Place) (split : Bool) (macros : ℕ) (text : List ℕ) (read : SnippetRead) : Type 0 where
+-- so what is read of a text that begins at this place is computed
+pub record IsComputed (at : Place) (split : Bool) (macros : ℕ) (text : List ℕ) (read : SnippetRead) : Type 0 where
   pub kept_is : string_bytes read.kept ≡ encode_utf8_all (let s = stop_after split [] (placed_characters_from at text) in kept_by s.mark s.back)
   pub findings_are : read.findings ≡ findings_of (concat_of (note_events split macros (placed_characters_from at text)))
   pub how_is : read.how ≡ (let s = stop_after split [] (placed_characters_from at text) in ending_by s.mark s.back)

@@ -1,7 +1,7 @@
 //! Laws of the definitions that contracts speak of. Each function is there for its clauses: all but one do nothing, and that one
 //! drives a fresh stage.
 
-ghost use Rattle.std.specs.Prelude.{◌≡◌, ◌≤◌, ◌+◌, ◌*◌, ℕ, List, [], ◌∷◌, ◌++◌, Bool, true, length, take, drop, map, sum_by, codes, false, Some, is_some, Decides};
+ghost use Rattle.std.specs.Prelude.{◌≡◌, ◌↔◌, ◌≤◌, ◌+◌, ◌*◌, ℕ, List, [], ◌∷◌, ◌++◌, Bool, true, length, take, drop, map, sum_by, codes, false, Some, is_some, Decides};
 ghost use Rattle.std.specs.Char.{len_utf8};
 ghost use Rattle.std.specs.Str.{IsUtf8};
 ghost use Rattle.gabc_places.specs.declared.place.Char.{Char};
@@ -10,10 +10,13 @@ ghost use Rattle.gabc_places.specs.Findings.{AreInOrder, LieBetween};
 ghost use Rattle.gabc_places.specs.BoundedList.{Fits, extended_by};
 ghost use Rattle.gabc_places.specs.StageLaw.{concat_of};
 ghost use Rattle.gabc_patterns.specs.LongestItems.{IsReading, IsItem, OneKind, IsSnippet, IsViable};
+ghost use Rattle.gabc_patterns.specs.Kept.{Keeps as KeepsOf, Trims};
 ghost use Rattle.gabc_notes.specs.Table.{gabc};
 ghost use Rattle.gabc_notes.specs.Items.{IsKept, AreItemsOf, MakeUp, items_of};
-ghost use Rattle.gabc_notes.specs.Events.{in_raw, Point, is_comment, is_over, kept, bytes_of, events_at, cut_events, note_events};
-ghost use Rattle.gabc_notes.specs.SnippetRead.{kept_of, kept_chars_of, findings_of, ends_of, stop_after, kept_by, end_by};
+ghost use Rattle.gabc_notes.specs.Events.{in_raw, Point, outside_comments, with_comments, is_comment, is_over, kept, bytes_of, events_at, cut_events, note_events};
+ghost use Rattle.gabc_notes.specs.SnippetRead.{kept_of, kept_chars_of, findings_of, ends_of, stop_after, kept_by, end_by, IsComputed};
+ghost use Rattle.gabc_notes.specs.NotesRead.{IsSnippetRead};
+ghost use Rattle.gabc_notes.specs.declared.snippet_read.SnippetRead.{SnippetRead};
 ghost use Rattle.gabc_places.specs.Place.{place_past, placed_characters_from};
 ghost use Rattle.gabc_notes.specs.Ends.{IsMarkOf, EndAtMost, AreCutAtMost};
 ghost use Rattle.gabc_notes.specs.Raw.{IsOpen, InComment, IsOpenedAt};
@@ -67,6 +70,21 @@ pub fn items_are_computed()
     ensures items { (kept : List ℕ) → AreItemsOf kept (items_of kept) }
     ensures snippet { (kept : List ℕ) → IsUtf8 kept → IsKept kept →
         MakeUp kept (items_of kept) }
+{}
+
+/// The kept text goes on with each character outside comments that leaves it viable, and at a mark the longest prefix of it that is a snippet is
+/// what stays.
+pub fn what_is_kept_goes_on()
+    ensures keep { (back : List Char) →
+        KeepsOf gabc [] (outside_comments (with_comments back)) (kept back) }
+    ensures trim { (mark : ℕ) (back : List Char) →
+        Trims gabc (kept back) (kept_by (Some mark) back) }
+{}
+
+/// What is read of a text, by relations over the whole of it, is what is computed a character at a time.
+pub fn what_is_read_is_computed()
+    ensures { (at : Place) (split : Bool) (macros : ℕ) (t : List ℕ) (read : SnippetRead) →
+        IsSnippetRead at split macros t read ↔ IsComputed at split macros t read }
 {}
 
 /// A viable text is a snippet with at most one character more.

@@ -4,7 +4,7 @@ ghost use Rattle.std.specs.Prelude.{◌≡◌, ◌+◌, ◌^◌, ◌<◌, [], le
 ghost use Rattle.std.specs.Str.{chars};
 ghost use Rattle.std.specs.String.Boundary.{IsSplitPoint};
 ghost use Rattle.gabc_notes.specs.machine.BuiltSnippet.{built_snippet_of, with_event, with_events, no_snippet, PushIsAdded, EndIsAdded};
-ghost use Rattle.gabc_notes.specs.SnippetRead.{IsSnippetRead};
+ghost use Rattle.gabc_notes.specs.NotesRead.{IsSnippetRead};
 
 use crate::snippet_read::{SnippetEnding, SnippetRead};
 use crate::stage::{NoteEnd, NoteEvent, NoteStage};

@@ -1,5 +1,5 @@
 -- Behind the event that ends a text its stage gives nothing.
-use Rattle.std.proofs.Common.{◌≡◌, ◌==◌, ◌&&◌, ◌||◌, ℕ, List, [], ◌∷◌, ◌++◌, Bool, true, false, cond, Option, Some, None, refl, ap, sym, ◌∙◌, append_assoc, map}
+use Rattle.std.proofs.Common.{◌≡◌, ◌==◌, ◌&&◌, ◌||◌, ℕ, List, [], ◌∷◌, ◌++◌, Bool, true, false, cond, Option, Some, None, refl, ap, sym, ◌∙◌, append_assoc, append-nil, map}
 use Rattle.std.specs.List.{list_any}
 use Rattle.std.proofs.lemmas.List.Folds.{list_any-append}
 use Rattle.gabc_places.specs.declared.code.Code.{Code}
@@ -21,6 +21,10 @@ use Rattle.gabc_text.specs.declared.text_event.TextPart.{TextPart}
 use Rattle.gabc_text.specs.declared.text_event.TextPart.TheVariants as part
 use Rattle.gabc_text.specs.declared.stage.TextStage.{TextStage}
 use Rattle.gabc_text.specs.declared.token.TokenKind.{TokenKind}
+use Rattle.gabc_text.specs.declared.token.TokenKind.TheVariants as kind
+use Rattle.gabc_text.specs.declared.token_state.TokenState.{TokenState}
+use Rattle.gabc_text.specs.declared.token_state.TokenState.TheVariants as state
+use Rattle.gabc_text.specs.StageTells.{is_open, opener_of, cut_place}
 use Rattle.gabc_text.specs.declared.token.TagEffect.{TagEffect}
 use Rattle.gabc_text.specs.declared.token.TagEffect.TheVariants.{Other}
 use Rattle.gabc_text.specs.ExampleTexts.{stands_for}
@@ -32,7 +36,7 @@ use Rattle.gabc_text.specs.Events.{codes_of, no_events_each, option_list_of, cou
 use Rattle.gabc_text.specs.witness.EventsLeft.{events_left, lists_ahead, findings_there, parts_by, codes_by, codes_last}
 use Rattle.gabc_text.specs.machine.TextStage.{char_event, events_of_token, events_of_settling, events_of_settling_by, settle_stage, events_of_step, stage_past_char, events_of_reading, events_of_end, end_stage, settled_push_stage, events_of_settled_push, read_stage, push_stage, events_of_push, finish_stage, finish_stage_by, events_of_finish, events_of_finish_by, progress_after, end_by, is_cut_end}
 use Rattle.gabc_text.specs.machine.TextFacts.{facts_after}
-use Rattle.gabc_text.proofs.machine.EventsLeftAreThoseAhead.{rest_by}
+use Rattle.gabc_text.proofs.machine.EventsLeftAreThoseAhead.{rest_by, rest_is}
 
 -- ---- a stage that is done gives nothing
 
@@ -161,3 +165,50 @@ finish_stops t next old new n = by t.done
     by : (d : Bool) → new ≡ extended_by old (cond d [] (events_of_finish_by t (kind_at_end t.state))) → StopsAtEnd is_end (λ (cs : List Char). events_left next (codes_of cs)) old new
     by true o = endless_stops next [] old new o (record { none = refl })
     by false o = ended (kind_at_end t.state) o
+
+-- ---- where a text is cut
+
+cut_behind : (a b : List TextEvent) → Endless a → cut_place (a ++ b) ≡ cut_place b
+cut_behind [] b e = refl
+cut_behind (out.Kept x ∷ a) b e = cut_behind a b (record { none = e.none })
+cut_behind (out.Part p ∷ a) b e = cut_behind a b (record { none = e.none })
+cut_behind (out.Found f ∷ a) b e = cut_behind a b (record { none = e.none })
+cut_behind (out.Ended h ∷ a) b e = absurd (let f = e.none in cc)
+
+abbrev place_in : TextEnd → Option Place
+place_in (text_ending.Cut p) = Some p
+place_in _ = None
+
+end_cuts : (facts : TextFacts) (progress : Progress) (h : TextEnd) → cut_place (events_of_end facts progress h) ≡ place_in h
+end_cuts facts progress h =
+    cut_behind _ _ (found_endless progress.next (cond (is_cut_end h) [] (codes_last facts)))
+    ∙ (cut_behind _ _ (mapped_endless (λ (c : Span). out.Part (part.Centre c)) (λ c. refl) (option_list_of (centre_by (count_by progress.pieces progress.blank) progress.begin progress.end)))
+    ∙ go h)
+  where
+    go : (h : TextEnd) → cut_place (out.Ended h ∷ []) ≡ place_in h
+    go text_ending.Notes = refl
+    go text_ending.Finished = refl
+    go (text_ending.Cut p) = refl
+
+-- the opener of a stage is the place at which its text would be cut
+pub opener_cuts : (t : TextStage) → t.done ≡ false → opener_of t ≡ cut_place (concat_of (events_left t []))
+opener_cuts t r =
+    sym (ap (λ (l : List (List TextEvent)). cut_place (concat_of l)) (rest_is t [])
+    ∙ (ap cut_place (append-nil (events_of_finish t))
+    ∙ (ap (λ (b : Bool). cut_place (cond b [] (events_of_finish_by t (kind_at_end t.state)))) r ∙ at_state t.state t.facts t.progress)))
+  where
+    ended : (k : TokenKind) (facts : TextFacts) (progress : Progress)
+        → cut_place (events_of_token facts progress k Other progress.start ++ events_of_end (facts_after facts k Other) (progress_after facts progress k Other progress.next) (end_by k progress.place))
+        ≡ place_in (end_by k progress.place)
+    ended k facts progress =
+        cut_behind _ _ (token_endless facts progress k Other progress.start)
+        ∙ end_cuts (facts_after facts k Other) (progress_after facts progress k Other progress.next) (end_by k progress.place)
+
+    at_state : (s : TokenState) (facts : TextFacts) (progress : Progress)
+        → cut_place (events_of_finish_by (record { state = s; facts = facts; progress = progress; done = t.done }) (kind_at_end s)) ≡ cond (is_open s) (Some progress.place) None
+    at_state state.Plain facts progress = end_cuts facts progress text_ending.Finished
+    at_state state.Dollar facts progress = ended kind.Letter facts progress
+    at_state state.Comment facts progress = ended kind.Comment facts progress
+    at_state (state.Tag name) facts progress = ended kind.OpenTag facts progress
+    at_state (state.Raw raw m) facts progress = ended kind.OpenTag facts progress
+    at_state state.Translation facts progress = ended kind.OpenTranslation facts progress

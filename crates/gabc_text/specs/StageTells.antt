@@ -1,9 +1,12 @@
 -- What a stage tells of where it stands, beside the text that it has kept, and how it is set there again.
-use Rattle.std.specs.Prelude.{◌≡◌, Bool, true, false, Option, Some, None, if◌then◌else◌}
+use Rattle.std.specs.Prelude.{◌≡◌, List, [], ◌∷◌, Bool, true, false, Option, Some, None, if◌then◌else◌}
 use Rattle.gabc_places.specs.declared.place.Place.{Place}
 use Rattle.gabc_text.specs.declared.token_state.TokenState.{TokenState}
 use Rattle.gabc_text.specs.declared.token_state.TokenState.TheVariants.{Dollar, Comment, Tag, Raw, Translation}
 use Rattle.gabc_text.specs.declared.stage.TextStage.{TextStage}
+use Rattle.gabc_text.specs.declared.text_event.TextEnd.TheVariants.{Cut}
+use Rattle.gabc_text.specs.declared.text_event.TextEvent.{TextEvent}
+use Rattle.gabc_text.specs.declared.text_event.TextEvent.TheVariants.{Ended}
 
 -- in a tag, a raw part or a translation
 abbrev pub is_open : TokenState → Bool
@@ -27,6 +30,12 @@ is_in_comment s = is_comment s.state
 -- the place of the next character
 abbrev pub next_of : TextStage → Place
 next_of s = s.progress.next
+
+-- the place at which these events say that the text is cut, if they do
+abbrev pub cut_place : List TextEvent → Option Place
+cut_place [] = None
+cut_place (Ended (Cut place) ∷ events) = Some place
+cut_place (event ∷ events) = cut_place events
 
 -- What a stage tells that has ended: no opener, no comment, and the place at which it stood.
 pub record EndedInPlace (before after : TextStage) : Type 0 where

@@ -1,6 +1,6 @@
 //! Laws of the definitions that contracts speak of. Each function is there for its clauses: all but two do nothing, and these drive a fresh stage.
 
-ghost use Rattle.std.specs.Prelude.{◌≡◌, ℕ, ◌+◌, ◌<◌, List, [], ◌∷◌, ◌++◌, length, take, true, false, cond, codes, encode_utf8_all};
+ghost use Rattle.std.specs.Prelude.{◌≡◌, ℕ, ◌+◌, ◌<◌, List, [], ◌∷◌, ◌++◌, length, take, drop, true, false, cond, codes, encode_utf8_all};
 ghost use Rattle.gabc_places.specs.StageLaw.{concat_of};
 ghost use Rattle.std.specs.List.{All};
 ghost use Rattle.gabc_places.specs.Findings.{AreInOrder, LieBetween};
@@ -24,13 +24,24 @@ ghost use Rattle.gabc_text.specs.Ends.{EndsOnce};
 ghost use Rattle.std.specs.Prelude.{◌*◌, ◌≤◌, ◌==◌, is_some};
 ghost use Rattle.gabc_places.specs.BoundedList.{Fits, extended_by};
 ghost use Rattle.gabc_text.specs.witness.Keeps.{Keeps, is_open_behind, begins_comment, ends_behind, kept_with};
-ghost use Rattle.gabc_text.specs.StageTells.{opener_of, is_in_comment, next_of, moved_to, told};
+ghost use Rattle.gabc_text.specs.StageTells.{opener_of, is_in_comment, next_of, moved_to, told, cut_place};
 ghost use Rattle.gabc_text.specs.witness.SaidInFull.{IsSaidInFull};
 
 use crate::stage::TextStage;
 pub use crate::tags::tag_names_are_these;
 use crate::text_event::{TextEnd, TextEvent};
 use gabc_places::{Char, Place, Room, Stage, drive};
+
+/// The opener that a stage tells is the place at which its text would be cut if it ended here: of a stage that stands behind the text `t`, the
+/// place at which the definition says that `t` is cut, so that of its last token, if that is a tag, a raw part or a translation without an end.
+pub fn an_opener_is_where_a_text_is_cut()
+    ensures stage { (s : TextStage) → s.done ≡ false →
+        opener_of s ≡ cut_place (concat_of (events_left s [])) }
+    ensures text { (at : Place) (t : List ℕ) (s : TextStage) (emitted : List (List TextEvent)) →
+        CountsFit at t → s.done ≡ false → length emitted ≡ length t →
+        ((more : List ℕ) → events_left (fresh_stage at) (t ++ more) ≡ emitted ++ events_left s more) →
+        opener_of s ≡ cut_place (concat_of (drop (length t) (events_by_point at t))) }
+{}
 
 /// A fresh machine emits what the definition says, where no count of the text reaches its last value, and what it does not
 /// read begins with the `(` that ends the text.

@@ -1,5 +1,5 @@
 -- What is read of a text by relations over the whole of it is what is computed character by character.
-use Rattle.std.proofs.Common.{◌≡◌, ℕ, List, [], ◌∷◌, ◌++◌, Bool, true, false, cond, ◌&&◌, ◌||◌, ◌==◌, not, Option, Some, None, refl, sym, ap, ◌∙◌, subst, append_assoc, append-nil, length, take, drop, ◌⊎◌, inl, inr, eqb-true, arith}
+use Rattle.std.proofs.Common.{◌≡◌, ℕ, List, [], ◌∷◌, ◌++◌, Bool, true, false, cond, ◌&&◌, ◌||◌, ◌==◌, not, Option, Some, None, refl, sym, ap, ◌∙◌, subst, append_assoc, append-nil, length, drop, ◌⊎◌, inl, inr, eqb-true}
 use Rattle.std.proofs.Math.Seq.{drop-append_seam}
 use Rattle.std.specs.Prelude.{string_bytes}
 use lib.Utf8.{encodes}
@@ -11,20 +11,20 @@ use Rattle.gabc_places.specs.declared.place.Place.{Place}
 use Rattle.gabc_places.specs.Place.{next_place, place_past, placed_characters_from}
 use Rattle.gabc_places.specs.StageLaw.{concat_of}
 use Rattle.gabc_patterns.specs.LongestItems.{IsSnippet, IsViable}
-use Rattle.gabc_patterns.specs.Pattern.{Spells, is_in}
+use Rattle.gabc_patterns.specs.Pattern.{is_in}
 use Rattle.gabc_patterns.specs.Derivative.{is_snippet, is_viable}
 use Rattle.gabc_patterns.specs.Function.{trim}
 use Rattle.gabc_patterns.proofs.FunctionsMeetRelations.{keep_keeps, keeps_is, not_viable, no_snippet, trim_trims, trims_is}
-use Rattle.gabc_patterns.proofs.LongestMunchByCharacter.{viable_to, viable_from, snippet_to, snippet_from}
+use Rattle.gabc_patterns.proofs.LongestMunchByCharacter.{viable_from, snippet_to, snippet_from}
 use Rattle.gabc_notes.specs.FoundAt.{AreThoseFound}
 use Rattle.gabc_notes.proofs.FoundOnce.{same_finding, found_once}
 use Rattle.gabc_notes.specs.Events.{finding_event, end_by_mark}
 use Rattle.gabc_notes.specs.SnippetRead.{findings_of}
 use Rattle.gabc_notes.specs.declared.stage.NoteEvent.{NoteEvent}
 use Rattle.gabc_notes.specs.declared.stage.NoteEvent.TheVariants.{Kept, Ended}
-use Rattle.gabc_nabc.specs.Table.{nabc, code}
+use Rattle.gabc_nabc.specs.Table.{nabc}
 use Rattle.gabc_nabc.specs.Names.{is_known}
-use Rattle.gabc_nabc.specs.Events.{is_character, is_end, has_end_behind, has_end, kept_of, begins_code, is_code, last_of, before_last, joins, takes_code, first_behind, first_of, is_missing, bytes_in, end_events, character_events, events_at, cut_events, nabc_events_behind}
+use Rattle.gabc_nabc.specs.Events.{is_character, is_end, has_end_behind, has_end, kept_of, begins_code, is_code, last_of, before_last, joins, takes_code, first_behind, first_of, is_missing, bytes_in, end_events, character_events, events_at, nabc_events_behind}
 use Rattle.gabc_nabc.specs.NabcRead.{IsKeptOf, EndsUnknownCode, IsFound, IsFoundBehind, AreFound, IsRead, IsNabcRead}
 use Rattle.gabc_nabc.specs.SnippetRead.{before_end_behind, before_end, from_end, kept_before, ending_behind, IsComputed}
 use Rattle.gabc_notes.specs.declared.snippet_read.SnippetRead.{SnippetRead}

@@ -14,6 +14,7 @@ use Rattle.gabc_notes.specs.declared.stage.NoteEnd.TheVariants.{Close}
 use Rattle.gabc_notes.specs.declared.stage.NoteStage.{NoteStage}
 use Rattle.gabc_places.proofs.texts.CharactersOfStrings.{chars-none}
 use Rattle.gabc_notes.proofs.machine.LoopOverBody.{Reaches, Stops, reaches_first, reaches_next, stops_at, stops_cut, place_fits, first_scalar}
+use Rattle.gabc_notes.proofs.grammar.ReadByRelations.{read_by_relations}
 use Rattle.gabc_notes.proofs.whole.snippet_whole.Goals as goal
 
 pub loop-c-init : goal.loop-c-init
@@ -88,11 +89,11 @@ returns-in-Some-end c =
     let i = c.loop-c.invariant in
     let past = chars_past_char (chars_rest c.loop-c.c-iterator) (chars_rest c.next.new.self) c.in-Some.c i.utf8 c.in-Some.ensures.steps.0 in
     let s = at_mark i.reaches past c.in_ok-feed.ensures.fed c.in-Some-end.end c.in-Some-end.bytes c.in-Some-end.is (omega (arith, i.index, c.requires.line)) in
-    record {
+    read_by_relations c.args.at c.args.split c.args.macros (chars c.args.body.now) c.into_read.result (record {
       kept_is = c.into_read.ensures.kept ∙ s.kept_is;
       findings_are = c.into_read.ensures.findings ∙ s.findings_are;
       how_is = c.into_read.ensures.how ∙ (c.at.ensures ∙ s.how_is);
-    }
+    })
 
 pub into_read-requires-2 : goal.into_read-requires-2
 into_read-requires-2 c =
@@ -105,8 +106,8 @@ returns c =
     let i = c.loop-c.invariant in
     let none = chars-none (chars_rest c.loop-c.c-iterator) c.in-None.ensures.steps.0.0 in
     let s = at_end c.loop-c.place (chars (chars_rest c.loop-c.c-iterator)) i.reaches none c.in_ok-close.ensures (omega (arith, i.index, c.requires.line)) c.unwrap_or-end.result c.unwrap_or-end.ensures in
-    record {
+    read_by_relations c.args.at c.args.split c.args.macros (chars c.args.body.now) c.into_read-2.result (record {
       kept_is = c.into_read-2.ensures.kept ∙ s.kept_is;
       findings_are = c.into_read-2.ensures.findings ∙ s.findings_are;
       how_is = c.into_read-2.ensures.how ∙ (c.at-2.ensures ∙ s.how_is);
-    }
+    })

@@ -1,0 +1,540 @@
+-- What is read of a text by relations over the whole of it is what is computed character by character.
+use mathlib.Core.List.{reverse_aux}
+use lib.Utf8.{encodes}
+use Rattle.std.proofs.Common.{◌≡◌, ℕ, ◌+◌, List, [], ◌∷◌, ◌++◌, Bool, true, false, cond, not, ◌&&◌, ◌||◌, ◌==◌, ◌⊎◌, inl, inr, refl, sym, ap, ◌∙◌, subst, codes, length, drop, Option, Some, None, append-nil, append_assoc, eqb-true}
+use Rattle.std.specs.Prelude.{reverse, sum_by, string_bytes}
+use Rattle.std.specs.Char.{len_utf8}
+use Rattle.std.specs.List.{fold}
+use Rattle.std.proofs.Math.Seq.{drop-append_seam}
+use Rattle.std.proofs.lemmas.List.{reverse-reverse}
+use Rattle.std.proofs.lemmas.Grind.{reverse_onto}
+use Rattle.gabc_places.specs.declared.code.Code.{Code}
+use Rattle.gabc_places.specs.declared.code.Code.TheVariants.{E1, E6, W8, W10}
+use Rattle.gabc_places.specs.declared.code.Finding.{Finding}
+use Rattle.gabc_places.specs.declared.place.Char.{Char}
+use Rattle.gabc_places.specs.declared.place.Place.{Place}
+use Rattle.gabc_places.specs.Place.{placed_characters_from}
+use Rattle.gabc_places.specs.StageLaw.{concat_of}
+use Rattle.gabc_patterns.specs.LongestItems.{IsSnippet}
+use Rattle.gabc_patterns.specs.Derivative.{is_snippet}
+use Rattle.gabc_patterns.specs.Function.{trim}
+use Rattle.gabc_patterns.proofs.BothOfTwoTests.{and_true, or_true}
+use Rattle.gabc_patterns.proofs.FunctionsMeetRelations.{trim_trims, trims_is, no_snippet}
+use Rattle.gabc_patterns.proofs.LongestMunchByCharacter.{snippet_from}
+use Rattle.gabc_notes.specs.Table.{gabc}
+use Rattle.gabc_notes.specs.Events.{ItemText, in_raw, kept, is_comment, kept_with, is_kept, item_at, opens_fusion, closes_fusion, macro_in, macro_of, is_fused, opener, finding_event, end_by_mark, is_defined, is_missing, bytes_of, is_end, is_over, is_unpaired, warnings, at_end, events_at, note_events_behind, note_events}
+use Rattle.gabc_notes.specs.FoundAt.{AreThoseFound}
+use Rattle.gabc_notes.specs.SnippetRead.{SnippetStop, findings_of, stop_after, kept_by, index_of, ending_at, ending_by, IsComputed}
+use Rattle.gabc_notes.specs.NotesRead.{Marked, IsKeptOf, EndsItem, IsFused, IsFound, AreFound, IsEnd, IsCutAt, IsRead, IsSnippetRead}
+use Rattle.gabc_notes.specs.declared.item.ItemKind.{ItemKind}
+use Rattle.gabc_notes.specs.declared.item.ItemKind.TheVariants.{Note, Alteration, Clef, Bar, Spacing, Custos, Break, Attribute, Fusion}
+use Rattle.gabc_notes.specs.declared.snippet_read.SnippetEnding.TheVariants as snippet_ending
+use Rattle.gabc_notes.specs.declared.snippet_read.SnippetRead.{SnippetRead}
+use Rattle.gabc_notes.specs.declared.stage.NoteEnd.TheVariants as ending
+use Rattle.gabc_notes.specs.declared.stage.NoteEvent.{NoteEvent}
+use Rattle.gabc_notes.specs.declared.stage.NoteEvent.TheVariants.{Kept, Ended}
+use Rattle.gabc_notes.proofs.FoundOnce.{same_finding, found_once}
+use Rattle.gabc_notes.proofs.grammar.CharactersByRelations.{marks, chars_of, chars_marks, marks_cut, marked_only, are_marked, remark, false_else, kept_keeps, kept_only, raw_to, raw_from, no_raw_to, no_raw_from, comment_to, comment_from, kept_with_to, kept_with_from, item_to, item_from, opens_some, closes_some, opens_to, opens_from, closes_to, closes_from, fused_to, fused_from, opener_is, opener_only}
+use Rattle.gabc_notes.proofs.grammar.LawsOfEventsByPoint.{not_true, over_joined, cut_outs, more_over}
+use Rattle.gabc_notes.proofs.machine.LoopOverBody.{findings_append, is_emitted}
+use Rattle.gabc_notes.proofs.machine.OneCharacterMore.{point}
+
+-- ---- what is found at a character
+
+abbrev Found : ℕ → List Char → Char → Finding → Type 0
+Found macros back x f = IsFound macros (x, is_comment (point back x)) (marks back) f.code f.place
+
+found_only : (macros : ℕ) (m : Marked) (back : List Marked) (found : Code) (p : Place) → IsFound macros m back found p
+    → ((found ≡ E1) × IsFound macros m back E1 p) ⊎ (((found ≡ W8) × IsFound macros m back W8 p) ⊎ ((found ≡ W10) × IsFound macros m back W10 p))
+found_only macros m back E1 p h = inl (refl, h)
+found_only macros m back W8 p h = inr (inl (refl, h))
+found_only macros m back W10 p h = inr (inr (refl, h))
+found_only macros m back _ p h = absurd h
+
+-- a macro that is used and not defined
+missing_some : (macros : ℕ) (o : Option ItemText) → is_missing macros (macro_of o) ≡ true
+    → (t : List ℕ) × (digit : ℕ) × (o ≡ Some (Attribute, t)) × (macro_in t ≡ Some digit) × (is_defined macros digit ≡ false)
+missing_some macros (Some (Attribute, t)) e = go (macro_in t) refl e
+  where
+    go : (d : Option ℕ) → macro_in t ≡ d → is_missing macros d ≡ true
+        → (u : List ℕ) × (digit : ℕ) × (◌≡◌ {A = Option ItemText} (Some (Attribute, t)) (Some (Attribute, u))) × (macro_in u ≡ Some digit) × (is_defined macros digit ≡ false)
+    go None f g = absurd (cc)
+    go (Some d) f g = (t, d, refl, f, not_true (is_defined macros d) g)
+missing_some macros None e = absurd (cc)
+missing_some macros (Some (Note, t)) e = absurd (cc)
+missing_some macros (Some (Alteration, t)) e = absurd (cc)
+missing_some macros (Some (Clef, t)) e = absurd (cc)
+missing_some macros (Some (Bar, t)) e = absurd (cc)
+missing_some macros (Some (Spacing, t)) e = absurd (cc)
+missing_some macros (Some (Custos, t)) e = absurd (cc)
+missing_some macros (Some (Break, t)) e = absurd (cc)
+missing_some macros (Some (Fusion, t)) e = absurd (cc)
+
+-- what warns of a bracket that is not paired is a fusion mark
+fusion_item : (back : List Char) (x : Char) → is_unpaired (point back x) ≡ true → (t : List ℕ) × (item_at (point back x) ≡ Some (Fusion, t))
+fusion_item back x e = elim (or_true (opens_fusion (item_at (point back x)) && is_fused back) (closes_fusion (item_at (point back x)) && not (is_fused back)) e) [
+  | inl h ↦ (codes "@[", opens_some (item_at (point back x)) (and_true (opens_fusion (item_at (point back x))) (is_fused back) h).0)
+  | inr h ↦ (codes "]", closes_some (item_at (point back x)) (and_true (closes_fusion (item_at (point back x))) (not (is_fused back)) h).0)
+]
+
+unpaired_to : (back : List Char) (x : Char) → is_unpaired (point back x) ≡ true
+    → (EndsItem (marks (x ∷ back)) (Fusion, codes "@[") × IsFused (marks back)) ⊎ (EndsItem (marks (x ∷ back)) (Fusion, codes "]") × (¬ IsFused (marks back)))
+unpaired_to back x e = elim (or_true (opens_fusion (item_at (point back x)) && is_fused back) (closes_fusion (item_at (point back x)) && not (is_fused back)) e) [
+  | inl h ↦ (let g = and_true (opens_fusion (item_at (point back x))) (is_fused back) h in inl (opens_to back x g.0, fused_to back g.1))
+  | inr h ↦ (let g = and_true (closes_fusion (item_at (point back x))) (not (is_fused back)) h in
+      inr (closes_to back x g.0, λ f. (let a = not_true (is_fused back) g.1 in let b = fused_from back f in absurd (cc))))
+]
+
+unpaired_from : (back : List Char) (x : Char)
+    → (EndsItem (marks (x ∷ back)) (Fusion, codes "@[") × IsFused (marks back)) ⊎ (EndsItem (marks (x ∷ back)) (Fusion, codes "]") × (¬ IsFused (marks back)))
+    → is_unpaired (point back x) ≡ true
+unpaired_from back x (inl h) =
+    let o = opens_from back x h.0 in
+    let f = fused_from back h.1 in
+    ap (λ (b : Bool). (b && is_fused back) || (closes_fusion (item_at (point back x)) && not (is_fused back))) o
+    ∙ ap (λ (b : Bool). b || (closes_fusion (item_at (point back x)) && not (is_fused back))) f
+unpaired_from back x (inr h) =
+    let o = closes_from back x h.0 in
+    let f : is_fused back ≡ false = false_else (is_fused back) (λ e. h.1 (fused_to back e)) in
+    ap (λ (b : Bool). (opens_fusion (item_at (point back x)) && is_fused back) || (b && not (is_fused back))) o
+    ∙ (ap (λ (b : Bool). (opens_fusion (item_at (point back x)) && is_fused back) || not b) f ∙ last (opens_fusion (item_at (point back x)) && is_fused back))
+  where
+    last : (b : Bool) → (b || true) ≡ true
+    last true = refl
+    last false = refl
+
+missing_from : (macros : ℕ) (back : List Char) (x : Char) (t : List ℕ) (digit : ℕ) → EndsItem (marks (x ∷ back)) (Attribute, t) → macro_in t ≡ Some digit → is_defined macros digit ≡ false
+    → is_missing macros (macro_of (item_at (point back x))) ≡ true
+missing_from macros back x t digit i m d =
+    ap (λ (o : Option ItemText). is_missing macros (macro_of o)) (item_from back x (Attribute, t) i) ∙ (ap (is_missing macros) m ∙ ap not d)
+
+-- what ends an item is kept
+kept_item : (back : List Char) (x : Char) (i : ItemText) → EndsItem (marks (x ∷ back)) i → (is_comment (point back x) ≡ false) × (is_kept (point back x) ≡ true)
+unfolding marks
+kept_item back x i h = (h.1.0, (kept_with_from back x h.0 h.1).0)
+
+unpaired_kept : (back : List Char) (x : Char)
+    → (EndsItem (marks (x ∷ back)) (Fusion, codes "@[") × IsFused (marks back)) ⊎ (EndsItem (marks (x ∷ back)) (Fusion, codes "]") × (¬ IsFused (marks back)))
+    → (is_comment (point back x) ≡ false) × (is_kept (point back x) ≡ true)
+unpaired_kept back x (inl h) = kept_item back x (Fusion, codes "@[") h.0
+unpaired_kept back x (inr h) = kept_item back x (Fusion, codes "]") h.0
+
+found_here : (split : Bool) (macros : ℕ) (back : List Char) (x : Char) → is_over split back ≡ false → is_end split (point back x) ≡ false
+    → AreThoseFound (Found macros back x) (findings_of (events_at split macros (point back x)))
+unfolding marks
+found_here split macros back x running no_mark =
+    subst (λ (es : List NoteEvent). AreThoseFound (Found macros back x) (findings_of es)) (sym same) (at_comment (is_comment (point back x)) refl)
+  where
+    same : events_at split macros (point back x) ≡ cond (is_comment (point back x)) [] (cond (is_kept (point back x)) (Kept x ∷ warnings macros (point back x)) (finding_event x.place E1 ∷ []))
+    same =
+        ap (λ (b : Bool). cond b [] (cond (is_end split (point back x)) (at_end (point back x)) (cond (is_comment (point back x)) [] (cond (is_kept (point back x)) (Kept x ∷ warnings macros (point back x)) (finding_event x.place E1 ∷ []))))) running
+        ∙ ap (λ (b : Bool). cond b (at_end (point back x)) (cond (is_comment (point back x)) [] (cond (is_kept (point back x)) (Kept x ∷ warnings macros (point back x)) (finding_event x.place E1 ∷ [])))) no_mark
+
+    silent : is_comment (point back x) ≡ true → (f : Finding) → Found macros back x f → ⊥
+    silent e f h = elim (found_only macros (x, is_comment (point back x)) (marks back) f.code f.place h) [
+      | inl u ↦ (let g = u.1.0 in absurd (cc))
+      | inr v ↦ elim v [
+        | inl u ↦ (let g = (kept_item back x (Attribute, u.1.0.0) u.1.0.2).0 in absurd (cc))
+        | inr u ↦ (let g = (unpaired_kept back x u.1.0).0 in absurd (cc))
+      ]
+    ]
+
+    quiet : is_kept (point back x) ≡ true → is_unpaired (point back x) ≡ false → is_missing macros (macro_of (item_at (point back x))) ≡ false → (f : Finding) → Found macros back x f → ⊥
+    quiet k p m f h = elim (found_only macros (x, is_comment (point back x)) (marks back) f.code f.place h) [
+      | inl u ↦ u.1.1 (kept_with (point back x)) (kept_with_to back x k)
+      | inr v ↦ elim v [
+        | inl u ↦ (let g = missing_from macros back x u.1.0.0 u.1.0.1 u.1.0.2 u.1.0.3 u.1.0.4 in absurd (cc))
+        | inr u ↦ (let g = unpaired_from back x u.1.0 in absurd (cc))
+      ]
+    ]
+
+    warned : is_kept (point back x) ≡ true → (a : Bool) → is_unpaired (point back x) ≡ a → (b : Bool) → is_missing macros (macro_of (item_at (point back x))) ≡ b
+        → AreThoseFound (Found macros back x) (findings_of (Kept x ∷ cond a (finding_event x.place W10 ∷ []) [] ++ cond b (finding_event (opener back) W8 ∷ []) []))
+    warned k true e true f = (let g = fusion_item back x e in let h = ap (λ (o : Option ItemText). is_missing macros (macro_of o)) g.1 in absurd (cc))
+    warned k true e false f = inl (record { place = x.place; code = W10 }, (unpaired_to back x e, refl), refl)
+    warned k false e true f =
+        let g = missing_some macros (item_at (point back x)) f in
+        inl (record { place = opener back; code = W8 }, ((g.0, g.1, item_to back x (Attribute, g.0) g.2, g.3, g.4), opener_is back), refl)
+    warned k false e false f = inr (quiet k e f, refl)
+
+    at_kept : is_comment (point back x) ≡ false → (b : Bool) → is_kept (point back x) ≡ b
+        → AreThoseFound (Found macros back x) (findings_of (cond b (Kept x ∷ warnings macros (point back x)) (finding_event x.place E1 ∷ [])))
+    at_kept e true k = warned k (is_unpaired (point back x)) refl (is_missing macros (macro_of (item_at (point back x)))) refl
+    at_kept e false k = inl (record { place = x.place; code = E1 }, (e, (λ t h. let g = (kept_with_from back x t h).0 in absurd (cc)), refl), refl)
+
+    at_comment : (b : Bool) → is_comment (point back x) ≡ b
+        → AreThoseFound (Found macros back x) (findings_of (cond b [] (cond (is_kept (point back x)) (Kept x ∷ warnings macros (point back x)) (finding_event x.place E1 ∷ []))))
+    at_comment true e = inr (silent e, refl)
+    at_comment false e = at_kept e (is_kept (point back x)) refl
+
+-- ---- nothing else is so found
+
+abbrev kind_in : Option ItemText → ItemKind
+kind_in None = Note
+kind_in (Some i) = i.0
+
+kinds_differ : (o : Option ItemText) (t u : List ℕ) → o ≡ Some (Fusion, u) → o ≡ Some (Attribute, t) → ⊥
+kinds_differ o t u a b = (let e : Fusion ≡ Attribute = sym (ap kind_in a) ∙ ap kind_in b in cc)
+
+-- an item is no other
+other_kinds : (back : List Char) (x : Char) (t : List ℕ)
+    → (EndsItem (marks (x ∷ back)) (Fusion, codes "@[") × IsFused (marks back)) ⊎ (EndsItem (marks (x ∷ back)) (Fusion, codes "]") × (¬ IsFused (marks back)))
+    → EndsItem (marks (x ∷ back)) (Attribute, t) → ⊥
+other_kinds back x t (inl h) i = kinds_differ (item_at (point back x)) t (codes "@[") (item_from back x (Fusion, codes "@[") h.0) (item_from back x (Attribute, t) i)
+other_kinds back x t (inr h) i = kinds_differ (item_at (point back x)) t (codes "]") (item_from back x (Fusion, codes "]") h.0) (item_from back x (Attribute, t) i)
+
+-- what is found of a character that is not kept is no warning
+no_warning : (macros : ℕ) (back : List Char) (x : Char) (p q : Place) → IsFound macros (x, is_comment (point back x)) (marks back) E1 p
+    → (IsFound macros (x, is_comment (point back x)) (marks back) W8 q → ⊥) × (IsFound macros (x, is_comment (point back x)) (marks back) W10 q → ⊥)
+unfolding marks
+no_warning macros back x p q h = (λ u. h.1 u.0.2.0 u.0.2.1, λ u. go u.0)
+  where
+    go : (EndsItem (marks (x ∷ back)) (Fusion, codes "@[") × IsFused (marks back)) ⊎ (EndsItem (marks (x ∷ back)) (Fusion, codes "]") × (¬ IsFused (marks back))) → ⊥
+    go (inl v) = h.1 v.0.0 v.0.1
+    go (inr v) = h.1 v.0.0 v.0.1
+
+one_finding : (macros : ℕ) (back : List Char) (x : Char) (f g : Finding) → Found macros back x f → Found macros back x g → f ≡ g
+unfolding marks
+one_finding macros back x f g h k = go (found_only macros (x, is_comment (point back x)) (marks back) f.code f.place h) (found_only macros (x, is_comment (point back x)) (marks back) g.code g.place k)
+  where
+    go : ((f.code ≡ E1) × IsFound macros (x, is_comment (point back x)) (marks back) E1 f.place)
+        ⊎ (((f.code ≡ W8) × IsFound macros (x, is_comment (point back x)) (marks back) W8 f.place) ⊎ ((f.code ≡ W10) × IsFound macros (x, is_comment (point back x)) (marks back) W10 f.place))
+        → ((g.code ≡ E1) × IsFound macros (x, is_comment (point back x)) (marks back) E1 g.place)
+        ⊎ (((g.code ≡ W8) × IsFound macros (x, is_comment (point back x)) (marks back) W8 g.place) ⊎ ((g.code ≡ W10) × IsFound macros (x, is_comment (point back x)) (marks back) W10 g.place))
+        → f ≡ g
+    go (inl u) (inl v) = same_finding f g (u.1.2 ∙ sym v.1.2) (u.0 ∙ sym v.0)
+    go (inl u) (inr (inl v)) = absurd ((no_warning macros back x f.place g.place u.1).0 v.1)
+    go (inl u) (inr (inr v)) = absurd ((no_warning macros back x f.place g.place u.1).1 v.1)
+    go (inr (inl u)) (inl v) = absurd ((no_warning macros back x g.place f.place v.1).0 u.1)
+    go (inr (inr u)) (inl v) = absurd ((no_warning macros back x g.place f.place v.1).1 u.1)
+    go (inr (inl u)) (inr (inl v)) = same_finding f g (opener_only back f.place u.1.1 ∙ sym (opener_only back g.place v.1.1)) (u.0 ∙ sym v.0)
+    go (inr (inr u)) (inr (inr v)) = same_finding f g (u.1.1 ∙ sym v.1.1) (u.0 ∙ sym v.0)
+    go (inr (inl u)) (inr (inr v)) = absurd (other_kinds back x u.1.0.0 v.1.0 u.1.0.2)
+    go (inr (inr u)) (inr (inl v)) = absurd (other_kinds back x v.1.0.0 u.1.0 v.1.0.2)
+
+one_found : (macros : ℕ) (back : List Char) (fs gs : List Finding) → AreFound macros (marks back) fs → AreFound macros (marks back) gs → fs ≡ gs
+unfolding marks
+one_found macros [] fs gs h k = h ∙ sym k
+one_found macros (x ∷ back) fs gs (a, b, e, before, here) (c, d, f, earlier, there) =
+    let p = one_found macros back a c before earlier in
+    let q = found_once (Found macros back x) (one_finding macros back x) b d here there in
+    e ∙ (ap (λ (u : List Finding). u ++ b) p ∙ (ap (λ (u : List Finding). c ++ u) q ∙ sym f))
+
+-- ---- the end
+
+end_to : (split : Bool) (back : List Char) (x : Char) → is_end split (point back x) ≡ true → IsEnd split (marks back) x
+end_to split back x e =
+    let f = and_true (not (is_comment (point back x))) (not (in_raw (kept back)) && ((x.c == 41) || (split && (x.c == 124)))) e in
+    let g = and_true (not (in_raw (kept back))) ((x.c == 41) || (split && (x.c == 124))) f.1 in
+    record {
+      mark = elim (or_true (x.c == 41) (split && (x.c == 124)) g.1) [
+        | inl h ↦ inl (eqb-true x.c 41 h)
+        | inr h ↦ (let i = and_true split (x.c == 124) h in inr (i.0, eqb-true x.c 124 i.1))
+      ];
+      no_comment = λ i. (let a = comment_from back x false i in let b = not_true (is_comment (point back x)) f.0 in absurd (cc));
+      no_raw = no_raw_to back (not_true (in_raw (kept back)) g.0);
+    }
+
+end_from : (split : Bool) (back : List Char) (x : Char) → IsEnd split (marks back) x → is_end split (point back x) ≡ true
+unfolding marks
+end_from split back x h =
+    let quiet : is_comment (point back x) ≡ false = false_else (is_comment (point back x)) (λ e. h.no_comment (remark x (is_comment (point back x)) false (marks back) (comment_to back x e))) in
+    ap (λ (b : Bool). not b && (not (in_raw (kept back)) && ((x.c == 41) || (split && (x.c == 124))))) quiet
+    ∙ (ap (λ (b : Bool). not b && ((x.c == 41) || (split && (x.c == 124)))) (no_raw_from back h.no_raw) ∙ go h.mark)
+  where
+    last : (b : Bool) → (b || true) ≡ true
+    last true = refl
+    last false = refl
+
+    go : (x.c ≡ 41) ⊎ ((split ≡ true) × (x.c ≡ 124)) → ((x.c == 41) || (split && (x.c == 124))) ≡ true
+    go (inl e) = ap (λ (c : ℕ). (c == 41) || (split && (x.c == 124))) e
+    go (inr e) = ap (λ (b : Bool). (x.c == 41) || (b && (x.c == 124))) e.0 ∙ (ap (λ (c : ℕ). (x.c == 41) || (c == 124)) e.1 ∙ last (x.c == 41))
+
+over_from : (split : Bool) (behind before : List Char) (x : Char) → is_end split (point before x) ≡ true → is_over split (behind ++ x ∷ before) ≡ true
+over_from split [] before x e = ap (λ (b : Bool). b || is_over split before) e
+over_from split (y ∷ behind) before x e = ap (λ (b : Bool). is_end split (point (behind ++ x ∷ before) y) || b) (over_from split behind before x e) ∙ last (is_end split (point (behind ++ x ∷ before) y))
+  where
+    last : (b : Bool) → (b || true) ≡ true
+    last true = refl
+    last false = refl
+
+tail_is : (before : List Marked) (m : Marked) → m ∷ before ≡ marks (chars_of (m ∷ before)) → before ≡ marks (chars_of before)
+unfolding marks
+tail_is before m e = cc
+
+-- nothing in a text that is not over ends it
+none_ends : (split : Bool) (back : List Char) → is_over split back ≡ false → (behind before : List Marked) (m : Marked) → marks back ≡ behind ++ m ∷ before → ¬ IsEnd split before m.0
+none_ends split back o behind before m e h =
+    let c = marks_cut back behind (m ∷ before) e in
+    let same : before ≡ marks (chars_of before) = tail_is before m c.1 in
+    let over = over_from split (chars_of behind) (chars_of before) m.0 (end_from split (chars_of before) m.0 (subst (λ (u : List Marked). IsEnd split u m.0) same h)) in
+    let f = ap (is_over split) c.0 in
+    absurd (cc)
+
+pub none_over : (split : Bool) (back : List Char) → ((behind before : List Marked) (m : Marked) → marks back ≡ behind ++ m ∷ before → ¬ IsEnd split before m.0) → is_over split back ≡ false
+unfolding marks
+none_over split [] h = refl
+none_over split (x ∷ back) h =
+    ap (λ (b : Bool). b || is_over split back) (false_else (is_end split (point back x)) (λ e. h [] (marks back) (x, is_comment (point back x)) refl (end_to split back x e)))
+    ∙ none_over split back (λ behind before m e. h ((x, is_comment (point back x)) ∷ behind) before m (ap (λ (u : List Marked). (x, is_comment (point back x)) ∷ u) e))
+
+-- ---- the snippet and what follows it
+
+-- the mark with which the rest begins
+abbrev mark_of : List Char → Option ℕ
+mark_of [] = None
+mark_of (x ∷ rest) = Some x.c
+
+-- what is found at it
+abbrev endings : List Char → List Char → List Finding
+endings back [] = []
+endings back (x ∷ rest) = findings_of (at_end (point back x))
+
+-- it ends the snippet
+abbrev StopsAt : Bool → List Char → List Char → Type 0
+StopsAt split back [] = Unit {0}
+StopsAt split back (x ∷ rest) = is_end split (point back x) ≡ true
+
+-- The characters xs behind those, up to the mark that ends the snippet, where that was found before.
+record Split (split : Bool) (macros : ℕ) (back xs : List Char) (before : List Finding) : Type 0 where
+  after : List Char
+  rest : List Char
+  found : List Finding
+  cut : reverse_aux back xs ≡ reverse_aux after rest
+  running : is_over split after ≡ false
+  finds : AreFound macros (marks after) found
+  all : before ++ findings_of (concat_of (note_events_behind split macros back xs)) ≡ found ++ endings after rest
+  stop : stop_after split back xs ≡ record { back = after; mark = mark_of rest }
+  mark : StopsAt split after rest
+
+found_more : (split : Bool) (macros : ℕ) (back : List Char) (x : Char) (before : List Finding) → AreFound macros (marks back) before
+    → AreThoseFound (Found macros back x) (findings_of (events_at split macros (point back x))) → AreFound macros (marks (x ∷ back)) (before ++ findings_of (events_at split macros (point back x)))
+unfolding marks
+found_more split macros back x before h f = (before, findings_of (events_at split macros (point back x)), refl, h, f)
+
+split_on : (split : Bool) (macros : ℕ) (back xs : List Char) (before : List Finding) → is_over split back ≡ false → AreFound macros (marks back) before → Split split macros back xs before
+split_on split macros back [] before o h = record {
+  after = back;
+  rest = [];
+  found = before;
+  cut = refl;
+  running = o;
+  finds = h;
+  all = ap (λ (l : List NoteEvent). before ++ findings_of (l ++ [])) (cut_outs split back o);
+  stop = refl;
+  mark = tt;
+}
+split_on split macros back (x ∷ xs) before o h = go (is_emitted split macros back x o) (λ b p g. split_on split macros (x ∷ back) xs b p g)
+  where
+    go : (is_end split (point back x) ≡ false) ⊎ ((is_end split (point back x) ≡ true) × (events_at split macros (point back x) ≡ at_end (point back x)))
+        → ((b : List Finding) → is_over split (x ∷ back) ≡ false → AreFound macros (marks (x ∷ back)) b → Split split macros (x ∷ back) xs b) → Split split macros back (x ∷ xs) before
+    go (inl n) F =
+        let here : List Finding = findings_of (events_at split macros (point back x)) in
+        let s = F (before ++ here) (more_over split back x false o n) (found_more split macros back x before h (found_here split macros back x o n)) in
+        record {
+          after = s.after;
+          rest = s.rest;
+          found = s.found;
+          cut = s.cut;
+          running = s.running;
+          finds = s.finds;
+          all = ap (λ (u : List Finding). before ++ u) (findings_append (events_at split macros (point back x)) (concat_of (note_events_behind split macros (x ∷ back) xs)))
+              ∙ (sym (append_assoc before here (findings_of (concat_of (note_events_behind split macros (x ∷ back) xs)))) ∙ s.all);
+          stop = ap (λ (b : Bool). cond b (record { back = back; mark = Some x.c }) (stop_after split (x ∷ back) xs)) n ∙ s.stop;
+          mark = s.mark;
+        }
+    go (inr n) F = record {
+      after = back;
+      rest = x ∷ xs;
+      found = before;
+      cut = refl;
+      running = o;
+      finds = h;
+      all = ap (λ (u : List Finding). before ++ u)
+          (ap (λ (l : List NoteEvent). findings_of (events_at split macros (point back x) ++ l)) (over_joined split macros (x ∷ back) xs (more_over split back x true o n.0))
+          ∙ ap findings_of (append-nil (events_at split macros (point back x)) ∙ n.1));
+      stop = ap (λ (b : Bool). cond b (record { back = back; mark = Some x.c }) (stop_after split (x ∷ back) xs)) n.0;
+      mark = n.0;
+    }
+
+-- the first end is the one with which the rest begins
+over_on : (split : Bool) (back xs : List Char) → is_over split back ≡ true → is_over split (reverse_aux xs back) ≡ true
+over_on split back [] o = o
+over_on split back (x ∷ xs) o = over_on split (x ∷ back) xs (ap (λ (b : Bool). is_end split (point back x) || b) o ∙ last (is_end split (point back x)))
+  where
+    last : (b : Bool) → (b || true) ≡ true
+    last true = refl
+    last false = refl
+
+stop_is : (split : Bool) (back xs rest : List Char) → is_over split (reverse_aux xs back) ≡ false → StopsAt split (reverse_aux xs back) rest
+    → stop_after split back (xs ++ rest) ≡ record { back = reverse_aux xs back; mark = mark_of rest }
+stop_is split back [] [] o m = refl
+stop_is split back [] (x ∷ rest) o m = ap (λ (b : Bool). cond b (record { back = back; mark = Some x.c }) (stop_after split (x ∷ back) rest)) m
+stop_is split back (x ∷ xs) rest o m =
+    let e : is_end split (point back x) ≡ false = false_else (is_end split (point back x)) (λ e. (let f = over_on split (x ∷ back) xs (ap (λ (b : Bool). b || is_over split back) e) in absurd (cc))) in
+    ap (λ (b : Bool). cond b (record { back = back; mark = Some x.c }) (stop_after split (x ∷ back) (xs ++ rest))) e ∙ stop_is split (x ∷ back) xs rest o m
+
+aux_append : (xs ys : List Char) → reverse_aux xs ys ≡ reverse xs ++ ys
+aux_append xs [] = sym (append-nil (reverse xs))
+aux_append xs (y ∷ ys) = reverse_onto xs y ys
+
+-- ---- what is found at the mark
+
+unfinished_at : List Char → Char → List Finding
+unfinished_at back x = cond (is_snippet gabc (kept back)) [] (record { place = x.place; code = E6 } ∷ [])
+
+fused_at : List Char → Char → List Finding
+fused_at back x = cond (is_fused back) (record { place = x.place; code = W10 } ∷ []) []
+
+endings_are : (back : List Char) (x : Char) → findings_of (at_end (point back x)) ≡ unfinished_at back x ++ fused_at back x
+unfolding unfinished_at fused_at
+endings_are back x = go (is_snippet gabc (kept back)) (is_fused back)
+  where
+    go : (a b : Bool) → findings_of (cond a [] (finding_event x.place E6 ∷ []) ++ (cond b (finding_event x.place W10 ∷ []) [] ++ Ended (end_by_mark x.c) (bytes_of (trim gabc (kept back))) ∷ []))
+        ≡ cond a [] (record { place = x.place; code = E6 } ∷ []) ++ cond b (record { place = x.place; code = W10 } ∷ []) []
+    go true true = refl
+    go true false = refl
+    go false true = refl
+    go false false = refl
+
+is_unfinished_at : (back : List Char) (x : Char) → AreThoseFound (λ f. (f ≡ record { place = x.place; code = E6 }) × (¬ IsSnippet gabc (kept back))) (unfinished_at back x)
+unfolding unfinished_at
+is_unfinished_at back x = go (is_snippet gabc (kept back)) refl
+  where
+    go : (b : Bool) → is_snippet gabc (kept back) ≡ b → AreThoseFound (λ f. (f ≡ record { place = x.place; code = E6 }) × (¬ IsSnippet gabc (kept back))) (cond b [] (record { place = x.place; code = E6 } ∷ []))
+    go true e = inr ((λ f h. h.1 (snippet_from gabc refl (kept back) e)), refl)
+    go false e = inl (record { place = x.place; code = E6 }, (refl, no_snippet gabc refl (kept back) e), refl)
+
+is_fused_at : (back : List Char) (x : Char) → AreThoseFound (λ f. (f ≡ record { place = x.place; code = W10 }) × IsFused (marks back)) (fused_at back x)
+unfolding fused_at
+is_fused_at back x = go (is_fused back) refl
+  where
+    go : (b : Bool) → is_fused back ≡ b → AreThoseFound (λ f. (f ≡ record { place = x.place; code = W10 }) × IsFused (marks back)) (cond b (record { place = x.place; code = W10 } ∷ []) [])
+    go true e = inl (record { place = x.place; code = W10 }, (refl, fused_to back e), refl)
+    go false e = inr ((λ f h. let g = fused_from back h.1 in absurd (cc)), refl)
+
+-- ---- how it ends
+
+sum_from : (n : ℕ) (back : List Char) → fold (λ (a : ℕ) (m : Marked). a + len_utf8 m.0.c) n (marks back) ≡ fold (λ (a : ℕ) (x : Char). a + len_utf8 x.c) n back
+unfolding marks
+sum_from n [] = refl
+sum_from n (x ∷ back) = sum_from (n + len_utf8 x.c) back
+
+bytes_marks : (back : List Char) → sum_by (λ (m : Marked). len_utf8 m.0.c) (marks back) ≡ index_of back
+bytes_marks back = sum_from 0 back
+
+ends_as : (n c : ℕ) → ending_at (end_by_mark c) n ≡ cond (c == 124) (snippet_ending.Next n) (snippet_ending.Close n)
+ends_as n c = go (c == 124)
+  where
+    go : (b : Bool) → ending_at (cond b ending.Next ending.Close) n ≡ cond b (snippet_ending.Next n) (snippet_ending.Close n)
+    go true = refl
+    go false = refl
+
+cut_at : (back : List Char) → IsCutAt (marks back) (cond (in_raw (kept back)) (opener back) (record { line = 0; column = 0 }))
+cut_at back = go (in_raw (kept back)) refl
+  where
+    go : (b : Bool) → in_raw (kept back) ≡ b → IsCutAt (marks back) (cond b (opener back) (record { line = 0; column = 0 }))
+    go true e = inl (raw_to back e, opener_is back)
+    go false e = inr (no_raw_to back e, refl)
+
+cut_only : (back : List Char) (p : Place) → IsCutAt (marks back) p → p ≡ cond (in_raw (kept back)) (opener back) (record { line = 0; column = 0 })
+cut_only back p (inl h) = opener_only back p h.1 ∙ sym (ap (λ (b : Bool). cond b (opener back) (record { line = 0; column = 0 })) (raw_from back h.0))
+cut_only back p (inr h) = h.1 ∙ sym (ap (λ (b : Bool). cond b (opener back) (record { line = 0; column = 0 })) (no_raw_from back h.0))
+
+-- ---- both ways
+
+pub read_by_relations : (at : Place) (split : Bool) (macros : ℕ) (t : List ℕ) (r : SnippetRead) → IsComputed at split macros t r → IsSnippetRead at split macros t r
+unfolding marks note_events
+read_by_relations at split macros t r h =
+    let s = split_on split macros [] (placed_characters_from at t) [] refl refl in
+    record {
+      back = marks s.after;
+      rest = s.rest;
+      cut = s.cut ∙ (aux_append s.after s.rest ∙ ap (λ (u : List Char). reverse u ++ s.rest) (sym (chars_marks s.after)));
+      marked = are_marked s.after;
+      unended = none_ends split s.after s.running;
+      kept = kept s.after;
+      keeps = kept_keeps s.after;
+      found = s.found;
+      finds = s.finds;
+      is_read = go s.after s.rest s.found s.mark
+          (h.kept_is ∙ ap (λ (p : SnippetStop). encodes (kept_by p.mark p.back)) s.stop)
+          (h.findings_are ∙ s.all)
+          (h.how_is ∙ ap (λ (p : SnippetStop). ending_by p.mark p.back) s.stop);
+    }
+  where
+    go : (back rest : List Char) (found : List Finding) → StopsAt split back rest → string_bytes r.kept ≡ encodes (kept_by (mark_of rest) back)
+        → r.findings ≡ found ++ endings back rest → r.how ≡ ending_by (mark_of rest) back → IsRead split (marks back) (kept back) found rest r
+    go back [] found m k f w = (k, f ∙ append-nil found, (cond (in_raw (kept back)) (opener back) (record { line = 0; column = 0 }), cut_at back, w))
+    go back (x ∷ rest) found m k f w = record {
+      mark = end_to split back x m;
+      whole = trim gabc (kept back);
+      trims = trim_trims gabc refl (kept back);
+      unfinished = unfinished_at back x;
+      fused = fused_at back x;
+      is_unfinished = is_unfinished_at back x;
+      is_fused = is_fused_at back x;
+      kept_is = k;
+      findings_are = f ∙ ap (λ (u : List Finding). found ++ u) (endings_are back x);
+      how_is = w ∙ (ends_as (index_of back) x.c ∙ ap (λ (n : ℕ). cond (x.c == 124) (snippet_ending.Next n) (snippet_ending.Close n)) (sym (bytes_marks back)));
+    }
+
+-- a reading whose characters are marked by what is computed
+computed : (at : Place) (split : Bool) (macros : ℕ) (t : List ℕ) (r : SnippetRead) (back rest : List Char) (text : List ℕ) (found : List Finding)
+    → placed_characters_from at t ≡ reverse back ++ rest → ((behind before : List Marked) (m : Marked) → marks back ≡ behind ++ m ∷ before → ¬ IsEnd split before m.0)
+    → IsKeptOf (marks back) text → AreFound macros (marks back) found → IsRead split (marks back) text found rest r → IsComputed at split macros t r
+unfolding note_events marks
+computed at split macros t r back rest text found cut unended keeps finds read =
+    let s = split_on split macros [] (placed_characters_from at t) [] refl refl in
+    let twice : reverse_aux (reverse back) [] ≡ back = reverse-reverse back in
+    let over : is_over split (reverse_aux (reverse back) []) ≡ false = ap (is_over split) twice ∙ none_over split back unended in
+    let stop : stop_after split [] (placed_characters_from at t) ≡ record { back = back; mark = mark_of rest } =
+    ap (stop_after split []) cut
+    ∙ (stop_is split [] (reverse back) rest over (subst (λ (u : List Char). StopsAt split u rest) (sym twice) (stops rest read))
+    ∙ ap (λ (u : List Char). record { back = u; mark = mark_of rest }) twice) in
+    let same : s.after ≡ back = ap (λ (p : SnippetStop). p.back) (sym s.stop ∙ stop) in
+    let later : s.rest ≡ rest = rest_is (reverse s.after) (reverse back) s.rest rest (ap reverse same) (sym (aux_append s.after s.rest) ∙ (sym s.cut ∙ cut)) in
+    let all : found ≡ s.found = one_found macros back found s.found finds (subst (λ (u : List Char). AreFound macros (marks u) s.found) same s.finds) in
+    record {
+      kept_is = kept_text rest read ∙ ap (λ (p : SnippetStop). encodes (kept_by p.mark p.back)) (sym stop);
+      findings_are = at_end_found rest read ∙ (ap (λ (u : List Finding). u ++ endings back rest) all
+          ∙ (ap (λ (u : List Char). s.found ++ endings u rest) (sym same) ∙ (ap (λ (u : List Char). s.found ++ endings s.after u) (sym later) ∙ sym s.all)));
+      how_is = how rest read ∙ ap (λ (p : SnippetStop). ending_by p.mark p.back) (sym stop);
+    }
+  where
+    kept_same : text ≡ kept back
+    kept_same = kept_only back text keeps
+
+    stops : (rest : List Char) → IsRead split (marks back) text found rest r → StopsAt split back rest
+    stops [] i = tt
+    stops (x ∷ rest) i = end_from split back x i.mark
+
+    rest_is : (a b c d : List Char) → a ≡ b → a ++ c ≡ b ++ d → c ≡ d
+    rest_is a b c d e f =
+        sym (drop-append_seam a c) ∙ (ap (drop (length a)) f ∙ (ap (λ (u : List Char). drop (length u) (b ++ d)) e ∙ drop-append_seam b d))
+
+    kept_text : (rest : List Char) → IsRead split (marks back) text found rest r → string_bytes r.kept ≡ encodes (kept_by (mark_of rest) back)
+    kept_text [] i = i.0 ∙ ap encodes kept_same
+    kept_text (x ∷ rest) i = i.kept_is ∙ ap encodes (trims_is gabc refl text i.whole i.trims ∙ ap (trim gabc) kept_same)
+
+    at_end_found : (rest : List Char) → IsRead split (marks back) text found rest r → r.findings ≡ found ++ endings back rest
+    at_end_found [] i = i.1 ∙ sym (append-nil found)
+    at_end_found (x ∷ rest) i =
+        let a = found_once (λ f. (f ≡ record { place = x.place; code = E6 }) × (¬ IsSnippet gabc text)) (λ f g u v. u.0 ∙ sym v.0) i.unfinished (unfinished_at back x) i.is_unfinished
+        (subst (λ (k : List ℕ). AreThoseFound (λ f. (f ≡ record { place = x.place; code = E6 }) × (¬ IsSnippet gabc k)) (unfinished_at back x)) (sym kept_same) (is_unfinished_at back x)) in
+        let b = found_once (λ f. (f ≡ record { place = x.place; code = W10 }) × IsFused (marks back)) (λ f g u v. u.0 ∙ sym v.0) i.fused (fused_at back x) i.is_fused (is_fused_at back x) in
+        i.findings_are
+        ∙ ap (λ (u : List Finding). found ++ u) (ap (λ (u : List Finding). u ++ i.fused) a ∙ (ap (λ (u : List Finding). unfinished_at back x ++ u) b ∙ sym (endings_are back x)))
+
+    how : (rest : List Char) → IsRead split (marks back) text found rest r → r.how ≡ ending_by (mark_of rest) back
+    how [] i = i.2.2 ∙ ap snippet_ending.Cut (cut_only back i.2.0 i.2.1)
+    how (x ∷ rest) i = i.how_is ∙ (ap (λ (n : ℕ). cond (x.c == 124) (snippet_ending.Next n) (snippet_ending.Close n)) (bytes_marks back) ∙ sym (ends_as (index_of back) x.c))
+
+pub relations_are_computed : (at : Place) (split : Bool) (macros : ℕ) (t : List ℕ) (r : SnippetRead) → IsSnippetRead at split macros t r → IsComputed at split macros t r
+relations_are_computed at split macros t r h =
+    let e = marked_only h.back h.marked in
+    computed at split macros t r (chars_of h.back) h.rest h.kept h.found h.cut
+    (subst (λ (u : List Marked). (behind before : List Marked) (m : Marked) → u ≡ behind ++ m ∷ before → ¬ IsEnd split before m.0) e h.unended)
+    (subst (λ (u : List Marked). IsKeptOf u h.kept) e h.keeps)
+    (subst (λ (u : List Marked). AreFound macros u h.found) e h.finds)
+    (subst (λ (u : List Marked). IsRead split u h.kept h.found h.rest r) e h.is_read)
