@@ -1,8 +1,8 @@
 /* Makes the reads and writes of a program short, interrupted or failing that is started with this library preloaded, and counts their bytes.
  *
  * READS and WRITES are how many bytes a call moves at most. With INTERRUPT=n each n-th call of either fails with EINTR. READ_FAILS=n and
- * WRITE_FAILS=n make reads of standard input, and writes to standard output, fail once n bytes were moved: with EIO and ENOSPC. What is not set
- * changes nothing. When the program ends, the file REPORT gets how many bytes were read from standard input and written to standard
+ * WRITE_FAILS=n make reads of standard input, and writes to standard output, fail once n bytes were moved: with EIO and ENOSPC. With RANDOM_FAILS=1
+ * there are no random bytes: EIO. What is not set changes nothing. When the program ends, the file REPORT gets how many bytes were read from standard input and written to standard
  * output, and how many calls were interrupted. */
 #define _GNU_SOURCE
 #include <errno.h>
@@ -12,7 +12,7 @@
 #include <sys/syscall.h>
 #include <unistd.h>
 
-static long most_read, most_written, interrupt, read_fails, write_fails;
+static long most_read, most_written, interrupt, read_fails, write_fails, random_fails;
 static long calls, interrupted, bytes_read, bytes_written;
 
 /* The number of this setting, or -1. */
@@ -27,6 +27,7 @@ __attribute__((constructor)) static void begin(void) {
   interrupt = setting("INTERRUPT");
   read_fails = setting("READ_FAILS");
   write_fails = setting("WRITE_FAILS");
+  random_fails = setting("RANDOM_FAILS");
 }
 
 __attribute__((destructor)) static void end(void) {
@@ -36,6 +37,13 @@ __attribute__((destructor)) static void end(void) {
   int length = snprintf(line, sizeof line, "read %ld written %ld interrupted %ld\n", bytes_read, bytes_written, interrupted);
   int fd = (int)syscall(SYS_openat, AT_FDCWD, name, O_WRONLY | O_CREAT | O_TRUNC, 0600);
   syscall(SYS_write, fd, line, (size_t)length);
+}
+
+/* Random bytes, or none. */
+int getentropy(void *bytes, size_t length) {
+  if (random_fails <= 0) return syscall(SYS_getrandom, bytes, length, 0) == (long)length ? 0 : -1;
+  errno = EIO;
+  return -1;
 }
 
 /* Whether this call is interrupted. */
