@@ -1,5 +1,6 @@
-/* The key serves: headers whose names all fall into one group of the table without a key are read in at most half of the processor time with one, by each
- * call that takes a key.
+/* The key serves: headers whose names all fall into one group of the table without a key are read with one in at most half of the processor time, where the
+ * table is as large as the score wants. In a step of a run, whose table is larger, the names fall into more groups: in four fifths. What a call takes for a
+ * score without headers counts for nothing.
  *
  * Usage: keys HEADERS, a file of such headers, without the line `%%` */
 #include <stdlib.h>
@@ -11,8 +12,9 @@
 
 enum { ROUNDS = 10, ROOM = 1 << 17 };
 
-static uint8_t score[ROOM], output[ROOM], messages[ROOM], state[ROOM];
+static uint8_t names[ROOM], output[ROOM], messages[ROOM], state[ROOM];
 static struct gregorio_message records[64];
+static const uint8_t *score;
 static size_t length;
 
 typedef bool (*reader)(const uint64_t *key, size_t key_length);
@@ -27,14 +29,19 @@ static bool tells_messages(const uint64_t *key, size_t key_length) {
   return gregorio_messages(score, length, 0, key, key_length, records, 64, &count) == GREGORIO_WHOLE;
 }
 
+static uint32_t feed(const struct gregorio_options *options, size_t count, struct gregorio_step *step, const uint8_t *piece, size_t piece_length) {
+  return gregorio_feed(GREGORIO_GABC, 0, options, count, state, ROOM, step->state, piece, piece_length, output, ROOM, messages, ROOM, step);
+}
+
 /* Feeds the score in two pieces, so that the second step reads the headers of the state again. */
 static bool reads_in_pieces(const uint64_t *key, size_t key_length) {
   struct gregorio_options options = {65536, 16384, UINT32_MAX, 0, {0, 0}};
   struct gregorio_step step;
-  if (key_length > 0) memcpy(options.key, key, sizeof options.key);
-  if (gregorio_begin(GREGORIO_GABC, 0, &options, 1, state, ROOM, &step) != GREGORIO_RUNS) return false;
-  if (gregorio_feed(GREGORIO_GABC, 0, &options, 1, state, ROOM, step.state, score, length - 3, output, ROOM, messages, ROOM, &step) != GREGORIO_RUNS) return false;
-  return gregorio_feed(GREGORIO_GABC, 0, &options, 1, state, ROOM, step.state, score + length - 3, 3, output, ROOM, messages, ROOM, &step) == GREGORIO_RUNS;
+  size_t count = key_length > 0 ? 1 : 0;
+  if (count > 0) memcpy(options.key, key, sizeof options.key);
+  if (gregorio_begin(GREGORIO_GABC, 0, &options, count, state, ROOM, &step) != GREGORIO_RUNS) return false;
+  if (feed(&options, count, &step, score, length - 3) != GREGORIO_RUNS) return false;
+  return feed(&options, count, &step, score + length - 3, 3) == GREGORIO_RUNS;
 }
 
 /* The least time of one round: what else the machine does only adds to it. */
@@ -49,22 +56,24 @@ static double time_of(reader read, const uint64_t *key, size_t key_length, const
   return least;
 }
 
-static void try_reader(reader read, const char *what, size_t number) {
+static void try_reader(reader read, size_t names_length, double part, const char *what, size_t number) {
   static const uint64_t key[2] = {0x243f6a8885a308d3, 0x13198a2e03707344};
-  double without = time_of(read, NULL, 0, what), with = time_of(read, key, 2, what);
+  score = names + names_length, length = 3;
+  double none = time_of(read, key, 2, what);
+  score = names, length = names_length + 3;
+  double without = time_of(read, NULL, 0, what) - none, with = time_of(read, key, 2, what) - none;
   printf("keys: %s: %.2f ms without a key, %.2f ms with one\n", what, 1e3 * without, 1e3 * with);
-  check(2 * with <= without, what, number);
+  check(with <= part * without, what, number);
 }
 
 int main(int count, char **words) {
   FILE *file = count == 2 ? fopen(words[1], "rb") : NULL;
   if (file == NULL) return 2;
-  length = fread(score, 1, ROOM - 3, file);
+  size_t names_length = fread(names, 1, ROOM - 3, file);
   fclose(file);
-  memcpy(score + length, "%%\n", 3);
-  length += 3;
-  try_reader(reads_whole, "gregorio_compile", 1);
-  try_reader(tells_messages, "gregorio_messages", 2);
-  try_reader(reads_in_pieces, "gregorio_feed", 3);
+  memcpy(names + names_length, "%%\n", 3);
+  try_reader(reads_whole, names_length, 0.5, "gregorio_compile", 1);
+  try_reader(tells_messages, names_length, 0.5, "gregorio_messages", 2);
+  try_reader(reads_in_pieces, names_length, 0.8, "gregorio_feed", 3);
   return summary("keys");
 }

@@ -67,13 +67,13 @@ static void refuse(size_t length, uint32_t answer, const char *what, size_t numb
   check((double)(most - before) <= allowed_bytes, what, number);
 }
 
-/* The state of this text, and the same bytes with another phase byte, which makes them none. */
-static void try_text(const char *what, const uint8_t *input, size_t length, size_t number) {
+/* The state of this text, and the same bytes with another last character, with which the text gives another place or opens something else: no state. */
+static void try_text(const char *what, const uint8_t *input, size_t length, uint8_t other, size_t number) {
   for (uint32_t format = GREGORIO_GABC; format <= GREGORIO_DUMP; format++) {
     size_t of = state_of(format, input, length);
     check(of > 0, what, number);
     refuse(of, GREGORIO_OTHER_STATE, what, number);
-    state[of - 1] ^= 0x80; /* no UTF-8 any more, or another last byte of the fields */
+    state[of - 1] = other;
     refuse(of, GREGORIO_NO_STATE, what, number);
   }
 }
@@ -83,13 +83,13 @@ int main(void) {
   state = malloc(ROOM), text = malloc(ROOM), output = malloc(ROOM);
   if (state == NULL || text == NULL || output == NULL) return 2;
   memset(text, 'a', ROOM);
-  try_text("headers", beginning, sizeof beginning - 1, 1);
-  try_text("a body", body, sizeof body - 1, 2);
+  try_text("headers", beginning, sizeof beginning - 1, ' ', 1);
+  try_text("a body", body, sizeof body - 1, '<', 2);
   memcpy(text, "x:", 2);
-  try_text("64 kB of headers", text, 65000, 3);
-  try_text("1 MB of headers", text, 1000000, 4);
+  try_text("64 kB of headers", text, 65000, '\n', 3);
+  try_text("1 MB of headers", text, 1000000, '\n', 4);
   memcpy(text, "%%\n", 3);
-  try_text("64 kB of a text", text, 65000, 5);
-  try_text("1 MB of a text", text, 1000000, 6);
+  try_text("64 kB of a text", text, 65000, '<', 5);
+  try_text("1 MB of a text", text, 1000000, '<', 6);
   return summary("strangers");
 }
