@@ -25,8 +25,8 @@ behind_buffers buffers e o l (inl none) = inl (inr (ap (λ (x : List ℕ). buffe
 behind_buffers buffers e o l (inr all) = inr (ap (λ (x : List ℕ). buffers.output ++ x) all.0, ap (λ (x : List ℕ). buffers.messages ++ x) all.1)
 
 -- what is known of a front is known of the whole
-knows_of_front : (e : EngineState) (piece front : List ℕ) {rest : List ℕ} (ending : SourceEnding) (o l : List ℕ) → front ++ rest ≡ piece → Knows e front Broken o l → Knows e piece ending o l
-knows_of_front e piece front {rest} ending o l parts k = subst (λ (x : List ℕ). Knows e x ending o l) parts (knows_longer e front rest ending o l k)
+knows_of_front : (e : EngineState) (piece front rest : List ℕ) (ending : SourceEnding) (o l : List ℕ) → front ++ rest ≡ piece → Knows e front Broken o l → Knows e piece ending o l
+knows_of_front e piece front rest ending o l parts k = subst (λ (x : List ℕ). Knows e x ending o l) parts (knows_longer e front rest ending o l k)
 
 knows_same : (e : EngineState) (piece : List ℕ) (ending : SourceEnding) (o l x y : List ℕ) → x ≡ o → y ≡ l → Knows e piece ending o l → Knows e piece ending x y
 knows_same e piece ending o l x y h k known = subst (λ (a : List ℕ). Knows e piece ending a y) (sym h) (subst (λ (a : List ℕ). Knows e piece ending o a) (sym k) known)
@@ -38,13 +38,13 @@ knows_none_or_all e piece ending xs ls ys ks none all o l (inl p) = knows_same e
 knows_none_or_all e piece ending xs ls ys ks none all o l (inr p) = knows_same e piece ending (xs ++ ys) (ls ++ ks) _ _ (ap (λ (x : List ℕ). xs ++ x) p.0) (ap (λ (x : List ℕ). ls ++ x) p.1) all
 
 -- and the three of what was in the buffers and what waited
-knows_in_buffers : (e f g : EngineState) (buffers : BufferedBytes) (piece : List ℕ) (ending : SourceEnding) (xs ls front : List ℕ) {rest : List ℕ} → front ++ rest ≡ piece → Knows e front Broken xs ls → IsPromptAs e f
+knows_in_buffers : (e f g : EngineState) (buffers : BufferedBytes) (piece : List ℕ) (ending : SourceEnding) (xs ls front rest : List ℕ) → front ++ rest ≡ piece → Knows e front Broken xs ls → IsPromptAs e f
     → ((more : List ℕ) (at : SourceEnding) → streams_left e at (front ++ more) ≡ behind_bytes (xs ++ buffers.output) (ls ++ buffers.messages) (streams_left f at more))
     → Knows e piece ending (xs ++ (buffers.output ++ g.output)) (ls ++ (buffers.messages ++ g.messages))
     → (o l : List ℕ) → BuffersOrAll buffers g o l → Knows e piece ending (xs ++ o) (ls ++ l)
-knows_in_buffers e f g buffers piece ending xs ls front parts none prompt law all o l (inl p) =
-    knows_none_or_all e piece ending xs ls buffers.output buffers.messages (knows_of_front e piece front ending _ _ parts none) (knows_of_front e piece front ending _ _ parts (knows_here e f front _ _ prompt law)) o l p
-knows_in_buffers e f g buffers piece ending xs ls front parts none prompt law all o l (inr p) = knows_same e piece ending _ _ _ _ (ap (λ (x : List ℕ). xs ++ x) p.0) (ap (λ (x : List ℕ). ls ++ x) p.1) all
+knows_in_buffers e f g buffers piece ending xs ls front rest parts none prompt law all o l (inl p) =
+    knows_none_or_all e piece ending xs ls buffers.output buffers.messages (knows_of_front e piece front rest ending _ _ parts none) (knows_of_front e piece front rest ending _ _ parts (knows_here e f front _ _ prompt law)) o l p
+knows_in_buffers e f g buffers piece ending xs ls front rest parts none prompt law all o l (inr p) = knows_same e piece ending _ _ _ _ (ap (λ (x : List ℕ). xs ++ x) p.0) (ap (λ (x : List ℕ). ls ++ x) p.1) all
 
 module _ {A B : Type 0} (wrote : A → Option (List ℕ)) (went : A → Calls) (reported : B → Option (List ℕ)) (went_too : B → Calls) where
   -- what waited was gathered, and nothing was sent
@@ -112,7 +112,7 @@ module _ {A B : Type 0} (wrote : A → Option (List ℕ)) (went : A → Calls) (
       → AreBuffered (used wrote went p q) (used reported went_too n r) buffers g next h → IsFedBut (used wrote went o q) (used reported went_too m r) e h next (xs ++ ys)
   fed_but_more o p q m n r e f g h buffers next xs ys a p_is law b =
       let forgot : EngineState = record g { output = []; messages = [] } in
-      let prompt : IsPromptAs e forgot = prompt_on e f g a.prompt p_is in
+      let prompt : IsPromptAs e forgot = (let p = prompt_on e f g a.prompt p_is in record { format = p.format; prompt = p.prompt }) in
       let all : (rest : List ℕ) (ending : SourceEnding) → streams_left e ending ((xs ++ ys) ++ rest) ≡ behind_bytes ((a.output ++ b.output) ++ next.output) ((a.lines ++ b.lines) ++ next.messages) (streams_left forgot ending rest) =
       λ rest ending.
             let s = streams_left g ending rest in
@@ -164,7 +164,7 @@ module _ {A B : Type 0} (wrote : A → Option (List ℕ)) (went : A → Calls) (
       subst (λ (y : Streams). AreCut (Knows e piece ending) (used wrote went o q) (used reported went_too m r) y.output y.messages) (sym same)
       (cut_longer wrote went reported went_too (Knows e piece ending) (Knows e piece ending) o q m r (a.output ++ (buffers.output ++ g.output)) (a.lines ++ (buffers.messages ++ g.messages)) t.output t.messages (λ x l point. point)
       (cut_after wrote went reported went_too (BuffersOrAll buffers g) (Knows e piece ending) o p q m n r a.output a.lines (buffers.output ++ g.output) (buffers.messages ++ g.messages)
-      (knows_in_buffers e f g buffers piece ending a.output a.lines front (take-append-drop count piece) a.known a.prompt a.law all) a.sent c))
+      (knows_in_buffers e f g buffers piece ending a.output a.lines front behind (take-append-drop count piece) a.known a.prompt a.law all) a.sent c))
 
   all_of : (count : ℕ) (piece : List ℕ) → length piece ≤ count → take count piece ≡ piece
   all_of count piece h = take_all count piece h
@@ -191,8 +191,8 @@ module _ {A B : Type 0} (wrote : A → Option (List ℕ)) (went : A → Calls) (
       ap (streams_left e ending) (sym (append-nil (take count piece) ∙ all_of count piece h)) ∙ a.law [] ending in
       let front : List ℕ = take count piece in
       let all : Knows e piece ending (a.output ++ buffers.output) (a.lines ++ buffers.messages) =
-      knows_of_front e piece front ending _ _ (take-append-drop count piece) (knows_here e f front _ _ a.prompt a.law) in
+      knows_of_front e piece front (drop count piece) ending _ _ (take-append-drop count piece) (knows_here e f front _ _ a.prompt a.law) in
       subst (λ (y : Streams). AreCut (Knows e piece ending) (used wrote went o q) (used reported went_too m r) y.output y.messages) (sym same)
       (cut_longer wrote went reported went_too (Knows e piece ending) (Knows e piece ending) o q m r (a.output ++ buffers.output) (a.lines ++ buffers.messages) t.output t.messages (λ x l point. point)
       (cut_after wrote went reported went_too (NoneOrAll buffers.output buffers.messages) (Knows e piece ending) o p q m n r a.output a.lines buffers.output buffers.messages
-      (knows_none_or_all e piece ending a.output a.lines buffers.output buffers.messages (knows_of_front e piece front ending _ _ (take-append-drop count piece) a.known) all) a.sent c))
+      (knows_none_or_all e piece ending a.output a.lines buffers.output buffers.messages (knows_of_front e piece front (drop count piece) ending _ _ (take-append-drop count piece) a.known) all) a.sent c))

@@ -1,8 +1,9 @@
 -- What an engine writes of pieces of an input, and sinks take.
-use Rattle.std.proofs.Common.{◌≡◌, ℕ, ◌+◌, ◌-◌, ◌<◌, ◌≤◌, List, [], ◌++◌, length, take, drop, take_all, length-append, append-nil, length-drop, append_assoc, Option, ◌⊎◌, inl, inr, refl, sym, ap, ◌∙◌, subst, arith}
+use Rattle.std.proofs.Common.{◌≡◌, ℕ, ◌+◌, ◌-◌, ◌<◌, ◌≤◌, List, [], ◌++◌, length, take, drop, take_all, length-append, append-nil, length-drop, append_assoc, Option, Result, Ok, Err, ◌⊎◌, inl, inr, refl, sym, ap, ◌∙◌, subst, arith}
 use Rattle.std.proofs.Math.Seq.{take-append-add}
 use Rattle.std.proofs.lemmas.List.{take-append-le}
 use Rattle.std.proofs.KnownBytes.{Appends-nil, Appends-trans, Consumes-nil, Consumes-trans, Consumes-kept}
+use Rattle.std.specs.Result.{OnErr}
 use Rattle.std.specs.Io.KnownBytes.{Appends, Consumes, Keeps}
 use Rattle.gabc_places.specs.Calls.{Calls, GoesOn, FailsOnce}
 use Rattle.gabc_places.proofs.CallsInTime.{goes_on_here, goes_on_behind, fails_behind}
@@ -14,6 +15,11 @@ use Rattle.gregorio.specs.Run.{IsPointOf, used}
 use Rattle.gregorio.specs.witness.Engine.{EngineState, streams_left}
 use Rattle.gregorio.specs.Streams.{Streams, behind_bytes}
 use Rattle.gregorio.specs.machine.Compile.{AreSent, AreCut, IsPromptAs, Knows, NoneOrAll, StreamsAreCut, IsFed, IsFedFrom, IsFedAll, IsFedInPart}
+
+-- what holds whatever is answered
+pub on_err_any : {A B C : Type 0} (r : Result A B) → C → OnErr r C
+on_err_any (Ok x) h = tt
+on_err_any (Err e) h = h
 
 -- bytes behind bytes
 pub behind_twice : (xs ls ys ks : List ℕ) (s : Streams) → behind_bytes xs ls (behind_bytes ys ks s) ≡ behind_bytes (xs ++ ys) (ls ++ ks) s

@@ -165,6 +165,7 @@ module _ {A B C : Type 0} (wrote : A → Option (List ℕ)) (went : A → Calls)
   -- a run that a sink's failure cut while its source was read
   runs_short : (s t : C) (o p : A) (m n : B) (e : EngineState) → SaysOutcomes job limits e → IsFedInPart limits.input (used left reads_went s t) (used wrote went o p) (used emitted went_too m n) e
       → SinkCut job limits (used left reads_went s t) (used wrote went o p) (used emitted went_too m n)
+  unfolding is_known
   runs_short s t o p m n e all a =
       let c = subst (λ (y : Streams). AreCut (Knows e a.bytes Broken) (used wrote went o p) (used emitted went_too m n) y.output y.messages) (all.all a.bytes Broken) a.cut in
       record {
@@ -184,6 +185,7 @@ module _ {A B C : Type 0} (wrote : A → Option (List ℕ)) (went : A → Calls)
       → IsFedAll limits.input (used left reads_went s t) (used wrote went o p) (used emitted went_too m n) e f ending → streams_left f ending [] ≡ with_waiting g (ended_with status)
       → AreCut (NoneOrAll g.output g.messages) (used wrote went p q) (used emitted went_too n r) g.output g.messages
       → SinkCut job limits (used left reads_went s t) (used wrote went o q) (used emitted went_too m r)
+  unfolding is_known
   runs_cut s t o p q m n r e f g ending status all a last cut =
       let longer : StreamsAreCut (used wrote went p q) (used emitted went_too n r) f ending [] =
       subst (λ (y : Streams). AreCut (Knows f [] ending) (used wrote went p q) (used emitted went_too n r) y.output y.messages) (sym last)

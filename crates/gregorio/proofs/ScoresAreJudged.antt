@@ -72,11 +72,14 @@ module _ (law : (lines macros : ℕ) (at : Place) (text : List ℕ) (spans : Spa
   read_alike : (limits other : Limits) (f : ScoreFields) → length (chars f.held) ≤ length f.held → LetsTexts f other → other.input ≡ limits.input → IsScoreRead limits f → IsScoreRead other f
   read_alike limits other f few lets input r = record { held = λ some. held_alike limits other f few lets input (r.held some); kept = kept_alike limits other f lets r.kept }
 
-  pub score_alike : (limits small : Limits) (f : ScoreFields) → IsText f.held → IsEnoughFor f limits small → IsScoreRead small f ↔ IsScoreRead limits f
+  score_alike : (limits small : Limits) (f : ScoreFields) → IsText f.held → IsEnoughFor f limits small → IsScoreRead small f ↔ IsScoreRead limits f
   score_alike limits small f is (inl same) = subst (λ (l : Limits). IsScoreRead l f ↔ IsScoreRead limits f) (sym same) ((λ r. r), (λ r. r))
   score_alike limits small f is (inr e) =
       let few = fewer_characters f.held is in
       (read_alike small limits f few e.own (sym e.input), read_alike limits small f few e.others e.input)
+
+  pub of_fields_alike : (s : StateFields) (limits small : Limits) (f : ScoreFields) → AreStateFields s → s.phase ≡ InScore f → IsEnoughFor f limits small → IsScoreRead small f ↔ IsScoreRead limits f
+  of_fields_alike s limits small f fields is = score_alike limits small f (subst (ArePhaseFields s) is fields.phase).held.is_text
 
 -- ---- the fields with these limits
 

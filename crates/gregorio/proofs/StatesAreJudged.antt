@@ -20,6 +20,10 @@ module _ (s : StateFields) (own : Limits) (tells : TellsLimits s own) (fields : 
   pub judged : (b : Bool) → IsTrue b ↔ IsPhaseRead own s phase → IsTrue b ↔ AreOfState s
   judged b both = (λ yes. read_so (both.0 yes), λ h. both.1 (subst (IsPhaseRead own s) is (subst (λ (l : Limits). IsPhaseRead l s s.phase) (told_once s h.limits own h.limits_are tells) h.read)))
 
+  pub all_judged : {E : Type 0} (r : Result Bool E) → IfOk r (λ b. IsTrue b ↔ IsPhaseRead own s phase) → IfOk r (λ b. IsTrue b ↔ AreOfState s)
+  all_judged (Ok b) both = judged b both
+  all_judged (Err e) both = tt
+
   -- under the limits of a job whose state it is
   module _ (limits : Limits) (told : TellsLimits s limits) where
     pub same : own ≡ limits

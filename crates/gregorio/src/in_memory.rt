@@ -3,9 +3,9 @@
 ghost use Rattle.std.specs.Prelude.{◌≡◌, List, [], ◌++◌, ℕ, false};
 ghost use Rattle.gregorio.specs.declared.source_ending.SourceEnding.{SourceEnding as EndOfSource};
 ghost use Rattle.gregorio.specs.declared.source_ending.SourceEnding.TheVariants.{Whole};
-ghost use Rattle.gregorio.specs.Engine.{NothingWaits, StillRuns};
+ghost use Rattle.gregorio.specs.Engine.{NothingWaits, StillRuns, is_running};
 ghost use Rattle.gregorio.specs.Streams.{ended_with};
-ghost use Rattle.gregorio.specs.witness.Engine.{is_running, streams_left};
+ghost use Rattle.gregorio.specs.witness.Engine.{streams_left};
 ghost use Rattle.gregorio.specs.machine.InMemory.{TakeTheSame};
 
 use crate::engine::Engine;

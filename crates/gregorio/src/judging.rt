@@ -98,8 +98,8 @@ fn is_score_read(
             drop(score);
             Ok(true)
         }
-        Err(StateFault::K0) => Err(StateFault::K0),
-        Err(_) => Ok(false),
+        Err(StateFault::K1) => Ok(false),
+        Err(StateFault::K0 | StateFault::K2) => Err(StateFault::K0),
     }
 }
 

@@ -54,10 +54,17 @@ none_at_end limits over = refl
 
 -- ---- the book
 
+-- the book does not depend on how names are hashed
+any_hasher : (limits : Limits) (progress : HeadProgress) (book : List (List ℕ × List ℕ)) (hasher another : DefaultHasher) (items : List (Result Char Fault))
+    → (stage_past (record { limits = limits; progress = progress; book = book; hasher = hasher }) items).book ≡ (stage_past (record { limits = limits; progress = progress; book = book; hasher = another }) items).book
+any_hasher limits progress book hasher another [] = refl
+any_hasher limits progress book hasher another (x ∷ items) =
+    let after = progress_after limits progress x in any_hasher limits after (book_at after book) hasher another items
+
 -- behind the line `%%` the book is the one that was read, whatever was before
 one_book : (limits : Limits) (hasher another : DefaultHasher) (progress : HeadProgress) (old other : List (List ℕ × List ℕ)) (items : List (Result Char Fault)) → IsBehind progress
     → (stage_past (record { limits = limits; progress = progress; book = book_at progress old; hasher = hasher }) items).book ≡ (stage_past (record { limits = limits; progress = progress; book = book_at progress other; hasher = another }) items).book
-one_book limits hasher another (behind book) old other items h = refl
+one_book limits hasher another (behind book) old other items h = any_hasher limits (behind book) book hasher another items
 one_book limits hasher another (reading t) old other items h = absurd h
 one_book limits hasher another over old other items h = absurd h
 

@@ -1,7 +1,8 @@
 use Rattle.std.proofs.Common.{List, [], ℕ, append-nil, ap, ◌∙◌, subst}
 use Rattle.gregorio.specs.declared.source_ending.SourceEnding.TheVariants.{Whole}
 use Rattle.gregorio.specs.machine.InMemory.{TakeTheSame}
-use Rattle.gregorio.specs.witness.Engine.{EngineState, is_running, streams_left}
+use Rattle.gregorio.specs.Engine.{is_running}
+use Rattle.gregorio.specs.witness.Engine.{EngineState, streams_left}
 use Rattle.gregorio.proofs.InputsArePut.{last_taken, runs_where_taken}
 use Rattle.gregorio.proofs.PiecesAreSent.{nothing_waits_behind}
 use Rattle.gregorio.proofs.engine.Engine.run_over.Goals as goal
