@@ -295,7 +295,7 @@ abbrev StopsAt : Bool → List Char → List Char → Type 0
 StopsAt split back [] = Unit {0}
 StopsAt split back (x ∷ rest) = is_end split (point back x) ≡ true
 
--- The characters xs behind those, up to the mark that ends the snippet, where that was found before.
+-- The characters xs after those, up to the mark that ends the snippet, where that was found before.
 record Split (split : Bool) (macros : ℕ) (back xs : List Char) (before : List Finding) : Type 0 where
   after : List Char
   rest : List Char
