@@ -20,7 +20,7 @@ use Rattle.gabc_nabc.specs.Events.{is_character, is_end, characters_behind}
 abbrev pub IsKeptOf : List ℕ → List ℕ → Type 0
 IsKeptOf t kept = Keeps nabc [] (characters_behind [] t) kept
 
--- The letter c ends a code that the table of names lacks. A code may begin behind a snippet, and behind the `!` that joins glyphs.
+-- The letter c ends a code that the table of names lacks. A code may begin after a snippet, and after the `!` that joins glyphs.
 pub record EndsUnknownCode (kept : List ℕ) (c : ℕ) : Type 0 where
   pub before : List ℕ
   pub first : ℕ
@@ -35,16 +35,16 @@ IsFound kept c E3 = ¬ IsViable nabc (kept ++ c ∷ [])
 IsFound kept c W7 = IsViable nabc (kept ++ c ∷ []) × EndsUnknownCode kept c
 IsFound kept c _ = ⊥
 
--- the finding is made at the character behind the text
-abbrev pub IsFoundBehind : List ℕ → Char → Finding → Type 0
-IsFoundBehind t x f = (f.place ≡ x.place) × (is_character t x.c ≡ true) × ((kept : List ℕ) × IsKeptOf t kept × IsFound kept x.c f.code)
+-- the finding is made at the character after the text
+abbrev pub IsFoundAfter : List ℕ → Char → Finding → Type 0
+IsFoundAfter t x f = (f.place ≡ x.place) × (is_character t x.c ≡ true) × ((kept : List ℕ) × IsKeptOf t kept × IsFound kept x.c f.code)
 
--- these are found at the characters behind the text, in order
+-- these are found at the characters after the text, in order
 abbrev pub AreFound : List ℕ → List Char → List Finding → Type 0
 AreFound t [] fs = fs ≡ []
-AreFound t (x ∷ xs) fs = (here later : List Finding) × (fs ≡ here ++ later) × AreThoseFound (IsFoundBehind t x) here × AreFound (t ++ x.c ∷ []) xs later
+AreFound t (x ∷ xs) fs = (here later : List Finding) × (fs ≡ here ++ later) × AreThoseFound (IsFoundAfter t x) here × AreFound (t ++ x.c ∷ []) xs later
 
--- The snippet ends at the mark c behind its text, of which that is kept and found. An unfinished end is left out, and found at the mark.
+-- The snippet ends at the mark c after its text, of which that is kept and found. An unfinished end is left out, and found at the mark.
 pub record IsEnded (at : Place) (front kept : List ℕ) (found : List Finding) (c : ℕ) (r : SnippetRead) : Type 0 where
   pub mark : is_end front c ≡ true
   pub whole : List ℕ
@@ -65,7 +65,7 @@ pub record IsNabcRead (at : Place) (t : List ℕ) (r : SnippetRead) : Type 0 whe
   pub front : List ℕ
   pub rest : List ℕ
   pub cut : t ≡ front ++ rest
-  pub unended : (before behind : List ℕ) (c : ℕ) → front ≡ before ++ c ∷ behind → is_end before c ≡ false
+  pub unended : (before after : List ℕ) (c : ℕ) → front ≡ before ++ c ∷ after → is_end before c ≡ false
   pub kept : List ℕ
   pub keeps : IsKeptOf front kept
   pub found : List Finding

@@ -64,7 +64,7 @@ IsKeptWith (m ∷ back) t = (m.1 ≡ false) × ((kept : List ℕ) × IsKeptOf ba
 abbrev pub EndsItem : List Marked → ItemText → Type 0
 EndsItem back i = (t : List ℕ) × IsKeptWith back t × ((items : List ItemText) × IsReading gabc (items ++ i ∷ []) t)
 
--- an `@[` is open: an item of theirs, with no `]` behind it that is one
+-- an `@[` is open: an item of theirs, with no `]` after it that is one
 abbrev pub IsFused : List Marked → Type 0
 IsFused [] = ⊥
 IsFused (m ∷ back) = EndsItem (m ∷ back) (Fusion, codes "@[") ⊎ ((¬ EndsItem (m ∷ back) (Fusion, codes "]")) × IsFused back)
@@ -81,7 +81,7 @@ IsOpener (m ∷ back) place = (IsKeptOutside (m ∷ back) × (place ≡ m.0.plac
 
 -- ---- findings
 
--- the finding is made at the character m behind those
+-- the finding is made at the character m after those
 abbrev pub IsFound : ℕ → Marked → List Marked → Code → Place → Type 0
 IsFound macros m back E1 place = (m.1 ≡ false) × ((t : List ℕ) → ¬ IsKeptWith (m ∷ back) t) × (place ≡ m.0.place)
 IsFound macros m back W8 place =
@@ -97,13 +97,13 @@ AreFound macros (m ∷ back) fs = (before here : List Finding) × (fs ≡ before
 
 -- ---- the end
 
--- The character x behind them ends the snippet: a `)` outside raw and in no comment, or if the notes are split a `|`.
+-- The character x after them ends the snippet: a `)` outside raw and in no comment, or if the notes are split a `|`.
 pub record IsEnd (split : Bool) (back : List Marked) (x : Char) : Type 0 where
   pub mark : (x.c ≡ 41) ⊎ ((split ≡ true) × (x.c ≡ 124))
   pub no_comment : ¬ IsInComment ((x, false) ∷ back)
   pub no_raw : ¬ IsInRaw back
 
--- The snippet ends at the mark x behind those. An unfinished end is left out and found at the mark, and so is an `@[` that is open.
+-- The snippet ends at the mark x after those. An unfinished end is left out and found at the mark, and so is an `@[` that is open.
 pub record IsEnded (split : Bool) (back : List Marked) (kept : List ℕ) (found : List Finding) (x : Char) (r : SnippetRead) : Type 0 where
   pub mark : IsEnd split back x
   pub whole : List ℕ
@@ -131,7 +131,7 @@ pub record IsSnippetRead (at : Place) (split : Bool) (macros : ℕ) (text : List
   pub rest : List Char
   pub cut : placed_characters_from at text ≡ reverse (map (λ (m : Marked). m.0) back) ++ rest
   pub marked : AreMarked back
-  pub unended : (behind before : List Marked) (m : Marked) → back ≡ behind ++ m ∷ before → ¬ IsEnd split before m.0
+  pub unended : (after before : List Marked) (m : Marked) → back ≡ after ++ m ∷ before → ¬ IsEnd split before m.0
   pub kept : List ℕ
   pub keeps : IsKeptOf back kept
   pub found : List Finding

@@ -1,4 +1,4 @@
--- A stage that has ended tells no opener and no comment, and the place at which it stood.
+-- A stage that has ended reports no opener and no comment, and the place at which it stood.
 use Rattle.std.proofs.Common.{◌≡◌, ◌==◌, ◌&&◌, ℕ, Bool, true, false, cond, Option, Some, None, refl, ap, sym, ◌∙◌, subst}
 use Rattle.gabc_text.specs.declared.stage.TextStage.{TextStage}
 use Rattle.gabc_text.specs.declared.token.TokenKind.{TokenKind}

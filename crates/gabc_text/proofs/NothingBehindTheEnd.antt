@@ -1,5 +1,5 @@
 -- Behind the event that ends a text its stage gives nothing.
-use Rattle.std.proofs.Common.{◌≡◌, ◌==◌, ◌&&◌, ◌||◌, ℕ, List, [], ◌∷◌, ◌++◌, Bool, true, false, cond, Option, Some, None, refl, ap, sym, ◌∙◌, append_assoc, append-nil, map}
+use Rattle.std.proofs.Common.{◌≡◌, ◌==◌, ◌&&◌, ◌||◌, ℕ, List, [], ◌∷◌, ◌++◌, Bool, true, false, cond, Option, Some, None, refl, ap, sym, ◌∙◌, append_assoc, append-nil, map, Decides}
 use Rattle.std.specs.List.{list_any}
 use Rattle.std.proofs.lemmas.List.Folds.{list_any-append}
 use Rattle.gabc_places.specs.declared.code.Code.{Code}
@@ -24,7 +24,7 @@ use Rattle.gabc_text.specs.declared.token.TokenKind.{TokenKind}
 use Rattle.gabc_text.specs.declared.token.TokenKind.TheVariants as kind
 use Rattle.gabc_text.specs.declared.token_state.TokenState.{TokenState}
 use Rattle.gabc_text.specs.declared.token_state.TokenState.TheVariants as state
-use Rattle.gabc_text.specs.StageTells.{is_open, opener_of, cut_place}
+use Rattle.gabc_text.specs.StageTells.{is_open, is_comment, opener_of, is_in_comment, cut_place}
 use Rattle.gabc_text.specs.declared.token.TagEffect.{TagEffect}
 use Rattle.gabc_text.specs.declared.token.TagEffect.TheVariants.{Other}
 use Rattle.gabc_text.specs.ExampleTexts.{stands_for}
@@ -37,6 +37,7 @@ use Rattle.gabc_text.specs.witness.EventsLeft.{events_left, lists_ahead, finding
 use Rattle.gabc_text.specs.machine.TextStage.{char_event, events_of_token, events_of_settling, events_of_settling_by, settle_stage, events_of_step, stage_past_char, events_of_reading, events_of_end, end_stage, settled_push_stage, events_of_settled_push, read_stage, push_stage, events_of_push, finish_stage, finish_stage_by, events_of_finish, events_of_finish_by, progress_after, end_by, is_cut_end}
 use Rattle.gabc_text.specs.machine.TextFacts.{facts_after}
 use Rattle.gabc_text.proofs.machine.EventsLeftAreThoseAhead.{rest_by, rest_is}
+use Rattle.gabc_text.proofs.machine.EventsStepByStep.{stepwise}
 
 -- ---- a stage that is done gives nothing
 
@@ -212,3 +213,38 @@ opener_cuts t r =
     at_state (state.Tag name) facts progress = ended kind.OpenTag facts progress
     at_state (state.Raw raw m) facts progress = ended kind.OpenTag facts progress
     at_state state.Translation facts progress = ended kind.OpenTranslation facts progress
+
+-- ---- where a comment is open
+
+none_last : (events : List TextEvent) → EndsLast events → events ≡ [] → ⊥
+none_last events l e = go l.before (sym l.events_are ∙ e)
+  where
+    go : (before : List TextEvent) → before ++ l.last ∷ [] ≡ [] → ⊥
+    go [] f = cc
+    go (x ∷ before) f = cc
+
+-- a stage that goes on
+abbrev running : TokenState → TextFacts → Progress → TextStage
+running s facts progress = record { state = s; facts = facts; progress = progress; done = false }
+
+-- at a `(` nothing is emitted in a comment, and elsewhere something is
+silent_at : (s : TokenState) (facts : TextFacts) (progress : Progress) → Decides (is_comment s) (events_of_push (running s facts progress) 40 ≡ [])
+silent_at state.Plain facts progress = (λ e. absurd (cc), λ e. absurd (none_last (events_of_end facts progress text_ending.Notes) (end_last facts progress text_ending.Notes) e))
+silent_at state.Dollar facts progress = (λ e. absurd (cc), λ e. absurd (cc))
+silent_at state.Comment facts progress = (λ e. refl, λ e. refl)
+silent_at (state.Tag name) facts progress = (λ e. absurd (cc), λ e. absurd (cc))
+silent_at (state.Raw raw m) facts progress = (λ e. absurd (cc), λ e. absurd (cc))
+silent_at state.Translation facts progress = (λ e. absurd (cc), λ e. absurd (cc))
+
+pub comment_silences : (t : TextStage) → t.done ≡ false → Decides (is_in_comment t) ((later : List (List TextEvent)) × (events_left t (40 ∷ []) ≡ [] ∷ later))
+comment_silences t r =
+    let same : t ≡ running t.state t.facts t.progress = ap (λ (b : Bool). record t { done = b }) r in
+    let d = silent_at t.state t.facts t.progress in
+    let push : events_of_push t 40 ≡ events_of_push (running t.state t.facts t.progress) 40 = ap (λ (u : TextStage). events_of_push u 40) same in
+    let all : events_left t (40 ∷ []) ≡ events_of_push t 40 ∷ stepwise (push_stage t 40) [] = rest_is t (40 ∷ []) in (
+      λ e. (stepwise (push_stage t 40) [], all ∙ ap (λ (l : List TextEvent). l ∷ stepwise (push_stage t 40) []) (push ∙ d.0 e)),
+      λ h. d.1 (sym push ∙ first_is (events_of_push t 40) (stepwise (push_stage t 40) []) h.0 (sym all ∙ h.1)),
+    )
+  where
+    first_is : (a : List TextEvent) (b c : List (List TextEvent)) → a ∷ b ≡ [] ∷ c → a ≡ []
+    first_is a b c e = cc

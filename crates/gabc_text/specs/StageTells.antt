@@ -37,7 +37,7 @@ cut_place [] = None
 cut_place (Ended (Cut place) ∷ events) = Some place
 cut_place (event ∷ events) = cut_place events
 
--- What a stage tells that has ended: no opener, no comment, and the place at which it stood.
+-- What a stage that has ended reports: no opener, no comment, and the place at which it stood.
 pub record EndedInPlace (before after : TextStage) : Type 0 where
   pub opener : opener_of after ≡ None
   pub comment : is_in_comment after ≡ false

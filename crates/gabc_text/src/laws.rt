@@ -1,6 +1,6 @@
 //! Laws of the definitions that contracts speak of. Each function is there for its clauses: all but two do nothing, and these drive a fresh stage.
 
-ghost use Rattle.std.specs.Prelude.{◌≡◌, ℕ, ◌+◌, ◌<◌, List, [], ◌∷◌, ◌++◌, length, take, drop, true, false, cond, codes, encode_utf8_all};
+ghost use Rattle.std.specs.Prelude.{◌≡◌, ℕ, ◌+◌, ◌<◌, List, [], ◌∷◌, ◌++◌, length, take, drop, true, false, cond, codes, Decides, encode_utf8_all};
 ghost use Rattle.gabc_places.specs.StageLaw.{concat_of};
 ghost use Rattle.std.specs.List.{All};
 ghost use Rattle.gabc_places.specs.Findings.{AreInOrder, LieBetween};
@@ -32,7 +32,7 @@ pub use crate::tags::tag_names_are_these;
 use crate::text_event::{TextEnd, TextEvent};
 use gabc_places::{Char, Place, Room, Stage, drive};
 
-/// The opener that a stage tells is the place at which its text would be cut if it ended here: of a stage that stands behind the text `t`, the
+/// The opener that a stage reports is the place at which its text would be cut if it ended here: of a stage that has read the text `t`, the
 /// place at which the definition says that `t` is cut, so that of its last token, if that is a tag, a raw part or a translation without an end.
 pub fn an_opener_is_where_a_text_is_cut()
     ensures stage { (s : TextStage) → s.done ≡ false →
@@ -41,6 +41,12 @@ pub fn an_opener_is_where_a_text_is_cut()
         CountsFit at t → s.done ≡ false → length emitted ≡ length t →
         ((more : List ℕ) → events_left (fresh_stage at) (t ++ more) ≡ emitted ++ events_left s more) →
         opener_of s ≡ cut_place (concat_of (drop (length t) (events_by_point at t))) }
+{}
+
+/// A stage reports that a comment is open exactly if a `(` would emit nothing: else it ends the text, or is kept.
+pub fn a_comment_is_where_a_bracket_is_silent()
+    ensures { (s : TextStage) → s.done ≡ false → Decides (is_in_comment s)
+        ((later : List (List TextEvent)) × (events_left s (40 ∷ []) ≡ [] ∷ later)) }
 {}
 
 /// A fresh machine emits what the definition says, where no count of the text reaches its last value, and what it does not

@@ -25,7 +25,7 @@ use Rattle.gabc_notes.specs.declared.stage.NoteEvent.TheVariants.{Kept, Ended}
 use Rattle.gabc_nabc.specs.Table.{nabc}
 use Rattle.gabc_nabc.specs.Names.{is_known}
 use Rattle.gabc_nabc.specs.Events.{is_character, is_end, has_end_behind, has_end, kept_of, begins_code, is_code, last_of, before_last, joins, takes_code, first_behind, first_of, is_missing, bytes_in, end_events, character_events, events_at, nabc_events_behind}
-use Rattle.gabc_nabc.specs.NabcRead.{IsKeptOf, EndsUnknownCode, IsFound, IsFoundBehind, AreFound, IsRead, IsNabcRead}
+use Rattle.gabc_nabc.specs.NabcRead.{IsKeptOf, EndsUnknownCode, IsFound, IsFoundAfter, AreFound, IsRead, IsNabcRead}
 use Rattle.gabc_nabc.specs.SnippetRead.{before_end_behind, before_end, from_end, kept_before, ending_behind, IsComputed}
 use Rattle.gabc_notes.specs.declared.snippet_read.SnippetRead.{SnippetRead}
 use Rattle.gabc_nabc.proofs.grammar.LawsOfEvents.{silent}
@@ -129,9 +129,9 @@ found_only kept c W7 h = inr (refl, h.0, h.1)
 found_only kept c _ h = absurd h
 
 -- what the events at a character tell
-found_here : (t : List ℕ) (x : Char) → has_end t ≡ false → is_end t x.c ≡ false → AreThoseFound (IsFoundBehind t x) (findings_of (events_at t x))
+found_here : (t : List ℕ) (x : Char) → has_end t ≡ false → is_end t x.c ≡ false → AreThoseFound (IsFoundAfter t x) (findings_of (events_at t x))
 found_here t x running no_mark =
-    subst (λ (es : List NoteEvent). AreThoseFound (IsFoundBehind t x) (findings_of es)) (sym same) (at_character (is_character t x.c) refl)
+    subst (λ (es : List NoteEvent). AreThoseFound (IsFoundAfter t x) (findings_of es)) (sym same) (at_character (is_character t x.c) refl)
   where
     same : events_at t x ≡ cond (is_character t x.c) (character_events (kept_of t) x) []
     same =
@@ -145,16 +145,16 @@ found_here t x running no_mark =
     ]
 
     at_code : is_character t x.c ≡ true → is_viable nabc (kept_of t ++ x.c ∷ []) ≡ true → (b : Bool) → is_missing (first_of (kept_of t)) x.c ≡ b
-        → AreThoseFound (IsFoundBehind t x) (findings_of (Kept x ∷ cond b (finding_event x.place W7 ∷ []) []))
+        → AreThoseFound (IsFoundAfter t x) (findings_of (Kept x ∷ cond b (finding_event x.place W7 ∷ []) []))
     at_code e f true g = inl (record { place = x.place; code = W7 }, (refl, e, (kept_of t, kept_keeps t, (viable_from nabc refl (kept_of t ++ x.c ∷ []) f, missing_to (kept_of t) x.c g))), refl)
     at_code e f false g = inr ((λ found h. named f g found.code h.2.0 h.2.1 h.2.2), refl)
 
     at_viable : is_character t x.c ≡ true → (b : Bool) → is_viable nabc (kept_of t ++ x.c ∷ []) ≡ b
-        → AreThoseFound (IsFoundBehind t x) (findings_of (cond b (Kept x ∷ cond (is_missing (first_of (kept_of t)) x.c) (finding_event x.place W7 ∷ []) []) (finding_event x.place E3 ∷ [])))
+        → AreThoseFound (IsFoundAfter t x) (findings_of (cond b (Kept x ∷ cond (is_missing (first_of (kept_of t)) x.c) (finding_event x.place W7 ∷ []) []) (finding_event x.place E3 ∷ [])))
     at_viable e true f = at_code e f (is_missing (first_of (kept_of t)) x.c) refl
     at_viable e false f = inl (record { place = x.place; code = E3 }, (refl, e, (kept_of t, kept_keeps t, not_viable nabc refl (kept_of t ++ x.c ∷ []) f)), refl)
 
-    at_character : (b : Bool) → is_character t x.c ≡ b → AreThoseFound (IsFoundBehind t x) (findings_of (cond b (character_events (kept_of t) x) []))
+    at_character : (b : Bool) → is_character t x.c ≡ b → AreThoseFound (IsFoundAfter t x) (findings_of (cond b (character_events (kept_of t) x) []))
     at_character true e = at_viable e (is_viable nabc (kept_of t ++ x.c ∷ [])) refl
     at_character false e = inr ((λ found h. let f = h.1 in absurd (cc)), refl)
 
@@ -169,7 +169,7 @@ unfinished_at k x = go (is_snippet nabc k) refl
 
 -- ---- nothing else is so found
 
-one_code : (t : List ℕ) (x : Char) (f g : Finding) → IsFoundBehind t x f → IsFoundBehind t x g → f ≡ g
+one_code : (t : List ℕ) (x : Char) (f g : Finding) → IsFoundAfter t x f → IsFoundAfter t x g → f ≡ g
 one_code t x f g h k = same_finding f g (h.0 ∙ sym k.0) (go (found_only h.2.0 x.c f.code h.2.2) (found_only k.2.0 x.c g.code k.2.2))
   where
     same : h.2.0 ≡ k.2.0
@@ -185,7 +185,7 @@ one_code t x f g h k = same_finding f g (h.0 ∙ sym k.0) (go (found_only h.2.0 
 one_found : (t : List ℕ) (xs : List Char) (fs gs : List Finding) → AreFound t xs fs → AreFound t xs gs → fs ≡ gs
 one_found t [] fs gs h k = h ∙ sym k
 one_found t (x ∷ xs) fs gs (a, b, e, here, later) (c, d, f, there, more) =
-    let p = found_once (IsFoundBehind t x) (one_code t x) a c here there in
+    let p = found_once (IsFoundAfter t x) (one_code t x) a c here there in
     let q = one_found (t ++ x.c ∷ []) xs b d later more in
     e ∙ (ap (λ (u : List Finding). u ++ b) p ∙ (ap (λ (u : List Finding). c ++ u) q ∙ sym f))
 
@@ -201,7 +201,7 @@ StopsAt : List ℕ → List ℕ → Type 0
 StopsAt t [] = Unit {0}
 StopsAt t (c ∷ rest) = is_end t c ≡ true
 
--- The characters cs behind the text t, up to the mark that ends the snippet.
+-- The characters cs after the text t, up to the mark that ends the snippet.
 record Split (t cs : List ℕ) (at : Place) : Type 0 where
   before : List ℕ
   rest : List ℕ
