@@ -67,8 +67,8 @@ def compile(score: str | bytes | bytearray | memoryview, format: str | Format = 
     """Compiles `score` under the default limits.
 
     `format` is `"gabc"` for canonical GABC or `"dump"`. Warnings are told if `all_warnings` are wanted. A score that is a `str` is read as
-    its UTF-8. Raises `TypeError` for a score that is neither `str` nor bytes and for `all_warnings` that are no `bool`, `ValueError` for another format, and `MemoryError` where there
-    is not enough memory. While it reads, other threads run; they must not change a `bytearray` that is read.
+    its UTF-8. Raises `TypeError` for a score that is neither `str` nor bytes and for `all_warnings` that are no `bool`, `ValueError` for another
+    format, and `MemoryError` where there is not enough memory. While it reads, other threads run; they must not change a `bytearray` that is read.
 
     >>> compile("%%\\nA(f)", all_warnings=False).canonical
     '%%\\nA(f)\\n'

@@ -19,6 +19,13 @@ class Calls(unittest.TestCase):
             with self.assertRaisesRegex(TypeError, "a score is a str or bytes, not "):
                 check(wrong)  # type: ignore[arg-type]
 
+    def test_warnings_that_are_no_truth(self) -> None:
+        for wrong in (2, None, "yes"):
+            with self.assertRaisesRegex(TypeError, "all_warnings is True or False, not "):
+                compile("%%", all_warnings=wrong)  # type: ignore[arg-type]
+            with self.assertRaisesRegex(TypeError, "all_warnings is True or False, not "):
+                check("%%", all_warnings=wrong)  # type: ignore[arg-type]
+
     def test_kinds_of_bytes(self) -> None:
         scores: list[str | bytes | bytearray | memoryview] = ["%%\n(c4f)", b"%%\n(c4f)", bytearray(b"%%\n(c4f)"), memoryview(b"%%\n(c4f)")]
         for score in scores:

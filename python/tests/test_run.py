@@ -165,6 +165,14 @@ class States(unittest.TestCase):
             with self.assertRaisesRegex(ValueError, "the state is one of another format, of other warnings or of other limits"):
                 Run.restore(state, format, all_warnings=all_warnings)
 
+    def test_what_is_no_state_and_no_truth(self) -> None:
+        for wrong in (5, None, "GSAV", [0]):
+            with self.assertRaisesRegex(TypeError, "a state is bytes, not "):
+                Run.restore(wrong)  # type: ignore[arg-type]
+        for wrong in (2, None, "yes"):
+            with self.assertRaisesRegex(TypeError, "all_warnings is True or False, not "):
+                Run(all_warnings=wrong)  # type: ignore[arg-type]
+
     def test_bent_states(self) -> None:
         """Each bent state is refused, or read as another one."""
         run = Run()

@@ -47,6 +47,23 @@ fn other_bytes_are_refused() {
 }
 
 #[test]
+fn a_state_of_larger_limits_is_another() {
+    let mut run = Run::new(Job::default()).unwrap();
+    run.feed(&b"name: a;\n".repeat(100)).unwrap();
+    let least = Limits {
+        header: 64,
+        syllable: 64,
+        ..Limits::default()
+    };
+    let small = Job {
+        limits: least,
+        ..Job::default()
+    };
+    assert!(run.state().len() > 500, "longer than a state under the least limits");
+    assert_eq!(Run::restore(small, run.state()).unwrap_err(), Error::OtherState);
+}
+
+#[test]
 fn limits_out_of_range_are_refused() {
     for limits in [
         Limits {
