@@ -5,8 +5,9 @@ import textwrap
 from collections.abc import Iterable
 
 from gregorio_chant.codes import CODES, shown
+from gregorio_chant.nearest import did_you_mean
 from gregorio_chant.rules import RULES
-from gregorio_chant.selection import UnknownCode
+from gregorio_chant.selection import LISTED, UnknownCode
 
 _WIDTH = 80
 
@@ -19,7 +20,7 @@ def page_of(name: str) -> str:
         return _page(title, it.meaning, it.wrong, it.right)
     if rule is not None:
         return _page(f"{rule.name}: {rule.kind.value}, by check --rules alone", rule.meaning, rule.wrong, rule.right)
-    raise UnknownCode(f"{name} is no code and no rule: gregorio-chant explain --all lists them")
+    raise UnknownCode(f"{name} is no code and no rule: {did_you_mean(name, [*CODES, *RULES], LISTED)}")
 
 
 def _page(title: str, meaning: str, wrong: str, right: str) -> str:

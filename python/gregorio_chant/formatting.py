@@ -3,13 +3,16 @@ from __future__ import annotations
 
 import difflib
 import enum
+from contextlib import nullcontext
 from dataclasses import dataclass
 
 from gregorio_chant import files, library
 from gregorio_chant.losses import Comparison, Loss
+from gregorio_chant.progress import Shown, bar
 from gregorio_chant.reports import counted
 from gregorio_chant.results import Result, Status
 from gregorio_chant.streams import CANNOT_READ_OR_WRITE, STDIN, reason_of, tell, write
+from gregorio_chant.walk import find_scores
 
 NO_MEMORY = 5
 
@@ -23,6 +26,7 @@ class Wanted:
     checks: bool = False
     shows_diff: bool = False
     quiet: bool = False
+    exclude: tuple[str, ...] = ()
 
     @property
     def writes(self) -> bool:
@@ -64,14 +68,16 @@ class _Run:
 
     def __init__(self, wanted: Wanted) -> None:
         self._wanted = wanted
+        self.shown: Shown | None = None
         self.status = 0
         self.outcomes = {it: 0 for it in Outcome}
 
     def end(self, outcome: Outcome, status: int, *lines: str) -> None:
         self.outcomes[outcome] += 1
         self.status = max(self.status, status)
-        for it in lines:
-            tell(it)
+        with self.shown.aside(told=True) if lines and self.shown else nullcontext():
+            for it in lines:
+                tell(it)
 
     def format(self, name: str) -> None:
         """Formats a file, or says why it stays as it is."""
@@ -95,7 +101,9 @@ class _Run:
     def _finish(self, name: str, shown: str, content: files.Content, text: str) -> None:
         data = text.encode()
         if self._wanted.shows_diff:
-            write(_difference(shown, content.data.decode(), text))
+            difference = _difference(shown, content.data.decode(), text)
+            with self.shown.aside(told=False) if difference and self.shown else nullcontext():
+                write(difference)
         elif name == STDIN and self._wanted.writes:
             write(text)
         if data == content.data:
@@ -125,14 +133,18 @@ def _lines(text: str) -> list[str]:
 
 
 def format_files(wanted: Wanted) -> int:
-    """Formats the files, and returns the worst status. Raises `CannotWrite`."""
+    """Formats the files, and returns the worst status. Raises `CannotWrite` and, before anything is read, `Missing`."""
     run = _Run(wanted)
 
     def cannot_read(name: str, error: OSError) -> None:
         run.end(Outcome.FAILED, CANNOT_READ_OR_WRITE, f"cannot read {name}: {reason_of(error)}")
 
-    for name in files.find_scores(wanted.paths, cannot_read):
-        run.format(name)
+    names = find_scores(wanted.paths, cannot_read, wanted.exclude)
+    with bar("formatting", len(names)) as run.shown:
+        for name in names:
+            run.format(name)
+            run.shown.advance()
+    run.shown = None
     if not wanted.quiet:
         told = [f"{number:,} {it.value}" for it, number in run.outcomes.items() if number]
         tell(f"{counted(sum(run.outcomes.values()), 'file')}: {', '.join(told) if told else 'nothing to do'}")

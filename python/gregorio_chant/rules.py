@@ -8,6 +8,7 @@ from dataclasses import dataclass
 from gregorio_chant import library
 from gregorio_chant.dump import Alteration, Attribute, Bar, Custos, Item, Note, NoteSnippet, Score, Space, Syllable
 from gregorio_chant.losses import Comparison
+from gregorio_chant.reports import counted
 from gregorio_chant.results import Format, Kind, Message, Status
 
 _PITCHES = "abcdefghijklmnp"
@@ -95,7 +96,7 @@ def _nabc_without_header(subject: Subject) -> Iterator[Found]:
         return
     behind = _nabc_behind_bars(subject)
     if behind:
-        yield Found(behind[0][0], f"a | stands in the notes of {len(behind):,} syllables, and there is no header nabc-lines: what follows it was left out")
+        yield Found(behind[0][0], f"a | stands in the notes of {counted(len(behind), 'syllable')}, and there is no header nabc-lines: what follows it was left out")
 
 
 def _comment(subject: Subject) -> Iterator[Found]:
@@ -153,7 +154,6 @@ _ALL = (
     ),
 )
 RULES: dict[str, Rule] = {it.name: it for it in _ALL}
-MEANINGS: dict[str, str] = {it.name: it.meaning for it in _ALL}
 
 
 def messages_with_rules(data: bytes) -> tuple[Message, ...]:

@@ -4,10 +4,12 @@ from __future__ import annotations
 from collections.abc import Collection, Iterable
 from dataclasses import dataclass
 
+from gregorio_chant.nearest import did_you_mean
 from gregorio_chant.results import Kind, Message, Status
 
 KINDS = ("E", "W", "F")
 RULES = "rules"
+LISTED = "gregorio-chant explain --all lists them"
 
 
 class UnknownCode(ValueError):
@@ -19,7 +21,7 @@ def codes_in(words: str, known: Collection[str]) -> frozenset[str]:
     found = frozenset(it.strip() for it in words.split(",") if it.strip())
     for word in sorted(found):
         if word not in known and word not in KINDS and word != RULES:
-            raise UnknownCode(f"{word} is no code: gregorio-chant explain --all lists them")
+            raise UnknownCode(f"{word} is no code: {did_you_mean(word, known, LISTED)}")
     return found
 
 

@@ -40,6 +40,10 @@ class Lines:
         end = self._starts[number] - 1 if number < len(self._starts) else len(self.text)
         return self.text[self._starts[number - 1] : end]
 
+    def column_after(self, line: int, column: int) -> int:
+        """Returns the column after the character at this place; the same column where no character stands there."""
+        return column + 1 if column <= len(self.line(line)) else column
+
     def offset(self, line: int, column: int) -> int:
         """Returns how many characters stand before this place."""
         if line > len(self._starts):

@@ -78,16 +78,16 @@ class Bar:
 
     def __init__(self, progress: Progress | None) -> None:
         self._progress = progress
-        self._shares_terminal = is_terminal()
+        self._output_is_terminal = is_terminal()
 
     def advance(self) -> None:
         if self._progress:
             self._progress.advance(self._progress.task_ids[0])
 
     @contextmanager
-    def aside(self) -> Iterator[None]:
-        """Takes the bar away while something is written to the same terminal."""
-        if self._progress and self._shares_terminal:
+    def aside(self, *, told: bool) -> Iterator[None]:
+        """Takes the bar away while something is written to the same terminal: `told` on standard error, or else on standard output."""
+        if self._progress and (told or self._output_is_terminal):
             self._progress.stop()
             yield
             self._progress.start()
@@ -96,13 +96,13 @@ class Bar:
 
 
 @contextmanager
-def bar(files: int) -> Iterator[Bar]:
-    """Gives a bar over so many files, which is gone afterwards."""
+def bar(what: str, files: int) -> Iterator[Bar]:
+    """Gives a bar over so many files with a word for what is done to them. It is gone afterwards."""
     console = Console(stderr=True)
     if files <= _SHORT or not console.is_terminal:
         yield Bar(None)
         return
-    columns = (TextColumn("checking"), BarColumn(), MofNCompleteColumn(), TimeRemainingColumn())
+    columns = (TextColumn(what), BarColumn(), MofNCompleteColumn(), TimeRemainingColumn())
     with Progress(*columns, console=console, transient=True, redirect_stdout=False, redirect_stderr=False) as progress:
-        progress.add_task("checking", total=files)
+        progress.add_task(what, total=files)
         yield Bar(progress)

@@ -125,6 +125,18 @@ class Files(InFolder):
         self.assertEqual(ran.stderr, b"gregorio-chant: cannot write a.gabc: it has other names (hard links); it stays as it was\n")
         self.assertEqual(os.stat("b.gabc").st_ino, os.stat("a.gabc").st_ino)
 
+    def test_read_only(self) -> None:
+        file = self.put("a.gabc", SCORE)
+        file.chmod(0o444)
+        ran = command("format", "--quiet", "a.gabc")
+        self.assertEqual((ran.returncode, file.read_text()), (4, SCORE))
+        self.assertEqual(ran.stderr, b"gregorio-chant: cannot write a.gabc: it is read-only; it stays as it was\n")
+        self.assertEqual(command("format", "--check", "a.gabc").returncode, 1)
+        # A file of somebody else, in a folder that all may write.
+        file.chmod(0o644)
+        ran = command("format", "--quiet", "a.gabc", as_nobody=os.geteuid() == 0)
+        self.assertEqual(ran.returncode, 4 if os.geteuid() == 0 else 0)
+
     def test_canonical_files_are_not_touched(self) -> None:
         file = self.put("a.gabc", CANONICAL)
         before = os.stat(file)

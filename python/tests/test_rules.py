@@ -34,6 +34,7 @@ class Rules(unittest.TestCase):
         messages = messages_with_rules(f"name: a;\n{body}".encode())
         self.assertEqual([(it.line, it.column, it.code) for it in messages if it.code != "outside-staff"], [(3, 9, "E1"), (3, 10, "nabc-without-header")])
         self.assertIn("in the notes of 2 syllables", messages[1].text)
+        self.assertIn("in the notes of 1 syllable,", found("%%\n(c4) Ky(f|pu)", "nabc-without-header")[0][2])
         self.assertGreater(len(compile(f"name: a;\n{body}").messages), 4)
         self.assertEqual(found(f"nabc-lines: 1;\n{body}", "nabc-without-header"), [])
         self.assertEqual(len(found(f"nabc-lines: 0;\n{body}", "nabc-without-header")), 1)
