@@ -126,7 +126,7 @@ class Terminal(InFolder):
         self.assertNotIn("checking", in_terminal("check", "scores/01.gabc")[1])
         status, shown = in_terminal("format", "--check", "scores")
         self.assertRegex(shown, "formatting.*/30")
-        self.assertRegex(shown, r"(?m)^gregorio-chant: scores/20.gabc would stay as it is: more than its blanks would change$")
+        self.assertRegex(shown, r"(?m)\x1b\[2Kgregorio-chant: scores/20.gabc would stay as it is: more than its blanks would change$")
         self.assertEqual(status, 1)
         self.assertNotIn(b"checking", command("check", "scores").stderr)
 
