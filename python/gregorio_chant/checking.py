@@ -9,12 +9,13 @@ from dataclasses import dataclass
 from typing import Protocol
 
 from gregorio_chant import __version__, library
-from gregorio_chant.files import find_scores, read
+from gregorio_chant.files import Content, find_scores, read
 from gregorio_chant.reports import Annotations, Checked, Json, Lines, Reporter, Sarif, summary_of
 from gregorio_chant.results import Kind, Message
-from gregorio_chant.rules import MEANINGS, messages_with_rules
+from gregorio_chant.rules import MEANINGS, messages_with_rules, unsilenced
 from gregorio_chant.selection import Selection
 from gregorio_chant.source import text_of
+from gregorio_chant.staged import StagedFiles
 from gregorio_chant.streams import CANNOT_READ_OR_WRITE, reason_of, tell, write
 
 NO_MEMORY = 5
@@ -36,6 +37,7 @@ class Wanted:
     with_rules: bool = False
     jobs: int = 1
     quiet: bool = False
+    staged: bool = False
 
 
 class _Shown(Protocol):
@@ -55,16 +57,19 @@ class _Nothing:
 
 
 def check_data(data: bytes, with_rules: bool) -> tuple[Message, ...]:
-    """Returns all that is found in a score, by the compiler and, if they are wanted, by the rules."""
+    """Returns all that is found in a score, by the compiler and, if they are wanted, by the rules, and that no comment of it silences."""
     if with_rules:
         return messages_with_rules(data)
-    return library.check(data).messages
+    return unsilenced(data, library.check(data).messages)
 
 
-def check_file(name: str, wanted: Wanted) -> Checked:
+_Read = Callable[[str], Content]
+
+
+def check_file(name: str, wanted: Wanted, read_it: _Read = read) -> Checked:
     """Returns what is found in the file, or why it was not read."""
     try:
-        data = read(name).data
+        data = read_it(name).data
         messages = wanted.selection.of(check_data(data, wanted.with_rules))
     except OSError as error:
         return Checked(name, failure=reason_of(error), status=CANNOT_READ_OR_WRITE)
@@ -75,13 +80,13 @@ def check_file(name: str, wanted: Wanted) -> Checked:
     return Checked(name, messages, text_of(data), status=int(wanted.selection.status_of(messages)))
 
 
-def _all_checked(names: list[str], wanted: Wanted) -> Iterator[Checked]:
+def _all_checked(names: list[str], wanted: Wanted, read_it: _Read) -> Iterator[Checked]:
     if wanted.jobs == 1:
-        yield from (check_file(it, wanted) for it in names)
+        yield from (check_file(it, wanted, read_it) for it in names)
         return
     with ThreadPoolExecutor(wanted.jobs) as pool:
         try:
-            yield from pool.map(lambda it: check_file(it, wanted), names)
+            yield from pool.map(lambda it: check_file(it, wanted, read_it), names)
         except BaseException:
             pool.shutdown(wait=False, cancel_futures=True)
             raise
@@ -135,13 +140,21 @@ class _Count:
         return summary_of(self.files, self.failed, self.kinds)
 
 
+def _named(wanted: Wanted, count: _Count) -> tuple[list[str], _Read]:
+    """Returns the names of what is checked, and what reads each."""
+    if wanted.staged:
+        staged = StagedFiles(wanted.paths)
+        return staged.names, staged.read
+    return find_scores(wanted.paths, lambda name, error: count.fail(name, reason_of(error))), read
+
+
 def check(wanted: Wanted) -> int:
-    """Checks the files, tells what is found, and returns the worst status. Raises `CannotWrite`, and `NoRich` before anything is read."""
+    """Checks the files, tells what is found, and returns the worst status. Raises `CannotWrite`, and `NoRich` or `NoStage` before anything is read."""
     reporter = _reporter_of(wanted.form)
     count = _Count()
-    names = find_scores(wanted.paths, lambda name, error: count.fail(name, reason_of(error)))
+    names, read_it = _named(wanted, count)
     with _bar(len(names)) as shown:
-        for it in _all_checked(names, wanted):
+        for it in _all_checked(names, wanted, read_it):
             text = reporter.add(it)
             with shown.aside() if text or it.failure else nullcontext():
                 count.add(it)

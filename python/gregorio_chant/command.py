@@ -13,6 +13,7 @@ from gregorio_chant.explaining import explain
 from gregorio_chant.losses import REASONS
 from gregorio_chant.rules import RULES
 from gregorio_chant.selection import Selection, UnknownCode, codes_in
+from gregorio_chant.staged import NoStage
 from gregorio_chant.streams import CANNOT_READ_OR_WRITE, NAME, STDIN, CannotWrite, tell, write
 
 REFUSED = 3
@@ -25,6 +26,8 @@ _STATUSES = """exit status: the worst of 0 nothing wrong, 1 errors (format: some
 3 the words were refused, 4 a file could not be read or written, 5 no memory"""
 _SERVES = f"Serves an editor by the language server protocol over standard input and output. {_OUTSIDE}"
 _PATHS = f"a file, a folder for all files *.gabc below it, or {STDIN} for standard input; behind -- each word is a path"
+_STAGED = "look at what is staged in git, and not at the files: at all of it, or at what is staged of the PATHs"
+_JOBS = len(os.sched_getaffinity(0))
 
 
 class _Parser(argparse.ArgumentParser):
@@ -43,26 +46,34 @@ def _add_check(commands: argparse._SubParsersAction[_Parser]) -> None:
         "check", help="tell what is found in files, and write none", epilog=_STATUSES,
         description=f"Tells what is found in files, and writes none. The messages are the compiler's, but for those of rules. {_OUTSIDE}",
     )
-    it.add_argument("paths", nargs="+", metavar="PATH", help=_PATHS)
+    it.add_argument("paths", nargs="*", metavar="PATH", help=_PATHS)
+    it.add_argument("--staged", action="store_true", help=_STAGED)
     it.add_argument("--output-format", choices=checking.FORMS, help="text with the line of the score (as ever), lines for editors, json, github, sarif")
     it.add_argument("--select", metavar="CODES", help="tell these alone: codes between commas, E, W or F for a kind, rules for all rules")
     it.add_argument("--ignore", metavar="CODES", default="", help="do not tell these; a fatal fault is always told")
     it.add_argument("--fail-on", metavar="CODES", default="", help="end with status 1 where one of these is told")
     it.add_argument("--rules", action="store_true", help="try the rules that the compiler leaves open; they stand outside its proof")
-    it.add_argument("--jobs", type=_positive, metavar="N", default=len(os.sched_getaffinity(0)), help="threads (here %(default)s)")
+    it.add_argument("--jobs", type=_positive, metavar="N", default=_JOBS, help="threads (here %(default)s)")
     it.add_argument("--quiet", action="store_true", help="no summary")
 
 
 def _add_format(commands: argparse._SubParsersAction[_Parser]) -> None:
     it = commands.add_parser(
-        "format", help="put the canonical form in place of files, where nothing but their blanks changes", epilog=_STATUSES,
-        description="Writes beside each file and then puts the new one in its place. A file of which more than its blanks would change stays as it is. "
-        f"The canonical form is the compiler's. {_OUTSIDE}",
+        "format", help="write files in canonical spelling, with the lines and comments of their editor", epilog=_STATUSES,
+        description="Writes headers and syllables in canonical spelling, and keeps lines, empty lines and comments. Where something is found, the spelling stays. "
+        "A file is written only where the compiler reads the new text as it read the old one: with the same canonical form, the same dump and the same "
+        f"messages. The new file is written beside the old one, and then takes its place. {_OUTSIDE}",
     )
-    it.add_argument("paths", nargs="+", metavar="PATH", help=f"{_PATHS}, which is written to standard output")
+    it.add_argument("paths", nargs="*", metavar="PATH", help=f"{_PATHS}, which is written to standard output")
     it.add_argument("--check", action="store_true", help="write nothing; status 1 where a file would change")
     it.add_argument("--diff", action="store_true", help="write nothing but what would change, as a diff; status 1 where something would")
-    it.add_argument("--allow", metavar="REASONS", default="", help=f"write all the same where these go, between commas: {', '.join(sorted(REASONS))}")
+    it.add_argument("--staged", action="store_true", help=f"with --check or --diff: {_STAGED}")
+    it.add_argument("--wrap", type=_positive, metavar="N", help="at most N characters on a line, where words begin; no line is made longer")
+    it.add_argument("--canonical", action="store_true", help="write the canonical form, where nothing but blanks changes: a word a line, and no comments")
+    it.add_argument(
+        "--allow", metavar="REASONS", default="", help=f"with --canonical: write all the same where these go, between commas: {', '.join(sorted(REASONS))}"
+    )
+    it.add_argument("--jobs", type=_positive, metavar="N", default=_JOBS, help="processes for many files (here %(default)s)")
     it.add_argument("--quiet", action="store_true", help="no summary")
 
 
@@ -91,13 +102,19 @@ def parser() -> argparse.ArgumentParser:
     return it
 
 
+def _paths(words: argparse.Namespace) -> tuple[str, ...]:
+    if not words.paths and not words.staged:
+        raise UnknownCode("a PATH is needed, or --staged")
+    return tuple(words.paths)
+
+
 def _check(words: argparse.Namespace) -> int:
     known = {*CODES, *RULES}
     selection = Selection(
         None if words.select is None else codes_in(words.select, known), codes_in(words.ignore, known), codes_in(words.fail_on, known)
     )
     return checking.check(
-        checking.Wanted(tuple(words.paths), selection, words.output_format, words.rules, words.jobs, words.quiet)
+        checking.Wanted(_paths(words), selection, words.output_format, words.rules, words.jobs, words.quiet, words.staged)
     )
 
 
@@ -105,7 +122,16 @@ def _format(words: argparse.Namespace) -> int:
     allow = frozenset(it.strip() for it in words.allow.split(",") if it.strip())
     if not allow <= REASONS:
         raise UnknownCode(f"--allow {', '.join(sorted(allow - REASONS))}: nothing goes for this; --help lists the reasons")
-    return formatting.format_files(formatting.Wanted(tuple(words.paths), allow, words.check, words.diff, words.quiet))
+    if words.canonical and words.wrap is not None:
+        raise UnknownCode("--wrap is not for --canonical, which has a word on each line")
+    if allow and not words.canonical:
+        raise UnknownCode("--allow is for --canonical: without it nothing goes")
+    if words.staged and not (words.check or words.diff):
+        raise UnknownCode("--staged writes nothing, so it wants --check or --diff")
+    style = formatting.Style(words.canonical, words.wrap)
+    return formatting.format_files(
+        formatting.Wanted(_paths(words), style, allow, words.check, words.diff, words.staged, words.jobs, words.quiet)
+    )
 
 
 def _explain(words: argparse.Namespace) -> int:
@@ -135,6 +161,9 @@ def main(words: Sequence[str]) -> int:
     except (UnknownCode, checking.NoRich) as error:
         tell(str(error))
         return REFUSED
+    except NoStage as error:
+        tell(f"cannot read what is staged: {error}")
+        return CANNOT_READ_OR_WRITE
     except CannotWrite as error:
         tell(f"cannot write: {error}")
         return CANNOT_READ_OR_WRITE
