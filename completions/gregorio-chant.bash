@@ -3,8 +3,8 @@
 # Prints the options of a sub-command.
 _gregorio_chant_options() {
   case "$1" in
-    check) echo '--exclude --output-format --select --ignore --fail-on --rules --jobs --quiet --help' ;;
-    format) echo '--exclude --check --diff --allow --quiet --help' ;;
+    check) echo '--staged --exclude --output-format --select --ignore --fail-on --rules --jobs --quiet --help' ;;
+    format) echo '--staged --exclude --check --diff --wrap --canonical --allow --jobs --quiet --help' ;;
     explain) echo '--all --help' ;;
     server) echo '--rules --help' ;;
     version) echo '--help' ;;
@@ -33,7 +33,7 @@ _gregorio_chant_scores() {
 _gregorio_chant() {
   local word="${COMP_WORDS[COMP_CWORD]}" before="${COMP_WORDS[COMP_CWORD - 1]}" command="${COMP_WORDS[1]}"
   local codes='E E1 E2 E3 E4 E5 E6 W W1 W2 W3 W4 W5 W6 W7 W8 W9 W10 W11 W12 F F1 F2 F3 F4 F5 F6 F7'
-  local rules='outside-staff bracket-in-attribute nabc-without-header comment asterisk-without-bar'
+  local rules='outside-staff bracket-in-attribute nabc-without-header comment asterisk-without-bar unused-ignore'
   COMPREPLY=()
   if [ "$COMP_CWORD" = 1 ] && [[ $word != -* ]]; then
     mapfile -t COMPREPLY < <(compgen -W 'check format explain server version' -- "$word")
@@ -44,7 +44,7 @@ _gregorio_chant() {
     --select | --ignore | --fail-on) _gregorio_chant_list "$word" "$codes rules $rules" ;;
     --allow) _gregorio_chant_list "$word" 'E1 E2 E3 E4 E5 E6 W2 W3 W4 W5 W9 comments spelling' ;;
     --exclude) mapfile -t COMPREPLY < <(compgen -f -- "$word") ;;
-    --jobs) ;;
+    --jobs | --wrap) ;;
     *)
       if [[ $word == -* ]]; then
         mapfile -t COMPREPLY < <(compgen -W "$(_gregorio_chant_options "$command")" -- "$word")

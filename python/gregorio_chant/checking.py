@@ -9,16 +9,17 @@ from dataclasses import dataclass
 from functools import partial
 
 from gregorio_chant import __version__, library
-from gregorio_chant.files import read
+from gregorio_chant.files import Content, read
 from gregorio_chant.needs import Missing
 from gregorio_chant.processes import by_processes
 from gregorio_chant.progress import bar
 from gregorio_chant.reports import Annotations, Checked, Json, Lines, Reporter, summary_of
 from gregorio_chant.results import Kind, Message
-from gregorio_chant.rules import messages_with_rules
+from gregorio_chant.rules import messages_with_rules, unsilenced
 from gregorio_chant.sarif import Sarif
 from gregorio_chant.selection import Selection
 from gregorio_chant.source import text_of
+from gregorio_chant.staged import StagedFiles
 from gregorio_chant.streams import CANNOT_READ_OR_WRITE, reason_of, tell, write
 from gregorio_chant.walk import find_scores
 
@@ -37,19 +38,23 @@ class Wanted:
     jobs: int = 1
     quiet: bool = False
     exclude: tuple[str, ...] = ()
+    staged: bool = False
 
 
 def check_data(data: bytes, with_rules: bool) -> tuple[Message, ...]:
-    """Returns all that is found in a score, by the compiler and, if they are wanted, by the rules."""
+    """Returns all that is found in a score, by the compiler and, if they are wanted, by the rules, and that no comment of it silences."""
     if with_rules:
         return messages_with_rules(data)
-    return library.check(data).messages
+    return unsilenced(data, library.check(data).messages)
 
 
-def check_file(name: str, wanted: Wanted) -> Checked:
+_Read = Callable[[str], Content]
+
+
+def check_file(name: str, wanted: Wanted, read_it: _Read = read) -> Checked:
     """Returns what is found in the file, or why it was not read."""
     try:
-        data = read(name).data
+        data = read_it(name).data
         messages = wanted.selection.of(check_data(data, wanted.with_rules))
     except OSError as error:
         return Checked(name, failure=reason_of(error), status=CANNOT_READ_OR_WRITE)
@@ -61,10 +66,10 @@ def check_file(name: str, wanted: Wanted) -> Checked:
 
 
 @contextmanager
-def _all_checked(names: list[str], wanted: Wanted) -> Iterator[Iterator[Checked]]:
+def _all_checked(names: list[str], wanted: Wanted, read_it: _Read) -> Iterator[Iterator[Checked]]:
     """Gives what is found in each file, in order: by threads, since the compiler runs beside them; by processes with rules, which are Python."""
-    work = partial(check_file, wanted=wanted)
-    if wanted.with_rules:
+    work = partial(check_file, wanted=wanted, read_it=read_it)
+    if wanted.with_rules and not wanted.staged:
         with by_processes(work, names, wanted.jobs) as all_checked:
             yield all_checked
         return
@@ -115,12 +120,20 @@ class _Count:
         return summary_of(self.files, self.failed, self.kinds)
 
 
+def _named(wanted: Wanted, count: _Count) -> tuple[list[str], _Read]:
+    """Returns the names of what is checked, and what reads each."""
+    if wanted.staged:
+        staged = StagedFiles(wanted.paths)
+        return staged.names, staged.read
+    return find_scores(wanted.paths, lambda name, error: count.fail(name, reason_of(error)), wanted.exclude), read
+
+
 def check(wanted: Wanted) -> int:
-    """Checks the files, reports what is found, and returns the worst status. Raises `CannotWrite`, and `Missing` before anything is read."""
+    """Checks the files, reports what is found, and returns the worst status. Raises `CannotWrite`, and `Missing` or `NoStage` before anything is read."""
     reporter = _reporter_of(wanted.form)
     count = _Count()
-    names = find_scores(wanted.paths, lambda name, error: count.fail(name, reason_of(error)), wanted.exclude)
-    with _all_checked(names, wanted) as all_checked, bar("checking", len(names)) as shown:
+    names, read_it = _named(wanted, count)
+    with _all_checked(names, wanted, read_it) as all_checked, bar("checking", len(names)) as shown:
         for it in all_checked:
             text = reporter.add(it)
             with shown.aside(told=it.failure is not None) if text or it.failure else nullcontext():

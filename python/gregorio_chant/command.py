@@ -9,6 +9,7 @@ from gregorio_chant.commands import check, explain, format, server, version
 from gregorio_chant.commands.words import REFUSED, STATUSES, Command, Parser, examples
 from gregorio_chant.needs import Missing
 from gregorio_chant.selection import UnknownCode
+from gregorio_chant.staged import NoStage
 from gregorio_chant.streams import CANNOT_READ_OR_WRITE, NAME, CannotWrite, tell
 
 _ABOUT = """Checks, formats and explains chant scores in GABC.
@@ -38,6 +39,9 @@ def main(words: Sequence[str]) -> int:
     except (UnknownCode, Missing) as error:
         tell(str(error))
         return REFUSED
+    except NoStage as error:
+        tell(f"cannot read what is staged: {error}")
+        return CANNOT_READ_OR_WRITE
     except CannotWrite as error:
         if not error.is_closed:
             tell(f"cannot write: {error}")

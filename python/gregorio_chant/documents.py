@@ -1,4 +1,4 @@
-"""A score in an editor: its messages, its canonical form, and what stands under the cursor, in the editor's own counting.
+"""A score in an editor: its messages, what it is formatted to, and what stands under the cursor, in the editor's own counting.
 
 An editor counts lines from 0, and columns in units of UTF-16 from 0.
 """
@@ -13,7 +13,7 @@ from gregorio_chant import library
 from gregorio_chant.checking import check_data
 from gregorio_chant.dump import Score
 from gregorio_chant.explaining import page_of
-from gregorio_chant.formatting import Canonical, canonical_of
+from gregorio_chant.formatting import Formatted, Style, formatted
 from gregorio_chant.items import Glyph, Note
 from gregorio_chant.losses import Comparison
 from gregorio_chant.results import Format, Kind, Message, Status
@@ -53,8 +53,8 @@ class Document:
             Shown(self._position(it.line, it.column), self._position(it.line, it.column + 1), it) for it in check_data(self._score, with_rules)
         ]
 
-    def canonical(self) -> Canonical:
-        return canonical_of(self._score)
+    def formatted(self) -> Formatted:
+        return formatted(self._score, Style())
 
     def end(self) -> Position:
         """Returns the position behind the last character."""

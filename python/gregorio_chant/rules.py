@@ -6,7 +6,9 @@ from collections.abc import Callable, Iterator
 from dataclasses import dataclass
 
 from gregorio_chant import library
+from gregorio_chant.codes import CODES
 from gregorio_chant.dump import Alteration, Attribute, Bar, Custos, Item, Note, NoteSnippet, Score, Space, Syllable
+from gregorio_chant.ignores import silenced
 from gregorio_chant.losses import Comparison
 from gregorio_chant.reports import counted
 from gregorio_chant.results import Format, Kind, Message, Status
@@ -104,6 +106,11 @@ def _comment(subject: Subject) -> Iterator[Found]:
         yield Found(it.begin, "the canonical form does not keep this comment")
 
 
+def _unused_ignore(subject: Subject) -> Iterator[Found]:
+    """Finds nothing by itself: what is silenced is known when all other rules have been tried."""
+    return iter(())
+
+
 def _asterisk_without_bar(subject: Subject) -> Iterator[Found]:
     syllables = subject.score.syllables
     for syllable, after in zip(syllables, [*syllables[1:], None]):
@@ -143,7 +150,7 @@ _ALL = (
     ),
     Rule(
         "comment",
-        "A comment stands in the score. The canonical form keeps none, so gregorio-chant format refuses the file unless it may drop comments.",
+        "A comment stands in the score. The canonical form keeps none, so gregorio-chant format --canonical refuses the file unless it may drop comments.",
         _comment, "Ky(f) % by hand", "Ky(f)",
     ),
     Rule(
@@ -152,15 +159,22 @@ _ALL = (
         "Here there is none.",
         _asterisk_without_bar, "Ky(f)ri(g)e(h) *() e(f)", "Ky(f)ri(g)e(h) *(,) e(f)",
     ),
+    Rule(
+        "unused-ignore",
+        "A comment that silences messages silences none: there is no such message on its line, or in the score. Remove it, or look for a slip in the code.",
+        _unused_ignore, "<it>Ky</it>(f) % gregorio: ignore W6, W7, comment", "<it>Ky</it>(f) % gregorio: ignore W6, comment",
+    ),
 )
 RULES: dict[str, Rule] = {it.name: it for it in _ALL}
+_KNOWN = frozenset((*CODES, *RULES))
 
 
 def messages_with_rules(data: bytes) -> tuple[Message, ...]:
-    """Returns what the compiler and the rules find in a score, in the order of their places. Where a fatal fault stops it, no rule is tried."""
+    """Returns what the compiler and the rules find in a score, in the order of their places, without what is silenced. Where a fatal fault stops it, no rule is
+    tried."""
     result = library.compile(data)
     if result.status is Status.FATAL:
-        return result.messages
+        return unsilenced(data, result.messages)
     score = Score.read(library.compile(data, Format.DUMP).output)
     messages = result.messages
     subject = Subject(score, Comparison(data, result.output, messages), messages)
@@ -171,7 +185,14 @@ def messages_with_rules(data: bytes) -> tuple[Message, ...]:
             found.append(Message(place.line, place.column, rule.kind, rule.name, it.text))
     if any(it.code == "nabc-without-header" for it in found):
         messages = _without_nabc(subject)
-    return tuple(sorted([*messages, *found], key=lambda it: (it.line, it.column)))
+    kept, unused = silenced(data, (*messages, *found), _KNOWN)
+    kept += tuple(Message(it.place.line, it.place.column, Kind.WARNING, "unused-ignore", it.text) for it in unused)
+    return tuple(sorted(kept, key=lambda it: (it.line, it.column)))
+
+
+def unsilenced(data: bytes, messages: tuple[Message, ...]) -> tuple[Message, ...]:
+    """Returns those of the compiler's messages that no comment of the score silences."""
+    return silenced(data, messages, _KNOWN)[0]
 
 
 def _without_nabc(subject: Subject) -> tuple[Message, ...]:

@@ -11,13 +11,20 @@ _LATER_MARK = re.compile(r";;+[ \t]*(?=%|$)", re.MULTILINE)
 _IN_TEXT = re.compile(r"\$[][(){}<>%$]|[%<([]")
 _IN_NOTES = re.compile(r"[%\[|)]")
 _RAW = re.compile(r"<(v|sp|alt)>")
-_BLANKS = " \t\n\r\v\f"
-_NO_BLANKS = str.maketrans("", "", _BLANKS)
+_STYLE = re.compile(r"</?(?:b|c|e|i|sc|tt|ul)>")
+BLANKS = " \t\n\r"
+_NO_BLANKS = str.maketrans("", "", BLANKS)
+_NO_MARKS = str.maketrans("", "", BLANKS + ";")
 
 
 def without_blanks(text: str) -> str:
     """Returns `text` without its blanks and line ends."""
     return text.translate(_NO_BLANKS)
+
+
+def letters_of(text: str) -> str:
+    """Returns `text` without blanks, line ends, tags of styles, and each `;`: what another spelling of headers and syllables may not change."""
+    return _STYLE.sub("", text).translate(_NO_MARKS)
 
 
 @dataclass(frozen=True)
@@ -64,7 +71,7 @@ class Scan:
             offsets.extend(range(at, max(at, comment.begin)))
             at = comment.end
         offsets.extend(range(at, max(at, span.end)))
-        return [it for it in offsets if self.text[it] not in _BLANKS]
+        return [it for it in offsets if self.text[it] not in BLANKS]
 
 
 def scan(text: str, left_out: Collection[int] = ()) -> Scan:
@@ -126,7 +133,7 @@ def _scan_score(found: Scan, left_out: Collection[int]) -> None:
     while at < len(text):
         notes = _scan_text(found, at)
         end = _scan_notes(found, notes, left_out)
-        if found.without_comments(Span(at, end)):
+        if notes < len(text) or found.without_comments(Span(at, end)):
             found.syllables.append(SyllableSpan(at, end, notes))
         at = end
 

@@ -25,9 +25,14 @@ def codes_in(words: str, known: Collection[str]) -> frozenset[str]:
     return found
 
 
+def group_of(code: str) -> str:
+    """Returns the kind of `code`, or the rules for a code that has no number."""
+    return code[0] if code[-1].isdigit() else RULES
+
+
 def names(codes: frozenset[str], code: str) -> bool:
-    """Returns whether one of `codes` names `code`: it, its kind, or the rules for a code that has no number."""
-    return code in codes or (code[0] in codes if code[-1].isdigit() else RULES in codes)
+    """Returns whether one of `codes` names `code`: it, its kind, or the rules."""
+    return code in codes or group_of(code) in codes
 
 
 @dataclass(frozen=True)

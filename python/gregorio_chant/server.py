@@ -10,13 +10,11 @@ from pylsp_jsonrpc.streams import JsonRpcStreamReader, JsonRpcStreamWriter
 
 from gregorio_chant import __version__
 from gregorio_chant.documents import Document, Position, Shown, severity_of
-from gregorio_chant.losses import Loss
 from gregorio_chant.streams import NAME
 
 _Params = Optional[Mapping[str, Any]]
 _FULL_TEXT = 1
 _WARNING = 2
-_MOST_TOLD = 5
 
 
 def _position(it: Position) -> dict[str, int]:
@@ -32,13 +30,6 @@ def _diagnostic(it: Shown) -> dict[str, object]:
         "range": _range(it.begin, it.end), "severity": severity_of(it.message.kind), "code": it.message.code, "source": NAME,
         "message": it.message.text,
     }
-
-
-def _told(losses: tuple[Loss, ...]) -> str:
-    lines = [f"line {it.place.line}, column {it.place.column}: {it.reason}: {it.text}" for it in losses[:_MOST_TOLD]]
-    if len(losses) > _MOST_TOLD:
-        lines.append(f"and {len(losses) - _MOST_TOLD:,} more")
-    return "\n".join(["The score stays as it is: more than its blanks would change", *lines])
 
 
 class Server:
@@ -96,16 +87,16 @@ class Server:
         self._notify("textDocument/publishDiagnostics", {"uri": uri, "diagnostics": diagnostics})
 
     def _formatting(self, params: _Params) -> object:
-        """Returns the edit that makes the score canonical. Where more than blanks would change there is none, and the editor shows why."""
+        """Returns the edit that formats the score. Where it has to stay as it is there is none, and the editor shows why."""
         document = self._documents.get((params or {})["textDocument"]["uri"])
         if document is None:
             return None
-        canonical = document.canonical()
-        if canonical.fault is not None or canonical.losses:
-            why = _told(canonical.losses) if canonical.fault is None else f"The score stays as it is: it is not whole\n{canonical.fault}"
-            self._notify("window/showMessage", {"type": _WARNING, "message": why})
+        made = document.formatted()
+        reasons = made.reasons()
+        if reasons:
+            self._notify("window/showMessage", {"type": _WARNING, "message": "\n".join([f"The score stays as it is: {reasons[0]}", *reasons[1:]])})
             return []
-        return [{"range": _range(Position(0, 0), document.end()), "newText": canonical.text}]
+        return [{"range": _range(Position(0, 0), document.end()), "newText": made.data.decode("utf-8")}]
 
     def _hover(self, params: _Params) -> object:
         asked = params or {}

@@ -8,7 +8,7 @@ from collections.abc import Iterable, Iterator, Sequence
 from gregorio_chant.ignored import FILE, LeftOut, Tell
 from gregorio_chant.streams import STDIN
 
-ENDING = ".gabc"
+_ENDING = ".gabc"
 
 
 def find_scores(paths: Iterable[str], tell: Tell, exclude: Sequence[str] = ()) -> list[str]:
@@ -48,9 +48,14 @@ def _entries(folder: str, tell: Tell) -> list[os.DirEntry[str]]:
         return []
 
 
+def has_name_of_score(name: str) -> bool:
+    """Returns whether a file of this name is taken for a score, where it is not named itself."""
+    return name.lower().endswith(_ENDING)
+
+
 def _is_score(entry: os.DirEntry[str]) -> bool:
     """Whether it is a plain file by a score's name, or a link with such a name that leads nowhere: reading it says why."""
-    if not entry.name.lower().endswith(ENDING):
+    if not has_name_of_score(entry.name):
         return False
     try:
         return stat.S_ISREG(entry.stat().st_mode)

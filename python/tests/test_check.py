@@ -196,7 +196,7 @@ class Paths(InFolder):
     def test_nearest_words(self) -> None:
         for words, right in (
             ("chek .", "check"), ("check --selct E1 .", "--select"), ("check --output-format jsn .", "json"), ("check --select w33 .", "W3"),
-            ("explain outside-staf", "outside-staff"), ("format --allow comment .", "comments"), ("check --ignore comments .", "comment"),
+            ("explain outside-staf", "outside-staff"), ("format --canonical --allow comment .", "comments"), ("check --ignore comments .", "comment"),
         ):
             ran = command(*words.split())
             self.assertEqual((ran.returncode, ran.stdout), (3, b""), words)

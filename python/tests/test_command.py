@@ -42,7 +42,7 @@ class Words(InFolder):
             self.assertEqual(len(examples), 3)
             for it in examples:
                 ran = command(*shlex.split(it.partition(">")[0]))
-                self.assertEqual(ran.returncode, 0 if it.startswith("explain") else 1, (it, ran.stderr))
+                self.assertLessEqual(ran.returncode, 1, (it, ran.stderr))
 
     def test_version(self) -> None:
         lines = command("version").stdout.decode().split("\n")

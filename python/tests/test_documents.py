@@ -46,6 +46,10 @@ class Documents(unittest.TestCase):
             exec(block(PAGE, "since nothing is written then."), {})
         self.assertEqual(written.getvalue().split("\n"), ["4 4 Ky f fa", "4 9 ri g sol", "4 10 ri f fa", "4 11 ri g sol", ""])
 
+    def test_formatted(self) -> None:
+        made = command("format", "-", data=block(PAGE, "So this score:").encode())
+        self.assertEqual((made.returncode, made.stdout.decode()), (0, block(PAGE, "\nbecomes:")))
+
     def test_classes(self) -> None:
         """Each field of each class stands in the page, and each name that stands there is one."""
         rows = {name: row for names, row in re.findall(r"^\| (`[A-Z]\w+`(?:, `[A-Z]\w+`)*) \| (.*) \|$", PAGE, re.MULTILINE) for name in re.findall(r"\w+", names)}

@@ -2,11 +2,10 @@
 from __future__ import annotations
 
 import argparse
-import os
 
 from gregorio_chant import checking
 from gregorio_chant.codes import CODES
-from gregorio_chant.commands.words import OUTSIDE, STATUSES, Parser, add_paths, examples, positive
+from gregorio_chant.commands.words import OUTSIDE, STATUSES, Parser, add_jobs, add_paths, examples, paths_of
 from gregorio_chant.rules import RULES
 from gregorio_chant.selection import Selection, codes_in
 
@@ -31,17 +30,17 @@ def add(commands: argparse._SubParsersAction[Parser]) -> Parser:
     it.add_argument("--ignore", metavar="CODES", default="", help="do not report these; a fatal fault is always reported")
     it.add_argument("--fail-on", metavar="CODES", default="", help="end with status 1 where one of these is reported")
     it.add_argument("--rules", action="store_true", help="try the rules that the compiler leaves open; they stand outside its proof")
-    it.add_argument("--jobs", type=positive, metavar="N", default=len(os.sched_getaffinity(0)), help="read so many files at a time (here %(default)s)")
+    add_jobs(it)
     it.add_argument("--quiet", action="store_true", help="write no summary")
     return it
 
 
 def run(words: argparse.Namespace) -> int:
-    """Checks the files. Raises `UnknownCode`, `CannotWrite` and `Missing`."""
+    """Checks the files. Raises `UnknownCode`, `CannotWrite`, `Missing` and `NoStage`."""
     known = {*CODES, *RULES}
     selection = Selection(
         None if words.select is None else codes_in(words.select, known), codes_in(words.ignore, known), codes_in(words.fail_on, known)
     )
     return checking.check(
-        checking.Wanted(tuple(words.paths), selection, words.output_format, words.rules, words.jobs, words.quiet, tuple(words.exclude))
+        checking.Wanted(paths_of(words), selection, words.output_format, words.rules, words.jobs, words.quiet, tuple(words.exclude), words.staged)
     )

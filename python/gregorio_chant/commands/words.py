@@ -3,17 +3,20 @@ from __future__ import annotations
 
 import argparse
 import itertools
+import os
 import textwrap
 from collections.abc import Iterable, Sequence
 from typing import Any, NoReturn, Protocol
 
 from gregorio_chant.nearest import did_you_mean
+from gregorio_chant.selection import UnknownCode
 from gregorio_chant.streams import STDIN, tell, write
 
 REFUSED = 3
 OUTSIDE = "What stands around the compiler is outside the proof, and only tested."
 STATUSES = """exit status: the worst of 0 nothing wrong, 1 errors (format: something would change or was refused), 2 a fatal fault,
 3 the words were refused or a package is missing, 4 a file could not be read or written, 5 no memory"""
+_STAGED = "look at what is staged in git, and not at the files: at all of it, or at what is staged of the PATHs"
 _PATHS = f"a file, a folder for the scores below it, or {STDIN} for standard input; after -- each word is a path"
 
 
@@ -69,13 +72,28 @@ def examples(lines: Iterable[str]) -> str:
     return "\n".join(["examples:", *(f"    {it}" for it in lines)])
 
 
-def add_paths(parser: Parser, more: str = "") -> None:
-    """Adds the words for files and folders."""
-    parser.add_argument("paths", nargs="+", metavar="PATH", help=f"{_PATHS}{more}")
+def add_paths(parser: Parser, more: str = "", with_staged: str = "") -> None:
+    """Adds the words for files and folders, and for what is staged."""
+    parser.add_argument("paths", nargs="*", metavar="PATH", help=f"{_PATHS}{more}")
+    parser.add_argument("--staged", action="store_true", help=f"{with_staged}{_STAGED}")
     parser.add_argument(
         "--exclude", action="append", default=[], metavar="PATTERN",
         help="leave out of folders what this names, as a line of .gitignore would; may stand several times",
     )
+
+
+def add_jobs(parser: Parser) -> None:
+    """Adds the word for how many files are worked on at a time."""
+    parser.add_argument(
+        "--jobs", type=positive, metavar="N", default=len(os.sched_getaffinity(0)), help="work on so many files at a time (here %(default)s)"
+    )
+
+
+def paths_of(words: argparse.Namespace) -> tuple[str, ...]:
+    """Returns the files and folders that are named. Raises `UnknownCode` where there is none, and what is staged is not asked for."""
+    if not words.paths and not words.staged:
+        raise UnknownCode("a PATH is needed, or --staged")
+    return tuple(words.paths)
 
 
 def positive(word: str) -> int:
