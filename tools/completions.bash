@@ -1,4 +1,5 @@
-# Tries the completions in real shells. For tools/try_release, which sources it: `room`, `check`, `skip`, `is` and `has_tool` are its own.
+# Tries the completions in real shells. For tools/try_release, which sources it: `room`, `check`,
+# `skip`, `is` and `has_tool` are its own.
 
 # Makes a folder with a score, another file and a folder, and goes there.
 begin_completions() {
@@ -32,7 +33,8 @@ try_bash_of() {
   check "$what: bash: a score or a folder" completes gregorio-chant format '' 'a score.gabc,folder,'
 }
 
-# Prints what a zsh with the completions of the folder $1 shows where a tab stands after the words $2: it runs in a terminal that another zsh makes.
+# Prints what a zsh with the completions of the folder $1 shows where a tab stands after the words
+# $2: it runs in a terminal that another zsh makes.
 zsh_shows() {
   mkdir -p -- "$room/rc"
   echo 'setopt no_global_rcs' >"$room/rc/.zshenv"

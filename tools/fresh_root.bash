@@ -1,9 +1,12 @@
-# Installs both Debian packages in the folder `system`: into a fresh Debian that debootstrap makes there, by the README's own line, or by dpkg alone into an empty root. For
-# tools/try_release, which sources it: `here`, `room`, `folder`, `version`, `package`, `command_package`, `wheel`, `check`, `skip` and the rest are its own.
+# Installs both Debian packages in the folder `system`: into a fresh Debian that debootstrap makes
+# there, by the README's own line, or by dpkg alone into an empty root. For tools/try_release, which
+# sources it: `here`, `room`, `folder`, `version`, `package`, `command_package`, `wheel`, `check`,
+# `skip` and the rest are its own.
 readonly SUITE=bookworm
 system="$room/system"
 
-# Runs a line of bash in the fresh Debian, in the folder with the release there. `sudo` is nothing for root.
+# Runs a line of bash in the fresh Debian, in the folder with the release there. `sudo` is nothing
+# for root.
 inside() {
   chroot "$system" /usr/bin/env -i HOME=/root LANG=C.UTF-8 COLUMNS=100 DEBIAN_FRONTEND=noninteractive PATH=/usr/local/sbin:/usr/local/bin:/usr/sbin:/usr/bin:/sbin:/bin \
     bash -c "sudo() { \"\$@\"; }; cd /root/release && $1"
@@ -43,7 +46,8 @@ try_fresh_root() {
   check 'a fresh Debian: a server that its editor leaves' is "$(inside 'gregorio-chant server </dev/null; echo $?' 2>&1)" 1
 }
 
-# Removes both packages, and tries the wheel by the README's lines. There is no package index, so pip finds what it needs among Debian's packages.
+# Removes both packages, and tries the wheel by the README's lines. There is no package index, so
+# pip finds what it needs among Debian's packages.
 leave_fresh_root() {
   check 'a fresh Debian: the packages are removed' quietly inside 'apt-get purge gregorio-canonical gregorio-chant'
   check 'a fresh Debian: nothing of them is left' is "$(cd -- "$system" && find usr etc var/lib/dpkg/info -name '*gregorio*')" ''

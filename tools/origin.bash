@@ -1,6 +1,7 @@
 # Says where a build is from. For scripts, which source it.
 
-# What git says of the commit of the repository at the folder $1. Changes of files that git knows are said too.
+# What git says of the commit of the repository at the folder $1. Changes of files that git knows
+# are said too.
 commit_line() {
   local commit changed=''
   commit="$(git -C "$1" rev-parse HEAD 2>/dev/null)" || commit=unknown

@@ -1,4 +1,6 @@
-"""Compiles scores as they are uploaded, in pieces of any length: python upload_server.py FOLDER [PORT [AGE]]
+"""Compiles scores as they are uploaded, in pieces of any length:
+
+    python upload_server.py FOLDER [PORT [AGE]]
 
     POST   /scores?format=gabc        begins a score, or with `dump` its dump; `Location` in the answer is its path
     HEAD   /scores/NAME               says in `Upload-Offset` how many bytes have come
@@ -8,12 +10,16 @@
     GET    /scores/NAME/messages      answers the messages as far as they are known
     DELETE /scores/NAME               forgets the score
 
-No score stands in memory. What a run knows is a state of bytes, which is written into a file below FOLDER with each piece. So the server may be
-ended at any moment and started again, and whoever uploads goes on at the offset that it tells. HEAD and GET answer at once, also while a score is written. A score to which
-nothing came for AGE seconds (a day, where that is not given) is let go. Where the state of a score is damaged, its requests but DELETE are answered with 500 and a line.
+No score stands in memory. What a run knows is a state of bytes, which is written into a file below
+FOLDER with each piece. So the server may be ended at any moment and started again, and whoever
+uploads goes on at the offset that it tells. HEAD and GET answer at once, also while a score is
+written. A score to which nothing came for AGE seconds (a day, where that is not given) is let go.
+Where the state of a score is damaged, its requests but DELETE are answered with 500 and a line.
 
-It listens on this machine alone, and knows no users. A request whose `Host` or `Origin` names another place is refused with 403 before its body is read, so that no page
-of the web can send one. It is an example, and is only tested: nothing is forced to the disk, so a loss of power may take what came last.
+It listens on this machine alone, and knows no users. A request whose `Host` or `Origin` names
+another place is refused with 403 before its body is read, so that no page of the web can send
+one. It is an example, and is only tested: nothing is forced to the disk, so a loss of power may
+take what came last.
 """
 from __future__ import annotations
 
@@ -47,7 +53,8 @@ PATH = re.compile(f"/scores/({NAME})(/messages|/end)?")
 
 
 class Refused(Exception):
-    """A request that is answered with this status, and with a line where there is something to say."""
+    """A request that is answered with this status, and with a line where there is something to
+    say."""
 
     def __init__(self, status: HTTPStatus, line: str = "") -> None:
         super().__init__(line)
@@ -61,7 +68,8 @@ def _damaged(folder: Path) -> Refused:
 
 @dataclass(frozen=True)
 class Known:
-    """What is known of a score: how many bytes of it came, its status once it is over, and how many bytes its texts have."""
+    """What is known of a score: how many bytes of it came, its status once it is over, and how
+    many bytes its texts have."""
 
     format: Format
     offset: int
@@ -71,7 +79,8 @@ class Known:
 
     @classmethod
     def read(cls, folder: Path) -> Known:
-        """Reads what stands in the folder of a score, which may be written meanwhile. Raises `Refused` where it is damaged, or not there any more."""
+        """Reads what stands in the folder of a score, which may be written meanwhile. Raises
+        `Refused` where it is damaged, or not there any more."""
         try:
             head, _, state = (folder / "state").read_bytes().partition(b"\n")
             it = json.loads(head)
@@ -94,10 +103,12 @@ def _opened(file: Path) -> BinaryIO:
 
 
 class Upload:
-    """A score that is uploaded, in a folder of its own: its output, its messages, and a file with the state of its run."""
+    """A score that is uploaded, in a folder of its own: its output, its messages, and a file
+    with the state of its run."""
 
     def __init__(self, folder: Path) -> None:
-        """Takes up the score where its state stands. What a server that was ended has written after that is cut off. Raises `Refused`."""
+        """Takes up the score where its state stands. What a server that was ended has written
+        after that is cut off. Raises `Refused`."""
         known = Known.read(folder)
         self.folder, self.format, self.offset, self.status = folder, known.format, known.offset, known.status
         self.lengths = dict(known.lengths)
@@ -129,7 +140,8 @@ class Upload:
         return int(self.status or 0)
 
     def _keep(self, step: Step | None) -> None:
-        """Adds what became known to the files, and then puts the new state in the place of the old one."""
+        """Adds what became known to the files, and then puts the new state in the place of the
+        old one."""
         if step:
             for name, text in (("output", step.output), ("messages", step.messages_text)):
                 with (self.folder / name).open("ab") as file:
@@ -162,7 +174,8 @@ class Server(ThreadingHTTPServer):
 
     @contextmanager
     def score(self, name: str) -> Iterator[Path]:
-        """Lends the folder of a score to one request that writes. Another waits for a while, and is refused then."""
+        """Lends the folder of a score to one request that writes. Another waits for a while, and
+        is refused then."""
         with self._free:
             if not self._free.wait_for(lambda: name not in self._in_use, WAITS):
                 raise Refused(HTTPStatus.CONFLICT)
@@ -176,7 +189,8 @@ class Server(ThreadingHTTPServer):
                 self._free.notify_all()
 
     def score_to_read(self, name: str) -> Path:
-        """Returns the folder of a score. Raises `Refused` where there is none, or nothing came for too long."""
+        """Returns the folder of a score. Raises `Refused` where there is none, or nothing came
+        for too long."""
         folder = self.folder / name
         if self._is_over(folder):
             raise Refused(HTTPStatus.NOT_FOUND)
@@ -190,7 +204,8 @@ class Server(ThreadingHTTPServer):
             return True
 
     def _let_go(self) -> None:
-        """Removes the scores to which nothing came for too long, and nothing that is called by another name than theirs."""
+        """Removes the scores to which nothing came for too long, and nothing that is called by
+        another name than theirs."""
         for folder in self.folder.iterdir():
             if re.fullmatch(NAME, folder.name) and folder.name not in self._in_use and self._is_over(folder):
                 shutil.rmtree(folder, ignore_errors=True)
@@ -222,7 +237,8 @@ class Handler(BaseHTTPRequestHandler):
             self.wfile.write(body)
 
     def _begin_answer(self, status: HTTPStatus, length: int, headers: Mapping[str, str]) -> None:
-        """Sends all of an answer but its body. A connection serves one request, since a body may not have been read."""
+        """Sends all of an answer but its body. A connection serves one request, since a body may
+        not have been read."""
         self.send_response(status)
         for name, value in headers.items():
             self.send_header(name.replace("_", "-"), value)
@@ -239,7 +255,8 @@ class Handler(BaseHTTPRequestHandler):
         return int(text)
 
     def parse_request(self) -> bool:
-        """Reads the head of a request. One that names another place than this machine is refused here, where no body is asked for or read yet."""
+        """Reads the head of a request. One that names another place than this machine is refused
+        here, where no body is asked for or read yet."""
         return super().parse_request() and (self._is_of_this_place() or self._refuse(Refused(HTTPStatus.FORBIDDEN, "only for pages of this server")))
 
     def handle_expect_100(self) -> bool:
@@ -247,7 +264,8 @@ class Handler(BaseHTTPRequestHandler):
         return (self._is_of_this_place() or self._refuse(Refused(HTTPStatus.FORBIDDEN))) and super().handle_expect_100()
 
     def _is_of_this_place(self) -> bool:
-        """Returns whether the request was sent to this server by its own name, and by no page of another one."""
+        """Returns whether the request was sent to this server by its own name, and by no page of
+        another one."""
         hosts: list[str] = self.headers.get_all("Host", [])
         origins: list[str] = self.headers.get_all("Origin", [])
         return len(hosts) == 1 and hosts[0].lower() in self.server.hosts and all(it == f"http://{hosts[0]}" for it in origins)
@@ -258,7 +276,8 @@ class Handler(BaseHTTPRequestHandler):
         return False
 
     def _with_score(self, reads: _Calls, writes: _Calls) -> None:
-        """Makes one of these calls with the folder of the score in the path, by what stands after the name."""
+        """Makes one of these calls with the folder of the score in the path, by what stands
+        after the name."""
         found = PATH.fullmatch(urlsplit(self.path).path)
         try:
             if found and found[2] in reads:
@@ -296,7 +315,8 @@ class Handler(BaseHTTPRequestHandler):
         self._with_score({}, {None: self._forget})
 
     def _send(self, folder: Path, name: str) -> None:
-        """Sends a file, as far as the state knows it. What is written meanwhile comes after that."""
+        """Sends a file, as far as the state knows it. What is written meanwhile comes after
+        that."""
         rest = Known.read(folder).lengths[name]
         with _opened(folder / name) as file:
             self._begin_answer(HTTPStatus.OK, rest, {"Content-Type": "text/plain; charset=utf-8"})

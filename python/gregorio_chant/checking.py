@@ -29,7 +29,8 @@ FORMS = ("text", "lines", "json", "github", "sarif")
 
 @dataclass(frozen=True)
 class Wanted:
-    """What the words of the command ask for; `exclude` has patterns of what is left out of folders."""
+    """What the words of the command ask for; `exclude` has patterns of what is left out of
+    folders."""
 
     paths: tuple[str, ...]
     selection: Selection = Selection()
@@ -42,7 +43,8 @@ class Wanted:
 
 
 def check_data(data: bytes, with_rules: bool) -> tuple[Message, ...]:
-    """Returns all that is found in a score, by the compiler and, if they are wanted, by the rules, and that no comment of it silences."""
+    """Returns all that is found in a score, by the compiler and, if they are wanted, by the
+    rules, and that no comment of it silences."""
     if with_rules:
         return messages_with_rules(data)
     return unsilenced(data, library.check(data).messages)
@@ -67,7 +69,8 @@ def check_file(name: str, wanted: Wanted, read_it: _Read = read) -> Checked:
 
 @contextmanager
 def _all_checked(names: list[str], wanted: Wanted, read_it: _Read) -> Iterator[Iterator[Checked]]:
-    """Gives what is found in each file, in order: by threads, since the compiler runs beside them; by processes with rules, which are Python."""
+    """Gives what is found in each file, in order: by threads, since the compiler runs beside
+    them; by processes with rules, which are Python."""
     work = partial(check_file, wanted=wanted, read_it=read_it)
     if wanted.with_rules and not wanted.staged:
         with by_processes(work, names, wanted.jobs) as all_checked:
@@ -97,7 +100,8 @@ def _reporter_of(form: str) -> Reporter:
 
 
 class _Count:
-    """How many files were read, how many could not be, what was found in them, and the worst status."""
+    """How many files were read, how many could not be, what was found in them, and the worst
+    status."""
 
     def __init__(self) -> None:
         self.files, self.failed, self.status = 0, 0, 0
@@ -129,7 +133,8 @@ def _named(wanted: Wanted, count: _Count) -> tuple[list[str], _Read]:
 
 
 def check(wanted: Wanted) -> int:
-    """Checks the files, reports what is found, and returns the worst status. Raises `CannotWrite`, and `Missing` or `NoStage` before anything is read."""
+    """Checks the files, reports what is found, and returns the worst status. Raises
+    `CannotWrite`, and `Missing` or `NoStage` before anything is read."""
     reporter = _reporter_of(wanted.form)
     count = _Count()
     names, read_it = _named(wanted, count)

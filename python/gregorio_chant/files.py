@@ -1,4 +1,5 @@
-"""The files that the words of the command name: read, and put in place of others. `walk` finds those below folders."""
+"""The files that the words of the command name: read, and put in place of others. `walk` finds
+those below folders."""
 from __future__ import annotations
 
 import os
@@ -40,10 +41,12 @@ def _is_as_read(path: Path, state: os.stat_result) -> bool:
 
 
 def replace(name: str, content: Content, data: bytes) -> None:
-    """Puts `data` in place of what was read of the file, in one step: at every moment the file is whole, the old or the new one.
+    """Puts `data` in place of what was read of the file, in one step: at every moment the file is
+    whole, the old or the new one.
 
-    The file that a link leads to is replaced, and keeps its mode and, where that is allowed, its owner. Raises `Changed` where the file was changed meanwhile, and
-    `OSError` where it has other names (hard links), which would keep the old content, may not be written, or cannot be.
+    The file that a link leads to is replaced, and keeps its mode and, where that is allowed, its
+    owner. Raises `Changed` where the file was changed meanwhile, and `OSError` where it has
+    other names (hard links), which would keep the old content, may not be written, or cannot be.
     """
     path = Path(os.path.realpath(name))
     state = content.state

@@ -20,7 +20,8 @@ Tell = Callable[[str, OSError], None]
 
 @dataclass(frozen=True)
 class _Level:
-    """Patterns, and the way from the folder that they stand in to the one that is walked: nothing, or names that each end in `/`."""
+    """Patterns, and the way from the folder that they stand in to the one that is walked:
+    nothing, or names that each end in `/`."""
 
     patterns: tuple[Pattern, ...]
     way: str = ""
@@ -31,14 +32,16 @@ class _Level:
 
 @dataclass(frozen=True)
 class LeftOut:
-    """What is left out of one folder. Of patterns that name the same thing the last one counts, and those of an inner folder come last."""
+    """What is left out of one folder. Of patterns that name the same thing the last one counts,
+    and those of an inner folder come last."""
 
     levels: tuple[_Level, ...]
     exclude: _Level
 
     @classmethod
     def at(cls, folder: str, exclude: Sequence[str], tell: Tell) -> LeftOut:
-        """Returns what the folders above leave out of one that is named; nothing, if they leave out the folder itself."""
+        """Returns what the folders above leave out of one that is named; nothing, if they leave
+        out the folder itself."""
         alone = cls((), _Level(_excluding(exclude)))
         above = cls((), _Level(()))
         *ways, whole = _ways_from_top(os.path.realpath(folder))
@@ -56,7 +59,8 @@ class LeftOut:
         return LeftOut(tuple(it.below(way) for it in self.levels), self.exclude.below(way))
 
     def with_file_of(self, folder: str, tell: Tell) -> LeftOut:
-        """Returns what is left out with the file of this folder, if it has one, which stands at the path `folder`."""
+        """Returns what is left out with the file of this folder, if it has one, which stands at
+        the path `folder`."""
         patterns = _patterns_in(folder, tell)
         return LeftOut((*self.levels, _Level(patterns)), self.exclude) if patterns else self
 
@@ -79,7 +83,8 @@ def _last(levels: Iterable[_Level], ending: str) -> bool:
 
 
 def _ways_from_top(folder: str) -> list[str]:
-    """Returns the folders from the top of the repository of git down to `folder`; that alone where there is no such repository."""
+    """Returns the folders from the top of the repository of git down to `folder`; that alone
+    where there is no such repository."""
     ways = [folder]
     while not os.path.exists(os.path.join(ways[0], _GIT)):
         above = os.path.dirname(ways[0])
@@ -90,7 +95,8 @@ def _ways_from_top(folder: str) -> list[str]:
 
 
 def _patterns_in(folder: str, tell: Tell) -> tuple[Pattern, ...]:
-    """Returns the patterns of the folder's file, if it has one. A line that is no pattern is left out, as git does."""
+    """Returns the patterns of the folder's file, if it has one. A line that is no pattern is
+    left out, as git does."""
     name = os.path.join(folder, FILE)
     try:
         with open(name, encoding="utf-8", errors="surrogateescape") as file:
@@ -120,7 +126,8 @@ def _excluding(words: Sequence[str]) -> tuple[Pattern, ...]:
 
 
 def _patterns_of(line: str) -> list[Pattern]:
-    """Returns the pattern of a line; none for one that is empty or a comment. Raises `ValueError` for one that is no pattern."""
+    """Returns the pattern of a line; none for one that is empty or a comment. Raises
+    `ValueError` for one that is no pattern."""
     if not line.strip() or line.startswith("#"):
         return []
     try:

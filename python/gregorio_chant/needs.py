@@ -1,4 +1,5 @@
-"""The packages of Python that parts of the command stand on: what is missing is one line that names the package."""
+"""The packages of Python that parts of the command stand on: what is missing is one line that
+names the package."""
 from __future__ import annotations
 
 # How Debian calls them.

@@ -12,7 +12,8 @@ _UNKNOWN = "unknown"
 
 @dataclass(frozen=True)
 class Origin:
-    """The versions of the package and of the library, and the commit and the kit that the library was built of."""
+    """The versions of the package and of the library, and the commit and the kit that the
+    library was built of."""
 
     version: str
     library: str
@@ -21,7 +22,8 @@ class Origin:
 
 
 def origin() -> Origin:
-    """Returns what the library says of itself, and what the file BUILD beside it says, which `tools/build_c` writes with it."""
+    """Returns what the library says of itself, and what the file BUILD beside it says, which
+    `tools/build_c` writes with it."""
     version = ctypes.string_at(ctypes.addressof(ctypes.c_char.in_dll(library.LIBRARY, "gregorio_version")))
     lines = _lines_of(Path(__file__).with_name("BUILD"))
     return Origin(__version__, version.decode(), lines.get("commit", _UNKNOWN), lines.get("kit", _UNKNOWN))

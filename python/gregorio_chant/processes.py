@@ -1,4 +1,5 @@
-"""Work on many files by all processors. Threads do not help where objects are made, so these are processes."""
+"""Work on many files by all processors. Threads do not help where objects are made, so these are
+processes."""
 from __future__ import annotations
 
 import multiprocessing
@@ -19,9 +20,10 @@ _MOST_IN_A_CHUNK = 32
 
 @contextmanager
 def by_processes(work: Callable[[str], _Made], names: Sequence[str], jobs: int) -> Iterator[Iterator[_Made]]:
-    """Gives what `work` makes of each name, in order, by at most `jobs` processes. All of them are made before anything else goes on, so
-    that no thread of the caller's is copied. Where the caller is done before the end, nothing more is begun. Standard input is not theirs. Raises `MemoryError` where
-    one of them is ended from outside."""
+    """Gives what `work` makes of each name, in order, by at most `jobs` processes. All of them
+    are made before anything else goes on, so that no thread of the caller's is copied. Where the
+    caller is done before the end, nothing more is begun. Standard input is not theirs. Raises
+    `MemoryError` where one of them is ended from outside."""
     if jobs == 1 or len(names) < _FEW or STDIN in names:
         yield map(work, names)
         return

@@ -1,4 +1,5 @@
-"""How far a long run over files has come: a bar on a terminal, by `rich`, and nothing without it."""
+"""How far a long run over files has come: a bar on a terminal, by `rich`, and nothing without
+it."""
 from __future__ import annotations
 
 from contextlib import AbstractContextManager, nullcontext
@@ -12,7 +13,8 @@ class Shown(Protocol):
         """Counts a file."""
 
     def aside(self, *, told: bool) -> AbstractContextManager[None]:
-        """Takes the bar away while something is written: `told` on standard error, or else on standard output."""
+        """Takes the bar away while something is written: `told` on standard error, or else on
+        standard output."""
 
 
 class _Nothing:
@@ -24,7 +26,8 @@ class _Nothing:
 
 
 def bar(what: str, files: int) -> AbstractContextManager[Shown]:
-    """Gives what shows how far a run over so many files has come, with a word for what is done to them."""
+    """Gives what shows how far a run over so many files has come, with a word for what is done
+    to them."""
     try:
         from gregorio_chant import terminal
     except ImportError:

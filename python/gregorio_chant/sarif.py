@@ -75,6 +75,7 @@ def _rule(name: str) -> dict[str, object]:
 
 
 def _uri(name: str) -> str:
-    """Returns the name as a reference of a URI: each byte that is none of its characters is escaped."""
+    """Returns the name as a reference of a URI: each byte that is none of its characters is
+    escaped."""
     reference = quote(os.fsencode(PurePath(name).as_posix()))
     return f"file://{reference}" if os.path.isabs(name) else reference

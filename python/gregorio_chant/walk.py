@@ -12,10 +12,12 @@ _ENDING = ".gabc"
 
 
 def find_scores(paths: Iterable[str], tell: Tell, exclude: Sequence[str] = ()) -> list[str]:
-    """Returns the names of the files: each path that is no folder, and the scores below each folder in order.
+    """Returns the names of the files: each path that is no folder, and the scores below each folder
+    in order.
 
-    Of a folder these are left out: what is no plain file, what a `.gitignore` or a pattern of `exclude` names, and the folder `.git`. Links to
-    files are taken, links to folders are not followed. Raises `Missing` where there are such patterns and no package that reads them, and
+    Of a folder these are left out: what is no plain file, what a `.gitignore` or a pattern of
+    `exclude` names, and the folder `.git`. Links to files are taken, links to folders are not
+    followed. Raises `Missing` where there are such patterns and no package that reads them, and
     `UnknownCode` for an `exclude` that is no pattern.
     """
     names: list[str] = []
@@ -54,7 +56,8 @@ def has_name_of_score(name: str) -> bool:
 
 
 def _is_score(entry: os.DirEntry[str]) -> bool:
-    """Whether it is a plain file by a score's name, or a link with such a name that leads nowhere: reading it says why."""
+    """Whether it is a plain file by a score's name, or a link with such a name that leads
+    nowhere: reading it says why."""
     if not has_name_of_score(entry.name):
         return False
     try:

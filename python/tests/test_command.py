@@ -1,4 +1,5 @@
-"""Tries the words of the command: help, version, and that the man page and the completions have the same words."""
+"""Tries the words of the command: help, version, and that the man page and the completions have
+the same words."""
 from __future__ import annotations
 
 import re
@@ -33,7 +34,8 @@ class Words(InFolder):
                 self.assertEqual([it for it in shown if len(it) > width and it not in examples], [], words)
 
     def test_examples_of_help(self) -> None:
-        """The help of the command and of the sub-commands with files or codes has three examples each, which run."""
+        """The help of the command and of the sub-commands with files or codes has three examples
+        each, which run."""
         self.put("scores/a.gabc", FAULTY)
         self.put("score.gabc", FAULTY)
         for words in ((), ("check",), ("format",), ("explain",)):

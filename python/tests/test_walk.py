@@ -9,7 +9,8 @@ from support import FAULTY, InFolder, command, has, without
 
 class Walk(InFolder):
     def names(self, *words: str) -> list[str]:
-        """Returns the names of the files in which something is found, which is all that are read."""
+        """Returns the names of the files in which something is found, which is all that are
+        read."""
         ran = command("check", "--output-format", "lines", "--quiet", *words)
         self.assertEqual((ran.returncode, ran.stderr), (1, b""))
         return [it.split(":")[0] for it in ran.stdout.decode().split("\n")[:-1]]

@@ -1,1 +1,2 @@
-"""The sub-commands of `gregorio-chant`: a module for each, with its words, its help and what it does."""
+"""The sub-commands of `gregorio-chant`: a module for each, with its words, its help and what it
+does."""

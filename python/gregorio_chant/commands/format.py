@@ -40,7 +40,8 @@ def add(commands: argparse._SubParsersAction[Parser]) -> Parser:
 
 
 def _allowed(words: argparse.Namespace) -> frozenset[str]:
-    """Returns the reasons of `--allow`. Raises `UnknownCode` for other words, and for words that do not go together."""
+    """Returns the reasons of `--allow`. Raises `UnknownCode` for other words, and for words that
+    do not go together."""
     allow = frozenset(it.strip() for it in words.allow.split(",") if it.strip())
     for word in sorted(allow - REASONS):
         raise UnknownCode(f"--allow {word}: nothing goes for this; {did_you_mean(word, REASONS, '--help lists the reasons')}")

@@ -1,4 +1,5 @@
-"""What the sub-commands share: how words are refused, how help is laid out, and the words for files."""
+"""What the sub-commands share: how words are refused, how help is laid out, and the words for
+files."""
 from __future__ import annotations
 
 import argparse
@@ -21,7 +22,8 @@ _PATHS = f"a file, a folder for the scores below it, or {STDIN} for standard inp
 
 
 class Help(argparse.HelpFormatter):
-    """Wraps paragraphs at the width of the terminal. A line that begins with a blank stays as it is."""
+    """Wraps paragraphs at the width of the terminal. A line that begins with a blank stays as it
+    is."""
 
     def _fill_text(self, text: str, width: int, indent: str) -> str:
         lines: list[str] = []
@@ -31,7 +33,8 @@ class Help(argparse.HelpFormatter):
 
 
 class Parser(argparse.ArgumentParser):
-    """Refuses words with one line, which names the nearest right word, and the status of refused words."""
+    """Refuses words with one line, which names the nearest right word, and the status of refused
+    words."""
 
     def __init__(self, **settings: Any) -> None:
         super().__init__(**settings, formatter_class=Help)
@@ -90,7 +93,8 @@ def add_jobs(parser: Parser) -> None:
 
 
 def paths_of(words: argparse.Namespace) -> tuple[str, ...]:
-    """Returns the files and folders that are named. Raises `UnknownCode` where there is none, and what is staged is not asked for."""
+    """Returns the files and folders that are named. Raises `UnknownCode` where there is none,
+    and what is staged is not asked for."""
     if not words.paths and not words.staged:
         raise UnknownCode("a PATH is needed, or --staged")
     return tuple(words.paths)
