@@ -91,8 +91,10 @@ class SameWords(unittest.TestCase):
     def test_groff(self) -> None:
         if not shutil.which("groff"):
             self.skipTest("there is no groff")
-        ran = subprocess.run(["groff", "-man", "-ww", "-Tutf8", str(PAGE)], stdout=subprocess.DEVNULL, stderr=subprocess.PIPE, check=False)
-        self.assertEqual(ran.stderr, b"")
+        for page in (PAGE, PAGE.with_name("check_canonical.1")):
+            self.assertIn(f'"Zendovyi {__version__}"', page.read_text(encoding="utf-8"))
+            ran = subprocess.run(["groff", "-man", "-ww", "-Tutf8", str(page)], stdout=subprocess.DEVNULL, stderr=subprocess.PIPE, check=False)
+            self.assertEqual(ran.stderr, b"")
 
 
 def _kind(letter: str) -> list[str]:
