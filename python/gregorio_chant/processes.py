@@ -2,11 +2,8 @@
 processes."""
 from __future__ import annotations
 
-import multiprocessing
 import signal
 from collections.abc import Callable, Iterator, Sequence
-from concurrent.futures import ProcessPoolExecutor
-from concurrent.futures.process import BrokenProcessPool
 from contextlib import contextmanager
 from typing import TypeVar
 
@@ -27,8 +24,12 @@ def by_processes(work: Callable[[str], _Made], names: Sequence[str], jobs: int) 
     if jobs == 1 or len(names) < _FEW or STDIN in names:
         yield map(work, names)
         return
+    # They are wanted for many files alone, and take a while to be imported.
+    from concurrent.futures.process import BrokenProcessPool, ProcessPoolExecutor
+    from multiprocessing import get_context
+
     chunk = max(1, min(_MOST_IN_A_CHUNK, len(names) // (4 * jobs)))
-    pool = ProcessPoolExecutor(jobs, multiprocessing.get_context("fork"), _leave_signals)
+    pool = ProcessPoolExecutor(jobs, get_context("fork"), _leave_signals)
     try:
         yield pool.map(work, names, chunksize=chunk)
     except BrokenProcessPool:

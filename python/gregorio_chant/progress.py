@@ -5,6 +5,11 @@ from __future__ import annotations
 from contextlib import AbstractContextManager, nullcontext
 from typing import Protocol
 
+from gregorio_chant.streams import is_error_terminal
+
+# So many files are done before a bar is of use.
+_FEW = 20
+
 
 class Shown(Protocol):
     """What shows how far a run has come."""
@@ -28,8 +33,10 @@ class _Nothing:
 def bar(what: str, files: int) -> AbstractContextManager[Shown]:
     """Gives what shows how far a run over so many files has come, with a word for what is done
     to them."""
-    try:
-        from gregorio_chant import terminal
-    except ImportError:
-        return nullcontext(_Nothing())
-    return terminal.bar(what, files)
+    if files > _FEW and is_error_terminal():
+        try:
+            from gregorio_chant.terminal import bar_of
+        except ImportError:
+            return nullcontext(_Nothing())
+        return bar_of(what, files)
+    return nullcontext(_Nothing())

@@ -55,6 +55,11 @@ def is_terminal() -> bool:
     return sys.__stdout__ is not None and sys.__stdout__.isatty()
 
 
+def is_error_terminal() -> bool:
+    """Returns whether standard error is a terminal."""
+    return sys.__stderr__ is not None and sys.__stderr__.isatty()
+
+
 def printable(name: str) -> str:
     """Returns the name of a file as a terminal can show it: `\\xff` for a byte that is no UTF-8, and no control characters."""
     text = _bytes_of(name).decode("utf-8", "backslashreplace")
