@@ -12,7 +12,7 @@
 
 No score stands in memory. What a run knows is a state of bytes, which is written into a file below
 FOLDER with each piece. So the server may be ended at any moment and started again, and whoever
-uploads goes on at the offset that it tells. HEAD and GET answer at once, also while a score is
+uploads goes on at the offset that it reports. HEAD and GET answer at once, also while a score is
 written. A score to which nothing came for AGE seconds (a day, where that is not given) is let go.
 Where the state of a score is damaged, its requests but DELETE are answered with 500 and a line.
 

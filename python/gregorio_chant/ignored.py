@@ -14,7 +14,7 @@ if TYPE_CHECKING:
 
 FILE = ".gitignore"
 _GIT = ".git"
-# Told of each folder or file that cannot be read.
+# Takes the name of each folder or file that cannot be read, and why.
 Tell = Callable[[str, OSError], None]
 
 
