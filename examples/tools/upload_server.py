@@ -1,6 +1,6 @@
 """Compiles scores as they are uploaded, in pieces of any length:
 
-    python upload_server.py FOLDER [PORT [AGE]]
+python upload_server.py FOLDER [PORT [AGE]]
 
     POST   /scores?format=gabc        begins a score, or with `dump` its dump; `Location` in the answer is its path
     HEAD   /scores/NAME               says in `Upload-Offset` how many bytes have come
