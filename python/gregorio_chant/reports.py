@@ -4,7 +4,9 @@ from __future__ import annotations
 import json
 import os
 from collections import Counter
+from collections.abc import Iterator
 from dataclasses import dataclass
+from itertools import zip_longest
 from pathlib import PurePath
 from typing import Protocol
 from urllib.parse import quote
@@ -19,17 +21,28 @@ _SCHEMA = "https://json.schemastore.org/sarif-2.1.0.json"
 
 @dataclass(frozen=True)
 class Checked:
-    """What was found in a file. `text` is the score's text, where there are messages; `failure` says why the file was not read."""
+    """What was found in a file. `text` is the score's text, where there are messages, and `helps` has a line for each of them, or nothing; `failure` says why the
+    file was not read."""
 
     name: str
     messages: tuple[Message, ...] = ()
     text: str = ""
     failure: str | None = None
     status: int = 0
+    helps: tuple[str | None, ...] = ()
 
     @property
     def shown_name(self) -> str:
         return "<stdin>" if self.name == STDIN else self.name
+
+    def helped(self) -> Iterator[tuple[Message, str | None]]:
+        """Yields each message with its help."""
+        return zip_longest(self.messages, self.helps)
+
+
+def with_help(message: Message, help: str | None) -> str:
+    """Returns the text of a message and, behind a colon, its help."""
+    return message.text if help is None else f"{message.text}: {help}"
 
 
 class Reporter(Protocol):
@@ -69,15 +82,15 @@ class Annotations:
     has_summary = False
 
     def add(self, checked: Checked) -> str:
-        return "".join(self._command(checked.shown_name, it) for it in checked.messages)
+        return "".join(self._command(checked.shown_name, it, help) for it, help in checked.helped())
 
     def end(self, summary: str | None) -> str:
         return ""
 
     @staticmethod
-    def _command(name: str, message: Message) -> str:
+    def _command(name: str, message: Message, help: str | None) -> str:
         file = _escaped(name).replace(":", "%3A").replace(",", "%2C")
-        text = _escaped(message.text)
+        text = _escaped(with_help(message, help))
         return f"::{_LEVELS[message.kind]} file={file},line={message.line},col={message.column},title={message.code}::{text}\n"
 
 
@@ -94,10 +107,9 @@ class Json:
         self._objects: list[dict[str, object]] = []
 
     def add(self, checked: Checked) -> str:
-        for it in checked.messages:
-            self._objects.append(
-                {"file": checked.shown_name, "line": it.line, "column": it.column, "kind": it.kind.value, "code": it.code, "text": it.text}
-            )
+        for it, help in checked.helped():
+            place = {"file": checked.shown_name, "line": it.line, "column": it.column}
+            self._objects.append({**place, "kind": it.kind.value, "code": it.code, "text": it.text, "help": help})
         return ""
 
     def end(self, summary: str | None) -> str:
@@ -122,11 +134,11 @@ class Sarif:
         if checked.failure is not None:
             location = {"physicalLocation": {"artifactLocation": where}}
             self._failures.append({"level": "error", "message": {"text": checked.failure}, "locations": [location]})
-        for it in checked.messages:
+        for it, help in checked.helped():
             self._used.add(it.code)
             place = {"artifactLocation": where, "region": {"startLine": it.line, "startColumn": it.column}}
             self._results.append(
-                {"ruleId": it.code, "level": _LEVELS[it.kind], "message": {"text": it.text}, "locations": [{"physicalLocation": place}]}
+                {"ruleId": it.code, "level": _LEVELS[it.kind], "message": {"text": with_help(it, help)}, "locations": [{"physicalLocation": place}]}
             )
         return ""
 
