@@ -10,6 +10,7 @@ from functools import partial
 
 from gregorio_chant import __version__, library
 from gregorio_chant.files import Content, read
+from gregorio_chant.helps import helps_for
 from gregorio_chant.needs import Missing
 from gregorio_chant.processes import by_processes
 from gregorio_chant.progress import bar
@@ -57,14 +58,16 @@ def check_file(name: str, wanted: Wanted, read_it: _Read = read) -> Checked:
     """Returns what is found in the file, or why it was not read."""
     try:
         data = read_it(name).data
-        messages = wanted.selection.of(check_data(data, wanted.with_rules))
+        found = check_data(data, wanted.with_rules)
+        messages = wanted.selection.of(found)
     except OSError as error:
         return Checked(name, failure=reason_of(error), status=CANNOT_READ_OR_WRITE)
     except MemoryError:
         return Checked(name, failure="there is no memory for it", status=NO_MEMORY)
     if not messages:
         return Checked(name)
-    return Checked(name, messages, text_of(data), status=int(wanted.selection.status_of(messages)))
+    text = text_of(data)
+    return Checked(name, messages, text, status=int(wanted.selection.status_of(messages)), helps=helps_for(text, found, messages))
 
 
 @contextmanager

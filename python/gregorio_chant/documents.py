@@ -14,10 +14,11 @@ from gregorio_chant.checking import check_data
 from gregorio_chant.dump import Score
 from gregorio_chant.explaining import page_of
 from gregorio_chant.formatting import Formatted, Style, formatted
+from gregorio_chant.helps import helps_for
 from gregorio_chant.items import Glyph, Note
 from gregorio_chant.losses import Comparison
 from gregorio_chant.results import Format, Kind, Message, Status
-from gregorio_chant.source import utf16_length
+from gregorio_chant.source import text_of, utf16_length
 
 _LINE_END = re.compile("\r\n|\n|\r")
 _MARK = "\ufeff"
@@ -33,11 +34,12 @@ class Position:
 
 @dataclass(frozen=True)
 class Shown:
-    """A message at the characters from `begin` up to `end`."""
+    """A message at the characters from `begin` up to `end`, with its help, if there is one."""
 
     begin: Position
     end: Position
     message: Message
+    help: str | None
 
 
 class Document:
@@ -49,9 +51,9 @@ class Document:
 
     def messages(self, with_rules: bool) -> list[Shown]:
         """Returns what is found in the score, and where the editor shows it: at one character."""
-        return [
-            Shown(self._position(it.line, it.column), self._position(it.line, it.column + 1), it) for it in check_data(self._score, with_rules)
-        ]
+        found = check_data(self._score, with_rules)
+        helps = helps_for(text_of(self._score), found, found) if found else ()
+        return [Shown(self._position(it.line, it.column), self._position(it.line, it.column + 1), it, help) for it, help in zip(found, helps)]
 
     def formatted(self) -> Formatted:
         return formatted(self._score, Style())

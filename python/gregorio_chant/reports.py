@@ -3,7 +3,9 @@ from __future__ import annotations
 
 import json
 from collections import Counter
+from collections.abc import Iterator
 from dataclasses import dataclass
+from itertools import zip_longest
 from typing import Protocol
 
 from gregorio_chant.results import Kind, Message
@@ -15,17 +17,28 @@ LEVELS = {Kind.WARNING: "warning", Kind.ERROR: "error", Kind.FATAL: "error"}
 
 @dataclass(frozen=True)
 class Checked:
-    """What was found in a file. `text` is the score's text, where there are messages; `failure` says why the file was not read."""
+    """What was found in a file. `text` is the score's text, where there are messages, and `helps` has a line for each of them, or nothing; `failure` says why the
+    file was not read."""
 
     name: str
     messages: tuple[Message, ...] = ()
     text: str = ""
     failure: str | None = None
     status: int = 0
+    helps: tuple[str | None, ...] = ()
 
     @property
     def shown_name(self) -> str:
         return "<stdin>" if self.name == STDIN else self.name
+
+    def helped(self) -> Iterator[tuple[Message, str | None]]:
+        """Yields each message with its help."""
+        return zip_longest(self.messages, self.helps)
+
+
+def with_help(message: Message, help: str | None) -> str:
+    """Returns the text of a message and, behind a colon, its help."""
+    return message.text if help is None else f"{message.text}: {help}"
 
 
 class Reporter(Protocol):
@@ -65,15 +78,15 @@ class Annotations:
     has_summary = False
 
     def add(self, checked: Checked) -> str:
-        return "".join(self._command(checked.shown_name, it) for it in checked.messages)
+        return "".join(self._command(checked.shown_name, it, help) for it, help in checked.helped())
 
     def end(self, summary: str | None) -> str:
         return ""
 
     @staticmethod
-    def _command(name: str, message: Message) -> str:
+    def _command(name: str, message: Message, help: str | None) -> str:
         file = _escaped(name).replace(":", "%3A").replace(",", "%2C")
-        text = _escaped(message.text)
+        text = _escaped(with_help(message, help))
         return f"::{LEVELS[message.kind]} file={file},line={message.line},col={message.column},title={message.code}::{text}\n"
 
 
@@ -91,11 +104,11 @@ class Json:
 
     def add(self, checked: Checked) -> str:
         lines = LinesOfText(checked.text)
-        for it in checked.messages:
-            self._objects.append({
-                "file": checked.shown_name, "line": it.line, "column": it.column, "end_line": it.line,
-                "end_column": lines.column_after(it.line, it.column), "kind": it.kind.value, "code": it.code, "text": it.text,
-            })
+        for it, help in checked.helped():
+            place = {
+                "file": checked.shown_name, "line": it.line, "column": it.column, "end_line": it.line, "end_column": lines.column_after(it.line, it.column),
+            }
+            self._objects.append({**place, "kind": it.kind.value, "code": it.code, "text": it.text, "help": help})
         return ""
 
     def end(self, summary: str | None) -> str:

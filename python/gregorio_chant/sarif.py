@@ -8,7 +8,7 @@ from urllib.parse import quote
 
 from gregorio_chant.codes import CODES
 from gregorio_chant.explaining import page_of
-from gregorio_chant.reports import LEVELS, Checked
+from gregorio_chant.reports import LEVELS, Checked, with_help
 from gregorio_chant.results import Message
 from gregorio_chant.rules import RULES
 from gregorio_chant.source import Lines
@@ -39,15 +39,15 @@ class Sarif:
             location = {"physicalLocation": {"artifactLocation": where}}
             self._failures.append({"level": "error", "message": {"text": checked.failure}, "locations": [location]})
         lines = Lines(checked.text)
-        for it in checked.messages:
+        for it, help in checked.helped():
             region = {"startLine": it.line, "startColumn": it.column, "endLine": it.line, "endColumn": lines.column_after(it.line, it.column)}
-            self._results.append(self._result(it, {"artifactLocation": where, "region": region}))
+            self._results.append(self._result(it, with_help(it, help), {"artifactLocation": where, "region": region}))
         return ""
 
-    def _result(self, it: Message, place: dict[str, object]) -> dict[str, object]:
+    def _result(self, it: Message, text: str, place: dict[str, object]) -> dict[str, object]:
         return {
             "ruleId": it.code, "ruleIndex": self._numbers.setdefault(it.code, len(self._numbers)), "level": LEVELS[it.kind],
-            "message": {"text": it.text}, "locations": [{"physicalLocation": place}],
+            "message": {"text": text}, "locations": [{"physicalLocation": place}],
         }
 
     def end(self, summary: str | None) -> str:

@@ -28,7 +28,7 @@ def _range(begin: Position, end: Position) -> dict[str, object]:
 def _diagnostic(it: Shown) -> dict[str, object]:
     return {
         "range": _range(it.begin, it.end), "severity": severity_of(it.message.kind), "code": it.message.code, "source": NAME,
-        "message": it.message.text,
+        "message": it.message.text if it.help is None else f"{it.message.text}\n{it.help}",
     }
 
 

@@ -36,8 +36,10 @@ class TextReporter:
 
     def add(self, checked: Checked) -> str:
         lines = Lines(checked.text)
-        for it in checked.messages:
+        for it, help in checked.helped():
             self._print(checked.shown_name, it, lines.line(it.line))
+            if help is not None:
+                self._console.print(Text.assemble(("      = ", "dim"), help), soft_wrap=True)
         return self._take()
 
     def end(self, summary: str | None) -> str:

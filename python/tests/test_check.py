@@ -20,7 +20,9 @@ SHOWN = """\
 a b.gabc:3:10: error: E1: character left out of the notes
     3 | (c4) Ky(g5)ri(g)
       |          ^
+      = '5' is no sign of the note before it: remove it
 """
+HELP = "'5' is no sign of the note before it: remove it"
 
 
 class Forms(InFolder):
@@ -62,7 +64,7 @@ class Forms(InFolder):
             json.loads(ran.stdout),
             [{
                 "file": "./a.gabc", "line": 3, "column": 10, "end_line": 3, "end_column": 11, "kind": "error", "code": "E1",
-                "text": "character left out of the notes",
+                "text": "character left out of the notes", "help": HELP,
             }],
         )
         self.assertEqual(ran.stderr, b"gregorio-chant: 2 files: 1 error\n")
@@ -74,7 +76,7 @@ class Forms(InFolder):
     def test_github(self) -> None:
         self.put("a,b:c%.gabc", FAULTY)
         ran = command("check", "--output-format", "github", "a,b:c%.gabc")
-        self.assertEqual(ran.stdout, b"::error file=a%2Cb%3Ac%25.gabc,line=3,col=10,title=E1::character left out of the notes\n")
+        self.assertEqual(ran.stdout, b"::error file=a%2Cb%3Ac%25.gabc,line=3,col=10,title=E1::character left out of the notes: " + HELP.encode() + b"\n")
 
     def test_sarif(self) -> None:
         self.put("a b\u00e9.gabc", FAULTY)
@@ -88,6 +90,7 @@ class Forms(InFolder):
         region = {"startLine": 3, "startColumn": 10, "endLine": 3, "endColumn": 11}
         place = {"artifactLocation": {"uri": "a%20b%C3%A9.gabc"}, "region": region}
         self.assertEqual([(it["ruleId"], it["level"], it["locations"]) for it in run["results"]], [("E1", "error", [{"physicalLocation": place}])])
+        self.assertEqual(run["results"][0]["message"], {"text": f"character left out of the notes: {HELP}"})
         self.assertFalse(run["invocations"][0]["executionSuccessful"])
         self.assertEqual(len(run["invocations"][0]["toolExecutionNotifications"]), 1)
 
@@ -286,7 +289,7 @@ class BadInput(InFolder):
         for words, redirection, status, told in (
             ("check -", "<&-", 4, "cannot read <stdin>: Bad file descriptor"), ("check a.gabc", ">&-", 4, "cannot write: Bad file descriptor"),
             ("check a.gabc --output-format lines", "2>&-", 1, ""), ("format -", "<&-", 4, "cannot read <stdin>: Bad file descriptor"),
-            ("format a.gabc", ">&- 2>&-", 1, ""), ("check a.gabc none", ">&- 2>&-", 4, ""),
+            ("format a.gabc", ">&- 2>&-", 0, ""), ("check a.gabc none", ">&- 2>&-", 4, ""),
         ):
             line = f'exec "$0" -m gregorio_chant {words} {redirection}'
             ran = subprocess.run(["bash", "-c", line, sys.executable], stdout=subprocess.PIPE, stderr=subprocess.PIPE, check=False)

@@ -9,6 +9,7 @@ from typing import Any
 
 from support import FAULTY, SCORE, has
 
+HELP = "'5' is no sign of the note before it: remove it"
 URI = "file:///a%20b.gabc"
 
 
@@ -89,7 +90,7 @@ class Serving(unittest.TestCase):
         place = {"start": {"line": 2, "character": 9}, "end": {"line": 2, "character": 10}}
         self.assertEqual(
             message,
-            {"range": place, "severity": 1, "code": "E1", "source": "gregorio-chant", "message": "character left out of the notes"},
+            {"range": place, "severity": 1, "code": "E1", "source": "gregorio-chant", "message": f"character left out of the notes\n{HELP}"},
         )
         self.assertEqual(self.change(SCORE), [])
         (message,) = self.change("%%\r\n(c4)\ufeff\U0001d11e\u00e9(g5) \r\n")[1:]
