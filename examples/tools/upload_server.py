@@ -210,6 +210,11 @@ class Server(ThreadingHTTPServer):
             if re.fullmatch(NAME, folder.name) and folder.name not in self._in_use and self._is_over(folder):
                 shutil.rmtree(folder, ignore_errors=True)
 
+    def handle_error(self, request: object, client_address: object) -> None:
+        """Says nothing of a client that went away."""
+        if not isinstance(sys.exc_info()[1], ConnectionError):
+            super().handle_error(request, client_address)  # type: ignore[arg-type]
+
     def begin(self, format: Format) -> str:
         """Begins a score, and returns its name. Lets go those that are too old."""
         name = secrets.token_hex(16)

@@ -168,20 +168,20 @@ class UploadServer(InFolder):
         path = self.begin()
         assert self.port is not None
         with socket.create_connection(("127.0.0.1", self.port), timeout=20) as slow:
-            slow.sendall(self.head("PATCH", path, Upload_Offset="0", Content_Length=str(len(score))) + score[:500])
+            slow.sendall(self.head("PATCH", path, Upload_Offset="0", Content_Length=str(len(score))) + score[:200])
             begin = time.monotonic()
-            while self.offset(path) < 500:
+            while self.offset(path) < 200:
                 self.assertLess(time.monotonic() - begin, 5)
             known = self.ask("GET", path)[1]
             self.assertLess(time.monotonic() - begin, 5)
             self.assertTrue(compile(score).output.encode().startswith(known) and known)
-            slow.sendall(score[500:])
+            slow.sendall(score[200:])
             self.assertIn(b"204", slow.recv(100))
         self.check_answers(path, score, "gabc")
 
     def test_damage(self) -> None:
         """Each request for a score of which the state or a text is damaged is answered with 500 and a line. It can be forgotten."""
-        score = (EXAMPLES / "kyrie.gabc").read_bytes()
+        score = (EXAMPLES / "introit.gabc").read_bytes()
         damages: list[tuple[str, Callable[[bytes], bytes]]] = [
             ("state", lambda it: it[:20]), ("state", lambda it: b""), ("state", lambda it: b"\xff" + it), ("state", lambda it: it[:-1]),
             ("state", lambda it: it.replace(b'"offset"', b'"other"')), ("state", lambda it: b"[]\n" + it), ("output", lambda it: it[:-1]),
@@ -189,12 +189,14 @@ class UploadServer(InFolder):
         ]
         for name, damage in damages:
             path = self.begin()
-            self.send(path, score, 100)
+            self.send(path, score, 200)
             file = Path("scores") / path[8:] / name
-            file.write_bytes(damage(file.read_bytes()))
+            before = file.read_bytes()
+            file.write_bytes(damage(before))
+            self.assertNotEqual(file.read_bytes(), before)
             told = b"what is kept of the score %s is damaged\n" % path[8:].encode()
             for method, where in (("PATCH", path), ("POST", f"{path}/end")):
-                self.assertEqual(self.ask(method, where, b"a", Upload_Offset="100")[:2], (500, told))
+                self.assertEqual(self.ask(method, where, b"a", Upload_Offset="200")[:2], (500, told))
             self.assertEqual(self.ask("DELETE", path)[0], 204)
 
     def test_age(self) -> None:
@@ -223,7 +225,7 @@ class UploadServer(InFolder):
             assert self.port is not None
             with socket.create_connection(("127.0.0.1", self.port), timeout=20) as it:
                 it.sendall(asked + (b"%" if status == 204 else b""))
-                self.assertEqual(it.recv(100).split(b" ")[1], b"%d" % status, headers)
+                self.assertEqual(it.recv(1_000).split(b" ")[1], b"%d" % status, headers)
         self.assertEqual(self.offset(path), 2)
 
     def test_refusals(self) -> None:
