@@ -2,6 +2,7 @@
 those below folders."""
 from __future__ import annotations
 
+import errno
 import os
 import shutil
 import stat
@@ -54,8 +55,10 @@ def replace(name: str, content: Content, data: bytes) -> None:
         raise OSError(0, "it is no plain file")
     if state.st_nlink > 1:
         raise OSError(0, "it has other names (hard links)")
-    if not state.st_mode & _WRITABLE or not os.access(path, os.W_OK):
+    if not state.st_mode & _WRITABLE:
         raise OSError(0, "it is read-only")
+    if path.exists() and not os.access(path, os.W_OK):
+        raise PermissionError(errno.EACCES, os.strerror(errno.EACCES))
     descriptor, beside = tempfile.mkstemp(prefix=".gregorio-chant.", dir=path.parent)
     try:
         with os.fdopen(descriptor, "wb") as file:

@@ -2,13 +2,12 @@
 from __future__ import annotations
 
 import bisect
-from dataclasses import dataclass
+from typing import NamedTuple
 
 _MARK = "\ufeff"
 
 
-@dataclass(frozen=True, order=True)
-class Place:
+class Place(NamedTuple):
     """Where something stands in a text: `line` and `column` count from 1, `offset` counts the characters before it."""
 
     offset: int
