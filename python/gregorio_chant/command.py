@@ -10,6 +10,7 @@ from typing import NoReturn
 from gregorio_chant import __version__, checking, formatting
 from gregorio_chant.codes import CODES
 from gregorio_chant.explaining import explain
+from gregorio_chant.fixing import fix_files
 from gregorio_chant.losses import REASONS
 from gregorio_chant.rules import RULES
 from gregorio_chant.selection import Selection, UnknownCode, codes_in
@@ -53,6 +54,9 @@ def _add_check(commands: argparse._SubParsersAction[_Parser]) -> None:
     it.add_argument("--ignore", metavar="CODES", default="", help="do not tell these; a fatal fault is always told")
     it.add_argument("--fail-on", metavar="CODES", default="", help="end with status 1 where one of these is told")
     it.add_argument("--rules", action="store_true", help="try the rules that the compiler leaves open; they stand outside its proof")
+    it.add_argument("--fix", action="store_true", help="repair the files first, where what is read afterwards is what was written; then tell what is left")
+    it.add_argument("--unsafe-fixes", action="store_true", help="with --fix: repair by guesses too; read what they change")
+    it.add_argument("--diff", action="store_true", help="with --fix: write no file, and show what would be repaired, as a diff")
     it.add_argument("--jobs", type=_positive, metavar="N", default=_JOBS, help="threads (here %(default)s)")
     it.add_argument("--quiet", action="store_true", help="no summary")
 
@@ -108,14 +112,28 @@ def _paths(words: argparse.Namespace) -> tuple[str, ...]:
     return tuple(words.paths)
 
 
+def _fix(words: argparse.Namespace) -> int:
+    """Repairs files where that is asked for."""
+    if not words.fix:
+        if words.unsafe_fixes or words.diff:
+            raise UnknownCode("--unsafe-fixes and --diff are for --fix")
+        return 0
+    if words.staged or STDIN in words.paths:
+        raise UnknownCode(f"--fix writes files, so it takes neither --staged nor {STDIN}")
+    return fix_files(_paths(words), words.unsafe_fixes, words.diff, words.quiet)
+
+
 def _check(words: argparse.Namespace) -> int:
     known = {*CODES, *RULES}
     selection = Selection(
         None if words.select is None else codes_in(words.select, known), codes_in(words.ignore, known), codes_in(words.fail_on, known)
     )
-    return checking.check(
+    fixed = _fix(words)
+    if words.diff:
+        return fixed
+    return max(fixed, checking.check(
         checking.Wanted(_paths(words), selection, words.output_format, words.rules, words.jobs, words.quiet, words.staged)
-    )
+    ))
 
 
 def _format(words: argparse.Namespace) -> int:

@@ -137,7 +137,7 @@ def _finish(name: str, shown: str, content: files.Content, data: bytes, wanted: 
     text = ""
     if wanted.shows_diff:
         kind = "canonical" if wanted.style.is_canonical else "formatted"
-        text = _difference(shown, f"{shown} ({kind})", content.data.decode("utf-8"), data.decode("utf-8"))
+        text = difference(shown, f"{shown} ({kind})", content.data.decode("utf-8"), data.decode("utf-8"))
     elif name == STDIN and wanted.writes:
         text = data.decode("utf-8")
     if data == content.data:
@@ -153,7 +153,7 @@ def _finish(name: str, shown: str, content: files.Content, data: bytes, wanted: 
     return _Done(Outcome.WRITTEN, text=text)
 
 
-def _difference(name: str, new_name: str, before: str, after: str) -> str:
+def difference(name: str, new_name: str, before: str, after: str) -> str:
     """Returns a unified diff of two texts."""
     lines = []
     for line in difflib.unified_diff(_lines(before), _lines(after), name, new_name):

@@ -90,8 +90,13 @@ def _parts(comparison: Comparison) -> Iterator[_Part]:
     first_line = source.text[source.score : len(source.text) if line_end < 0 else line_end]
     yield _Part(source.score, source.score + len(first_line.rstrip(_BLANKS)))
     for syllable in source.syllables:
-        lead = _LEAD.match(source.text, syllable.begin, syllable.end)
-        yield _part(comparison, syllable, Span(lead.end() if lead else syllable.begin, syllable.end), pairs[syllable], told)
+        yield _part(comparison, syllable, Span(after_lead(source.text, syllable), syllable.end), pairs[syllable], told)
+
+
+def after_lead(text: str, span: Span) -> int:
+    """Returns where the first character of `span` stands that is no blank and lies in no comment; the end where there is none."""
+    lead = _LEAD.match(text, span.begin, span.end)
+    return lead.end() if lead else span.begin
 
 
 def _part(comparison: Comparison, whole: Span, body: Span, written: Span | None, told: list[int]) -> _Part:
