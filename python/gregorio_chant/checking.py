@@ -14,7 +14,7 @@ from gregorio_chant.helps import helps_for
 from gregorio_chant.reports import Annotations, Checked, Json, Lines, Reporter, Sarif, summary_of
 from gregorio_chant.results import Kind, Message
 from gregorio_chant.rules import MEANINGS, messages_with_rules, unsilenced
-from gregorio_chant.selection import Selection
+from gregorio_chant.settings import Chosen, Finder, NoSettings
 from gregorio_chant.source import text_of
 from gregorio_chant.staged import StagedFiles
 from gregorio_chant.streams import CANNOT_READ_OR_WRITE, reason_of, tell, write
@@ -33,12 +33,13 @@ class Wanted:
     """What the words of the command ask for. Without a `form` it is text, or lines where there is no rich."""
 
     paths: tuple[str, ...]
-    selection: Selection = Selection()
+    chosen: Chosen = Chosen()
     form: str | None = None
     with_rules: bool = False
     jobs: int = 1
     quiet: bool = False
     staged: bool = False
+    settings: Finder = NoSettings()
 
 
 class _Shown(Protocol):
@@ -69,10 +70,12 @@ _Read = Callable[[str], Content]
 
 def check_file(name: str, wanted: Wanted, read_it: _Read = read) -> Checked:
     """Returns what is found in the file, or why it was not read."""
+    settings = wanted.settings.of(name)
+    selection = settings.selection(name, wanted.chosen)
     try:
         data = read_it(name).data
-        found = check_data(data, wanted.with_rules)
-        messages = wanted.selection.of(found)
+        found = check_data(data, wanted.with_rules or settings.rules is True)
+        messages = selection.of(found)
     except OSError as error:
         return Checked(name, failure=reason_of(error), status=CANNOT_READ_OR_WRITE)
     except MemoryError:
@@ -80,7 +83,7 @@ def check_file(name: str, wanted: Wanted, read_it: _Read = read) -> Checked:
     if not messages:
         return Checked(name)
     text = text_of(data)
-    return Checked(name, messages, text, status=int(wanted.selection.status_of(messages)), helps=helps_for(text, found, messages))
+    return Checked(name, messages, text, status=int(selection.status_of(messages)), helps=helps_for(text, found, messages))
 
 
 def _all_checked(names: list[str], wanted: Wanted, read_it: _Read) -> Iterator[Checked]:
@@ -147,12 +150,14 @@ def _named(wanted: Wanted, count: _Count) -> tuple[list[str], _Read]:
     """Returns the names of what is checked, and what reads each."""
     if wanted.staged:
         staged = StagedFiles(wanted.paths)
-        return staged.names, staged.read
-    return find_scores(wanted.paths, lambda name, error: count.fail(name, reason_of(error))), read
+        return wanted.settings.kept(staged.names, wanted.paths), staged.read
+    names = find_scores(wanted.paths, lambda name, error: count.fail(name, reason_of(error)))
+    return wanted.settings.kept(names, wanted.paths), read
 
 
 def check(wanted: Wanted) -> int:
-    """Checks the files, tells what is found, and returns the worst status. Raises `CannotWrite`, and `NoRich` or `NoStage` before anything is read."""
+    """Checks the files, tells what is found, and returns the worst status. Raises `CannotWrite`, and `NoRich`, `NoStage` or
+    `SettingsError` before any score is read."""
     reporter = _reporter_of(wanted.form)
     count = _Count()
     names, read_it = _named(wanted, count)

@@ -13,7 +13,9 @@ from gregorio_chant.explaining import explain
 from gregorio_chant.fixing import fix_files
 from gregorio_chant.losses import REASONS
 from gregorio_chant.rules import RULES
-from gregorio_chant.selection import Selection, UnknownCode, codes_in
+from gregorio_chant.selection import UnknownCode, codes_in
+from gregorio_chant.settings import NAME as SETTINGS
+from gregorio_chant.settings import Chosen, Finder, NoSettings, SettingsError
 from gregorio_chant.staged import NoStage
 from gregorio_chant.streams import CANNOT_READ_OR_WRITE, NAME, STDIN, CannotWrite, tell, write
 
@@ -28,6 +30,7 @@ _STATUSES = """exit status: the worst of 0 nothing wrong, 1 errors (format: some
 _SERVES = f"Serves an editor by the language server protocol over standard input and output. {_OUTSIDE}"
 _PATHS = f"a file, a folder for all files *.gabc below it, or {STDIN} for standard input; behind -- each word is a path"
 _STAGED = "look at what is staged in git, and not at the files: at all of it, or at what is staged of the PATHs"
+_NO_CONFIG = f"read no {SETTINGS}"
 _JOBS = len(os.sched_getaffinity(0))
 
 
@@ -51,13 +54,14 @@ def _add_check(commands: argparse._SubParsersAction[_Parser]) -> None:
     it.add_argument("--staged", action="store_true", help=_STAGED)
     it.add_argument("--output-format", choices=checking.FORMS, help="text with the line of the score (as ever), lines for editors, json, github, sarif")
     it.add_argument("--select", metavar="CODES", help="tell these alone: codes between commas, E, W or F for a kind, rules for all rules")
-    it.add_argument("--ignore", metavar="CODES", default="", help="do not tell these; a fatal fault is always told")
-    it.add_argument("--fail-on", metavar="CODES", default="", help="end with status 1 where one of these is told")
+    it.add_argument("--ignore", metavar="CODES", help="do not tell these; a fatal fault is always told")
+    it.add_argument("--fail-on", metavar="CODES", help="end with status 1 where one of these is told")
     it.add_argument("--rules", action="store_true", help="try the rules that the compiler leaves open; they stand outside its proof")
     it.add_argument("--fix", action="store_true", help="repair the files first, where what is read afterwards is what was written; then tell what is left")
     it.add_argument("--unsafe-fixes", action="store_true", help="with --fix: repair by guesses too; read what they change")
     it.add_argument("--diff", action="store_true", help="with --fix: write no file, and show what would be repaired, as a diff")
     it.add_argument("--jobs", type=_positive, metavar="N", default=_JOBS, help="threads (here %(default)s)")
+    it.add_argument("--no-config", action="store_true", help=_NO_CONFIG)
     it.add_argument("--quiet", action="store_true", help="no summary")
 
 
@@ -78,6 +82,7 @@ def _add_format(commands: argparse._SubParsersAction[_Parser]) -> None:
         "--allow", metavar="REASONS", default="", help=f"with --canonical: write all the same where these go, between commas: {', '.join(sorted(REASONS))}"
     )
     it.add_argument("--jobs", type=_positive, metavar="N", default=_JOBS, help="processes for many files (here %(default)s)")
+    it.add_argument("--no-config", action="store_true", help=_NO_CONFIG)
     it.add_argument("--quiet", action="store_true", help="no summary")
 
 
@@ -103,7 +108,15 @@ def parser() -> argparse.ArgumentParser:
     explaining.add_argument("--all", action="store_true", help="explain all codes and rules")
     server = commands.add_parser("server", help="serve an editor by the language server protocol over standard input and output", description=_SERVES)
     server.add_argument("--rules", action="store_true", help="try the rules that the compiler leaves open")
+    server.add_argument("--no-config", action="store_true", help=_NO_CONFIG)
     return it
+
+
+_KNOWN = frozenset((*CODES, *RULES))
+
+
+def _settings(words: argparse.Namespace) -> Finder:
+    return NoSettings() if words.no_config else Finder(_KNOWN)
 
 
 def _paths(words: argparse.Namespace) -> tuple[str, ...]:
@@ -112,7 +125,7 @@ def _paths(words: argparse.Namespace) -> tuple[str, ...]:
     return tuple(words.paths)
 
 
-def _fix(words: argparse.Namespace) -> int:
+def _fix(words: argparse.Namespace, settings: Finder) -> int:
     """Repairs files where that is asked for."""
     if not words.fix:
         if words.unsafe_fixes or words.diff:
@@ -120,20 +133,19 @@ def _fix(words: argparse.Namespace) -> int:
         return 0
     if words.staged or STDIN in words.paths:
         raise UnknownCode(f"--fix writes files, so it takes neither --staged nor {STDIN}")
-    return fix_files(_paths(words), words.unsafe_fixes, words.diff, words.quiet)
+    return fix_files(_paths(words), settings, words.unsafe_fixes, words.diff, words.quiet)
 
 
 def _check(words: argparse.Namespace) -> int:
-    known = {*CODES, *RULES}
-    selection = Selection(
-        None if words.select is None else codes_in(words.select, known), codes_in(words.ignore, known), codes_in(words.fail_on, known)
-    )
-    fixed = _fix(words)
+    def codes(word: str | None) -> frozenset[str] | None:
+        return None if word is None else codes_in(word, _KNOWN)
+
+    chosen, settings = Chosen(codes(words.select), codes(words.ignore), codes(words.fail_on)), _settings(words)
+    fixed = _fix(words, settings)
     if words.diff:
         return fixed
-    return max(fixed, checking.check(
-        checking.Wanted(_paths(words), selection, words.output_format, words.rules, words.jobs, words.quiet, words.staged)
-    ))
+    wanted = checking.Wanted(_paths(words), chosen, words.output_format, words.rules, words.jobs, words.quiet, words.staged, settings)
+    return max(fixed, checking.check(wanted))
 
 
 def _format(words: argparse.Namespace) -> int:
@@ -148,7 +160,7 @@ def _format(words: argparse.Namespace) -> int:
         raise UnknownCode("--staged writes nothing, so it wants --check or --diff")
     style = formatting.Style(words.canonical, words.wrap)
     return formatting.format_files(
-        formatting.Wanted(_paths(words), style, allow, words.check, words.diff, words.staged, words.jobs, words.quiet)
+        formatting.Wanted(_paths(words), style, allow, words.check, words.diff, words.staged, words.jobs, words.quiet, _settings(words))
     )
 
 
@@ -165,7 +177,7 @@ def _serve(words: argparse.Namespace) -> int:
     except ImportError:
         tell("server wants the package python-lsp-jsonrpc (in Debian python3-pylsp-jsonrpc): pip install 'gregorio-chant[server]'")
         return REFUSED
-    return serve(words.rules)
+    return serve(words.rules, _settings(words))
 
 
 _COMMANDS = {"check": _check, "format": _format, "explain": _explain, "server": _serve}
@@ -176,7 +188,7 @@ def main(words: Sequence[str]) -> int:
     try:
         asked = parser().parse_args(words)
         return _COMMANDS[asked.command](asked)
-    except (UnknownCode, checking.NoRich) as error:
+    except (UnknownCode, SettingsError, checking.NoRich) as error:
         tell(str(error))
         return REFUSED
     except NoStage as error:

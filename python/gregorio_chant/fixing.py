@@ -1,12 +1,13 @@
 """The words `check --fix`: repairs files before they are checked."""
 from __future__ import annotations
 
-from collections.abc import Iterable
+from collections.abc import Collection
 
 from gregorio_chant import files
 from gregorio_chant.formatting import difference
 from gregorio_chant.repairs import repaired
 from gregorio_chant.reports import counted
+from gregorio_chant.settings import Finder
 from gregorio_chant.streams import CANNOT_READ_OR_WRITE, reason_of, tell, write
 
 
@@ -23,8 +24,9 @@ def _fix(name: str, allow_unsafe: bool, shows_diff: bool) -> bool:
     return True
 
 
-def fix_files(paths: Iterable[str], allow_unsafe: bool, shows_diff: bool, quiet: bool) -> int:
-    """Repairs the files, and returns 0, or 1 where a diff shows something, or 4 where a file cannot be read or written. Raises `CannotWrite`."""
+def fix_files(paths: Collection[str], settings: Finder, allow_unsafe: bool, shows_diff: bool, quiet: bool) -> int:
+    """Repairs the files, and returns 0, or 1 where a diff shows something, or 4 where a file cannot be read or written. Raises `CannotWrite`, and `SettingsError`
+    before any score is read."""
     status = number = 0
 
     def fail(name: str, reason: str) -> None:
@@ -32,7 +34,7 @@ def fix_files(paths: Iterable[str], allow_unsafe: bool, shows_diff: bool, quiet:
         status = CANNOT_READ_OR_WRITE
         tell(f"cannot repair {name}: {reason}; it stays as it was")
 
-    for name in files.find_scores(paths, lambda name, error: fail(name, reason_of(error))):
+    for name in settings.kept(files.find_scores(paths, lambda name, error: fail(name, reason_of(error))), paths):
         try:
             number += _fix(name, allow_unsafe, shows_diff)
         except OSError as error:

@@ -17,6 +17,7 @@ from gregorio_chant.layout import laid_out
 from gregorio_chant.losses import Loss
 from gregorio_chant.reports import counted
 from gregorio_chant.results import Status
+from gregorio_chant.settings import Finder, NoSettings, Settings
 from gregorio_chant.staged import StagedFiles
 from gregorio_chant.streams import CANNOT_READ_OR_WRITE, STDIN, reason_of, tell, write
 
@@ -34,6 +35,11 @@ class Style:
     width: int | None = None
 
 
+def style_by(settings: Settings) -> Style:
+    """Returns how the settings of a project want a score to be written."""
+    return Style(settings.canonical is True, settings.wrap)
+
+
 @dataclass(frozen=True)
 class Wanted:
     """What the words of the command ask for; `allow` has the reasons for which something may go."""
@@ -46,10 +52,15 @@ class Wanted:
     staged: bool = False
     jobs: int = 1
     quiet: bool = False
+    settings: Finder = NoSettings()
 
     @property
     def writes(self) -> bool:
         return not self.checks and not self.shows_diff
+
+    def style_of(self, name: str) -> Style:
+        """Returns how a file is written: by the words of the command, where they say something, else by the settings."""
+        return self.style if self.style != Style() else style_by(self.settings.of(name))
 
 
 class Outcome(enum.Enum):
@@ -119,7 +130,7 @@ def _format(name: str, wanted: Wanted, read: _Read = files.read) -> _Done:
     shown = "<stdin>" if name == STDIN else name
     try:
         content = read(name)
-        made = formatted(content.data, wanted.style, wanted.allow)
+        made = formatted(content.data, wanted.style_of(name), wanted.allow)
     except OSError as error:
         return _Done(Outcome.FAILED, CANNOT_READ_OR_WRITE, (f"cannot read {shown}: {reason_of(error)}",))
     except MemoryError:
@@ -136,7 +147,7 @@ def _format(name: str, wanted: Wanted, read: _Read = files.read) -> _Done:
 def _finish(name: str, shown: str, content: files.Content, data: bytes, wanted: Wanted) -> _Done:
     text = ""
     if wanted.shows_diff:
-        kind = "canonical" if wanted.style.is_canonical else "formatted"
+        kind = "canonical" if wanted.style_of(name).is_canonical else "formatted"
         text = difference(shown, f"{shown} ({kind})", content.data.decode("utf-8"), data.decode("utf-8"))
     elif name == STDIN and wanted.writes:
         text = data.decode("utf-8")
@@ -212,14 +223,16 @@ class _Run:
 
 
 def format_files(wanted: Wanted) -> int:
-    """Formats the files, and returns the worst status. Raises `CannotWrite`, and `NoStage` where git does not say what is staged."""
+    """Formats the files, and returns the worst status. Raises `CannotWrite`, and before any score is read `NoStage` or `SettingsError`."""
     run = _Run()
     done: Iterator[_Done]
     if wanted.staged:
         staged = StagedFiles(wanted.paths)
-        done = (_format(it, wanted, staged.read) for it in staged.names)
+        names = wanted.settings.kept(staged.names, wanted.paths)
+        done = (_format(it, wanted, staged.read) for it in names)
     else:
-        done = _all_formatted(files.find_scores(wanted.paths, run.cannot_read), wanted)
+        names = wanted.settings.kept(files.find_scores(wanted.paths, run.cannot_read), wanted.paths)
+        done = _all_formatted(names, wanted)
     for it in done:
         run.add(it)
     if not wanted.quiet:
