@@ -3,10 +3,10 @@
 # Prints the options of a sub-command.
 _gregorio_chant_options() {
   case "$1" in
-    check) echo '--staged --exclude --output-format --select --ignore --fail-on --rules --jobs --quiet --help' ;;
-    format) echo '--staged --exclude --check --diff --wrap --canonical --allow --jobs --quiet --help' ;;
+    check) echo '--staged --exclude --output-format --select --ignore --fail-on --rules --fix --unsafe-fixes --diff --jobs --no-config --quiet --help' ;;
+    format) echo '--staged --exclude --check --diff --wrap --canonical --allow --jobs --no-config --quiet --help' ;;
     explain) echo '--all --help' ;;
-    server) echo '--rules --help' ;;
+    server) echo '--rules --no-config --help' ;;
     version) echo '--help' ;;
     *) echo '--version --help' ;;
   esac
@@ -33,7 +33,7 @@ _gregorio_chant_scores() {
 _gregorio_chant() {
   local word="${COMP_WORDS[COMP_CWORD]}" before="${COMP_WORDS[COMP_CWORD - 1]}" command="${COMP_WORDS[1]}"
   local codes='E E1 E2 E3 E4 E5 E6 W W1 W2 W3 W4 W5 W6 W7 W8 W9 W10 W11 W12 F F1 F2 F3 F4 F5 F6 F7'
-  local rules='outside-staff bracket-in-attribute nabc-without-header comment asterisk-without-bar unused-ignore'
+  local rules='outside-staff bracket-in-attribute nabc-without-header comment asterisk-without-bar clef-off-staff unknown-mode blank-before-notes lone-capital unknown-special unused-ignore'
   COMPREPLY=()
   if [ "$COMP_CWORD" = 1 ] && [[ $word != -* ]]; then
     mapfile -t COMPREPLY < <(compgen -W 'check format explain server version' -- "$word")

@@ -18,7 +18,7 @@ from gregorio_chant.reports import Annotations, Checked, Json, Lines, Reporter, 
 from gregorio_chant.results import Kind, Message
 from gregorio_chant.rules import messages_with_rules, unsilenced
 from gregorio_chant.sarif import Sarif
-from gregorio_chant.selection import Selection
+from gregorio_chant.settings import Chosen, Finder, NoSettings
 from gregorio_chant.source import text_of
 from gregorio_chant.staged import StagedFiles
 from gregorio_chant.streams import CANNOT_READ_OR_WRITE, reason_of, tell, write
@@ -34,13 +34,14 @@ class Wanted:
     folders."""
 
     paths: tuple[str, ...]
-    selection: Selection = Selection()
+    chosen: Chosen = Chosen()
     form: str = "text"
     with_rules: bool = False
     jobs: int = 1
     quiet: bool = False
     exclude: tuple[str, ...] = ()
     staged: bool = False
+    settings: Finder = NoSettings()
 
 
 def check_data(data: bytes, with_rules: bool) -> tuple[Message, ...]:
@@ -56,10 +57,12 @@ _Read = Callable[[str], Content]
 
 def check_file(name: str, wanted: Wanted, read_it: _Read = read) -> Checked:
     """Returns what is found in the file, or why it was not read."""
+    settings = wanted.settings.of(name)
+    selection = settings.selection(name, wanted.chosen)
     try:
         data = read_it(name).data
-        found = check_data(data, wanted.with_rules)
-        messages = wanted.selection.of(found)
+        found = check_data(data, wanted.with_rules or settings.rules is True)
+        messages = selection.of(found)
     except OSError as error:
         return Checked(name, failure=reason_of(error), status=CANNOT_READ_OR_WRITE)
     except MemoryError:
@@ -67,7 +70,7 @@ def check_file(name: str, wanted: Wanted, read_it: _Read = read) -> Checked:
     if not messages:
         return Checked(name)
     text = text_of(data)
-    return Checked(name, messages, text, status=int(wanted.selection.status_of(messages)), helps=helps_for(text, found, messages))
+    return Checked(name, messages, text, status=int(selection.status_of(messages)), helps=helps_for(text, found, messages))
 
 
 @contextmanager
@@ -75,7 +78,8 @@ def _all_checked(names: list[str], wanted: Wanted, read_it: _Read) -> Iterator[I
     """Gives what is found in each file, in order: by threads, since the compiler runs beside
     them; by processes with rules, which are Python."""
     work = partial(check_file, wanted=wanted, read_it=read_it)
-    if wanted.with_rules and not wanted.staged:
+    with_rules = wanted.with_rules or any(wanted.settings.of(it).rules for it in names)
+    if with_rules and not wanted.staged:
         with by_processes(work, names, wanted.jobs) as all_checked:
             yield all_checked
         return
@@ -131,13 +135,14 @@ def _named(wanted: Wanted, count: _Count) -> tuple[list[str], _Read]:
     """Returns the names of what is checked, and what reads each."""
     if wanted.staged:
         staged = StagedFiles(wanted.paths)
-        return staged.names, staged.read
-    return find_scores(wanted.paths, lambda name, error: count.fail(name, reason_of(error)), wanted.exclude), read
+        return wanted.settings.kept(staged.names, wanted.paths), staged.read
+    names = find_scores(wanted.paths, lambda name, error: count.fail(name, reason_of(error)), wanted.exclude)
+    return wanted.settings.kept(names, wanted.paths), read
 
 
 def check(wanted: Wanted) -> int:
     """Checks the files, reports what is found, and returns the worst status. Raises
-    `CannotWrite`, and `Missing` or `NoStage` before anything is read."""
+    `CannotWrite`, and `Missing`, `NoStage` or `SettingsError` before any score is read."""
     reporter = _reporter_of(wanted.form)
     count = _Count()
     names, read_it = _named(wanted, count)

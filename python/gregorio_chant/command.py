@@ -9,6 +9,7 @@ from gregorio_chant.commands import check, explain, format, server, version
 from gregorio_chant.commands.words import REFUSED, STATUSES, Command, Parser, examples
 from gregorio_chant.needs import Missing
 from gregorio_chant.selection import UnknownCode
+from gregorio_chant.settings import SettingsError
 from gregorio_chant.staged import NoStage
 from gregorio_chant.streams import CANNOT_READ_OR_WRITE, NAME, CannotWrite, tell
 
@@ -36,7 +37,7 @@ def main(words: Sequence[str]) -> int:
         if unknown:
             by_name[asked.command].refuse_unknown(unknown)
         return next(it for it in COMMANDS if it.NAME == asked.command).run(asked)
-    except (UnknownCode, Missing) as error:
+    except (UnknownCode, Missing, SettingsError) as error:
         tell(str(error))
         return REFUSED
     except NoStage as error:

@@ -16,7 +16,9 @@ from gregorio_chant.losses import Loss
 from gregorio_chant.processes import by_processes
 from gregorio_chant.progress import Shown, bar
 from gregorio_chant.reports import counted
+from gregorio_chant.scan import without_blanks
 from gregorio_chant.results import Status
+from gregorio_chant.settings import Finder, NoSettings, Settings
 from gregorio_chant.staged import StagedFiles
 from gregorio_chant.streams import CANNOT_READ_OR_WRITE, STDIN, reason_of, tell, write
 from gregorio_chant.walk import find_scores
@@ -32,6 +34,11 @@ class Style:
     width: int | None = None
 
 
+def style_by(settings: Settings) -> Style:
+    """Returns how the settings of a project want a score to be written."""
+    return Style(settings.canonical is True, settings.wrap)
+
+
 @dataclass(frozen=True)
 class Wanted:
     """What the words of the command ask for; `allow` has the reasons for which something may go."""
@@ -45,10 +52,15 @@ class Wanted:
     jobs: int = 1
     quiet: bool = False
     exclude: tuple[str, ...] = ()
+    settings: Finder = NoSettings()
 
     @property
     def writes(self) -> bool:
         return not self.checks and not self.shows_diff
+
+    def style_of(self, name: str) -> Style:
+        """Returns how a file is written: by the words of the command, where they say something, else by the settings."""
+        return self.style if self.style != Style() else style_by(self.settings.of(name))
 
 
 class Outcome(enum.Enum):
@@ -96,7 +108,7 @@ def formatted(data: bytes, style: Style, allow: frozenset[str] = frozenset()) ->
 
 def _canonical(score: Compiled, allow: frozenset[str]) -> Formatted:
     data = score.canonical.encode("utf-8")
-    losses = [] if data == score.data else score.comparison.losses()
+    losses = [] if without_blanks(score.data.decode("utf-8")) == without_blanks(score.canonical) else score.comparison.losses()
     return Formatted(data, tuple(it for it in losses if it.reason not in allow))
 
 
@@ -118,7 +130,7 @@ def _format(name: str, wanted: Wanted, read: _Read = files.read) -> _Done:
     shown = "<stdin>" if name == STDIN else name
     try:
         content = read(name)
-        made = formatted(content.data, wanted.style, wanted.allow)
+        made = formatted(content.data, wanted.style_of(name), wanted.allow)
     except OSError as error:
         return _Done(Outcome.FAILED, CANNOT_READ_OR_WRITE, (f"cannot read {shown}: {reason_of(error)}",))
     except MemoryError:
@@ -135,8 +147,8 @@ def _format(name: str, wanted: Wanted, read: _Read = files.read) -> _Done:
 def _finish(name: str, shown: str, content: files.Content, data: bytes, wanted: Wanted) -> _Done:
     text = ""
     if wanted.shows_diff:
-        kind = "canonical" if wanted.style.is_canonical else "formatted"
-        text = _difference(shown, f"{shown} ({kind})", content.data.decode("utf-8"), data.decode("utf-8"))
+        kind = "canonical" if wanted.style_of(name).is_canonical else "formatted"
+        text = difference(shown, f"{shown} ({kind})", content.data.decode("utf-8"), data.decode("utf-8"))
     elif name == STDIN and wanted.writes:
         text = data.decode("utf-8")
     if data == content.data:
@@ -152,7 +164,7 @@ def _finish(name: str, shown: str, content: files.Content, data: bytes, wanted: 
     return _Done(Outcome.WRITTEN, text=text)
 
 
-def _difference(name: str, new_name: str, before: str, after: str) -> str:
+def difference(name: str, new_name: str, before: str, after: str) -> str:
     """Returns a unified diff of two texts."""
     lines = []
     for line in difflib.unified_diff(_lines(before), _lines(after), name, new_name):
@@ -200,15 +212,16 @@ def _all_formatted(wanted: Wanted, run: _Run) -> Iterator[tuple[int, Iterator[_D
     """Gives how many files there are, and what becomes of each, in order; many of them are formatted by `wanted.jobs` processes."""
     if wanted.staged:
         staged = StagedFiles(wanted.paths)
-        yield len(staged.names), (_format(it, wanted, staged.read) for it in staged.names)
+        names = wanted.settings.kept(staged.names, wanted.paths)
+        yield len(names), (_format(it, wanted, staged.read) for it in names)
         return
-    names = find_scores(wanted.paths, run.cannot_read, wanted.exclude)
+    names = wanted.settings.kept(find_scores(wanted.paths, run.cannot_read, wanted.exclude), wanted.paths)
     with by_processes(partial(_format, wanted=wanted), names, wanted.jobs) as all_done:
         yield len(names), all_done
 
 
 def format_files(wanted: Wanted) -> int:
-    """Formats the files, and returns the worst status. Raises `CannotWrite`, `NoStage` where git does not say what is staged, and, before anything is read, `Missing`."""
+    """Formats the files, and returns the worst status. Raises `CannotWrite`, and before any score is read `NoStage`, `SettingsError` or `Missing`."""
     run = _Run()
     with _all_formatted(wanted, run) as (files_named, all_done), bar("formatting", files_named) as run.shown:
         for it in all_done:

@@ -238,7 +238,7 @@ def _no_score(subject: Subject, at: int) -> str:
 
 def _value_not_ended(subject: Subject, at: int) -> str:
     place = subject.lines.place(at)
-    line = subject.lines.line(place.line).rstrip(" \t")
+    line = subject.lines.line(place.line).partition("%")[0].rstrip(" \t")
     return f"line {place.line} lacks its ; : write {named(line + ';')}, or ;; behind the last line of a value of several lines"
 
 

@@ -18,6 +18,8 @@ from gregorio_chant.source import Lines
 _LINE, _TAG, _BRACKET = re.compile(r"[^\n]*"), re.compile(r"<[^>]*>|\("), re.compile(r"\[[^\]]*\]")
 _THINGS = {"E4": _LINE, "E5": _LINE, "W2": _LINE, "W3": _TAG, "W5": _BRACKET, "W6": _TAG, "W8": _BRACKET}
 _CHARACTER = re.compile(".?", re.DOTALL)
+# The line that ends the headers, with the marks that the compiler leaves out.
+_SCORE_LINE = re.compile("(?:^|[\r\n])\ufeff*%\ufeff*%")
 
 
 @dataclass(frozen=True)
@@ -34,9 +36,13 @@ class Reading:
     def of(cls, score: Compiled) -> Reading:
         """Reads a score that no fatal fault stops. Of a message it takes the code and what is spelled at its place."""
         source = score.comparison.source
+        whole = score.data.decode("utf-8")
+        score_line = _SCORE_LINE.search(whole)
+        headers = score_line.start() if score_line else len(whole)
         return cls(
             score.canonical, score.dump, tuple((it.code, _spelled_at(score.comparison.lines, it)) for it in score.messages),
-            tuple(source.text[it.begin : it.end].rstrip() for it in source.comments), letters_of(score.data.decode("utf-8")),
+            tuple(source.text[it.begin : it.end].rstrip() for it in source.comments),
+            letters_of(whole[:headers]).replace(";", "") + letters_of(whole[headers:]),
         )
 
 

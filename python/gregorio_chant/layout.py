@@ -90,24 +90,32 @@ def _parts(comparison: Comparison) -> Iterator[_Part]:
     first_line = source.text[source.score : len(source.text) if line_end < 0 else line_end]
     yield _Part(source.score, source.score + len(first_line.rstrip(_BLANKS)))
     for syllable in source.syllables:
-        lead = _LEAD.match(source.text, syllable.begin, syllable.end)
-        yield _part(comparison, syllable, Span(lead.end() if lead else syllable.begin, syllable.end), pairs[syllable], told)
+        yield _part(comparison, syllable, Span(after_lead(source.text, syllable), syllable.end), pairs[syllable], told)
+
+
+def after_lead(text: str, span: Span) -> int:
+    """Returns where the first character of `span` stands that is no blank and lies in no comment; the end where there is none."""
+    lead = _LEAD.match(text, span.begin, span.end)
+    return lead.end() if lead else span.begin
 
 
 def _part(comparison: Comparison, whole: Span, body: Span, written: Span | None, told: list[int]) -> _Part:
     """Returns a part with its canonical spelling, if it may have that."""
-    first = bisect.bisect_left(told, body.begin)
-    is_last = whole.end == len(comparison.source.text)
-    is_told = first < len(told) and (told[first] < whole.end or is_last)
-    if written is None or is_told or _holds_comment(comparison, body):
-        return _Part(body.begin, body.end)
+    stays = _Part(body.begin, body.end)
+    if written is None:
+        return stays
     spelling = comparison.written.text[written.begin : written.end]
     before, after = comparison.source.text[body.begin : body.end], spelling.removeprefix("\n")
+    first = bisect.bisect_left(told, body.begin)
+    is_last = whole.end == len(comparison.source.text)
+    if before == after or first < len(told) and (told[first] < whole.end or is_last) or _holds_comment(comparison, body):
+        return stays
     if isinstance(whole, HeaderSpan):
-        stays_in_place = True
+        may_change = letters_of(before).replace(";", "") == letters_of(after).replace(";", "")
     else:
-        stays_in_place = before.count("\n") == after.count("\n") and (spelling == after or body.begin > whole.begin)
-    return _Part(body.begin, body.end, spelling if stays_in_place and letters_of(before) == letters_of(after) else None)
+        keeps_blanks = before.count("\n") == after.count("\n") and (spelling == after or body.begin > whole.begin)
+        may_change = keeps_blanks and letters_of(before) == letters_of(after)
+    return _Part(body.begin, body.end, after) if may_change else stays
 
 
 def _holds_comment(comparison: Comparison, body: Span) -> bool:
@@ -126,7 +134,7 @@ def _words(source: _Source, comparison: Comparison) -> list[_Word]:
         lead, text = source.between(at, part.begin), source.between(part.begin, part.end)
         space = _spaced(lead) if words else _begin_of_file(lead)
         if part.spelling is not None and _MARK not in text:
-            text = part.spelling.removeprefix("\n")
+            text = part.spelling
         if space or not words:
             words.append(_Word(space, [text]))
         else:
@@ -142,7 +150,7 @@ def _spaced(lead: str) -> str:
 
     A comment `%%` keeps a blank before it, since without one it would be the line that ends the headers.
     """
-    if _MARK in lead:
+    if lead in ("", " ", "\n") or _MARK in lead:
         return lead
     first, *lines = lead.split("\n")
     if not lines:

@@ -14,7 +14,6 @@ _RAW = re.compile(r"<(v|sp|alt)>")
 _STYLE = re.compile(r"</?(?:b|c|e|i|sc|tt|ul)>")
 BLANKS = " \t\n\r"
 _NO_BLANKS = str.maketrans("", "", BLANKS)
-_NO_MARKS = str.maketrans("", "", BLANKS + ";")
 
 
 def without_blanks(text: str) -> str:
@@ -23,8 +22,8 @@ def without_blanks(text: str) -> str:
 
 
 def letters_of(text: str) -> str:
-    """Returns `text` without blanks, line ends, tags of styles, and each `;`: what another spelling of headers and syllables may not change."""
-    return _STYLE.sub("", text).translate(_NO_MARKS)
+    """Returns `text` without blanks, line ends and tags of styles: what another spelling of a syllable may not change, and that of a header but for each `;`."""
+    return without_blanks(_STYLE.sub("", text))
 
 
 @dataclass(frozen=True)

@@ -2,9 +2,11 @@
 from __future__ import annotations
 
 import bisect
+import re
 from typing import NamedTuple
 
 _MARK = "\ufeff"
+_COUNTED = re.compile(f"\r\n|[^{_MARK}]", re.DOTALL)
 
 
 class Place(NamedTuple):
@@ -19,6 +21,11 @@ def text_of(score: bytes) -> str:
     """Returns the text of `score`: each line end is one LF, and a U+FEFF is nothing. Bytes that are no UTF-8 come out as U+FFFD."""
     text = score.decode("utf-8", "replace")
     return text.replace("\r\n", "\n").replace("\r", "\n").replace(_MARK, "")
+
+
+def raw_offsets(score: str) -> list[int]:
+    """Returns where each character of the text of `score` stands in `score` itself, and last where that ends."""
+    return [it.start() for it in _COUNTED.finditer(score)] + [len(score)]
 
 
 class Lines:

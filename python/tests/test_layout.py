@@ -1,6 +1,6 @@
 """Tries what `format` writes by default: lines, empty lines, comments and line ends stay, and nothing is refused.
 
-The environment's GREGORIO_SCORES says how many scores are made by hypothesis; without it they are few.
+The environment's GREGORIO_SCORES says how many scores are made by hypothesis; without it they are few, and the same ones each time.
 """
 from __future__ import annotations
 
@@ -68,10 +68,12 @@ def bare(text: str) -> str:
 
 
 def parts_of(text: str) -> tuple[str, list[str]]:
-    """Returns all of the headers but blanks, line ends and each `;`, and what stands on each line from `%%` on, but for empty lines."""
-    lines = re.split("\r\n|\n|\r", text)
+    """Returns the marks at the beginning and all of the headers but blanks, line ends and each `;`, and what stands on each line from `%%` on, but for empty lines."""
+    whole = text.lstrip("\ufeff")
+    lines = re.split("\r\n|\n|\r", whole)
     end = next(at for at, it in enumerate(lines) if it.replace("\ufeff", "").startswith("%%"))
-    return bare("".join(lines[:end])).replace(";", ""), [it for it in map(bare, lines[end:]) if it]
+    marks = text[: len(text) - len(whole)]
+    return marks + bare("".join(lines[:end])).replace(";", ""), [it for it in map(bare, lines[end:]) if it]
 
 
 class Layout(unittest.TestCase):
@@ -125,7 +127,10 @@ class Layout(unittest.TestCase):
 
         from made import SCORES
 
-        @settings(max_examples=int(os.environ.get("GREGORIO_SCORES", _FEW)), deadline=None, database=None, suppress_health_check=list(HealthCheck))
+        count = os.environ.get("GREGORIO_SCORES")
+        checks = list(HealthCheck)
+
+        @settings(max_examples=int(count or _FEW), derandomize=count is None, deadline=None, database=None, suppress_health_check=checks)
         @given(SCORES)
         def look_at(score: bytes) -> None:
             self.look_at(score)

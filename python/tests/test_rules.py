@@ -52,6 +52,29 @@ class Rules(unittest.TestCase):
             places = [it[:2] for it in found(score, "asterisk-without-bar")]
             self.assertEqual(places, [] if is_well else [(3, 7 + notes.index("*"))], notes)
 
+    def test_clef_off_staff(self) -> None:
+        score = "name: a;\nstaff-lines: 3;\n%%\n(cb4) a(f@c3@f4z)\n"
+        self.assertEqual([it[:2] for it in found(score, "clef-off-staff")], [(4, 2), (4, 11)])
+        self.assertEqual(found(score.replace("lines: 3", "lines: 4"), "clef-off-staff"), [])
+        self.assertEqual(found(score.replace("lines: 3", "lines: x"), "clef-off-staff"), [])
+
+    def test_unknown_mode(self) -> None:
+        for mode, is_well in (("9", False), ("0", False), ("12", False), ("10t", False), ("8", True), ("6t", True), ("n", True), ("", True), ("1*", True)):
+            places = [it[:2] for it in found(f"name: a;\nmode: 9;\n mode:{mode};\n%%\n(c4)\n", "unknown-mode")]
+            self.assertEqual(places, [] if is_well else [(3, 1)], mode)
+
+    def test_blank_before_notes(self) -> None:
+        score = "name: a;\n%%\n(c4) a (f)b  (g) c(h) (;) <eu> (::) <i>d</i>\n(f) e % f\n(g) $( (h) [a b] (i) g"
+        self.assertEqual([it[:2] for it in found(score, "blank-before-notes")], [(3, 7), (3, 12), (3, 45), (5, 7), (5, 17)])
+
+    def test_lone_capital(self) -> None:
+        score = "name: a;\n%%\n(c4) a(F) b(fG) c(hGF) d(fgF) e(G~) f(gH) (;) (i) (I) (i)\n"
+        self.assertEqual([it[:2] for it in found(score, "lone-capital")], [(3, 8), (3, 14), (3, 40), (3, 52)])
+
+    def test_unknown_special(self) -> None:
+        score = "name: a;\n%%\n(c4)  <sp>Rx</sp>(f) <sp>R/</sp><sp>'ae</sp><sp></sp>(g) <v><sp>x</sp></v>(h) $<sp$>(i)\n"
+        self.assertEqual([it[:2] for it in found(score, "unknown-special")], [(3, 7), (3, 45)])
+
     def test_off_unless_asked(self) -> None:
         for score in sorted(EXAMPLES.glob("*.gabc")):
             for line in json.loads(command("check", "--output-format", "json", score).stdout):

@@ -4,7 +4,9 @@ from __future__ import annotations
 import argparse
 
 from gregorio_chant import formatting
-from gregorio_chant.commands.words import OUTSIDE, STATUSES, Parser, add_jobs, add_paths, examples, paths_of, positive
+from gregorio_chant.commands.words import (
+    OUTSIDE, STATUSES, Parser, add_jobs, add_no_config, add_paths, examples, paths_of, positive, settings_of,
+)
 from gregorio_chant.losses import REASONS
 from gregorio_chant.nearest import did_you_mean
 from gregorio_chant.selection import UnknownCode
@@ -35,6 +37,7 @@ def add(commands: argparse._SubParsersAction[Parser]) -> Parser:
         "--allow", metavar="REASONS", default="", help=f"with --canonical: write all the same where these go, between commas: {', '.join(sorted(REASONS))}"
     )
     add_jobs(it)
+    add_no_config(it)
     it.add_argument("--quiet", action="store_true", help="write no summary")
     return it
 
@@ -55,9 +58,10 @@ def _allowed(words: argparse.Namespace) -> frozenset[str]:
 
 
 def run(words: argparse.Namespace) -> int:
-    """Formats the files. Raises `UnknownCode`, `CannotWrite`, `Missing` and `NoStage`."""
+    """Formats the files. Raises `UnknownCode`, `CannotWrite`, `Missing`, `NoStage` and
+    `SettingsError`."""
     allow = _allowed(words)
     style = formatting.Style(words.canonical, words.wrap)
     return formatting.format_files(
-        formatting.Wanted(paths_of(words), style, allow, words.check, words.diff, words.staged, words.jobs, words.quiet, tuple(words.exclude))
+        formatting.Wanted(paths_of(words), style, allow, words.check, words.diff, words.staged, words.jobs, words.quiet, tuple(words.exclude), settings_of(words))
     )

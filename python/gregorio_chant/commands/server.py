@@ -3,7 +3,7 @@ from __future__ import annotations
 
 import argparse
 
-from gregorio_chant.commands.words import OUTSIDE, Parser
+from gregorio_chant.commands.words import OUTSIDE, Parser, add_no_config, settings_of
 from gregorio_chant.needs import Missing
 
 NAME = "server"
@@ -14,6 +14,7 @@ def add(commands: argparse._SubParsersAction[Parser]) -> Parser:
     """Adds the words of `server`."""
     it = commands.add_parser(NAME, help="serve an editor by the language server protocol", description=_ABOUT)
     it.add_argument("--rules", action="store_true", help="try the rules that the compiler leaves open")
+    add_no_config(it)
     return it
 
 
@@ -23,4 +24,4 @@ def run(words: argparse.Namespace) -> int:
         from gregorio_chant.server import serve
     except ImportError:
         raise Missing(NAME, "python-lsp-jsonrpc") from None
-    return serve(words.rules)
+    return serve(words.rules, settings_of(words))

@@ -9,11 +9,17 @@ import textwrap
 from collections.abc import Iterable, Sequence
 from typing import Any, NoReturn, Protocol
 
+from gregorio_chant.codes import CODES
 from gregorio_chant.nearest import did_you_mean
+from gregorio_chant.rules import RULES
 from gregorio_chant.selection import UnknownCode
+from gregorio_chant.settings import NAME as SETTINGS
+from gregorio_chant.settings import Finder, NoSettings
 from gregorio_chant.streams import STDIN, tell, write
 
 REFUSED = 3
+# All codes and rules.
+KNOWN = frozenset((*CODES, *RULES))
 OUTSIDE = "What stands around the compiler is outside the proof, and only tested."
 STATUSES = """exit status: the worst of 0 nothing wrong, 1 errors (format: something would change or was refused), 2 a fatal fault,
 3 the words were refused or a package is missing, 4 a file could not be read or written, 5 no memory"""
@@ -90,6 +96,16 @@ def add_jobs(parser: Parser) -> None:
     parser.add_argument(
         "--jobs", type=positive, metavar="N", default=len(os.sched_getaffinity(0)), help="work on so many files at a time (here %(default)s)"
     )
+
+
+def add_no_config(parser: Parser) -> None:
+    """Adds the word that leaves settings unread."""
+    parser.add_argument("--no-config", action="store_true", help=f"read no {SETTINGS}")
+
+
+def settings_of(words: argparse.Namespace) -> Finder:
+    """Returns what finds the settings of scores."""
+    return NoSettings() if words.no_config else Finder(KNOWN)
 
 
 def paths_of(words: argparse.Namespace) -> tuple[str, ...]:
