@@ -12,7 +12,7 @@ FOUND = "name: a;\n%%\n(c4) <it>a</it>(n&) b(g) *() c(h)\n"
 LOOSE = "name:a;\n%%\n(c4)  a(f) b(g) c(h)\n"
 # Settings that are refused, with what is said of them behind the name of the file.
 WRONG = [
-    ('select = ["W99"]', ":1: select: W99 is no code: gregorio-chant explain --all lists them"),
+    ('select = ["W99"]', ":1: select: W99 is no code: did you mean W9?"),
     ('\nignore = "W3"', ':2: ignore: a list of texts is wanted, as ["W3"]'),
     ("rules = 1", ":1: rules: true or false is wanted"),
     ("# a\n\nselct = []", ":3: selct: there is no such key; there are select, ignore, fail-on, rules, exclude, per-file-ignores, format"),
