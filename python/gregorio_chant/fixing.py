@@ -7,14 +7,15 @@ from gregorio_chant import files
 from gregorio_chant.formatting import difference
 from gregorio_chant.repairs import repaired
 from gregorio_chant.reports import counted
-from gregorio_chant.settings import Finder
+from gregorio_chant.selection import Selection
+from gregorio_chant.settings import Chosen, Finder
 from gregorio_chant.streams import CANNOT_READ_OR_WRITE, reason_of, tell, write
 
 
-def _fix(name: str, allow_unsafe: bool, shows_diff: bool) -> bool:
+def _fix(name: str, selection: Selection, allow_unsafe: bool, shows_diff: bool) -> bool:
     """Repairs a file, or shows what would be repaired, and returns whether there is something to repair. Raises `OSError` and `files.Changed`."""
     content = files.read(name)
-    made = repaired(content.data, allow_unsafe)
+    made = repaired(content.data, allow_unsafe, selection)
     if made == content.data:
         return False
     if shows_diff:
@@ -24,8 +25,8 @@ def _fix(name: str, allow_unsafe: bool, shows_diff: bool) -> bool:
     return True
 
 
-def fix_files(paths: Collection[str], settings: Finder, allow_unsafe: bool, shows_diff: bool, quiet: bool) -> int:
-    """Repairs the files, and returns 0, or 1 where a diff shows something, or 4 where a file cannot be read or written. Raises `CannotWrite`, and `SettingsError`
+def fix_files(paths: Collection[str], settings: Finder, chosen: Chosen, allow_unsafe: bool, shows_diff: bool, quiet: bool) -> int:
+    """Repairs what is told of the files, and returns 0, or 1 where a diff shows something, or 4 where a file cannot be read or written. Raises `CannotWrite`, and `SettingsError`
     before any score is read."""
     status = number = 0
 
@@ -36,7 +37,7 @@ def fix_files(paths: Collection[str], settings: Finder, allow_unsafe: bool, show
 
     for name in settings.kept(files.find_scores(paths, lambda name, error: fail(name, reason_of(error))), paths):
         try:
-            number += _fix(name, allow_unsafe, shows_diff)
+            number += _fix(name, settings.of(name).selection(name, chosen), allow_unsafe, shows_diff)
         except OSError as error:
             fail(name, reason_of(error))
         except files.Changed as error:
