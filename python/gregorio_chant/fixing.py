@@ -7,15 +7,16 @@ from gregorio_chant import files
 from gregorio_chant.formatting import difference
 from gregorio_chant.repairs import repaired
 from gregorio_chant.reports import counted
-from gregorio_chant.settings import Finder
+from gregorio_chant.selection import Selection
+from gregorio_chant.settings import Chosen, Finder
 from gregorio_chant.streams import CANNOT_READ_OR_WRITE, reason_of, tell, write
 from gregorio_chant.walk import find_scores
 
 
-def _fix(name: str, allow_unsafe: bool, shows_diff: bool) -> bool:
+def _fix(name: str, selection: Selection, allow_unsafe: bool, shows_diff: bool) -> bool:
     """Repairs a file, or shows what would be repaired, and returns whether there is something to repair. Raises `OSError` and `files.Changed`."""
     content = files.read(name)
-    made = repaired(content.data, allow_unsafe)
+    made = repaired(content.data, allow_unsafe, selection)
     if made == content.data:
         return False
     if shows_diff:
@@ -25,9 +26,11 @@ def _fix(name: str, allow_unsafe: bool, shows_diff: bool) -> bool:
     return True
 
 
-def fix_files(paths: Collection[str], exclude: Sequence[str], settings: Finder, allow_unsafe: bool, shows_diff: bool, quiet: bool) -> int:
-    """Repairs the files, and returns 0, or 1 where a diff shows something, or 4 where a file cannot be read or written. Raises `CannotWrite`, and `SettingsError`
-    or `Missing` before any score is read."""
+def fix_files(
+    paths: Collection[str], exclude: Sequence[str], settings: Finder, chosen: Chosen, allow_unsafe: bool, shows_diff: bool, quiet: bool
+) -> int:
+    """Repairs what is reported of the files, and returns 0, or 1 where a diff shows something, or 4 where a file cannot be read or written. Raises `CannotWrite`, and
+    `SettingsError` or `Missing` before any score is read."""
     status = number = 0
 
     def fail(name: str, reason: str) -> None:
@@ -37,7 +40,7 @@ def fix_files(paths: Collection[str], exclude: Sequence[str], settings: Finder, 
 
     for name in settings.kept(find_scores(paths, lambda name, error: fail(name, reason_of(error)), exclude), paths):
         try:
-            number += _fix(name, allow_unsafe, shows_diff)
+            number += _fix(name, settings.of(name).selection(name, chosen), allow_unsafe, shows_diff)
         except OSError as error:
             fail(name, reason_of(error))
         except files.Changed as error:

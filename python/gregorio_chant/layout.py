@@ -10,6 +10,7 @@ import bisect
 import re
 from collections.abc import Iterator
 from dataclasses import dataclass
+from itertools import zip_longest
 
 from gregorio_chant.compiled import Compiled
 from gregorio_chant.losses import Comparison
@@ -21,7 +22,7 @@ _LINE_END = re.compile(r"\r\n|\n|\r")
 _LEAD = re.compile(r"(?:[ \t\n]+|%[^\n]*)*")
 
 
-@dataclass(frozen=True)
+@dataclass(frozen=True, slots=True)
 class _Part:
     """A header, the line `%%` or a syllable. Without a `spelling` it stays as it is."""
 
@@ -30,7 +31,7 @@ class _Part:
     spelling: str | None = None
 
 
-@dataclass
+@dataclass(slots=True)
 class _Word:
     """Parts that are written without a blank between them, and what stands before them: blanks, line ends and comments."""
 
@@ -82,15 +83,15 @@ def laid_out(score: Compiled, width: int | None = None) -> bytes:
 def _parts(comparison: Comparison) -> Iterator[_Part]:
     source = comparison.source
     told = sorted(comparison.lines.offset(it.line, it.column) for it in comparison.messages)
-    pairs = {it.source: it.written for it in comparison.pairs if it.source is not None}
+    headers = {it.source: it.written for it in comparison.pairs if isinstance(it.source, HeaderSpan)}
     for header in source.headers:
         end = header.begin + len(source.text[header.begin : header.end].rstrip(_BLANKS))
-        yield _part(comparison, header, Span(header.begin, end), pairs[header], told)
+        yield _part(comparison, header, Span(header.begin, end), headers[header], told)
     line_end = source.text.find("\n", source.score)
     first_line = source.text[source.score : len(source.text) if line_end < 0 else line_end]
     yield _Part(source.score, source.score + len(first_line.rstrip(_BLANKS)))
-    for syllable in source.syllables:
-        yield _part(comparison, syllable, Span(after_lead(source.text, syllable), syllable.end), pairs[syllable], told)
+    for syllable, written in zip_longest(source.syllables, comparison.written.syllables[: len(source.syllables)]):
+        yield _part(comparison, syllable, Span(after_lead(source.text, syllable), syllable.end), written, told)
 
 
 def after_lead(text: str, span: Span) -> int:

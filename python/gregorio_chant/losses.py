@@ -26,7 +26,7 @@ class Loss:
     text: str
 
 
-@dataclass(frozen=True)
+@dataclass(frozen=True, slots=True)
 class Pair:
     """A part of the score, and what is written of it: one of them may be nothing."""
 

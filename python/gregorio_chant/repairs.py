@@ -16,7 +16,9 @@ from gregorio_chant.compiled import Compiled
 from gregorio_chant.helps import Subject, open_styles
 from gregorio_chant.layout import after_lead
 from gregorio_chant.results import Message
+from gregorio_chant.rules import unsilenced
 from gregorio_chant.scan import Span
+from gregorio_chant.selection import Selection
 from gregorio_chant.source import raw_offsets, text_of
 
 # How many repairs are tried one by one, where not all can be made at once.
@@ -261,9 +263,9 @@ def _with_edits(data: bytes, edits: Sequence[Edit]) -> bytes:
 _Proposal = tuple[Message, _Edits]
 
 
-def _proposals(score: Compiled, allow_unsafe: bool) -> Iterator[_Proposal]:
+def _proposals(score: Compiled, allow_unsafe: bool, selection: Selection) -> Iterator[_Proposal]:
     subject = Subject(text_of(score.data), score.messages)
-    for message in score.messages:
+    for message in selection.of(unsilenced(score.data, score.messages)):
         for repair in REPAIRS.values():
             if message.code in repair.codes and (repair.is_safe or allow_unsafe):
                 edits = repair.find(subject, subject.offset(message))
@@ -282,21 +284,21 @@ def _together(proposals: Sequence[_Proposal]) -> tuple[list[Message], _Edits]:
     return targets, tuple(edits)
 
 
-def repaired(data: bytes, allow_unsafe: bool) -> bytes:
-    """Returns the score with all repairs that can be made; unsafe ones only where they are allowed."""
+def repaired(data: bytes, allow_unsafe: bool, selection: Selection = Selection()) -> bytes:
+    """Returns the score with all repairs that can be made of messages that are told; unsafe ones only where they are allowed."""
     while True:
-        made = repaired_once(data, allow_unsafe)
+        made = repaired_once(data, allow_unsafe, selection)
         if made == data:
             return data
         data = made
 
 
-def repaired_once(data: bytes, allow_unsafe: bool) -> bytes:
+def repaired_once(data: bytes, allow_unsafe: bool, selection: Selection = Selection()) -> bytes:
     """Returns the score with as many repairs as can be made together, or else the first one that can be made alone."""
     old = Compiled(data)
     if old.fault is not None and old.fault.code == "F1":
         return data
-    proposals = list(itertools.islice(_proposals(old, allow_unsafe), _MOST_TRIED))
+    proposals = list(itertools.islice(_proposals(old, allow_unsafe, selection), _MOST_TRIED))
     tries = [_together(proposals)] if len(proposals) > 1 else []
     tries += [([message], edits) for message, edits in proposals]
     for targets, edits in tries:

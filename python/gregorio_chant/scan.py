@@ -26,7 +26,7 @@ def letters_of(text: str) -> str:
     return without_blanks(_STYLE.sub("", text))
 
 
-@dataclass(frozen=True)
+@dataclass(frozen=True, slots=True)
 class Span:
     """The characters from `begin` up to `end`, which is the offset behind them."""
 
@@ -34,14 +34,14 @@ class Span:
     end: int
 
 
-@dataclass(frozen=True)
+@dataclass(frozen=True, slots=True)
 class HeaderSpan(Span):
     """A header, with its name; a line without a colon has none."""
 
     name: str | None
 
 
-@dataclass(frozen=True)
+@dataclass(frozen=True, slots=True)
 class SyllableSpan(Span):
     """A syllable, with where its notes begin: at the `(`, or at the end where there is none."""
 

@@ -10,6 +10,7 @@ from unittest import mock
 from gregorio_chant import Status, check, repairs
 from gregorio_chant.compiled import Compiled
 from gregorio_chant.repairs import REPAIRS, Edit, repaired
+from gregorio_chant.selection import Selection
 from support import EXAMPLES, InFolder, command, scores_of_tables
 
 _SCORE = "name: a;\n%%\n(c4) "
@@ -59,6 +60,11 @@ class Repairs(unittest.TestCase):
         score = f"\ufeff{_SCORE}\ufeff<i>a\ufeff(g)b</i>(h\ufeff)>\n(f|pu)".replace("\n", "\r\n")
         wanted = f"\ufeffname: a;\nnabc-lines: 1;\n%%\n(c4) \ufeff<i>a\ufeff</i>(g)<i>b</i>(h\ufeff)$>\n(f|pu)".replace("\n", "\r\n")
         self.assertEqual(repaired(score.encode(), True).decode(), wanted)
+
+    def test_what_is_not_told_is_not_repaired(self) -> None:
+        score = f"{_SCORE}a>(g) % gregorio: ignore E2\n<i>b(h)c</i>(i)\n"
+        self.assertEqual(repaired(score.encode(), True).decode(), f"{_SCORE}a>(g) % gregorio: ignore E2\n<i>b</i>(h)<i>c</i>(i)\n")
+        self.assertEqual(repaired(score.encode(), True, Selection(ignore=frozenset(("W",)))).decode(), score)
 
     def look_at(self, score: bytes) -> bool:
         """Checks each step of all repairs of a score, and returns whether something is made."""
@@ -131,6 +137,8 @@ class Command(InFolder):
         self.assertIn(b"+++ s/a.gabc (repaired)\n", ran.stdout)
         self.assertIn(b"\n-(c4) a>(g[x]v) % c\n+(c4) a$>(g[x]v) % c\n", ran.stdout)
         self.assertEqual(Path("s/a.gabc").read_text(), score)
+        ran = command(*words, "--fix", "--select", "E1", "--quiet", "s")
+        self.assertEqual((ran.returncode, Path("s/a.gabc").read_text()), (1, score))
         ran = command(*words, "--fix", "--quiet", "s")
         self.assertEqual((ran.returncode, ran.stdout), (1, b"s/a.gabc:3:14: error: E1: character left out of the notes\n"))
         self.assertEqual(Path("s/a.gabc").read_text(), f"{_SCORE}a$>(g[x]v) % c\n")

@@ -4,9 +4,9 @@ from __future__ import annotations
 import json
 import unittest
 
-from gregorio_chant import compile
+from gregorio_chant import Kind, Status, compile
 from gregorio_chant.rules import RULES, messages_with_rules
-from support import EXAMPLES, InFolder, command
+from support import EXAMPLES, InFolder, command, scores_of_tables
 
 
 def found(score: str, name: str) -> list[tuple[int, int, str]]:
@@ -74,6 +74,15 @@ class Rules(unittest.TestCase):
     def test_unknown_special(self) -> None:
         score = "name: a;\n%%\n(c4)  <sp>Rx</sp>(f) <sp>R/</sp><sp>'ae</sp><sp></sp>(g) <v><sp>x</sp></v>(h) $<sp$>(i)\n"
         self.assertEqual([it[:2] for it in found(score, "unknown-special")], [(3, 7), (3, 45)])
+
+    def test_scores_of_the_tables(self) -> None:
+        """Each score of the tables can be tried, whatever stands in it, and its messages come in order, a fatal fault last."""
+        for score in sorted(set(scores_of_tables())):
+            with self.subTest(score):
+                messages = messages_with_rules(score)
+                places = [(it.line, it.column) for it in messages if it.kind is not Kind.FATAL]
+                self.assertEqual(places, sorted(places))
+                self.assertEqual(messages[-1:] != () and messages[-1].kind is Kind.FATAL, compile(score).status is Status.FATAL)
 
     def test_off_unless_asked(self) -> None:
         for score in sorted(EXAMPLES.glob("*.gabc")):

@@ -46,7 +46,7 @@ def _codes(word: str | None) -> frozenset[str] | None:
     return None if word is None else codes_in(word, KNOWN)
 
 
-def _fix(words: argparse.Namespace, settings: Finder) -> int:
+def _fix(words: argparse.Namespace, settings: Finder, chosen: Chosen) -> int:
     """Repairs files where that is asked for."""
     if not words.fix:
         if words.unsafe_fixes or words.diff:
@@ -54,14 +54,14 @@ def _fix(words: argparse.Namespace, settings: Finder) -> int:
         return 0
     if words.staged or STDIN in words.paths:
         raise UnknownCode(f"--fix writes files, so it takes neither --staged nor {STDIN}")
-    return fix_files(paths_of(words), words.exclude, settings, words.unsafe_fixes, words.diff, words.quiet)
+    return fix_files(paths_of(words), words.exclude, settings, chosen, words.unsafe_fixes, words.diff, words.quiet)
 
 
 def run(words: argparse.Namespace) -> int:
     """Checks the files. Raises `UnknownCode`, `CannotWrite`, `Missing`, `NoStage` and
     `SettingsError`."""
     chosen, settings = Chosen(_codes(words.select), _codes(words.ignore), _codes(words.fail_on)), settings_of(words)
-    fixed = _fix(words, settings)
+    fixed = _fix(words, settings, chosen)
     if words.diff:
         return fixed
     wanted = checking.Wanted(
