@@ -125,7 +125,7 @@ def _paths(words: argparse.Namespace) -> tuple[str, ...]:
     return tuple(words.paths)
 
 
-def _fix(words: argparse.Namespace, settings: Finder, chosen: Chosen) -> int:
+def _fix(words: argparse.Namespace, wanted: checking.Wanted) -> int:
     """Repairs files where that is asked for."""
     if not words.fix:
         if words.unsafe_fixes or words.diff:
@@ -133,19 +133,17 @@ def _fix(words: argparse.Namespace, settings: Finder, chosen: Chosen) -> int:
         return 0
     if words.staged or STDIN in words.paths:
         raise UnknownCode(f"--fix writes files, so it takes neither --staged nor {STDIN}")
-    return fix_files(_paths(words), settings, chosen, words.unsafe_fixes, words.diff, words.quiet)
+    return fix_files(wanted, words.unsafe_fixes, words.diff)
 
 
 def _check(words: argparse.Namespace) -> int:
     def codes(word: str | None) -> frozenset[str] | None:
         return None if word is None else codes_in(word, _KNOWN)
 
-    chosen, settings = Chosen(codes(words.select), codes(words.ignore), codes(words.fail_on)), _settings(words)
-    fixed = _fix(words, settings, chosen)
-    if words.diff:
-        return fixed
-    wanted = checking.Wanted(_paths(words), chosen, words.output_format, words.rules, words.jobs, words.quiet, words.staged, settings)
-    return max(fixed, checking.check(wanted))
+    chosen = Chosen(codes(words.select), codes(words.ignore), codes(words.fail_on))
+    wanted = checking.Wanted(_paths(words), chosen, words.output_format, words.rules, words.jobs, words.quiet, words.staged, _settings(words))
+    fixed = _fix(words, wanted)
+    return fixed if words.diff else max(fixed, checking.check(wanted))
 
 
 def _format(words: argparse.Namespace) -> int:
