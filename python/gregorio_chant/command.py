@@ -57,7 +57,7 @@ def _add_check(commands: argparse._SubParsersAction[_Parser]) -> None:
     it.add_argument("--ignore", metavar="CODES", help="do not tell these; a fatal fault is always told")
     it.add_argument("--fail-on", metavar="CODES", help="end with status 1 where one of these is told")
     it.add_argument("--rules", action="store_true", help="try the rules that the compiler leaves open; they stand outside its proof")
-    it.add_argument("--fix", action="store_true", help="repair the files first, where what is read afterwards is what was written; then tell what is left")
+    it.add_argument("--fix", action="store_true", help="repair the files first, where what is read afterwards is what was written; then report what is left")
     it.add_argument("--unsafe-fixes", action="store_true", help="with --fix: repair by guesses too; read what they change")
     it.add_argument("--diff", action="store_true", help="with --fix: write no file, and show what would be repaired, as a diff")
     it.add_argument("--jobs", type=_positive, metavar="N", default=_JOBS, help="threads (here %(default)s)")

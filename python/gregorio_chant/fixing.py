@@ -23,7 +23,7 @@ def _fix(name: str, how: How, shows_diff: bool) -> bool:
 
 
 def fix_files(wanted: Wanted, allow_unsafe: bool, shows_diff: bool) -> int:
-    """Repairs what `check` would tell of the files, and returns 0, or 1 where a diff shows something, or 4 where a file cannot be read or written. Raises
+    """Repairs what `check` would report of the files, and returns 0, or 1 where a diff shows something, or 4 where a file cannot be read or written. Raises
     `CannotWrite`, and `SettingsError` before any score is read."""
     status = number = 0
 

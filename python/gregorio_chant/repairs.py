@@ -45,7 +45,7 @@ _Edits = tuple[Edit, ...]
 
 @dataclass(frozen=True)
 class Repair:
-    """A repair. `wrong` is a line that it turns into `right`, where `before` stands before and `after` behind it; `codes` are those that ask for it."""
+    """A repair. `wrong` is a line that it turns into `right`, where `before` stands before and `after` after it; `codes` are those that ask for it."""
 
     name: str
     codes: frozenset[str]
@@ -107,10 +107,10 @@ def _close_notes(subject: Subject, at: int) -> _Edits:
         return ()
     inner = subject.text.find("(", opener + 1)
     end = re.match(r"[^\s(|]*", subject.text[opener + 1 : inner])
-    behind = opener + 1 + len(end[0]) if end else at
-    if behind == inner:
-        behind = min(it for it in subject.left_out if it > opener)
-    return (Edit(behind, "", ")"),) if behind < inner else ()
+    place = opener + 1 + len(end[0]) if end else at
+    if place == inner:
+        place = min(it for it in subject.left_out if it > opener)
+    return (Edit(place, "", ")"),) if place < inner else ()
 
 
 def _close_at_end(subject: Subject, at: int) -> _Edits:
@@ -152,7 +152,7 @@ REPAIRS: dict[str, Repair] = {
             _style_in_each_syllable, "<i>Ky(f)ri(g)e</i>(h)", "<i>Ky</i>(f)<i>ri</i>(g)<i>e</i>(h)",
         ),
         Repair(
-            "sign-before-attribute", frozenset(("E1",)), False, "Moves a letter or sign of a note before the attribute that it stands behind.",
+            "sign-before-attribute", frozenset(("E1",)), False, "Moves a letter or sign of a note before the attribute that it stands after.",
             _sign_before_attribute, "Ky(f[ll:1]v)", "Ky(fv[ll:1])",
         ),
         Repair(
@@ -309,7 +309,7 @@ def _together(proposals: Sequence[_Proposal]) -> tuple[list[Message], _Edits]:
 
 
 def repaired(data: bytes, how: How) -> bytes:
-    """Returns the score with all repairs that can be made of messages that are told."""
+    """Returns the score with all repairs that can be made of messages that are reported."""
     while True:
         made = repaired_once(data, how)
         if made == data:
