@@ -18,9 +18,9 @@ def page_of(name: str) -> str:
     code, rule = CODES.get(name.upper()), RULES.get(name.lower())
     if code is not None:
         title, it = f"{code.name}: {code.kind.value}: {code.text}", code
-        return _page(title, it.meaning, it.wrong, it.right) + "".join(_repair_of(it) for it in REPAIRS.values() if code.name in it.codes)
+        return _page(title, it.meaning, it.wrong, it.right) + _repairs_of(code.name)
     if rule is not None:
-        return _page(f"{rule.name}: {rule.kind.value}, by check --rules alone", rule.meaning, rule.wrong, rule.right)
+        return _page(f"{rule.name}: {rule.kind.value}, by check --rules alone", rule.meaning, rule.wrong, rule.right) + _repairs_of(rule.name)
     raise UnknownCode(f"{name} is no code and no rule: {did_you_mean(name, [*CODES, *RULES], LISTED)}")
 
 
@@ -37,6 +37,10 @@ def _repair_of(repair: Repair) -> str:
     for head, line in (("Before:", repair.wrong), ("After:", repair.right)):
         lines += ["", head, *(f"    {shown(it)}" for it in line.split("\n"))]
     return "\n".join(lines) + "\n"
+
+
+def _repairs_of(code: str) -> str:
+    return "".join(_repair_of(it) for it in REPAIRS.values() if code in it.codes)
 
 
 def explain(names: Iterable[str]) -> str:

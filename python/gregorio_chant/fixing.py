@@ -1,22 +1,19 @@
 """The words `check --fix`: repairs files before they are checked."""
 from __future__ import annotations
 
-from collections.abc import Collection, Sequence
-
 from gregorio_chant import files
+from gregorio_chant.checking import Wanted
 from gregorio_chant.formatting import difference
-from gregorio_chant.repairs import repaired
+from gregorio_chant.repairs import How, repaired
 from gregorio_chant.reports import counted
-from gregorio_chant.selection import Selection
-from gregorio_chant.settings import Chosen, Finder
 from gregorio_chant.streams import CANNOT_READ_OR_WRITE, reason_of, tell, write
 from gregorio_chant.walk import find_scores
 
 
-def _fix(name: str, selection: Selection, allow_unsafe: bool, shows_diff: bool) -> bool:
+def _fix(name: str, how: How, shows_diff: bool) -> bool:
     """Repairs a file, or shows what would be repaired, and returns whether there is something to repair. Raises `OSError` and `files.Changed`."""
     content = files.read(name)
-    made = repaired(content.data, allow_unsafe, selection)
+    made = repaired(content.data, how)
     if made == content.data:
         return False
     if shows_diff:
@@ -26,11 +23,9 @@ def _fix(name: str, selection: Selection, allow_unsafe: bool, shows_diff: bool) 
     return True
 
 
-def fix_files(
-    paths: Collection[str], exclude: Sequence[str], settings: Finder, chosen: Chosen, allow_unsafe: bool, shows_diff: bool, quiet: bool
-) -> int:
-    """Repairs what is reported of the files, and returns 0, or 1 where a diff shows something, or 4 where a file cannot be read or written. Raises `CannotWrite`, and
-    `SettingsError` or `Missing` before any score is read."""
+def fix_files(wanted: Wanted, allow_unsafe: bool, shows_diff: bool) -> int:
+    """Repairs what `check` would report of the files, and returns 0, or 1 where a diff shows something, or 4 where a file cannot be read or written. Raises
+    `CannotWrite`, and `SettingsError` or `Missing` before any score is read."""
     status = number = 0
 
     def fail(name: str, reason: str) -> None:
@@ -38,13 +33,16 @@ def fix_files(
         status = CANNOT_READ_OR_WRITE
         tell(f"cannot repair {name}: {reason}; it stays as it was")
 
-    for name in settings.kept(find_scores(paths, lambda name, error: fail(name, reason_of(error)), exclude), paths):
+    names = find_scores(wanted.paths, lambda name, error: fail(name, reason_of(error)), wanted.exclude)
+    for name in wanted.settings.kept(names, wanted.paths):
+        settings = wanted.settings.of(name)
         try:
-            number += _fix(name, settings.of(name).selection(name, chosen), allow_unsafe, shows_diff)
+            how = How(allow_unsafe, wanted.with_rules or settings.rules is True, settings.selection(name, wanted.chosen))
+            number += _fix(name, how, shows_diff)
         except OSError as error:
             fail(name, reason_of(error))
         except files.Changed as error:
             fail(name, str(error))
-    if not quiet:
+    if not wanted.quiet:
         tell(f"{counted(number, 'file')} {'would be repaired' if shows_diff else 'repaired'}")
     return max(status, int(shows_diff and number > 0))

@@ -66,7 +66,7 @@ class Subject:
         return self.scan.headers[number] if number >= 0 else None
 
     def unclosed(self, offset: int) -> int | None:
-        """Returns where the `(` stands that probably lacks its `)`, where `offset` lies in notes that hold another `(` behind it."""
+        """Returns where the `(` stands that probably lacks its `)`, where `offset` lies in notes that hold another `(` after it."""
         it = self.syllable_at(offset)
         if it is None or offset <= it.notes:
             return None
@@ -85,7 +85,7 @@ def _left_out_of_notes(subject: Subject, at: int) -> str:
     if it == "|":
         return "'|' parts notes from NABC only where there is a header nabc-lines: write nabc-lines: 1; before the %%"
     if subject.text[:at].endswith("]"):
-        return f"{named(it)} stands behind an attribute: write it before the ["
+        return f"{named(it)} stands after an attribute: write it before the ["
     if it.isdigit():
         return f"{named(it)} is no sign of the note before it: remove it"
     if it.isalpha():
@@ -107,7 +107,7 @@ def _left_out_of_nabc(subject: Subject, at: int) -> str:
     if opener is not None:
         return f"{named(it)} stands in NABC: the ( at {subject.place(opener)} probably lacks its )"
     if it.isdigit():
-        return f"{named(it)} has nothing to count: a number stands behind a modifier, as in peS1, or behind points and letters, as in pesu1 and pelse1"
+        return f"{named(it)} has nothing to count: a number stands after a modifier, as in peS1, or after points and letters, as in pesu1 and pelse1"
     return f"{named(it)} fits nowhere in this descriptor: remove it"
 
 
@@ -130,7 +130,7 @@ def _unfinished(subject: Subject, at: int) -> str:
     before = re.search(r"[^\s(|]*$", subject.text[:at])
     end = before[0] if before else ""
     if end.endswith("-"):
-        return "'-' stands before a note: write the note behind it, or remove it"
+        return "'-' stands before a note: write the note after it, or remove it"
     return f"the end of {named(end)} wants more: finish or remove it"
 
 
@@ -175,7 +175,7 @@ def _centre(subject: Subject, at: int) -> str:
     it = subject.text[at : at + 1]
     if it == "{":
         return "there is a centre already: keep one pair of { and } in a syllable"
-    return "'}' closes no {" if it == "}" else "the { of this syllable is not closed: write } behind its vowel"
+    return "'}' closes no {" if it == "}" else "the { of this syllable is not closed: write } after its vowel"
 
 
 def _second_translation(subject: Subject, at: int) -> str:
@@ -206,13 +206,13 @@ def _macro(subject: Subject, at: int) -> str:
 def _no_notes(subject: Subject, at: int) -> str:
     it = subject.scan.syllables[-1] if subject.scan.syllables else None
     text = subject.text[it.begin : it.end].strip() if it else ""
-    return f"{named(text)} has no notes: write () behind it, or the notes"
+    return f"{named(text)} has no notes: write () after it, or the notes"
 
 
 def _fusion(subject: Subject, at: int) -> str:
     if subject.text[at : at + 1] == "]":
         return "no @[ stands before this ]"
-    return "this @[ is not closed: write ] behind its last note" if subject.text[at : at + 1] == "[" else "an @[ before this place is not closed: write ]"
+    return "this @[ is not closed: write ] after its last note" if subject.text[at : at + 1] == "[" else "an @[ before this place is not closed: write ]"
 
 
 def _open_span(subject: Subject, at: int) -> str:
@@ -221,7 +221,7 @@ def _open_span(subject: Subject, at: int) -> str:
         for tag in re.finditer(r"<(/?)(eu|nlba)>", subject.text[it.begin : it.notes]):
             found[tag[2]] = None if tag[1] else it.begin + tag.start()
     told = [f"<{name}> at {subject.place(begin)}" for name, begin in found.items() if begin is not None]
-    return f"the {' and the '.join(told)} is not closed: write </..> behind its last syllable" if told else "a span is not closed"
+    return f"the {' and the '.join(told)} is not closed: write </..> after its last syllable" if told else "a span is not closed"
 
 
 def _no_clef(subject: Subject, at: int) -> str:
@@ -239,7 +239,7 @@ def _no_score(subject: Subject, at: int) -> str:
 def _value_not_ended(subject: Subject, at: int) -> str:
     place = subject.lines.place(at)
     line = subject.lines.line(place.line).partition("%")[0].rstrip(" \t")
-    return f"line {place.line} lacks its ; : write {named(line + ';')}, or ;; behind the last line of a value of several lines"
+    return f"line {place.line} lacks its ; : write {named(line + ';')}, or ;; after the last line of a value of several lines"
 
 
 def _headers_too_long(subject: Subject, at: int) -> str:
@@ -249,7 +249,7 @@ def _headers_too_long(subject: Subject, at: int) -> str:
 def _syllable_too_long(subject: Subject, at: int) -> str:
     it = subject.syllable_at(at)
     begin = it.notes if it is not None and it.notes < at else it.begin if it is not None else at
-    return f"16,384 bytes are the most: look for a ( or ) that is missing behind {subject.place(begin)}"
+    return f"16,384 bytes are the most: look for a ( or ) that is missing after {subject.place(begin)}"
 
 
 def _cut(subject: Subject, at: int) -> str:
@@ -278,6 +278,6 @@ def help_for(subject: Subject, message: Message) -> str | None:
 
 
 def helps_for(text: str, found: Iterable[Message], told: Iterable[Message]) -> tuple[str | None, ...]:
-    """Returns the help for each message that is told, of all that are found in this text."""
+    """Returns the help for each message that is reported, of all that are found in this text."""
     subject = Subject(text, found)
     return tuple(help_for(subject, it) for it in told)

@@ -61,7 +61,7 @@ class _Source:
         return self._text[: self._offsets[0]] if self._offsets else ""
 
     def between(self, begin: int, end: int) -> str:
-        """Returns the text from `begin` up to `end`, with the marks behind its characters."""
+        """Returns the text from `begin` up to `end`, with the marks after its characters."""
         if self._offsets is None:
             return self._text[begin:end]
         return self._text[self._offsets[begin] : self._offsets[end]]

@@ -16,7 +16,7 @@ from gregorio_chant.compiled import Compiled
 from gregorio_chant.helps import Subject, open_styles
 from gregorio_chant.layout import after_lead
 from gregorio_chant.results import Message
-from gregorio_chant.rules import unsilenced
+from gregorio_chant.rules import messages_with_rules, unsilenced
 from gregorio_chant.scan import Span
 from gregorio_chant.selection import Selection
 from gregorio_chant.source import raw_offsets, text_of
@@ -24,6 +24,7 @@ from gregorio_chant.source import raw_offsets, text_of
 # How many repairs are tried one by one, where not all can be made at once.
 _MOST_TRIED = 200
 _SCORE = "name: Kyrie;\n%%\n(c4) "
+_BARRED = re.compile(r"<sp>([ARV][^/<]?)</sp>")
 
 
 @dataclass(frozen=True, order=True)
@@ -44,7 +45,7 @@ _Edits = tuple[Edit, ...]
 
 @dataclass(frozen=True)
 class Repair:
-    """A repair. `wrong` is a line that it turns into `right`, where `before` stands before and `after` behind it; `codes` are those that ask for it."""
+    """A repair. `wrong` is a line that it turns into `right`, where `before` stands before and `after` after it; `codes` are those that ask for it."""
 
     name: str
     codes: frozenset[str]
@@ -106,10 +107,10 @@ def _close_notes(subject: Subject, at: int) -> _Edits:
         return ()
     inner = subject.text.find("(", opener + 1)
     end = re.match(r"[^\s(|]*", subject.text[opener + 1 : inner])
-    behind = opener + 1 + len(end[0]) if end else at
-    if behind == inner:
-        behind = min(it for it in subject.left_out if it > opener)
-    return (Edit(behind, "", ")"),) if behind < inner else ()
+    place = opener + 1 + len(end[0]) if end else at
+    if place == inner:
+        place = min(it for it in subject.left_out if it > opener)
+    return (Edit(place, "", ")"),) if place < inner else ()
 
 
 def _close_at_end(subject: Subject, at: int) -> _Edits:
@@ -134,6 +135,11 @@ def _leave_out_of_nabc(subject: Subject, at: int) -> _Edits:
     return (Edit(at, it, ""),) if it.isascii() and it.isalnum() else ()
 
 
+def _special(subject: Subject, at: int) -> _Edits:
+    found = _BARRED.match(subject.text, at)
+    return (Edit(found.start(1), found[1], found[1][0] + "/"),) if found else ()
+
+
 REPAIRS: dict[str, Repair] = {
     it.name: it
     for it in (
@@ -146,7 +152,7 @@ REPAIRS: dict[str, Repair] = {
             _style_in_each_syllable, "<i>Ky(f)ri(g)e</i>(h)", "<i>Ky</i>(f)<i>ri</i>(g)<i>e</i>(h)",
         ),
         Repair(
-            "sign-before-attribute", frozenset(("E1",)), False, "Moves a letter or sign of a note before the attribute that it stands behind.",
+            "sign-before-attribute", frozenset(("E1",)), False, "Moves a letter or sign of a note before the attribute that it stands after.",
             _sign_before_attribute, "Ky(f[ll:1]v)", "Ky(fv[ll:1])",
         ),
         Repair(
@@ -161,12 +167,16 @@ REPAIRS: dict[str, Repair] = {
             "name: Kyrie;\n", "\n%%\n(c4) Ky(f)\n",
         ),
         Repair(
-            "nabc-header", frozenset(("E1",)), False, "Writes the header nabc-lines where a | stands in the notes, and there is none.",
+            "nabc-header", frozenset(("E1", "nabc-without-header")), False, "Writes the header nabc-lines where a | stands in the notes, and there is none.",
             _nabc_header, "%%\n(c4) Ky(f|pu)", "nabc-lines: 1;\n%%\n(c4) Ky(f|pu)", "name: Kyrie;\n",
         ),
         Repair(
             "leave-out-of-nabc", frozenset(("E3",)), False, "Leaves out a number or letter that NABC does not take.",
             _leave_out_of_nabc, "Ky(f|un1)", "Ky(f|un)", "name: Kyrie;\nnabc-lines: 1;\n%%\n(c4) ",
+        ),
+        Repair(
+            "barred-letter", frozenset(("unknown-special",)), False, "Writes A/, R/ or V/ between <sp> and </sp> for another spelling of the barred letter.",
+            _special, "<sp>Rx</sp>(::)", "<sp>R/</sp>(::)",
         ),
     )
 }
@@ -194,9 +204,14 @@ class _Moved:
         return offset - shift
 
 
-def _messages_at(score: Compiled, place: Callable[[int], int] = lambda offset: offset) -> Counter[tuple[str, int]]:
+def _found(score: Compiled, with_rules: bool) -> tuple[Message, ...]:
+    return messages_with_rules(score.data) if with_rules else unsilenced(score.data, score.messages)
+
+
+def _messages_at(score: Compiled, with_rules: bool, place: Callable[[int], int] = lambda offset: offset) -> Counter[tuple[str, int]]:
     lines = score.comparison.lines
-    return Counter((it.code, place(lines.offset(it.line, it.column))) for it in score.messages)
+    found = {*_found(score, with_rules), *score.messages}
+    return Counter((it.code, place(lines.offset(it.line, it.column))) for it in found)
 
 
 def _comments(score: Compiled) -> list[str]:
@@ -230,13 +245,13 @@ def _differs_there_alone(old: Compiled, new: Compiled, places: Sequence[int]) ->
     return all(_is_touched(it, places) for it in changed)
 
 
-def _is_repaired(old: Compiled, new: Compiled, edits: _Edits, targets: Sequence[Message]) -> bool:
+def _is_repaired(old: Compiled, new: Compiled, edits: _Edits, targets: Sequence[Message], with_rules: bool) -> bool:
     if old.fault is not None:
         is_later = new.fault is None or (new.fault.line, new.fault.column) > (old.fault.line, old.fault.column)
         return is_later and not any(it.old for it in edits)
     if new.fault is not None:
         return False
-    before, after = _messages_at(old), _messages_at(new, _Moved(edits).before)
+    before, after = _messages_at(old, with_rules), _messages_at(new, with_rules, _Moved(edits).before)
     lines = old.comparison.lines
     wanted = {(it.code, lines.offset(it.line, it.column)) for it in targets}
     if after - before or any(it in after for it in wanted):
@@ -260,14 +275,23 @@ def _with_edits(data: bytes, edits: Sequence[Edit]) -> bytes:
     return "".join([*parts, raw[at:]]).encode("utf-8")
 
 
+@dataclass(frozen=True)
+class How:
+    """Which repairs are made: of which messages, of those of rules too, and by guesses too."""
+
+    allow_unsafe: bool = False
+    with_rules: bool = False
+    selection: Selection = Selection()
+
+
 _Proposal = tuple[Message, _Edits]
 
 
-def _proposals(score: Compiled, allow_unsafe: bool, selection: Selection) -> Iterator[_Proposal]:
+def _proposals(score: Compiled, how: How) -> Iterator[_Proposal]:
     subject = Subject(text_of(score.data), score.messages)
-    for message in selection.of(unsilenced(score.data, score.messages)):
+    for message in how.selection.of(_found(score, how.with_rules)):
         for repair in REPAIRS.values():
-            if message.code in repair.codes and (repair.is_safe or allow_unsafe):
+            if message.code in repair.codes and (repair.is_safe or how.allow_unsafe):
                 edits = repair.find(subject, subject.offset(message))
                 if edits:
                     yield message, tuple(sorted(edits))
@@ -284,25 +308,25 @@ def _together(proposals: Sequence[_Proposal]) -> tuple[list[Message], _Edits]:
     return targets, tuple(edits)
 
 
-def repaired(data: bytes, allow_unsafe: bool, selection: Selection = Selection()) -> bytes:
-    """Returns the score with all repairs that can be made of messages that are told; unsafe ones only where they are allowed."""
+def repaired(data: bytes, how: How) -> bytes:
+    """Returns the score with all repairs that can be made of messages that are reported."""
     while True:
-        made = repaired_once(data, allow_unsafe, selection)
+        made = repaired_once(data, how)
         if made == data:
             return data
         data = made
 
 
-def repaired_once(data: bytes, allow_unsafe: bool, selection: Selection = Selection()) -> bytes:
+def repaired_once(data: bytes, how: How) -> bytes:
     """Returns the score with as many repairs as can be made together, or else the first one that can be made alone."""
     old = Compiled(data)
     if old.fault is not None and old.fault.code == "F1":
         return data
-    proposals = list(itertools.islice(_proposals(old, allow_unsafe, selection), _MOST_TRIED))
+    proposals = list(itertools.islice(_proposals(old, how), _MOST_TRIED))
     tries = [_together(proposals)] if len(proposals) > 1 else []
     tries += [([message], edits) for message, edits in proposals]
     for targets, edits in tries:
         made = _with_edits(data, edits)
-        if _is_repaired(old, Compiled(made), edits, targets):
+        if _is_repaired(old, Compiled(made), edits, targets, how.with_rules):
             return made
     return data

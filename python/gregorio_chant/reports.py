@@ -37,7 +37,7 @@ class Checked:
 
 
 def with_help(message: Message, help: str | None) -> str:
-    """Returns the text of a message and, behind a colon, its help."""
+    """Returns the text of a message and, after a colon, its help."""
     return message.text if help is None else f"{message.text}: {help}"
 
 

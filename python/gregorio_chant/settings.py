@@ -58,7 +58,7 @@ class Settings:
         return any(self._fits(name, it) for it in self.exclude)
 
     def selection(self, name: str, chosen: Chosen = Chosen()) -> Selection:
-        """Returns what is told of a file. What the settings ignore in it comes to what is ignored anyway."""
+        """Returns what is reported of a file. What the settings ignore in it comes to what is ignored anyway."""
         def first(word: frozenset[str] | None, setting: frozenset[str] | None) -> frozenset[str]:
             return word if word is not None else setting or frozenset()
 
@@ -68,7 +68,7 @@ class Settings:
 
 
 class _Reader:
-    """Reads the keys of a file of settings, and tells what is wrong with line and key."""
+    """Reads the keys of a file of settings, and reports what is wrong with line and key."""
 
     def __init__(self, path: Path, text: str, known: Collection[str]) -> None:
         self._path, self._text, self._known = path, text, known

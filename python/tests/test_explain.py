@@ -84,7 +84,7 @@ class Command(unittest.TestCase):
                 for head, lines in (("Before", repair.wrong), ("After", repair.right)):
                     self.assertIn(f"\n{head}:\n" + "".join(f"    {it}\n" for it in lines.split("\n")), shown)
         page = (ROOT / "docs" / "PYTHON.md").read_text(encoding="utf-8")
-        rows = re.findall(r"^\| `([a-z-]+)` \| (`[EWF]\d+`(?:, `[EWF]\d+`)*) \| (yes|no) \|", page, re.MULTILINE)
+        rows = re.findall(r"^\| `([a-z-]+)` \| (`[\w-]+`(?:, `[\w-]+`)*) \| (yes|no) \|", page, re.MULTILINE)
         told = [(it.name, ", ".join(f"`{code}`" for code in sorted(it.codes)), "yes" if it.is_safe else "no") for it in REPAIRS.values()]
         self.assertEqual(rows, told)
 

@@ -8,11 +8,13 @@ from pathlib import Path
 from unittest import mock
 
 from gregorio_chant import Status, check, repairs
+from gregorio_chant.checking import check_data
 from gregorio_chant.compiled import Compiled
-from gregorio_chant.repairs import REPAIRS, Edit, repaired
+from gregorio_chant.repairs import REPAIRS, Edit, How, repaired
 from gregorio_chant.selection import Selection
 from support import EXAMPLES, InFolder, command, scores_of_tables
 
+SAFE, ALL = How(), How(allow_unsafe=True, with_rules=True)
 _SCORE = "name: a;\n%%\n(c4) "
 _NABC = "name: a;\nnabc-lines: 1;\n%%\n(c4) "
 # Scores, and what all repairs make of them; nothing where none can be made.
@@ -37,7 +39,7 @@ REPAIRED: list[tuple[str, str | None]] = [
 
 
 def codes_of(score: bytes) -> Counter[str]:
-    return Counter(it.code for it in check(score).messages)
+    return Counter(it.code for it in check_data(score, True))
 
 
 class Repairs(unittest.TestCase):
@@ -45,8 +47,8 @@ class Repairs(unittest.TestCase):
         for repair in REPAIRS.values():
             with self.subTest(repair.name):
                 wrong, right = repair.score_with(repair.wrong), repair.score_with(repair.right)
-                self.assertEqual(repaired(wrong, not repair.is_safe), right)
-                self.assertEqual(repaired(wrong, False), right if repair.is_safe else wrong)
+                self.assertEqual(repaired(wrong, ALL), right)
+                self.assertEqual(repaired(wrong, SAFE), right if repair.is_safe else wrong)
                 self.assertLessEqual(repair.codes & set(codes_of(wrong)), repair.codes)
                 self.assertTrue(repair.codes & set(codes_of(wrong)))
                 self.assertFalse(repair.codes & set(codes_of(right)))
@@ -54,25 +56,25 @@ class Repairs(unittest.TestCase):
     def test_scores(self) -> None:
         for score, wanted in REPAIRED:
             with self.subTest(score):
-                self.assertEqual(repaired(score.encode(), True).decode(), score if wanted is None else wanted)
+                self.assertEqual(repaired(score.encode(), ALL).decode(), score if wanted is None else wanted)
 
     def test_line_ends_and_marks(self) -> None:
-        score = f"\ufeff{_SCORE}\ufeff<i>a\ufeff(g)b</i>(h\ufeff)>\n(f|pu)".replace("\n", "\r\n")
-        wanted = f"\ufeffname: a;\nnabc-lines: 1;\n%%\n(c4) \ufeff<i>a\ufeff</i>(g)<i>b</i>(h\ufeff)$>\n(f|pu)".replace("\n", "\r\n")
-        self.assertEqual(repaired(score.encode(), True).decode(), wanted)
+        score = f"\ufeff{_SCORE}\ufeff<i>a\ufeff(g)b</i>(h\ufeff)>(i)\n(f|pu)".replace("\n", "\r\n")
+        wanted = f"\ufeffname: a;\nnabc-lines: 1;\n%%\n(c4) \ufeff<i>a\ufeff</i>(g)<i>b</i>(h\ufeff)$>(i)\n(f|pu)".replace("\n", "\r\n")
+        self.assertEqual(repaired(score.encode(), ALL).decode(), wanted)
 
     def test_what_is_not_told_is_not_repaired(self) -> None:
         score = f"{_SCORE}a>(g) % gregorio: ignore E2\n<i>b(h)c</i>(i)\n"
-        self.assertEqual(repaired(score.encode(), True).decode(), f"{_SCORE}a>(g) % gregorio: ignore E2\n<i>b</i>(h)<i>c</i>(i)\n")
-        self.assertEqual(repaired(score.encode(), True, Selection(ignore=frozenset(("W",)))).decode(), score)
+        self.assertEqual(repaired(score.encode(), ALL).decode(), f"{_SCORE}a>(g) % gregorio: ignore E2\n<i>b</i>(h)<i>c</i>(i)\n")
+        self.assertEqual(repaired(score.encode(), How(True, True, Selection(ignore=frozenset(("W",))))).decode(), score)
 
     def look_at(self, score: bytes) -> bool:
         """Checks each step of all repairs of a score, and returns whether something is made."""
         steps = [score]
-        while (made := repairs.repaired_once(steps[-1], True)) != steps[-1]:
+        while (made := repairs.repaired_once(steps[-1], ALL)) != steps[-1]:
             self.look_at_step(steps[-1], made)
             steps.append(made)
-        self.assertEqual(repaired(score, True), steps[-1])
+        self.assertEqual(repaired(score, ALL), steps[-1])
         return len(steps) > 1
 
     def look_at_step(self, score: bytes, made: bytes) -> None:
@@ -114,7 +116,7 @@ class Repairs(unittest.TestCase):
         ):
             wrong = replace(REPAIRS["escape"], find=lambda subject, offset, edits=edits: edits)
             with mock.patch.dict(repairs.REPAIRS, {"escape": wrong}):
-                self.assertEqual(repaired(score, False) != score, is_made, edits)
+                self.assertEqual(repaired(score, SAFE) != score, is_made, edits)
 
     def test_fatal_faults(self) -> None:
         """Where a fault stops a score, a repair inserts and takes nothing away."""
@@ -122,8 +124,8 @@ class Repairs(unittest.TestCase):
         for edits, is_made in (((Edit(7, "", ";"),), True), ((Edit(6, "a", "b;"),), False)):
             wrong = replace(REPAIRS["end-header"], find=lambda subject, offset, edits=edits: edits)
             with mock.patch.dict(repairs.REPAIRS, {"end-header": wrong}):
-                self.assertEqual(check(repaired(score, True)).status is not Status.FATAL, is_made)
-        self.assertEqual(repaired(b"name: \xe9\n%%\n(c4) a>(g", True), b"name: \xe9\n%%\n(c4) a>(g")
+                self.assertEqual(check(repaired(score, ALL)).status is not Status.FATAL, is_made)
+        self.assertEqual(repaired(b"name: \xe9\n%%\n(c4) a>(g", ALL), b"name: \xe9\n%%\n(c4) a>(g")
 
 
 class Command(InFolder):

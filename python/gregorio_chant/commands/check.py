@@ -9,7 +9,7 @@ from gregorio_chant.commands.words import (
 )
 from gregorio_chant.fixing import fix_files
 from gregorio_chant.selection import UnknownCode, codes_in
-from gregorio_chant.settings import Chosen, Finder
+from gregorio_chant.settings import Chosen
 from gregorio_chant.streams import STDIN
 
 NAME = "check"
@@ -46,7 +46,7 @@ def _codes(word: str | None) -> frozenset[str] | None:
     return None if word is None else codes_in(word, KNOWN)
 
 
-def _fix(words: argparse.Namespace, settings: Finder, chosen: Chosen) -> int:
+def _fix(words: argparse.Namespace, wanted: checking.Wanted) -> int:
     """Repairs files where that is asked for."""
     if not words.fix:
         if words.unsafe_fixes or words.diff:
@@ -54,17 +54,15 @@ def _fix(words: argparse.Namespace, settings: Finder, chosen: Chosen) -> int:
         return 0
     if words.staged or STDIN in words.paths:
         raise UnknownCode(f"--fix writes files, so it takes neither --staged nor {STDIN}")
-    return fix_files(paths_of(words), words.exclude, settings, chosen, words.unsafe_fixes, words.diff, words.quiet)
+    return fix_files(wanted, words.unsafe_fixes, words.diff)
 
 
 def run(words: argparse.Namespace) -> int:
     """Checks the files. Raises `UnknownCode`, `CannotWrite`, `Missing`, `NoStage` and
     `SettingsError`."""
-    chosen, settings = Chosen(_codes(words.select), _codes(words.ignore), _codes(words.fail_on)), settings_of(words)
-    fixed = _fix(words, settings, chosen)
-    if words.diff:
-        return fixed
+    chosen = Chosen(_codes(words.select), _codes(words.ignore), _codes(words.fail_on))
     wanted = checking.Wanted(
-        paths_of(words), chosen, words.output_format, words.rules, words.jobs, words.quiet, tuple(words.exclude), words.staged, settings
+        paths_of(words), chosen, words.output_format, words.rules, words.jobs, words.quiet, tuple(words.exclude), words.staged, settings_of(words)
     )
-    return max(fixed, checking.check(wanted))
+    fixed = _fix(words, wanted)
+    return fixed if words.diff else max(fixed, checking.check(wanted))
