@@ -1,6 +1,6 @@
 """Builds the wheel with the standard library alone (Python 3.11 or newer), so that `pip install` needs no network.
 
-The wheel holds the package and the library for C, which `tools/build_c` has to have built, and is tagged for this machine's platform. Its version is that of the
+The wheel holds the package, and the library for C with the file BUILD, which `tools/build_c` has to have built. It is tagged for this machine's platform. Its version is that of the
 file VERSION, its license that of the file LICENSE, and the rest of its metadata that of pyproject.toml.
 """
 from __future__ import annotations
@@ -30,8 +30,11 @@ def _files() -> dict[str, bytes]:
     """Returns the package's files by their names in the wheel."""
     if not LIBRARY.exists():
         raise FileNotFoundError(f"{LIBRARY} is not there: run tools/build_c first")
-    files = {f"{PACKAGE}/{it.name}": it.read_bytes() for it in sorted((HERE / PACKAGE).iterdir()) if it.suffix == ".py" or it.name == "py.typed"}
-    files[f"{PACKAGE}/{LIBRARY.name}"] = LIBRARY.read_bytes()
+    sources = sorted([*(HERE / PACKAGE).rglob("*.py"), HERE / PACKAGE / "py.typed"])
+    files = {it.relative_to(HERE).as_posix(): it.read_bytes() for it in sources}
+    for it in (LIBRARY, LIBRARY.with_name("BUILD")):
+        if it.exists():
+            files[f"{PACKAGE}/{it.name}"] = it.read_bytes()
     return files
 
 
@@ -43,9 +46,7 @@ def _metadata(project: dict[str, Any], version: str) -> str:
         f"Requires-Python: {project['requires-python']}", "Description-Content-Type: text/markdown",
     ]
     lines += [f"Classifier: {it}" for it in project["classifiers"]]
-    for extra, packages in project["optional-dependencies"].items():
-        lines.append(f"Provides-Extra: {extra}")
-        lines += [f'Requires-Dist: {it}; extra == "{extra}"' for it in packages]
+    lines += [f"Requires-Dist: {it}" for it in project["dependencies"]]
     return "\n".join(lines) + "\n\n" + (HERE / "README.md").read_text(encoding="utf-8")
 
 

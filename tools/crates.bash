@@ -1,4 +1,4 @@
-# Reads crates.txt, and puts crates in the order in which they are built. For scripts, which source it.
+# Reads crates.txt, puts crates in the order in which they are built, and says whether what was built is current. For scripts, which source it.
 
 # Reads crates.txt of the repository at this folder: `needs` gets each crate, with the crates of the repository that it names.
 declare -A needs=()
@@ -25,4 +25,21 @@ place_crate() {
     place_crate "$below"
   done
   order+=("$1")
+}
+
+# Whether the file $2 is there, and no source of these crates of the repository at the folder $1 is newer.
+is_current() {
+  local root="$1" built="$2" crate part newer
+  local sources=("$root/crates.txt")
+  shift 2
+  [ -e "$built" ] || return 1
+  for crate; do
+    for part in src specs proofs; do
+      if [ -e "$root/crates/$crate/$part" ]; then
+        sources+=("$root/crates/$crate/$part")
+      fi
+    done
+  done
+  newer="$(find "${sources[@]}" -newer "$built" -print -quit)" || return 1
+  [ -z "$newer" ]
 }

@@ -6,11 +6,7 @@
 
 # Writes the recipe with this name into the file `recipe`.
 recipe() {
-  awk -v mark="<!-- recipe: $1 -->" '
-    $0 == mark { on = 1; next }
-    on && /^    / { while (blank) { print ""; blank-- } print substr($0, 5); seen = 1; next }
-    on && seen && /^$/ { blank++; next }
-    on && seen { exit }' "$here/docs/USE.md" >recipe
+  awk -v name="$1" -f "$here/tools/recipe.awk" "$here/docs/USE.md" >recipe
   check "docs/USE.md has the recipe $1" test -s recipe
   recipes_run+=("$1")
 }

@@ -4,115 +4,111 @@ from __future__ import annotations
 from collections import Counter
 from collections.abc import Callable, Iterator
 from concurrent.futures import ThreadPoolExecutor
-from contextlib import AbstractContextManager, nullcontext
+from contextlib import contextmanager, nullcontext
 from dataclasses import dataclass
-from typing import Protocol
+from functools import partial
 
 from gregorio_chant import __version__, library
-from gregorio_chant.files import find_scores, read
-from gregorio_chant.reports import Annotations, Checked, Json, Lines, Reporter, Sarif, summary_of
+from gregorio_chant.files import Content, read
+from gregorio_chant.helps import helps_for
+from gregorio_chant.needs import Missing
+from gregorio_chant.processes import by_processes
+from gregorio_chant.progress import bar
+from gregorio_chant.reports import Annotations, Checked, Json, Lines, Reporter, summary_of
 from gregorio_chant.results import Kind, Message
-from gregorio_chant.rules import MEANINGS, messages_with_rules
-from gregorio_chant.selection import Selection
+from gregorio_chant.rules import messages_with_rules, unsilenced
+from gregorio_chant.sarif import Sarif
+from gregorio_chant.settings import Chosen, Finder, NoSettings
 from gregorio_chant.source import text_of
+from gregorio_chant.staged import StagedFiles
 from gregorio_chant.streams import CANNOT_READ_OR_WRITE, reason_of, tell, write
+from gregorio_chant.walk import find_scores
 
 NO_MEMORY = 5
 FORMS = ("text", "lines", "json", "github", "sarif")
-NO_RICH = "messages with the line of the score want the package rich (in Debian python3-rich): pip install 'gregorio-chant[text]'"
-
-
-class NoRich(Exception):
-    """What was asked for wants the package rich, and that is not there."""
 
 
 @dataclass(frozen=True)
 class Wanted:
-    """What the words of the command ask for. Without a `form` it is text, or lines where there is no rich."""
+    """What the words of the command ask for; `exclude` has patterns of what is left out of
+    folders."""
 
     paths: tuple[str, ...]
-    selection: Selection = Selection()
-    form: str | None = None
+    chosen: Chosen = Chosen()
+    form: str = "text"
     with_rules: bool = False
     jobs: int = 1
     quiet: bool = False
-
-
-class _Shown(Protocol):
-    """What shows how far a long run has come."""
-
-    def advance(self) -> None: ...
-
-    def aside(self) -> AbstractContextManager[None]: ...
-
-
-class _Nothing:
-    def advance(self) -> None:
-        pass
-
-    def aside(self) -> AbstractContextManager[None]:
-        return nullcontext()
+    exclude: tuple[str, ...] = ()
+    staged: bool = False
+    settings: Finder = NoSettings()
 
 
 def check_data(data: bytes, with_rules: bool) -> tuple[Message, ...]:
-    """Returns all that is found in a score, by the compiler and, if they are wanted, by the rules."""
+    """Returns all that is found in a score, by the compiler and, if they are wanted, by the
+    rules, and that no comment of it silences."""
     if with_rules:
         return messages_with_rules(data)
-    return library.check(data).messages
+    return unsilenced(data, library.check(data).messages)
 
 
-def check_file(name: str, wanted: Wanted) -> Checked:
+_Read = Callable[[str], Content]
+
+
+def check_file(name: str, wanted: Wanted, read_it: _Read = read) -> Checked:
     """Returns what is found in the file, or why it was not read."""
+    settings = wanted.settings.of(name)
+    selection = settings.selection(name, wanted.chosen)
     try:
-        data = read(name).data
-        messages = wanted.selection.of(check_data(data, wanted.with_rules))
+        data = read_it(name).data
+        found = check_data(data, wanted.with_rules or settings.rules is True)
+        messages = selection.of(found)
     except OSError as error:
         return Checked(name, failure=reason_of(error), status=CANNOT_READ_OR_WRITE)
     except MemoryError:
         return Checked(name, failure="there is no memory for it", status=NO_MEMORY)
     if not messages:
         return Checked(name)
-    return Checked(name, messages, text_of(data), status=int(wanted.selection.status_of(messages)))
+    text = text_of(data)
+    return Checked(name, messages, text, status=int(selection.status_of(messages)), helps=helps_for(text, found, messages))
 
 
-def _all_checked(names: list[str], wanted: Wanted) -> Iterator[Checked]:
-    if wanted.jobs == 1:
-        yield from (check_file(it, wanted) for it in names)
+@contextmanager
+def _all_checked(names: list[str], wanted: Wanted, read_it: _Read) -> Iterator[Iterator[Checked]]:
+    """Gives what is found in each file, in order: by threads, since the compiler runs beside
+    them; by processes with rules, which are Python."""
+    work = partial(check_file, wanted=wanted, read_it=read_it)
+    with_rules = wanted.with_rules or any(wanted.settings.of(it).rules for it in names)
+    if with_rules and not wanted.staged:
+        with by_processes(work, names, wanted.jobs) as all_checked:
+            yield all_checked
         return
-    with ThreadPoolExecutor(wanted.jobs) as pool:
-        try:
-            yield from pool.map(lambda it: check_file(it, wanted), names)
-        except BaseException:
-            pool.shutdown(wait=False, cancel_futures=True)
-            raise
+    if wanted.jobs == 1:
+        yield map(work, names)
+        return
+    pool = ThreadPoolExecutor(wanted.jobs)
+    try:
+        yield pool.map(work, names)
+    finally:
+        pool.shutdown(wait=False, cancel_futures=True)
 
 
-def _reporter_of(form: str | None) -> Reporter:
+def _reporter_of(form: str) -> Reporter:
     plain: dict[str, Callable[[], Reporter]] = {
-        "lines": Lines, "json": Json, "github": Annotations, "sarif": lambda: Sarif(__version__, MEANINGS),
+        "lines": Lines, "json": Json, "github": Annotations, "sarif": lambda: Sarif(__version__),
     }
     if form in plain:
         return plain[form]()
     try:
         from gregorio_chant.terminal import TextReporter
     except ImportError:
-        if form is not None:
-            raise NoRich(NO_RICH) from None
-        tell(f"{NO_RICH}; lines are written instead")
-        return Lines()
+        raise Missing("text (--output-format lines does without)", "rich") from None
     return TextReporter()
 
 
-def _bar(files: int) -> AbstractContextManager[_Shown]:
-    try:
-        from gregorio_chant.terminal import bar
-    except ImportError:
-        return nullcontext(_Nothing())
-    return bar(files)
-
-
 class _Count:
-    """How many files were read, how many could not be, what was found in them, and the worst status."""
+    """How many files were read, how many could not be, what was found in them, and the worst
+    status."""
 
     def __init__(self) -> None:
         self.files, self.failed, self.status = 0, 0, 0
@@ -135,15 +131,25 @@ class _Count:
         return summary_of(self.files, self.failed, self.kinds)
 
 
+def _named(wanted: Wanted, count: _Count) -> tuple[list[str], _Read]:
+    """Returns the names of what is checked, and what reads each."""
+    if wanted.staged:
+        staged = StagedFiles(wanted.paths)
+        return wanted.settings.kept(staged.names, wanted.paths), staged.read
+    names = find_scores(wanted.paths, lambda name, error: count.fail(name, reason_of(error)), wanted.exclude)
+    return wanted.settings.kept(names, wanted.paths), read
+
+
 def check(wanted: Wanted) -> int:
-    """Checks the files, tells what is found, and returns the worst status. Raises `CannotWrite`, and `NoRich` before anything is read."""
+    """Checks the files, reports what is found, and returns the worst status. Raises
+    `CannotWrite`, and `Missing`, `NoStage` or `SettingsError` before any score is read."""
     reporter = _reporter_of(wanted.form)
     count = _Count()
-    names = find_scores(wanted.paths, lambda name, error: count.fail(name, reason_of(error)))
-    with _bar(len(names)) as shown:
-        for it in _all_checked(names, wanted):
+    names, read_it = _named(wanted, count)
+    with _all_checked(names, wanted, read_it) as all_checked, bar("checking", len(names)) as shown:
+        for it in all_checked:
             text = reporter.add(it)
-            with shown.aside() if text or it.failure else nullcontext():
+            with shown.aside(told=it.failure is not None) if text or it.failure else nullcontext():
                 count.add(it)
                 write(text)
             shown.advance()

@@ -1,142 +1,51 @@
-"""The command `gregorio-chant`: its words, and its statuses."""
+"""The command `gregorio-chant`: its sub-commands, and its statuses."""
 from __future__ import annotations
 
-import argparse
-import os
 import sys
 from collections.abc import Sequence
-from typing import NoReturn
 
-from gregorio_chant import __version__, checking, formatting
-from gregorio_chant.codes import CODES
-from gregorio_chant.explaining import explain
-from gregorio_chant.losses import REASONS
-from gregorio_chant.rules import RULES
-from gregorio_chant.selection import Selection, UnknownCode, codes_in
-from gregorio_chant.streams import CANNOT_READ_OR_WRITE, NAME, STDIN, CannotWrite, tell, write
+from gregorio_chant import __version__, checking
+from gregorio_chant.commands import check, explain, format, server, version
+from gregorio_chant.commands.words import REFUSED, STATUSES, Command, Parser, examples
+from gregorio_chant.needs import Missing
+from gregorio_chant.selection import UnknownCode
+from gregorio_chant.settings import SettingsError
+from gregorio_chant.staged import NoStage
+from gregorio_chant.streams import CANNOT_READ_OR_WRITE, NAME, CannotWrite, tell
 
-REFUSED = 3
 _ABOUT = """Checks, formats and explains chant scores in GABC.
 
 What is found in a score and its canonical form come from a compiler that is proved to follow its definition. The rest of this command
 stands outside that proof and is only tested: which files are read and written, how messages are shown, the rules, the server."""
-_OUTSIDE = "What stands around the compiler is outside the proof, and only tested."
-_STATUSES = """exit status: the worst of 0 nothing wrong, 1 errors (format: something would change or was refused), 2 a fatal fault,
-3 the words were refused, 4 a file could not be read or written, 5 no memory"""
-_SERVES = f"Serves an editor by the language server protocol over standard input and output. {_OUTSIDE}"
-_PATHS = f"a file, a folder for all files *.gabc below it, or {STDIN} for standard input; behind -- each word is a path"
+_EXAMPLES = examples(("gregorio-chant check scores", "gregorio-chant format --diff score.gabc", "gregorio-chant explain E4"))
+COMMANDS: tuple[Command, ...] = (check, format, explain, server, version)
 
 
-class _Parser(argparse.ArgumentParser):
-    """Refuses words with a line and the status of refused words."""
-
-    def error(self, message: str) -> NoReturn:
-        tell(f"{message}; {self.prog} --help says more")
-        raise SystemExit(REFUSED)
-
-    def _print_message(self, message: str, file: object = None) -> None:
-        write(message)
-
-
-def _add_check(commands: argparse._SubParsersAction[_Parser]) -> None:
-    it = commands.add_parser(
-        "check", help="tell what is found in files, and write none", epilog=_STATUSES,
-        description=f"Tells what is found in files, and writes none. The messages are the compiler's, but for those of rules. {_OUTSIDE}",
-    )
-    it.add_argument("paths", nargs="+", metavar="PATH", help=_PATHS)
-    it.add_argument("--output-format", choices=checking.FORMS, help="text with the line of the score (as ever), lines for editors, json, github, sarif")
-    it.add_argument("--select", metavar="CODES", help="tell these alone: codes between commas, E, W or F for a kind, rules for all rules")
-    it.add_argument("--ignore", metavar="CODES", default="", help="do not tell these; a fatal fault is always told")
-    it.add_argument("--fail-on", metavar="CODES", default="", help="end with status 1 where one of these is told")
-    it.add_argument("--rules", action="store_true", help="try the rules that the compiler leaves open; they stand outside its proof")
-    it.add_argument("--jobs", type=_positive, metavar="N", default=len(os.sched_getaffinity(0)), help="threads (here %(default)s)")
-    it.add_argument("--quiet", action="store_true", help="no summary")
-
-
-def _add_format(commands: argparse._SubParsersAction[_Parser]) -> None:
-    it = commands.add_parser(
-        "format", help="put the canonical form in place of files, where nothing but their blanks changes", epilog=_STATUSES,
-        description="Writes beside each file and then puts the new one in its place. A file of which more than its blanks would change stays as it is. "
-        f"The canonical form is the compiler's. {_OUTSIDE}",
-    )
-    it.add_argument("paths", nargs="+", metavar="PATH", help=f"{_PATHS}, which is written to standard output")
-    it.add_argument("--check", action="store_true", help="write nothing; status 1 where a file would change")
-    it.add_argument("--diff", action="store_true", help="write nothing but what would change, as a diff; status 1 where something would")
-    it.add_argument("--allow", metavar="REASONS", default="", help=f"write all the same where these go, between commas: {', '.join(sorted(REASONS))}")
-    it.add_argument("--quiet", action="store_true", help="no summary")
-
-
-def _positive(word: str) -> int:
-    number = int(word)
-    if number < 1:
-        raise ValueError
-    return number
-
-
-_positive.__name__ = "number"
-
-
-def parser() -> argparse.ArgumentParser:
-    """Returns the parser of the command's words."""
-    it = _Parser(prog=NAME, description=_ABOUT, epilog=_STATUSES, formatter_class=argparse.RawDescriptionHelpFormatter)
-    it.add_argument("--version", action="version", version=f"{NAME} {__version__}")
-    commands = it.add_subparsers(dest="command", required=True, metavar="COMMAND")
-    _add_check(commands)
-    _add_format(commands)
-    explaining = commands.add_parser("explain", help="say what a code or a rule means, with a wrong line and its right one")
-    explaining.add_argument("codes", nargs="*", metavar="CODE", help="E4, W3, F6, or the name of a rule")
-    explaining.add_argument("--all", action="store_true", help="explain all codes and rules")
-    server = commands.add_parser("server", help="serve an editor by the language server protocol over standard input and output", description=_SERVES)
-    server.add_argument("--rules", action="store_true", help="try the rules that the compiler leaves open")
-    return it
-
-
-def _check(words: argparse.Namespace) -> int:
-    known = {*CODES, *RULES}
-    selection = Selection(
-        None if words.select is None else codes_in(words.select, known), codes_in(words.ignore, known), codes_in(words.fail_on, known)
-    )
-    return checking.check(
-        checking.Wanted(tuple(words.paths), selection, words.output_format, words.rules, words.jobs, words.quiet)
-    )
-
-
-def _format(words: argparse.Namespace) -> int:
-    allow = frozenset(it.strip() for it in words.allow.split(",") if it.strip())
-    if not allow <= REASONS:
-        raise UnknownCode(f"--allow {', '.join(sorted(allow - REASONS))}: nothing goes for this; --help lists the reasons")
-    return formatting.format_files(formatting.Wanted(tuple(words.paths), allow, words.check, words.diff, words.quiet))
-
-
-def _explain(words: argparse.Namespace) -> int:
-    if not words.codes and not words.all:
-        raise UnknownCode("a code or --all is needed")
-    write(explain(() if words.all else words.codes))
-    return 0
-
-
-def _serve(words: argparse.Namespace) -> int:
-    try:
-        from gregorio_chant.server import serve
-    except ImportError:
-        tell("server wants the package python-lsp-jsonrpc (in Debian python3-pylsp-jsonrpc): pip install 'gregorio-chant[server]'")
-        return REFUSED
-    return serve(words.rules)
-
-
-_COMMANDS = {"check": _check, "format": _format, "explain": _explain, "server": _serve}
+def parsers() -> tuple[Parser, dict[str, Parser]]:
+    """Returns the parser of the command's words, and that of each sub-command."""
+    top = Parser(prog=NAME, description=_ABOUT, epilog=f"{_EXAMPLES}\n\n{STATUSES}")
+    top.add_argument("--version", action="version", version=f"{NAME} {__version__}")
+    commands = top.add_subparsers(dest="command", required=True, metavar="COMMAND")
+    return top, {it.NAME: it.add(commands) for it in COMMANDS}
 
 
 def main(words: Sequence[str]) -> int:
     """Does what the words of the command ask for, and returns the exit status."""
     try:
-        asked = parser().parse_args(words)
-        return _COMMANDS[asked.command](asked)
-    except (UnknownCode, checking.NoRich) as error:
+        top, by_name = parsers()
+        asked, unknown = top.parse_known_args(words)
+        if unknown:
+            by_name[asked.command].refuse_unknown(unknown)
+        return next(it for it in COMMANDS if it.NAME == asked.command).run(asked)
+    except (UnknownCode, Missing, SettingsError) as error:
         tell(str(error))
         return REFUSED
+    except NoStage as error:
+        tell(f"cannot read what is staged: {error}")
+        return CANNOT_READ_OR_WRITE
     except CannotWrite as error:
-        tell(f"cannot write: {error}")
+        if not error.is_closed:
+            tell(f"cannot write: {error}")
         return CANNOT_READ_OR_WRITE
     except MemoryError:
         tell("no memory")

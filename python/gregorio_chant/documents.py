@@ -1,4 +1,4 @@
-"""A score in an editor: its messages, its canonical form, and what stands under the cursor, in the editor's own counting.
+"""A score in an editor: its messages, what it is formatted to, and what stands under the cursor, in the editor's own counting.
 
 An editor counts lines from 0, and columns in units of UTF-16 from 0.
 """
@@ -13,11 +13,14 @@ from gregorio_chant import library
 from gregorio_chant.checking import check_data
 from gregorio_chant.dump import Score
 from gregorio_chant.explaining import page_of
-from gregorio_chant.formatting import Canonical, canonical_of
+from gregorio_chant.formatting import Formatted, formatted, style_by
+from gregorio_chant.helps import helps_for
 from gregorio_chant.items import Glyph, Note
 from gregorio_chant.losses import Comparison
 from gregorio_chant.results import Format, Kind, Message, Status
-from gregorio_chant.source import utf16_length
+from gregorio_chant.settings import Settings
+from gregorio_chant.source import text_of, utf16_length
+from gregorio_chant.streams import STDIN
 
 _LINE_END = re.compile("\r\n|\n|\r")
 _MARK = "\ufeff"
@@ -33,28 +36,37 @@ class Position:
 
 @dataclass(frozen=True)
 class Shown:
-    """A message at the characters from `begin` up to `end`."""
+    """A message at the characters from `begin` up to `end`, with its help, if there is one."""
 
     begin: Position
     end: Position
     message: Message
+    help: str | None
 
 
 class Document:
     """The text of a score as it stands in an editor."""
 
-    def __init__(self, text: str) -> None:
+    def __init__(self, text: str, name: str = STDIN, settings: Settings = Settings()) -> None:
+        """Takes the text, and the name and the settings of its file."""
+        self._selection = settings.selection(name)
+        self._style = style_by(settings)
+        self._rules = settings.rules is True
         self._score = text.encode("utf-8", "surrogatepass")
         self._lines = _LINE_END.split(text)
 
     def messages(self, with_rules: bool) -> list[Shown]:
         """Returns what is found in the score, and where the editor shows it: at one character."""
-        return [
-            Shown(self._position(it.line, it.column), self._position(it.line, it.column + 1), it) for it in check_data(self._score, with_rules)
-        ]
+        found = self._found(with_rules)
+        told = self._selection.of(found)
+        helps = helps_for(text_of(self._score), found, told) if told else ()
+        return [Shown(self._position(it.line, it.column), self._position(it.line, it.column + 1), it, help) for it, help in zip(told, helps)]
 
-    def canonical(self) -> Canonical:
-        return canonical_of(self._score)
+    def _found(self, with_rules: bool) -> tuple[Message, ...]:
+        return check_data(self._score, with_rules or self._rules)
+
+    def formatted(self) -> Formatted:
+        return formatted(self._score, self._style)
 
     def end(self) -> Position:
         """Returns the position behind the last character."""
@@ -89,7 +101,7 @@ class Document:
         note = self._note_at(*place)
         if note is not None:
             parts.append(note)
-        found = (it for it in check_data(self._score, with_rules) if (it.line, it.column) == place)
+        found = (it for it in self._selection.of(self._found(with_rules)) if (it.line, it.column) == place)
         parts += [page_of(it.code) for it in found]
         return "\n".join(parts) if parts else None
 

@@ -38,6 +38,7 @@ _ESCAPE = re.compile(r"\\(.)", re.DOTALL)
 # A run of `;` that ends a value: such a value stands on lines of its own.
 _MARK = re.compile(r";[ \t]*(?:%|$)", re.MULTILINE)
 _BLANKS = re.compile(r"[ \t\n]+")
+_FIRST_WORD = re.compile(r"^[^ :\n]*", re.MULTILINE)
 
 
 class DumpError(ValueError):
@@ -103,12 +104,11 @@ class _Pen:
 
     def write(self, text: str) -> Place:
         """Writes `text`, and returns the place where it begins."""
-        begin = self.place()
+        begin = Place(self._offset, self._line, self._column)
         self.written.append(text)
         self._offset += len(text)
-        lines = text.count("\n")
-        if lines:
-            self._line += lines
+        if "\n" in text:
+            self._line += text.count("\n")
             self._column = len(text) - text.rindex("\n")
         else:
             self._column += len(text)
@@ -120,6 +120,7 @@ class _Reader:
 
     def __init__(self, dump: str) -> None:
         self._lines = dump.split("\n")
+        self._first_words: list[str] = _FIRST_WORD.findall(dump)
         self._at = 0
         self.pen = _Pen()
 
@@ -128,7 +129,7 @@ class _Reader:
 
     def word(self) -> str:
         """Returns the first word of the line that comes; nothing behind the last line."""
-        return self._lines[self._at].partition(" ")[0].partition(":")[0]
+        return self._first_words[self._at]
 
     def line(self) -> str:
         """Returns the line that comes, and does not take it."""

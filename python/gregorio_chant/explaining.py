@@ -5,8 +5,10 @@ import textwrap
 from collections.abc import Iterable
 
 from gregorio_chant.codes import CODES, shown
+from gregorio_chant.nearest import did_you_mean
+from gregorio_chant.repairs import REPAIRS, Repair
 from gregorio_chant.rules import RULES
-from gregorio_chant.selection import UnknownCode
+from gregorio_chant.selection import LISTED, UnknownCode
 
 _WIDTH = 80
 
@@ -16,10 +18,10 @@ def page_of(name: str) -> str:
     code, rule = CODES.get(name.upper()), RULES.get(name.lower())
     if code is not None:
         title, it = f"{code.name}: {code.kind.value}: {code.text}", code
-        return _page(title, it.meaning, it.wrong, it.right)
+        return _page(title, it.meaning, it.wrong, it.right) + _repairs_of(code.name)
     if rule is not None:
-        return _page(f"{rule.name}: {rule.kind.value}, by check --rules alone", rule.meaning, rule.wrong, rule.right)
-    raise UnknownCode(f"{name} is no code and no rule: gregorio-chant explain --all lists them")
+        return _page(f"{rule.name}: {rule.kind.value}, by check --rules alone", rule.meaning, rule.wrong, rule.right) + _repairs_of(rule.name)
+    raise UnknownCode(f"{name} is no code and no rule: {did_you_mean(name, [*CODES, *RULES], LISTED)}")
 
 
 def _page(title: str, meaning: str, wrong: str, right: str) -> str:
@@ -27,6 +29,18 @@ def _page(title: str, meaning: str, wrong: str, right: str) -> str:
     for head, lines in (("Wrong:", wrong), ("Right:", right)):
         parts += ["", head, *(f"    {shown(it)}" for it in lines.split("\n"))]
     return "\n".join(parts) + "\n"
+
+
+def _repair_of(repair: Repair) -> str:
+    words = "check --fix" if repair.is_safe else "check --fix --unsafe-fixes"
+    lines = ["", textwrap.fill(f"Repair {repair.name}, by {words}: {repair.meaning}", _WIDTH, break_long_words=False, break_on_hyphens=False)]
+    for head, line in (("Before:", repair.wrong), ("After:", repair.right)):
+        lines += ["", head, *(f"    {shown(it)}" for it in line.split("\n"))]
+    return "\n".join(lines) + "\n"
+
+
+def _repairs_of(code: str) -> str:
+    return "".join(_repair_of(it) for it in REPAIRS.values() if code in it.codes)
 
 
 def explain(names: Iterable[str]) -> str:

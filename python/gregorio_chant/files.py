@@ -1,18 +1,18 @@
-"""The files that the words of the command name: found, read, and put in place of others."""
+"""The files that the words of the command name: read, and put in place of others. `walk` finds
+those below folders."""
 from __future__ import annotations
 
+import errno
 import os
 import shutil
 import stat
 import tempfile
-from collections.abc import Callable, Iterable
 from dataclasses import dataclass
 from pathlib import Path
 
 from gregorio_chant.streams import STDIN
 
-ENDING = ".gabc"
-_Tell = Callable[[str, OSError], None]
+_WRITABLE = stat.S_IWUSR | stat.S_IWGRP | stat.S_IWOTH
 
 
 class Changed(Exception):
@@ -25,31 +25,6 @@ class Content:
 
     data: bytes
     state: os.stat_result | None = None
-
-
-def find_scores(paths: Iterable[str], tell: _Tell) -> list[str]:
-    """Returns the names of the files: each path that is no folder, and the scores below each folder in order.
-
-    Links to files are taken, links to folders within a folder are not followed. `tell` is told of each folder that cannot be read.
-    """
-    names: list[str] = []
-    for path in paths:
-        if path != STDIN and os.path.isdir(path):
-            names.extend(_below(path, tell))
-        else:
-            names.append(path)
-    return names
-
-
-def _below(folder: str, tell: _Tell) -> list[str]:
-    def failed(error: OSError) -> None:
-        tell(os.fsdecode(error.filename) if error.filename else folder, error)
-
-    names: list[str] = []
-    for where, folders, files in os.walk(folder, onerror=failed):
-        folders.sort()
-        names.extend(os.path.join(where, it) for it in sorted(files) if it.endswith(ENDING))
-    return names
 
 
 def read(name: str) -> Content:
@@ -67,10 +42,12 @@ def _is_as_read(path: Path, state: os.stat_result) -> bool:
 
 
 def replace(name: str, content: Content, data: bytes) -> None:
-    """Puts `data` in place of what was read of the file, in one step: at every moment the file is whole, the old or the new one.
+    """Puts `data` in place of what was read of the file, in one step: at every moment the file is
+    whole, the old or the new one.
 
-    The file that a link leads to is replaced, and keeps its mode and, where that is allowed, its owner. Raises `Changed` where the file was changed meanwhile, and
-    `OSError` where it has other names (hard links), which would keep the old content, or cannot be written.
+    The file that a link leads to is replaced, and keeps its mode and, where that is allowed, its
+    owner. Raises `Changed` where the file was changed meanwhile, and `OSError` where it has
+    other names (hard links), which would keep the old content, may not be written, or cannot be.
     """
     path = Path(os.path.realpath(name))
     state = content.state
@@ -78,6 +55,10 @@ def replace(name: str, content: Content, data: bytes) -> None:
         raise OSError(0, "it is no plain file")
     if state.st_nlink > 1:
         raise OSError(0, "it has other names (hard links)")
+    if not state.st_mode & _WRITABLE:
+        raise OSError(0, "it is read-only")
+    if path.exists() and not os.access(path, os.W_OK):
+        raise PermissionError(errno.EACCES, os.strerror(errno.EACCES))
     descriptor, beside = tempfile.mkstemp(prefix=".gregorio-chant.", dir=path.parent)
     try:
         with os.fdopen(descriptor, "wb") as file:

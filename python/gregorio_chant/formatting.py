@@ -1,17 +1,42 @@
-"""The command `format`: puts the canonical form of a score in its place, where nothing but blanks would change."""
+"""The command `format`: writes each score as its editor laid it out, in canonical spelling; or in canonical form, where nothing but blanks would change."""
 from __future__ import annotations
 
 import difflib
 import enum
+from collections.abc import Callable, Iterator
+from contextlib import contextmanager, nullcontext
 from dataclasses import dataclass
+from functools import partial
 
-from gregorio_chant import files, library
-from gregorio_chant.losses import Comparison, Loss
+from gregorio_chant import files
+from gregorio_chant.compiled import Compiled
+from gregorio_chant.judge import objection
+from gregorio_chant.layout import laid_out
+from gregorio_chant.losses import Loss
+from gregorio_chant.processes import by_processes
+from gregorio_chant.progress import Shown, bar
 from gregorio_chant.reports import counted
-from gregorio_chant.results import Result, Status
+from gregorio_chant.scan import without_blanks
+from gregorio_chant.results import Status
+from gregorio_chant.settings import Finder, NoSettings, Settings
+from gregorio_chant.staged import StagedFiles
 from gregorio_chant.streams import CANNOT_READ_OR_WRITE, STDIN, reason_of, tell, write
+from gregorio_chant.walk import find_scores
 
 NO_MEMORY = 5
+
+
+@dataclass(frozen=True)
+class Style:
+    """How a score is written: in canonical form, or as it is laid out, with at most `width` characters on a line where one is given."""
+
+    is_canonical: bool = False
+    width: int | None = None
+
+
+def style_by(settings: Settings) -> Style:
+    """Returns how the settings of a project want a score to be written."""
+    return Style(settings.canonical is True, settings.wrap)
 
 
 @dataclass(frozen=True)
@@ -19,20 +44,29 @@ class Wanted:
     """What the words of the command ask for; `allow` has the reasons for which something may go."""
 
     paths: tuple[str, ...]
+    style: Style = Style()
     allow: frozenset[str] = frozenset()
     checks: bool = False
     shows_diff: bool = False
+    staged: bool = False
+    jobs: int = 1
     quiet: bool = False
+    exclude: tuple[str, ...] = ()
+    settings: Finder = NoSettings()
 
     @property
     def writes(self) -> bool:
         return not self.checks and not self.shows_diff
 
+    def style_of(self, name: str) -> Style:
+        """Returns how a file is written: by the words of the command, where they say something, else by the settings."""
+        return self.style if self.style != Style() else style_by(self.settings.of(name))
+
 
 class Outcome(enum.Enum):
     """What became of a file."""
 
-    CANONICAL = "canonical"
+    UNCHANGED = "unchanged"
     WRITTEN = "written"
     WOULD_CHANGE = "would change"
     REFUSED = "refused"
@@ -40,81 +74,100 @@ class Outcome(enum.Enum):
 
 
 @dataclass(frozen=True)
-class Canonical:
-    """The canonical form of a score, what it would lose, and the fault for which there is none."""
+class Formatted:
+    """What a score is formatted to. Where it has to stay as it is, the others say why: what it would lose, its fault, or the judge's objection."""
 
-    text: str = ""
+    data: bytes = b""
     losses: tuple[Loss, ...] = ()
     fault: str | None = None
+    objection: str | None = None
+
+    def reasons(self) -> list[str]:
+        """Returns why the score stays as it is, in a line and further ones with their places; nothing where it may be written."""
+        if self.fault is not None:
+            return ["it is not whole", self.fault]
+        if self.objection is not None:
+            return [f"{self.objection}, which is a defect of gregorio-chant"]
+        if self.losses:
+            return ["more than its blanks would change", *(f"{it.place.line}:{it.place.column}: {it.reason}: {it.text}" for it in self.losses)]
+        return []
 
 
-def canonical_of(score: bytes) -> Canonical:
-    """Returns the canonical form of `score`, with what it would lose. Where a fatal fault stops the score there is none."""
-    result: Result = library.compile(score)
-    if result.status is Status.FATAL:
-        it = result.messages[-1]
-        return Canonical(fault=f"{it.line}:{it.column}: {it.code}: {it.text}")
-    if result.output.encode() == score:
-        return Canonical(result.output)
-    return Canonical(result.output, tuple(Comparison(score, result.output, result.messages).losses()))
+def formatted(data: bytes, style: Style, allow: frozenset[str] = frozenset()) -> Formatted:
+    """Returns what a score is formatted to; the losses are those that are not allowed."""
+    score = Compiled(data)
+    if score.fault is not None:
+        it = score.fault
+        return Formatted(fault=f"{it.line}:{it.column}: {it.code}: {it.text}")
+    if style.is_canonical:
+        return _canonical(score, allow)
+    write_it = partial(laid_out, width=style.width)
+    new = write_it(score)
+    return Formatted(new, objection=None if new == data else objection(score, Compiled(new), write_it))
 
 
-class _Run:
-    """Formats files, and counts what became of them."""
+def _canonical(score: Compiled, allow: frozenset[str]) -> Formatted:
+    data = score.canonical.encode("utf-8")
+    losses = [] if without_blanks(score.data.decode("utf-8")) == without_blanks(score.canonical) else score.comparison.losses()
+    return Formatted(data, tuple(it for it in losses if it.reason not in allow))
 
-    def __init__(self, wanted: Wanted) -> None:
-        self._wanted = wanted
-        self.status = 0
-        self.outcomes = {it: 0 for it in Outcome}
 
-    def end(self, outcome: Outcome, status: int, *lines: str) -> None:
-        self.outcomes[outcome] += 1
-        self.status = max(self.status, status)
-        for it in lines:
-            tell(it)
+@dataclass(frozen=True)
+class _Done:
+    """What became of a file, with the lines that say so, and what is written to standard output."""
 
-    def format(self, name: str) -> None:
-        """Formats a file, or says why it stays as it is."""
-        shown = "<stdin>" if name == STDIN else name
+    outcome: Outcome
+    status: int = 0
+    lines: tuple[str, ...] = ()
+    text: str = ""
+
+
+_Read = Callable[[str], files.Content]
+
+
+def _format(name: str, wanted: Wanted, read: _Read = files.read) -> _Done:
+    """Formats a file, or says why it stays as it is."""
+    shown = "<stdin>" if name == STDIN else name
+    try:
+        content = read(name)
+        made = formatted(content.data, wanted.style_of(name), wanted.allow)
+    except OSError as error:
+        return _Done(Outcome.FAILED, CANNOT_READ_OR_WRITE, (f"cannot read {shown}: {reason_of(error)}",))
+    except MemoryError:
+        return _Done(Outcome.FAILED, NO_MEMORY, (f"cannot read {shown}: there is no memory for it",))
+    reasons = made.reasons()
+    if reasons and not (made.losses and wanted.shows_diff):
+        first, *others = reasons
+        status = int(Status.FATAL) if made.fault is not None else 1
+        stays = "would stay" if wanted.checks and made.fault is None else "stays"
+        return _Done(Outcome.REFUSED, status, (f"{shown} {stays} as it is: {first}", *(f"{shown}:{it}" for it in others)))
+    return _finish(name, shown, content, made.data, wanted)
+
+
+def _finish(name: str, shown: str, content: files.Content, data: bytes, wanted: Wanted) -> _Done:
+    text = ""
+    if wanted.shows_diff:
+        kind = "canonical" if wanted.style_of(name).is_canonical else "formatted"
+        text = difference(shown, f"{shown} ({kind})", content.data.decode("utf-8"), data.decode("utf-8"))
+    elif name == STDIN and wanted.writes:
+        text = data.decode("utf-8")
+    if data == content.data:
+        return _Done(Outcome.UNCHANGED, text=text)
+    if not wanted.writes:
+        return _Done(Outcome.WOULD_CHANGE, 1, (f"{shown} would change",) * wanted.checks, text)
+    if name != STDIN:
         try:
-            content = files.read(name)
-            canonical = canonical_of(content.data)
-        except OSError as error:
-            return self.end(Outcome.FAILED, CANNOT_READ_OR_WRITE, f"cannot read {shown}: {reason_of(error)}")
-        except MemoryError:
-            return self.end(Outcome.FAILED, NO_MEMORY, f"cannot read {shown}: there is no memory for it")
-        if canonical.fault is not None:
-            return self.end(Outcome.REFUSED, int(Status.FATAL), f"{shown} stays as it is: it is not whole", f"{shown}:{canonical.fault}")
-        losses = [it for it in canonical.losses if it.reason not in self._wanted.allow]
-        if losses and not self._wanted.shows_diff:
-            stays = "would stay" if self._wanted.checks else "stays"
-            lines = (f"{shown}:{it.place.line}:{it.place.column}: {it.reason}: {it.text}" for it in losses)
-            return self.end(Outcome.REFUSED, 1, f"{shown} {stays} as it is: more than its blanks would change", *lines)
-        return self._finish(name, shown, content, canonical.text)
-
-    def _finish(self, name: str, shown: str, content: files.Content, text: str) -> None:
-        data = text.encode()
-        if self._wanted.shows_diff:
-            write(_difference(shown, content.data.decode(), text))
-        elif name == STDIN and self._wanted.writes:
-            write(text)
-        if data == content.data:
-            return self.end(Outcome.CANONICAL, 0)
-        if not self._wanted.writes:
-            return self.end(Outcome.WOULD_CHANGE, 1, *([f"{shown} would change"] if self._wanted.checks else []))
-        if name != STDIN:
-            try:
-                files.replace(name, content, data)
-            except (OSError, files.Changed) as error:
-                reason = reason_of(error) if isinstance(error, OSError) else str(error)
-                return self.end(Outcome.FAILED, CANNOT_READ_OR_WRITE, f"cannot write {shown}: {reason}; it stays as it was")
-        return self.end(Outcome.WRITTEN, 0)
+            files.replace(name, content, data)
+        except (OSError, files.Changed) as error:
+            reason = reason_of(error) if isinstance(error, OSError) else str(error)
+            return _Done(Outcome.FAILED, CANNOT_READ_OR_WRITE, (f"cannot write {shown}: {reason}; it stays as it was",))
+    return _Done(Outcome.WRITTEN, text=text)
 
 
-def _difference(name: str, before: str, after: str) -> str:
+def difference(name: str, new_name: str, before: str, after: str) -> str:
     """Returns a unified diff of two texts."""
     lines = []
-    for line in difflib.unified_diff(_lines(before), _lines(after), name, f"{name} (canonical)"):
+    for line in difflib.unified_diff(_lines(before), _lines(after), name, new_name):
         lines.append(line if line.endswith("\n") else f"{line}\n\\ No newline at end of file\n")
     return "".join(lines)
 
@@ -124,16 +177,56 @@ def _lines(text: str) -> list[str]:
     return [f"{it}\n" for it in lines[:-1]] + lines[-1:] * (lines[-1] != "")
 
 
+# ---- many files
+
+
+class _Run:
+    """Counts what became of files."""
+
+    def __init__(self) -> None:
+        self.status = 0
+        self.outcomes = {it: 0 for it in Outcome}
+        self.shown: Shown | None = None
+
+    def add(self, done: _Done) -> None:
+        with self.shown.aside(told=bool(done.lines)) if self.shown and (done.text or done.lines) else nullcontext():
+            self._tell(done)
+
+    def _tell(self, done: _Done) -> None:
+        write(done.text)
+        self.outcomes[done.outcome] += 1
+        self.status = max(self.status, done.status)
+        for it in done.lines:
+            tell(it)
+
+    def cannot_read(self, name: str, error: OSError) -> None:
+        self.add(_Done(Outcome.FAILED, CANNOT_READ_OR_WRITE, (f"cannot read {name}: {reason_of(error)}",)))
+
+    def summary(self) -> str:
+        told = [f"{number:,} {it.value}" for it, number in self.outcomes.items() if number]
+        return f"{counted(sum(self.outcomes.values()), 'file')}: {', '.join(told) if told else 'nothing to do'}"
+
+
+@contextmanager
+def _all_formatted(wanted: Wanted, run: _Run) -> Iterator[tuple[int, Iterator[_Done]]]:
+    """Gives how many files there are, and what becomes of each, in order; many of them are formatted by `wanted.jobs` processes."""
+    if wanted.staged:
+        staged = StagedFiles(wanted.paths)
+        names = wanted.settings.kept(staged.names, wanted.paths)
+        yield len(names), (_format(it, wanted, staged.read) for it in names)
+        return
+    names = wanted.settings.kept(find_scores(wanted.paths, run.cannot_read, wanted.exclude), wanted.paths)
+    with by_processes(partial(_format, wanted=wanted), names, wanted.jobs) as all_done:
+        yield len(names), all_done
+
+
 def format_files(wanted: Wanted) -> int:
-    """Formats the files, and returns the worst status. Raises `CannotWrite`."""
-    run = _Run(wanted)
-
-    def cannot_read(name: str, error: OSError) -> None:
-        run.end(Outcome.FAILED, CANNOT_READ_OR_WRITE, f"cannot read {name}: {reason_of(error)}")
-
-    for name in files.find_scores(wanted.paths, cannot_read):
-        run.format(name)
+    """Formats the files, and returns the worst status. Raises `CannotWrite`, and before any score is read `NoStage`, `SettingsError` or `Missing`."""
+    run = _Run()
+    with _all_formatted(wanted, run) as (files_named, all_done), bar("formatting", files_named) as run.shown:
+        for it in all_done:
+            run.add(it)
+            run.shown.advance()
     if not wanted.quiet:
-        told = [f"{number:,} {it.value}" for it, number in run.outcomes.items() if number]
-        tell(f"{counted(sum(run.outcomes.values()), 'file')}: {', '.join(told) if told else 'nothing to do'}")
+        tell(run.summary())
     return run.status

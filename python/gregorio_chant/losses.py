@@ -26,8 +26,8 @@ class Loss:
     text: str
 
 
-@dataclass(frozen=True)
-class _Pair:
+@dataclass(frozen=True, slots=True)
+class Pair:
     """A part of the score, and what is written of it: one of them may be nothing."""
 
     source: Span | None
@@ -40,16 +40,16 @@ class Comparison:
     def __init__(self, score: bytes, canonical: str, messages: Sequence[Message]) -> None:
         """Takes a score that no fatal fault stops, what the compiler wrote, and all of its messages."""
         self._score = score
-        self._messages = messages
+        self.messages = messages
         self.lines = Lines(text_of(score))
         left_out = {self.lines.offset(it.line, it.column) for it in messages if it.code in _LEFT_OUT}
         self.source: Scan = scan(self.lines.text, left_out)
         self.written: Scan = scan(canonical)
-        self._pairs = self._header_pairs() + self._syllable_pairs()
+        self.pairs = self._header_pairs() + self._syllable_pairs()
 
-    def _header_pairs(self) -> list[_Pair]:
+    def _header_pairs(self) -> list[Pair]:
         """Pairs each header with the last one of its name; each `annotation` stands for itself. What is left out has no pair."""
-        bad = {self.lines.offset(it.line, 1) for it in self._messages if it.code in ("E4", "E5")}
+        bad = {self.lines.offset(it.line, 1) for it in self.messages if it.code in ("E4", "E5")}
         last: dict[str, list[HeaderSpan]] = {}
         for it in self.source.headers:
             if it.name is not None and it.begin not in bad:
@@ -57,16 +57,16 @@ class Comparison:
         pairs = []
         for header in self.written.headers:
             named = last.get(header.name or "", [])
-            pairs.append(_Pair((named.pop(0) if header.name == "annotation" else named.pop()) if named else None, header))
+            pairs.append(Pair((named.pop(0) if header.name == "annotation" else named.pop()) if named else None, header))
         paired = {it.source for it in pairs}
-        return pairs + [_Pair(it, None) for it in self.source.headers if it not in paired]
+        return pairs + [Pair(it, None) for it in self.source.headers if it not in paired]
 
-    def _syllable_pairs(self) -> list[_Pair]:
+    def _syllable_pairs(self) -> list[Pair]:
         """Pairs the syllables one by one."""
         source, written = self.source.syllables, self.written.syllables
-        pairs = [_Pair(a, b) for a, b in zip(source, written)]
+        pairs = [Pair(a, b) for a, b in zip(source, written)]
         both = len(pairs)
-        return pairs + [_Pair(it, None) for it in source[both:]] + [_Pair(None, it) for it in written[both:]]
+        return pairs + [Pair(it, None) for it in source[both:]] + [Pair(None, it) for it in written[both:]]
 
     def losses(self) -> list[Loss]:
         """Returns what more than blanks would change, in order; nothing where only blanks would."""
@@ -74,17 +74,17 @@ class Comparison:
         if without_blanks(text) == without_blanks(self.written.text):
             return []
         found = [self._loss(it.begin, COMMENTS, "a comment would go") for it in self.source.comments]
-        found += [self._loss(self.lines.offset(it.line, it.column), it.code, it.text) for it in self._messages if it.code in _CHANGING]
+        found += [self._loss(self.lines.offset(it.line, it.column), it.code, it.text) for it in self.messages if it.code in _CHANGING]
         if "\ufeff" in text:
             found.append(self._loss(0, SPELLING, "a byte order mark would go"))
-        told = sorted(self.lines.offset(it.line, it.column) for it in self._messages if it.code in _CHANGING)
-        found += [it for pair in self._pairs for it in self._loss_of(pair, told)]
+        told = sorted(self.lines.offset(it.line, it.column) for it in self.messages if it.code in _CHANGING)
+        found += [it for pair in self.pairs for it in self._loss_of(pair, told)]
         return sorted(set(found), key=lambda it: (it.place, it.reason))
 
     def _loss(self, offset: int, reason: str, text: str) -> Loss:
         return Loss(self.lines.place(offset), reason, text)
 
-    def _loss_of(self, pair: _Pair, told: list[int]) -> list[Loss]:
+    def _loss_of(self, pair: Pair, told: list[int]) -> list[Loss]:
         """Returns the change of a part of which no message and no comment tells."""
         if pair.source is None:
             return [] if told else [self._loss(len(self.lines.text), SPELLING, "something would be added")]
@@ -106,11 +106,11 @@ class Comparison:
 
     def source_offset(self, offset: int) -> int:
         """Returns where in the score the character stands that is written behind `offset` others; where it was changed, nearby."""
-        return _follow(offset, [(it.written, it.source) for it in self._pairs], self.written, self.source)
+        return _follow(offset, [(it.written, it.source) for it in self.pairs], self.written, self.source)
 
     def written_offset(self, offset: int) -> int:
         """Returns where the character is written that stands in the score behind `offset` others; where it was changed, nearby."""
-        return _follow(offset, [(it.source, it.written) for it in self._pairs], self.source, self.written)
+        return _follow(offset, [(it.source, it.written) for it in self.pairs], self.source, self.written)
 
 
 def _follow(offset: int, ways: list[tuple[Span | None, Span | None]], here: Scan, there: Scan) -> int:

@@ -1,35 +1,44 @@
-"""How messages are told: as lines, as text with the source line, as JSON, as annotations of a forge, as SARIF."""
+"""How messages are told: as lines, as text with the source line, as JSON, as annotations of a forge. `sarif` has one more form."""
 from __future__ import annotations
 
 import json
-import os
 from collections import Counter
+from collections.abc import Iterator
 from dataclasses import dataclass
-from pathlib import PurePath
+from itertools import zip_longest
 from typing import Protocol
-from urllib.parse import quote
 
-from gregorio_chant.codes import CODES
 from gregorio_chant.results import Kind, Message
+from gregorio_chant.source import Lines as LinesOfText
 from gregorio_chant.streams import STDIN
 
-_LEVELS = {Kind.WARNING: "warning", Kind.ERROR: "error", Kind.FATAL: "error"}
-_SCHEMA = "https://json.schemastore.org/sarif-2.1.0.json"
+LEVELS = {Kind.WARNING: "warning", Kind.ERROR: "error", Kind.FATAL: "error"}
 
 
 @dataclass(frozen=True)
 class Checked:
-    """What was found in a file. `text` is the score's text, where there are messages; `failure` says why the file was not read."""
+    """What was found in a file. `text` is the score's text, where there are messages, and `helps` has a line for each of them, or nothing; `failure` says why the
+    file was not read."""
 
     name: str
     messages: tuple[Message, ...] = ()
     text: str = ""
     failure: str | None = None
     status: int = 0
+    helps: tuple[str | None, ...] = ()
 
     @property
     def shown_name(self) -> str:
         return "<stdin>" if self.name == STDIN else self.name
+
+    def helped(self) -> Iterator[tuple[Message, str | None]]:
+        """Yields each message with its help."""
+        return zip_longest(self.messages, self.helps)
+
+
+def with_help(message: Message, help: str | None) -> str:
+    """Returns the text of a message and, after a colon, its help."""
+    return message.text if help is None else f"{message.text}: {help}"
 
 
 class Reporter(Protocol):
@@ -69,16 +78,16 @@ class Annotations:
     has_summary = False
 
     def add(self, checked: Checked) -> str:
-        return "".join(self._command(checked.shown_name, it) for it in checked.messages)
+        return "".join(self._command(checked.shown_name, it, help) for it, help in checked.helped())
 
     def end(self, summary: str | None) -> str:
         return ""
 
     @staticmethod
-    def _command(name: str, message: Message) -> str:
+    def _command(name: str, message: Message, help: str | None) -> str:
         file = _escaped(name).replace(":", "%3A").replace(",", "%2C")
-        text = _escaped(message.text)
-        return f"::{_LEVELS[message.kind]} file={file},line={message.line},col={message.column},title={message.code}::{text}\n"
+        text = _escaped(with_help(message, help))
+        return f"::{LEVELS[message.kind]} file={file},line={message.line},col={message.column},title={message.code}::{text}\n"
 
 
 def _escaped(text: str) -> str:
@@ -94,57 +103,16 @@ class Json:
         self._objects: list[dict[str, object]] = []
 
     def add(self, checked: Checked) -> str:
-        for it in checked.messages:
-            self._objects.append(
-                {"file": checked.shown_name, "line": it.line, "column": it.column, "kind": it.kind.value, "code": it.code, "text": it.text}
-            )
+        lines = LinesOfText(checked.text)
+        for it, help in checked.helped():
+            place = {
+                "file": checked.shown_name, "line": it.line, "column": it.column, "end_line": it.line, "end_column": lines.column_after(it.line, it.column),
+            }
+            self._objects.append({**place, "kind": it.kind.value, "code": it.code, "text": it.text, "help": help})
         return ""
 
     def end(self, summary: str | None) -> str:
         return json.dumps(self._objects, indent=2) + "\n"
-
-
-class Sarif:
-    """A log of SARIF 2.1.0."""
-
-    has_summary = False
-
-    def __init__(self, version: str, rules: dict[str, str]) -> None:
-        """Takes the package's version, and what each rule says."""
-        self._version = version
-        self._meanings = {name: it.meaning for name, it in CODES.items()} | rules
-        self._results: list[dict[str, object]] = []
-        self._failures: list[dict[str, object]] = []
-        self._used: set[str] = set()
-
-    def add(self, checked: Checked) -> str:
-        where = {"uri": "stdin" if checked.name == STDIN else _uri(checked.name)}
-        if checked.failure is not None:
-            location = {"physicalLocation": {"artifactLocation": where}}
-            self._failures.append({"level": "error", "message": {"text": checked.failure}, "locations": [location]})
-        for it in checked.messages:
-            self._used.add(it.code)
-            place = {"artifactLocation": where, "region": {"startLine": it.line, "startColumn": it.column}}
-            self._results.append(
-                {"ruleId": it.code, "level": _LEVELS[it.kind], "message": {"text": it.text}, "locations": [{"physicalLocation": place}]}
-            )
-        return ""
-
-    def end(self, summary: str | None) -> str:
-        rules = [{"id": it, "fullDescription": {"text": self._meanings[it]}} for it in sorted(self._used)]
-        run = {
-            "tool": {"driver": {"name": "gregorio-chant", "version": self._version, "rules": rules}},
-            "columnKind": "unicodeCodePoints",
-            "invocations": [{"executionSuccessful": not self._failures, "toolExecutionNotifications": self._failures}],
-            "results": self._results,
-        }
-        return json.dumps({"version": "2.1.0", "$schema": _SCHEMA, "runs": [run]}, indent=2) + "\n"
-
-
-def _uri(name: str) -> str:
-    """Returns the name as a reference of a URI: each byte that is none of its characters is escaped."""
-    reference = quote(os.fsencode(PurePath(name).as_posix()))
-    return f"file://{reference}" if os.path.isabs(name) else reference
 
 
 def counted(number: int, thing: str) -> str:

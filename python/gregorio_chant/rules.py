@@ -2,17 +2,28 @@
 from __future__ import annotations
 
 import bisect
+import re
 from collections.abc import Callable, Iterator
 from dataclasses import dataclass
 
 from gregorio_chant import library
-from gregorio_chant.dump import Alteration, Attribute, Bar, Custos, Item, Note, NoteSnippet, Score, Space, Syllable
+from gregorio_chant.codes import CODES
+from gregorio_chant.dump import Alteration, Attribute, Bar, Clef, Custos, Item, Note, NoteSnippet, Score, Space, Syllable
+from gregorio_chant.ignores import silenced
 from gregorio_chant.losses import Comparison
+from gregorio_chant.reports import counted
 from gregorio_chant.results import Format, Kind, Message, Status
 
 _PITCHES = "abcdefghijklmnp"
 _STAFFS = ("2", "3", "4", "5")
 _SCORE = "name: Kyrie;\n%%\n(c4) "
+_CLEF = re.compile(r"[cf]b?([1-5])")
+_NUMBER = re.compile(r"[0-9]+")
+_MODE = re.compile(r"[1-8](?![0-9])")
+_TAG = re.compile(r"<[^>]*>")
+_SPECIAL = re.compile(r"\$.|<(v|alt)>.*?</\1>|<sp>(.*?)</sp>", re.DOTALL)
+# The special characters that GregorioTeX defines by default.
+_SPECIALS = frozenset(("ae", "oe", "'ae", "'oe", "'\u00e6", "'\u0153", "A/", "R/", "V/", "*", "+", "-", "\\", "&", "#", "_", "~"))
 
 
 @dataclass(frozen=True)
@@ -95,12 +106,66 @@ def _nabc_without_header(subject: Subject) -> Iterator[Found]:
         return
     behind = _nabc_behind_bars(subject)
     if behind:
-        yield Found(behind[0][0], f"a | stands in the notes of {len(behind):,} syllables, and there is no header nabc-lines: what follows it was left out")
+        yield Found(behind[0][0], f"a | stands in the notes of {counted(len(behind), 'syllable')}, and there is no header nabc-lines: what follows it was left out")
 
 
 def _comment(subject: Subject) -> Iterator[Found]:
     for it in subject.comparison.source.comments:
         yield Found(it.begin, "the canonical form does not keep this comment")
+
+
+def _unused_ignore(subject: Subject) -> Iterator[Found]:
+    """Finds nothing by itself: what is silenced is known when all other rules have been tried."""
+    return iter(())
+
+
+def _clef_off_staff(subject: Subject) -> Iterator[Found]:
+    lines = subject.score.header("staff-lines") or "4"
+    if lines not in _STAFFS:
+        return
+    for item in _items(subject.score):
+        if isinstance(item, Clef):
+            for clef in _CLEF.finditer(item.spelling):
+                if clef[1] > lines:
+                    yield subject.found(item, f"the clef {clef[0]} wants a line {clef[1]}, and the staff has {lines} lines")
+
+
+def _unknown_mode(subject: Subject) -> Iterator[Found]:
+    value = subject.score.header("mode") or ""
+    if _NUMBER.match(value) and not _MODE.match(value):
+        header = [it for it in subject.comparison.source.headers if it.name == "mode"][-1]
+        yield Found(header.begin, f"there is no mode {value[:20]}: modes go from 1 to 8")
+
+
+def _blank_before_notes(subject: Subject) -> Iterator[Found]:
+    text = subject.comparison.lines.text
+    for it in subject.comparison.source.syllables:
+        word = text[it.begin : it.notes].rstrip(" \t\n")
+        begin = it.begin + len(word)
+        if begin < it.notes < it.end and _TAG.sub("", word).strip(" \t\n") and "%" not in word:
+            yield Found(begin, "a blank stands between a word and its notes: the compiler drops it")
+
+
+def _lone_capital(subject: Subject) -> Iterator[Found]:
+    notes, alone = subject.score.notes, _inclinata(subject)
+    for before, note, after in zip((None, *notes), notes, (*notes[1:], None)):
+        around = [it for it in (before, after) if it is not None]
+        is_alone = note.shape == "inclinatum" and around and all(it.shape != "inclinatum" for it in around)
+        if is_alone and note.place.offset in alone and not set("~<>") & set(note.spelling):
+            yield subject.found(note, f"{note.spelling} is a punctum inclinatum alone among other notes: did you mean {note.spelling.lower()}?")
+
+
+def _inclinata(subject: Subject) -> frozenset[int]:
+    """Returns the offsets of the notes that are a neume `inclinata` by themselves."""
+    glyphs = (glyph for it in subject.score.syllables for glyph in it.glyphs)
+    return frozenset(it.notes[0].place.offset for it in glyphs if it.kind == "inclinata" and len(it.notes) == 1)
+
+
+def _unknown_special(subject: Subject) -> Iterator[Found]:
+    for syllable in subject.score.syllables:
+        for it in _SPECIAL.finditer(syllable.text):
+            if it[2] is not None and it[2] not in _SPECIALS:
+                yield Found(subject.comparison.source_offset(syllable.place.offset + it.start()), f"<sp>{it[2]}</sp> is none of GregorioTeX's special characters")
 
 
 def _asterisk_without_bar(subject: Subject) -> Iterator[Found]:
@@ -142,7 +207,7 @@ _ALL = (
     ),
     Rule(
         "comment",
-        "A comment stands in the score. The canonical form keeps none, so gregorio-chant format refuses the file unless it may drop comments.",
+        "A comment stands in the score. The canonical form keeps none, so gregorio-chant format --canonical refuses the file unless it may drop comments.",
         _comment, "Ky(f) % by hand", "Ky(f)",
     ),
     Rule(
@@ -151,16 +216,45 @@ _ALL = (
         "Here there is none.",
         _asterisk_without_bar, "Ky(f)ri(g)e(h) *() e(f)", "Ky(f)ri(g)e(h) *(,) e(f)",
     ),
+    Rule(
+        "clef-off-staff", "A clef stands on a line that the staff does not have, by the header staff-lines, or 4 lines. Look for a slip of the key.",
+        _clef_off_staff, "(c5) Ky(f)", "(c4) Ky(f)", before="name: Kyrie;\n%%\n",
+    ),
+    Rule(
+        "unknown-mode", "The header mode begins with a number that is none of 1 to 8. Look for a slip of the key.",
+        _unknown_mode, "mode: 9;", "mode: 6;", before="name: Kyrie;\n", after="\n%%\n(c4) Ky(f)\n",
+    ),
+    Rule(
+        "blank-before-notes", "A blank stands between a word and the ( of its notes. The compiler drops it, and GregorioTeX does not. Remove it.",
+        _blank_before_notes, "Ky (f)ri(g)", "Ky(f)ri(g)",
+    ),
+    Rule(
+        "lone-capital",
+        "A capital pitch, which is a punctum inclinatum, stands alone, and the notes around it have small letters. It may be a slip of the shift key. "
+        "Where it is meant, silence it by a comment.",
+        _lone_capital, "Ky(f)ri(G)e(h)", "Ky(f)ri(g)e(h)",
+    ),
+    Rule(
+        "unknown-special",
+        "The text between <sp> and </sp> is none of the special characters that GregorioTeX defines by default. Look for a slip, or define it there.",
+        _unknown_special, "<sp>Rx</sp>(::)", "<sp>R/</sp>(::)",
+    ),
+    Rule(
+        "unused-ignore",
+        "A comment that silences messages silences none: there is no such message on its line, or in the score. Remove it, or look for a slip in the code.",
+        _unused_ignore, "<it>Ky</it>(f) % gregorio: ignore W6, W7, comment", "<it>Ky</it>(f) % gregorio: ignore W6, comment",
+    ),
 )
 RULES: dict[str, Rule] = {it.name: it for it in _ALL}
-MEANINGS: dict[str, str] = {it.name: it.meaning for it in _ALL}
+_KNOWN = frozenset((*CODES, *RULES))
 
 
 def messages_with_rules(data: bytes) -> tuple[Message, ...]:
-    """Returns what the compiler and the rules find in a score, in the order of their places. Where a fatal fault stops it, no rule is tried."""
+    """Returns what the compiler and the rules find in a score, in the order of their places, without what is silenced. Where a fatal fault stops it, no rule is
+    tried."""
     result = library.compile(data)
     if result.status is Status.FATAL:
-        return result.messages
+        return unsilenced(data, result.messages)
     score = Score.read(library.compile(data, Format.DUMP).output)
     messages = result.messages
     subject = Subject(score, Comparison(data, result.output, messages), messages)
@@ -171,7 +265,14 @@ def messages_with_rules(data: bytes) -> tuple[Message, ...]:
             found.append(Message(place.line, place.column, rule.kind, rule.name, it.text))
     if any(it.code == "nabc-without-header" for it in found):
         messages = _without_nabc(subject)
-    return tuple(sorted([*messages, *found], key=lambda it: (it.line, it.column)))
+    kept, unused = silenced(data, (*messages, *found), _KNOWN)
+    kept += tuple(Message(it.place.line, it.place.column, Kind.WARNING, "unused-ignore", it.text) for it in unused)
+    return tuple(sorted(kept, key=lambda it: (it.line, it.column)))
+
+
+def unsilenced(data: bytes, messages: tuple[Message, ...]) -> tuple[Message, ...]:
+    """Returns those of the compiler's messages that no comment of the score silences."""
+    return silenced(data, messages, _KNOWN)[0]
 
 
 def _without_nabc(subject: Subject) -> tuple[Message, ...]:

@@ -11,8 +11,9 @@ _LATER_MARK = re.compile(r";;+[ \t]*(?=%|$)", re.MULTILINE)
 _IN_TEXT = re.compile(r"\$[][(){}<>%$]|[%<([]")
 _IN_NOTES = re.compile(r"[%\[|)]")
 _RAW = re.compile(r"<(v|sp|alt)>")
-_BLANKS = " \t\n\r\v\f"
-_NO_BLANKS = str.maketrans("", "", _BLANKS)
+_STYLE = re.compile(r"</?(?:b|c|e|i|sc|tt|ul)>")
+BLANKS = " \t\n\r"
+_NO_BLANKS = str.maketrans("", "", BLANKS)
 
 
 def without_blanks(text: str) -> str:
@@ -20,7 +21,12 @@ def without_blanks(text: str) -> str:
     return text.translate(_NO_BLANKS)
 
 
-@dataclass(frozen=True)
+def letters_of(text: str) -> str:
+    """Returns `text` without blanks, line ends and tags of styles: what another spelling of a syllable may not change, and that of a header but for each `;`."""
+    return without_blanks(_STYLE.sub("", text))
+
+
+@dataclass(frozen=True, slots=True)
 class Span:
     """The characters from `begin` up to `end`, which is the offset behind them."""
 
@@ -28,14 +34,14 @@ class Span:
     end: int
 
 
-@dataclass(frozen=True)
+@dataclass(frozen=True, slots=True)
 class HeaderSpan(Span):
     """A header, with its name; a line without a colon has none."""
 
     name: str | None
 
 
-@dataclass(frozen=True)
+@dataclass(frozen=True, slots=True)
 class SyllableSpan(Span):
     """A syllable, with where its notes begin: at the `(`, or at the end where there is none."""
 
@@ -64,7 +70,7 @@ class Scan:
             offsets.extend(range(at, max(at, comment.begin)))
             at = comment.end
         offsets.extend(range(at, max(at, span.end)))
-        return [it for it in offsets if self.text[it] not in _BLANKS]
+        return [it for it in offsets if self.text[it] not in BLANKS]
 
 
 def scan(text: str, left_out: Collection[int] = ()) -> Scan:
@@ -126,7 +132,7 @@ def _scan_score(found: Scan, left_out: Collection[int]) -> None:
     while at < len(text):
         notes = _scan_text(found, at)
         end = _scan_notes(found, notes, left_out)
-        if found.without_comments(Span(at, end)):
+        if notes < len(text) or found.without_comments(Span(at, end)):
             found.syllables.append(SyllableSpan(at, end, notes))
         at = end
 

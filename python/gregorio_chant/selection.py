@@ -4,10 +4,12 @@ from __future__ import annotations
 from collections.abc import Collection, Iterable
 from dataclasses import dataclass
 
+from gregorio_chant.nearest import did_you_mean
 from gregorio_chant.results import Kind, Message, Status
 
 KINDS = ("E", "W", "F")
 RULES = "rules"
+LISTED = "gregorio-chant explain --all lists them"
 
 
 class UnknownCode(ValueError):
@@ -19,13 +21,18 @@ def codes_in(words: str, known: Collection[str]) -> frozenset[str]:
     found = frozenset(it.strip() for it in words.split(",") if it.strip())
     for word in sorted(found):
         if word not in known and word not in KINDS and word != RULES:
-            raise UnknownCode(f"{word} is no code: gregorio-chant explain --all lists them")
+            raise UnknownCode(f"{word} is no code: {did_you_mean(word, known, LISTED)}")
     return found
 
 
+def group_of(code: str) -> str:
+    """Returns the kind of `code`, or the rules for a code that has no number."""
+    return code[0] if code[-1].isdigit() else RULES
+
+
 def names(codes: frozenset[str], code: str) -> bool:
-    """Returns whether one of `codes` names `code`: it, its kind, or the rules for a code that has no number."""
-    return code in codes or (code[0] in codes if code[-1].isdigit() else RULES in codes)
+    """Returns whether one of `codes` names `code`: it, its kind, or the rules."""
+    return code in codes or group_of(code) in codes
 
 
 @dataclass(frozen=True)

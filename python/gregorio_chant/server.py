@@ -1,22 +1,23 @@
 """A language server over standard streams, on `python-lsp-jsonrpc`. It stands outside the proof of the compiler, and is only tested."""
 from __future__ import annotations
 
+import os
 import sys
 from collections.abc import Callable, Mapping
 from typing import Any, Optional
+from urllib.parse import unquote_to_bytes, urlsplit
 
 from pylsp_jsonrpc.endpoint import Endpoint
 from pylsp_jsonrpc.streams import JsonRpcStreamReader, JsonRpcStreamWriter
 
 from gregorio_chant import __version__
 from gregorio_chant.documents import Document, Position, Shown, severity_of
-from gregorio_chant.losses import Loss
-from gregorio_chant.streams import NAME
+from gregorio_chant.settings import Finder, Settings, SettingsError
+from gregorio_chant.streams import NAME, STDIN
 
 _Params = Optional[Mapping[str, Any]]
 _FULL_TEXT = 1
 _WARNING = 2
-_MOST_TOLD = 5
 
 
 def _position(it: Position) -> dict[str, int]:
@@ -30,23 +31,23 @@ def _range(begin: Position, end: Position) -> dict[str, object]:
 def _diagnostic(it: Shown) -> dict[str, object]:
     return {
         "range": _range(it.begin, it.end), "severity": severity_of(it.message.kind), "code": it.message.code, "source": NAME,
-        "message": it.message.text,
+        "message": it.message.text if it.help is None else f"{it.message.text}\n{it.help}",
     }
 
 
-def _told(losses: tuple[Loss, ...]) -> str:
-    lines = [f"line {it.place.line}, column {it.place.column}: {it.reason}: {it.text}" for it in losses[:_MOST_TOLD]]
-    if len(losses) > _MOST_TOLD:
-        lines.append(f"and {len(losses) - _MOST_TOLD:,} more")
-    return "\n".join(["The score stays as it is: more than its blanks would change", *lines])
+def name_of(uri: str) -> str:
+    """Returns the name of the file at a URI; that of standard input where it is the URI of none."""
+    parts = urlsplit(uri)
+    return os.fsdecode(unquote_to_bytes(parts.path)) if parts.scheme == "file" and "%00" not in parts.path else STDIN
 
 
 class Server:
     """Answers an editor about the scores that it has open."""
 
-    def __init__(self, notify: Callable[[str, object], None], with_rules: bool) -> None:
+    def __init__(self, notify: Callable[[str, object], None], with_rules: bool, settings: Finder) -> None:
         self._notify = notify
         self._with_rules = with_rules
+        self._settings = settings
         self._documents: dict[str, Document] = {}
         self.is_shut_down = False
 
@@ -84,7 +85,13 @@ class Server:
             self._take(asked["textDocument"]["uri"], it["text"])
 
     def _take(self, uri: str, text: str) -> None:
-        self._documents[uri] = Document(text)
+        name = name_of(uri)
+        try:
+            settings = self._settings.of(name)
+        except SettingsError as error:
+            settings = Settings()
+            self._notify("window/showMessage", {"type": _WARNING, "message": str(error)})
+        self._documents[uri] = Document(text, name, settings)
         self._publish(uri, [_diagnostic(it) for it in self._documents[uri].messages(self._with_rules)])
 
     def _closed(self, params: _Params) -> None:
@@ -96,16 +103,16 @@ class Server:
         self._notify("textDocument/publishDiagnostics", {"uri": uri, "diagnostics": diagnostics})
 
     def _formatting(self, params: _Params) -> object:
-        """Returns the edit that makes the score canonical. Where more than blanks would change there is none, and the editor shows why."""
+        """Returns the edit that formats the score. Where it has to stay as it is there is none, and the editor shows why."""
         document = self._documents.get((params or {})["textDocument"]["uri"])
         if document is None:
             return None
-        canonical = document.canonical()
-        if canonical.fault is not None or canonical.losses:
-            why = _told(canonical.losses) if canonical.fault is None else f"The score stays as it is: it is not whole\n{canonical.fault}"
-            self._notify("window/showMessage", {"type": _WARNING, "message": why})
+        made = document.formatted()
+        reasons = made.reasons()
+        if reasons:
+            self._notify("window/showMessage", {"type": _WARNING, "message": "\n".join([f"The score stays as it is: {reasons[0]}", *reasons[1:]])})
             return []
-        return [{"range": _range(Position(0, 0), document.end()), "newText": canonical.text}]
+        return [{"range": _range(Position(0, 0), document.end()), "newText": made.data.decode("utf-8")}]
 
     def _hover(self, params: _Params) -> object:
         asked = params or {}
@@ -115,13 +122,13 @@ class Server:
         return None if told is None else {"contents": {"kind": "plaintext", "value": told}}
 
 
-def serve(with_rules: bool) -> int:
+def serve(with_rules: bool, settings: Finder) -> int:
     """Serves the editor at the other end of standard input and output, until it says that it ends. Returns the exit status."""
     reader = JsonRpcStreamReader(sys.stdin.buffer)
     writer = JsonRpcStreamWriter(sys.stdout.buffer)
     methods: dict[str, Callable[[_Params], object]] = {}
     endpoint = Endpoint(methods, writer.write)
-    server = Server(endpoint.notify, with_rules)
+    server = Server(endpoint.notify, with_rules, settings)
 
     def end(params: _Params) -> None:
         reader.close()

@@ -2,13 +2,14 @@
 from __future__ import annotations
 
 import bisect
-from dataclasses import dataclass
+import re
+from typing import NamedTuple
 
 _MARK = "\ufeff"
+_COUNTED = re.compile(f"\r\n|[^{_MARK}]", re.DOTALL)
 
 
-@dataclass(frozen=True, order=True)
-class Place:
+class Place(NamedTuple):
     """Where something stands in a text: `line` and `column` count from 1, `offset` counts the characters before it."""
 
     offset: int
@@ -20,6 +21,11 @@ def text_of(score: bytes) -> str:
     """Returns the text of `score`: each line end is one LF, and a U+FEFF is nothing. Bytes that are no UTF-8 come out as U+FFFD."""
     text = score.decode("utf-8", "replace")
     return text.replace("\r\n", "\n").replace("\r", "\n").replace(_MARK, "")
+
+
+def raw_offsets(score: str) -> list[int]:
+    """Returns where each character of the text of `score` stands in `score` itself, and last where that ends."""
+    return [it.start() for it in _COUNTED.finditer(score)] + [len(score)]
 
 
 class Lines:
@@ -39,6 +45,10 @@ class Lines:
             return ""
         end = self._starts[number] - 1 if number < len(self._starts) else len(self.text)
         return self.text[self._starts[number - 1] : end]
+
+    def column_after(self, line: int, column: int) -> int:
+        """Returns the column after the character at this place; the same column where no character stands there."""
+        return column + 1 if column <= len(self.line(line)) else column
 
     def offset(self, line: int, column: int) -> int:
         """Returns how many characters stand before this place."""

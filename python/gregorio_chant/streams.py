@@ -1,6 +1,7 @@
 """Standard streams: what cannot be written is a clear line and a status, and never a traceback."""
 from __future__ import annotations
 
+import errno
 import os
 import sys
 
@@ -11,6 +12,11 @@ STDIN = "-"
 
 class CannotWrite(Exception):
     """Standard output takes no more."""
+
+    def __init__(self, error: OSError) -> None:
+        super().__init__(reason_of(error))
+        # Whether nobody reads it any more, who therefore need not be told.
+        self.is_closed = error.errno == errno.EPIPE
 
 
 def reason_of(error: OSError) -> str:
@@ -33,7 +39,7 @@ def write(text: str) -> None:
     try:
         _send(sys.__stdout__.fileno() if sys.__stdout__ else 1, _bytes_of(text))
     except OSError as error:
-        raise CannotWrite(reason_of(error)) from None
+        raise CannotWrite(error) from None
 
 
 def tell(line: str) -> None:
@@ -47,6 +53,11 @@ def tell(line: str) -> None:
 def is_terminal() -> bool:
     """Returns whether standard output is a terminal."""
     return sys.__stdout__ is not None and sys.__stdout__.isatty()
+
+
+def is_error_terminal() -> bool:
+    """Returns whether standard error is a terminal."""
+    return sys.__stderr__ is not None and sys.__stderr__.isatty()
 
 
 def printable(name: str) -> str:

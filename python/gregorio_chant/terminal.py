@@ -16,7 +16,6 @@ from gregorio_chant.source import Lines
 from gregorio_chant.streams import is_terminal, printable
 
 _STYLES = {Kind.WARNING: "bold yellow", Kind.ERROR: "bold red", Kind.FATAL: "bold white on red"}
-_SHORT = 20
 
 
 class TextReporter:
@@ -37,8 +36,10 @@ class TextReporter:
 
     def add(self, checked: Checked) -> str:
         lines = Lines(checked.text)
-        for it in checked.messages:
+        for it, help in checked.helped():
             self._print(checked.shown_name, it, lines.line(it.line))
+            if help is not None:
+                self._console.print(Text.assemble(("      = ", "dim"), help), soft_wrap=True)
         return self._take()
 
     def end(self, summary: str | None) -> str:
@@ -74,20 +75,19 @@ def window(line: str, column: int, width: int) -> tuple[str, int]:
 
 
 class Bar:
-    """A bar on standard error for many files, where that is a terminal. Without one it does nothing."""
+    """A bar on standard error for many files."""
 
-    def __init__(self, progress: Progress | None) -> None:
+    def __init__(self, progress: Progress) -> None:
         self._progress = progress
-        self._shares_terminal = is_terminal()
+        self._output_is_terminal = is_terminal()
 
     def advance(self) -> None:
-        if self._progress:
-            self._progress.advance(self._progress.task_ids[0])
+        self._progress.advance(self._progress.task_ids[0])
 
     @contextmanager
-    def aside(self) -> Iterator[None]:
-        """Takes the bar away while something is written to the same terminal."""
-        if self._progress and self._shares_terminal:
+    def aside(self, *, told: bool) -> Iterator[None]:
+        """Takes the bar away while something is written to the same terminal: `told` on standard error, or else on standard output."""
+        if told or self._output_is_terminal:
             self._progress.stop()
             yield
             self._progress.start()
@@ -96,13 +96,9 @@ class Bar:
 
 
 @contextmanager
-def bar(files: int) -> Iterator[Bar]:
-    """Gives a bar over so many files, which is gone afterwards."""
-    console = Console(stderr=True)
-    if files <= _SHORT or not console.is_terminal:
-        yield Bar(None)
-        return
-    columns = (TextColumn("checking"), BarColumn(), MofNCompleteColumn(), TimeRemainingColumn())
-    with Progress(*columns, console=console, transient=True, redirect_stdout=False, redirect_stderr=False) as progress:
-        progress.add_task("checking", total=files)
+def bar_of(what: str, files: int) -> Iterator[Bar]:
+    """Gives a bar over so many files with a word for what is done to them. It is gone afterwards."""
+    columns = (TextColumn(what), BarColumn(), MofNCompleteColumn(), TimeRemainingColumn())
+    with Progress(*columns, console=Console(stderr=True), transient=True, redirect_stdout=False, redirect_stderr=False) as progress:
+        progress.add_task(what, total=files)
         yield Bar(progress)

@@ -30,6 +30,14 @@ def has(module: str) -> bool:
     return True
 
 
+def without(room: Path, module: str) -> dict[str, str]:
+    """Returns an environment in which `module` cannot be imported, by a file below `room`."""
+    stub = room / "stub" / f"{module}.py"
+    stub.parent.mkdir(exist_ok=True)
+    stub.write_text(f"raise ImportError('no {module}')\n", encoding="utf-8")
+    return {"PYTHONPATH": os.pathsep.join([str(stub.parent), os.environ.get("PYTHONPATH", "")])}
+
+
 def _nobody() -> int | None:
     """Returns the number of a user without rights; none where the tests have none themselves."""
     if os.geteuid() != 0:

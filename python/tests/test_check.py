@@ -8,7 +8,10 @@ import sys
 import unittest
 
 from gregorio_chant import __version__
-from support import EXAMPLES, FAULTY, SCORE, InFolder, command, has, in_terminal
+from gregorio_chant.codes import CODES
+from gregorio_chant.explaining import page_of
+from gregorio_chant.sarif import PAGES
+from support import EXAMPLES, FAULTY, ROOT, SCORE, InFolder, command, has, in_terminal
 
 WARNED = "name: Kyrie;\n%%\n(c4) <i>Ky(f)ri</i>(g)\n"
 # Words that write something.
@@ -17,7 +20,9 @@ SHOWN = """\
 a b.gabc:3:10: error: E1: character left out of the notes
     3 | (c4) Ky(g5)ri(g)
       |          ^
+      = '5' is no sign of the note before it: remove it
 """
+HELP = "'5' is no sign of the note before it: remove it"
 
 
 class Forms(InFolder):
@@ -57,15 +62,21 @@ class Forms(InFolder):
         ran = command("check", "--output-format", "json", ".")
         self.assertEqual(
             json.loads(ran.stdout),
-            [{"file": "./a.gabc", "line": 3, "column": 10, "kind": "error", "code": "E1", "text": "character left out of the notes"}],
+            [{
+                "file": "./a.gabc", "line": 3, "column": 10, "end_line": 3, "end_column": 11, "kind": "error", "code": "E1",
+                "text": "character left out of the notes", "help": HELP,
+            }],
         )
         self.assertEqual(ran.stderr, b"gregorio-chant: 2 files: 1 error\n")
         self.assertEqual(json.loads(command("check", "--output-format", "json", "b.gabc").stdout), [])
+        self.put("c.gabc", "name: a;\n")
+        (fault,) = json.loads(command("check", "--output-format", "json", "c.gabc").stdout)
+        self.assertEqual([fault[it] for it in ("line", "column", "end_line", "end_column")], [2, 1, 2, 1])
 
     def test_github(self) -> None:
         self.put("a,b:c%.gabc", FAULTY)
         ran = command("check", "--output-format", "github", "a,b:c%.gabc")
-        self.assertEqual(ran.stdout, b"::error file=a%2Cb%3Ac%25.gabc,line=3,col=10,title=E1::character left out of the notes\n")
+        self.assertEqual(ran.stdout, b"::error file=a%2Cb%3Ac%25.gabc,line=3,col=10,title=E1::character left out of the notes: " + HELP.encode() + b"\n")
 
     def test_sarif(self) -> None:
         self.put("a b\u00e9.gabc", FAULTY)
@@ -73,23 +84,27 @@ class Forms(InFolder):
         self.assertEqual(log["version"], "2.1.0")
         run = log["runs"][0]
         self.assertEqual((run["tool"]["driver"]["name"], run["tool"]["driver"]["version"]), ("gregorio-chant", __version__))
-        self.assertEqual([it["id"] for it in run["tool"]["driver"]["rules"]], ["E1"])
-        place = {"artifactLocation": {"uri": "a%20b%C3%A9.gabc"}, "region": {"startLine": 3, "startColumn": 10}}
+        (rule,) = run["tool"]["driver"]["rules"]
+        self.assertEqual((rule["id"], rule["shortDescription"]["text"]), ("E1", CODES["E1"].text))
+        self.assertEqual(rule["help"]["text"], page_of("E1"))
+        region = {"startLine": 3, "startColumn": 10, "endLine": 3, "endColumn": 11}
+        place = {"artifactLocation": {"uri": "a%20b%C3%A9.gabc"}, "region": region}
         self.assertEqual([(it["ruleId"], it["level"], it["locations"]) for it in run["results"]], [("E1", "error", [{"physicalLocation": place}])])
+        self.assertEqual(run["results"][0]["message"], {"text": f"character left out of the notes: {HELP}"})
         self.assertFalse(run["invocations"][0]["executionSuccessful"])
         self.assertEqual(len(run["invocations"][0]["toolExecutionNotifications"]), 1)
 
-    def test_without_rich(self) -> None:
-        self.put("stub/rich/__init__.py", "raise ImportError('no rich')")
-        self.put("a.gabc", FAULTY)
-        path = os.pathsep.join(["stub", os.environ.get("PYTHONPATH", "")])
-        ran = command("check", "a.gabc", environment={"PYTHONPATH": path})
-        self.assertEqual((ran.returncode, ran.stdout), (1, b"a.gabc:3:10: error: E1: character left out of the notes\n"))
-        self.assertIn(b"want the package rich", ran.stderr)
-        ran = command("check", "--output-format", "text", "a.gabc", environment={"PYTHONPATH": path})
-        self.assertEqual((ran.returncode, ran.stdout), (3, b""))
-        for form in ("lines", "json", "github", "sarif"):
-            self.assertNotIn(b"rich", command("check", "--output-format", form, "a.gabc", environment={"PYTHONPATH": path}).stderr)
+    def test_sarif_of_rules(self) -> None:
+        """Each result has the number of its rule, and each rule a page that stands in the repository."""
+        self.put("a.gabc", "name: K;\n%%\n(c4) Ky(fn) % high\nri(g5)\n")
+        (run,) = json.loads(command("check", "--rules", "--output-format", "sarif", "a.gabc").stdout)["runs"]
+        rules = run["tool"]["driver"]["rules"]
+        self.assertEqual([it["id"] for it in rules], ["outside-staff", "comment", "E1"])
+        self.assertEqual([rules[it["ruleIndex"]]["id"] for it in run["results"]], [it["ruleId"] for it in run["results"]])
+        for rule in rules:
+            self.assertEqual({"shortDescription", "fullDescription", "help", "helpUri", "id"}, set(rule))
+            page, _, heading = rule["helpUri"].removeprefix(f"{PAGES}/").partition("#")
+            self.assertRegex((ROOT / "docs" / page).read_text(encoding="utf-8").lower(), f"(?m)^## {heading}$")
 
 
 @unittest.skipUnless(has("rich"), "there is no rich")
@@ -105,13 +120,17 @@ class Terminal(InFolder):
 
     def test_bar(self) -> None:
         for number in range(30):
-            self.put(f"scores/{number:02}.gabc", FAULTY if number == 20 else SCORE)
+            self.put(f"scores/{number:02}.gabc", FAULTY.replace("name: ", "name:") if number == 20 else SCORE)
         status, shown = in_terminal("check", "--jobs", "2", "scores")
         self.assertRegex(shown, "checking.*/30")
         self.assertIn("scores/20.gabc:3:10", shown)
         self.assertIn("30 files: 1 error", shown)
         self.assertEqual(status, 1)
         self.assertNotIn("checking", in_terminal("check", "scores/01.gabc")[1])
+        status, shown = in_terminal("format", "--check", "scores")
+        self.assertRegex(shown, "formatting.*/30")
+        self.assertRegex(shown, r"(?m)\x1b\[2Kgregorio-chant: scores/20.gabc would change$")
+        self.assertEqual(status, 1)
         self.assertNotIn(b"checking", command("check", "scores").stderr)
 
 
@@ -170,12 +189,21 @@ class Paths(InFolder):
         self.assertEqual(ran.returncode, 0)
         self.assertIn(b"usage: gregorio-chant check", ran.stdout)
         about = command("--help")
-        self.assertIn(b"stands outside that proof", about.stdout)
+        self.assertIn(b"stands outside that proof", b" ".join(about.stdout.split()))
         self.assertEqual(command("--version").stdout, f"gregorio-chant {__version__}\n".encode())
         for words in ((), ("check",), ("lint", "."), ("check", "--jobs", "0", "."), ("check", "--none", ".")):
             ran = command(*words)
             self.assertEqual((ran.returncode, ran.stdout), (3, b""), words)
             self.assertRegex(ran.stderr.decode(), r"^gregorio-chant: .*\n$")
+
+    def test_nearest_words(self) -> None:
+        for words, right in (
+            ("chek .", "check"), ("check --selct E1 .", "--select"), ("check --output-format jsn .", "json"), ("check --select w33 .", "W3"),
+            ("explain outside-staf", "outside-staff"), ("format --canonical --allow comment .", "comments"), ("check --ignore comments .", "comment"),
+        ):
+            ran = command(*words.split())
+            self.assertEqual((ran.returncode, ran.stdout), (3, b""), words)
+            self.assertIn(f": did you mean {right}?".encode(), ran.stderr.replace(b"; did", b": did"), words)
 
     def test_names_that_are_not_utf8(self) -> None:
         self.put(b"\xff\xe9.gabc", FAULTY)
@@ -185,6 +213,23 @@ class Paths(InFolder):
         self.assertIn(b'"%FF%E9.gabc"', command("check", "--output-format", "sarif", ".").stdout)
         if has("rich"):
             self.assertIn(b"./\\xff\\xe9.gabc:3:10: error", command("check", ".").stdout)
+
+
+class Processes(InFolder):
+    def test_rules(self) -> None:
+        """By processes the same comes in the same order as by one, and a pipe that is closed ends them."""
+        for number in range(200):
+            self.put(f"s/{number:03}.gabc", f"name: a;\n%%\n(c4) {'a(f) ' * number}a(n) b(g5)\n")
+        self.put("s/077.gabc", b"\xff")
+        words = ("check", "--rules", "--output-format", "lines", "s", "none")
+        one, many = command(*words, "--jobs", "1"), command(*words, "--jobs", "4")
+        self.assertEqual((one.returncode, one.stdout.count(b"\n")), (4, 2 * 199 + 1))
+        self.assertEqual((many.returncode, many.stdout, many.stderr), (one.returncode, one.stdout, one.stderr))
+        ours, its = os.pipe()
+        os.close(ours)
+        ran = command(*words, "--jobs", "4", output=its)
+        os.close(its)
+        self.assertEqual((ran.returncode, ran.stderr), (4, b""))
 
 
 class BadInput(InFolder):
@@ -237,14 +282,14 @@ class BadInput(InFolder):
             os.close(ours)
             ran = command(*words, output=its)
             os.close(its)
-            self.assertEqual((ran.returncode, ran.stderr), (4, b"gregorio-chant: cannot write: Broken pipe\n"), words)
+            self.assertEqual((ran.returncode, ran.stderr), (4, b""), words)
 
     def test_closed_streams(self) -> None:
         self.put("a.gabc", FAULTY)
         for words, redirection, status, told in (
             ("check -", "<&-", 4, "cannot read <stdin>: Bad file descriptor"), ("check a.gabc", ">&-", 4, "cannot write: Bad file descriptor"),
             ("check a.gabc --output-format lines", "2>&-", 1, ""), ("format -", "<&-", 4, "cannot read <stdin>: Bad file descriptor"),
-            ("format a.gabc", ">&- 2>&-", 1, ""), ("check a.gabc none", ">&- 2>&-", 4, ""),
+            ("format a.gabc", ">&- 2>&-", 0, ""), ("check a.gabc none", ">&- 2>&-", 4, ""),
         ):
             line = f'exec "$0" -m gregorio_chant {words} {redirection}'
             ran = subprocess.run(["bash", "-c", line, sys.executable], stdout=subprocess.PIPE, stderr=subprocess.PIPE, check=False)

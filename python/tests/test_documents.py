@@ -10,7 +10,9 @@ from dataclasses import fields
 from pathlib import Path
 
 from gregorio_chant import dump
+from gregorio_chant.codes import CODES
 from gregorio_chant.rules import RULES
+from gregorio_chant.settings import Finder
 from support import ROOT, InFolder, command, has
 
 PAGE = (ROOT / "docs" / "PYTHON.md").read_text(encoding="utf-8")
@@ -24,7 +26,7 @@ def block(text: str, begin: str) -> str:
     return "\n".join(it[4:] for it in lines[:end]).rstrip("\n") + "\n"
 
 
-class Documents(unittest.TestCase):
+class Documents(InFolder):
     @unittest.skipUnless(has("rich"), "there is no rich")
     def test_picture(self) -> None:
         """The screen of the README is what the command writes."""
@@ -37,13 +39,26 @@ class Documents(unittest.TestCase):
 
     def test_options(self) -> None:
         """Each option of the command stands in the page, and no other."""
-        helps = "".join(command(it, "--help").stdout.decode() for it in ("check", "format", "explain", "server"))
-        self.assertEqual(set(re.findall(r"--[a-z][a-z-]+", helps)) - {"--help", "--"}, set(re.findall(r"(?<![\w.-])--[a-z][a-z-]+", PAGE)))
+        helps = "".join(command(*it, "--help").stdout.decode() for it in ((), ("check",), ("format",), ("explain",), ("server",)))
+        options = set(re.findall(r"(?<![\w.-])--[a-z][a-z-]+", PAGE)) - {"--no-deps"}
+        self.assertEqual(set(re.findall(r"--[a-z][a-z-]+", helps)) - {"--help", "--"}, options)
 
     def test_example(self) -> None:
         with contextlib.redirect_stdout(io.StringIO()) as written:
             exec(block(PAGE, "since nothing is written then."), {})
         self.assertEqual(written.getvalue().split("\n"), ["4 4 Ky f fa", "4 9 ri g sol", "4 10 ri f fa", "4 11 ri g sol", ""])
+
+    def test_formatted(self) -> None:
+        made = command("format", "-", data=block(PAGE, "So this score:").encode())
+        self.assertEqual((made.returncode, made.stdout.decode()), (0, block(PAGE, "\nbecomes:")))
+
+    def test_settings(self) -> None:
+        """The settings of the page are read, and say something for each key."""
+        path = self.room / "gregorio-chant.toml"
+        path.write_text(block(PAGE, "This file has each key:"))
+        settings = Finder({*CODES, *RULES}).of(str(self.room / "a.gabc"))
+        self.assertNotIn(None, [getattr(settings, it.name) for it in fields(settings)])
+        self.assertTrue(settings.excludes(str(self.room / "old" / "b.gabc")) and settings.ignores_of_files)
 
     def test_classes(self) -> None:
         """Each field of each class stands in the page, and each name that stands there is one."""
@@ -58,7 +73,7 @@ class Documents(unittest.TestCase):
                 self.assertTrue(hasattr(its, word) or word in {it.name for it in fields(its)}, f"{name}.{word}")
 
     def test_rules(self) -> None:
-        self.assertEqual(re.findall(r"^\| `([a-z]+-[a-z-]+|comment)` \|", PAGE, re.MULTILINE), list(RULES))
+        self.assertEqual(re.findall(r"^\| `([a-z]+-[a-z-]+|comment)` \|", PAGE.split("\n## Rules\n")[1], re.MULTILINE), list(RULES))
 
     def test_each_help_says_what_is_not_proved(self) -> None:
         for words in (["--help"], ["check", "--help"], ["format", "--help"], ["server", "--help"]):

@@ -7,6 +7,7 @@ import unittest
 
 from gregorio_chant import check
 from gregorio_chant.codes import CODES
+from gregorio_chant.repairs import REPAIRS
 from gregorio_chant.rules import RULES, messages_with_rules
 from support import ROOT, command
 
@@ -66,13 +67,26 @@ class Table(unittest.TestCase):
 
 class Command(unittest.TestCase):
     def test_page(self) -> None:
-        ran = command("explain", "e1")
+        ran = command("explain", "e6")
         self.assertEqual(
             ran.stdout.decode(),
-            "E1: error: character left out of the notes\n\nA character of the notes fits nowhere and was left out. Look for a slip of the\n"
-            "key, as a capital letter or a digit behind the wrong note.\n\nWrong:\n    Ky(g5)ri(g)\n\nRight:\n    Ky(g.)ri(g)\n",
+            "E6: error: unfinished end of the notes left out\n\nThe notes of a syllable end unfinished, as with a - that no note follows. Finish\nor remove the end.\n\n"
+            "Wrong:\n    Ky(fg-)\n\nRight:\n    Ky(f-g)\n",
         )
         self.assertEqual((ran.returncode, ran.stderr), (0, b""))
+
+    def test_repairs(self) -> None:
+        """The page of a code shows each of its repairs, and the page of the package lists them."""
+        for repair in REPAIRS.values():
+            for code in repair.codes:
+                shown = command("explain", code).stdout.decode()
+                self.assertIn(f"\n\nRepair {repair.name}, by check --fix", shown)
+                for head, lines in (("Before", repair.wrong), ("After", repair.right)):
+                    self.assertIn(f"\n{head}:\n" + "".join(f"    {it}\n" for it in lines.split("\n")), shown)
+        page = (ROOT / "docs" / "PYTHON.md").read_text(encoding="utf-8")
+        rows = re.findall(r"^\| `([a-z-]+)` \| (`[\w-]+`(?:, `[\w-]+`)*) \| (yes|no) \|", page, re.MULTILINE)
+        told = [(it.name, ", ".join(f"`{code}`" for code in sorted(it.codes)), "yes" if it.is_safe else "no") for it in REPAIRS.values()]
+        self.assertEqual(rows, told)
 
     def test_all(self) -> None:
         shown = command("explain", "--all").stdout.decode()

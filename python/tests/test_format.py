@@ -1,4 +1,4 @@
-"""Tries the command `format`: nothing but blanks goes unless it is allowed, and a file is at every moment whole."""
+"""Tries the command `format`: in canonical form nothing but blanks goes unless it is allowed, and a file is at every moment whole."""
 from __future__ import annotations
 
 import os
@@ -7,7 +7,7 @@ import unittest
 from pathlib import Path
 
 from gregorio_chant import Status, compile, files
-from gregorio_chant.formatting import canonical_of
+from gregorio_chant.formatting import Style, formatted
 from gregorio_chant.losses import REASONS
 from support import CANONICAL, FAULTY, ROOT, SCORE, InFolder, command, scores_of_tables
 
@@ -36,7 +36,7 @@ HARMLESS = {
 
 
 def blanks_gone(data: bytes) -> bytes:
-    return bytes(it for it in data if it not in b" \t\n\r\v\f")
+    return bytes(it for it in data if it not in b" \t\n\r")
 
 
 class Loss(InFolder):
@@ -44,7 +44,7 @@ class Loss(InFolder):
         for name, (score, told) in LOSING.items():
             with self.subTest(name):
                 file = self.put(f"{name}.gabc", score)
-                ran = command("format", "--quiet", file)
+                ran = command("format", "--canonical", "--quiet", file)
                 self.assertEqual(ran.returncode, 1)
                 self.assertEqual(file.read_text(encoding="utf-8"), score)
                 first, *lines = ran.stderr.decode().split("\n")[:-1]
@@ -58,16 +58,16 @@ class Loss(InFolder):
                 for left_out in reasons:
                     file = self.put(f"{name}.gabc", score)
                     allowed = ",".join(set(REASONS) - {left_out})
-                    self.assertEqual(command("format", "--allow", allowed, file).returncode, 1, left_out)
+                    self.assertEqual(command("format", "--canonical", "--allow", allowed, file).returncode, 1, left_out)
                     self.assertEqual(file.read_text(encoding="utf-8"), score)
-                self.assertEqual(command("format", "--allow", ",".join(reasons), file).returncode, 0)
+                self.assertEqual(command("format", "--canonical", "--allow", ",".join(reasons), file).returncode, 0)
                 self.assertEqual(file.read_text(encoding="utf-8"), compile(score).canonical)
 
     def test_fatal_faults(self) -> None:
         for name, score in FATAL.items():
             with self.subTest(name):
                 file = self.put(f"{name}.gabc", score)
-                ran = command("format", "--allow", ",".join(REASONS), file)
+                ran = command("format", "--canonical", "--allow", ",".join(REASONS), file)
                 self.assertEqual(ran.returncode, 2)
                 self.assertRegex(ran.stderr.decode(), rf"{file}:\d+:\d+: F\d: ")
                 self.assertEqual(file.read_bytes(), score if isinstance(score, bytes) else score.encode())
@@ -76,10 +76,10 @@ class Loss(InFolder):
         for name, score in HARMLESS.items():
             with self.subTest(name):
                 file = self.put(f"{name}.gabc", score)
-                self.assertEqual(command("format", file).returncode, 0)
+                self.assertEqual(command("format", "--canonical", file).returncode, 0)
                 self.assertEqual(file.read_bytes(), compile(score).canonical.encode())
                 self.assertEqual(blanks_gone(file.read_bytes()), blanks_gone(score.encode()))
-                self.assertEqual(command("format", "--check", file).returncode, 0)
+                self.assertEqual(command("format", "--canonical", "--check", file).returncode, 0)
 
     def test_losses_of_the_tables(self) -> None:
         """A score loses nothing exactly where only its blanks change."""
@@ -88,7 +88,7 @@ class Loss(InFolder):
             with self.subTest(score):
                 result = compile(score)
                 if result.status is not Status.FATAL:
-                    losses = canonical_of(score).losses
+                    losses = formatted(score, Style(is_canonical=True)).losses
                     self.assertEqual(losses == (), blanks_gone(score) == blanks_gone(result.output.encode()), losses)
                     losing += losses != ()
         self.assertGreater(losing, 50)
@@ -96,7 +96,7 @@ class Loss(InFolder):
     def test_scores_of_the_repository(self) -> None:
         for file in sorted(ROOT.glob("*/*.gabc")):
             copy = self.put(file.name, file.read_bytes())
-            ran = command("format", copy)
+            ran = command("format", "--canonical", copy)
             self.assertEqual(blanks_gone(copy.read_bytes()), blanks_gone(file.read_bytes()))
             is_harmless = blanks_gone(file.read_bytes()) == blanks_gone(compile(file.read_bytes()).output.encode())
             self.assertEqual(ran.returncode, 0 if is_harmless else 1, file)
@@ -109,7 +109,7 @@ class Files(InFolder):
         os.mkdir("scores")
         os.symlink("../elsewhere/target.gabc", "scores/link.gabc")
         self.put("scores/a b.gabc", SCORE).chmod(0o640)
-        self.assertEqual(command("format", "--quiet", "scores").returncode, 0)
+        self.assertEqual(command("format", "--canonical", "--quiet", "scores").returncode, 0)
         self.assertEqual(os.readlink("scores/link.gabc"), "../elsewhere/target.gabc")
         for name, mode in (("elsewhere/target.gabc", 0o604), ("scores/a b.gabc", 0o640)):
             self.assertEqual(Path(name).read_text(), CANONICAL)
@@ -120,22 +120,37 @@ class Files(InFolder):
     def test_hard_links(self) -> None:
         file = self.put("a.gabc", SCORE)
         os.link(file, "b.gabc")
-        ran = command("format", "--quiet", "a.gabc")
+        ran = command("format", "--canonical", "--quiet", "a.gabc")
         self.assertEqual((ran.returncode, file.read_text()), (4, SCORE))
         self.assertEqual(ran.stderr, b"gregorio-chant: cannot write a.gabc: it has other names (hard links); it stays as it was\n")
         self.assertEqual(os.stat("b.gabc").st_ino, os.stat("a.gabc").st_ino)
 
+    def test_read_only(self) -> None:
+        score = SCORE.replace("name: ", "name:")
+        file = self.put("a.gabc", score)
+        file.chmod(0o444)
+        ran = command("format", "--quiet", "a.gabc")
+        self.assertEqual((ran.returncode, file.read_text()), (4, score))
+        self.assertEqual(ran.stderr, b"gregorio-chant: cannot write a.gabc: it is read-only; it stays as it was\n")
+        self.assertEqual(command("format", "--check", "a.gabc").returncode, 1)
+        if os.geteuid() == 0:
+            # A file of somebody else, in a folder that all may write.
+            file.chmod(0o644)
+            ran = command("format", "--quiet", "a.gabc", as_nobody=True)
+            self.assertEqual((ran.returncode, ran.stderr), (4, b"gregorio-chant: cannot write a.gabc: Permission denied; it stays as it was\n"))
+            self.assertEqual(file.read_text(), score)
+
     def test_canonical_files_are_not_touched(self) -> None:
         file = self.put("a.gabc", CANONICAL)
         before = os.stat(file)
-        self.assertEqual(command("format", "a.gabc").stderr, b"gregorio-chant: 1 file: 1 canonical\n")
+        self.assertEqual(command("format", "a.gabc").stderr, b"gregorio-chant: 1 file: 1 unchanged\n")
         self.assertEqual((os.stat(file).st_ino, os.stat(file).st_mtime_ns), (before.st_ino, before.st_mtime_ns))
 
     def test_full_disk(self) -> None:
         self.put("s/a.gabc", SCORE)
-        long = self.put("s/b.gabc", SCORE + "Ky(f) " * 2_000)
+        long = self.put("s/b.gabc", SCORE + "Ky(f)  " * 2_000)
         before = long.read_bytes()
-        ran = command("format", "--quiet", "s", limit=4_000)
+        ran = command("format", "--canonical", "--quiet", "s", limit=4_000)
         self.assertEqual((ran.returncode, ran.stderr), (4, b"gregorio-chant: cannot write s/b.gabc: File too large; it stays as it was\n"))
         self.assertEqual(long.read_bytes(), before)
         self.assertEqual(Path("s/a.gabc").read_text(), CANONICAL)
@@ -144,7 +159,7 @@ class Files(InFolder):
     def test_folder_that_cannot_be_written(self) -> None:
         self.put("s/a.gabc", SCORE)
         os.chmod("s", 0o555)
-        ran = command("format", "--quiet", "s", as_nobody=True)
+        ran = command("format", "--canonical", "--quiet", "s", as_nobody=True)
         self.assertEqual((ran.returncode, ran.stderr), (4, b"gregorio-chant: cannot write s/a.gabc: Permission denied; it stays as it was\n"))
 
     def test_file_that_changes_or_vanishes_meanwhile(self) -> None:
@@ -163,7 +178,7 @@ class Files(InFolder):
     def test_bad_input(self) -> None:
         self.put("s/z.gabc", SCORE)
         os.symlink("b.gabc", "s/b.gabc")
-        ran = command("format", "s", "gone.gabc")
+        ran = command("format", "--canonical", "s", "gone.gabc")
         self.assertEqual(ran.returncode, 4)
         self.assertEqual(Path("s/z.gabc").read_text(), CANONICAL)
         self.assertEqual(
@@ -178,36 +193,39 @@ class Words(InFolder):
         self.put("a.gabc", SCORE)
         self.put("b.gabc", CANONICAL)
         self.put("c.gabc", FAULTY)
-        ran = command("format", "--check", "a.gabc", "b.gabc", "c.gabc")
+        ran = command("format", "--canonical", "--check", "a.gabc", "b.gabc", "c.gabc")
         self.assertEqual((ran.returncode, ran.stdout), (1, b""))
         self.assertEqual(
             ran.stderr.decode().replace("gregorio-chant: ", "").split("\n"),
             ["a.gabc would change", "c.gabc would stay as it is: more than its blanks would change",
-             "c.gabc:3:10: E1: character left out of the notes", "3 files: 1 canonical, 1 would change, 1 refused", ""],
+             "c.gabc:3:10: E1: character left out of the notes", "3 files: 1 unchanged, 1 would change, 1 refused", ""],
         )
         self.assertEqual((Path("a.gabc").read_text(), Path("c.gabc").read_text()), (SCORE, FAULTY))
 
     def test_diff(self) -> None:
         self.put("a.gabc", "name: K;\n%%\n(c4) Ky(g5)")
-        ran = command("format", "--diff", "--quiet", "a.gabc")
+        ran = command("format", "--canonical", "--diff", "--quiet", "a.gabc")
         self.assertEqual(
             ran.stdout.decode(),
             "--- a.gabc\n+++ a.gabc (canonical)\n@@ -1,3 +1,4 @@\n name: K;\n %%\n-(c4) Ky(g5)\n\\ No newline at end of file\n+(c4)\n+Ky(g)\n",
         )
         self.assertEqual((ran.returncode, ran.stderr), (1, b""))
         self.put("a.gabc", CANONICAL)
-        ran = command("format", "--diff", "--quiet", "a.gabc")
+        ran = command("format", "--canonical", "--diff", "--quiet", "a.gabc")
         self.assertEqual((ran.returncode, ran.stdout), (0, b""))
 
     def test_filter(self) -> None:
-        ran = command("format", "--quiet", "-", data=SCORE.encode())
+        ran = command("format", "--canonical", "--quiet", "-", data=SCORE.encode())
         self.assertEqual((ran.returncode, ran.stdout, ran.stderr), (0, CANONICAL.encode(), b""))
-        ran = command("format", "--quiet", "-", data=FAULTY.encode())
+        ran = command("format", "--canonical", "--quiet", "-", data=FAULTY.encode())
         self.assertEqual((ran.returncode, ran.stdout), (1, b""))
         self.assertIn(b"<stdin>:3:10: E1", ran.stderr)
 
-    def test_unknown_reason(self) -> None:
-        self.assertEqual(command("format", "--allow", "W1", ".").returncode, 3)
+    def test_words_that_do_not_fit(self) -> None:
+        for words in ("--canonical --allow W1 .", "--allow E1 .", "--canonical --wrap 60 .", "--wrap 0 .", "--jobs 0 .", "--staged", "--check"):
+            ran = command("format", *words.split())
+            self.assertEqual((ran.returncode, ran.stdout), (3, b""), words)
+            self.assertRegex(ran.stderr.decode(), r"^gregorio-chant: .*\n$")
 
 
 if __name__ == "__main__":

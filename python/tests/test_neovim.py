@@ -15,7 +15,7 @@ local lines = {}
 local function put(what)
   local found = {}
   for _, it in ipairs(vim.diagnostic.get(0)) do
-    table.insert(found, { it.lnum, it.col, it.code or it.user_data.lsp.code, it.message })
+    table.insert(found, { it.lnum, it.col, it.code or it.user_data.lsp.code, (it.message:gsub("\\n.*", "")) })
   end
   table.insert(lines, vim.fn.json_encode({ what, found, vim.api.nvim_buf_get_lines(0, 0, -1, false) }))
 end

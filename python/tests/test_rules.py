@@ -4,9 +4,9 @@ from __future__ import annotations
 import json
 import unittest
 
-from gregorio_chant import compile
+from gregorio_chant import Kind, Status, compile
 from gregorio_chant.rules import RULES, messages_with_rules
-from support import EXAMPLES, InFolder, command
+from support import EXAMPLES, InFolder, command, scores_of_tables
 
 
 def found(score: str, name: str) -> list[tuple[int, int, str]]:
@@ -34,6 +34,7 @@ class Rules(unittest.TestCase):
         messages = messages_with_rules(f"name: a;\n{body}".encode())
         self.assertEqual([(it.line, it.column, it.code) for it in messages if it.code != "outside-staff"], [(3, 9, "E1"), (3, 10, "nabc-without-header")])
         self.assertIn("in the notes of 2 syllables", messages[1].text)
+        self.assertIn("in the notes of 1 syllable,", found("%%\n(c4) Ky(f|pu)", "nabc-without-header")[0][2])
         self.assertGreater(len(compile(f"name: a;\n{body}").messages), 4)
         self.assertEqual(found(f"nabc-lines: 1;\n{body}", "nabc-without-header"), [])
         self.assertEqual(len(found(f"nabc-lines: 0;\n{body}", "nabc-without-header")), 1)
@@ -50,6 +51,38 @@ class Rules(unittest.TestCase):
             score = f"name: a;\n%%\n(c4)  {notes}   c(f)"
             places = [it[:2] for it in found(score, "asterisk-without-bar")]
             self.assertEqual(places, [] if is_well else [(3, 7 + notes.index("*"))], notes)
+
+    def test_clef_off_staff(self) -> None:
+        score = "name: a;\nstaff-lines: 3;\n%%\n(cb4) a(f@c3@f4z)\n"
+        self.assertEqual([it[:2] for it in found(score, "clef-off-staff")], [(4, 2), (4, 11)])
+        self.assertEqual(found(score.replace("lines: 3", "lines: 4"), "clef-off-staff"), [])
+        self.assertEqual(found(score.replace("lines: 3", "lines: x"), "clef-off-staff"), [])
+
+    def test_unknown_mode(self) -> None:
+        for mode, is_well in (("9", False), ("0", False), ("12", False), ("10t", False), ("8", True), ("6t", True), ("n", True), ("", True), ("1*", True)):
+            places = [it[:2] for it in found(f"name: a;\nmode: 9;\n mode:{mode};\n%%\n(c4)\n", "unknown-mode")]
+            self.assertEqual(places, [] if is_well else [(3, 1)], mode)
+
+    def test_blank_before_notes(self) -> None:
+        score = "name: a;\n%%\n(c4) a (f)b  (g) c(h) (;) <eu> (::) <i>d</i>\n(f) e % f\n(g) $( (h) [a b] (i) g"
+        self.assertEqual([it[:2] for it in found(score, "blank-before-notes")], [(3, 7), (3, 12), (3, 45), (5, 7), (5, 17)])
+
+    def test_lone_capital(self) -> None:
+        score = "name: a;\n%%\n(c4) a(F) b(fG) c(hGF) d(fgF) e(G~) f(gH) (;) (i) (I) (i)\n"
+        self.assertEqual([it[:2] for it in found(score, "lone-capital")], [(3, 8), (3, 14), (3, 40), (3, 52)])
+
+    def test_unknown_special(self) -> None:
+        score = "name: a;\n%%\n(c4)  <sp>Rx</sp>(f) <sp>R/</sp><sp>'ae</sp><sp></sp>(g) <v><sp>x</sp></v>(h) $<sp$>(i)\n"
+        self.assertEqual([it[:2] for it in found(score, "unknown-special")], [(3, 7), (3, 45)])
+
+    def test_scores_of_the_tables(self) -> None:
+        """Each score of the tables can be tried, whatever stands in it, and its messages come in order, a fatal fault last."""
+        for score in sorted(set(scores_of_tables())):
+            with self.subTest(score):
+                messages = messages_with_rules(score)
+                places = [(it.line, it.column) for it in messages if it.kind is not Kind.FATAL]
+                self.assertEqual(places, sorted(places))
+                self.assertEqual(messages[-1:] != () and messages[-1].kind is Kind.FATAL, compile(score).status is Status.FATAL)
 
     def test_off_unless_asked(self) -> None:
         for score in sorted(EXAMPLES.glob("*.gabc")):

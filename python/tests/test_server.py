@@ -4,17 +4,21 @@ from __future__ import annotations
 import json
 import subprocess
 import sys
+import tempfile
 import unittest
+from pathlib import Path
 from typing import Any
 
-from support import CANONICAL, FAULTY, SCORE, has
+from support import FAULTY, SCORE, has
 
+HELP = "'5' is no sign of the note before it: remove it"
 URI = "file:///a%20b.gabc"
 
 
 @unittest.skipUnless(has("pylsp_jsonrpc"), "there is no python-lsp-jsonrpc")
 class Serving(unittest.TestCase):
     def setUp(self) -> None:
+        self.uri = URI
         self.start()
 
     def start(self, *words: str) -> None:
@@ -63,24 +67,24 @@ class Serving(unittest.TestCase):
 
     def open(self, text: str) -> list[dict[str, Any]]:
         """Opens a score, and returns the messages that come."""
-        self.tell("textDocument/didOpen", {"textDocument": {"uri": URI, "languageId": "gabc", "version": 1, "text": text}})
+        self.tell("textDocument/didOpen", {"textDocument": {"uri": self.uri, "languageId": "gabc", "version": 1, "text": text}})
         return self.shown()
 
     def change(self, text: str) -> list[dict[str, Any]]:
-        self.tell("textDocument/didChange", {"textDocument": {"uri": URI, "version": 2}, "contentChanges": [{"text": text}]})
+        self.tell("textDocument/didChange", {"textDocument": {"uri": self.uri, "version": 2}, "contentChanges": [{"text": text}]})
         return self.shown()
 
     def shown(self) -> list[dict[str, Any]]:
         message = self.receive()
-        self.assertEqual((message["method"], message["params"]["uri"]), ("textDocument/publishDiagnostics", URI))
+        self.assertEqual((message["method"], message["params"]["uri"]), ("textDocument/publishDiagnostics", self.uri))
         diagnostics: list[dict[str, Any]] = message["params"]["diagnostics"]
         return diagnostics
 
     def format(self) -> Any:
-        return self.ask("textDocument/formatting", {"textDocument": {"uri": URI}, "options": {"tabSize": 2, "insertSpaces": True}})
+        return self.ask("textDocument/formatting", {"textDocument": {"uri": self.uri}, "options": {"tabSize": 2, "insertSpaces": True}})
 
     def hover(self, line: int, character: int) -> str | None:
-        answer = self.ask("textDocument/hover", {"textDocument": {"uri": URI}, "position": {"line": line, "character": character}})
+        answer = self.ask("textDocument/hover", {"textDocument": {"uri": self.uri}, "position": {"line": line, "character": character}})
         return None if answer is None else answer["contents"]["value"]
 
     def test_messages(self) -> None:
@@ -89,7 +93,7 @@ class Serving(unittest.TestCase):
         place = {"start": {"line": 2, "character": 9}, "end": {"line": 2, "character": 10}}
         self.assertEqual(
             message,
-            {"range": place, "severity": 1, "code": "E1", "source": "gregorio-chant", "message": "character left out of the notes"},
+            {"range": place, "severity": 1, "code": "E1", "source": "gregorio-chant", "message": f"character left out of the notes\n{HELP}"},
         )
         self.assertEqual(self.change(SCORE), [])
         (message,) = self.change("%%\r\n(c4)\ufeff\U0001d11e\u00e9(g5) \r\n")[1:]
@@ -98,19 +102,18 @@ class Serving(unittest.TestCase):
         self.assertEqual(message["range"]["start"], {"line": 2, "character": 9})
         self.assertEqual([it["severity"] for it in self.change("%%\n(c4f)")], [2])
         self.assertEqual([it["range"]["start"] for it in self.change("name: a;\r\n")], [{"line": 1, "character": 0}])
-        self.tell("textDocument/didClose", {"textDocument": {"uri": URI}})
+        self.tell("textDocument/didClose", {"textDocument": {"uri": self.uri}})
         self.assertEqual(self.shown(), [])
 
     def test_formatting(self) -> None:
-        self.open(SCORE.replace("\n", "\r\n"))
+        self.open("name:a;\r\n%% b\r\n(c4)  Ky(g5) % c\r\n")
         (edit,) = self.format()
-        self.assertEqual(edit, {"range": {"start": {"line": 0, "character": 0}, "end": {"line": 3, "character": 0}}, "newText": CANONICAL})
-        self.change(FAULTY)
-        self.assertEqual(self.format(), [])
-        self.assertIn("line 3, column 10: E1: character left out of the notes", self.told[-1]["params"]["message"])
+        self.assertEqual(
+            edit, {"range": {"start": {"line": 0, "character": 0}, "end": {"line": 3, "character": 0}}, "newText": "name: a;\r\n%% b\r\n(c4) Ky(g5) % c\r\n"},
+        )
         self.change("name: a")
         self.assertEqual(self.format(), [])
-        self.assertIn("1:1: F3", self.told[-1]["params"]["message"])
+        self.assertEqual(self.told[-1]["params"]["message"], "The score stays as it is: it is not whole\n1:1: F3: header value not ended")
 
     def test_hover(self) -> None:
         self.open("name: a;  % b\n%%\n(cb3) \U0001d11e(f)ri(gi.g&)\n")
@@ -118,11 +121,26 @@ class Serving(unittest.TestCase):
         self.assertEqual(self.hover(2, 16), "i.: re, punctum\ngi.g: torculus\n")
         self.assertIsNone(self.hover(2, 12))
         self.assertIsNone(self.hover(9, 0))
-        self.assertTrue((self.hover(2, 18) or "").endswith("Ky(g.)ri(g)\n"))
+        self.assertIn("\n\nRight:\n    Ky(g.)ri(g)\n", self.hover(2, 18) or "")
 
     def test_rules(self) -> None:
         self.start("--rules")
         self.assertEqual([it["code"] for it in self.open("name: a;\n%%\n(c4) a(n)\n")], ["outside-staff"])
+
+    def test_settings(self) -> None:
+        with tempfile.TemporaryDirectory() as folder:
+            file = Path(folder, "a b.gabc")
+            Path(folder, "gregorio-chant.toml").write_text('rules = true\nignore = ["E1"]\n[format]\ncanonical = true\n')
+            self.uri = file.as_uri()
+            self.assertEqual([it["code"] for it in self.open("name: a;\n%%\n(c4) a(n) b(g5)\n")], ["outside-staff"])
+            self.change("name: a;\n%%\n(c4) a(n) b(g)\n")
+            (edit,) = self.format()
+            self.assertEqual(edit["newText"], "name: a;\n%%\n(c4)\na(n)\nb(g)\n")
+            self.start()
+            Path(folder, "gregorio-chant.toml").write_text("rules = 3")
+            self.tell("textDocument/didOpen", {"textDocument": {"uri": self.uri, "languageId": "gabc", "version": 1, "text": FAULTY}})
+            self.assertIn("gregorio-chant.toml:1: rules: true or false is wanted", self.receive()["params"]["message"])
+            self.assertEqual(len(self.shown()), 1)
 
     def test_end(self) -> None:
         self.assertIsNone(self.ask("shutdown", None))

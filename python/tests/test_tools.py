@@ -2,10 +2,14 @@
 from __future__ import annotations
 
 import http.client
+import os
+import re
 import socket
 import subprocess
 import sys
+import time
 import unittest
+from collections.abc import Callable
 from pathlib import Path
 from urllib.parse import urlsplit
 
@@ -70,8 +74,10 @@ class UploadServer(InFolder):
         self.start()
         self.addCleanup(self.stop)
 
-    def start(self) -> None:
-        self.server = subprocess.Popen([sys.executable, str(TOOLS / "upload_server.py"), "scores"], stdout=subprocess.PIPE, text=True)
+    def start(self, *words: str) -> None:
+        line = [sys.executable, str(TOOLS / "upload_server.py"), "scores", *words]
+        with open("told", "ab") as told:
+            self.server = subprocess.Popen(line, stdout=subprocess.PIPE, stderr=told, text=True)
         assert self.server.stdout is not None
         self.port = urlsplit(self.server.stdout.readline().strip()).port
 
@@ -81,6 +87,7 @@ class UploadServer(InFolder):
         self.server.kill()
         self.server.wait(20)
         self.server.stdout.close()
+        self.assertEqual(Path("told").read_text(encoding="utf-8"), "")
 
     def ask(self, method: str, path: str, body: bytes | None = None, **headers: str) -> tuple[int, bytes, http.client.HTTPMessage]:
         """Makes a request, and returns the status, the body and the headers of the answer."""
@@ -91,6 +98,11 @@ class UploadServer(InFolder):
         got = (answer.status, answer.read(), answer.headers)
         asked.close()
         return got
+
+    def head(self, method: str, path: str, **headers: str) -> bytes:
+        """Returns the head of a request with these headers, and with the server's own name where they have none."""
+        lines = [f"{name.replace('_', '-')}: {it}" for name, it in {"Host": f"localhost:{self.port}", **headers}.items()]
+        return "\r\n".join([f"{method} {path} HTTP/1.1", *lines, "", ""]).encode()
 
     def begin(self, format: str = "gabc") -> str:
         status, _, headers = self.ask("POST", f"/scores?format={format}")
@@ -131,8 +143,7 @@ class UploadServer(InFolder):
         path = self.begin()
         assert self.port is not None
         with socket.create_connection(("127.0.0.1", self.port), timeout=20) as half:
-            head = f"PATCH {path} HTTP/1.1\r\nHost: localhost\r\nUpload-Offset: 0\r\nContent-Length: {len(score)}\r\n\r\n"
-            half.sendall(head.encode() + score[:100])
+            half.sendall(self.head("PATCH", path, Upload_Offset="0", Content_Length=str(len(score))) + score[:100])
             half.shutdown(socket.SHUT_WR)
             self.assertEqual(half.recv(100), b"")
         self.assertEqual(self.offset(path), 100)
@@ -150,6 +161,72 @@ class UploadServer(InFolder):
         self.send(path, score, len(score))
         self.assertEqual(self.ask("PATCH", path, b"a", Upload_Offset=str(len(score)))[0], 409)
         self.check_answers(path, score, "gabc")
+
+    def test_reading_while_writing(self) -> None:
+        """While a slow piece comes, HEAD and GET answer at once what is known, and another piece has to wait."""
+        score = (EXAMPLES / "introit.gabc").read_bytes()
+        path = self.begin()
+        assert self.port is not None
+        with socket.create_connection(("127.0.0.1", self.port), timeout=20) as slow:
+            slow.sendall(self.head("PATCH", path, Upload_Offset="0", Content_Length=str(len(score))) + score[:200])
+            begin = time.monotonic()
+            while self.offset(path) < 200:
+                self.assertLess(time.monotonic() - begin, 5)
+            known = self.ask("GET", path)[1]
+            self.assertLess(time.monotonic() - begin, 5)
+            self.assertTrue(compile(score).output.encode().startswith(known) and known)
+            slow.sendall(score[200:])
+            self.assertIn(b"204", slow.recv(100))
+        self.check_answers(path, score, "gabc")
+
+    def test_damage(self) -> None:
+        """Each request for a score of which the state or a text is damaged is answered with 500 and a line. It can be forgotten."""
+        score = (EXAMPLES / "introit.gabc").read_bytes()
+        damages: list[tuple[str, Callable[[bytes], bytes]]] = [
+            ("state", lambda it: it[:20]), ("state", lambda it: b""), ("state", lambda it: b"\xff" + it), ("state", lambda it: it[:-1]),
+            ("state", lambda it: it.replace(b'"offset"', b'"other"')), ("state", lambda it: b"[]\n" + it), ("output", lambda it: it[:-1]),
+            ("state", lambda it: re.sub(rb'"messages": \d+', b'"messages": -1', it)),
+        ]
+        for name, damage in damages:
+            path = self.begin()
+            self.send(path, score, 200)
+            file = Path("scores") / path[8:] / name
+            before = file.read_bytes()
+            file.write_bytes(damage(before))
+            self.assertNotEqual(file.read_bytes(), before)
+            told = b"what is kept of the score %s is damaged\n" % path[8:].encode()
+            for method, where in (("PATCH", path), ("POST", f"{path}/end")):
+                self.assertEqual(self.ask(method, where, b"a", Upload_Offset="200")[:2], (500, told))
+            self.assertEqual(self.ask("DELETE", path)[0], 204)
+
+    def test_age(self) -> None:
+        """A score to which nothing came for too long is let go, and nothing else in the folder is."""
+        old, new = self.begin(), self.begin()
+        Path("scores/other").mkdir()
+        Path("scores/file").touch()
+        self.stop()
+        self.start("0", "1000")
+        os.utime(Path("scores") / old[8:] / "state", (time.time() - 2000,) * 2)
+        self.assertEqual([self.ask("HEAD", it)[0] for it in (old, new)], [404, 200])
+        newest = self.begin()
+        self.assertEqual({it.name for it in Path("scores").iterdir()}, {"other", "file", new[8:], newest[8:]})
+
+    def test_foreign_requests(self) -> None:
+        """A request by another name of the server, or of a page from elsewhere, is refused before its body comes."""
+        path = self.begin()
+        own = f"127.0.0.1:{self.port}"
+        for headers, status in (
+            ({"Host": own}, 204), ({"Host": own, "Origin": f"http://{own}"}, 204), ({"Host": "example.org"}, 403), ({"Host": f"a.{own}"}, 403),
+            ({"Host": own, "Origin": "http://example.org"}, 403), ({"Host": own, "Origin": "null"}, 403), ({"Host": own, "Origin": f"https://{own}"}, 403),
+            ({"Host": own, "Origin": "http://127.0.0.1"}, 403), ({"Host": ""}, 403), ({"Host": "example.org", "Expect": "100-continue"}, 403),
+        ):
+            length = 1 if status == 204 else 1_000
+            asked = self.head("PATCH", path, Upload_Offset=str(self.offset(path)), Content_Length=str(length), **headers)
+            assert self.port is not None
+            with socket.create_connection(("127.0.0.1", self.port), timeout=20) as it:
+                it.sendall(asked + (b"%" if status == 204 else b""))
+                self.assertEqual(it.recv(1_000).split(b" ")[1], b"%d" % status, headers)
+        self.assertEqual(self.offset(path), 2)
 
     def test_refusals(self) -> None:
         path = self.begin()

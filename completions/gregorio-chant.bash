@@ -1,0 +1,60 @@
+# Completes the words of gregorio-chant in bash. Source it, or put it into share/bash-completion/completions/gregorio-chant.
+
+# Prints the options of a sub-command.
+_gregorio_chant_options() {
+  case "$1" in
+    check) echo '--staged --exclude --output-format --select --ignore --fail-on --rules --fix --unsafe-fixes --diff --jobs --no-config --quiet --help' ;;
+    format) echo '--staged --exclude --check --diff --wrap --canonical --allow --jobs --no-config --quiet --help' ;;
+    explain) echo '--all --help' ;;
+    server) echo '--rules --no-config --help' ;;
+    version) echo '--help' ;;
+    *) echo '--version --help' ;;
+  esac
+}
+
+# Completes the last of words between commas.
+_gregorio_chant_list() {
+  local last="${1##*,}" word
+  while IFS= read -r word; do
+    COMPREPLY+=("${1%"$last"}$word")
+  done < <(compgen -W "$2" -- "$last")
+}
+
+# Completes a score: names that end in .gabc, in whichever case, and folders.
+_gregorio_chant_scores() {
+  local name
+  while IFS= read -r name; do
+    if [[ -d $name || ${name,,} == *.gabc ]]; then
+      COMPREPLY+=("$name")
+    fi
+  done < <(compgen -f -- "$1")
+}
+
+_gregorio_chant() {
+  local word="${COMP_WORDS[COMP_CWORD]}" before="${COMP_WORDS[COMP_CWORD - 1]}" command="${COMP_WORDS[1]}"
+  local codes='E E1 E2 E3 E4 E5 E6 W W1 W2 W3 W4 W5 W6 W7 W8 W9 W10 W11 W12 F F1 F2 F3 F4 F5 F6 F7'
+  local rules='outside-staff bracket-in-attribute nabc-without-header comment asterisk-without-bar clef-off-staff unknown-mode blank-before-notes lone-capital unknown-special unused-ignore'
+  COMPREPLY=()
+  if [ "$COMP_CWORD" = 1 ] && [[ $word != -* ]]; then
+    mapfile -t COMPREPLY < <(compgen -W 'check format explain server version' -- "$word")
+    return
+  fi
+  case "$before" in
+    --output-format) mapfile -t COMPREPLY < <(compgen -W 'text lines json github sarif' -- "$word") ;;
+    --select | --ignore | --fail-on) _gregorio_chant_list "$word" "$codes rules $rules" ;;
+    --allow) _gregorio_chant_list "$word" 'E1 E2 E3 E4 E5 E6 W2 W3 W4 W5 W9 comments spelling' ;;
+    --exclude) mapfile -t COMPREPLY < <(compgen -f -- "$word") ;;
+    --jobs | --wrap) ;;
+    *)
+      if [[ $word == -* ]]; then
+        mapfile -t COMPREPLY < <(compgen -W "$(_gregorio_chant_options "$command")" -- "$word")
+      elif [ "$command" = explain ]; then
+        mapfile -t COMPREPLY < <(compgen -W "$codes $rules" -- "$word")
+      elif [ "$command" = check ] || [ "$command" = format ]; then
+        _gregorio_chant_scores "$word"
+      fi
+      ;;
+  esac
+}
+
+complete -o filenames -F _gregorio_chant gregorio-chant

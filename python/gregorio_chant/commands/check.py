@@ -1,0 +1,68 @@
+"""The sub-command `check`: its words."""
+from __future__ import annotations
+
+import argparse
+
+from gregorio_chant import checking
+from gregorio_chant.commands.words import (
+    KNOWN, OUTSIDE, STATUSES, Parser, add_jobs, add_no_config, add_paths, examples, paths_of, settings_of,
+)
+from gregorio_chant.fixing import fix_files
+from gregorio_chant.selection import UnknownCode, codes_in
+from gregorio_chant.settings import Chosen
+from gregorio_chant.streams import STDIN
+
+NAME = "check"
+_ABOUT = f"Reports what is found in files, and writes none without --fix. The messages are the compiler's, but for those of rules. {OUTSIDE}"
+_EXAMPLES = examples((
+    "gregorio-chant check scores",
+    "gregorio-chant check --select E,F --exclude drafts/ scores",
+    "gregorio-chant check --output-format sarif scores >scores.sarif",
+))
+
+
+def add(commands: argparse._SubParsersAction[Parser]) -> Parser:
+    """Adds the words of `check`."""
+    it = commands.add_parser(NAME, help="report what is found in files", description=_ABOUT, epilog=f"{_EXAMPLES}\n\n{STATUSES}")
+    add_paths(it)
+    it.add_argument(
+        "--output-format", choices=checking.FORMS, default="text", metavar="FORM",
+        help="text with the line of the score (as ever), lines for editors, json, github or sarif",
+    )
+    it.add_argument("--select", metavar="CODES", help="report these alone: codes between commas, E, W or F for a kind, rules for all rules")
+    it.add_argument("--ignore", metavar="CODES", help="do not report these; a fatal fault is always reported")
+    it.add_argument("--fail-on", metavar="CODES", help="end with status 1 where one of these is reported")
+    it.add_argument("--rules", action="store_true", help="try the rules that the compiler leaves open; they stand outside its proof")
+    it.add_argument("--fix", action="store_true", help="repair the files first, where what is read afterwards is what was written; then report what is left")
+    it.add_argument("--unsafe-fixes", action="store_true", help="with --fix: repair by guesses too; read what they change")
+    it.add_argument("--diff", action="store_true", help="with --fix: write no file, and show what would be repaired, as a diff")
+    add_jobs(it)
+    add_no_config(it)
+    it.add_argument("--quiet", action="store_true", help="write no summary")
+    return it
+
+
+def _codes(word: str | None) -> frozenset[str] | None:
+    return None if word is None else codes_in(word, KNOWN)
+
+
+def _fix(words: argparse.Namespace, wanted: checking.Wanted) -> int:
+    """Repairs files where that is asked for."""
+    if not words.fix:
+        if words.unsafe_fixes or words.diff:
+            raise UnknownCode("--unsafe-fixes and --diff are for --fix")
+        return 0
+    if words.staged or STDIN in words.paths:
+        raise UnknownCode(f"--fix writes files, so it takes neither --staged nor {STDIN}")
+    return fix_files(wanted, words.unsafe_fixes, words.diff)
+
+
+def run(words: argparse.Namespace) -> int:
+    """Checks the files. Raises `UnknownCode`, `CannotWrite`, `Missing`, `NoStage` and
+    `SettingsError`."""
+    chosen = Chosen(_codes(words.select), _codes(words.ignore), _codes(words.fail_on))
+    wanted = checking.Wanted(
+        paths_of(words), chosen, words.output_format, words.rules, words.jobs, words.quiet, tuple(words.exclude), words.staged, settings_of(words)
+    )
+    fixed = _fix(words, wanted)
+    return fixed if words.diff else max(fixed, checking.check(wanted))

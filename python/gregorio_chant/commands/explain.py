@@ -1,0 +1,29 @@
+"""The sub-command `explain`: its words."""
+from __future__ import annotations
+
+import argparse
+
+from gregorio_chant.commands.words import Parser, examples
+from gregorio_chant.explaining import explain
+from gregorio_chant.selection import UnknownCode
+from gregorio_chant.streams import write
+
+NAME = "explain"
+_ABOUT = "Says what codes and rules mean, each with a wrong line and its right one."
+_EXAMPLES = examples(("gregorio-chant explain E4", "gregorio-chant explain w3 outside-staff", "gregorio-chant explain --all"))
+
+
+def add(commands: argparse._SubParsersAction[Parser]) -> Parser:
+    """Adds the words of `explain`."""
+    it = commands.add_parser(NAME, help="say what a code or a rule means, with a wrong line and its right one", description=_ABOUT, epilog=_EXAMPLES)
+    it.add_argument("codes", nargs="*", metavar="CODE", help="E4, W3, F6, or the name of a rule")
+    it.add_argument("--all", action="store_true", help="explain all codes and rules")
+    return it
+
+
+def run(words: argparse.Namespace) -> int:
+    """Writes the pages. Raises `UnknownCode` and `CannotWrite`."""
+    if not words.codes and not words.all:
+        raise UnknownCode("a code or --all is needed")
+    write(explain(() if words.all else words.codes))
+    return 0

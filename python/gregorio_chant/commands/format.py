@@ -1,0 +1,67 @@
+"""The sub-command `format`: its words."""
+from __future__ import annotations
+
+import argparse
+
+from gregorio_chant import formatting
+from gregorio_chant.commands.words import (
+    OUTSIDE, STATUSES, Parser, add_jobs, add_no_config, add_paths, examples, paths_of, positive, settings_of,
+)
+from gregorio_chant.losses import REASONS
+from gregorio_chant.nearest import did_you_mean
+from gregorio_chant.selection import UnknownCode
+
+NAME = "format"
+_ABOUT = f"""Writes headers and syllables in canonical spelling, and keeps lines, empty lines and comments. Where something is found, the spelling
+stays. A file is written only where the compiler reads the new text as it read the old one: with the same canonical form, the same dump and the same
+messages. The new file is written beside the old one, and then takes its place. {OUTSIDE}"""
+_EXAMPLES = examples((
+    "gregorio-chant format scores",
+    "gregorio-chant format --check --exclude drafts/ scores",
+    "gregorio-chant format --diff --wrap 80 score.gabc",
+))
+
+
+def add(commands: argparse._SubParsersAction[Parser]) -> Parser:
+    """Adds the words of `format`."""
+    it = commands.add_parser(
+        NAME, help="write files in canonical spelling, with the lines and comments of their editor", description=_ABOUT,
+        epilog=f"{_EXAMPLES}\n\n{STATUSES}",
+    )
+    add_paths(it, ", which is written to standard output", "with --check or --diff: ")
+    it.add_argument("--check", action="store_true", help="write nothing; status 1 where a file would change")
+    it.add_argument("--diff", action="store_true", help="write nothing but what would change, as a diff; status 1 where something would")
+    it.add_argument("--wrap", type=positive, metavar="N", help="at most N characters on a line, where words begin; no line is made longer")
+    it.add_argument("--canonical", action="store_true", help="write the canonical form, where nothing but blanks changes: a word a line, and no comments")
+    it.add_argument(
+        "--allow", metavar="REASONS", default="", help=f"with --canonical: write all the same where these go, between commas: {', '.join(sorted(REASONS))}"
+    )
+    add_jobs(it)
+    add_no_config(it)
+    it.add_argument("--quiet", action="store_true", help="write no summary")
+    return it
+
+
+def _allowed(words: argparse.Namespace) -> frozenset[str]:
+    """Returns the reasons of `--allow`. Raises `UnknownCode` for other words, and for words that
+    do not go together."""
+    allow = frozenset(it.strip() for it in words.allow.split(",") if it.strip())
+    for word in sorted(allow - REASONS):
+        raise UnknownCode(f"--allow {word}: nothing goes for this; {did_you_mean(word, REASONS, '--help lists the reasons')}")
+    if words.canonical and words.wrap is not None:
+        raise UnknownCode("--wrap is not for --canonical, which has a word on each line")
+    if allow and not words.canonical:
+        raise UnknownCode("--allow is for --canonical: without it nothing goes")
+    if words.staged and not (words.check or words.diff):
+        raise UnknownCode("--staged writes nothing, so it wants --check or --diff")
+    return allow
+
+
+def run(words: argparse.Namespace) -> int:
+    """Formats the files. Raises `UnknownCode`, `CannotWrite`, `Missing`, `NoStage` and
+    `SettingsError`."""
+    allow = _allowed(words)
+    style = formatting.Style(words.canonical, words.wrap)
+    return formatting.format_files(
+        formatting.Wanted(paths_of(words), style, allow, words.check, words.diff, words.staged, words.jobs, words.quiet, tuple(words.exclude), settings_of(words))
+    )

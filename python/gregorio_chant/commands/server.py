@@ -1,0 +1,27 @@
+"""The sub-command `server`: its words."""
+from __future__ import annotations
+
+import argparse
+
+from gregorio_chant.commands.words import OUTSIDE, Parser, add_no_config, settings_of
+from gregorio_chant.needs import Missing
+
+NAME = "server"
+_ABOUT = f"Serves an editor by the language server protocol over standard input and output. {OUTSIDE}"
+
+
+def add(commands: argparse._SubParsersAction[Parser]) -> Parser:
+    """Adds the words of `server`."""
+    it = commands.add_parser(NAME, help="serve an editor by the language server protocol", description=_ABOUT)
+    it.add_argument("--rules", action="store_true", help="try the rules that the compiler leaves open")
+    add_no_config(it)
+    return it
+
+
+def run(words: argparse.Namespace) -> int:
+    """Serves until the editor ends it. Raises `Missing`."""
+    try:
+        from gregorio_chant.server import serve
+    except ImportError:
+        raise Missing(NAME, "python-lsp-jsonrpc") from None
+    return serve(words.rules, settings_of(words))

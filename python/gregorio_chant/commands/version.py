@@ -1,0 +1,24 @@
+"""The sub-command `version`: its words."""
+from __future__ import annotations
+
+import argparse
+
+from gregorio_chant.commands.words import Parser
+from gregorio_chant.origin import origin
+from gregorio_chant.streams import NAME as COMMAND
+from gregorio_chant.streams import write
+
+NAME = "version"
+_ABOUT = "Writes the versions of the command and of the library that it calls, and of which commit and by which kit that library was built."
+
+
+def add(commands: argparse._SubParsersAction[Parser]) -> Parser:
+    """Adds the words of `version`, which are none."""
+    return commands.add_parser(NAME, help="say which version this is, and of what the library was built", description=_ABOUT)
+
+
+def run(words: argparse.Namespace) -> int:
+    """Writes the lines. Raises `CannotWrite`."""
+    it = origin()
+    write(f"{COMMAND} {it.version}\nlibrary {it.library}\ncommit {it.commit}\nkit {it.kit}\n")
+    return 0

@@ -1,0 +1,127 @@
+"""What the sub-commands share: how words are refused, how help is laid out, and the words for
+files."""
+from __future__ import annotations
+
+import argparse
+import itertools
+import os
+import textwrap
+from collections.abc import Iterable, Sequence
+from typing import Any, NoReturn, Protocol
+
+from gregorio_chant.codes import CODES
+from gregorio_chant.nearest import did_you_mean
+from gregorio_chant.rules import RULES
+from gregorio_chant.selection import UnknownCode
+from gregorio_chant.settings import NAME as SETTINGS
+from gregorio_chant.settings import Finder, NoSettings
+from gregorio_chant.streams import STDIN, tell, write
+
+REFUSED = 3
+# All codes and rules.
+KNOWN = frozenset((*CODES, *RULES))
+OUTSIDE = "What stands around the compiler is outside the proof, and only tested."
+STATUSES = """exit status: the worst of 0 nothing wrong, 1 errors (format: something would change or was refused), 2 a fatal fault,
+3 the words were refused or a package is missing, 4 a file could not be read or written, 5 no memory"""
+_STAGED = "look at what is staged in git, and not at the files: at all of it, or at what is staged of the PATHs"
+_PATHS = f"a file, a folder for the scores below it, or {STDIN} for standard input; after -- each word is a path"
+
+
+class Help(argparse.HelpFormatter):
+    """Wraps paragraphs at the width of the terminal. A line that begins with a blank stays as it
+    is."""
+
+    def _fill_text(self, text: str, width: int, indent: str) -> str:
+        lines: list[str] = []
+        for stays, block in itertools.groupby(text.split("\n"), lambda it: it[:1] in ("", " ")):
+            lines += block if stays else textwrap.wrap(" ".join(block), width, break_on_hyphens=False)
+        return "\n".join(f"{indent}{it}".rstrip() for it in lines)
+
+
+class Parser(argparse.ArgumentParser):
+    """Refuses words with one line, which names the nearest right word, and the status of refused
+    words."""
+
+    def __init__(self, **settings: Any) -> None:
+        super().__init__(**settings, formatter_class=Help)
+
+    def error(self, message: str) -> NoReturn:
+        tell(f"{message}; {self.prog} --help says more")
+        raise SystemExit(REFUSED)
+
+    def refuse_unknown(self, words: Sequence[str]) -> NoReturn:
+        """Refuses the first of these words, which stand for nothing."""
+        question = did_you_mean(words[0], self._option_string_actions, "")
+        self.error(f"{words[0]} is no word of {self.prog}{question and ': '}{question}")
+
+    def _check_value(self, action: argparse.Action, value: object) -> None:
+        if action.choices is not None and value not in action.choices:
+            known = [str(it) for it in action.choices]
+            what = f"{action.option_strings[-1]} {value}" if action.option_strings else f"{value} is no {str(action.metavar).lower()}"
+            raise argparse.ArgumentError(None, f"{what}: {did_you_mean(str(value), known, 'it is one of ' + ', '.join(known))}")
+
+    def _print_message(self, message: str, file: object = None) -> None:
+        write(message)
+
+
+class Command(Protocol):
+    """A module of a sub-command."""
+
+    NAME: str
+
+    def add(self, commands: argparse._SubParsersAction[Parser]) -> Parser:
+        """Adds the words of the sub-command, and returns their parser."""
+
+    def run(self, words: argparse.Namespace) -> int:
+        """Does what the words ask for, and returns the exit status."""
+
+
+def examples(lines: Iterable[str]) -> str:
+    """Returns the part of a help with lines to copy."""
+    return "\n".join(["examples:", *(f"    {it}" for it in lines)])
+
+
+def add_paths(parser: Parser, more: str = "", with_staged: str = "") -> None:
+    """Adds the words for files and folders, and for what is staged."""
+    parser.add_argument("paths", nargs="*", metavar="PATH", help=f"{_PATHS}{more}")
+    parser.add_argument("--staged", action="store_true", help=f"{with_staged}{_STAGED}")
+    parser.add_argument(
+        "--exclude", action="append", default=[], metavar="PATTERN",
+        help="leave out of folders what this names, as a line of .gitignore would; may stand several times",
+    )
+
+
+def add_jobs(parser: Parser) -> None:
+    """Adds the word for how many files are worked on at a time."""
+    parser.add_argument(
+        "--jobs", type=positive, metavar="N", default=len(os.sched_getaffinity(0)), help="work on so many files at a time (here %(default)s)"
+    )
+
+
+def add_no_config(parser: Parser) -> None:
+    """Adds the word that leaves settings unread."""
+    parser.add_argument("--no-config", action="store_true", help=f"read no {SETTINGS}")
+
+
+def settings_of(words: argparse.Namespace) -> Finder:
+    """Returns what finds the settings of scores."""
+    return NoSettings() if words.no_config else Finder(KNOWN)
+
+
+def paths_of(words: argparse.Namespace) -> tuple[str, ...]:
+    """Returns the files and folders that are named. Raises `UnknownCode` where there is none,
+    and what is staged is not asked for."""
+    if not words.paths and not words.staged:
+        raise UnknownCode("a PATH is needed, or --staged")
+    return tuple(words.paths)
+
+
+def positive(word: str) -> int:
+    """Returns the number that `word` is. Raises `ValueError` where it is none from 1 on."""
+    number = int(word)
+    if number < 1:
+        raise ValueError
+    return number
+
+
+positive.__name__ = "number"

@@ -1,0 +1,194 @@
+"""The settings of a project: the file `gregorio-chant.toml` that lies nearest to a score, in its folder or above."""
+from __future__ import annotations
+
+import importlib
+import os
+import re
+import stat
+import sys
+from collections.abc import Callable, Collection, Iterable
+from dataclasses import dataclass
+from fnmatch import fnmatchcase
+from pathlib import Path, PurePath
+from typing import Any
+
+from gregorio_chant.needs import Missing
+from gregorio_chant.selection import Selection, UnknownCode, codes_in
+from gregorio_chant.streams import STDIN, printable, reason_of
+
+NAME = "gregorio-chant.toml"
+_MOST_BYTES = 65_536
+
+
+class SettingsError(ValueError):
+    """Settings that cannot be read. It names the file and, where they are known, the line and the key."""
+
+
+@dataclass(frozen=True)
+class Chosen:
+    """What the words of the command choose, which wins over settings. Nothing stands for what they do not say."""
+
+    select: frozenset[str] | None = None
+    ignore: frozenset[str] | None = None
+    fail_on: frozenset[str] | None = None
+
+
+@dataclass(frozen=True)
+class Settings:
+    """What the settings of a project say of its scores. Nothing stands for what they do not say."""
+
+    folder: Path | None = None
+    select: frozenset[str] | None = None
+    ignore: frozenset[str] | None = None
+    fail_on: frozenset[str] | None = None
+    rules: bool | None = None
+    exclude: tuple[str, ...] = ()
+    ignores_of_files: tuple[tuple[str, frozenset[str]], ...] = ()
+    wrap: int | None = None
+    canonical: bool | None = None
+
+    def _fits(self, name: str, pattern: str) -> bool:
+        """Returns whether the file with this name, or a folder that it lies in, fits a pattern: from the folder of the settings, or by its last part alone."""
+        if self.folder is None or name == STDIN:
+            return False
+        path = PurePath(os.path.relpath(os.path.abspath(name), self.folder))
+        return any(fnmatchcase(it.as_posix(), pattern.rstrip("/")) or fnmatchcase(it.name, pattern.rstrip("/")) for it in (path, *path.parents))
+
+    def excludes(self, name: str) -> bool:
+        return any(self._fits(name, it) for it in self.exclude)
+
+    def selection(self, name: str, chosen: Chosen = Chosen()) -> Selection:
+        """Returns what is reported of a file. What the settings ignore in it comes to what is ignored anyway."""
+        def first(word: frozenset[str] | None, setting: frozenset[str] | None) -> frozenset[str]:
+            return word if word is not None else setting or frozenset()
+
+        of_file = frozenset[str]().union(*(codes for pattern, codes in self.ignores_of_files if self._fits(name, pattern)))
+        select = chosen.select if chosen.select is not None else self.select
+        return Selection(select, first(chosen.ignore, self.ignore) | of_file, first(chosen.fail_on, self.fail_on))
+
+
+class _Reader:
+    """Reads the keys of a file of settings, and reports what is wrong with line and key."""
+
+    def __init__(self, path: Path, text: str, known: Collection[str]) -> None:
+        self._path, self._text, self._known = path, text, known
+
+    def fail(self, key: str, what: str) -> SettingsError:
+        found = re.search(rf"""^[ \t]*(?:\[[^\n]*)?["']?{re.escape(key)}["']?[ \t]*[=\].]""", self._text, re.MULTILINE)
+        line = f":{self._text.count(chr(10), 0, found.start()) + 1}" if found else ""
+        return SettingsError(f"{printable(str(self._path))}{line}: {printable(key)}: {what}")
+
+    def _take(self, table: dict[str, Any], readers: dict[str, tuple[str, Callable[[str, Any], object]]]) -> dict[str, Any]:
+        """Returns what each key of a table says, by the names of the fields."""
+        taken = {}
+        for key, value in table.items():
+            if key not in readers:
+                raise self.fail(key, f"there is no such key; there are {', '.join(readers)}")
+            field, read = readers[key]
+            taken[field] = read(key, value)
+        return taken
+
+    def _codes(self, key: str, value: Any) -> frozenset[str]:
+        try:
+            return codes_in(",".join(self._words(key, value)), self._known)
+        except UnknownCode as error:
+            raise self.fail(key, str(error)) from None
+
+    def _words(self, key: str, value: Any) -> tuple[str, ...]:
+        if not isinstance(value, list) or not all(isinstance(it, str) for it in value):
+            raise self.fail(key, 'a list of texts is wanted, as ["W3"]')
+        return tuple(value)
+
+    def _flag(self, key: str, value: Any) -> bool:
+        if not isinstance(value, bool):
+            raise self.fail(key, "true or false is wanted")
+        return value
+
+    def _number(self, key: str, value: Any) -> int:
+        if not isinstance(value, int) or isinstance(value, bool) or value < 1:
+            raise self.fail(key, "a number from 1 on is wanted")
+        return value
+
+    def _table(self, key: str, value: Any) -> dict[str, Any]:
+        if not isinstance(value, dict):
+            raise self.fail(key, "a table is wanted")
+        return value
+
+    def _format(self, key: str, value: Any) -> dict[str, Any]:
+        return self._take(self._table(key, value), {"wrap": ("wrap", self._number), "canonical": ("canonical", self._flag)})
+
+    def _ignores(self, key: str, value: Any) -> tuple[tuple[str, frozenset[str]], ...]:
+        return tuple((pattern, self._codes(pattern, codes)) for pattern, codes in self._table(key, value).items())
+
+    def settings(self, table: dict[str, Any]) -> Settings:
+        taken = self._take(table, {
+            "select": ("select", self._codes), "ignore": ("ignore", self._codes), "fail-on": ("fail_on", self._codes), "rules": ("rules", self._flag),
+            "exclude": ("exclude", self._words), "per-file-ignores": ("ignores_of_files", self._ignores), "format": ("format", self._format),
+        })
+        form = taken.pop("format", {})
+        if form.get("canonical") and "wrap" in form:
+            raise self.fail("wrap", "the canonical form has a word on each line")
+        return Settings(self._path.parent, **taken, **form)
+
+
+def _read(path: Path, known: Collection[str]) -> Settings:
+    try:
+        with open(os.open(path, os.O_RDONLY | os.O_NONBLOCK), "rb") as file:
+            if not stat.S_ISREG(os.fstat(file.fileno()).st_mode):
+                raise SettingsError(f"{printable(str(path))}: it is no plain file")
+            data = file.read(_MOST_BYTES + 1)
+    except OSError as error:
+        raise SettingsError(f"{printable(str(path))}: {reason_of(error)}") from None
+    if len(data) > _MOST_BYTES:
+        raise SettingsError(f"{printable(str(path))}: it is longer than {_MOST_BYTES:,} bytes")
+    try:
+        toml = importlib.import_module("tomllib" if sys.version_info >= (3, 11) else "tomli")
+        text = data.decode("utf-8")
+        return _Reader(path, text, known).settings(toml.loads(text))
+    except ImportError:
+        raise Missing(f"{printable(str(path))}, before Python 3.11,", "tomli") from None
+    except SettingsError:
+        raise
+    except (ValueError, RecursionError) as error:
+        raise SettingsError(f"{printable(str(path))}: {printable(str(error))}") from None
+
+
+class Finder:
+    """Finds the settings of each score. Each file of settings is read once."""
+
+    def __init__(self, known: Collection[str]) -> None:
+        """Takes all codes and rules."""
+        self._known = known
+        self._found: dict[Path, Settings] = {}
+
+    def of(self, name: str) -> Settings:
+        """Returns the settings of a file, or of the working folder for standard input. Raises `SettingsError`."""
+        folder = Path.cwd() if name == STDIN else Path(os.path.abspath(name)).parent
+        passed = []
+        for it in (folder, *folder.parents):
+            if it in self._found:
+                settings = self._found[it]
+                break
+            passed.append(it)
+            if os.path.lexists(it / NAME):
+                settings = _read(it / NAME, self._known)
+                break
+        else:
+            settings = Settings()
+        self._found.update(dict.fromkeys(passed, settings))
+        return settings
+
+    def kept(self, names: Iterable[str], paths: Collection[str]) -> list[str]:
+        """Returns the names without those that settings exclude; each of the `paths` themselves stays. Raises `SettingsError`."""
+        named = set(paths)
+        return [it for it in names if not self.of(it).excludes(it) or it in named]
+
+
+class NoSettings(Finder):
+    """Finds none, whatever lies beside a score."""
+
+    def __init__(self) -> None:
+        super().__init__(())
+
+    def of(self, name: str) -> Settings:
+        return Settings()

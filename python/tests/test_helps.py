@@ -1,0 +1,95 @@
+"""Tries the line of help of each message: it names the thing, and what to write."""
+from __future__ import annotations
+
+import unittest
+
+from gregorio_chant import check
+from gregorio_chant.codes import CODES
+from gregorio_chant.helps import helps_for
+from gregorio_chant.source import text_of
+from support import EXAMPLES, scores_of_tables
+
+_NABC = "name: a;\nnabc-lines: 1;\n%%\n(c4) "
+_SCORE = "name: a;\n%%\n(c4) "
+# Scores, the code of a message, and what its help says.
+HELPS = [
+    (f"{_SCORE}a(g&)", "E1", "'&' is no note and no sign: remove it"),
+    (f"{_SCORE}a(g\u00a0)", "E1", "the character U+00A0 is no note and no sign: remove it"),
+    (f"{_SCORE}a(g5)", "E1", "'5' is no sign of the note before it: remove it"),
+    (f"{_SCORE}a(gt)", "E1", "'t' is no pitch, which are a to n and p, nor a sign of the note before it"),
+    (f"{_SCORE}a(g[ll:1]v)", "E1", "'v' stands after an attribute: write it before the ["),
+    (f"{_SCORE}a(g|)", "E1", "'|' parts notes from NABC only where there is a header nabc-lines: write nabc-lines: 1; before the %%"),
+    (f"{_SCORE}KY(f ri(gfg)e(h.)", "E1", "'r' stands in notes: the ( at 3:8 probably lacks its )"),
+    (f"{_SCORE}KYri(fson(g)", "E1", "'(' stands in notes: the ( at 3:10 probably lacks its )"),
+    (f"{_SCORE}a(g))", "E2", "the notes before it have their ) already: remove this one, or write $) for the character itself"),
+    (f"{_SCORE}af)b(g)", "E2", "')' closes nothing: look for a ( that is missing, or write $) for the character itself"),
+    (f"{_SCORE}a>(g)", "E2", "'>' closes nothing: look for a < that is missing, or write $> for the character itself"),
+    (f"{_NABC}a(g|un1)", "E3", "'1' has nothing to count: a number stands after a modifier, as in peS1, or after points and letters, as in pesu1 and pelse1"),
+    (f"{_NABC}a(g|pe b(h|vi)", "E3", "'(' stands in NABC: the ( at 4:7 probably lacks its )"),
+    (f"{_NABC}a(g|pe?)", "E3", "'?' fits nowhere in this descriptor: remove it"),
+    ("name: a;\nmode 1;\n%%\n(c4)", "E4", "'mode 1;' has no colon: write 'mode: 1;'"),
+    ("name: a;\n : 1;\n%%\n(c4)", "E4", "there is no name before the colon: write one"),
+    (f"name: a;\n{'x' * 70}: 1;\n%%\n(c4)", "E4", "the name has 70 bytes, and 64 are the most"),
+    ("name: a;\nnabc-lines: 01 ;\n%%\n(c4)", "E5", "'01' is none of 0, 1, 2, 3 and 4"),
+    (f"{_SCORE}a(fg-)", "E6", "'-' stands before a note: write the note after it, or remove it"),
+    (f"{_NABC}a(g|pe!)", "E6", "the end of 'pe!' wants more: finish or remove it"),
+    ("mode: 1;\n%%\n(c4)", "W1", "write name: ..; before the %%"),
+    ("name: a;\nmode: 1;\nmode: 2;\n%%\n(c4)", "W2", "'mode' stands in line 2 already: remove one of them"),
+    (f"{_SCORE}<i>a<b>b(g)", "W3", "<i><b> ends with the text of its syllable: write </b></i> here, and <i><b> again in the next text"),
+    (f"{_SCORE}a</i>(g)", "W3", "</i> closes no style that is open in this syllable: open it here with <i>, or remove it"),
+    (f"{_SCORE}<i>a<i>b</i>(g)", "W3", "<i> is open already: remove one of both"),
+    (f"{_SCORE}{{a}}{{b}}(g)", "W4", "there is a centre already: keep one pair of { and } in a syllable"),
+    (f"{_SCORE}a}}(g)", "W4", "'}' closes no {"),
+    (f"{_SCORE}{{a(g)", "W4", "the { of this syllable is not closed: write } after its vowel"),
+    (f"{_SCORE}a[b][c](g)", "W5", "'[c]' is the second one of this syllable: put both into one pair of brackets"),
+    (f"{_SCORE}<it>a(g)", "W6", "there is no tag '<it>': did you mean <i>?"),
+    (f"{_SCORE}<pr>a(g)", "W6", "there is no tag '<pr>'; it is kept as it stands"),
+    (f"{_SCORE}a<(g) b>(h)", "W6", "this < takes all up to the next > for its tag: write $< for the character itself, or the > that lacks"),
+    (f"{_NABC}a(g|ep)", "W7", "'ep' is no code of the manual: did you mean pe?"),
+    (f"{_SCORE}a(g[nm1])", "W8", "write the header def-m1: ..; before the %%"),
+    (f"{_SCORE}a(g) ri", "W9", "'ri' has no notes: write () after it, or the notes"),
+    (f"{_SCORE}a(@[g)", "W10", "an @[ before this place is not closed: write ]"),
+    (f"{_SCORE}a(@[g@[h])", "W10", "this @[ is not closed: write ] after its last note"),
+    (f"{_SCORE}a(g])", "W10", "no @[ stands before this ]"),
+    (f"{_SCORE}<eu>a(g) b(h)", "W11", "the <eu> at 3:6 is not closed: write </..> after its last syllable"),
+    ("name: a;\n%%\na(g)", "W12", "write a clef, as (c4), before the first note: without one no note has a degree"),
+    ("name: a;\n", "F2", "write a line %% between the headers and the score"),
+    ("name: a;\nmode: 1\n%%\n(c4)", "F3", "line 2 lacks its ; : write 'mode: 1;', or ;; after the last line of a value of several lines"),
+    (f"{_SCORE}a(g", "F6", "the ( at 3:7 is not closed: write )"),
+    (f"{_SCORE}a<v>(g) b(h)", "F6", "the <v> at 3:7 is not closed: write </v>"),
+    (f"{_SCORE}a[b(g) c(h)", "F6", "the [ at 3:7 is not closed: write ]"),
+]
+
+
+def helps_of(score: bytes) -> list[tuple[str, str | None]]:
+    """Returns the code and the help of each message."""
+    found = check(score).messages
+    return [(it.code, help) for it, help in zip(found, helps_for(text_of(score), found, found), strict=True)]
+
+
+class Helps(unittest.TestCase):
+    def test_helps(self) -> None:
+        for score, code, wanted in HELPS:
+            with self.subTest(score):
+                self.assertIn((code, wanted), helps_of(score.encode()))
+
+    def test_each_code_has_one(self) -> None:
+        for code in CODES.values():
+            if code.is_tried:
+                with self.subTest(code.name):
+                    helps = [help for name, help in helps_of(code.score_with(code.wrong)) if name == code.name]
+                    self.assertNotIn(None, helps)
+                    self.assertGreater(len(helps), 0)
+
+    def test_scores(self) -> None:
+        """Each message of the tables and the examples has a help of one line that can be printed."""
+        number = 0
+        for score in [*set(scores_of_tables()), *(it.read_bytes() for it in EXAMPLES.glob("*.gabc"))]:
+            for code, help in helps_of(score):
+                self.assertTrue(help and help.isprintable() and len(help) < 200, (score, code, help))
+                number += 1
+        self.assertGreater(number, 1_000)
+
+
+if __name__ == "__main__":
+    unittest.main()

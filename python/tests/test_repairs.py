@@ -1,0 +1,170 @@
+"""Tries the repairs: what each makes, that it makes no new message and touches no other place, and the command."""
+from __future__ import annotations
+
+import unittest
+from collections import Counter
+from dataclasses import replace
+from pathlib import Path
+from unittest import mock
+
+from gregorio_chant import Status, check, repairs
+from gregorio_chant.checking import check_data
+from gregorio_chant.compiled import Compiled
+from gregorio_chant.repairs import REPAIRS, Edit, How, repaired
+from gregorio_chant.selection import Selection
+from support import EXAMPLES, InFolder, command, scores_of_tables
+
+SAFE, ALL = How(), How(allow_unsafe=True, with_rules=True)
+_SCORE = "name: a;\n%%\n(c4) "
+_NABC = "name: a;\nnabc-lines: 1;\n%%\n(c4) "
+# Scores, and what all repairs make of them; nothing where none can be made.
+REPAIRED: list[tuple[str, str | None]] = [
+    (f"{_SCORE}a)(g) b>(h) c](i) d<(g) e(h>)\n", f"{_SCORE}a$)(g) b$>(h) c$](i) d$<(g) e(h>)\n"),
+    (f"{_SCORE}a(g)) b(h)\n", None),
+    (f"{_SCORE}<i>a(g)b(h)  % <b>\n c</i>d(i)\n", f"{_SCORE}<i>a</i>(g)<i>b</i>(h)  % <b>\n <i>c</i>d(i)\n"),
+    (f"{_SCORE}<i>a<b>b(g) (;) c</b>d(h) e</i>(i)", f"{_SCORE}<i>a<b>b</b></i>(g) (;) <b><i>c</b>d</i>(h) <i>e</i>(i)"),
+    (f"{_SCORE}<i>a(g) b(h)", None),
+    (f"{_SCORE}a</i>(g)", None),
+    (f"{_SCORE}a(g[ll:1]vd[x]_')\n", f"{_SCORE}a(gv[ll:1]d_'[x])\n"),
+    (f"{_SCORE}KY(f ri(gfg)e(h.) a(g b(h)\n", f"{_SCORE}KY(f) ri(gfg)e(h.) a(g) b(h)\n"),
+    (f"{_SCORE}KYri(fte(g)\n", f"{_SCORE}KYri(f)te(g)\n"),
+    (f"{_SCORE}KYri(fson(g)\n", None),
+    (f"{_SCORE}a(g)b(h", f"{_SCORE}a(g)b(h)"),
+    ("name: a\nmode: 1 % b\n%%\n(c4) a(g)\n", "name: a;\nmode: 1; % b\n%%\n(c4) a(g)\n"),
+    ("name: a\nmode: 1\n%%\n(c4) a(g)\n", "name: a;\nmode: 1;\n%%\n(c4) a(g)\n"),
+    ("name: a;\n%% b\n(c4) a(g|pu) b(h|vi)\n", "name: a;\nnabc-lines: 1;\n%% b\n(c4) a(g|pu) b(h|vi)\n"),
+    (f"{_NABC}a(g|un1) b(h|pesu) % un1\n", f"{_NABC}a(g|un) b(h|pesu) % un1\n"),
+    (f"{_SCORE}a(g&) <x>b(h) {{c(i)\n", None),
+]
+
+
+def codes_of(score: bytes) -> Counter[str]:
+    return Counter(it.code for it in check_data(score, True))
+
+
+class Repairs(unittest.TestCase):
+    def test_each(self) -> None:
+        for repair in REPAIRS.values():
+            with self.subTest(repair.name):
+                wrong, right = repair.score_with(repair.wrong), repair.score_with(repair.right)
+                self.assertEqual(repaired(wrong, ALL), right)
+                self.assertEqual(repaired(wrong, SAFE), right if repair.is_safe else wrong)
+                self.assertLessEqual(repair.codes & set(codes_of(wrong)), repair.codes)
+                self.assertTrue(repair.codes & set(codes_of(wrong)))
+                self.assertFalse(repair.codes & set(codes_of(right)))
+
+    def test_scores(self) -> None:
+        for score, wanted in REPAIRED:
+            with self.subTest(score):
+                self.assertEqual(repaired(score.encode(), ALL).decode(), score if wanted is None else wanted)
+
+    def test_line_ends_and_marks(self) -> None:
+        score = f"\ufeff{_SCORE}\ufeff<i>a\ufeff(g)b</i>(h\ufeff)>(i)\n(f|pu)".replace("\n", "\r\n")
+        wanted = f"\ufeffname: a;\nnabc-lines: 1;\n%%\n(c4) \ufeff<i>a\ufeff</i>(g)<i>b</i>(h\ufeff)$>(i)\n(f|pu)".replace("\n", "\r\n")
+        self.assertEqual(repaired(score.encode(), ALL).decode(), wanted)
+
+    def test_what_is_not_told_is_not_repaired(self) -> None:
+        score = f"{_SCORE}a>(g) % gregorio: ignore E2\n<i>b(h)c</i>(i)\n"
+        self.assertEqual(repaired(score.encode(), ALL).decode(), f"{_SCORE}a>(g) % gregorio: ignore E2\n<i>b</i>(h)<i>c</i>(i)\n")
+        self.assertEqual(repaired(score.encode(), How(True, True, Selection(ignore=frozenset(("W",))))).decode(), score)
+
+    def look_at(self, score: bytes) -> bool:
+        """Checks each step of all repairs of a score, and returns whether something is made."""
+        steps = [score]
+        while (made := repairs.repaired_once(steps[-1], ALL)) != steps[-1]:
+            self.look_at_step(steps[-1], made)
+            steps.append(made)
+        self.assertEqual(repaired(score, ALL), steps[-1])
+        return len(steps) > 1
+
+    def look_at_step(self, score: bytes, made: bytes) -> None:
+        old, new = Compiled(score), Compiled(made)
+        if old.fault is not None:
+            rest = iter(made.decode())
+            self.assertTrue(all(it in rest for it in score.decode()), "something is taken away")
+            return
+        self.assertIsNone(new.fault)
+        self.assertLess(sum(codes_of(made).values()), sum(codes_of(score).values()))
+        self.assertEqual(codes_of(made) - codes_of(score), Counter())
+        comments = [[it.comparison.source.text[span.begin : span.end] for span in it.comparison.source.comments] for it in (old, new)]
+        self.assertEqual(comments[0], comments[1])
+
+    def test_scores_of_the_repository(self) -> None:
+        scores = {*scores_of_tables(), *(it.read_bytes() for it in EXAMPLES.glob("*.gabc"))}
+        made = 0
+        for score in sorted(scores):
+            with self.subTest(score):
+                made += self.look_at(score)
+        self.assertGreater(made, 100)
+
+    def test_judge(self) -> None:
+        """A repair that makes another message, changes another place, or takes a comment, is not made."""
+        score = f"{_SCORE}a>(g) b(h) % c\n d(i) e(k[x])\n".encode()
+        at = len(f"{_SCORE}a")
+        elsewhere = len(f"{_SCORE}a>(g) b(")
+        comment = len(f"{_SCORE}a>(g) b(h) ")
+        escape = Edit(at, "", "$")
+        for edits, is_made in (
+            ((escape,), True),
+            ((escape, Edit(elsewhere, "", "&")), False),
+            ((escape, Edit(elsewhere, "", "[")), False),
+            ((escape, Edit(0, "", "mode: 1;\n")), True),
+            ((escape, Edit(comment, "% c", "")), False),
+            ((escape, Edit(comment, "% c", "% d")), False),
+            ((escape, Edit(elsewhere + 2, " ", "  ")), True),
+            ((Edit(elsewhere + 2, " ", "  "),), False),
+        ):
+            wrong = replace(REPAIRS["escape"], find=lambda subject, offset, edits=edits: edits)
+            with mock.patch.dict(repairs.REPAIRS, {"escape": wrong}):
+                self.assertEqual(repaired(score, SAFE) != score, is_made, edits)
+
+    def test_fatal_faults(self) -> None:
+        """Where a fault stops a score, a repair inserts and takes nothing away."""
+        score = b"name: a\n%%\n(c4)\n"
+        for edits, is_made in (((Edit(7, "", ";"),), True), ((Edit(6, "a", "b;"),), False)):
+            wrong = replace(REPAIRS["end-header"], find=lambda subject, offset, edits=edits: edits)
+            with mock.patch.dict(repairs.REPAIRS, {"end-header": wrong}):
+                self.assertEqual(check(repaired(score, ALL)).status is not Status.FATAL, is_made)
+        self.assertEqual(repaired(b"name: \xe9\n%%\n(c4) a>(g", ALL), b"name: \xe9\n%%\n(c4) a>(g")
+
+
+class Command(InFolder):
+    def test_words(self) -> None:
+        score = f"{_SCORE}a>(g[x]v) % c\n"
+        self.put("s/a.gabc", score)
+        self.put("s/b.gabc", f"{_SCORE}a(g)\n")
+        words = ("check", "--output-format", "lines")
+        ran = command(*words, "--fix", "--diff", "s")
+        self.assertEqual((ran.returncode, ran.stderr), (1, b"gregorio-chant: 1 file would be repaired\n"))
+        self.assertIn(b"+++ s/a.gabc (repaired)\n", ran.stdout)
+        self.assertIn(b"\n-(c4) a>(g[x]v) % c\n+(c4) a$>(g[x]v) % c\n", ran.stdout)
+        self.assertEqual(Path("s/a.gabc").read_text(), score)
+        ran = command(*words, "--fix", "--select", "E1", "--quiet", "s")
+        self.assertEqual((ran.returncode, Path("s/a.gabc").read_text()), (1, score))
+        ran = command(*words, "--fix", "--quiet", "s")
+        self.assertEqual((ran.returncode, ran.stdout), (1, b"s/a.gabc:3:14: error: E1: character left out of the notes\n"))
+        self.assertEqual(Path("s/a.gabc").read_text(), f"{_SCORE}a$>(g[x]v) % c\n")
+        ran = command(*words, "--fix", "--unsafe-fixes", "--quiet", "s")
+        self.assertEqual((ran.returncode, ran.stdout, ran.stderr), (0, b"", b""))
+        self.assertEqual(Path("s/a.gabc").read_text(), f"{_SCORE}a$>(gv[x]) % c\n")
+        ran = command(*words, "--fix", "--unsafe-fixes", "--diff", "s")
+        self.assertEqual((ran.returncode, ran.stdout, ran.stderr), (0, b"", b"gregorio-chant: 0 files would be repaired\n"))
+
+    def test_words_that_do_not_fit(self) -> None:
+        for words in ("--fix -", "--fix --staged", "--diff .", "--unsafe-fixes .", "--fix"):
+            ran = command("check", *words.split())
+            self.assertEqual((ran.returncode, ran.stdout), (3, b""), words)
+            self.assertRegex(ran.stderr.decode(), r"^gregorio-chant: .*\n$")
+
+    def test_files_that_cannot_be_written(self) -> None:
+        file = self.put("a.gabc", f"{_SCORE}a>(g)\n")
+        Path("b.gabc").hardlink_to(file)
+        ran = command("check", "--output-format", "lines", "--fix", "--quiet", "a.gabc", "none.gabc")
+        self.assertEqual(ran.returncode, 4)
+        self.assertIn(b"cannot repair a.gabc: it has other names (hard links); it stays as it was\n", ran.stderr)
+        self.assertIn(b"cannot read none.gabc: No such file or directory\n", ran.stderr)
+        self.assertEqual(file.read_text(), f"{_SCORE}a>(g)\n")
+
+
+if __name__ == "__main__":
+    unittest.main()

@@ -1,0 +1,13 @@
+# Says where a build is from. For scripts, which source it.
+
+# What git says of the commit of the repository at the folder $1. Changes of files that git knows
+# are said too.
+commit_line() {
+  local commit changed=''
+  commit="$(git -C "$1" rev-parse HEAD 2>/dev/null)" || commit=unknown
+  [ -z "$(git -C "$1" status --porcelain --untracked-files=no 2>/dev/null)" ] || changed=', with changes'
+  echo "commit $commit$changed"
+}
+
+# What the kit says of itself.
+kit_line() { echo "kit $(rt version 2>/dev/null || echo 'rattle-kit unknown')"; }
