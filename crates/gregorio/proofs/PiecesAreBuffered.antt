@@ -115,12 +115,12 @@ module _ {A B : Type 0} (wrote : A → Option (List ℕ)) (went : A → Calls) (
       let prompt : IsPromptAs e forgot = (let p = prompt_on e f g a.prompt p_is in record { format = p.format; prompt = p.prompt }) in
       let all : (rest : List ℕ) (ending : SourceEnding) → streams_left e ending ((xs ++ ys) ++ rest) ≡ behind_bytes ((a.output ++ b.output) ++ next.output) ((a.lines ++ b.lines) ++ next.messages) (streams_left forgot ending rest) =
       λ rest ending.
-            let s = streams_left g ending rest in
-            ap (streams_left e ending) (append_assoc xs ys rest)
-            ∙ (a.law (ys ++ rest) ending
-            ∙ (ap (behind_bytes (a.output ++ buffers.output) (a.lines ++ buffers.messages)) (law rest ending)
-            ∙ (behind_twice (a.output ++ buffers.output) (a.lines ++ buffers.messages) g.output g.messages s
-            ∙ same_behind _ _ _ _ s (joined a.output buffers.output g.output b.output next.output b.rest) (joined a.lines buffers.messages g.messages b.lines next.messages b.rest_of_messages)))) in
+      let s = streams_left g ending rest in
+      ap (streams_left e ending) (append_assoc xs ys rest)
+      ∙ (a.law (ys ++ rest) ending
+      ∙ (ap (behind_bytes (a.output ++ buffers.output) (a.lines ++ buffers.messages)) (law rest ending)
+      ∙ (behind_twice (a.output ++ buffers.output) (a.lines ++ buffers.messages) g.output g.messages s
+      ∙ same_behind _ _ _ _ s (joined a.output buffers.output g.output b.output next.output b.rest) (joined a.lines buffers.messages g.messages b.lines next.messages b.rest_of_messages)))) in
       subst (λ (x : EngineState). IsFedBut (used wrote went o q) (used reported went_too m r) e x next (xs ++ ys)) (sym b.forgets) (record {
         output = a.output ++ b.output;
         lines = a.lines ++ b.lines;

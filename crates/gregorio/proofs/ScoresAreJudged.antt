@@ -1,5 +1,5 @@
 -- The texts of a score are read under limits that are enough for them as under those of their state.
-use Rattle.std.proofs.Common.{◌≡◌, ◌↔◌, ◌+◌, ◌*◌, ◌≤◌, ◌⊎◌, inl, inr, ℕ, List, [], ◌∷◌, length, refl, sym, ap, subst, ◌∙◌, arith}
+use Rattle.std.proofs.Common.{◌≡◌, ◌↔◌, ◌*◌, ◌≤◌, inl, inr, ℕ, List, [], ◌∷◌, length, refl, sym, ap, subst, ◌∙◌, arith}
 use Rattle.std.specs.Str.{chars}
 use Rattle.std.specs.Char.{len_utf8}
 use Rattle.std.proofs.lemmas.List.Sums.{sum_by-cons}
@@ -19,7 +19,7 @@ use Rattle.gabc_places.specs.DecoderTells.{MayBeTold}
 use Rattle.gregorio_state.specs.Conditions.{ArePhaseFields, AreScoreFields, AreStateFields}
 use Rattle.gregorio_state.specs.Fields.{InScore, ScoreFields, StateFields}
 use Rattle.gregorio.specs.SavedState.{IsHeldRead, IsKeptRead, IsScoreRead, TellsLimits}
-use Rattle.gregorio.specs.machine.Judging.{AreEnough, IsEnoughFor, LetsTexts}
+use Rattle.gregorio.specs.machine.Judging.{IsEnoughFor, LetsTexts}
 use Rattle.gregorio.proofs.RestoredStands.{text_bytes}
 
 -- a text has no fewer bytes than characters

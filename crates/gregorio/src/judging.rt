@@ -34,7 +34,10 @@ fn limits_of_texts(limits: Limits, fields: &ScoreFields<'_>) -> Limits
 {
     let held = u32::try_from(fields.held.len()).unwrap_or(u32::MAX);
     let kept = u32::try_from(fields.kept.len()).unwrap_or(u32::MAX);
-    let most = held.saturating_mul(5).saturating_add(kept).saturating_add(64);
+    let most = held
+        .saturating_mul(5)
+        .saturating_add(kept)
+        .saturating_add(64);
     let syllable = limits.syllable.min(most);
     Limits::new(limits.header, syllable, limits.input).unwrap_or(limits)
 }

@@ -1,10 +1,10 @@
 -- Where the inputs of a stage just cease, each syllable that it gives holds a unit.
-use Rattle.std.proofs.Common.{◌≡◌, ◌≤◌, ◌||◌, not, true, ℕ, List, [], ◌∷◌, length, refl, sym, subst, arith, IfSome}
+use Rattle.std.proofs.Common.{◌≡◌, ◌≤◌, ◌||◌, not, true, List, [], ◌∷◌, length, refl, subst, arith, IfSome}
 use Rattle.std.proofs.lemmas.List.Elements.{All-nil, All-cons}
 use Rattle.std.specs.List.{All}
 use Rattle.gabc_places.specs.StageLaw.{concat_of}
 use Rattle.gabc_places.specs.declared.limits.Limits.{Limits}
-use Rattle.gabc_score.specs.Canonical.{position_by, next_starts}
+use Rattle.gabc_score.specs.Canonical.{position_by}
 use Rattle.gabc_score.specs.declared.score_machine.ScorePart.{ScorePart}
 use Rattle.gabc_score.specs.declared.score_machine.ScorePart.TheVariants as score_part
 use Rattle.gabc_score.specs.ScoreEvents.{syllables_in}

@@ -1,5 +1,5 @@
 -- Each character of a body keeps at most five bytes, so some characters keep no more than five times as many bytes as they are.
-use Rattle.std.proofs.Common.{◌≡◌, ℕ, zero, suc, ◌+◌, ◌*◌, ◌<◌, ◌≤◌, ◌||◌, ◌==◌, nat_lt, List, [], ◌∷◌, ◌++◌, map, length, take, reverse, Bool, true, false, cond, if◌then◌else◌, Option, Some, None, encode_utf8, refl, sym, ap, subst, ◌∙◌, arith, append-nil, append_assoc, length-append}
+use Rattle.std.proofs.Common.{◌≡◌, ℕ, zero, suc, ◌+◌, ◌*◌, ◌≤◌, ◌==◌, nat_lt, List, [], ◌∷◌, ◌++◌, map, length, take, reverse, Bool, true, false, cond, if◌then◌else◌, Option, Some, None, encode_utf8, refl, sym, ap, subst, ◌∙◌, arith, append-nil, append_assoc}
 use Rattle.std.proofs.lemmas.List.{append_cancel_left}
 use Rattle.std.proofs.lemmas.List.Concat.{flat_map-cons}
 use Rattle.std.proofs.lemmas.List.Elements.{All-nil, All-cons, All-head}
@@ -37,7 +37,7 @@ use Rattle.gabc_nabc.specs.Table.{nabc}
 use Rattle.gabc_score.specs.Body.{events_onto}
 use Rattle.gabc_score.specs.HeldAgain.{IsOneSyllable, emitted_behind, emitted_first}
 use Rattle.gabc_score.specs.declared.before.Spans.{Spans}
-use Rattle.gabc_score.specs.Events.{PartAhead, InComment, InText, InNotes, first_list, other_lists, is_text_end, is_next, is_close, innermost, note_event, events_in, events_at_end, part_at, part_behind, text_from, snippet_from, next_line, behind_mark, events_from, texts_by_definition}
+use Rattle.gabc_score.specs.Events.{PartAhead, InComment, InText, InNotes, first_list, other_lists, is_text_end, is_next, is_close, note_event, events_in, part_at, part_behind, text_from, snippet_from, next_line, behind_mark, events_from, texts_by_definition}
 use Rattle.gabc_score.specs.Syllable.{UnplacedSyllable, all_syllables, closes, is_eu, is_nlba, kept_of, since_close, syllable_by}
 use Rattle.gabc_score.specs.declared.events.BodyEvent.{BodyEvent}
 use Rattle.gabc_score.specs.declared.events.BodyEvent.TheVariants as event

@@ -10,7 +10,6 @@ use Rattle.gregorio_jobs.specs.declared.job.Job.{Job}
 use Rattle.gregorio_state.specs.Fields.{PhaseFields, ScoreFields, StateFields, InHeaders, InScore}
 use Rattle.gregorio.specs.Engine.{NothingWaits, RunsJob, is_running}
 use Rattle.gregorio.specs.Saved.{GivesHeaders, state_of}
-use Rattle.gregorio.specs.SavedState.{AreOfState, IsOfJob}
 use Rattle.gregorio.specs.witness.Engine.{EngineState, Written}
 use Rattle.gregorio.specs.machine.HeldHeaders.{behind_mark}
 use Rattle.gregorio.specs.machine.Restoring.{IsSetDown}
