@@ -5,6 +5,7 @@
 #![tactic(auto)]
 
 mod call;
+mod driven;
 mod ends;
 mod flipped;
 mod interrupted;

@@ -1,5 +1,6 @@
 //! Rows of NABC snippets.
 
+use crate::driven::driven;
 use crate::notes::{show_events, show_snippet};
 use crate::printed::Printed;
 use crate::show::show_spelled;
@@ -81,6 +82,11 @@ fn answer_codes(
 fn answer_events(alloc: Global, input: &str, out: &mut Printed) -> Result<(), AllocError> {
     let mut stage = NabcStage::new();
     let events = outputs_of(alloc, &mut stage, input, Place::START)?;
+    let again = driven(alloc, &mut NabcStage::new(), input)?;
+    if again.slice() != events.as_slice() {
+        out.put("the calls differ");
+        return Ok(());
+    }
     show_events(stage.most(), events.as_slice(), out);
     Ok(())
 }

@@ -1,5 +1,6 @@
 //! Rows of snippets of notes.
 
+use crate::driven::driven;
 use crate::printed::Printed;
 use crate::show::{show_findings, show_note_event, show_snippet_how, show_span, show_spelled};
 use gabc_notes::{
@@ -101,6 +102,11 @@ fn answer_events(
 ) -> Result<(), AllocError> {
     let mut stage = NoteStage::new(split, macros);
     let events = outputs_of(alloc, &mut stage, input, Place::START)?;
+    let again = driven(alloc, &mut NoteStage::new(split, macros), input)?;
+    if again.slice() != events.as_slice() {
+        out.put("the calls differ");
+        return Ok(());
+    }
     show_events(stage.most(), events.as_slice(), out);
     Ok(())
 }

@@ -1,5 +1,6 @@
 //! Rows of texts of syllables.
 
+use crate::driven::driven;
 use crate::printed::Printed;
 use crate::show::{
     show_bytes, show_char, show_findings, show_how, show_piece, show_span, show_text_event,
@@ -100,6 +101,11 @@ fn show_events(most: usize, events: &[TextEvent], out: &mut Printed) {
 fn answer_events(alloc: Global, input: &str, out: &mut Printed) -> Result<(), AllocError> {
     let mut stage = TextStage::new(Place::START);
     let events = outputs_of(alloc, &mut stage, input, Place::START)?;
+    let again = driven(alloc, &mut TextStage::new(Place::START), input)?;
+    if again.slice() != events.as_slice() {
+        out.put("the calls differ");
+        return Ok(());
+    }
     show_events(stage.most(), events.as_slice(), out);
     Ok(())
 }
