@@ -25,11 +25,13 @@ _NO_SCORE = "Nothing of this score was read."
 
 @dataclass(frozen=True)
 class Picture:
-    """A picture of a score, with what it is about. `pieces` are its SVG, in order."""
+    """A picture of a score, with what it is about. `pieces` are its SVG, in order; `places` has the id of the element where each message stands, by its
+    number from 1."""
 
     name: str
     messages: tuple[Message, ...]
     pieces: list[str]
+    places: dict[int, str]
 
     @property
     def svg(self) -> str:
@@ -49,7 +51,7 @@ def draw(data: bytes, messages: Sequence[Message] | None = None, *, width: float
     drawing = _Drawing(score, places_of(data, told, 0 if score is None else len(score.syllables)), max(width, _LEAST_WIDTH), names)
     body = list(drawing.body())
     name = (score.header("name") if score else None) or ""
-    return Picture(name, told, [drawing.head(name), *body, "</svg>\n"])
+    return Picture(name, told, [drawing.head(name), *body, "</svg>\n"], drawing.places)
 
 
 def picture(score: str | bytes, *, width: float = USUAL_WIDTH) -> str:
@@ -71,6 +73,10 @@ class _Drawing:
         self._painter = Painter(names, places, staff)
         self._y = MARGIN
 
+    @property
+    def places(self) -> dict[int, str]:
+        return self._painter.places
+
     def head(self, name: str) -> str:
         """Returns what stands before the lines; it is known once they are drawn."""
         height = number(self._y + MARGIN)
@@ -79,7 +85,8 @@ class _Drawing:
             "class": "chant", "role": "img", "font-size": "16",
         })
         Xml.SubElement(root, "title").text = shown(name) or "A score without a name"
-        Xml.SubElement(root, "style").text = STYLE
+        if not self._names.links:
+            Xml.SubElement(root, "style").text = STYLE
         shapes = Xml.SubElement(root, "defs")
         for shape in sorted(self._painter.used):
             Xml.SubElement(shapes, "path", {"id": self._names.shape(shape), "d": SHAPES[shape].path, "fill-rule": "evenodd"})

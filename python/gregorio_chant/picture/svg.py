@@ -16,6 +16,7 @@ from gregorio_chant.picture.words import SIZE
 from gregorio_chant.results import Kind
 
 MARGIN = 12.0
+# The style of pictures: a file of its own holds it, a page has it once.
 STYLE = (
     f".chant{{color:#000;font-family:{FACES};fill:currentColor}}.chant .paper{{fill:#fff}}.chant .staff{{fill:none;stroke:#a43;stroke-width:.7}}"
     ".chant .red{fill:#b00}.chant .mark{fill:#c00;fill-opacity:.09;stroke:#c00;stroke-width:.7}.chant .mark.w{fill:#960;stroke:#960;stroke-dasharray:3 2}"
@@ -71,6 +72,8 @@ class Painter:
         self._places = places
         self._staff = staff
         self.used: set[str] = set()
+        # Where each message stands, by its number: the id of its code, or of its syllable.
+        self.places: dict[int, str] = {}
 
     def line(self, line: Line, codes: Sequence[Code], y: float) -> str:
         """Returns the group of a line, whose staff has its lowest line at `y`, with the codes above it."""
@@ -145,6 +148,8 @@ class Painter:
         if not marks:
             return
         part = placed.part
+        name = self._names.syllable(part.syllable.number - 1, part.number)
+        self.places.update({it.number: name for it in marks})
         left = min(part.left, part.text_left if part.has_text else part.left) - 1.5
         right = max(part.right, part.text_right if part.has_text else part.right) + 1.5
         kind = "mark" if any(it.message.kind is not Kind.WARNING for it in marks) else "mark w"
@@ -162,6 +167,7 @@ class Painter:
         if self._names.links:
             name = self._names.message(mark.number)
             parent = Xml.SubElement(parent, "a", {"href": f"#{name}", "id": f"{name}-at"})
+            self.places[mark.number] = f"{name}-at"
         element = Xml.SubElement(parent, "text", {"class": "code", "x": number(x), "y": number(y)})
         element.text = text or message.code
         _add_title(element, f"{message.line}:{message.column}: {message.kind.value}: {message.code}: {message.text}")
