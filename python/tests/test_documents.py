@@ -37,6 +37,12 @@ class Documents(InFolder):
         os.chdir(ROOT)
         self.assertEqual(command(*first.split()[2:], environment={"COLUMNS": "100"}).stdout.decode(), shown)
 
+    def test_picture_of_the_score(self) -> None:
+        """The picture of the README is what its command makes of its first example. `gregorio-chant show` with these words writes it anew."""
+        score = block(README, "## A score before and after").encode()
+        (words,) = re.findall(r"`gregorio-chant (show .*?) score\.gabc`", README)
+        self.assertEqual(command(*words.split(), "-", data=score).stdout, (ROOT / "docs" / "kyrie.svg").read_bytes())
+
     def test_options(self) -> None:
         """Each option of the command stands in the page, and no other."""
         helps = "".join(command(*it, "--help").stdout.decode() for it in ((), ("check",), ("format",), ("show",), ("explain",), ("server",)))

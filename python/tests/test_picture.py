@@ -308,7 +308,7 @@ class Pictures(unittest.TestCase):
         self.assertAlmostEqual(middle("qui"), 16 * (0.503 + 0.531 + 0.271 / 2), 1)
 
     def test_not_drawn(self) -> None:
-        self.assertIn("Not drawn: 2 attributes and 1 raw part.", picture("name: x;\n%%\n(c4) a(f[ob:1;6mm]g[cs:t]) <v>x</v>b(g)\n"))
+        self.assertIn("Not drawn: 2 attributes and 1 part of raw TeX.", picture("name: x;\n%%\n(c4) a(f[ob:1;6mm]g[cs:t]) <v>x</v>b(g)\n"))
 
 
 class Sizes(unittest.TestCase):

@@ -63,7 +63,8 @@ class Layout:
     @property
     def not_drawn(self) -> str:
         """A note on what is not drawn; nothing where all is."""
-        things = [counted(number, name) for number, name in ((self.attributes, "attribute"), (self.raw, "raw part")) if number]
+        things = [counted(self.attributes, "attribute")] if self.attributes else []
+        things += [f"{counted(self.raw, 'part')} of raw TeX"] if self.raw else []
         return f"Not drawn: {' and '.join(things)}." if things else ""
 
 
